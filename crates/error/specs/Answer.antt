@@ -1,0 +1,25 @@
+-- The number and the values of each answer: 0 and what is given, or a refusal's number and its place. Assumes nothing.
+use Prim.Native.Nat.{ℕ}
+use mathlib.Core.List.{List, [], _∷_}
+use Rattle.error.specs.Refusal.{numberOf}
+use Rattle.error.specs.declared.ReadAnswer.{ReadAnswer}
+use Rattle.error.specs.declared.ReadAnswer.the-variants as read
+use Rattle.error.specs.declared.CheckAnswer.{CheckAnswer}
+use Rattle.error.specs.declared.CheckAnswer.the-variants as check
+use Rattle.error.specs.declared.LineAnswer.{LineAnswer}
+use Rattle.error.specs.declared.LineAnswer.the-variants as line
+
+-- reading: the sheet's length and its count of node records
+abbrev pub readValues : ReadAnswer → List ℕ
+readValues (read.Accepted length records) = 0 ∷ length ∷ records ∷ []
+readValues (read.Refused refusal place) = numberOf refusal ∷ place ∷ []
+
+-- checking: nothing
+abbrev pub checkValues : CheckAnswer → List ℕ
+checkValues check.Accepted = 0 ∷ []
+checkValues (check.Refused refusal place) = numberOf refusal ∷ place ∷ []
+
+-- lining: the line's length
+abbrev pub lineValues : LineAnswer → List ℕ
+lineValues (line.Accepted length) = 0 ∷ length ∷ []
+lineValues (line.Refused refusal place) = numberOf refusal ∷ place ∷ []

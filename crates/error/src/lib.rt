@@ -1,0 +1,100 @@
+// error.rs: the refusals of the rules' table, and the answers of the three operations.
+ghost use mathlib.Core.Path.{_≡_};
+ghost use Rattle.error.specs.Refusal.{numberOf};
+
+// A cause of refusal. Where error.rs has a function for it, it has that function's name.
+pub enum Refusal {
+    // A text of more than 16,384 bytes.
+    TextTooLong,
+    // A byte or a form outside the text rules.
+    BadForm,
+    // A number with too many digits.
+    TooManyDigits,
+    // A closer without its opener, or an opener that is not closed.
+    Unbalanced,
+    // A 65th opener while 64 are open.
+    TooManyOpen,
+    // A name, mark, string, whole number, truth value or delimiter is missing.
+    Missing,
+    UnknownKeyword,
+    // `malformed` in parser.rs.
+    Malformed,
+    UnknownSpringPreset,
+    MissingDuration,
+    StaggerGridIncomplete,
+    // A 17th container inside 16 others.
+    TooManyNested,
+    // Tokens left inside a delimiter.
+    Leftover,
+    // A sheet slice that is shorter than the encoding.
+    SheetTooShort,
+    // A scratch of fewer words than reading asks for.
+    ScratchTooShort,
+    // Bytes that are no sheet for the text.
+    NotASheet,
+    // `malformed` in validate.rs, but for the last two of its causes.
+    OutOfRange,
+    ValueTypeMismatch,
+    UnknownEasing,
+    UnknownPreset,
+    InvalidColor,
+    // Two keyframes of a track at the same time.
+    DuplicateTime,
+    // A track of fewer than 2 frames.
+    TooFewFrames,
+    // No record has the ordinal.
+    NoSuchRecord,
+    // An output slice that is shorter than the line.
+    OutputTooShort,
+}
+
+// What reading answers: the sheet's length and its count of node records, or a refusal and its place.
+pub enum ReadAnswer {
+    Accepted { length: usize, records: usize },
+    Refused { refusal: Refusal, place: usize },
+}
+
+// What checking answers: a refusal's place is 0, a place in the text, or a record's ordinal.
+pub enum CheckAnswer {
+    Accepted,
+    Refused { refusal: Refusal, place: usize },
+}
+
+// What lining answers: the line's length, or a refusal and its place or the ordinal.
+pub enum LineAnswer {
+    Accepted { length: usize },
+    Refused { refusal: Refusal, place: usize },
+}
+
+// The number of a refusal.
+pub fn number_of(refusal: Refusal) -> u8
+    ensures { λ r. ⌜ r ≡ numberOf refusal ⌝ }
+{
+    match refusal {
+        Refusal::TextTooLong => 1,
+        Refusal::BadForm => 2,
+        Refusal::TooManyDigits => 3,
+        Refusal::Unbalanced => 4,
+        Refusal::TooManyOpen => 5,
+        Refusal::Missing => 6,
+        Refusal::UnknownKeyword => 7,
+        Refusal::Malformed => 8,
+        Refusal::UnknownSpringPreset => 9,
+        Refusal::MissingDuration => 10,
+        Refusal::StaggerGridIncomplete => 11,
+        Refusal::TooManyNested => 12,
+        Refusal::Leftover => 13,
+        Refusal::SheetTooShort => 14,
+        Refusal::ScratchTooShort => 16,
+        Refusal::NotASheet => 20,
+        Refusal::OutOfRange => 21,
+        Refusal::ValueTypeMismatch => 22,
+        Refusal::UnknownEasing => 23,
+        Refusal::UnknownPreset => 24,
+        Refusal::InvalidColor => 25,
+        Refusal::DuplicateTime => 26,
+        Refusal::TooFewFrames => 27,
+        Refusal::NoSuchRecord => 31,
+        Refusal::OutputTooShort => 32,
+    }
+}
