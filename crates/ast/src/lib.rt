@@ -1,0 +1,1 @@
+// ast.rs: the types of the tree.

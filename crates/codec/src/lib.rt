@@ -1,0 +1,1 @@
+// Forms of bytes: how a value is written, and how it is read back.

@@ -1,0 +1,25 @@
+-- 01: "A line is hexadecimal, capitals, then LF: the record's length in 2 bytes, the record, a check byte." Assumes nothing.
+use Prim.Native.Nat.{ℕ, _+_, _-_, _/_, _%_}
+use mathlib.Core.Bool.{cond}
+use mathlib.Core.List.{List, [], _∷_, _++_}
+use lib.Dec.{ltb}
+use lib.ListN.{length}
+use Rattle.codec.specs.Codec.{big}
+
+abbrev pub digit : ℕ → ℕ
+digit n = cond (ltb n 10) (48 + n) (55 + n)
+
+unfoldable pub hex : List ℕ → List ℕ
+hex [] = []
+hex (b ∷ bs) = digit (b / 16) ∷ digit (b % 16) ∷ hex bs
+
+unfoldable pub total : List ℕ → ℕ
+total [] = 0
+total (b ∷ bs) = b + total bs
+
+-- "The record's bytes and the check byte sum to zero modulo 256"
+unfoldable pub checkByte : List ℕ → ℕ
+checkByte r = (256 - total r % 256) % 256
+
+unfoldable pub line : List ℕ → List ℕ
+line r = hex (big 2 .write (length r) ++ r ++ checkByte r ∷ []) ++ 10 ∷ []

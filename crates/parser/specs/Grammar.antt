@@ -1,0 +1,443 @@
+-- parser.rs: a rule for each function that parses a node, in its order and under its name; parse_node comes last. Assumes nothing.
+use Prim.Native.Nat.{ℕ, zero, suc}
+use Prim.Native.String.{String}
+use mathlib.Core.Bool.{Bool, true, false, _&&_, _||_, not, cond}
+use mathlib.Core.List.{List, [], _∷_, _++_}
+use mathlib.Core.Option.{Option, none, some}
+use Rattle.text.specs.Words.{under, default}
+use Rattle.number.specs.Number.{Written, nearest, bits}
+use Rattle.number.specs.Time.{Key, storedTime}
+use Rattle.ast.specs.Tree.{
+  DampingMode,
+  criticallyDamped,
+  overdamped,
+  underdamped,
+  LoopSpec,
+  KeyframeTime,
+  percent,
+  seconds,
+  KeyframeEntry,
+  StaggerPatternSpec,
+  grid,
+  random,
+  centerOut,
+  edgesIn,
+  Leaf,
+  Container,
+  sequence,
+  parallel,
+  group,
+  stagger,
+  Nodes,
+  MotionNode,
+  single,
+  holding,
+  push,
+  append,
+}
+use Rattle.parser.specs.Fields.{Table, row, aNumber, aTruth, anEasing, aLoopMode, aValue, aDamping, aRange, pairs, parseFieldList, numberOf, truthOf, easingOf, loopModeOf, valueOf, dampingOf, rangeOf, ever}
+use Rattle.parser.specs.Values.{ident, string, truth, parseFloat, parseUint, parseFloatInParens, parseTwoFloatsInParens, parseValue, f32Of, parseEasing, parseLoopMode}
+use Rattle.parser.specs.Rule.{Rule, _>>=_, _>>_, give, refuse, need, if, sees, seesWord, seesName, seesNumber, ends, skip, the, both, eat, word, choice, signed, inside, repeat, Next, more, done, goOn}
+use Rattle.error.specs.declared.Refusal.the-variants.{Missing, UnknownKeyword, Malformed, UnknownSpringPreset, MissingDuration, StaggerGridIncomplete, TooManyNested}
+
+-- ---- tween
+
+unfoldable pub tweenFields : Table
+tweenFields =
+    row "duration" parseFloat aNumber ∷ row "easing" parseEasing anEasing ∷ row "delay" parseFloat aNumber
+    ∷ row "time_scale" parseFloat aNumber ∷ row "loop" parseLoopMode aLoopMode ∷ row "snap" parseFloat aNumber
+    ∷ row "round" parseUint aNumber ∷ row "reverse" truth aTruth ∷ []
+
+-- parse_tween
+unfoldable pub parseTween : Rule (Leaf Key)
+parseTween = do
+  target ← ident
+  the ":"
+  from ← parseValue
+  both "=" ">"
+  to ← parseValue
+  fs ← parseFieldList tweenFields []
+  duration ← need MissingDuration (numberOf "duration" fs)
+  give (Leaf.tween (record {
+    target = target;
+    from = from;
+    to = to;
+    duration = duration;
+    easing = easingOf fs;
+    delay = numberOf "delay" fs;
+    timeScale = numberOf "time_scale" fs;
+    loopMode = loopModeOf fs;
+    snap = numberOf "snap" fs;
+    round = numberOf "round" fs;
+    reverse = ever "reverse" fs;
+  }))
+
+-- ---- spring
+
+-- parse_spring_preset, behind its name
+unfoldable pub parseSpringPreset : Rule ℕ
+parseSpringPreset = choice UnknownSpringPreset ("gentle" ∷ "wobbly" ∷ "stiff" ∷ "slow" ∷ "snappy" ∷ [])
+
+unfoldable pub integrator : Rule ℕ
+integrator = choice Malformed ("semi_implicit_euler" ∷ "rk4" ∷ [])
+
+unfoldable pub springFields : Table
+springFields =
+    row "preset" parseSpringPreset aNumber ∷ row "stiffness" parseFloat aNumber ∷ row "damping" parseFloat aNumber
+    ∷ row "mass" parseFloat aNumber ∷ row "velocity" parseValue aValue ∷ row "epsilon" parseFloat aNumber
+    ∷ row "integrator" integrator aNumber ∷ row "critically_damped" parseFloatInParens (λ s. aDamping (criticallyDamped s))
+    ∷ row "overdamped" parseTwoFloatsInParens (λ p. aDamping (overdamped (p .0) (p .1)))
+    ∷ row "underdamped" parseTwoFloatsInParens (λ p. aDamping (underdamped (p .0) (p .1))) ∷ []
+
+-- parse_spring
+unfoldable pub parseSpring : Rule (Leaf Key)
+parseSpring = do
+  target ← ident
+  the ":"
+  from ← parseValue
+  both "=" ">"
+  to ← parseValue
+  fs ← parseFieldList springFields []
+  give (Leaf.spring (record {
+    target = target;
+    from = from;
+    to = to;
+    preset = numberOf "preset" fs;
+    stiffness = numberOf "stiffness" fs;
+    damping = numberOf "damping" fs;
+    mass = numberOf "mass" fs;
+    velocity = valueOf fs;
+    epsilon = numberOf "epsilon" fs;
+    integrator = numberOf "integrator" fs;
+    dampingMode = dampingOf fs;
+  }))
+
+-- ---- keyframes
+
+-- the time that the sheet has for a key
+unfoldable pub stored : Key → KeyframeTime
+stored k = cond (k .percent) (percent (bits (storedTime k))) (seconds (bits (storedTime k)))
+
+-- parse_keyframe_time
+unfoldable pub parseKeyframeTime : Rule Key
+parseKeyframeTime = do
+  w ← signed seesNumber Malformed
+  p ← cond (w .1 .point) (give false) (eat "%")
+  cond (p && w .1 .suffix) (refuse Malformed) (give (record { percent = p; negative = w .0; written = w .1 }))
+
+-- a frame: a time, `:`, a value, and an easing where a name follows
+unfoldable pub keyframeEntry : Rule (KeyframeEntry Key)
+keyframeEntry = do
+  t ← parseKeyframeTime
+  the ":"
+  v ← parseValue
+  e ← if seesName (parseEasing >>= λ e. give (some e)) (give none)
+  give (record { time = t; value = v; easing = e })
+
+-- the frames so far, and the loop mode
+abbrev pub Track : Type 0
+Track = List (KeyframeEntry Key) × Option LoopSpec
+
+-- `loop: ..`, and a `,` if there is one
+unfoldable pub trackLoop : Track → Rule (Next Track)
+trackLoop s = do
+  skip
+  the ":"
+  m ← parseLoopMode
+  eat ","
+  give (more (s .0, some m))
+
+-- a frame, which the last of the track has no `,` or `;` behind
+unfoldable pub trackFrame : Track → Rule (Next Track)
+trackFrame s = do
+  f ← keyframeEntry
+  c ← if (sees ",") (skip >> give true) (eat ";")
+  give (goOn c (s .0 ++ f ∷ [], s .1))
+
+unfoldable pub trackStep : Track → Rule (Next Track)
+trackStep s = if ends (give (done s)) (if (seesWord "loop") (trackLoop s) (trackFrame s))
+
+-- parse_keyframes
+unfoldable pub parseKeyframes : Rule (Leaf Key)
+parseKeyframes = do
+  target ← ident
+  s ← inside "{" (repeat trackStep ([], none))
+  give (Leaf.keyframes (record { target = target; frames = s .0; loopMode = s .1 }))
+
+-- ---- sequence, parallel, group: what stands between the keyword and the block
+
+-- parse_sequence
+unfoldable pub parseSequence : Rule Container
+parseSequence = give sequence
+
+-- parse_parallel
+unfoldable pub parseParallel : Rule Container
+parseParallel = give parallel
+
+-- parse_group
+unfoldable pub parseGroup : Rule Container
+parseGroup = do
+  mode ← choice Malformed ("sequence" ∷ "parallel" ∷ [])
+  give (group mode)
+
+-- ---- stagger
+
+-- parse_grid_origin
+unfoldable pub parseGridOrigin : Rule ℕ
+parseGridOrigin =
+    choice Malformed (
+    "top_left" ∷ "top_right" ∷ "bottom_left" ∷ "bottom_right" ∷ "center" ∷ "top" ∷ "bottom" ∷ "left" ∷ "right" ∷ [])
+
+unfoldable pub gridFields : Table
+gridFields = row "cols" parseUint aNumber ∷ row "rows" parseUint aNumber ∷ row "origin" parseGridOrigin aNumber ∷ []
+
+-- `grid(..)`: a missing count is refused inside the parentheses
+unfoldable pub gridPattern : Rule StaggerPatternSpec
+gridPattern = inside "(" (do
+  fs ← pairs gridFields
+  cols ← need StaggerGridIncomplete (numberOf "cols" fs)
+  rows ← need StaggerGridIncomplete (numberOf "rows" fs)
+  give (grid cols rows (default (numberOf "origin" fs) 4)))
+
+unfoldable pub randomFields : Table
+randomFields = row "seed" parseUint aNumber ∷ row "min" parseFloat aNumber ∷ row "max" parseFloat aNumber ∷ []
+
+-- `random(..)`
+unfoldable pub randomPattern : Rule StaggerPatternSpec
+randomPattern = do
+  fs ← inside "(" (pairs randomFields)
+  give (random (default (numberOf "seed" fs) 0) (default (numberOf "min" fs) (f32Of 0 1)) (default (numberOf "max" fs) (f32Of 1 10)))
+
+unfoldable pub patterns : List (String × Rule StaggerPatternSpec)
+patterns = ("grid", gridPattern) ∷ ("random", randomPattern) ∷ ("center_out", give centerOut) ∷ ("edges_in", give edgesIn) ∷ []
+
+-- parse_stagger_pattern
+unfoldable pub parseStaggerPattern : Rule StaggerPatternSpec
+parseStaggerPattern = do
+  w ← word
+  p ← need Malformed (under patterns (w .1))
+  p
+
+-- the pattern and the delay so far
+abbrev pub Opening : Type 0
+Opening = Option StaggerPatternSpec × Option ℕ
+
+unfoldable pub openingFields : Opening → List (String × Rule Opening)
+openingFields s =
+    ("pattern", the ":" >> (parseStaggerPattern >>= λ p. give (some p, s .1))) ∷ ("delay", the ":" >> (parseFloat >>= λ d. give (s .0, some d))) ∷ []
+
+unfoldable pub openingField : Opening → Rule (Next Opening)
+openingField s = do
+  w ← word
+  p ← need UnknownKeyword (under (openingFields s) (w .1))
+  s′ ← p
+  c ← eat ","
+  give (goOn c s′)
+
+unfoldable pub openingStep : Opening → Rule (Next Opening)
+openingStep s = if (sees "{") (give (done s)) (openingField s)
+
+-- parse_stagger
+unfoldable pub parseStagger : Rule Container
+parseStagger = do
+  s ← repeat openingStep (none, none)
+  give (stagger (s .0) (s .1))
+
+-- ---- path, morph, draw
+
+-- `start..end`
+unfoldable pub offsetRange : Rule (ℕ × ℕ)
+offsetRange = do
+  start ← parseFloat
+  both "." "."
+  end ← parseFloat
+  give (start, end)
+
+unfoldable pub pathFields : Table
+pathFields =
+    row "duration" parseFloat aNumber ∷ row "easing" parseEasing anEasing ∷ row "auto_rotate" truth aTruth
+    ∷ row "offset" offsetRange aRange ∷ row "loop" parseLoopMode aLoopMode ∷ []
+
+-- parse_path
+unfoldable pub parsePath : Rule (Leaf Key)
+parsePath = do
+  target ← ident
+  choice Malformed ("along" ∷ [])
+  svg ← string
+  fs ← parseFieldList pathFields []
+  duration ← need MissingDuration (numberOf "duration" fs)
+  give (Leaf.path (record {
+    target = target;
+    svg = svg;
+    duration = duration;
+    easing = easingOf fs;
+    autoRotate = truthOf "auto_rotate" fs;
+    offset = rangeOf fs;
+    loopMode = loopModeOf fs;
+  }))
+
+unfoldable pub morphFields : Table
+morphFields = row "samples" parseUint aNumber ∷ row "duration" parseFloat aNumber ∷ row "easing" parseEasing anEasing ∷ []
+
+-- parse_morph
+unfoldable pub parseMorph : Rule (Leaf Key)
+parseMorph = do
+  from ← string
+  both "=" ">"
+  to ← string
+  fs ← parseFieldList morphFields []
+  duration ← need MissingDuration (numberOf "duration" fs)
+  give (Leaf.morph (record {
+    from = from;
+    to = to;
+    samples = default (numberOf "samples" fs) 32;
+    duration = duration;
+    easing = easingOf fs;
+  }))
+
+-- the fields of draw, and of preset
+unfoldable pub drawFields : Table
+drawFields = row "duration" parseFloat aNumber ∷ row "easing" parseEasing anEasing ∷ []
+
+-- parse_draw
+unfoldable pub parseDraw : Rule (Leaf Key)
+parseDraw = do
+  svg ← string
+  fs ← parseFieldList drawFields []
+  duration ← need MissingDuration (numberOf "duration" fs)
+  give (Leaf.draw (record { svg = svg; duration = duration; easing = easingOf fs }))
+
+-- ---- color
+
+unfoldable pub colorSpace : Rule ℕ
+colorSpace = choice Malformed ("linear" ∷ "lab" ∷ "oklch" ∷ [])
+
+unfoldable pub colorFields : Table
+colorFields = row "duration" parseFloat aNumber ∷ row "space" colorSpace aNumber ∷ row "easing" parseEasing anEasing ∷ []
+
+-- parse_color
+unfoldable pub parseColor : Rule (Leaf Key)
+parseColor = do
+  target ← ident
+  the ":"
+  from ← string
+  both "=" ">"
+  to ← string
+  fs ← parseFieldList colorFields []
+  duration ← need MissingDuration (numberOf "duration" fs)
+  give (Leaf.color (record {
+    target = target;
+    from = from;
+    to = to;
+    duration = duration;
+    space = default (numberOf "space" fs) 0;
+    easing = easingOf fs;
+  }))
+
+-- ---- waveform
+
+unfoldable pub waveformKind : Rule ℕ
+waveformKind = choice Malformed ("sine" ∷ "sawtooth" ∷ "square" ∷ "triangle" ∷ "noise" ∷ [])
+
+unfoldable pub waveformFields : Table
+waveformFields =
+    row "frequency" parseFloat aNumber ∷ row "amplitude" parseFloat aNumber ∷ row "phase" parseFloat aNumber
+    ∷ row "duty_cycle" parseFloat aNumber ∷ row "seed" parseUint aNumber ∷ row "smoothness" parseFloat aNumber
+    ∷ row "duration" parseFloat aNumber ∷ []
+
+-- parse_waveform
+unfoldable pub parseWaveform : Rule (Leaf Key)
+parseWaveform = do
+  kind ← waveformKind
+  fs ← parseFieldList waveformFields []
+  give (Leaf.waveform (record {
+    kind = kind;
+    frequency = numberOf "frequency" fs;
+    amplitude = numberOf "amplitude" fs;
+    phase = numberOf "phase" fs;
+    dutyCycle = numberOf "duty_cycle" fs;
+    seed = numberOf "seed" fs;
+    smoothness = numberOf "smoothness" fs;
+    duration = numberOf "duration" fs;
+  }))
+
+-- ---- preset, label, at
+
+-- parse_preset_call: fields in parentheses or not, and more of them behind a `,` or not
+unfoldable pub parsePresetCall : Rule (Leaf Key)
+parsePresetCall = do
+  name ← ident
+  fs ← if (sees "(") (inside "(" (pairs drawFields)) (give [])
+  gs ← if (sees ",") (skip >> parseFieldList drawFields fs) (give fs)
+  give (Leaf.preset (record { name = name; duration = numberOf "duration" gs; easing = easingOf gs }))
+
+-- parse_label
+unfoldable pub parseLabel : Rule (Leaf Key)
+parseLabel = do
+  s ← string
+  the ";"
+  give (Leaf.label s)
+
+-- parse_at: "`at` takes its own sign first"
+unfoldable pub parseAt : Rule (Leaf Key)
+parseAt = do
+  plus ← eat "+"
+  minus ← cond plus (give false) (eat "-")
+  w ← signed seesNumber Malformed
+  eat ";"
+  give (Leaf.at (record { value = bits (nearest (cond minus (not (w .0)) (w .0)) (w .1)); relative = plus || minus }))
+
+-- ---- nodes
+
+unfoldable pub leaves : List (String × Rule (Leaf Key))
+leaves =
+    ("tween", parseTween) ∷ ("spring", parseSpring) ∷ ("keyframes", parseKeyframes) ∷ ("path", parsePath) ∷ ("morph", parseMorph)
+    ∷ ("draw", parseDraw) ∷ ("color", parseColor) ∷ ("waveform", parseWaveform) ∷ ("preset", parsePresetCall) ∷ ("label", parseLabel)
+    ∷ ("at", parseAt) ∷ []
+
+unfoldable pub containers : List (String × Rule Container)
+containers = ("sequence", parseSequence) ∷ ("parallel", parseParallel) ∷ ("group", parseGroup) ∷ ("stagger", parseStagger) ∷ []
+
+-- what a node's keyword begins: a leaf, a container, or nothing known
+pub data Begins : Type 0 where
+  aLeaf : Rule (Leaf Key) → Begins
+  aContainer : Rule Container → Begins
+  unknown : Begins
+
+abbrev pub orContainer : Option (Rule (Leaf Key)) → Option (Rule Container) → Begins
+orContainer (some p) c = aLeaf p
+orContainer none (some p) = aContainer p
+orContainer none none = unknown
+
+unfoldable pub beginning : List ℕ → Begins
+beginning w = orContainer (under leaves w) (under containers w)
+
+-- `block` is the rule for a container's block
+abbrev pub nodeBy : Rule (Nodes Key) → Begins → Rule (MotionNode Key)
+nodeBy block (aLeaf p) = p >>= λ l. give (single l)
+nodeBy block (aContainer p) = p >>= λ b. block >>= λ ns. give (holding b ns)
+nodeBy block unknown = refuse UnknownKeyword
+
+-- parse_node
+unfoldable pub parseNode : Rule (Nodes Key) → Rule (MotionNode Key)
+parseNode block = do
+  w ← word
+  nodeBy block (beginning (w .1))
+
+unfoldable pub oneNode : Rule (Nodes Key) → Nodes Key → Rule (Next (Nodes Key))
+oneNode block ns = do
+  n ← parseNode block
+  give (more (append ns (push n Nodes.none)))
+
+-- nodes up to the group's end, `;` between them or not
+unfoldable pub nodesStep : Rule (Nodes Key) → Nodes Key → Rule (Next (Nodes Key))
+nodesStep block ns = if ends (give (done ns)) (if (sees ";") (skip >> give (more ns)) (oneNode block ns))
+
+-- a container's block, d containers more being allowed: 01, "a 17th container inside 16 others", "its `{`"
+unfoldable pub block : ℕ → Rule (Nodes Key)
+block zero l ts = if (sees "{") (refuse TooManyNested) (refuse Missing) l ts
+block (suc d) l ts = inside "{" (repeat (nodesStep (block d)) Nodes.none) l ts
+
+-- `AnimatoInput`
+unfoldable pub animatoInput : Rule (Nodes Key)
+animatoInput = repeat (nodesStep (block 16)) Nodes.none

@@ -1,0 +1,5 @@
+pub mod Rule
+pub mod Fields
+pub mod Values
+pub mod Grammar
+pub mod Reading

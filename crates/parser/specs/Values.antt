@@ -1,0 +1,158 @@
+-- parser.rs, "Numeric helpers" and "Value / Easing / Loop primitives", callees first. Assumes nothing.
+use Prim.Native.Nat.{ℕ}
+use Prim.Native.String.{String}
+use mathlib.Core.Bool.{Bool, true, false, _&&_, cond}
+use mathlib.Core.List.{List, [], _∷_, _++_}
+use mathlib.Core.Option.{Option, none, some}
+use lib.ListN.{length}
+use lib.Ieee.{binary32, round}
+use Rattle.text.specs.Bytes.{bytes, same}
+use Rattle.text.specs.Words.{under, default}
+use Rattle.number.specs.Number.{Written, nearest, whole, bits}
+use Rattle.ast.specs.Tree.{
+  Span,
+  ValueExpr,
+  scalar,
+  array,
+  EasingSpec,
+  named,
+  cubicBezier,
+  steps,
+  wiggle,
+  rough,
+  slowMo,
+  LoopSpec,
+  once,
+  times,
+  forever,
+  pingPong,
+  pingPongTimes,
+}
+use Rattle.parser.specs.Fields.{Table, row, aNumber, pairs, numberOf}
+use Rattle.parser.specs.Rule.{Rule, _>>=_, _>>_, give, refuse, need, if, sees, seesTwo, seesWord, seesNumber, seesWhole, skip, the, both, word, text, choice, signed, inside, list}
+use Rattle.error.specs.declared.Refusal.the-variants.{Missing, Malformed, UnknownKeyword}
+
+-- a name as its place
+unfoldable pub ident : Rule Span
+ident = do
+  w ← word
+  give (record { start = w .0; size = length (w .1) })
+
+-- a string as the place of what stands between its quotes
+unfoldable pub string : Rule Span
+string = do
+  s ← text
+  give (record { start = s .0; size = s .1 })
+
+-- `LitBool`
+unfoldable pub truth : Rule Bool
+truth = if (seesWord "true") (skip >> give true) (if (seesWord "false") (skip >> give false) (refuse Missing))
+
+-- ---- numeric helpers
+
+-- parse_float
+unfoldable pub parseFloat : Rule ℕ
+parseFloat = do
+  w ← signed seesNumber Malformed
+  give (bits (nearest (w .0) (w .1)))
+
+-- parse_uint
+unfoldable pub parseUint : Rule ℕ
+parseUint = do
+  w ← signed seesWhole Missing
+  need Malformed (whole (w .0) (w .1))
+
+-- parse_float_in_parens
+unfoldable pub parseFloatInParens : Rule ℕ
+parseFloatInParens = inside "(" parseFloat
+
+-- parse_two_floats_in_parens
+unfoldable pub parseTwoFloatsInParens : Rule (ℕ × ℕ)
+parseTwoFloatsInParens = inside "(" (do
+  a ← parseFloat
+  the ","
+  b ← parseFloat
+  give (a, b))
+
+-- `parse_uint` in parentheses
+unfoldable pub parseUintInParens : Rule ℕ
+parseUintInParens = inside "(" parseUint
+
+-- ---- value, easing, loop
+
+-- parse_value
+unfoldable pub parseValue : Rule ValueExpr
+parseValue = if (sees "[") (do
+  xs ← inside "[" (list (λ xs. parseFloat >>= λ x. give (xs ++ x ∷ [])) [])
+  give (array xs)) (do
+    x ← parseFloat
+    give (scalar x))
+
+-- the f32 of a small fraction
+unfoldable pub f32Of : ℕ → ℕ → ℕ
+f32Of n d = bits (round binary32 false n d)
+
+-- `cubic_bezier(x1, y1, x2, y2)`
+unfoldable pub bezierCurve : Rule EasingSpec
+bezierCurve = inside "(" (do
+  x1 ← parseFloat
+  the ","
+  y1 ← parseFloat
+  the ","
+  x2 ← parseFloat
+  the ","
+  y2 ← parseFloat
+  give (cubicBezier x1 y1 x2 y2))
+
+unfoldable pub roughFields : Table
+roughFields = row "strength" parseFloat aNumber ∷ row "points" parseUint aNumber ∷ []
+
+-- `rough(strength: s, points: n)`
+unfoldable pub roughCurve : Rule EasingSpec
+roughCurve = do
+  fs ← inside "(" (pairs roughFields)
+  give (rough (default (numberOf "strength" fs) (f32Of 1 2)) (default (numberOf "points" fs) 8))
+
+unfoldable pub slowMoFields : Table
+slowMoFields = row "linear_ratio" parseFloat aNumber ∷ row "power" parseFloat aNumber ∷ []
+
+-- `slowmo(linear_ratio: r, power: p)`
+unfoldable pub slowMoCurve : Rule EasingSpec
+slowMoCurve = do
+  fs ← inside "(" (pairs slowMoFields)
+  give (slowMo (default (numberOf "linear_ratio" fs) (f32Of 7 10)) (default (numberOf "power" fs) (f32Of 2 1)))
+
+unfoldable pub curves : List (String × Rule EasingSpec)
+curves =
+    ("cubic_bezier", bezierCurve) ∷ ("steps", parseUintInParens >>= λ n. give (steps n)) ∷ ("wiggle", parseUintInParens >>= λ n. give (wiggle n))
+    ∷ ("rough", roughCurve) ∷ ("slowmo", slowMoCurve) ∷ []
+
+-- `Easing::Name`, behind `Easing`
+unfoldable pub variantEasing : Rule EasingSpec
+variantEasing = do
+  both ":" ":"
+  s ← ident
+  give (named true s)
+
+-- a name that is no curve's
+unfoldable pub namedEasing : ℕ × List ℕ → Rule EasingSpec
+namedEasing w = if (λ ts. same (w .1) (bytes "Easing") && seesTwo ":" ":" ts) variantEasing (give (named false (record { start = w .0; size = length (w .1) })))
+
+-- parse_easing
+unfoldable pub parseEasing : Rule EasingSpec
+parseEasing = if (sees "(") (refuse Malformed) (do
+  w ← word
+  default (under curves (w .1)) (namedEasing w))
+
+unfoldable pub loopModes : List (String × Rule LoopSpec)
+loopModes =
+    ("once", give once) ∷ ("forever", give forever)
+    ∷ ("ping_pong", if (sees "(") (parseUintInParens >>= λ n. give (pingPongTimes n)) (give pingPong))
+    ∷ ("times", parseUintInParens >>= λ n. give (times n)) ∷ []
+
+-- parse_loop_mode: "`ping_pong_times(n)` is refused with 8"
+unfoldable pub parseLoopMode : Rule LoopSpec
+parseLoopMode = do
+  w ← word
+  p ← need Malformed (under loopModes (w .1))
+  p

@@ -1,0 +1,1 @@
+// parser.rs: reading a text into a sheet.

@@ -1,0 +1,76 @@
+-- Demand 3, one claim over both calls. Assumes nothing.
+use Prim.Native.Nat.{ℕ, suc, _≤_}
+use mathlib.Core.List.{List, [], _∷_}
+use mathlib.Core.Option.{Option, some}
+use mathlib.Core.Path.{_≡_}
+use mathlib.Core.Logic.{_≢_}
+use lib.ListN.{length, take, getElem?}
+use Rattle.number.specs.Number.{f32}
+use Rattle.number.specs.Time.{Key, FairPercent, AtMost, Within, Far, Equal, Close, Each, Pairs}
+use Rattle.ast.specs.Tree.{Nodes, KeyframeTime, KeyframeEntry, KeyframeSpec, keyframes, mapTimes, records, preorder}
+use Rattle.sheet.specs.Sheet.{encode, decode}
+use Rattle.parser.specs.Grammar.{stored}
+use Rattle.parser.specs.Reading.{parse, tree, reading}
+use Rattle.validate.specs.Rules.{timeOf}
+use Rattle.validate.specs.Checking.{judged, checking}
+use Rattle.error.specs.declared.Refusal.the-variants.{DuplicateTime}
+use Rattle.error.specs.declared.ReadAnswer.{ReadAnswer}
+use Rattle.error.specs.declared.ReadAnswer.the-variants as read
+use Rattle.error.specs.declared.CheckAnswer.{CheckAnswer}
+use Rattle.error.specs.declared.CheckAnswer.the-variants as check
+
+-- ---- one track: its keys in the grammar's tree, its times in the sheet's
+
+abbrev pub times : {K : Type 0} → List (KeyframeEntry K) → List K
+times [] = []
+times (x ∷ xs) = x .time ∷ times xs
+
+-- "each time stored for the track is within 2^(k-25) of the written one": every key has its stored time, which is that near
+abbrev pub StoredWithin : ℕ → List Key → List KeyframeTime → Type 0
+StoredWithin k keys ts = (i : ℕ) (t : Key) → getElem? keys i ≡ some t → (u : KeyframeTime) × (getElem? ts i ≡ some u) × Within k t (f32 (timeOf u))
+
+-- what holds of the track x, which the sheet has as y, at the ordinal n, where checking answers v
+abbrev pub TrackClaim : KeyframeSpec Key → KeyframeSpec KeyframeTime → ℕ → CheckAnswer → Type 0
+TrackClaim x y n v =
+    2 ≤ length (x .frames) → Each FairPercent (times (x .frames)) → (k : ℕ) → k ≤ 34 → Each (AtMost k) (times (x .frames))
+    → StoredWithin k (times (x .frames)) (times (y .frames))
+    × (Pairs (Far k) (times (x .frames)) → v ≢ check.Refused DuplicateTime n)
+    × Pairs (λ t u. Equal t u → v ≢ check.Accepted) (times (x .frames))
+    × (k ≡ 0 → Pairs (λ t u. Close t u → v ≢ check.Accepted) (times (x .frames)))
+
+-- ---- the whole claim
+
+-- none of reading's refusals is due: the grammar's tree of the text is ns, and its encoding has room
+pub record Unrefused (t : List ℕ) (words room : ℕ) (ns : Nodes Key) : Type 0 where
+  pub short : length t ≤ 16384
+  pub scratch : 16384 ≤ words
+  pub parses : parse t ≡ tree ns
+  pub fits : length (encode (length t) (mapTimes stored ns)) ≤ room
+
+-- what is so of reading's answer a, the sheet s that it left and checking's answer v, where ns is the grammar's tree
+pub record Agreed (t : List ℕ) (a : ReadAnswer) (s : List ℕ) (v : CheckAnswer) (ns : Nodes Key) : Type 0 where
+  -- the tree of the sheet
+  pub size : ℕ
+  pub held : Nodes KeyframeTime
+  pub answer : a ≡ read.Accepted size (records ns)
+  pub encodes : take size s ≡ encode (length t) (mapTimes stored ns)
+  pub decodes : decode (length t) (take size s) ≡ some held
+  -- "it answers, number and ordinal included, as the checking rules do for that tree"
+  pub same : held ≡ mapTimes stored ns
+  pub checked : v ≡ judged t held
+  pub tracks : (i : ℕ) (x : KeyframeSpec Key) → getElem? (preorder ns) i ≡ some (some (keyframes x))
+      → (y : KeyframeSpec KeyframeTime) × (getElem? (preorder held) i ≡ some (some (keyframes y))) × TrackClaim x y (suc i) v
+
+-- t is the text, words and room the lengths of scratch and sheet; a is what reading answered, s the sheet's bytes then, v what checking answered
+pub record Claim (t : List ℕ) (words room : ℕ) (a : ReadAnswer) (s : List ℕ) (v : CheckAnswer) : Type 0 where
+  -- "Reading accepts exactly where none of its refusals is due"
+  pub only : (n c : ℕ) → a ≡ read.Accepted n c → (ns : Nodes Key) × Unrefused t words room ns
+  -- "and its sheet then encodes the grammar's tree", and the rest
+  pub whenever : (ns : Nodes Key) → Unrefused t words room ns → Agreed t a s v ns
+
+-- for every text, scratch and sheet slice, and for the answer of checking to the text and the sheet up to the length that reading gave
+abbrev pub Demand3 : Type 0
+Demand3 =
+    (t scratch sheet : List ℕ) (v : CheckAnswer)
+    → ((n c : ℕ) → reading t scratch sheet .0 ≡ read.Accepted n c → v ≡ checking t (take n (reading t scratch sheet .2)))
+    → Claim t (length scratch) (length sheet) (reading t scratch sheet .0) (reading t scratch sheet .2) v

@@ -1,0 +1,54 @@
+-- 01: what the program prints for its input. Assumes nothing.
+use Prim.Native.Nat.{ℕ, zero, suc, _+_, _/_, _%_}
+use mathlib.Core.Bool.{true, false}
+use mathlib.Core.List.{List, [], _∷_, _++_}
+use lib.Dec.{ltb}
+use lib.ListN.{take, replicate}
+use Rattle.text.specs.Bytes.{bytes}
+use Rattle.parser.specs.Reading.{reading}
+use Rattle.validate.specs.Checking.{checking}
+use Rattle.line.specs.Lining.{lining}
+use Rattle.error.specs.Refusal.{numberOf}
+use Rattle.error.specs.declared.Refusal.{Refusal}
+use Rattle.error.specs.declared.ReadAnswer.{ReadAnswer}
+use Rattle.error.specs.declared.ReadAnswer.the-variants as read
+use Rattle.error.specs.declared.CheckAnswer.{CheckAnswer}
+use Rattle.error.specs.declared.CheckAnswer.the-variants as check
+use Rattle.error.specs.declared.LineAnswer.{LineAnswer}
+use Rattle.error.specs.declared.LineAnswer.the-variants as line
+
+-- a number below 10 ^ k in decimal
+unfoldable pub decimalOut : ℕ → ℕ → List ℕ
+decimalOut zero n = []
+decimalOut (suc k) n = elim (ltb n 10) [ true ↦ (48 + n) ∷ [] | false ↦ decimalOut k (n / 10) ++ (48 + n % 10) ∷ [] ]
+
+-- `refuse R at P`
+unfoldable pub refusal : Refusal → ℕ → List ℕ
+refusal r p = bytes "refuse " ++ decimalOut 10 (numberOf r) ++ bytes " at " ++ decimalOut 10 p ++ 10 ∷ []
+
+-- `accept N`
+unfoldable pub accept : ℕ → List ℕ
+accept n = bytes "accept " ++ decimalOut 10 n ++ 10 ∷ []
+
+-- a line, and what follows it; "If lining refuses it prints that line and stops"
+abbrev pub lineThen : LineAnswer × List ℕ → (List ℕ → List ℕ) → List ℕ
+lineThen (line.Accepted n, out) rest = take n out ++ rest out
+lineThen (line.Refused r p, out) rest = refusal r p
+
+-- the lines of k records from the ordinal i on, then `accept N`
+unfoldable pub lines : List ℕ → List ℕ → ℕ → ℕ → ℕ → List ℕ → List ℕ
+lines t sheet n zero i out = accept n
+lines t sheet n (suc k) i out = lineThen (lining t sheet i out) (λ after. lines t sheet n k (suc i) after)
+
+-- "If reading or checking refuses it prints only `refuse R at P`"
+abbrev pub whenChecked : List ℕ → List ℕ → ℕ → CheckAnswer → List ℕ
+whenChecked t sheet n check.Accepted = lines t sheet n (suc n) 0 (replicate 65536 0)
+whenChecked t sheet n (check.Refused r p) = refusal r p
+
+abbrev pub whenRead : List ℕ → ReadAnswer × List ℕ × List ℕ → List ℕ
+whenRead t (read.Accepted length n, scratch, sheet) = whenChecked t (take length sheet) n (checking t (take length sheet))
+whenRead t (read.Refused r p, scratch, sheet) = refusal r p
+
+-- reading, checking, then lining record by record, with the program's buffers: 16,384 words, 49,152 bytes, 65,536 bytes
+unfoldable pub output : List ℕ → List ℕ
+output t = whenRead t (reading t (replicate 16384 0) (replicate 49152 0))

@@ -1,0 +1,434 @@
+-- 01, "The sheet": each type of ast.rs as a form of bytes. n is the text's length. Assumes nothing.
+use Prim.Native.Nat.{ℕ, zero, suc, _+_}
+use mathlib.Core.Bool.{Bool, true, false, cond}
+use mathlib.Core.List.{List, [], _∷_}
+use mathlib.Core.Option.{Option, none, some}
+use lib.Dec.{leb, ltb, eqb}
+use lib.ListN.{length}
+use Rattle.codec.specs.Codec.{Form, empty, never, such, below, _▹_, via, big, Case, case, FieldsAt, enum, opt, sized, many}
+use Rattle.ast.specs.Tree.{
+  Span,
+  ValueExpr,
+  scalar,
+  array,
+  EasingSpec,
+  named,
+  cubicBezier,
+  steps,
+  wiggle,
+  rough,
+  slowMo,
+  LoopSpec,
+  once,
+  times,
+  forever,
+  pingPong,
+  pingPongTimes,
+  DampingMode,
+  criticallyDamped,
+  overdamped,
+  underdamped,
+  KeyframeTime,
+  percent,
+  seconds,
+  StaggerPatternSpec,
+  grid,
+  random,
+  centerOut,
+  edgesIn,
+  KeyframeEntry,
+  KeyframeSpec,
+  TweenSpec,
+  SpringSpec,
+  PathSpec,
+  MorphSpec,
+  DrawSpec,
+  ColorSpec,
+  WaveformSpec,
+  PresetCall,
+  AtSpec,
+  Leaf,
+  tween,
+  spring,
+  keyframes,
+  path,
+  morph,
+  draw,
+  color,
+  waveform,
+  preset,
+  label,
+  at,
+  sequence,
+  parallel,
+  group,
+  stagger,
+  Nodes,
+  leaf,
+  box,
+  MotionNode,
+  single,
+  holding,
+  push,
+  width,
+}
+
+-- "Numbers are big-endian: f32 bits and u32 in 4 bytes"
+abbrev pub word : Form ℕ
+word = big 4
+
+-- "truth values 0 or 1 in 1"
+abbrev pub flag : Form Bool
+flag = via (below 2) (λ b. eqb b 1) (λ b. cond b 1 0)
+
+-- "A name or string (quotes left off): start and length in the text, 2 bytes each", "every start plus length at most the text's length"
+abbrev pub inText : ℕ → Span → Bool
+inText n s = leb (s .start + s .size) n
+
+abbrev pub toSpan : ℕ × ℕ → Span
+toSpan (start, size) = record { start = start; size = size }
+
+abbrev pub ofSpan : Span → ℕ × ℕ
+ofSpan s = (s .start, s .size)
+
+abbrev pub spanForm : ℕ → Form Span
+spanForm n = such (inText n) (via (big 2 ▹ big 2) toSpan ofSpan)
+
+-- ---- "An enum: a byte, its case's position, then its fields"
+
+-- "An array ..: count, then elements"
+abbrev pub values : List (Case ValueExpr)
+values = case word scalar ∷ case (many word) array ∷ []
+
+abbrev pub splitValue : ValueExpr → (i : ℕ) × FieldsAt values i
+splitValue (scalar x) = (0, x)
+splitValue (array xs) = (1, xs)
+
+abbrev pub valueForm : Form ValueExpr
+valueForm = enum values splitValue
+
+-- "`Named` also has, before its start, 1 if written `Easing::`, else 0"
+abbrev pub easings : ℕ → List (Case EasingSpec)
+easings n =
+    case (flag ▹ spanForm n) (λ p. named (p .0) (p .1))
+    ∷ case (word ▹ word ▹ word ▹ word) (λ p. cubicBezier (p .0) (p .1 .0) (p .1 .1 .0) (p .1 .1 .1))
+    ∷ case word steps
+    ∷ case word wiggle
+    ∷ case (word ▹ word) (λ p. rough (p .0) (p .1))
+    ∷ case (word ▹ word) (λ p. slowMo (p .0) (p .1))
+    ∷ []
+
+abbrev pub splitEasing : (n : ℕ) → EasingSpec → (i : ℕ) × FieldsAt (easings n) i
+splitEasing n (named variant s) = (0, (variant, s))
+splitEasing n (cubicBezier x1 y1 x2 y2) = (1, (x1, (y1, (x2, y2))))
+splitEasing n (steps k) = (2, k)
+splitEasing n (wiggle k) = (3, k)
+splitEasing n (rough strength points) = (4, (strength, points))
+splitEasing n (slowMo ratio power) = (5, (ratio, power))
+
+abbrev pub easingForm : ℕ → Form EasingSpec
+easingForm n = enum (easings n) (splitEasing n)
+
+abbrev pub loops : List (Case LoopSpec)
+loops = case empty (λ u. once) ∷ case word times ∷ case empty (λ u. forever) ∷ case empty (λ u. pingPong) ∷ case word pingPongTimes ∷ []
+
+abbrev pub splitLoop : LoopSpec → (i : ℕ) × FieldsAt loops i
+splitLoop once = (0, tt)
+splitLoop (times k) = (1, k)
+splitLoop forever = (2, tt)
+splitLoop pingPong = (3, tt)
+splitLoop (pingPongTimes k) = (4, k)
+
+abbrev pub loopForm : Form LoopSpec
+loopForm = enum loops splitLoop
+
+abbrev pub dampings : List (Case DampingMode)
+dampings =
+    case word criticallyDamped ∷ case (word ▹ word) (λ p. overdamped (p .0) (p .1)) ∷ case (word ▹ word) (λ p. underdamped (p .0) (p .1)) ∷ []
+
+abbrev pub splitDamping : DampingMode → (i : ℕ) × FieldsAt dampings i
+splitDamping (criticallyDamped s) = (0, s)
+splitDamping (overdamped s r) = (1, (s, r))
+splitDamping (underdamped s r) = (2, (s, r))
+
+abbrev pub dampingForm : Form DampingMode
+dampingForm = enum dampings splitDamping
+
+abbrev pub timeCases : List (Case KeyframeTime)
+timeCases = case word percent ∷ case word seconds ∷ []
+
+abbrev pub splitTime : KeyframeTime → (i : ℕ) × FieldsAt timeCases i
+splitTime (percent x) = (0, x)
+splitTime (seconds x) = (1, x)
+
+abbrev pub timeForm : Form KeyframeTime
+timeForm = enum timeCases splitTime
+
+abbrev pub patterns : List (Case StaggerPatternSpec)
+patterns =
+    case (word ▹ word ▹ below 9) (λ p. grid (p .0) (p .1 .0) (p .1 .1))
+    ∷ case (word ▹ word ▹ word) (λ p. random (p .0) (p .1 .0) (p .1 .1))
+    ∷ case empty (λ u. centerOut)
+    ∷ case empty (λ u. edgesIn)
+    ∷ []
+
+abbrev pub splitPattern : StaggerPatternSpec → (i : ℕ) × FieldsAt patterns i
+splitPattern (grid cols rows origin) = (0, (cols, (rows, origin)))
+splitPattern (random seed min max) = (1, (seed, (min, max)))
+splitPattern centerOut = (2, tt)
+splitPattern edgesIn = (3, tt)
+
+abbrev pub patternForm : Form StaggerPatternSpec
+patternForm = enum patterns splitPattern
+
+-- ---- "the fields in ast.rs order": each struct as its fields, and back
+
+abbrev pub toEntry : KeyframeTime × (ValueExpr × Option EasingSpec) → KeyframeEntry KeyframeTime
+toEntry (time, (value, easing)) = record { time = time; value = value; easing = easing }
+
+abbrev pub ofEntry : KeyframeEntry KeyframeTime → KeyframeTime × (ValueExpr × Option EasingSpec)
+ofEntry x = (x .time, (x .value, x .easing))
+
+abbrev pub entryForm : ℕ → Form (KeyframeEntry KeyframeTime)
+entryForm n = via (timeForm ▹ valueForm ▹ opt (easingForm n)) toEntry ofEntry
+
+abbrev pub TweenFields : Type 0
+TweenFields =
+    Span × (ValueExpr × (ValueExpr × (ℕ × (Option EasingSpec × (Option ℕ × (Option ℕ × (Option LoopSpec × (Option ℕ × (Option ℕ × Bool)))))))))
+
+abbrev pub toTween : TweenFields → TweenSpec
+toTween (target, (from, (to, (duration, (easing, (delay, (timeScale, (loopMode, (snap, (round, reverse)))))))))) = record {
+  target = target;
+  from = from;
+  to = to;
+  duration = duration;
+  easing = easing;
+  delay = delay;
+  timeScale = timeScale;
+  loopMode = loopMode;
+  snap = snap;
+  round = round;
+  reverse = reverse;
+}
+
+abbrev pub ofTween : TweenSpec → TweenFields
+ofTween x = (x .target, (x .from, (x .to, (x .duration, (x .easing, (x .delay, (x .timeScale, (x .loopMode, (x .snap, (x .round, x .reverse))))))))))
+
+abbrev pub tweenForm : ℕ → Form TweenSpec
+tweenForm n =
+    via (
+    spanForm n ▹ valueForm ▹ valueForm ▹ word ▹ opt (easingForm n) ▹ opt word ▹ opt word ▹ opt loopForm ▹ opt word ▹ opt word ▹ flag)
+    toTween ofTween
+
+abbrev pub SpringFields : Type 0
+SpringFields =
+    Span × (ValueExpr × (ValueExpr × (Option ℕ × (Option ℕ × (Option ℕ × (Option ℕ × (Option ValueExpr × (Option ℕ × (Option ℕ × Option DampingMode)))))))))
+
+abbrev pub toSpring : SpringFields → SpringSpec
+toSpring (target, (from, (to, (springPreset, (stiffness, (damping, (mass, (velocity, (epsilon, (integrator, dampingMode)))))))))) = record {
+  target = target;
+  from = from;
+  to = to;
+  preset = springPreset;
+  stiffness = stiffness;
+  damping = damping;
+  mass = mass;
+  velocity = velocity;
+  epsilon = epsilon;
+  integrator = integrator;
+  dampingMode = dampingMode;
+}
+
+abbrev pub ofSpring : SpringSpec → SpringFields
+ofSpring x = (x .target, (x .from, (x .to, (x .preset, (x .stiffness, (x .damping, (x .mass, (x .velocity, (x .epsilon, (x .integrator, x .dampingMode))))))))))
+
+abbrev pub springForm : ℕ → Form SpringSpec
+springForm n =
+    via (
+    spanForm n ▹ valueForm ▹ valueForm ▹ opt (below 5) ▹ opt word ▹ opt word ▹ opt word ▹ opt valueForm ▹ opt word ▹ opt (below 2)
+    ▹ opt dampingForm)
+    toSpring ofSpring
+
+abbrev pub toKeyframes : Span × (List (KeyframeEntry KeyframeTime) × Option LoopSpec) → KeyframeSpec KeyframeTime
+toKeyframes (target, (frames, loopMode)) = record { target = target; frames = frames; loopMode = loopMode }
+
+abbrev pub ofKeyframes : KeyframeSpec KeyframeTime → Span × (List (KeyframeEntry KeyframeTime) × Option LoopSpec)
+ofKeyframes x = (x .target, (x .frames, x .loopMode))
+
+abbrev pub keyframesForm : ℕ → Form (KeyframeSpec KeyframeTime)
+keyframesForm n = via (spanForm n ▹ many (entryForm n) ▹ opt loopForm) toKeyframes ofKeyframes
+
+abbrev pub PathFields : Type 0
+PathFields = Span × (Span × (ℕ × (Option EasingSpec × (Option Bool × (Option (ℕ × ℕ) × Option LoopSpec)))))
+
+abbrev pub toPath : PathFields → PathSpec
+toPath (target, (svg, (duration, (easing, (autoRotate, (offset, loopMode)))))) = record {
+  target = target;
+  svg = svg;
+  duration = duration;
+  easing = easing;
+  autoRotate = autoRotate;
+  offset = offset;
+  loopMode = loopMode;
+}
+
+abbrev pub ofPath : PathSpec → PathFields
+ofPath x = (x .target, (x .svg, (x .duration, (x .easing, (x .autoRotate, (x .offset, x .loopMode))))))
+
+abbrev pub pathForm : ℕ → Form PathSpec
+pathForm n = via (spanForm n ▹ spanForm n ▹ word ▹ opt (easingForm n) ▹ opt flag ▹ opt (word ▹ word) ▹ opt loopForm) toPath ofPath
+
+abbrev pub toMorph : Span × (Span × (ℕ × (ℕ × Option EasingSpec))) → MorphSpec
+toMorph (from, (to, (samples, (duration, easing)))) = record { from = from; to = to; samples = samples; duration = duration; easing = easing }
+
+abbrev pub ofMorph : MorphSpec → Span × (Span × (ℕ × (ℕ × Option EasingSpec)))
+ofMorph x = (x .from, (x .to, (x .samples, (x .duration, x .easing))))
+
+abbrev pub morphForm : ℕ → Form MorphSpec
+morphForm n = via (spanForm n ▹ spanForm n ▹ word ▹ word ▹ opt (easingForm n)) toMorph ofMorph
+
+abbrev pub toDraw : Span × (ℕ × Option EasingSpec) → DrawSpec
+toDraw (svg, (duration, easing)) = record { svg = svg; duration = duration; easing = easing }
+
+abbrev pub ofDraw : DrawSpec → Span × (ℕ × Option EasingSpec)
+ofDraw x = (x .svg, (x .duration, x .easing))
+
+abbrev pub drawForm : ℕ → Form DrawSpec
+drawForm n = via (spanForm n ▹ word ▹ opt (easingForm n)) toDraw ofDraw
+
+abbrev pub ColorFields : Type 0
+ColorFields = Span × (Span × (Span × (ℕ × (ℕ × Option EasingSpec))))
+
+abbrev pub toColor : ColorFields → ColorSpec
+toColor (target, (from, (to, (duration, (space, easing))))) = record { target = target; from = from; to = to; duration = duration; space = space; easing = easing }
+
+abbrev pub ofColor : ColorSpec → ColorFields
+ofColor x = (x .target, (x .from, (x .to, (x .duration, (x .space, x .easing)))))
+
+abbrev pub colorForm : ℕ → Form ColorSpec
+colorForm n = via (spanForm n ▹ spanForm n ▹ spanForm n ▹ word ▹ below 3 ▹ opt (easingForm n)) toColor ofColor
+
+abbrev pub WaveformFields : Type 0
+WaveformFields = ℕ × (Option ℕ × (Option ℕ × (Option ℕ × (Option ℕ × (Option ℕ × (Option ℕ × Option ℕ))))))
+
+abbrev pub toWaveform : WaveformFields → WaveformSpec
+toWaveform (kind, (frequency, (amplitude, (phase, (dutyCycle, (seed, (smoothness, duration))))))) = record {
+  kind = kind;
+  frequency = frequency;
+  amplitude = amplitude;
+  phase = phase;
+  dutyCycle = dutyCycle;
+  seed = seed;
+  smoothness = smoothness;
+  duration = duration;
+}
+
+abbrev pub ofWaveform : WaveformSpec → WaveformFields
+ofWaveform x = (x .kind, (x .frequency, (x .amplitude, (x .phase, (x .dutyCycle, (x .seed, (x .smoothness, x .duration)))))))
+
+abbrev pub waveformForm : Form WaveformSpec
+waveformForm = via (below 5 ▹ opt word ▹ opt word ▹ opt word ▹ opt word ▹ opt word ▹ opt word ▹ opt word) toWaveform ofWaveform
+
+abbrev pub toPreset : Span × (Option ℕ × Option EasingSpec) → PresetCall
+toPreset (name, (duration, easing)) = record { name = name; duration = duration; easing = easing }
+
+abbrev pub ofPreset : PresetCall → Span × (Option ℕ × Option EasingSpec)
+ofPreset x = (x .name, (x .duration, x .easing))
+
+abbrev pub presetForm : ℕ → Form PresetCall
+presetForm n = via (spanForm n ▹ opt word ▹ opt (easingForm n)) toPreset ofPreset
+
+abbrev pub toAt : ℕ × Bool → AtSpec
+toAt (value, relative) = record { value = value; relative = relative }
+
+abbrev pub ofAt : AtSpec → ℕ × Bool
+ofAt x = (x .value, x .relative)
+
+abbrev pub atForm : Form AtSpec
+atForm = via (word ▹ flag) toAt ofAt
+
+-- ---- nodes
+
+abbrev pub Node : Type 0
+Node = MotionNode KeyframeTime
+
+abbrev pub Forest : Type 0
+Forest = Nodes KeyframeTime
+
+-- "A record is the kind (position in `MotionNode`, tween 0 to at 14), then the fields"; `inner` is the form of the nodes in a container
+abbrev pub kinds : ℕ → Form Forest → List (Case Node)
+kinds n inner =
+    case (tweenForm n) (λ x. single (tween x))
+    ∷ case (springForm n) (λ x. single (spring x))
+    ∷ case (keyframesForm n) (λ x. single (keyframes x))
+    ∷ case inner (λ ns. holding sequence ns)
+    ∷ case inner (λ ns. holding parallel ns)
+    ∷ case (below 2 ▹ inner) (λ p. holding (group (p .0)) (p .1))
+    ∷ case (opt patternForm ▹ opt word ▹ inner) (λ p. holding (stagger (p .0) (p .1 .0)) (p .1 .1))
+    ∷ case (pathForm n) (λ x. single (path x))
+    ∷ case (morphForm n) (λ x. single (morph x))
+    ∷ case (drawForm n) (λ x. single (draw x))
+    ∷ case (colorForm n) (λ x. single (color x))
+    ∷ case waveformForm (λ x. single (waveform x))
+    ∷ case (presetForm n) (λ x. single (preset x))
+    ∷ case (spanForm n) (λ s. single (label s))
+    ∷ case atForm (λ x. single (at x))
+    ∷ []
+
+abbrev pub splitNode : (n : ℕ) (inner : Form Forest) → Node → (i : ℕ) × FieldsAt (kinds n inner) i
+splitNode n inner (single (tween x)) = (0, x)
+splitNode n inner (single (spring x)) = (1, x)
+splitNode n inner (single (keyframes x)) = (2, x)
+splitNode n inner (holding sequence ns) = (3, ns)
+splitNode n inner (holding parallel ns) = (4, ns)
+splitNode n inner (holding (group mode) ns) = (5, (mode, ns))
+splitNode n inner (holding (stagger pattern delay) ns) = (6, (pattern, (delay, ns)))
+splitNode n inner (single (path x)) = (7, x)
+splitNode n inner (single (morph x)) = (8, x)
+splitNode n inner (single (draw x)) = (9, x)
+splitNode n inner (single (color x)) = (10, x)
+splitNode n inner (single (waveform x)) = (11, x)
+splitNode n inner (single (preset x)) = (12, x)
+splitNode n inner (single (label s)) = (13, s)
+splitNode n inner (single (at x)) = (14, x)
+
+abbrev pub nodeForm : ℕ → Form Forest → Form Node
+nodeForm n inner = enum (kinds n inner) (splitNode n inner)
+
+abbrev pub toForest : Node × Forest → Forest
+toForest (x, rest) = push x rest
+
+-- the first node and the others; a forest of no nodes has no first, and is not asked for one
+abbrev pub ofForest : Forest → Node × Forest
+ofForest Nodes.none = (holding sequence Nodes.none, Nodes.none)
+ofForest (leaf l rest) = (single l, rest)
+ofForest (box b ns rest) = (holding b ns, rest)
+
+-- so many nodes
+abbrev pub forest : ℕ → Form Forest → ℕ → Form Forest
+forest n inner zero = via empty (λ u. Nodes.none) (λ ns. tt)
+forest n inner (suc c) = via (nodeForm n inner ▹ forest n inner c) toForest ofForest
+
+-- "nodes inside a container appear as their count, and their records follow"; d containers more may nest
+abbrev pub inner : ℕ → ℕ → Form Forest
+inner n zero = never
+inner n (suc d) = sized width (forest n (inner n d))
+
+-- "Head record: count of top nodes. Then one record a node, preorder", "at most 16 containers nested"
+abbrev pub sheet : ℕ → Form Forest
+sheet n = inner n 17
+
+-- ---- encoding and decoding
+
+-- the sheet of a tree, for a text of n bytes
+unfoldable pub encode : ℕ → Forest → List ℕ
+encode n ns = sheet n .write ns
+
+-- all the bytes are read
+abbrev pub whole : {A : Type 0} → Option (A × List ℕ) → Option A
+whole none = none
+whole (some r) = cond (eqb (length (r .1)) 0) (some (r .0)) none
+
+-- "Bytes are a sheet for a text if they are at most 65,535 and the encoding of some tree": that tree
+unfoldable pub decode : ℕ → List ℕ → Option Forest
+decode n bs = cond (ltb 65535 (length bs)) none (whole (sheet n .read bs))

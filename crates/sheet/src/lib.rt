@@ -1,0 +1,1 @@
+// The sheet: the bytes of a tree.

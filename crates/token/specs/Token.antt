@@ -1,0 +1,131 @@
+-- 01, "Text rules": the token that a text begins with, and the tokens from a place on. Assumes nothing.
+use Prim.Native.Nat.{ℕ, zero, suc, _+_, _-_}
+use mathlib.Core.Bool.{Bool, true, false, _&&_, _||_, not, cond}
+use mathlib.Core.List.{List, [], _∷_}
+use lib.Dec.{ltb, eqb}
+use lib.ListN.{take, drop}
+use Rattle.text.specs.Bytes.{at, run, part, among, decimal, isDigit, isLetter, isName, isBlank, isInside}
+use Rattle.number.specs.Number.{Written}
+use Rattle.error.specs.declared.Refusal.{Refusal}
+use Rattle.error.specs.declared.Refusal.the-variants.{BadForm, TooManyDigits}
+
+-- A name has its bytes, a string the length of what stands between its quotes. A mark is its byte, each delimiter too; the text's end is the mark 0.
+pub data Kind : Type 0 where
+  name : List ℕ → Kind
+  number : Written → Kind
+  quoted : ℕ → Kind
+  mark : ℕ → Kind
+
+-- a token: its place, and its kind
+pub data Token : Type 0 where
+  token : ℕ → Kind → Token
+
+-- ---- the token that a text begins with: its kind and its size, or a refusal; no blank stands first
+
+pub data Lexeme : Type 0 where
+  bad : Refusal → Lexeme
+  piece : Kind → ℕ → Lexeme
+
+-- "A name is a letter or `_`, then letters, digits, `_`. Directly followed by `"`: refusal 2"
+unfoldable pub nameAt : List ℕ → Lexeme
+nameAt t =
+    let n = run isName t in
+    cond (eqb (at t n) 34) (bad BadForm) (piece (name (take n t)) n)
+
+-- whether a point and a digit stand at w
+unfoldable pub pointAt : List ℕ → ℕ → Bool
+pointAt t w = eqb (at t w) 46 && isDigit (at t (suc w))
+
+-- where the digits end, w of them standing before the point
+unfoldable pub pastFraction : Bool → List ℕ → ℕ → ℕ
+pastFraction true t w = suc w + run isDigit (drop (suc w) t)
+pastFraction false t w = w
+
+-- "possibly a single `s`"
+unfoldable pub suffixAt : List ℕ → ℕ → Bool
+suffixAt t n = eqb (at t n) 115
+
+unfoldable pub pastSuffix : Bool → ℕ → ℕ
+pastSuffix s n = cond s (suc n) n
+
+-- "A following name character, or after whole digits a point followed by neither a digit nor a point"
+unfoldable pub clings : List ℕ → Bool → ℕ → Bool
+clings t plain n = isName (at t n) || (plain && eqb (at t n) 46 && not (eqb (at t (suc n)) 46))
+
+-- how many digits stand after the point
+unfoldable pub placesOf : Bool → ℕ → ℕ → ℕ
+placesOf point w end = cond point (end - suc w) 0
+
+-- "More than 10 digits before or 9 after the point, leading zeros counted: refusal 3. Both: 2."
+-- w digits, a point and more digits up to end or not, an `s` or not, up to n
+unfoldable pub numberBy : List ℕ → ℕ → Bool → ℕ → Bool → ℕ → Lexeme
+numberBy t w point end s n =
+    cond (clings t (not (point || s)) n) (bad BadForm)
+    (cond (ltb 10 w || ltb 9 (placesOf point w end)) (bad TooManyDigits)
+    (piece (number (record { digits = decimal (decimal 0 (take w t)) (part t (suc w) (placesOf point w end)); places = placesOf point w end; point = point; suffix = s })) n))
+
+-- "A number is 1 or more digits, then possibly a point and 1 or more digits, then possibly a single `s`."
+unfoldable pub numberAt : List ℕ → Lexeme
+numberAt t =
+    let w = run isDigit t in
+    let point = pointAt t w in
+    let end = pastFraction point t w in
+    let s = suffixAt t end in
+    numberBy t w point end s (pastSuffix s end)
+
+-- "A string holds printable ASCII without `"` and `\`. Any other byte, no closing `"` or a name character right after it: 2, at its opening `"`."
+unfoldable pub quotedAt : List ℕ → Lexeme
+quotedAt t =
+    let n = run isInside (drop 1 t) in
+    cond (eqb (at t (suc n)) 34 && not (isName (at t (n + 2)))) (piece (quoted n) (n + 2)) (bad BadForm)
+
+unfoldable pub lexeme : List ℕ → Lexeme
+lexeme t =
+    let b = at t 0 in
+    cond (isLetter b) (nameAt t)
+    (cond (isDigit b) (numberAt t)
+    (cond (eqb b 34) (quotedAt t)
+    (cond (among ":;,=>.+-%([{)]}" b) (piece (mark b) 1) (bad BadForm))))
+
+-- ---- the tokens from a place on; where none can be cut the text ends for the reader
+
+abbrev pub cutBy : Bool → Lexeme → ℕ → List Token → List Token
+cutBy true x p ts = ts
+cutBy false (bad r) p ts = token p (mark 0) ∷ []
+cutBy false (piece k n) p ts = token p k ∷ ts
+
+-- how many bytes more the token takes
+abbrev pub further : Bool → Lexeme → ℕ
+further true x = 0
+further false (bad r) = 0
+further false (piece k n) = n - 1
+
+-- the first k bytes belong to a token before; p is the place
+unfoldable pub cut : ℕ → ℕ → List ℕ → List Token
+cut k p [] = token p (mark 0) ∷ []
+cut (suc k) p (b ∷ t) = cut k (suc p) t
+cut zero p (b ∷ t) = cutBy (isBlank b) (lexeme (b ∷ t)) p (cut (further (isBlank b) (lexeme (b ∷ t))) (suc p) t)
+
+unfoldable pub tokensFrom : List ℕ → ℕ → List Token
+tokensFrom s p = cut 0 p (drop p s)
+
+-- ---- the first token, and those behind it; the text's end stays
+
+-- 01: "the start of the first token not yet taken", "the text length at the end of the text"
+abbrev pub place : List Token → ℕ
+place [] = 0
+place (token p k ∷ ts) = p
+
+abbrev pub kind : List Token → Kind
+kind [] = mark 0
+kind (token p k ∷ ts) = k
+
+abbrev pub isMark : Kind → ℕ → Bool
+isMark (name w) b = false
+isMark (number w) b = false
+isMark (quoted n) b = false
+isMark (mark c) b = eqb c b
+
+abbrev pub rest : List Token → List Token
+rest [] = []
+rest (token p k ∷ ts) = cond (isMark k 0) (token p k ∷ ts) ts

@@ -1,0 +1,1 @@
+// validate.rs: checking a sheet.
