@@ -1,0 +1,701 @@
+//! The tree as bytes and back: 01's sheet.
+
+use crate::ast::*;
+use crate::places::{EasingPart, NodeParts, Part};
+use proc_macro2::Span;
+
+/// How names and strings are written.
+pub enum Names<'a> {
+    /// Their own bytes, after their length. For comparisons only.
+    Inline,
+    /// Start and length in the text, which must hold the tree's string there.
+    Parts { text: &'a [u8], nodes: std::slice::Iter<'a, NodeParts>, node: NodeParts },
+}
+
+impl<'a> Names<'a> {
+    pub fn parts(text: &'a [u8], nodes: &'a [NodeParts]) -> Self {
+        Names::Parts { text, nodes: nodes.iter(), node: NodeParts::default() }
+    }
+}
+
+/// The sheet of `nodes`, and its count of node records.
+pub fn encode(nodes: &[MotionNode], names: Names) -> (Vec<u8>, usize) {
+    let mut writer = Writer { out: Vec::new(), names, records: 0 };
+    writer.count(nodes.len());
+    writer.nodes(nodes);
+    if let Names::Parts { nodes, .. } = &mut writer.names {
+        assert!(nodes.next().is_none(), "a node too many was noted");
+    }
+    (writer.out, writer.records)
+}
+
+struct Writer<'a> {
+    out: Vec<u8>,
+    names: Names<'a>,
+    records: usize,
+}
+
+impl Writer<'_> {
+    fn byte(&mut self, value: u8) {
+        self.out.push(value);
+    }
+
+    fn count(&mut self, value: usize) {
+        self.out.extend(u16::try_from(value).expect("a count of 2 bytes").to_be_bytes());
+    }
+
+    fn whole(&mut self, value: u32) {
+        self.out.extend(value.to_be_bytes());
+    }
+
+    fn float(&mut self, value: f32) {
+        self.whole(value.to_bits());
+    }
+
+    fn truth(&mut self, value: bool) {
+        self.byte(value as u8);
+    }
+
+    fn optional<T: Copy>(&mut self, value: Option<T>, write: fn(&mut Self, T)) {
+        self.truth(value.is_some());
+        if let Some(value) = value {
+            write(self, value);
+        }
+    }
+
+    fn part(&mut self, part: Part) {
+        self.count(part.start);
+        self.count(part.length);
+    }
+
+    fn inline(&mut self, value: &str) {
+        self.count(value.len());
+        self.out.extend(value.as_bytes());
+    }
+
+    /// A name, or a string if `quoted`.
+    fn text(&mut self, value: &str, quoted: bool) {
+        let Names::Parts { text, node, .. } = &mut self.names else {
+            return self.inline(value);
+        };
+        let whole = node.names.remove(0);
+        let cut = quoted as usize;
+        let part = Part { start: whole.start + cut, length: whole.length - 2 * cut };
+        assert_eq!(&text[part.start..part.start + part.length], value.as_bytes());
+        self.part(part);
+    }
+
+    fn named(&mut self, value: &str, index: usize) {
+        let Names::Parts { text, node, .. } = &mut self.names else {
+            return self.inline(value);
+        };
+        let EasingPart { path, part } = node.easings[index];
+        let bytes = &text[part.start..part.start + part.length];
+        let written = std::str::from_utf8(bytes).expect("a name");
+        let kept = if path { to_snake_case(written) } else { written.to_string() };
+        assert_eq!(kept, value);
+        self.truth(path);
+        self.part(part);
+    }
+
+    /// The easing at `index` among those taken in this node.
+    fn easing(&mut self, easing: &EasingSpec, index: usize) {
+        match easing {
+            EasingSpec::Named(name) => {
+                self.byte(0);
+                self.named(name, index);
+            }
+            EasingSpec::CubicBezier(x1, y1, x2, y2) => {
+                self.byte(1);
+                [x1, y1, x2, y2].into_iter().for_each(|value| self.float(*value));
+            }
+            EasingSpec::Steps(n) => {
+                self.byte(2);
+                self.whole(*n);
+            }
+            EasingSpec::Wiggle(n) => {
+                self.byte(3);
+                self.whole(*n);
+            }
+            EasingSpec::Rough { strength, points } => {
+                self.byte(4);
+                self.float(*strength);
+                self.whole(*points);
+            }
+            EasingSpec::SlowMo { linear_ratio, power } => {
+                self.byte(5);
+                self.float(*linear_ratio);
+                self.float(*power);
+            }
+        }
+    }
+
+    /// A node's own easing: the last one taken.
+    fn last_easing(&mut self, easing: &Option<EasingSpec>) {
+        self.truth(easing.is_some());
+        if let Some(easing) = easing {
+            let index = match &self.names {
+                Names::Inline => 0,
+                Names::Parts { node, .. } => node.easings.len() - 1,
+            };
+            self.easing(easing, index);
+        }
+    }
+
+    fn value(&mut self, value: &ValueExpr) {
+        match value {
+            ValueExpr::Scalar(value) => {
+                self.byte(0);
+                self.float(*value);
+            }
+            ValueExpr::Array(values) => {
+                self.byte(1);
+                self.count(values.len());
+                values.iter().for_each(|value| self.float(*value));
+            }
+        }
+    }
+
+    fn loop_mode(&mut self, mode: LoopSpec) {
+        match mode {
+            LoopSpec::Once => self.byte(0),
+            LoopSpec::Times(n) => {
+                self.byte(1);
+                self.whole(n);
+            }
+            LoopSpec::Forever => self.byte(2),
+            LoopSpec::PingPong => self.byte(3),
+            LoopSpec::PingPongTimes(n) => {
+                self.byte(4);
+                self.whole(n);
+            }
+        }
+    }
+
+    fn damping(&mut self, mode: DampingMode) {
+        let (case, first, second) = match mode {
+            DampingMode::CriticallyDamped(s) => (0, s, None),
+            DampingMode::Overdamped(s, r) => (1, s, Some(r)),
+            DampingMode::Underdamped(s, r) => (2, s, Some(r)),
+        };
+        self.byte(case);
+        self.float(first);
+        if let Some(ratio) = second {
+            self.float(ratio);
+        }
+    }
+
+    fn pattern(&mut self, pattern: &StaggerPatternSpec) {
+        match pattern {
+            StaggerPatternSpec::Grid { cols, rows, origin } => {
+                self.byte(0);
+                self.whole(*cols);
+                self.whole(*rows);
+                self.byte(*origin as u8);
+            }
+            StaggerPatternSpec::Random { seed, min, max } => {
+                self.byte(1);
+                self.whole(*seed);
+                self.float(*min);
+                self.float(*max);
+            }
+            StaggerPatternSpec::CenterOut => self.byte(2),
+            StaggerPatternSpec::EdgesIn => self.byte(3),
+        }
+    }
+
+    fn frame(&mut self, frame: &KeyframeEntry, easings: &mut usize) {
+        let (case, time) = match frame.time {
+            KeyframeTime::Percent(time) => (0, time),
+            KeyframeTime::Seconds(time) => (1, time),
+        };
+        self.byte(case);
+        self.float(time);
+        self.value(&frame.value);
+        self.truth(frame.easing.is_some());
+        if let Some(easing) = &frame.easing {
+            self.easing(easing, *easings);
+            *easings += 1;
+        }
+    }
+
+    fn nodes(&mut self, nodes: &[MotionNode]) {
+        nodes.iter().for_each(|node| self.node(node));
+    }
+
+    fn node(&mut self, motion: &MotionNode) {
+        self.records += 1;
+        if let Names::Parts { nodes, node, .. } = &mut self.names {
+            assert!(node.names.is_empty(), "a name too many was noted");
+            *node = nodes.next().expect("a node was noted").clone();
+        }
+        self.record(motion);
+    }
+
+    fn record(&mut self, motion: &MotionNode) {
+        match motion {
+            MotionNode::Tween(spec) => self.tween(spec),
+            MotionNode::Spring(spec) => self.spring(spec),
+            MotionNode::Keyframes(spec) => self.keyframes(spec),
+            MotionNode::Sequence(nodes) => {
+                self.byte(3);
+                self.children(nodes);
+            }
+            MotionNode::Parallel(nodes) => {
+                self.byte(4);
+                self.children(nodes);
+            }
+            MotionNode::Group { mode, nodes } => {
+                self.byte(5);
+                self.byte(*mode as u8);
+                self.children(nodes);
+            }
+            MotionNode::Stagger(spec) => self.stagger(spec),
+            MotionNode::Path(spec) => self.path(spec),
+            MotionNode::Morph(spec) => self.morph(spec),
+            MotionNode::Draw(spec) => self.draw(spec),
+            MotionNode::Color(spec) => self.color(spec),
+            MotionNode::Waveform(spec) => self.waveform(spec),
+            MotionNode::Preset(call) => self.preset(call),
+            MotionNode::Label(text) => {
+                self.byte(13);
+                self.text(text, true);
+            }
+            MotionNode::At(spec) => {
+                self.byte(14);
+                self.float(spec.value);
+                self.truth(spec.relative);
+            }
+        }
+    }
+
+    fn children(&mut self, nodes: &[MotionNode]) {
+        self.count(nodes.len());
+        self.nodes(nodes);
+    }
+
+    fn tween(&mut self, spec: &TweenSpec) {
+        self.byte(0);
+        self.text(&spec.target, false);
+        self.value(&spec.from);
+        self.value(&spec.to);
+        self.float(spec.duration);
+        self.last_easing(&spec.easing);
+        self.optional(spec.delay, Self::float);
+        self.optional(spec.time_scale, Self::float);
+        self.optional(spec.loop_mode, Self::loop_mode);
+        self.optional(spec.snap, Self::float);
+        self.optional(spec.round, Self::whole);
+        self.truth(spec.reverse);
+    }
+
+    fn spring(&mut self, spec: &SpringSpec) {
+        self.byte(1);
+        self.text(&spec.target, false);
+        self.value(&spec.from);
+        self.value(&spec.to);
+        self.optional(spec.preset.map(|p| p as u8), Self::byte);
+        self.optional(spec.stiffness, Self::float);
+        self.optional(spec.damping, Self::float);
+        self.optional(spec.mass, Self::float);
+        self.truth(spec.velocity.is_some());
+        if let Some(velocity) = &spec.velocity {
+            self.value(velocity);
+        }
+        self.optional(spec.epsilon, Self::float);
+        self.optional(spec.integrator.map(|i| i as u8), Self::byte);
+        self.optional(spec.damping_mode, Self::damping);
+    }
+
+    fn keyframes(&mut self, spec: &KeyframeSpec) {
+        self.byte(2);
+        self.text(&spec.target, false);
+        self.count(spec.frames.len());
+        let mut easings = 0;
+        for frame in &spec.frames {
+            self.frame(frame, &mut easings);
+        }
+        self.optional(spec.loop_mode, Self::loop_mode);
+    }
+
+    fn stagger(&mut self, spec: &StaggerSpec) {
+        self.byte(6);
+        self.truth(spec.pattern.is_some());
+        if let Some(pattern) = &spec.pattern {
+            self.pattern(pattern);
+        }
+        self.optional(spec.delay, Self::float);
+        self.children(&spec.nodes);
+    }
+
+    fn path(&mut self, spec: &PathSpec) {
+        self.byte(7);
+        self.text(&spec.target, false);
+        self.text(&spec.svg, true);
+        self.float(spec.duration);
+        self.last_easing(&spec.easing);
+        self.optional(spec.auto_rotate, Self::truth);
+        self.optional(spec.offset, |writer, (start, end)| {
+            writer.float(start);
+            writer.float(end);
+        });
+        self.optional(spec.loop_mode, Self::loop_mode);
+    }
+
+    fn morph(&mut self, spec: &MorphSpec) {
+        self.byte(8);
+        self.text(&spec.from, true);
+        self.text(&spec.to, true);
+        self.whole(spec.samples);
+        self.float(spec.duration);
+        self.last_easing(&spec.easing);
+    }
+
+    fn draw(&mut self, spec: &DrawSpec) {
+        self.byte(9);
+        self.text(&spec.svg, true);
+        self.float(spec.duration);
+        self.last_easing(&spec.easing);
+    }
+
+    fn color(&mut self, spec: &ColorSpec) {
+        self.byte(10);
+        self.text(&spec.target, false);
+        self.text(&spec.from, true);
+        self.text(&spec.to, true);
+        self.float(spec.duration);
+        self.byte(spec.space as u8);
+        self.last_easing(&spec.easing);
+    }
+
+    fn waveform(&mut self, spec: &WaveformSpec) {
+        self.byte(11);
+        self.byte(spec.kind as u8);
+        self.optional(spec.frequency, Self::float);
+        self.optional(spec.amplitude, Self::float);
+        self.optional(spec.phase, Self::float);
+        self.optional(spec.duty_cycle, Self::float);
+        self.optional(spec.seed, Self::whole);
+        self.optional(spec.smoothness, Self::float);
+        self.optional(spec.duration, Self::float);
+    }
+
+    fn preset(&mut self, call: &PresetCall) {
+        self.byte(12);
+        self.text(&call.name, false);
+        self.optional(call.duration, Self::float);
+        self.last_easing(&call.easing);
+    }
+}
+
+/// As in parser.rs, whose own is private.
+pub fn to_snake_case(name: &str) -> String {
+    let mut result = String::new();
+    for (index, letter) in name.chars().enumerate() {
+        if letter.is_ascii_uppercase() && index > 0 {
+            result.push('_');
+        }
+        result.push(letter.to_ascii_lowercase());
+    }
+    result
+}
+
+const SHEET_LIMIT: usize = 65_535;
+const CONTAINER_LIMIT: usize = 16;
+
+/// The tree that `sheet` encodes, or none if it is no sheet for `text`.
+pub fn decode(text: &[u8], sheet: &[u8]) -> Option<Vec<MotionNode>> {
+    if sheet.len() > SHEET_LIMIT {
+        return None;
+    }
+    let mut reader = Reader { text, rest: sheet };
+    let count = reader.count()?;
+    let nodes = reader.nodes(count, 0)?;
+    reader.rest.is_empty().then_some(nodes)
+}
+
+struct Reader<'a> {
+    text: &'a [u8],
+    rest: &'a [u8],
+}
+
+impl Reader<'_> {
+    fn take<const N: usize>(&mut self) -> Option<[u8; N]> {
+        let (head, rest) = self.rest.split_at_checked(N)?;
+        self.rest = rest;
+        head.try_into().ok()
+    }
+
+    fn byte(&mut self) -> Option<u8> {
+        self.take::<1>().map(|[byte]| byte)
+    }
+
+    fn count(&mut self) -> Option<usize> {
+        self.take().map(|bytes| u16::from_be_bytes(bytes) as usize)
+    }
+
+    fn whole(&mut self) -> Option<u32> {
+        self.take().map(u32::from_be_bytes)
+    }
+
+    fn float(&mut self) -> Option<f32> {
+        self.whole().map(f32::from_bits)
+    }
+
+    fn truth(&mut self) -> Option<bool> {
+        self.case(&[false, true])
+    }
+
+    /// A byte that is the position of one of `cases`.
+    fn case<T: Copy>(&mut self, cases: &[T]) -> Option<T> {
+        let position = self.byte()?;
+        cases.get(position as usize).copied()
+    }
+
+    fn optional<T>(&mut self, read: impl Fn(&mut Self) -> Option<T>) -> Option<Option<T>> {
+        if self.truth()? { read(self).map(Some) } else { Some(None) }
+    }
+
+    fn text(&mut self) -> Option<String> {
+        let start = self.count()?;
+        let length = self.count()?;
+        let bytes = self.text.get(start..start + length)?;
+        Some(String::from_utf8(bytes.to_vec()).expect("ASCII"))
+    }
+
+    fn named(&mut self) -> Option<EasingSpec> {
+        let path = self.truth()?;
+        let name = self.text()?;
+        Some(EasingSpec::Named(if path { to_snake_case(&name) } else { name }))
+    }
+
+    fn easing(&mut self) -> Option<EasingSpec> {
+        Some(match self.byte()? {
+            0 => self.named()?,
+            1 => EasingSpec::CubicBezier(self.float()?, self.float()?, self.float()?, self.float()?),
+            2 => EasingSpec::Steps(self.whole()?),
+            3 => EasingSpec::Wiggle(self.whole()?),
+            4 => EasingSpec::Rough { strength: self.float()?, points: self.whole()? },
+            5 => EasingSpec::SlowMo { linear_ratio: self.float()?, power: self.float()? },
+            _ => return None,
+        })
+    }
+
+    fn value(&mut self) -> Option<ValueExpr> {
+        Some(match self.byte()? {
+            0 => ValueExpr::Scalar(self.float()?),
+            1 => {
+                let count = self.count()?;
+                ValueExpr::Array((0..count).map(|_| self.float()).collect::<Option<_>>()?)
+            }
+            _ => return None,
+        })
+    }
+
+    fn loop_mode(&mut self) -> Option<LoopSpec> {
+        Some(match self.byte()? {
+            0 => LoopSpec::Once,
+            1 => LoopSpec::Times(self.whole()?),
+            2 => LoopSpec::Forever,
+            3 => LoopSpec::PingPong,
+            4 => LoopSpec::PingPongTimes(self.whole()?),
+            _ => return None,
+        })
+    }
+
+    fn damping(&mut self) -> Option<DampingMode> {
+        Some(match self.byte()? {
+            0 => DampingMode::CriticallyDamped(self.float()?),
+            1 => DampingMode::Overdamped(self.float()?, self.float()?),
+            2 => DampingMode::Underdamped(self.float()?, self.float()?),
+            _ => return None,
+        })
+    }
+
+    fn origin(&mut self) -> Option<GridOriginSpec> {
+        use GridOriginSpec::*;
+        self.case(&[TopLeft, TopRight, BottomLeft, BottomRight, Center, Top, Bottom, Left, Right])
+    }
+
+    fn pattern(&mut self) -> Option<StaggerPatternSpec> {
+        Some(match self.byte()? {
+            0 => StaggerPatternSpec::Grid {
+                cols: self.whole()?,
+                rows: self.whole()?,
+                origin: self.origin()?,
+            },
+            1 => StaggerPatternSpec::Random {
+                seed: self.whole()?,
+                min: self.float()?,
+                max: self.float()?,
+            },
+            2 => StaggerPatternSpec::CenterOut,
+            3 => StaggerPatternSpec::EdgesIn,
+            _ => return None,
+        })
+    }
+
+    fn frame(&mut self) -> Option<KeyframeEntry> {
+        let time = match self.byte()? {
+            0 => KeyframeTime::Percent(self.float()?),
+            1 => KeyframeTime::Seconds(self.float()?),
+            _ => return None,
+        };
+        Some(KeyframeEntry { time, value: self.value()?, easing: self.optional(Self::easing)? })
+    }
+
+    /// `count` nodes inside `depth` containers.
+    fn nodes(&mut self, count: usize, depth: usize) -> Option<Vec<MotionNode>> {
+        (0..count).map(|_| self.node(depth)).collect()
+    }
+
+    fn children(&mut self, depth: usize) -> Option<Vec<MotionNode>> {
+        let count = self.count()?;
+        if depth == CONTAINER_LIMIT { None } else { self.nodes(count, depth + 1) }
+    }
+
+    fn node(&mut self, depth: usize) -> Option<MotionNode> {
+        Some(match self.byte()? {
+            0 => MotionNode::Tween(self.tween()?),
+            1 => MotionNode::Spring(self.spring()?),
+            2 => MotionNode::Keyframes(self.keyframes()?),
+            3 => MotionNode::Sequence(self.children(depth)?),
+            4 => MotionNode::Parallel(self.children(depth)?),
+            5 => MotionNode::Group {
+                mode: self.case(&[GroupMode::Sequence, GroupMode::Parallel])?,
+                nodes: self.children(depth)?,
+            },
+            6 => MotionNode::Stagger(StaggerSpec {
+                pattern: self.optional(Self::pattern)?,
+                delay: self.optional(Self::float)?,
+                nodes: self.children(depth)?,
+                span: Span::call_site(),
+            }),
+            7 => MotionNode::Path(self.path()?),
+            8 => MotionNode::Morph(self.morph()?),
+            9 => MotionNode::Draw(self.draw()?),
+            10 => MotionNode::Color(self.color()?),
+            11 => MotionNode::Waveform(self.waveform()?),
+            12 => MotionNode::Preset(self.preset()?),
+            13 => MotionNode::Label(self.text()?),
+            14 => MotionNode::At(AtSpec { value: self.float()?, relative: self.truth()? }),
+            _ => return None,
+        })
+    }
+
+    // Fields are read in the order written, which is ast.rs' order.
+
+    fn tween(&mut self) -> Option<TweenSpec> {
+        Some(TweenSpec {
+            target: self.text()?,
+            from: self.value()?,
+            to: self.value()?,
+            duration: self.float()?,
+            easing: self.optional(Self::easing)?,
+            delay: self.optional(Self::float)?,
+            time_scale: self.optional(Self::float)?,
+            loop_mode: self.optional(Self::loop_mode)?,
+            snap: self.optional(Self::float)?,
+            round: self.optional(Self::whole)?,
+            reverse: self.truth()?,
+            span: Span::call_site(),
+        })
+    }
+
+    fn spring(&mut self) -> Option<SpringSpec> {
+        use SpringPreset::*;
+        Some(SpringSpec {
+            target: self.text()?,
+            from: self.value()?,
+            to: self.value()?,
+            preset: self.optional(|r| r.case(&[Gentle, Wobbly, Stiff, Slow, Snappy]))?,
+            stiffness: self.optional(Self::float)?,
+            damping: self.optional(Self::float)?,
+            mass: self.optional(Self::float)?,
+            velocity: self.optional(Self::value)?,
+            epsilon: self.optional(Self::float)?,
+            integrator: self.optional(|r| {
+                r.case(&[IntegratorSpec::SemiImplicitEuler, IntegratorSpec::RungeKutta4])
+            })?,
+            damping_mode: self.optional(Self::damping)?,
+            span: Span::call_site(),
+        })
+    }
+
+    fn keyframes(&mut self) -> Option<KeyframeSpec> {
+        let target = self.text()?;
+        let count = self.count()?;
+        let frames = (0..count).map(|_| self.frame()).collect::<Option<_>>()?;
+        let loop_mode = self.optional(Self::loop_mode)?;
+        Some(KeyframeSpec { target, frames, loop_mode, span: Span::call_site() })
+    }
+
+    fn path(&mut self) -> Option<PathSpec> {
+        Some(PathSpec {
+            target: self.text()?,
+            svg: self.text()?,
+            duration: self.float()?,
+            easing: self.optional(Self::easing)?,
+            auto_rotate: self.optional(Self::truth)?,
+            offset: self.optional(|r| Some((r.float()?, r.float()?)))?,
+            loop_mode: self.optional(Self::loop_mode)?,
+            span: Span::call_site(),
+        })
+    }
+
+    fn morph(&mut self) -> Option<MorphSpec> {
+        Some(MorphSpec {
+            from: self.text()?,
+            to: self.text()?,
+            samples: self.whole()?,
+            duration: self.float()?,
+            easing: self.optional(Self::easing)?,
+            span: Span::call_site(),
+        })
+    }
+
+    fn draw(&mut self) -> Option<DrawSpec> {
+        Some(DrawSpec {
+            svg: self.text()?,
+            duration: self.float()?,
+            easing: self.optional(Self::easing)?,
+            span: Span::call_site(),
+        })
+    }
+
+    fn color(&mut self) -> Option<ColorSpec> {
+        Some(ColorSpec {
+            target: self.text()?,
+            from: self.text()?,
+            to: self.text()?,
+            duration: self.float()?,
+            space: self.case(&[ColorSpace::Linear, ColorSpace::Lab, ColorSpace::Oklch])?,
+            easing: self.optional(Self::easing)?,
+            span: Span::call_site(),
+        })
+    }
+
+    fn waveform(&mut self) -> Option<WaveformSpec> {
+        use WaveformKind::*;
+        Some(WaveformSpec {
+            kind: self.case(&[Sine, Sawtooth, Square, Triangle, Noise])?,
+            frequency: self.optional(Self::float)?,
+            amplitude: self.optional(Self::float)?,
+            phase: self.optional(Self::float)?,
+            duty_cycle: self.optional(Self::float)?,
+            seed: self.optional(Self::whole)?,
+            smoothness: self.optional(Self::float)?,
+            duration: self.optional(Self::float)?,
+            span: Span::call_site(),
+        })
+    }
+
+    fn preset(&mut self) -> Option<PresetCall> {
+        Some(PresetCall {
+            name: self.text()?,
+            duration: self.optional(Self::float)?,
+            easing: self.optional(Self::easing)?,
+            span: Span::call_site(),
+        })
+    }
+}
