@@ -6,17 +6,8 @@ here=$(cd "$(dirname "$0")" && pwd)
 oracle=$here/../target/oracle/places/release/oracle
 work=$(mktemp -d)
 trap 'rm -rf "$work"' EXIT
+. "$here/hex.sh"
 failed=0
-
-# Texts as hexadecimal, one a line; a text `hex:...` is so already.
-to_hex() {
-    while IFS= read -r text; do
-        case $text in
-        hex:*) echo "${text#hex:}" ;;
-        *) printf %s "$text" | od -An -v -tx1 | tr -d ' \n'; echo ;;
-        esac
-    done
-}
 
 # report NAME: compares NAME.want with NAME.got.
 report() {
@@ -53,6 +44,22 @@ reference_check() {
     report reference-check
 }
 
+stored_read() {
+    gzip -cd "$here/answers/read.txt.gz" > "$work/read.want"
+    cut -f1 "$work/read.want" > "$work/scripts"
+    "$oracle" read < "$work/scripts" | paste "$work/scripts" - > "$work/read.got"
+    report read
+}
+
+stored_check() {
+    gzip -cd "$here/answers/check.txt.gz" > "$work/check.want"
+    cut -f1,2 "$work/check.want" > "$work/sheets"
+    "$oracle" check < "$work/sheets" | paste "$work/sheets" - > "$work/check.got"
+    report check
+}
+
 reference
 reference_check
+stored_read
+stored_check
 exit $failed

@@ -4,6 +4,7 @@ use crate::answer::{verdict, Refusal};
 use crate::ast::MotionNode;
 use crate::error::{self, Kind};
 use crate::parser::AnimatoInput;
+use crate::sheet::Sheet;
 use crate::{check, hex, places, sheet, text_rules};
 use proc_macro2::TokenStream;
 
@@ -40,10 +41,13 @@ pub struct Tree {
 
 /// Answers a script in hexadecimal with its sheet and verdict, or its refusal.
 pub fn line(line: &str, rules: Rules) -> String {
-    answered(line, rules, |text, tree| {
-        let parts = tree.parts.as_ref().expect("a build with places");
-        sheet::encode(&tree.nodes, sheet::Names::parts(text, parts))
-    })
+    answered(line, rules, encoded)
+}
+
+/// The sheet of a tree read with places.
+pub fn encoded(text: &[u8], tree: &Tree) -> Sheet {
+    let parts = tree.parts.as_ref().expect("a build with places");
+    sheet::encode(&tree.nodes, sheet::Names::parts(text, parts))
 }
 
 /// As `line`, with the tree's strings in the place of their places.
@@ -51,15 +55,15 @@ pub fn tree_line(line: &str) -> String {
     answered(line, Rules::Text, |_, tree| sheet::encode(&tree.nodes, sheet::Names::Inline))
 }
 
-fn answered(line: &str, rules: Rules, encode: impl Fn(&[u8], &Tree) -> (Vec<u8>, usize)) -> String {
+fn answered(line: &str, rules: Rules, encode: impl Fn(&[u8], &Tree) -> Sheet) -> String {
     let Some(text) = hex::read(line) else {
         return "not hexadecimal".to_string();
     };
     match read(&text, rules) {
         Ok(tree) => {
-            let (bytes, records) = encode(&text, &tree);
+            let sheet = encode(&text, &tree);
             let verdict = verdict(check::validated(&tree.nodes));
-            format!("accept {records} {}\t{verdict}", hex::write(&bytes))
+            format!("accept {} {}\t{verdict}", sheet.records, hex::write(&sheet.bytes))
         }
         Err(Failure::Refused(refusal)) => refusal.to_string(),
         Err(Failure::NoPlace(number)) => format!("refuse {number}"),

@@ -18,37 +18,46 @@ impl<'a> Names<'a> {
     }
 }
 
-/// The sheet of `nodes`, and its count of node records.
-pub fn encode(nodes: &[MotionNode], names: Names) -> (Vec<u8>, usize) {
-    let mut writer = Writer { out: Vec::new(), names, records: 0 };
+/// A sheet, and where in it some of its fields lie.
+#[derive(Default)]
+pub struct Sheet {
+    pub bytes: Vec<u8>,
+    /// The count of node records.
+    pub records: usize,
+    pub floats: Vec<usize>,
+    pub parts: Vec<usize>,
+}
+
+pub fn encode(nodes: &[MotionNode], names: Names) -> Sheet {
+    let mut writer = Writer { out: Sheet::default(), names };
     writer.count(nodes.len());
     writer.nodes(nodes);
     if let Names::Parts { nodes, .. } = &mut writer.names {
         assert!(nodes.next().is_none(), "a node too many was noted");
     }
-    (writer.out, writer.records)
+    writer.out
 }
 
 struct Writer<'a> {
-    out: Vec<u8>,
+    out: Sheet,
     names: Names<'a>,
-    records: usize,
 }
 
 impl Writer<'_> {
     fn byte(&mut self, value: u8) {
-        self.out.push(value);
+        self.out.bytes.push(value);
     }
 
     fn count(&mut self, value: usize) {
-        self.out.extend(u16::try_from(value).expect("a count of 2 bytes").to_be_bytes());
+        self.out.bytes.extend(u16::try_from(value).expect("a count of 2 bytes").to_be_bytes());
     }
 
     fn whole(&mut self, value: u32) {
-        self.out.extend(value.to_be_bytes());
+        self.out.bytes.extend(value.to_be_bytes());
     }
 
     fn float(&mut self, value: f32) {
+        self.out.floats.push(self.out.bytes.len());
         self.whole(value.to_bits());
     }
 
@@ -64,13 +73,14 @@ impl Writer<'_> {
     }
 
     fn part(&mut self, part: Part) {
+        self.out.parts.push(self.out.bytes.len());
         self.count(part.start);
         self.count(part.length);
     }
 
     fn inline(&mut self, value: &str) {
         self.count(value.len());
-        self.out.extend(value.as_bytes());
+        self.out.bytes.extend(value.as_bytes());
     }
 
     /// A name, or a string if `quoted`.
@@ -224,7 +234,7 @@ impl Writer<'_> {
     }
 
     fn node(&mut self, motion: &MotionNode) {
-        self.records += 1;
+        self.out.records += 1;
         if let Names::Parts { nodes, node, .. } = &mut self.names {
             assert!(node.names.is_empty(), "a name too many was noted");
             *node = nodes.next().expect("a node was noted").clone();
