@@ -9,8 +9,23 @@ sources=$(cd "${1:-$root/../shared/docs/src}" && pwd)
 debian=/usr/share/cargo/registry
 out=$root/target/oracle
 
-if ! [ -d $debian/syn-1.0.107 ] || ! [ -d $debian/quote-1.0.21 ] || ! [ -d $debian/proc-macro2-1.0.47 ]; then
-    apt-get install -y librust-syn-dev librust-proc-macro2-dev librust-quote-dev
+crates="syn-1.0.107 proc-macro2-1.0.47 quote-1.0.21 unicode-ident-1.0.0"
+packages="librust-syn-dev librust-proc-macro2-dev librust-quote-dev"
+
+# missing: whether one of the crates is not there.
+missing() {
+    for crate in $crates; do
+        [ -d "$debian/$crate" ] || return 0
+    done
+    return 1
+}
+
+if missing; then
+    apt-get install -y $packages || { apt-get update && apt-get install -y $packages; }
+fi
+if missing; then
+    echo "build.sh: $debian has not all of $crates" >&2
+    exit 1
 fi
 
 # config NAME FOLDER: a cargo configuration that takes crates from FOLDER alone.
@@ -29,7 +44,10 @@ change() {
     cat "$here/patch-syn.sh" "$here/syn-live.rs" > "$out/change.new"
     if ! cmp -s "$out/change.new" "$out/change"; then
         rm -rf "$out/crates" "$out/places"
-        cp -rL $debian "$out/crates"
+        mkdir "$out/crates"
+        for crate in $crates; do
+            cp -rL "$debian/$crate" "$out/crates/$crate"
+        done
         "$here/patch-syn.sh" "$out/crates/syn-1.0.107"
         mv "$out/change.new" "$out/change"
     fi

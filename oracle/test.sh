@@ -1,5 +1,6 @@
 #!/bin/sh
-# Compares the oracle's answers with reference.txt and with the stored ones.
+# Compares the oracle's answers with reference.txt and with the stored ones,
+# and the changed syn with the unchanged one.
 # usage: oracle/test.sh   after oracle/build.sh
 set -eu
 here=$(cd "$(dirname "$0")" && pwd)
@@ -62,4 +63,5 @@ reference
 reference_check
 stored_read
 stored_check
+"$oracle" compare-syn "$here/../target/oracle/plain/release/oracle" < "$work/scripts" || failed=1
 exit $failed

@@ -9,6 +9,12 @@ pub struct Part {
     pub length: usize,
 }
 
+impl Part {
+    pub fn of(self, text: &[u8]) -> &[u8] {
+        &text[self.start..self.start + self.length]
+    }
+}
+
 /// An easing's first name, or its variant's if written `Easing::`.
 #[derive(Clone, Copy, Debug)]
 pub struct EasingPart {
@@ -49,7 +55,7 @@ fn offset(text: &str, line: usize, column: usize) -> usize {
 }
 
 #[cfg(feature = "places")]
-pub use noted::{seventeenth, take};
+pub use noted::{node_parts, seventeenth, take};
 
 #[cfg(feature = "places")]
 mod noted {
@@ -106,5 +112,3 @@ mod noted {
         nodes
     }
 }
-#[cfg(feature = "places")]
-pub use noted::node_parts;

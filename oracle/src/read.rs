@@ -63,7 +63,9 @@ fn answered(line: &str, rules: Rules, encode: impl Fn(&[u8], &Tree) -> Sheet) ->
         Ok(tree) => {
             let sheet = encode(&text, &tree);
             let verdict = verdict(check::validated(&tree.nodes));
-            format!("accept {} {}\t{verdict}", sheet.records, hex::write(&sheet.bytes))
+            let bytes = if sheet.wrong { "-".to_string() } else { hex::write(&sheet.bytes) };
+            assert!(!sheet.wrong || rules == Rules::RustOnly, "no place in {line}");
+            format!("accept {} {bytes}\t{verdict}", sheet.records)
         }
         Err(Failure::Refused(refusal)) => refusal.to_string(),
         Err(Failure::NoPlace(number)) => format!("refuse {number}"),

@@ -138,7 +138,7 @@ fn bytes(random: &mut Random) -> Vec<u8> {
         text.resize(size.max(text.len()), b' ');
         text
     };
-    match random.below(10) {
+    match random.below(11) {
         0 => fill("", "at 1 ", ""),
         1 => fill("tween ", "p", ":0=>1 duration:1"),
         2 => fill("label \"", "x", "\";"),
@@ -148,6 +148,7 @@ fn bytes(random: &mut Random) -> Vec<u8> {
         6 => fill("at 1", "\n", "x"),
         7 => fill("", " ", "\x01"),
         8 => fill("at 1 (", "(", ""),
+        9 => fill("keyframes p{", "0:1 l,", "}"),
         _ => fill("sequence{", "stagger{}", "}"),
     }
 }
