@@ -11,7 +11,7 @@ use lib.ListN.{length, getD, take, drop, drop-of-length-le}
 use lib.Seq.{drop-cons, drop-drop, take-all, length-take-le}
 use borrow.Author.Tests.{eq-eqb, ne-eqb, eqb-true, ltb-true, ltb-false}
 use Rattle.text.specs.Bytes.{same, part}
-use Rattle.text.specs.Words.{find, entries}
+use Rattle.text.specs.Words.{find, shorter, entries}
 
 -- ---- equal words
 
@@ -73,12 +73,8 @@ find-alike v w n ns i e q = go (same w n) refl
     go true h = find-here v n ns i (e ∙ h) ∙ sym (find-here w n ns i h)
     go false h = find-past v n ns i (e ∙ h) ∙ q ∙ sym (find-past w n ns i h)
 
--- whether each word of a list is shorter than k
-abbrev pub shorter : ℕ → List (List ℕ) → Bool
-shorter k [] = true
-shorter k (n ∷ ns) = ltb (length n) k && shorter k ns
-
 shorter-cons : (k : ℕ) (n : List ℕ) (ns : List (List ℕ)) → shorter k (n ∷ ns) ≡ true → (length n < k) × (shorter k ns ≡ true)
+unfolding shorter
 shorter-cons k n ns h = go (ltb (length n) k) refl h
   where
     go : (t : Bool) → ltb (length n) k ≡ t → (t && shorter k ns) ≡ true → (length n < k) × (shorter k ns ≡ true)

@@ -4,7 +4,7 @@ ghost use mathlib.Core.List.{[], _∷_};
 ghost use mathlib.Core.Path.{_≡_};
 ghost use lib.ListN.{drop};
 ghost use Rattle.text.specs.Bytes.{within, oneOf, isUpper, isLetter, isName, isInside, isHex, isForeign, same, run, at, part, lower, lowered};
-ghost use Rattle.text.specs.Words.{find, table};
+ghost use Rattle.text.specs.Words.{find, table, isSome};
 ghost use Rattle.text.specs.Means.{passes, placeOf};
 ghost use Rattle.text.specs.Write.{Puts};
 
@@ -203,6 +203,16 @@ pub fn find(names: &[u8], word: &[u8]) -> Found
         i += 1;
     }
     Found::Nothing
+}
+
+// Whether a word is in a table.
+pub fn is_listed(names: &[u8], word: &[u8]) -> bool
+    ensures { λ r. ⌜ r ≡ isSome (find (table (now (names .entry))) 0 (now (word .entry))) ⌝ }
+{
+    match find(names, word) {
+        Found::At(_) => true,
+        Found::Nothing => false,
+    }
 }
 
 // ---- writing
