@@ -1,1 +1,70 @@
-// easing.rs
+// easing.rs: the named easings, and parser.rs's to_snake_case for a name behind `Easing::`.
+ghost use mathlib.Core.Path.{_≡_};
+ghost use Rattle.text.specs.Bytes.{part};
+ghost use Rattle.text.specs.Write.{Puts};
+ghost use Rattle.text.specs.Words.{isOneOf};
+ghost use Rattle.easing.specs.Names.{namedEasings, snakeByte, snake, isEasing};
+
+// Each name behind a byte that is its length.
+const NAMED_EASINGS: [u8; 471] = *b"\x06linear\
+\x0cease_in_quad\x0dease_out_quad\x10ease_in_out_quad\
+\x0dease_in_cubic\x0eease_out_cubic\x11ease_in_out_cubic\
+\x0dease_in_quart\x0eease_out_quart\x11ease_in_out_quart\
+\x0dease_in_quint\x0eease_out_quint\x11ease_in_out_quint\
+\x0cease_in_sine\x0dease_out_sine\x10ease_in_out_sine\
+\x0cease_in_expo\x0dease_out_expo\x10ease_in_out_expo\
+\x0cease_in_circ\x0dease_out_circ\x10ease_in_out_circ\
+\x0cease_in_back\x0dease_out_back\x10ease_in_out_back\
+\x0fease_in_elastic\x10ease_out_elastic\x13ease_in_out_elastic\
+\x0eease_in_bounce\x0fease_out_bounce\x12ease_in_out_bounce";
+
+// Writes a byte of a name behind the first one, with `_` before a capital, as far as there is room, and gives the place behind it.
+fn put_snake(out: &mut [u8], at: usize, b: u8) -> usize
+    ensures { λ r. ⌜ Puts (now (out .entry)) at (snakeByte b) (now (out .exit)) r ⌝ }
+{
+    if text::is_upper(b) {
+        let next = text::put(out, at, b'_');
+        return text::put(out, next, text::lower(b));
+    }
+    text::put(out, at, b)
+}
+
+// Writes a name in snake case, as far as there is room, and gives how many bytes were written.
+pub fn to_snake_case(w: &[u8], out: &mut [u8]) -> usize
+    ensures { λ r. ⌜ Puts (now (out .entry)) 0 (snake (now (w .entry))) (now (out .exit)) r ⌝ }
+{
+    if w.len() == 0 {
+        return 0;
+    }
+    let mut n = text::put(out, 0, text::lower(w[0]));
+    let mut i = 1;
+    while i < w.len() {
+        if out.len() <= n {
+            return n;
+        }
+        n = put_snake(out, n, w[i]);
+        i += 1;
+    }
+    n
+}
+
+// Whether a word is one of the names.
+fn is_listed(w: &[u8]) -> bool
+    ensures { λ r. ⌜ r ≡ isOneOf namedEasings (now (w .entry)) ⌝ }
+{
+    text::is_listed(&NAMED_EASINGS, w)
+}
+
+// Whether a part of a text names an easing, as it is written or, where `Easing::` stands before it, in snake case.
+pub fn is_named_easing(text: &[u8], start: usize, size: usize, variant: bool) -> bool
+    ensures { λ r. ⌜ r ≡ isEasing variant (part (now (text .entry)) start size) ⌝ }
+{
+    let w = text::part(text, start, size);
+    if !variant {
+        return is_listed(w);
+    }
+    // Longer than each of the names.
+    let mut name = [0u8; 32];
+    let n = to_snake_case(w, &mut name);
+    is_listed(&name[..n])
+}

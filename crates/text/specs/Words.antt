@@ -1,10 +1,11 @@
 -- Lists of words, lookups in them, and the table that code has for one. Assumes nothing.
 use Prim.Native.Nat.{ℕ, zero, suc}
 use Prim.Native.String.{String}
-use mathlib.Core.Bool.{Bool, true, false}
+use mathlib.Core.Bool.{Bool, true, false, _&&_}
 use mathlib.Core.List.{List, [], _∷_}
 use mathlib.Core.Option.{Option, none, some}
-use lib.ListN.{take}
+use lib.Dec.{ltb}
+use lib.ListN.{length, take}
 use Rattle.text.specs.Bytes.{bytes, same}
 
 abbrev pub isSome {ℓ} : {A : Type ℓ} → Option A → Bool
@@ -47,3 +48,8 @@ entries zero (b ∷ t) = take b t ∷ entries b t
 
 abbrev pub table : List ℕ → List (List ℕ)
 table t = entries 0 t
+
+-- whether each word of a list is shorter than k
+unfoldable pub shorter : ℕ → List (List ℕ) → Bool
+shorter k [] = true
+shorter k (n ∷ ns) = ltb (length n) k && shorter k ns

@@ -13,7 +13,8 @@ use Rattle.text.specs.Words.{orElse}
 use Rattle.number.specs.Number.{f32}
 use Rattle.number.specs.Time.{anyNear}
 use Rattle.easing.specs.Names.{isEasing}
-use Rattle.presets.specs.Colors.{isColor, isPreset}
+use Rattle.presets.specs.Colors.{isColor}
+use Rattle.presets.specs.Presets.{isPreset}
 use Rattle.ast.specs.Tree.{
   Span,
   ValueExpr,

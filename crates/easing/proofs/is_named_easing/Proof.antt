@@ -1,0 +1,49 @@
+-- `easing::is_named_easing` meets its contract: in snake case the first 32 bytes decide. Assumes nothing.
+use mathlib.Core.Path.{sym, _∙_}
+use lib.Seq.{length-take-le}
+use borrow.Author.Needs.{needs}
+use Rattle.text.proofs.WriteLaws.{puts-front, puts-fits}
+use Rattle.easing.proofs.NameLaws.{easing-plain, easing-variant}
+use Rattle.easing.proofs.is_named_easing.Statement.{statement}
+use Rattle.easing.proofs.is_named_easing.Tie as tie
+
+part-requires : tie.Need-part-requires
+part-requires c κs = search needs
+
+is-listed-requires : tie.Need-is-listed-requires
+is-listed-requires c κs = search needs
+
+returns : tie.Need-returns
+returns c = c .is-listed .ensures ∙ easing-plain (c .before .before .before .before .args .variant) _ _ (c .before .before .part .ensures) (c .before .if1 .taken)
+
+slice-aggregate-to-snake-case : tie.Need-slice-aggregate-to-snake-case
+slice-aggregate-to-snake-case c = search needs
+
+to-snake-case-requires : tie.Need-to-snake-case-requires
+to-snake-case-requires c κs = search needs
+
+array-share-prefix-name : tie.Need-array-share-prefix-name
+array-share-prefix-name c = puts-fits (c .before .to-snake-case .ensures)
+
+slice-aggregate-is-listed : tie.Need-slice-aggregate-is-listed
+slice-aggregate-is-listed c = sym (length-take-le (c .before .before .to-snake-case .result) (c .before .before .to-snake-case .last .1 .0) (puts-fits (c .before .before .to-snake-case .ensures)))
+
+is-listed-requires-2 : tie.Need-is-listed-requires-2
+is-listed-requires-2 c κs = search needs
+
+returns-2 : tie.Need-returns-2
+returns-2 c = c .is-listed2 .ensures ∙ easing-variant (c .before .before .before .before .before .before .before .before .args .variant) _ _ (c .before .before .before .before .before .before .part .ensures) _ (c .before .before .before .before .before .if1 .left) (puts-front (c .before .before .before .to-snake-case .ensures))
+
+pub is-named-easing-spec : {M : Type 1} → statement M
+is-named-easing-spec =
+    tie.close
+    (tie.spec
+    part-requires
+    is-listed-requires
+    returns
+    slice-aggregate-to-snake-case
+    to-snake-case-requires
+    array-share-prefix-name
+    slice-aggregate-is-listed
+    is-listed-requires-2
+    returns-2)

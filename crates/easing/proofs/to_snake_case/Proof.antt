@@ -1,0 +1,85 @@
+-- `easing::to_snake_case` meets its contract; the loop keeps that what is written from here on is written from its start, to which the first byte is joined. Assumes nothing.
+use Prim.Native.Nat.{_-_, ℕ}
+use mathlib.Core.List.{List}
+use mathlib.Core.Path.{refl, _∙_, _≡_}
+use native.Mathlib.Omega.{arith}
+use lib.ListN.{drop, length}
+use borrow.Author.Needs.{needs}
+use Rattle.easing.proofs.NameLaws.{rest-end, snake-first, rest-at, snake-nil}
+use Rattle.easing.specs.Names.{snakeRest}
+use Rattle.text.proofs.WriteLaws.{puts-then, puts-none, puts-full}
+use Rattle.text.specs.Write.{Puts}
+use Rattle.easing.proofs.to_snake_case.Statement.{statement}
+use Rattle.easing.proofs.to_snake_case.Tie as tie
+
+abbrev Inv-loop : tie.InvT-loop
+Inv-loop w out₀ n₀ i₀ out n i = (length out ≡ length out₀) × ((after : List ℕ) (end : ℕ) → Puts out n (snakeRest (drop i w)) after end → Puts out₀ n₀ (snakeRest (drop 1 w)) after end)
+
+abbrev μ-loop : tie.MeasureT-loop
+μ-loop w out₀ n₀ i₀ out n i = length w - i
+
+returns : tie.Need-returns Inv-loop μ-loop
+returns c = rw (snake-nil (c .before .before .before .args .w .now) (c .if1 .taken)) (puts-none _ 0)
+
+shared-slice-read-lower : tie.Need-shared-slice-read-lower Inv-loop μ-loop
+shared-slice-read-lower c = search needs
+
+lower-requires : tie.Need-lower-requires Inv-loop μ-loop
+lower-requires c κs = search needs
+
+put-requires : tie.Need-put-requires Inv-loop μ-loop
+put-requires c κs = search needs
+
+loop-holds : tie.Need-loop-holds Inv-loop μ-loop
+loop-holds c = (refl, λ after end p. p)
+
+same-length : tie.Need-same-length Inv-loop μ-loop
+same-length c = c .before .before .loop .inv .0 ∙ c .before .before .before .before .before .put .kept .0
+
+returns-2 : tie.Need-returns-2 Inv-loop μ-loop
+returns-2 c = rw (snake-first (c .before .before .before .before .before .before .before .before .before .before .before .before .args .w .now) (c .before .before .before .before .before .before .lower .result) (c .before .before .before .before .before .before .before .before .before .if1 .left) (c .before .before .before .before .before .before .lower .ensures)) (puts-then (c .before .before .before .before .before .put .ensures) (c .before .before .loop .inv .1 _ _ (puts-full _ _ _ (c .if2 .taken))))
+
+shared-slice-read-put-snake : tie.Need-shared-slice-read-put-snake Inv-loop μ-loop
+shared-slice-read-put-snake c = search needs
+
+put-snake-requires : tie.Need-put-snake-requires Inv-loop μ-loop
+put-snake-requires c κs = search needs
+
+add-i : tie.Need-add-i Inv-loop μ-loop
+add-i c = search needs
+
+loop-less : tie.Need-loop-less Inv-loop μ-loop
+loop-less c = search needs
+
+loop-again : tie.Need-loop-again Inv-loop μ-loop
+loop-again c = (
+  c .before .before .put-snake .kept .0 ∙ c .before .before .before .before .before .before .before .loop .inv .0,
+  λ after end p. c .before .before .before .before .before .before .before .loop .inv .1 after end (rw (rest-at (c .before .before .before .before .before .before .before .before .before .before .before .before .before .before .before .before .before .args .w .now) (c .before .before .before .before .before .before .before .loop .i) (omega arith)) (puts-then (c .before .before .put-snake .ensures) p)),
+)
+
+same-length-2 : tie.Need-same-length-2 Inv-loop μ-loop
+same-length-2 c = c .before .loop .inv .0 ∙ c .before .before .before .before .put .kept .0
+
+returns-3 : tie.Need-returns-3 Inv-loop μ-loop
+returns-3 c = rw (snake-first (c .before .before .before .before .before .before .before .before .before .before .before .args .w .now) (c .before .before .before .before .before .lower .result) (c .before .before .before .before .before .before .before .before .if1 .left) (c .before .before .before .before .before .lower .ensures)) (puts-then (c .before .before .before .before .put .ensures) (c .before .loop .inv .1 _ _ (rw (rest-end (c .before .before .before .before .before .before .before .before .before .before .before .args .w .now) (c .before .loop .i) (omega arith)) (puts-none _ _))))
+
+pub to-snake-case-spec : {M : Type 1} → statement M
+to-snake-case-spec =
+    tie.close
+    (tie.spec
+    Inv-loop
+    μ-loop
+    returns
+    shared-slice-read-lower
+    lower-requires
+    put-requires
+    loop-holds
+    same-length
+    returns-2
+    shared-slice-read-put-snake
+    put-snake-requires
+    add-i
+    loop-less
+    loop-again
+    same-length-2
+    returns-3)

@@ -1,0 +1,34 @@
+-- Laws of colours: what each way out of the code shows. Assumes nothing.
+use Prim.Native.Nat.{ℕ, _+_}
+use mathlib.Core.Bool.{true, false}
+use mathlib.Core.List.{List}
+use mathlib.Core.Path.{_≡_, sym, ap, _∙_}
+use native.Mathlib.Nat.{zero-add}
+use native.Mathlib.Omega.{arith}
+use lib.Dec.{eqb}
+use lib.ListN.{length, take, drop, length-drop}
+use lib.Seq.{take-all}
+use borrow.Author.Tests.{eq-eqb, ne-eqb}
+use Rattle.text.specs.Bytes.{isHex, lowered, run, at, part}
+use Rattle.text.specs.Words.{isSome, find, shorter}
+use Rattle.text.proofs.WordLaws.{find-clip}
+use Rattle.presets.specs.Colors.{hexSize, isHexColor, isColorOf}
+
+pub hex-digits : (t : List ℕ) (r : ℕ) → hexSize (length t) ≡ true → r ≡ 0 + run isHex (drop 0 t) → eqb r (length t) ≡ isHexColor t
+unfolding isHexColor
+hex-digits t r h e = rw (h, e, zero-add)
+
+pub hex-no : (t : List ℕ) → hexSize (length t) ≡ false → false ≡ isHexColor t
+unfolding isHexColor
+hex-no t h = rw h
+
+module _ (names : List (List ℕ)) (s : List ℕ) (b : ℕ) (e : b ≡ at s 0) where
+  pub color-hex : (digits : List ℕ) → b ≡ 35 → digits ≡ part s 1 (length s) → isHexColor digits ≡ isColorOf names s
+  unfolding isColorOf
+  color-hex digits h q =
+      let d : digits ≡ drop 1 s = q ∙ take-all (length s) (drop 1 s) (rw length-drop (omega arith)) in
+      rw (d, eq-eqb (at s 0) 35 (sym e ∙ h))
+
+  pub color-name : (front : List ℕ) → (b ≡ 35 → ⊥) → shorter 32 names ≡ true → front ≡ take 32 (lowered s) → isSome (find names 0 front) ≡ isColorOf names s
+  unfolding isColorOf
+  color-name front h k q = rw (ne-eqb (at s 0) 35 (λ z. h (e ∙ z)), q) (ap isSome (find-clip names 0 32 (lowered s) k))

@@ -1,0 +1,53 @@
+-- `presets::is_color` meets its contract: each way out is one law of colours; of a name the first 32 bytes decide. Assumes nothing.
+use mathlib.Core.Path.{sym, _∙_}
+use lib.Seq.{length-take-le}
+use borrow.Author.Needs.{needs}
+use Rattle.text.proofs.WriteLaws.{puts-front, puts-fits}
+use Rattle.presets.proofs.ColorLaws.{color-hex, color-name}
+use Rattle.presets.proofs.is_color.Statement.{statement}
+use Rattle.presets.proofs.is_color.Tie as tie
+
+byte-at-requires : tie.Need-byte-at-requires
+byte-at-requires c κs = search needs
+
+part-requires : tie.Need-part-requires
+part-requires c κs = search needs
+
+is-hex-color-requires : tie.Need-is-hex-color-requires
+is-hex-color-requires c κs = search needs
+
+returns : tie.Need-returns
+returns c = c .is-hex-color .ensures ∙ color-hex _ (c .before .before .before .before .before .before .args .s .now) (c .before .before .before .byte-at .result) (c .before .before .before .byte-at .ensures) _ (c .before .before .if1 .taken) (c .before .part .ensures)
+
+slice-aggregate-lower-into : tie.Need-slice-aggregate-lower-into
+slice-aggregate-lower-into c = search needs
+
+lower-into-requires : tie.Need-lower-into-requires
+lower-into-requires c κs = search needs
+
+array-share-prefix-name : tie.Need-array-share-prefix-name
+array-share-prefix-name c = puts-fits (c .before .lower-into .ensures)
+
+slice-aggregate-is-listed : tie.Need-slice-aggregate-is-listed
+slice-aggregate-is-listed c = sym (length-take-le (c .before .before .lower-into .result) (c .before .before .lower-into .last .1 .0) (puts-fits (c .before .before .lower-into .ensures)))
+
+is-listed-requires : tie.Need-is-listed-requires
+is-listed-requires c κs = search needs
+
+returns-2 : tie.Need-returns-2
+returns-2 c = c .is-listed .ensures ∙ color-name _ (c .before .before .before .before .before .before .before .before .before .args .s .now) (c .before .before .before .before .before .before .byte-at .result) (c .before .before .before .before .before .before .byte-at .ensures) _ (c .before .before .before .before .before .if1 .left) (c .before .before .before .before .before .before .before .before .before .pre) (puts-front (c .before .before .before .lower-into .ensures))
+
+pub is-color-spec : {M : Type 1} → statement M
+is-color-spec =
+    tie.close
+    (tie.spec
+    byte-at-requires
+    part-requires
+    is-hex-color-requires
+    returns
+    slice-aggregate-lower-into
+    lower-into-requires
+    array-share-prefix-name
+    slice-aggregate-is-listed
+    is-listed-requires
+    returns-2)

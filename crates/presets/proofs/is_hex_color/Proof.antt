@@ -1,0 +1,21 @@
+-- `presets::is_hex_color` meets its contract: each way out is one law of colours. Assumes nothing.
+use mathlib.Core.Path.{sym, _∙_}
+use borrow.Author.Needs.{needs}
+use Rattle.presets.proofs.ColorLaws.{hex-digits, hex-no}
+use Rattle.presets.proofs.is_hex_color.Statement.{statement}
+use Rattle.presets.proofs.is_hex_color.Tie as tie
+
+is-hex-size-requires : tie.Need-is-hex-size-requires
+is-hex-size-requires c κs = search needs
+
+run-end-requires : tie.Need-run-end-requires
+run-end-requires c κs = search needs
+
+returns : tie.Need-returns
+returns c = hex-digits (c .before .before .before .before .args .digits .now) (c .run-end .result) (sym (c .before .before .is-hex-size .ensures) ∙ c .before .if1 .taken) (c .run-end .ensures)
+
+returns-2 : tie.Need-returns-2
+returns-2 c = hex-no (c .before .before .before .args .digits .now) (sym (c .before .is-hex-size .ensures) ∙ c .if1 .left)
+
+pub is-hex-color-spec : {M : Type 1} → statement M
+is-hex-color-spec = tie.close (tie.spec is-hex-size-requires run-end-requires returns returns-2)

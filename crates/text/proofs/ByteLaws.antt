@@ -1,0 +1,108 @@
+-- Laws of sets of bytes, runs and parts. Assumes nothing.
+use Prim.Native.Nat.{ℕ, zero, suc, _+_, _-_, _≤_, _<_}
+use mathlib.Core.List.{List, [], _∷_}
+use mathlib.Core.Bool.{Bool, true, false, _&&_}
+use mathlib.Core.Path.{_≡_, refl, sym, _∙_}
+use native.Mathlib.Omega.{arith}
+use native.Mathlib.Numerals.{add-one}
+use lib.Dec.{leb}
+use lib.ListN.{length, getD, take, drop, drop-of-length-le, length-drop}
+use lib.Seq.{drop-cons, take-nil, take-all}
+use borrow.Author.Tests.{eq-eqb, ne-eqb, leb-true}
+use Rattle.text.specs.Bytes.{run, oneOf, part, within, lower, lowered}
+
+-- ---- sets of bytes
+
+pub has-yes : (s : List ℕ) (i b : ℕ) → i < length s → getD s i 0 ≡ b → oneOf (drop i s) b ≡ true
+unfolding oneOf
+has-yes s i b h e = rw (drop-cons s i 0, eq-eqb b (getD s i 0) (sym e))
+
+pub has-no : (s : List ℕ) (i b : ℕ) → i < length s → (getD s i 0 ≡ b → ⊥) → oneOf (drop i s) b ≡ oneOf (drop (i + 1) s) b
+unfolding oneOf
+has-no s i b h e = rw (add-one, drop-cons s i 0, ne-eqb b (getD s i 0) (λ q. e (sym q)))
+
+pub has-end : (s : List ℕ) (i b : ℕ) → length s ≤ i → oneOf (drop i s) b ≡ false
+unfolding oneOf
+has-end s i b h = rw (drop-of-length-le s h)
+
+-- ---- runs
+
+pub run-yes : (p : ℕ → Bool) (b : ℕ) (bs : List ℕ) → p b ≡ true → run p (b ∷ bs) ≡ suc (run p bs)
+unfolding run
+run-yes p b bs h = rw (h, run)
+
+pub run-no : (p : ℕ → Bool) (b : ℕ) (bs : List ℕ) → p b ≡ false → run p (b ∷ bs) ≡ 0
+unfolding run
+run-no p b bs h = rw (h, run)
+
+pub run-at : (p : ℕ → Bool) (s : List ℕ) (i : ℕ) → i < length s → p (getD s i 0) ≡ true → run p (drop i s) ≡ suc (run p (drop (i + 1) s))
+run-at p s i h e = rw (add-one, drop-cons s i 0) (run-yes p _ _ e)
+
+pub run-end : (p : ℕ → Bool) (s : List ℕ) (i : ℕ) → i < length s → p (getD s i 0) ≡ false → run p (drop i s) ≡ 0
+run-end p s i h e = rw (drop-cons s i 0) (run-no p _ _ e)
+
+pub run-out : (p : ℕ → Bool) (s : List ℕ) (i : ℕ) → length s ≤ i → run p (drop i s) ≡ 0
+unfolding run
+run-out p s i h = rw (drop-of-length-le s h)
+
+-- a run is at most as long as the text
+pub run-le : (p : ℕ → Bool) (l : List ℕ) → run p l ≤ length l
+unfolding run
+run-le p [] = omega arith
+run-le p (b ∷ bs) = go (run-le p bs) (p b) refl
+  where
+    go : run p bs ≤ length bs → (t : Bool) → p b ≡ t → run p (b ∷ bs) ≤ length (b ∷ bs)
+    go r true e = rw (run-yes p b bs e) (omega arith)
+    go r false e = rw (run-no p b bs e) (omega arith)
+
+-- each byte of a run passes
+pub run-in : (p : ℕ → Bool) (l : List ℕ) (j : ℕ) → j < run p l → p (getD l j 0) ≡ true
+unfolding run
+run-in p [] j h = absurd (omega arith)
+run-in p (b ∷ bs) j h = go (run-in p bs) j (p b) refl h
+  where
+    go : ((j : ℕ) → j < run p bs → p (getD bs j 0) ≡ true) → (j : ℕ) (t : Bool) → p b ≡ t → j < run p (b ∷ bs) → p (getD (b ∷ bs) j 0) ≡ true
+    go r zero true e h = e
+    go r (suc j) true e h = r j (let h′ : suc j < suc (run p bs) = rw (run-yes p b bs e) at h in omega arith)
+    go r j false e h = absurd (let h′ : j < 0 = rw (run-no p b bs e) at h in omega arith)
+
+-- the byte behind a run does not pass
+pub run-stop : (p : ℕ → Bool) (l : List ℕ) → run p l < length l → p (getD l (run p l) 0) ≡ false
+unfolding run
+run-stop p [] h = absurd (omega arith)
+run-stop p (b ∷ bs) h = go (run-stop p bs) (p b) refl
+  where
+    by : (n : ℕ) → run p (b ∷ bs) ≡ n → p (getD (b ∷ bs) n 0) ≡ false → p (getD (b ∷ bs) (run p (b ∷ bs)) 0) ≡ false
+    by n e q = rw e q
+
+    go : (run p bs < length bs → p (getD bs (run p bs) 0) ≡ false) → (t : Bool) → p b ≡ t → p (getD (b ∷ bs) (run p (b ∷ bs)) 0) ≡ false
+    go r true e = by _ (run-yes p b bs e) (r (omega (arith, run-yes p b bs e)))
+    go r false e = by _ (run-no p b bs e) e
+
+-- ---- parts
+
+pub part-off : (t : List ℕ) (start size : ℕ) → length t ≤ start → [] ≡ part t start size
+part-off t start size h = rw (drop-of-length-le t {i = start} h, take-nil)
+
+pub part-all : (t : List ℕ) (start size : ℕ) → length t - start ≤ size → take (length t - start) (drop start t) ≡ part t start size
+part-all t start size h = take-all (length t - start) (drop start t) (rw length-drop (omega arith)) ∙ sym (take-all size (drop start t) (rw length-drop h))
+
+pub part-in : (t : List ℕ) (start size : ℕ) → take (start + size - start) (drop start t) ≡ part t start size
+part-in t start size = let e : start + size - start ≡ size = omega arith in rw e
+
+-- ---- classes, and small letters
+
+pub within-is : (lo hi b : ℕ) → within lo hi b ≡ true → (lo ≤ b) × (b ≤ hi)
+within-is lo hi b h = go (leb lo b) refl h
+  where
+    go : (t : Bool) → leb lo b ≡ t → (t && leb b hi) ≡ true → (lo ≤ b) × (b ≤ hi)
+    go true e q = (leb-true lo b e, leb-true b hi q)
+    go false e q = absurd (let z : _≡_ {A = ℕ} 0 1 = cc in omega arith)
+
+pub lowered-at : (w : List ℕ) (i : ℕ) → i < length w → lowered (drop i w) ≡ lower (getD w i 0) ∷ lowered (drop (i + 1) w)
+unfolding lowered
+lowered-at w i h = rw (add-one, drop-cons w i 0)
+
+pub lowered-end : (w : List ℕ) (i : ℕ) → length w ≤ i → lowered (drop i w) ≡ []
+unfolding lowered
+lowered-end w i h = rw (drop-of-length-le w h)

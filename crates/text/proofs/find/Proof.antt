@@ -1,0 +1,80 @@
+-- `text::find` meets its contract; the loop keeps the lookup in what is left of the table, with `i` words passed. Assumes nothing.
+use Prim.Native.Nat.{_-_, _≤_}
+use mathlib.Core.Path.{ap, sym, _∙_, _≡_}
+use native.Mathlib.Omega.{arith}
+use lib.ListN.{drop, length}
+use borrow.Author.Needs.{needs}
+use Rattle.text.proofs.WordLaws.{table-here, table-past, table-end}
+use Rattle.text.specs.Bytes.{same, at}
+use Rattle.text.specs.Words.{entries, find, table}
+use Rattle.text.proofs.find.Statement.{statement}
+use Rattle.text.proofs.find.Tie as tie
+
+abbrev Inv-loop : tie.InvT-loop
+Inv-loop names word at₀ i₀ at i = (i ≤ at) × (find (table names) 0 word ≡ find (entries 0 (drop at names)) i word)
+
+abbrev μ-loop : tie.MeasureT-loop
+μ-loop names word at₀ i₀ at i = length names - at
+
+loop-holds : tie.Need-loop-holds Inv-loop μ-loop
+loop-holds c = search needs
+
+shared-slice-read-size : tie.Need-shared-slice-read-size Inv-loop μ-loop
+shared-slice-read-size c = search needs
+
+cast-size : tie.Need-cast-size Inv-loop μ-loop
+cast-size c = omega (arith, c .shared-slice-known3 .given (c .before .before .loop .at))
+
+add-part : tie.Need-add-part Inv-loop μ-loop
+add-part c = search needs
+
+part-requires : tie.Need-part-requires Inv-loop μ-loop
+part-requires c κs = search needs
+
+is-word-requires : tie.Need-is-word-requires Inv-loop μ-loop
+is-word-requires c κs = search needs
+
+returns : tie.Need-returns Inv-loop μ-loop
+returns c =
+    let e = ap (same (c .before .before .before .before .before .before .before .before .args .word .now)) (sym (c .before .before .part .ensures)) ∙ sym (c .before .is-word .ensures) ∙ c .if1 .taken in
+    sym (c .before .before .before .before .before .loop .inv .1 ∙ table-here (c .before .before .before .before .before .before .before .before .args .names .now) (c .before .before .before .before .before .loop .at) (c .before .before .before .before .before .loop .i) (c .before .before .before .before .before .before .before .before .args .word .now) (omega arith) e)
+
+add-at : tie.Need-add-at Inv-loop μ-loop
+add-at c = omega (arith, c .before .before .before .shared-slice-known3 .given (c .before .before .before .before .before .loop .at))
+
+add-at-2 : tie.Need-add-at-2 Inv-loop μ-loop
+add-at-2 c = omega (arith, c .before .before .before .shared-slice-known3 .given (c .before .before .before .before .before .loop .at))
+
+add-i : tie.Need-add-i Inv-loop μ-loop
+add-i c = search needs
+
+loop-less : tie.Need-loop-less Inv-loop μ-loop
+loop-less c = search needs
+
+loop-again : tie.Need-loop-again Inv-loop μ-loop
+loop-again c =
+    let e = ap (same (c .before .before .before .before .before .before .before .before .args .word .now)) (sym (c .before .before .part .ensures)) ∙ sym (c .before .is-word .ensures) ∙ c .if1 .left in
+    (omega arith, c .before .before .before .before .before .loop .inv .1 ∙ table-past (c .before .before .before .before .before .before .before .before .args .names .now) (c .before .before .before .before .before .loop .at) (c .before .before .before .before .before .loop .i) (c .before .before .before .before .before .before .before .before .args .word .now) (omega arith) e)
+
+returns-2 : tie.Need-returns-2 Inv-loop μ-loop
+returns-2 c = sym (c .before .loop .inv .1 ∙ table-end (c .before .before .before .before .args .names .now) (c .before .loop .at) (c .before .loop .i) (c .before .before .before .before .args .word .now) (omega arith))
+
+pub find-spec : {M : Type 1} → statement M
+find-spec =
+    tie.close
+    (tie.spec
+    Inv-loop
+    μ-loop
+    loop-holds
+    shared-slice-read-size
+    cast-size
+    add-part
+    part-requires
+    is-word-requires
+    returns
+    add-at
+    add-at-2
+    add-i
+    loop-less
+    loop-again
+    returns-2)

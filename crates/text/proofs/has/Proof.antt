@@ -1,0 +1,51 @@
+-- `text::has` meets its contract; the loop keeps what is left of the set in place of the whole. Assumes nothing.
+use Prim.Native.Nat.{_-_, _≤_}
+use mathlib.Core.Path.{sym, _∙_, _≡_}
+use native.Mathlib.Omega.{arith}
+use lib.ListN.{drop, length, set}
+use borrow.Author.Needs.{needs}
+use Rattle.text.proofs.ByteLaws.{has-end, has-no, has-yes}
+use Rattle.text.specs.Bytes.{oneOf}
+use Rattle.text.proofs.has.Statement.{statement}
+use Rattle.text.proofs.has.Tie as tie
+
+abbrev Inv-loop : tie.InvT-loop
+Inv-loop set b i₀ i = (i ≤ length set) × (oneOf set b ≡ oneOf (drop i set) b)
+
+abbrev μ-loop : tie.MeasureT-loop
+μ-loop set b i₀ i = length set - i
+
+loop-holds : tie.Need-loop-holds Inv-loop μ-loop
+loop-holds c = search needs
+
+shared-slice-read-if1 : tie.Need-shared-slice-read-if1 Inv-loop μ-loop
+shared-slice-read-if1 c = search needs
+
+returns : tie.Need-returns Inv-loop μ-loop
+returns c = sym (c .before .before .before .loop .inv .1 ∙ has-yes (c .before .before .before .before .args .set .now) (c .before .before .before .loop .i) (c .before .before .before .before .args .b) (omega arith) (c .if1 .taken))
+
+add-i : tie.Need-add-i Inv-loop μ-loop
+add-i c = search needs
+
+loop-less : tie.Need-loop-less Inv-loop μ-loop
+loop-less c = search needs
+
+loop-again : tie.Need-loop-again Inv-loop μ-loop
+loop-again c = (omega arith, c .before .before .before .loop .inv .1 ∙ has-no (c .before .before .before .before .args .set .now) (c .before .before .before .loop .i) (c .before .before .before .before .args .b) (omega arith) (c .if1 .left))
+
+returns-2 : tie.Need-returns-2 Inv-loop μ-loop
+returns-2 c = sym (c .before .loop .inv .1 ∙ has-end (c .before .before .args .set .now) (c .before .loop .i) (c .before .before .args .b) (omega arith))
+
+pub has-spec : {M : Type 1} → statement M
+has-spec =
+    tie.close
+    (tie.spec
+    Inv-loop
+    μ-loop
+    loop-holds
+    shared-slice-read-if1
+    returns
+    add-i
+    loop-less
+    loop-again
+    returns-2)

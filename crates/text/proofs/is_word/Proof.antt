@@ -1,0 +1,59 @@
+-- `text::is_word` meets its contract; the loop keeps what is left of both words in place of the whole. Assumes nothing.
+use Prim.Native.Nat.{_-_, _≤_}
+use mathlib.Core.Path.{sym, _∙_, _≡_}
+use native.Mathlib.Omega.{arith}
+use lib.ListN.{drop, length}
+use borrow.Author.Needs.{needs}
+use Rattle.text.specs.Bytes.{same}
+use Rattle.text.proofs.WordLaws.{same-end, same-lengths, same-next, same-not}
+use Rattle.text.proofs.is_word.Statement.{statement}
+use Rattle.text.proofs.is_word.Tie as tie
+
+abbrev Inv-loop : tie.InvT-loop
+Inv-loop w word i₀ i = (i ≤ length word) × (same w word ≡ same (drop i w) (drop i word))
+
+abbrev μ-loop : tie.MeasureT-loop
+μ-loop w word i₀ i = length word - i
+
+returns : tie.Need-returns Inv-loop μ-loop
+returns c = sym (same-lengths _ _ (c .if1 .taken))
+
+loop-holds : tie.Need-loop-holds Inv-loop μ-loop
+loop-holds c = search needs
+
+shared-slice-read-if2 : tie.Need-shared-slice-read-if2 Inv-loop μ-loop
+shared-slice-read-if2 c = search needs
+
+shared-slice-read-if2-2 : tie.Need-shared-slice-read-if2-2 Inv-loop μ-loop
+shared-slice-read-if2-2 c = search needs
+
+returns-2 : tie.Need-returns-2 Inv-loop μ-loop
+returns-2 c = sym (c .before .before .before .before .loop .inv .1 ∙ same-not (c .before .before .before .before .before .before .args .w .now) (c .before .before .before .before .before .before .args .word .now) (c .before .before .before .before .loop .i) (omega arith) (omega arith) (c .if2 .taken))
+
+add-i : tie.Need-add-i Inv-loop μ-loop
+add-i c = search needs
+
+loop-less : tie.Need-loop-less Inv-loop μ-loop
+loop-less c = search needs
+
+loop-again : tie.Need-loop-again Inv-loop μ-loop
+loop-again c = (omega arith, c .before .before .before .before .loop .inv .1 ∙ same-next (c .before .before .before .before .before .before .args .w .now) (c .before .before .before .before .before .before .args .word .now) (c .before .before .before .before .loop .i) (omega arith) (omega arith) (c .if2 .left))
+
+returns-3 : tie.Need-returns-3 Inv-loop μ-loop
+returns-3 c = sym (c .before .loop .inv .1 ∙ same-end (c .before .before .before .args .w .now) (c .before .before .before .args .word .now) (c .before .loop .i) (omega arith) (omega arith))
+
+pub is-word-spec : {M : Type 1} → statement M
+is-word-spec =
+    tie.close
+    (tie.spec
+    Inv-loop
+    μ-loop
+    returns
+    loop-holds
+    shared-slice-read-if2
+    shared-slice-read-if2-2
+    returns-2
+    add-i
+    loop-less
+    loop-again
+    returns-3)

@@ -1,0 +1,22 @@
+-- `text::lower` meets its contract: a capital is at most 90, so the sum fits. Assumes nothing.
+use mathlib.Core.Path.{sym, _∙_}
+use native.Mathlib.Omega.{arith}
+use borrow.Author.Needs.{needs}
+use Rattle.text.proofs.ByteLaws.{within-is}
+use Rattle.text.proofs.lower.Statement.{statement}
+use Rattle.text.proofs.lower.Tie as tie
+
+is-upper-requires : tie.Need-is-upper-requires
+is-upper-requires c κs = search needs
+
+add-result : tie.Need-add-result
+add-result c = record { fits = omega (arith, within-is 65 90 (c .before .before .args .b) (sym (c .before .is-upper .ensures) ∙ c .if1 .taken)) }
+
+returns : tie.Need-returns
+returns c = rw (sym (c .before .is-upper .ensures) ∙ c .if1 .taken)
+
+returns-2 : tie.Need-returns-2
+returns-2 c = rw (sym (c .before .is-upper .ensures) ∙ c .if1 .left)
+
+pub lower-spec : {M : Type 1} → statement M
+lower-spec = tie.close (tie.spec is-upper-requires add-result returns returns-2)

@@ -1,0 +1,73 @@
+-- `text::lower_into` meets its contract; the loop keeps that what is written from here on is written from the start. Assumes nothing.
+use Prim.Native.Nat.{_-_, ℕ}
+use mathlib.Core.List.{List}
+use mathlib.Core.Path.{refl, sym, _∙_, _≡_}
+use native.Mathlib.Omega.{arith}
+use lib.ListN.{drop, length, length-set}
+use borrow.Author.Needs.{needs}
+use Rattle.text.proofs.ByteLaws.{lowered-at, lowered-end}
+use Rattle.text.proofs.WriteLaws.{puts-one, puts-full, puts-none, puts-then}
+use Rattle.text.specs.Write.{Puts}
+use Rattle.text.specs.Bytes.{lowered}
+use Rattle.text.proofs.lower_into.Statement.{statement}
+use Rattle.text.proofs.lower_into.Tie as tie
+
+abbrev Inv-loop : tie.InvT-loop
+Inv-loop w out₀ n₀ out n = (length out ≡ length out₀) × ((after : List ℕ) (end : ℕ) → Puts out n (lowered (drop n w)) after end → Puts out₀ 0 (lowered w) after end)
+
+abbrev μ-loop : tie.MeasureT-loop
+μ-loop w out₀ n₀ out n = length w - n
+
+loop-holds : tie.Need-loop-holds Inv-loop μ-loop
+loop-holds c = (refl, λ after end p. p)
+
+same-length : tie.Need-same-length Inv-loop μ-loop
+same-length c = c .before .before .loop .inv .0
+
+returns : tie.Need-returns Inv-loop μ-loop
+returns c = c .before .before .loop .inv .1 _ _ (puts-full _ _ _ (c .if1 .taken))
+
+shared-slice-read-lower : tie.Need-shared-slice-read-lower Inv-loop μ-loop
+shared-slice-read-lower c = search needs
+
+lower-requires : tie.Need-lower-requires Inv-loop μ-loop
+lower-requires c κs = search needs
+
+slice-write-out : tie.Need-slice-write-out Inv-loop μ-loop
+slice-write-out c = search needs
+
+add-n : tie.Need-add-n Inv-loop μ-loop
+add-n c = search needs
+
+loop-less : tie.Need-loop-less Inv-loop μ-loop
+loop-less c = search needs
+
+loop-again : tie.Need-loop-again Inv-loop μ-loop
+loop-again c = (
+  (simp length-set) ∙ c .before .before .before .before .loop .inv .0,
+  λ after end p. c .before .before .before .before .loop .inv .1 after end (rw (lowered-at (c .before .before .before .before .before .before .before .args .w .now) (c .before .before .before .before .loop .n) (omega arith)) (puts-then (puts-one _ _ _ (omega arith)) (rw (sym (c .lower .ensures)) p))),
+)
+
+same-length-2 : tie.Need-same-length-2 Inv-loop μ-loop
+same-length-2 c = c .before .loop .inv .0
+
+returns-2 : tie.Need-returns-2 Inv-loop μ-loop
+returns-2 c = c .before .loop .inv .1 _ _ (rw (lowered-end (c .before .before .before .before .args .w .now) (c .before .loop .n) (omega arith)) (puts-none _ _))
+
+pub lower-into-spec : {M : Type 1} → statement M
+lower-into-spec =
+    tie.close
+    (tie.spec
+    Inv-loop
+    μ-loop
+    loop-holds
+    same-length
+    returns
+    shared-slice-read-lower
+    lower-requires
+    slice-write-out
+    add-n
+    loop-less
+    loop-again
+    same-length-2
+    returns-2)

@@ -1,0 +1,61 @@
+-- `text::run_end` meets its contract; the loop keeps where the run ends, whichever of its bytes is the next. Assumes nothing.
+use Prim.Native.Nat.{_+_, _-_}
+use mathlib.Core.Path.{sym, _∙_, _≡_}
+use native.Mathlib.Omega.{arith}
+use lib.ListN.{drop, length}
+use borrow.Author.Needs.{needs}
+use borrow.Author.Tests.{not-false, not-true}
+use Rattle.text.specs.Means.{passes}
+use Rattle.text.specs.Bytes.{run}
+use Rattle.text.proofs.ByteLaws.{run-at, run-end, run-out}
+use Rattle.text.proofs.run_end.Statement.{statement}
+use Rattle.text.proofs.run_end.Tie as tie
+
+abbrev Inv-loop : tie.InvT-loop
+Inv-loop text from k i₀ i = i + run (passes k) (drop i text) ≡ from + run (passes k) (drop from text)
+
+abbrev μ-loop : tie.MeasureT-loop
+μ-loop text from k i₀ i = length text - i
+
+loop-holds : tie.Need-loop-holds Inv-loop μ-loop
+loop-holds c = search needs
+
+shared-slice-read-in-class : tie.Need-shared-slice-read-in-class Inv-loop μ-loop
+shared-slice-read-in-class c = search needs
+
+in-class-requires : tie.Need-in-class-requires Inv-loop μ-loop
+in-class-requires c κs = search needs
+
+returns : tie.Need-returns Inv-loop μ-loop
+returns c =
+    let e = sym (c .before .in-class .ensures) ∙ not-true _ (c .if1 .taken) in
+    omega (arith, run-end (passes (c .before .before .before .before .before .before .args .k)) (c .before .before .before .before .before .before .args .text .now) (c .before .before .before .before .loop .i) (omega arith) e)
+
+add-i : tie.Need-add-i Inv-loop μ-loop
+add-i c = search needs
+
+loop-less : tie.Need-loop-less Inv-loop μ-loop
+loop-less c = search needs
+
+loop-again : tie.Need-loop-again Inv-loop μ-loop
+loop-again c =
+    let e = sym (c .before .in-class .ensures) ∙ not-false _ (c .if1 .left) in
+    omega (arith, run-at (passes (c .before .before .before .before .before .before .args .k)) (c .before .before .before .before .before .before .args .text .now) (c .before .before .before .before .loop .i) (omega arith) e)
+
+returns-2 : tie.Need-returns-2 Inv-loop μ-loop
+returns-2 c = omega (arith, run-out (passes (c .before .before .before .args .k)) (c .before .before .before .args .text .now) (c .before .loop .i) (omega arith))
+
+pub run-end-spec : {M : Type 1} → statement M
+run-end-spec =
+    tie.close
+    (tie.spec
+    Inv-loop
+    μ-loop
+    loop-holds
+    shared-slice-read-in-class
+    in-class-requires
+    returns
+    add-i
+    loop-less
+    loop-again
+    returns-2)
