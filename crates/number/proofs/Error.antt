@@ -1,22 +1,21 @@
 -- How far the nearest f32 is from its fraction. `grid num den` is its size in units of 2 ^ -149, a whole number. Assumes nothing.
-use mathlib.Core.Path.{_≡_, refl, sym, ap, _∙_, subst}
-use mathlib.Core.Logic.{_⊎_, inl, inr, ⊎-elim}
+use mathlib.Core.Path.{_≡_, sym, ap, _∙_, subst}
+use mathlib.Core.Logic.{⊎-elim}
 use Prim.Native.Nat.{ℕ, zero, suc, _+_, _-_, _*_, _/_, _%_, _^_, _≤_, _<_, compare, Ordering, Ordering·lt, Ordering·eq, Ordering·gt}
 use native.Mathlib.Numerals.{add-one}
-use native.Mathlib.Nat.{le-refl, mod-lt, one-mul, suc-mul, add-zero, le-trans, le-of-eq, le-of-lt, lt-of-lt-of-le, lt-of-le-of-lt, mul-one, mul-comm, mul-assoc, mul-left-comm, mul-right-comm, add-mul, mul-le-mul-right, mul-le-mul-left, mul-lt-mul-of-pos-right, le-of-mul-le-mul-right, lt-of-mul-lt-mul-right, mul-pos, le-div-iff-mul-le, div-lt-iff-lt-mul, mul-div-cancel, mul-mod-left, div-add-mod', eq-or-lt-of-le}
+use native.Mathlib.Nat.{mod-lt, one-mul, suc-mul, add-zero, le-trans, le-of-eq, le-of-lt, lt-of-le-of-lt, mul-comm, mul-assoc, add-mul, mul-le-mul-left, le-of-mul-le-mul-right, mul-pos, div-lt-iff-lt-mul, mul-div-cancel, mul-mod-left, div-add-mod', eq-or-lt-of-le}
 use native.Mathlib.Omega.{arith}
-use mathlib.Core.Bool.{Bool, true, false}
-use lib.Dec.{lit≤, lit<}
+use mathlib.Core.Bool.{Bool}
+use lib.Dec.{lit<}
 use lib.Pow.{pow-add, pow-pos, pow-mono, pow-lt, shl-lt}
-use lib.Ieee.{Float, binary32, size, units, round, nearest}
-use lib.Ieee.Digits.{size-lt, size-le, back}
+use lib.Ieee.{Float, binary32, size, round, nearest}
+use lib.Ieee.Digits.{size-le, back}
 use lib.Ieee.Fits.{round-is}
 use lib.Ieee.Exact.{HasValue, units-val}
 use lib.Ieee.Nearest.{closest}
 use lib.Ieee.Order.{drop, kept}
 use lib.Ieee.Scale.{grid}
 use Rattle.number.proofs.Closest.{Cmp, cmp, closest-below}
-use Rattle.number.proofs.Round.{size-gt}
 
 -- ---- the nearest whole number to a / b, times b, is within b / 2 of a
 abbrev Half : (y a b : ℕ) → Type 0

@@ -1,16 +1,15 @@
 -- How far two signed fractions lie apart, as a whole number over their common denominator, and the f32 difference of two floats by it. Assumes nothing.
 use mathlib.Core.Path.{_≡_, refl, sym, ap, _∙_, subst}
-use mathlib.Core.Logic.{_⊎_, inl, inr, ⊎-elim}
 use Prim.Native.Nat.{ℕ, zero, suc, _+_, _-_, _*_, _/_, _^_, _≤_, _<_}
-use native.Mathlib.Nat.{le-trans, le-of-eq, mul-comm, mul-assoc, mul-left-comm, mul-right-comm, mul-le-mul-right, add-mul, mul-sub, mul-pos, mul-one, one-mul, zero-mul, add-zero, zero-add}
+use native.Mathlib.Nat.{le-of-eq, mul-comm, mul-assoc, mul-right-comm, mul-le-mul-right, add-mul, mul-sub, mul-pos}
 use native.Mathlib.Omega.{arith}
 use mathlib.Core.Bool.{Bool, true, false, not, _&&_, _||_, Bool·beq, cond}
 use borrow.Author.Tests.{lt-ltb, le-ltb}
-use lib.IntN.{ℤ, pos, negsuc}
+use lib.IntN.{negsuc}
 use lib.Dec.{T, ltb, eqb, ltb→lt, nltb→le, eqb→eq}
 use lib.Pow.{pow-pos}
-use lib.Ieee.{Float, nan, inf, fin, Format, binary32, prec, low, emax, up, down, size, odd, units, round, sum, sub, lt, le}
-use lib.Ieee.Fits.{round-is, up-pos, down-pos, and-l, and-r}
+use lib.Ieee.{Float, nan, inf, fin, binary32, up, down, size, odd, units, round, sum, sub, lt, le}
+use lib.Ieee.Fits.{round-is, down-pos, and-r}
 use lib.Ieee.Exact.{HasValue}
 use lib.Ieee.Nearest.{closest}
 use lib.Ieee.Order.{round-mono}

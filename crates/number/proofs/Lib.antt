@@ -5,3 +5,8 @@ pub mod Floats
 pub mod Error
 pub mod Gap
 pub mod Scaling
+pub mod Apart
+pub mod Hundredth
+pub mod Times
+pub mod Tracks
+pub mod Cases

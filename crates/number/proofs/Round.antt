@@ -3,13 +3,12 @@
 use mathlib.Core.Path.{_≡_, refl, sym, ap, _∙_, subst}
 use mathlib.Core.Logic.{_⊎_, inl, inr, ⊎-elim}
 use Prim.Native.Nat.{ℕ, zero, suc, _+_, _-_, _*_, _/_, _%_, _^_, _≤_, _<_, compare}
-use native.Mathlib.Nat.{le-trans, le-of-eq, le-of-lt, lt-of-lt-of-le, lt-of-le-of-lt, lt-of-not-le, not-le-of-lt, le-antisymm, le-of-suc-le-suc, mul-one, zero-mul, mul-comm, mul-assoc, mul-left-comm, mul-right-comm, mul-le-mul-right, mul-lt-mul-of-pos-right, mul-pos, mul-le-mul, le-div-iff-mul-le, div-lt-iff-lt-mul, mul-div-cancel, div-div-eq-div-mul, eq-or-lt-of-le}
+use native.Mathlib.Nat.{le-trans, le-of-eq, lt-of-lt-of-le, lt-of-le-of-lt, lt-of-not-le, not-le-of-lt, zero-mul, mul-le-mul-right, mul-pos, mul-le-mul, le-div-iff-mul-le, div-lt-iff-lt-mul, mul-div-cancel, div-div-eq-div-mul, eq-or-lt-of-le}
 use native.Mathlib.Omega.{arith}
 use mathlib.Core.Bool.{Bool, true, false, not, cond}
-use lib.Dec.{T, ltb, lt→ltb, ltb→lt, nltb→le, not-T, lit≤, lit<}
+use lib.Dec.{T, ltb, ltb→lt, not-T, lit≤, lit<}
 use lib.Pow.{pow-add, pow-pos, pow-mono, pow-lt, shl-lt}
-use lib.IntN.{ℤ}
-use lib.Ieee.{Float, nan, inf, fin, Format, binary32, prec, emax, low, up, down, size, odd, units, round, toBits, ofBits, hid, top, fits, isNan}
+use lib.Ieee.{Float, nan, inf, fin, binary32, down, size, odd, units, round, toBits}
 use lib.Ieee.Digits.{size-lt, size-le, size-reaches}
 use lib.Ieee.Fits.{nearest-le, round-is, round-fits, down-pos}
 use lib.Ieee.Bits.{toBits-lt, cond-no}

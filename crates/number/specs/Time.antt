@@ -18,7 +18,8 @@ pub record Key : Type 0 where
 
 -- 01, "For demand 3": "An entry's written time is its key's number in the text, sign included, `s` left off, a percent n being n/100"
 abbrev pub writtenTime : Key → Exact
-writtenTime k = record { negative = k .negative; num = k .written .digits; den = cond (k .percent) 100 1 * 10 ^ k .written .places }
+-- (a percent is whole: its digits are n, and it has no places)
+writtenTime k = record { negative = k .negative; num = k .written .digits; den = cond (k .percent) 100 (10 ^ k .written .places) }
 
 -- the f32 that is stored for it
 unfoldable pub storedTime : Key → Float

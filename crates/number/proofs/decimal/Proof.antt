@@ -1,6 +1,6 @@
 -- `number::decimal` meets its contract: what was rounded fits, so its bits give it back. Assumes nothing.
 use borrow.Author.Needs.{needs}
-use mathlib.Core.Path.{_≡_, ap, _∙_}
+use mathlib.Core.Path.{ap, _∙_}
 use Prim.Native.Nat.{_^_}
 use lib.Ieee.{binary32, round}
 use lib.Ieee.Fits.{round-fits}

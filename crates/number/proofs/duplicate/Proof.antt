@@ -1,16 +1,14 @@
 -- `number::duplicate` meets its contract: with its sign taken off where it is negative, a float is its size. Assumes nothing.
 use borrow.Author.Tests.{ltb-true, ltb-false, lt-ltb}
-use mathlib.Core.Path.{_≡_, refl, sym, ap, _∙_, subst}
+use mathlib.Core.Path.{_≡_, refl, sym, ap, _∙_}
 use mathlib.Core.Logic.{⊎-elim}
 use mathlib.Core.Bool.{Bool, true, false}
 use Prim.Native.Nat.{ℕ, _+_, _*_, _<_, _≤_}
-use native.Mathlib.Nat.{zero-mul, mul-pos, mul-one, one-mul}
+use native.Mathlib.Nat.{zero-mul, mul-one, one-mul}
 use native.Mathlib.Omega.{arith}
-use lib.IntN.{ℤ, pos, negsuc}
-use lib.Dec.{T, ltb}
+use lib.IntN.{ℤ, pos}
 use lib.Ieee.{Float, nan, inf, fin, binary32, ofBits, lt, sub, neg, up, down}
-use lib.Ieee.Fits.{up-pos, down-pos}
-use lib.Ieee.Positive.{first-pos}
+use lib.Ieee.Fits.{down-pos}
 use Rattle.number.specs.Time.{size, near}
 use Rattle.number.proofs.Gap.{epsilon}
 use Rattle.number.proofs.duplicate.Statement.{statement}

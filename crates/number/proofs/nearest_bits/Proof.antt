@@ -1,7 +1,7 @@
 -- `number::nearest_bits` meets its contract: with n of 64 binary digits and d of 40 the quotient has 24 or 25. Assumes nothing.
-use mathlib.Core.Path.{_≡_, refl, sym, ap, _∙_}
+use mathlib.Core.Path.{sym, ap, _∙_}
 use mathlib.Core.Bool.{false}
-use Prim.Native.Nat.{ℕ, _+_, _-_, _*_, _%_, _^_}
+use Prim.Native.Nat.{ℕ, _+_, _-_, _*_, _^_}
 use native.Mathlib.Nat.{mul-assoc}
 use native.Mathlib.Omega.{arith}
 use lib.Count.{leadingZeros}
@@ -12,9 +12,6 @@ use Rattle.number.proofs.Scaling.{Aligned, aligned, scaled-bits, whole-
 use Rattle.number.proofs.Round.{zero-bits}
 use Rattle.number.proofs.nearest_bits.Statement.{statement}
 use Rattle.number.proofs.nearest_bits.Tie as tie
-use Rattle.number.proofs.nearest_bits.Reads as reads
-use Rattle.number.proofs.nearest_bits.Lts as lts
-use Rattle.number.proofs.packed.Reads as packed-reads
 
 known : (c : tie.Else1) → Aligned (c .before .args .n) (c .before .args .d) (leadingZeros 64 (c .before .args .n)) (leadingZeros 64 (c .before .args .d))
 known c = aligned (c .before .args .n) (c .before .args .d) (c .if1 .left) (c .before .fits .n .fits) (c .before .pre .0) (c .before .pre .1)

@@ -1,7 +1,6 @@
 -- `number::percent` meets its contract: the literal is 100. Assumes nothing.
 use borrow.Author.Needs.{needs}
-use mathlib.Core.Path.{_≡_, refl, sym, ap, _∙_}
-use Prim.Native.Nat.{_^_}
+use mathlib.Core.Path.{_≡_, refl, ap, _∙_}
 use mathlib.Core.Bool.{false}
 use lib.Ieee.{Float, binary32, round, div, ofBits}
 use Rattle.number.specs.Number.{percent}

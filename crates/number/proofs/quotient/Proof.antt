@@ -1,14 +1,11 @@
 -- `number::quotient` meets its contract, by how twice the remainder compares with b. Assumes nothing.
 use borrow.Author.Needs.{needs}
 use mathlib.Core.Path.{sym}
-use Prim.Native.Nat.{_%_, _<_}
-use native.Mathlib.Nat.{mod-lt, lt-of-lt-of-le}
+use native.Mathlib.Nat.{mod-lt}
 use native.Mathlib.Omega.{arith}
 use Rattle.number.proofs.Closest.{closest-below, closest-tie, closest-above}
 use Rattle.number.proofs.quotient.Statement.{statement}
 use Rattle.number.proofs.quotient.Tie as tie
-use Rattle.number.proofs.quotient.Reads as reads
-use Rattle.number.proofs.quotient.Lts as lts
 
 div-q : tie.Need-div-q
 div-q c = search needs

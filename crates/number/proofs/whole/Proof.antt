@@ -1,7 +1,6 @@
 -- `number::whole` meets its contract, by the two tests. Assumes nothing.
 use borrow.Author.Needs.{needs}
 use borrow.Author.Tests.{lt-ltb, le-ltb}
-use mathlib.Core.Path.{_≡_, refl, sym, ap, _∙_}
 use Rattle.number.specs.Number.{whole}
 use Rattle.number.proofs.whole.Statement.{statement}
 use Rattle.number.proofs.whole.Tie as tie
