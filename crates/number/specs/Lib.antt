@@ -1,3 +1,4 @@
 pub mod Number
 pub mod Exact
 pub mod Time
+pub mod Answer

@@ -1,0 +1,16 @@
+-- `number::bits_of` meets its contract. Assumes nothing.
+use mathlib.Core.Path.{refl}
+use borrow.Author.Needs.{needs}
+use Rattle.number.specs.Number.{bits}
+use Rattle.number.proofs.bits_of.Statement.{statement}
+use Rattle.number.proofs.bits_of.Tie as tie
+
+float-to-bits-result : tie.Need-float-to-bits-result
+float-to-bits-result c = search needs
+
+returns : tie.Need-returns
+unfolding bits
+returns c = refl
+
+pub bits-of-spec : {M : Type 1} → statement M
+bits-of-spec = tie.close (tie.spec float-to-bits-result returns)

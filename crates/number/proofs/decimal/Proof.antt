@@ -1,0 +1,25 @@
+-- `number::decimal` meets its contract: what was rounded fits, so its bits give it back. Assumes nothing.
+use borrow.Author.Needs.{needs}
+use mathlib.Core.Path.{ap, _∙_}
+use Prim.Native.Nat.{_^_}
+use lib.Ieee.{binary32, round}
+use lib.Ieee.Fits.{round-fits}
+use Rattle.number.specs.Number.{f32}
+use Rattle.number.proofs.Floats.{f32-bits}
+use Rattle.number.proofs.decimal.Statement.{statement}
+use Rattle.number.proofs.decimal.Tie as tie
+
+decimal-bits-requires : tie.Need-decimal-bits-requires
+decimal-bits-requires c κs = search needs
+
+f32-of-bits-requires : tie.Need-f32-of-bits-requires
+f32-of-bits-requires c κs = search needs
+
+returns : tie.Need-returns
+returns c =
+    let s = c .before .before in
+    let x = round binary32 (s .args .negative) (s .args .digits) (10 ^ s .args .places) in
+    c .f32-of-bits .ensures ∙ ap f32 (c .before .decimal-bits .ensures) ∙ f32-bits x (round-fits binary32 (s .args .negative) (s .args .digits) (10 ^ s .args .places))
+
+pub decimal-spec : {M : Type 1} → statement M
+decimal-spec = tie.close (tie.spec decimal-bits-requires f32-of-bits-requires returns)
