@@ -32,7 +32,12 @@ is-listed-requires-2 : tie.Need-is-listed-requires-2
 is-listed-requires-2 c κs = search needs
 
 returns-2 : tie.Need-returns-2
-returns-2 c = c .is-listed2 .ensures ∙ easing-variant (c .before .before .before .before .before .before .before .before .args .variant) _ _ (c .before .before .before .before .before .before .part .ensures) _ (c .before .before .before .before .before .if1 .left) (puts-front (c .before .before .before .to-snake-case .ensures))
+returns-2 c =
+    let at-to-snake-case = c .before .before .before in
+    let at-if1 = at-to-snake-case .before .before in
+    let at-part = at-if1 .before in
+    let start = at-part .before .before in
+    c .is-listed2 .ensures ∙ easing-variant (start .args .variant) _ _ (at-part .part .ensures) _ (at-if1 .if1 .left) (puts-front (at-to-snake-case .to-snake-case .ensures))
 
 pub is-named-easing-spec : {M : Type 1} → statement M
 is-named-easing-spec =

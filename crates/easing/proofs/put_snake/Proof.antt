@@ -22,7 +22,14 @@ same-length : tie.Need-same-length
 same-length c = search needs
 
 returns : tie.Need-returns
-returns c = rw (byte-capital (c .before .before .before .before .before .before .before .before .before .before .before .before .args .b) (c .before .before .before .lower .result) (sym (c .before .before .before .before .before .before .before .before .before .before .is-upper .ensures) ∙ c .before .before .before .before .before .before .before .before .before .if1 .taken) (c .before .before .before .lower .ensures)) (puts-then (c .before .before .before .before .before .before .before .put .ensures) (c .before .before .put2 .ensures))
+returns c =
+    let at-put2 = c .before .before in
+    let at-lower = at-put2 .before in
+    let at-put = at-lower .before .before .before .before in
+    let at-if1 = at-put .before .before in
+    let at-is-upper = at-if1 .before in
+    let start = at-is-upper .before .before in
+    rw (byte-capital (start .args .b) (at-lower .lower .result) (sym (at-is-upper .is-upper .ensures) ∙ at-if1 .if1 .taken) (at-lower .lower .ensures)) (puts-then (at-put .put .ensures) (at-put2 .put2 .ensures))
 
 put-requires-3 : tie.Need-put-requires-3
 put-requires-3 c κs = search needs
@@ -31,7 +38,12 @@ same-length-2 : tie.Need-same-length-2
 same-length-2 c = search needs
 
 returns-2 : tie.Need-returns-2
-returns-2 c = rw (byte-other (c .before .before .before .before .before .before .before .args .b) (sym (c .before .before .before .before .before .is-upper .ensures) ∙ c .before .before .before .before .if1 .left)) (c .before .before .put3 .ensures)
+returns-2 c =
+    let at-put3 = c .before .before in
+    let at-if1 = at-put3 .before .before in
+    let at-is-upper = at-if1 .before in
+    let start = at-is-upper .before .before in
+    rw (byte-other (start .args .b) (sym (at-is-upper .is-upper .ensures) ∙ at-if1 .if1 .left)) (at-put3 .put3 .ensures)
 
 pub put-snake-spec : {M : Type 1} → statement M
 put-snake-spec =

@@ -6,7 +6,7 @@ use native.Mathlib.Omega.{arith}
 use lib.ListN.{drop, length}
 use borrow.Author.Needs.{needs}
 use Rattle.easing.proofs.NameLaws.{rest-end, snake-first, rest-at, snake-nil}
-use Rattle.easing.specs.Names.{snakeRest}
+use Rattle.easing.specs.Names.{snakeRest, snake}
 use Rattle.text.proofs.WriteLaws.{puts-then, puts-none, puts-full}
 use Rattle.text.specs.Write.{Puts}
 use Rattle.easing.proofs.to_snake_case.Statement.{statement}
@@ -17,6 +17,16 @@ Inv-loop w out₀ n₀ i₀ out n i = (length out ≡ length out₀) × ((after 
 
 abbrev μ-loop : tie.MeasureT-loop
 μ-loop w out₀ n₀ i₀ out n i = length w - i
+
+-- what is written from the loop on is written from the start, behind the first byte
+whole : (at-loop : tie.At-loop Inv-loop μ-loop) →
+    let start = at-loop .before .before .before .before .before .before .before .before .before .before in
+    (after : List ℕ) (end : ℕ) → Puts (at-loop .loop .out) (at-loop .loop .n) (snakeRest (drop (at-loop .loop .i) (start .args .w .now))) after end → Puts (start .args .out .now) 0 (snake (start .args .w .now)) after end
+whole at-loop after end p =
+    let at-put = at-loop .before .before .before in
+    let at-lower = at-put .before in
+    let at-if = at-lower .before .before .before in
+    rw (snake-first _ (at-lower .lower .result) (at-if .if1 .left) (at-lower .lower .ensures)) (puts-then (at-put .put .ensures) (at-loop .loop .inv .1 after end p))
 
 returns : tie.Need-returns Inv-loop μ-loop
 returns c = rw (snake-nil (c .before .before .before .args .w .now) (c .if1 .taken)) (puts-none _ 0)
@@ -37,7 +47,7 @@ same-length : tie.Need-same-length Inv-loop μ-loop
 same-length c = c .before .before .loop .inv .0 ∙ c .before .before .before .before .before .put .kept .0
 
 returns-2 : tie.Need-returns-2 Inv-loop μ-loop
-returns-2 c = rw (snake-first (c .before .before .before .before .before .before .before .before .before .before .before .before .args .w .now) (c .before .before .before .before .before .before .lower .result) (c .before .before .before .before .before .before .before .before .before .if1 .left) (c .before .before .before .before .before .before .lower .ensures)) (puts-then (c .before .before .before .before .before .put .ensures) (c .before .before .loop .inv .1 _ _ (puts-full _ _ _ (c .if2 .taken))))
+returns-2 c = whole (c .before .before) _ _ (puts-full _ _ _ (c .if2 .taken))
 
 shared-slice-read-put-snake : tie.Need-shared-slice-read-put-snake Inv-loop μ-loop
 shared-slice-read-put-snake c = search needs
@@ -52,16 +62,22 @@ loop-less : tie.Need-loop-less Inv-loop μ-loop
 loop-less c = search needs
 
 loop-again : tie.Need-loop-again Inv-loop μ-loop
-loop-again c = (
-  c .before .before .put-snake .kept .0 ∙ c .before .before .before .before .before .before .before .loop .inv .0,
-  λ after end p. c .before .before .before .before .before .before .before .loop .inv .1 after end (rw (rest-at (c .before .before .before .before .before .before .before .before .before .before .before .before .before .before .before .before .before .args .w .now) (c .before .before .before .before .before .before .before .loop .i) (omega arith)) (puts-then (c .before .before .put-snake .ensures) p)),
-)
+loop-again c =
+    let at-put-snake = c .before .before in
+    let at-loop = at-put-snake .before .before .before .before .before in
+    let start = at-loop .before .before .before .before .before .before .before .before .before .before in (
+      at-put-snake .put-snake .kept .0 ∙ at-loop .loop .inv .0,
+      λ after end p. at-loop .loop .inv .1 after end (rw (rest-at (start .args .w .now) (at-loop .loop .i) (omega arith)) (puts-then (at-put-snake .put-snake .ensures) p)),
+    )
 
 same-length-2 : tie.Need-same-length-2 Inv-loop μ-loop
 same-length-2 c = c .before .loop .inv .0 ∙ c .before .before .before .before .put .kept .0
 
 returns-3 : tie.Need-returns-3 Inv-loop μ-loop
-returns-3 c = rw (snake-first (c .before .before .before .before .before .before .before .before .before .before .before .args .w .now) (c .before .before .before .before .before .lower .result) (c .before .before .before .before .before .before .before .before .if1 .left) (c .before .before .before .before .before .lower .ensures)) (puts-then (c .before .before .before .before .put .ensures) (c .before .loop .inv .1 _ _ (rw (rest-end (c .before .before .before .before .before .before .before .before .before .before .before .args .w .now) (c .before .loop .i) (omega arith)) (puts-none _ _))))
+returns-3 c =
+    let at-loop = c .before in
+    let start = at-loop .before .before .before .before .before .before .before .before .before .before in
+    whole at-loop _ _ (rw (rest-end (start .args .w .now) (at-loop .loop .i) (omega arith)) (puts-none _ _))
 
 pub to-snake-case-spec : {M : Type 1} → statement M
 to-snake-case-spec =

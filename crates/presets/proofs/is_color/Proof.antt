@@ -17,7 +17,12 @@ is-hex-color-requires : tie.Need-is-hex-color-requires
 is-hex-color-requires c κs = search needs
 
 returns : tie.Need-returns
-returns c = c .is-hex-color .ensures ∙ color-hex _ (c .before .before .before .before .before .before .args .s .now) (c .before .before .before .byte-at .result) (c .before .before .before .byte-at .ensures) _ (c .before .before .if1 .taken) (c .before .part .ensures)
+returns c =
+    let at-part = c .before in
+    let at-if1 = at-part .before in
+    let at-byte-at = at-if1 .before in
+    let start = at-byte-at .before .before .before in
+    c .is-hex-color .ensures ∙ color-hex _ (start .args .s .now) (at-byte-at .byte-at .result) (at-byte-at .byte-at .ensures) _ (at-if1 .if1 .taken) (at-part .part .ensures)
 
 slice-aggregate-lower-into : tie.Need-slice-aggregate-lower-into
 slice-aggregate-lower-into c = search needs
@@ -35,7 +40,12 @@ is-listed-requires : tie.Need-is-listed-requires
 is-listed-requires c κs = search needs
 
 returns-2 : tie.Need-returns-2
-returns-2 c = c .is-listed .ensures ∙ color-name _ (c .before .before .before .before .before .before .before .before .before .args .s .now) (c .before .before .before .before .before .before .byte-at .result) (c .before .before .before .before .before .before .byte-at .ensures) _ (c .before .before .before .before .before .if1 .left) (c .before .before .before .before .before .before .before .before .before .pre) (puts-front (c .before .before .before .lower-into .ensures))
+returns-2 c =
+    let at-lower-into = c .before .before .before in
+    let at-if1 = at-lower-into .before .before in
+    let at-byte-at = at-if1 .before in
+    let start = at-byte-at .before .before .before in
+    c .is-listed .ensures ∙ color-name _ (start .args .s .now) (at-byte-at .byte-at .result) (at-byte-at .byte-at .ensures) _ (at-if1 .if1 .left) (start .pre) (puts-front (at-lower-into .lower-into .ensures))
 
 pub is-color-spec : {M : Type 1} → statement M
 is-color-spec =

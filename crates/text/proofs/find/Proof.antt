@@ -36,8 +36,12 @@ is-word-requires c κs = search needs
 
 returns : tie.Need-returns Inv-loop μ-loop
 returns c =
-    let e = ap (same (c .before .before .before .before .before .before .before .before .args .word .now)) (sym (c .before .before .part .ensures)) ∙ sym (c .before .is-word .ensures) ∙ c .if1 .taken in
-    sym (c .before .before .before .before .before .loop .inv .1 ∙ table-here (c .before .before .before .before .before .before .before .before .args .names .now) (c .before .before .before .before .before .loop .at) (c .before .before .before .before .before .loop .i) (c .before .before .before .before .before .before .before .before .args .word .now) (omega arith) e)
+    let at-is-word = c .before in
+    let at-part = at-is-word .before in
+    let at-loop = at-part .before .before .before in
+    let start = at-loop .before .before .before in
+    let e = ap (same (start .args .word .now)) (sym (at-part .part .ensures)) ∙ sym (at-is-word .is-word .ensures) ∙ c .if1 .taken in
+    sym (at-loop .loop .inv .1 ∙ table-here (start .args .names .now) (at-loop .loop .at) (at-loop .loop .i) (start .args .word .now) (omega arith) e)
 
 add-at : tie.Need-add-at Inv-loop μ-loop
 add-at c = omega (arith, c .before .before .before .shared-slice-known3 .given (c .before .before .before .before .before .loop .at))
@@ -53,8 +57,12 @@ loop-less c = search needs
 
 loop-again : tie.Need-loop-again Inv-loop μ-loop
 loop-again c =
-    let e = ap (same (c .before .before .before .before .before .before .before .before .args .word .now)) (sym (c .before .before .part .ensures)) ∙ sym (c .before .is-word .ensures) ∙ c .if1 .left in
-    (omega arith, c .before .before .before .before .before .loop .inv .1 ∙ table-past (c .before .before .before .before .before .before .before .before .args .names .now) (c .before .before .before .before .before .loop .at) (c .before .before .before .before .before .loop .i) (c .before .before .before .before .before .before .before .before .args .word .now) (omega arith) e)
+    let at-is-word = c .before in
+    let at-part = at-is-word .before in
+    let at-loop = at-part .before .before .before in
+    let start = at-loop .before .before .before in
+    let e = ap (same (start .args .word .now)) (sym (at-part .part .ensures)) ∙ sym (at-is-word .is-word .ensures) ∙ c .if1 .left in
+    (omega arith, at-loop .loop .inv .1 ∙ table-past (start .args .names .now) (at-loop .loop .at) (at-loop .loop .i) (start .args .word .now) (omega arith) e)
 
 returns-2 : tie.Need-returns-2 Inv-loop μ-loop
 returns-2 c = sym (c .before .loop .inv .1 ∙ table-end (c .before .before .before .before .args .names .now) (c .before .loop .at) (c .before .loop .i) (c .before .before .before .before .args .word .now) (omega arith))

@@ -31,7 +31,10 @@ loop-less : tie.Need-loop-less Inv-loop μ-loop
 loop-less c = search needs
 
 loop-again : tie.Need-loop-again Inv-loop μ-loop
-loop-again c = (omega arith, c .before .before .before .loop .inv .1 ∙ has-no (c .before .before .before .before .args .set .now) (c .before .before .before .loop .i) (c .before .before .before .before .args .b) (omega arith) (c .if1 .left))
+loop-again c =
+    let at-loop = c .before .before .before in
+    let start = at-loop .before in
+    (omega arith, at-loop .loop .inv .1 ∙ has-no (start .args .set .now) (at-loop .loop .i) (start .args .b) (omega arith) (c .if1 .left))
 
 returns-2 : tie.Need-returns-2 Inv-loop μ-loop
 returns-2 c = sym (c .before .loop .inv .1 ∙ has-end (c .before .before .args .set .now) (c .before .loop .i) (c .before .before .args .b) (omega arith))

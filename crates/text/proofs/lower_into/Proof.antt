@@ -43,10 +43,12 @@ loop-less : tie.Need-loop-less Inv-loop μ-loop
 loop-less c = search needs
 
 loop-again : tie.Need-loop-again Inv-loop μ-loop
-loop-again c = (
-  (simp length-set) ∙ c .before .before .before .before .loop .inv .0,
-  λ after end p. c .before .before .before .before .loop .inv .1 after end (rw (lowered-at (c .before .before .before .before .before .before .before .args .w .now) (c .before .before .before .before .loop .n) (omega arith)) (puts-then (puts-one _ _ _ (omega arith)) (rw (sym (c .lower .ensures)) p))),
-)
+loop-again c =
+    let at-loop = c .before .before .before .before in
+    let start = at-loop .before .before .before in (
+      (simp length-set) ∙ at-loop .loop .inv .0,
+      λ after end p. at-loop .loop .inv .1 after end (rw (lowered-at (start .args .w .now) (at-loop .loop .n) (omega arith)) (puts-then (puts-one _ _ _ (omega arith)) (rw (sym (c .lower .ensures)) p))),
+    )
 
 same-length-2 : tie.Need-same-length-2 Inv-loop μ-loop
 same-length-2 c = c .before .loop .inv .0
