@@ -71,7 +71,7 @@ pub percent-error : (s : Bool) (n k : ℕ) → n ≤ 16777216 → k ≤ 34 → n
 percent-error s n k N K h = rw (percent-once s n N) (round-error s n 100 k (lit< tt) K h)
 
 -- ---- a key
-den-pos : (t : Key) → 0 < writtenTime t .den
+pub den-pos : (t : Key) → 0 < writtenTime t .den
 den-pos t = go (t .percent)
   where
     go : (b : Bool) → 0 < cond b 100 (10 ^ t .written .places)

@@ -35,7 +35,7 @@ fn ten_to(places: usize) -> u64
 
 // The nearest whole number to a / b, a tie to the even one.
 fn quotient(a: u64, b: u64) -> u64
-    requires { ⌜ (0 < b) × (b ≤ 4611686018427387904) × (a / b < 16777216) ⌝ }
+    requires { ⌜ (0 < b) × (b ≤ 2 ^ 62) × (a / b < 2 ^ 24) ⌝ }
     ensures { λ r. ⌜ r ≡ closest a b ⌝ }
 {
     let q = a / b;
@@ -52,8 +52,8 @@ fn quotient(a: u64, b: u64) -> u64
 // The bits of the nearest whole number to a / b, which has 24 binary digits, times 2^(k - 149). Its highest digit adds
 // one to the exponent's field, and where it is 2^24 one more.
 fn packed(a: u64, b: u64, k: u32) -> u32
-    requires { ⌜ (0 < b) × (b ≤ 4611686018427387904) × (a / b < 16777216) × (k ≤ 253) ⌝ }
-    ensures { λ r. ⌜ r ≡ k * 8388608 + closest a b ⌝ }
+    requires { ⌜ (0 < b) × (b ≤ 2 ^ 62) × (a / b < 2 ^ 24) × (k ≤ 253) ⌝ }
+    ensures { λ r. ⌜ r ≡ k * 2 ^ 23 + closest a b ⌝ }
 {
     let q = quotient(a, b);
     k * 8388608 + q as u32
@@ -62,7 +62,7 @@ fn packed(a: u64, b: u64, k: u32) -> u32
 // The bits of the f32 that is nearest to n / d, a tie to the even one. Both are moved up by their leading zeros, n to 64
 // binary digits and d to 40, so that the quotient has 24 digits, or 25: then d is doubled.
 fn nearest_bits(n: u64, d: u64) -> u32
-    requires { ⌜ (0 < d) × (d ≤ 1000000000) ⌝ }
+    requires { ⌜ (0 < d) × (d ≤ 10 ^ 9) ⌝ }
     ensures { λ r. ⌜ r ≡ bits (Ieee.round binary32 false n d) ⌝ }
 {
     if n == 0 {
