@@ -22,7 +22,7 @@ use Rattle.number.proofs.Hundredth.{percent-once}
 -- ---- one fraction ±n / d of size at most 2 ^ k, and its f32
 
 -- x is within 2 ^ (k - 25) of w
-abbrev Off : ℕ → Exact → Float → Type 0
+abbrev pub Off : ℕ → Exact → Float → Type 0
 Off k w x = (y : Exact) × (exactOf x ≡ some y) × (apart y w * 2 ^ 25 ≤ 2 ^ k * dens y w)
 
 same-sign : (s : Bool) (a b : ℕ) → gap s a s b ≡ (a - b) + (b - a)
@@ -71,7 +71,7 @@ pub percent-error : (s : Bool) (n k : ℕ) → n ≤ 16777216 → k ≤ 34 → n
 percent-error s n k N K h = rw (percent-once s n N) (round-error s n 100 k (lit< tt) K h)
 
 -- ---- a key
-den-pos : (t : Key) → 0 < writtenTime t .den
+pub den-pos : (t : Key) → 0 < writtenTime t .den
 den-pos t = go (t .percent)
   where
     go : (b : Bool) → 0 < cond b 100 (10 ^ t .written .places)

@@ -17,8 +17,8 @@ pub record Key : Type 0 where
   pub written : Written
 
 -- 01, "For demand 3": "An entry's written time is its key's number in the text, sign included, `s` left off, a percent n being n/100"
+-- A percent is a whole number: n is its digits, here and in `storedTime`, and `places` counts for seconds alone.
 abbrev pub writtenTime : Key → Exact
--- (a percent is whole: its digits are n, and it has no places)
 writtenTime k = record { negative = k .negative; num = k .written .digits; den = cond (k .percent) 100 (10 ^ k .written .places) }
 
 -- the f32 that is stored for it

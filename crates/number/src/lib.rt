@@ -11,14 +11,7 @@ ghost use Rattle.number.specs.Number.{Written, bits, f32};
 ghost use Rattle.number.specs.Time.{near};
 ghost use Rattle.number.specs.Answer.{valueOf};
 
-// 10 to the power of `places`.
-fn ten_to(places: usize) -> u64
-    requires { ⌜ places ≤ 9 ⌝ }
-    ensures { λ r. ⌜ r ≡ 10 ^ places ⌝ }
-{
-    POWERS[places]
-}
-
+// The powers of 10 that fit 30 binary digits.
 const POWERS: [u64; 10] = [
     1,
     10,
@@ -32,9 +25,17 @@ const POWERS: [u64; 10] = [
     1000000000,
 ];
 
+// 10 to the power of `places`.
+fn ten_to(places: usize) -> u64
+    requires { ⌜ places ≤ 9 ⌝ }
+    ensures { λ r. ⌜ r ≡ 10 ^ places ⌝ }
+{
+    POWERS[places]
+}
+
 // The nearest whole number to a / b, a tie to the even one.
 fn quotient(a: u64, b: u64) -> u64
-    requires { ⌜ (0 < b) × (b ≤ 4611686018427387904) × (a / b < 16777216) ⌝ }
+    requires { ⌜ (0 < b) × (b ≤ 2 ^ 62) × (a / b < 2 ^ 24) ⌝ }
     ensures { λ r. ⌜ r ≡ closest a b ⌝ }
 {
     let q = a / b;
@@ -48,10 +49,11 @@ fn quotient(a: u64, b: u64) -> u64
     }
 }
 
-// The exponent's field, with the nearest whole number to a / b added: where that is 2^24 the field is one more.
+// The bits of the nearest whole number to a / b, which has 24 binary digits, times 2^(k - 149). Its highest digit adds
+// one to the exponent's field, and where it is 2^24 one more.
 fn packed(a: u64, b: u64, k: u32) -> u32
-    requires { ⌜ (0 < b) × (b ≤ 4611686018427387904) × (a / b < 16777216) × (k ≤ 253) ⌝ }
-    ensures { λ r. ⌜ r ≡ k * 8388608 + closest a b ⌝ }
+    requires { ⌜ (0 < b) × (b ≤ 2 ^ 62) × (a / b < 2 ^ 24) × (k ≤ 253) ⌝ }
+    ensures { λ r. ⌜ r ≡ k * 2 ^ 23 + closest a b ⌝ }
 {
     let q = quotient(a, b);
     k * 8388608 + q as u32
@@ -60,7 +62,7 @@ fn packed(a: u64, b: u64, k: u32) -> u32
 // The bits of the f32 that is nearest to n / d, a tie to the even one. Both are moved up by their leading zeros, n to 64
 // binary digits and d to 40, so that the quotient has 24 digits, or 25: then d is doubled.
 fn nearest_bits(n: u64, d: u64) -> u32
-    requires { ⌜ (0 < d) × (d ≤ 1000000000) ⌝ }
+    requires { ⌜ (0 < d) × (d ≤ 10 ^ 9) ⌝ }
     ensures { λ r. ⌜ r ≡ bits (Ieee.round binary32 false n d) ⌝ }
 {
     if n == 0 {
@@ -78,7 +80,7 @@ fn nearest_bits(n: u64, d: u64) -> u32
     }
 }
 
-// The bits of `decimal` of the same.
+// The bits of what `decimal` gives. For our own crates: the reader refuses more than 9 places.
 pub fn decimal_bits(negative: bool, digits: u64, places: usize) -> u32
     requires { ⌜ places ≤ 9 ⌝ }
     ensures { λ r. ⌜ r ≡ bits (Ieee.round binary32 negative digits (10 ^ places)) ⌝ }
@@ -88,7 +90,8 @@ pub fn decimal_bits(negative: bool, digits: u64, places: usize) -> u32
     if negative { b + 2147483648 } else { b }
 }
 
-// The f32 that is nearest to digits / 10^places, a tie to the even one, negative where `negative` says so; -0 has its sign.
+// The f32 that is nearest to digits / 10^places, a tie to the even one, negative where `negative` says so; -0 has its
+// sign. For our own crates: the reader refuses more than 9 places.
 pub fn decimal(negative: bool, digits: u64, places: usize) -> f32
     requires { ⌜ places ≤ 9 ⌝ }
     ensures { λ r. ⌜ r ≡ Ieee.round binary32 negative digits (10 ^ places) ⌝ }
@@ -107,7 +110,7 @@ pub fn f32_of_bits(b: u32) -> f32
     }
 }
 
-// The bit pattern of an f32 that is no NaN.
+// The bit pattern of an f32 that is no NaN. For our own crates: no number is stored as one (proofs/Floats.antt).
 pub fn bits_of(x: f32) -> u32
     requires { ⌜ T (not (Ieee.isNan x)) ⌝ }
     ensures { λ r. ⌜ r ≡ bits x ⌝ }
