@@ -1,5 +1,1 @@
-pub mod Rule
-pub mod Fields
-pub mod Values
-pub mod Grammar
 pub mod Reading

@@ -9,7 +9,7 @@ use Rattle.number.specs.Number.{f32}
 use Rattle.number.specs.Time.{Key, FairPercent, AtMost, Within, Far, Equal, Close, Each, Pairs}
 use Rattle.ast.specs.Tree.{Nodes, KeyframeTime, KeyframeEntry, KeyframeSpec, keyframes, mapTimes, records, preorder}
 use Rattle.sheet.specs.Sheet.{encode, decode}
-use Rattle.parser.specs.Grammar.{stored}
+use Rattle.grammar.specs.Grammar.{stored}
 use Rattle.parser.specs.Reading.{parse, tree, reading}
 use Rattle.validate.specs.Rules.{timeOf}
 use Rattle.validate.specs.Checking.{judged, checking}

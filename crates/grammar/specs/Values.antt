@@ -28,8 +28,8 @@ use Rattle.ast.specs.Tree.{
   pingPong,
   pingPongTimes,
 }
-use Rattle.parser.specs.Fields.{Table, row, aNumber, pairs, numberOf}
-use Rattle.parser.specs.Rule.{Rule, _>>=_, _>>_, give, refuse, need, if, sees, seesTwo, seesWord, seesNumber, seesWhole, skip, the, both, word, text, choice, signed, inside, list}
+use Rattle.grammar.specs.Fields.{Content, aNumber, aTruth, anEasing, aLoopMode, aValue, Table, pairs, numberOf}
+use Rattle.grammar.specs.Rule.{Rule, _>>=_, _>>_, give, refuse, need, if, sees, seesTwo, seesWord, seesNumber, seesWhole, skip, the, both, word, text, choice, signed, inside, list}
 use Rattle.error.specs.declared.Refusal.the-variants.{Missing, Malformed, UnknownKeyword}
 
 -- a name as its place
@@ -88,6 +88,22 @@ parseValue = if (sees "[") (do
     x ← parseFloat
     give (scalar x))
 
+-- ---- fields of these
+
+-- an f32
+unfoldable pub number : Rule Content
+number = parseFloat >>= λ n. give (aNumber n)
+
+-- a u32
+unfoldable pub count : Rule Content
+count = parseUint >>= λ n. give (aNumber n)
+
+unfoldable pub flag : Rule Content
+flag = truth >>= λ b. give (aTruth b)
+
+unfoldable pub value : Rule Content
+value = parseValue >>= λ v. give (aValue v)
+
 -- the f32 of a small fraction
 unfoldable pub f32Of : ℕ → ℕ → ℕ
 f32Of n d = bits (round binary32 false n d)
@@ -105,7 +121,7 @@ bezierCurve = inside "(" (do
   give (cubicBezier x1 y1 x2 y2))
 
 unfoldable pub roughFields : Table
-roughFields = row "strength" parseFloat aNumber ∷ row "points" parseUint aNumber ∷ []
+roughFields = ("strength", number) ∷ ("points", count) ∷ []
 
 -- `rough(strength: s, points: n)`
 unfoldable pub roughCurve : Rule EasingSpec
@@ -114,7 +130,7 @@ roughCurve = do
   give (rough (default (numberOf "strength" fs) (f32Of 1 2)) (default (numberOf "points" fs) 8))
 
 unfoldable pub slowMoFields : Table
-slowMoFields = row "linear_ratio" parseFloat aNumber ∷ row "power" parseFloat aNumber ∷ []
+slowMoFields = ("linear_ratio", number) ∷ ("power", number) ∷ []
 
 -- `slowmo(linear_ratio: r, power: p)`
 unfoldable pub slowMoCurve : Rule EasingSpec
@@ -156,3 +172,9 @@ parseLoopMode = do
   w ← word
   p ← need Malformed (under loopModes (w .1))
   p
+
+unfoldable pub easing : Rule Content
+easing = parseEasing >>= λ e. give (anEasing e)
+
+unfoldable pub loopMode : Rule Content
+loopMode = parseLoopMode >>= λ m. give (aLoopMode m)

@@ -6,10 +6,10 @@ use mathlib.Core.List.{List, [], _∷_}
 use mathlib.Core.Option.{Option, none, some}
 use lib.Dec.{eqb}
 use Rattle.text.specs.Bytes.{bytes, same, oneOf}
-use Rattle.text.specs.Words.{under, orElse}
+use Rattle.text.specs.Words.{orElse}
 use Rattle.token.specs.Token.{Kind, name, number, quoted, mark, kind}
 use Rattle.ast.specs.Tree.{ValueExpr, EasingSpec, LoopSpec, DampingMode}
-use Rattle.parser.specs.Rule.{Rule, Next, more, done, _>>=_, _>>_, give, need, if, seesWord, skip, the, word, repeat, list}
+use Rattle.grammar.specs.Rule.{Rule, Next, more, done, _>>=_, _>>_, give, need, if, seesWord, skip, the, word, repeat, list}
 use Rattle.error.specs.declared.Refusal.the-variants.{UnknownKeyword}
 
 -- what a field holds: one of these
@@ -53,18 +53,21 @@ Fields = List Entry
 
 -- the fields that a list may have: for each its name, and the rule for what follows its `:`
 abbrev pub Table : Type 0
-Table = List (String × Rule Entry)
+Table = List (String × Rule Content)
 
-abbrev pub row : {A : Type 0} → String → Rule A → (A → Content) → String × Rule Entry
-row n p content = (n, p >>= λ a. give (bytes n, content a))
+-- the row of a table under a name
+unfoldable pub rowOf : Table → List ℕ → Option (String × Rule Content)
+rowOf [] w = none
+rowOf (f ∷ fs) w = elim (same w (bytes (f .0))) [ true ↦ some f | false ↦ rowOf fs w ]
 
 -- a field: its name, `:`, and what its row of the table says
 unfoldable pub entry : Rule (List ℕ) → Table → Rule Entry
 entry fieldName table = do
   w ← fieldName
   the ":"
-  p ← need UnknownKeyword (under table w)
-  p
+  f ← need UnknownKeyword (rowOf table w)
+  c ← f .1
+  give (bytes (f .0), c)
 
 -- ---- fields in parentheses
 

@@ -4,7 +4,8 @@ use Prim.Native.String.{String}
 use mathlib.Core.Bool.{Bool, true, false, _&&_, _||_, not, cond}
 use mathlib.Core.List.{List, [], _∷_, _++_}
 use mathlib.Core.Option.{Option, none, some}
-use Rattle.text.specs.Words.{under, default}
+use Rattle.text.specs.Words.{default}
+use Rattle.text.specs.Words as words
 use Rattle.number.specs.Number.{Written, nearest, bits}
 use Rattle.number.specs.Time.{Key, storedTime}
 use Rattle.ast.specs.Tree.{
@@ -35,18 +36,18 @@ use Rattle.ast.specs.Tree.{
   push,
   append,
 }
-use Rattle.parser.specs.Fields.{Table, row, aNumber, aTruth, anEasing, aLoopMode, aValue, aDamping, aRange, pairs, parseFieldList, numberOf, truthOf, easingOf, loopModeOf, valueOf, dampingOf, rangeOf, ever}
-use Rattle.parser.specs.Values.{ident, string, truth, parseFloat, parseUint, parseFloatInParens, parseTwoFloatsInParens, parseValue, f32Of, parseEasing, parseLoopMode}
-use Rattle.parser.specs.Rule.{Rule, _>>=_, _>>_, give, refuse, need, if, sees, seesWord, seesName, seesNumber, ends, skip, the, both, eat, word, choice, signed, inside, repeat, Next, more, done, goOn}
+use Rattle.grammar.specs.Fields.{Content, aNumber, aDamping, aRange, Table, pairs, parseFieldList, numberOf, truthOf, easingOf, loopModeOf, valueOf, dampingOf, rangeOf, ever}
+use Rattle.grammar.specs.Values.{ident, string, parseFloat, parseUint, parseFloatInParens, parseTwoFloatsInParens, parseValue, f32Of, parseEasing, parseLoopMode, number, count, flag, value, easing, loopMode}
+use Rattle.grammar.specs.Rule.{Rule, _>>=_, _>>_, give, refuse, need, if, sees, seesWord, seesName, seesNumber, ends, skip, the, both, eat, word, choice, signed, inside, repeat, Next, more, done, goOn}
 use Rattle.error.specs.declared.Refusal.the-variants.{Missing, UnknownKeyword, Malformed, UnknownSpringPreset, MissingDuration, StaggerGridIncomplete, TooManyNested}
 
 -- ---- tween
 
 unfoldable pub tweenFields : Table
 tweenFields =
-    row "duration" parseFloat aNumber ∷ row "easing" parseEasing anEasing ∷ row "delay" parseFloat aNumber
-    ∷ row "time_scale" parseFloat aNumber ∷ row "loop" parseLoopMode aLoopMode ∷ row "snap" parseFloat aNumber
-    ∷ row "round" parseUint aNumber ∷ row "reverse" truth aTruth ∷ []
+    ("duration", number) ∷ ("easing", easing) ∷ ("delay", number)
+    ∷ ("time_scale", number) ∷ ("loop", loopMode) ∷ ("snap", number)
+    ∷ ("round", count) ∷ ("reverse", flag) ∷ []
 
 -- parse_tween
 unfoldable pub parseTween : Rule (Leaf Key)
@@ -78,16 +79,28 @@ parseTween = do
 unfoldable pub parseSpringPreset : Rule ℕ
 parseSpringPreset = choice UnknownSpringPreset ("gentle" ∷ "wobbly" ∷ "stiff" ∷ "slow" ∷ "snappy" ∷ [])
 
-unfoldable pub integrator : Rule ℕ
-integrator = choice Malformed ("semi_implicit_euler" ∷ "rk4" ∷ [])
+unfoldable pub springPreset : Rule Content
+springPreset = parseSpringPreset >>= λ k. give (aNumber k)
+
+unfoldable pub integrator : Rule Content
+integrator = choice Malformed ("semi_implicit_euler" ∷ "rk4" ∷ []) >>= λ k. give (aNumber k)
+
+unfoldable pub critical : Rule Content
+critical = parseFloatInParens >>= λ s. give (aDamping (criticallyDamped s))
+
+unfoldable pub over : Rule Content
+over = parseTwoFloatsInParens >>= λ p. give (aDamping (overdamped (p .0) (p .1)))
+
+unfoldable pub under : Rule Content
+under = parseTwoFloatsInParens >>= λ p. give (aDamping (underdamped (p .0) (p .1)))
 
 unfoldable pub springFields : Table
 springFields =
-    row "preset" parseSpringPreset aNumber ∷ row "stiffness" parseFloat aNumber ∷ row "damping" parseFloat aNumber
-    ∷ row "mass" parseFloat aNumber ∷ row "velocity" parseValue aValue ∷ row "epsilon" parseFloat aNumber
-    ∷ row "integrator" integrator aNumber ∷ row "critically_damped" parseFloatInParens (λ s. aDamping (criticallyDamped s))
-    ∷ row "overdamped" parseTwoFloatsInParens (λ p. aDamping (overdamped (p .0) (p .1)))
-    ∷ row "underdamped" parseTwoFloatsInParens (λ p. aDamping (underdamped (p .0) (p .1))) ∷ []
+    ("preset", springPreset) ∷ ("stiffness", number) ∷ ("damping", number)
+    ∷ ("mass", number) ∷ ("velocity", value) ∷ ("epsilon", number)
+    ∷ ("integrator", integrator) ∷ ("critically_damped", critical)
+    ∷ ("overdamped", over)
+    ∷ ("underdamped", under) ∷ []
 
 -- parse_spring
 unfoldable pub parseSpring : Rule (Leaf Key)
@@ -188,8 +201,11 @@ parseGridOrigin =
     choice Malformed (
     "top_left" ∷ "top_right" ∷ "bottom_left" ∷ "bottom_right" ∷ "center" ∷ "top" ∷ "bottom" ∷ "left" ∷ "right" ∷ [])
 
+unfoldable pub origin : Rule Content
+origin = parseGridOrigin >>= λ k. give (aNumber k)
+
 unfoldable pub gridFields : Table
-gridFields = row "cols" parseUint aNumber ∷ row "rows" parseUint aNumber ∷ row "origin" parseGridOrigin aNumber ∷ []
+gridFields = ("cols", count) ∷ ("rows", count) ∷ ("origin", origin) ∷ []
 
 -- `grid(..)`: a missing count is refused inside the parentheses
 unfoldable pub gridPattern : Rule StaggerPatternSpec
@@ -200,7 +216,7 @@ gridPattern = inside "(" (do
   give (grid cols rows (default (numberOf "origin" fs) 4)))
 
 unfoldable pub randomFields : Table
-randomFields = row "seed" parseUint aNumber ∷ row "min" parseFloat aNumber ∷ row "max" parseFloat aNumber ∷ []
+randomFields = ("seed", count) ∷ ("min", number) ∷ ("max", number) ∷ []
 
 -- `random(..)`
 unfoldable pub randomPattern : Rule StaggerPatternSpec
@@ -215,7 +231,7 @@ patterns = ("grid", gridPattern) ∷ ("random", randomPattern) ∷ ("center_out"
 unfoldable pub parseStaggerPattern : Rule StaggerPatternSpec
 parseStaggerPattern = do
   w ← word
-  p ← need Malformed (under patterns (w .1))
+  p ← need Malformed (words.under patterns (w .1))
   p
 
 -- the pattern and the delay so far
@@ -229,7 +245,7 @@ openingFields s =
 unfoldable pub openingField : Opening → Rule (Next Opening)
 openingField s = do
   w ← word
-  p ← need UnknownKeyword (under (openingFields s) (w .1))
+  p ← need UnknownKeyword (words.under (openingFields s) (w .1))
   s′ ← p
   c ← eat ","
   give (goOn c s′)
@@ -246,17 +262,17 @@ parseStagger = do
 -- ---- path, morph, draw
 
 -- `start..end`
-unfoldable pub offsetRange : Rule (ℕ × ℕ)
-offsetRange = do
+unfoldable pub offset : Rule Content
+offset = do
   start ← parseFloat
   both "." "."
   end ← parseFloat
-  give (start, end)
+  give (aRange (start, end))
 
 unfoldable pub pathFields : Table
 pathFields =
-    row "duration" parseFloat aNumber ∷ row "easing" parseEasing anEasing ∷ row "auto_rotate" truth aTruth
-    ∷ row "offset" offsetRange aRange ∷ row "loop" parseLoopMode aLoopMode ∷ []
+    ("duration", number) ∷ ("easing", easing) ∷ ("auto_rotate", flag)
+    ∷ ("offset", offset) ∷ ("loop", loopMode) ∷ []
 
 -- parse_path
 unfoldable pub parsePath : Rule (Leaf Key)
@@ -277,7 +293,7 @@ parsePath = do
   }))
 
 unfoldable pub morphFields : Table
-morphFields = row "samples" parseUint aNumber ∷ row "duration" parseFloat aNumber ∷ row "easing" parseEasing anEasing ∷ []
+morphFields = ("samples", count) ∷ ("duration", number) ∷ ("easing", easing) ∷ []
 
 -- parse_morph
 unfoldable pub parseMorph : Rule (Leaf Key)
@@ -297,7 +313,7 @@ parseMorph = do
 
 -- the fields of draw, and of preset
 unfoldable pub drawFields : Table
-drawFields = row "duration" parseFloat aNumber ∷ row "easing" parseEasing anEasing ∷ []
+drawFields = ("duration", number) ∷ ("easing", easing) ∷ []
 
 -- parse_draw
 unfoldable pub parseDraw : Rule (Leaf Key)
@@ -309,11 +325,11 @@ parseDraw = do
 
 -- ---- color
 
-unfoldable pub colorSpace : Rule ℕ
-colorSpace = choice Malformed ("linear" ∷ "lab" ∷ "oklch" ∷ [])
+unfoldable pub space : Rule Content
+space = choice Malformed ("linear" ∷ "lab" ∷ "oklch" ∷ []) >>= λ k. give (aNumber k)
 
 unfoldable pub colorFields : Table
-colorFields = row "duration" parseFloat aNumber ∷ row "space" colorSpace aNumber ∷ row "easing" parseEasing anEasing ∷ []
+colorFields = ("duration", number) ∷ ("space", space) ∷ ("easing", easing) ∷ []
 
 -- parse_color
 unfoldable pub parseColor : Rule (Leaf Key)
@@ -341,9 +357,9 @@ waveformKind = choice Malformed ("sine" ∷ "sawtooth" ∷ "square" ∷ "triangl
 
 unfoldable pub waveformFields : Table
 waveformFields =
-    row "frequency" parseFloat aNumber ∷ row "amplitude" parseFloat aNumber ∷ row "phase" parseFloat aNumber
-    ∷ row "duty_cycle" parseFloat aNumber ∷ row "seed" parseUint aNumber ∷ row "smoothness" parseFloat aNumber
-    ∷ row "duration" parseFloat aNumber ∷ []
+    ("frequency", number) ∷ ("amplitude", number) ∷ ("phase", number)
+    ∷ ("duty_cycle", number) ∷ ("seed", count) ∷ ("smoothness", number)
+    ∷ ("duration", number) ∷ []
 
 -- parse_waveform
 unfoldable pub parseWaveform : Rule (Leaf Key)
@@ -410,7 +426,7 @@ orContainer none (some p) = aContainer p
 orContainer none none = unknown
 
 unfoldable pub beginning : List ℕ → Begins
-beginning w = orContainer (under leaves w) (under containers w)
+beginning w = orContainer (words.under leaves w) (words.under containers w)
 
 -- `block` is the rule for a container's block
 abbrev pub nodeBy : Rule (Nodes Key) → Begins → Rule (MotionNode Key)

@@ -1,0 +1,4 @@
+pub mod Rule
+pub mod Fields
+pub mod Values
+pub mod Grammar

@@ -1,0 +1,1 @@
+// The grammar: parser.rs as rules.
