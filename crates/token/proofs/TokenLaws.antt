@@ -22,12 +22,15 @@ rest-of s i = ap (λ (n : ℕ). take n (drop i s)) (sym (length-drop i s)) ∙ t
 
 -- ---- the token at the front
 
--- bytes that belong to a token before are passed over
-cut-skip : (k p : ℕ) (l : List ℕ) → k ≤ length l → cut k p l ≡ cut 0 (p + k) (drop k l)
+-- what passes over the bytes of a token before one at a time passes over them all
+pub skips : {A : Type 0} (f : ℕ → ℕ → List ℕ → A) → ((k p b : ℕ) (bs : List ℕ) → f (suc k) p (b ∷ bs) ≡ f k (suc p) bs) → (k p : ℕ) (l : List ℕ) → k ≤ length l → f k p l ≡ f 0 (p + k) (drop k l)
+skips f h zero p l g = rw (add-zero p)
+skips f h (suc k) p [] g = absurd (omega arith)
+skips f h (suc k) p (b ∷ bs) g = h k p b bs ∙ skips f h k (suc p) bs (omega arith) ∙ ap (λ (n : ℕ). f 0 n (drop k bs)) (omega arith)
+
+cut-skip : (k p b : ℕ) (bs : List ℕ) → cut (suc k) p (b ∷ bs) ≡ cut k (suc p) bs
 unfolding cut
-cut-skip zero p l h = rw (add-zero p)
-cut-skip (suc k) p [] h = absurd (omega arith)
-cut-skip (suc k) p (b ∷ bs) h = cut-skip k (suc p) bs (omega arith) ∙ ap (λ (n : ℕ). cut 0 n (drop k bs)) (omega arith)
+cut-skip k p b bs = refl
 
 cut-blank : (p b : ℕ) (bs : List ℕ) → isBlank b ≡ true → cut 0 p (b ∷ bs) ≡ cut 0 (suc p) bs
 unfolding cut
@@ -57,7 +60,7 @@ cut-piece p n k [] h e q z m = absurd (omega arith)
 cut-piece p n k (b ∷ l) h e q z m =
     let s : suc (n - 1) ≡ n = omega arith in
     let a : suc p + (n - 1) ≡ p + n = omega arith in
-    rw (e, q) (ap (λ (ts : List Token). token p k ∷ ts) (cut-skip (n - 1) (suc p) l (omega arith) ∙ (rw a (ap (λ (m : ℕ). cut 0 (p + n) (drop m (b ∷ l))) s))))
+    rw (e, q) (ap (λ (ts : List Token). token p k ∷ ts) (skips cut cut-skip (n - 1) (suc p) l (omega arith) ∙ (rw a (ap (λ (m : ℕ). cut 0 (p + n) (drop m (b ∷ l))) s))))
 
 -- ---- Lexes
 

@@ -3,10 +3,11 @@ ghost use mathlib.Core.Path.{_≡_};
 ghost use mathlib.Core.Bool.{true, not, _||_};
 ghost use mathlib.Core.List.{List};
 ghost use Prim.Native.Nat.{ℕ, suc, _+_, _-_, _^_, _≤_, _<_};
-ghost use lib.ListN.{length, drop};
+ghost use lib.ListN.{length, drop, replicate};
 ghost use Rattle.text.specs.Bytes.{at, run, part, among, decimal, isDigit, isLetter};
 ghost use Rattle.token.specs.Token.{nameAt, pointAt, pastFraction, suffixAt, pastSuffix, clings, placesOf, numberAt, quotedAt, lexeme};
-ghost use Rattle.token.specs.Means.{Fraction, CutMeans, endAt, Lexes};
+ghost use Rattle.token.specs.Split.{closer, closed, nestMark, nest, ended, split};
+ghost use Rattle.token.specs.Means.{kindOf, Fraction, CutMeans, endAt, Lexes, held, opened, DepthMeans, answerOf, answerFrom, TurnMeans, outcome, splitting};
 use error::Refusal;
 use text::Class;
 
@@ -250,4 +251,169 @@ pub fn token(text: &[u8], at: usize) -> Lexed
             next: start + n,
         },
     }
+}
+
+// ---- the pass over a whole text, with the awaited closers in the first words of the scratch, the innermost last
+
+// What a token makes of the delimiters: they do not fit, or so many are open then.
+pub enum Depth {
+    Unfit(Refusal),
+    Open(usize),
+}
+
+// Whether the text rules allow a text.
+pub enum SplitAnswer {
+    Accepted,
+    Refused { refusal: Refusal, place: usize },
+}
+
+// A step of the pass: it is over, or goes on from a place with so many delimiters open.
+pub enum Turn {
+    Over(SplitAnswer),
+    On(usize, usize),
+}
+
+fn wide(b: u8) -> u16
+    ensures { λ r. ⌜ r ≡ b ⌝ }
+{
+    b as u16
+}
+
+// The closer that goes with an opener.
+fn closer(b: u8) -> u16
+    ensures { λ r. ⌜ r ≡ closer b ⌝ }
+{
+    if b == b'(' {
+        return 41;
+    }
+    wide(b) + 2
+}
+
+fn take_opener(b: u8, words: &mut [u16], depth: usize) -> Depth
+    requires { ⌜ (64 ≤ length (now words)) × (depth ≤ 64) ⌝ }
+    ensures { λ r. ⌜ DepthMeans (opened b (held (now (words .entry)) depth)) (now (words .exit)) r ⌝ }
+{
+    if depth < 64 {
+        words[depth] = closer(b);
+        return Depth::Open(depth + 1);
+    }
+    Depth::Unfit(Refusal::TooManyOpen)
+}
+
+fn take_closer(b: u8, words: &[u16], depth: usize) -> Depth
+    requires { ⌜ (64 ≤ length (now words)) × (depth ≤ 64) ⌝ }
+    ensures { λ r. ⌜ DepthMeans (closed b (held (now (words .entry)) depth)) (now (words .entry)) r ⌝ }
+{
+    if depth == 0 {
+        return Depth::Unfit(Refusal::Unbalanced);
+    }
+    let last = depth - 1;
+    if words[last] == wide(b) {
+        return Depth::Open(last);
+    }
+    Depth::Unfit(Refusal::Unbalanced)
+}
+
+fn nest_mark(b: u8, words: &mut [u16], depth: usize) -> Depth
+    requires { ⌜ (64 ≤ length (now words)) × (depth ≤ 64) ⌝ }
+    ensures { λ r. ⌜ DepthMeans (nestMark b (held (now (words .entry)) depth)) (now (words .exit)) r ⌝ }
+{
+    if text::has(b"([{", b) {
+        return take_opener(b, words, depth);
+    }
+    if text::has(b")]}", b) {
+        return take_closer(b, words, depth);
+    }
+    Depth::Open(depth)
+}
+
+// What a token makes of the delimiters.
+fn nest(k: Tok, words: &mut [u16], depth: usize) -> Depth
+    requires { ⌜ (64 ≤ length (now words)) × (depth ≤ 64) ⌝ }
+    ensures { λ r. ⌜ ((t : List ℕ) → DepthMeans (nest (kindOf t k) (held (now (words .entry)) depth)) (now (words .exit)) r) ⌝ }
+{
+    match k {
+        Tok::Mark(b) => nest_mark(b, words, depth),
+        Tok::Name(_) => Depth::Open(depth),
+        Tok::Num(_) => Depth::Open(depth),
+        Tok::Quoted(_) => Depth::Open(depth),
+    }
+}
+
+// The answer at the end of the text.
+fn ended(place: usize, depth: usize) -> SplitAnswer
+    ensures { λ r. ⌜ ((s : List ℕ) → r ≡ answerOf (ended place (held s depth))) ⌝ }
+{
+    if depth == 0 {
+        return SplitAnswer::Accepted;
+    }
+    SplitAnswer::Refused {
+        refusal: Refusal::Unbalanced,
+        place: place,
+    }
+}
+
+fn step(text: &[u8], at: usize, words: &mut [u16], depth: usize) -> Turn
+    requires { ⌜ (at ≤ length (now text)) × (64 ≤ length (now words)) × (depth ≤ 64) ⌝ }
+    ensures { λ r. ⌜ TurnMeans (now (text .entry)) at (answerFrom (now (text .entry)) at (held (now (words .entry)) depth)) (now (words .exit)) r ⌝ }
+{
+    let start = text::run_end(text, at, Class::Blank);
+    if text.len() <= start {
+        return Turn::Over(ended(start, depth));
+    }
+    match first(&text[start..]) {
+        Cut::Bad(r) => Turn::Over(SplitAnswer::Refused {
+            refusal: r,
+            place: start,
+        }),
+        Cut::Piece(k, n) => match nest(k, words, depth) {
+            Depth::Unfit(r) => Turn::Over(SplitAnswer::Refused {
+                refusal: r,
+                place: start,
+            }),
+            Depth::Open(d) => Turn::On(start + n, d),
+        },
+    }
+}
+
+fn pass(text: &[u8], words: &mut [u16]) -> SplitAnswer
+    requires { ⌜ 64 ≤ length (now words) ⌝ }
+    ensures { λ r. ⌜ r ≡ answerOf (split (now (text .entry))) ⌝ }
+{
+    let mut at = 0;
+    let mut depth = 0;
+    loop {
+        match step(text, at, words, depth) {
+            Turn::Over(a) => return a,
+            Turn::On(next, d) => {
+                at = next;
+                depth = d;
+            }
+        }
+    }
+}
+
+fn clear(words: &mut [u16])
+    ensures { λ _. ⌜ now (words .exit) ≡ replicate (length (now (words .entry))) 0 ⌝ }
+{
+    let mut i = 0;
+    while i < words.len() {
+        words[i] = 0;
+        i += 1;
+    }
+}
+
+// Judges a text by the text rules. It uses the first 64 words of the scratch, and leaves all of it zero.
+pub fn split(text: &[u8], scratch: &mut [u16]) -> SplitAnswer
+    ensures { λ r. ⌜ outcome r (now (scratch .exit)) ≡ splitting (now (text .entry)) (now (scratch .entry)) ⌝ }
+{
+    if scratch.len() < 64 {
+        return SplitAnswer::Refused {
+            refusal: Refusal::ScratchTooShort,
+            place: 0,
+        };
+    }
+    let answer = pass(text, scratch);
+    clear(scratch);
+    answer
 }
