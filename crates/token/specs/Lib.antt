@@ -1,3 +1,4 @@
 pub mod Token
 pub mod Split
 pub mod Names
+pub mod Means

@@ -1,1 +1,419 @@
-// Tokens of a text.
+// Tokens of a text: the one at a place, and the pass that judges a whole text by the text rules.
+ghost use mathlib.Core.Path.{_≡_};
+ghost use mathlib.Core.Bool.{true, not, _||_};
+ghost use mathlib.Core.List.{List};
+ghost use Prim.Native.Nat.{ℕ, suc, _+_, _-_, _^_, _≤_, _<_};
+ghost use lib.ListN.{length, drop, replicate};
+ghost use Rattle.text.specs.Bytes.{at, run, part, among, decimal, isDigit, isLetter};
+ghost use Rattle.token.specs.Token.{nameAt, pointAt, pastFraction, suffixAt, pastSuffix, clings, placesOf, numberAt, quotedAt, lexeme};
+ghost use Rattle.token.specs.Split.{closer, closed, nestMark, nest, ended, split};
+ghost use Rattle.token.specs.Means.{kindOf, Fraction, CutMeans, endAt, Lexes, held, opened, DepthMeans, answerOf, answerFrom, TurnMeans, outcome, splitting};
+use error::Refusal;
+use text::Class;
+
+// A written number: digits / 10^places.
+pub struct Number {
+    pub digits: u64,
+    pub places: usize,
+    pub point: bool,
+    pub suffix: bool,
+}
+
+// A name has its size, a string that of what stands between its quotes. Mark 0 is the end.
+pub enum Tok {
+    Name(usize),
+    Num(Number),
+    Quoted(usize),
+    Mark(u8),
+}
+
+// What a text begins with: no token, or one and its size.
+pub enum Cut {
+    Bad(Refusal),
+    Piece(Tok, usize),
+}
+
+// A token, its place, and the place after it.
+pub struct Lexed {
+    pub start: usize,
+    pub tok: Tok,
+    pub next: usize,
+}
+
+// ---- the token that a text begins with
+
+fn name_at(t: &[u8]) -> Cut
+    requires { ⌜ (0 < length (now t)) × (isLetter (at (now t) 0) ≡ true) ⌝ }
+    ensures { λ r. ⌜ CutMeans (now (t .entry)) (nameAt (now (t .entry))) r ⌝ }
+{
+    let n = text::run_end(t, 0, Class::NameByte);
+    if text::byte_at(t, n) == b'"' {
+        return Cut::Bad(Refusal::BadForm);
+    }
+    Cut::Piece(Tok::Name(n), n)
+}
+
+fn quoted_at(t: &[u8]) -> Cut
+    requires { ⌜ 0 < length (now t) ⌝ }
+    ensures { λ r. ⌜ CutMeans (now (t .entry)) (quotedAt (now (t .entry))) r ⌝ }
+{
+    let e = text::run_end(t, 1, Class::Inside);
+    if text::byte_at(t, e) == b'"' {
+        if text::in_class(Class::NameByte, text::byte_at(t, e + 1)) {
+            return Cut::Bad(Refusal::BadForm);
+        }
+        return Cut::Piece(Tok::Quoted(e - 1), e + 1);
+    }
+    Cut::Bad(Refusal::BadForm)
+}
+
+// Whether a point and a digit stand at w.
+fn has_point(t: &[u8], w: usize) -> bool
+    requires { ⌜ w ≤ length (now t) ⌝ }
+    ensures { λ r. ⌜ r ≡ pointAt (now (t .entry)) w ⌝ }
+{
+    if text::byte_at(t, w) == b'.' {
+        return text::in_class(Class::Digit, text::byte_at(t, w + 1));
+    }
+    false
+}
+
+// The end of the digits, of which w stand before the point, if there is one.
+fn past_fraction(t: &[u8], w: usize, point: bool) -> usize
+    requires { ⌜ (w ≤ length (now t)) × (point ≡ pointAt (now t) w) ⌝ }
+    ensures { λ r. ⌜ Fraction (now (t .entry)) w point r ⌝ }
+{
+    if point {
+        return text::run_end(t, w + 1, Class::Digit);
+    }
+    w
+}
+
+fn has_suffix(t: &[u8], end: usize) -> bool
+    ensures { λ r. ⌜ r ≡ suffixAt (now (t .entry)) end ⌝ }
+{
+    text::byte_at(t, end) == b's'
+}
+
+// The place behind a number whose digits end at `end`.
+fn past_suffix(t: &[u8], suffix: bool, end: usize) -> usize
+    requires { ⌜ (end ≤ length (now t)) × (suffix ≡ suffixAt (now t) end) ⌝ }
+    ensures { λ r. ⌜ (r ≡ pastSuffix suffix end) × (end ≤ r) × (r ≤ length (now (t .entry))) ⌝ }
+{
+    if suffix {
+        return end + 1;
+    }
+    end
+}
+
+// How many digits stand after the point.
+fn places_of(point: bool, w: usize, end: usize) -> usize
+    ensures { λ r. ⌜ r ≡ placesOf point w end ⌝ }
+{
+    if point {
+        if w < end {
+            return end - w - 1;
+        }
+        return 0;
+    }
+    0
+}
+
+// Whether something stands at n that may not follow a number.
+fn clinging(t: &[u8], point: bool, suffix: bool, n: usize) -> bool
+    requires { ⌜ n ≤ length (now t) ⌝ }
+    ensures { λ r. ⌜ r ≡ clings (now (t .entry)) (not (point || suffix)) n ⌝ }
+{
+    if text::in_class(Class::NameByte, text::byte_at(t, n)) {
+        return true;
+    }
+    if point {
+        return false;
+    }
+    if suffix {
+        return false;
+    }
+    if text::byte_at(t, n) == b'.' {
+        return text::byte_at(t, n + 1) != b'.';
+    }
+    false
+}
+
+// The n digits from `from` on, onto a number below 10^(19 - n).
+fn value(t: &[u8], seed: u64, from: usize, n: usize) -> u64
+    requires { ⌜ (from + n ≤ length (now t)) × (n ≤ run isDigit (drop from (now t))) × (seed < 10 ^ (19 - n)) × (n ≤ 19) ⌝ }
+    ensures { λ r. ⌜ (r ≡ decimal seed (part (now (t .entry)) from n)) × (r < 10 ^ 19) ⌝ }
+{
+    let mut v = seed;
+    let mut i: usize = 0;
+    while i < n {
+        v = v * 10 + (t[from + i] - b'0') as u64;
+        i += 1;
+    }
+    v
+}
+
+// The digits behind the point, onto those before it.
+fn fraction(t: &[u8], seed: u64, w: usize, places: usize) -> u64
+    requires { ⌜ (places ≤ 9) × (seed < 10 ^ 10) × (0 < places → w + 1 + places ≤ length (now t)) × (places ≤ run isDigit (drop (suc w) (now t))) ⌝ }
+    ensures { λ r. ⌜ (r ≡ decimal seed (part (now (t .entry)) (suc w) places)) × (r < 10 ^ 19) ⌝ }
+{
+    if places == 0 {
+        return seed;
+    }
+    value(t, seed, w + 1, places)
+}
+
+fn number_at(t: &[u8]) -> Cut
+    requires { ⌜ (0 < length (now t)) × (isDigit (at (now t) 0) ≡ true) ⌝ }
+    ensures { λ r. ⌜ CutMeans (now (t .entry)) (numberAt (now (t .entry))) r ⌝ }
+{
+    let w = text::run_end(t, 0, Class::Digit);
+    let point = has_point(t, w);
+    let end = past_fraction(t, w, point);
+    let suffix = has_suffix(t, end);
+    let n = past_suffix(t, suffix, end);
+    let places = places_of(point, w, end);
+    if clinging(t, point, suffix, n) {
+        return Cut::Bad(Refusal::BadForm);
+    }
+    if 10 < w {
+        return Cut::Bad(Refusal::TooManyDigits);
+    }
+    if 9 < places {
+        return Cut::Bad(Refusal::TooManyDigits);
+    }
+    let whole = value(t, 0, 0, w);
+    let digits = fraction(t, whole, w, places);
+    Cut::Piece(
+        Tok::Num(Number {
+            digits: digits,
+            places: places,
+            point: point,
+            suffix: suffix,
+        }),
+        n,
+    )
+}
+
+fn is_mark(b: u8) -> bool
+    ensures { λ r. ⌜ r ≡ among ":;,=>.+-%([{)]}" b ⌝ }
+{
+    text::has(b":;,=>.+-%([{)]}", b)
+}
+
+// The token that a text begins with; no blank stands first.
+fn first(t: &[u8]) -> Cut
+    requires { ⌜ 0 < length (now t) ⌝ }
+    ensures { λ r. ⌜ CutMeans (now (t .entry)) (lexeme (now (t .entry))) r ⌝ }
+{
+    let b = t[0];
+    if text::in_class(Class::Letter, b) {
+        return name_at(t);
+    }
+    if text::in_class(Class::Digit, b) {
+        return number_at(t);
+    }
+    if b == b'"' {
+        return quoted_at(t);
+    }
+    if is_mark(b) {
+        return Cut::Piece(Tok::Mark(b), 1);
+    }
+    Cut::Bad(Refusal::BadForm)
+}
+
+// ---- the token at a place
+
+fn end_at(at: usize) -> Lexed
+    ensures { λ r. ⌜ r ≡ endAt at ⌝ }
+{
+    Lexed {
+        start: at,
+        tok: Tok::Mark(0),
+        next: at,
+    }
+}
+
+// The token at a place, and the place after it. Where none can be cut it is the end.
+pub fn token(text: &[u8], at: usize) -> Lexed
+    ensures { λ r. ⌜ Lexes (now (text .entry)) at r ⌝ }
+{
+    let start = text::run_end(text, at, Class::Blank);
+    if text.len() <= start {
+        return end_at(start);
+    }
+    match first(&text[start..]) {
+        Cut::Bad(_) => end_at(start),
+        Cut::Piece(k, n) => Lexed {
+            start: start,
+            tok: k,
+            next: start + n,
+        },
+    }
+}
+
+// ---- the pass over a whole text, with the awaited closers in the first words of the scratch, the innermost last
+
+// What a token makes of the delimiters: they do not fit, or so many are open then.
+pub enum Depth {
+    Unfit(Refusal),
+    Open(usize),
+}
+
+// Whether the text rules allow a text.
+pub enum SplitAnswer {
+    Accepted,
+    Refused { refusal: Refusal, place: usize },
+}
+
+// A step of the pass: it is over, or goes on from a place with so many delimiters open.
+pub enum Turn {
+    Over(SplitAnswer),
+    On(usize, usize),
+}
+
+fn wide(b: u8) -> u16
+    ensures { λ r. ⌜ r ≡ b ⌝ }
+{
+    b as u16
+}
+
+// The closer that goes with an opener.
+fn closer(b: u8) -> u16
+    ensures { λ r. ⌜ r ≡ closer b ⌝ }
+{
+    if b == b'(' {
+        return 41;
+    }
+    wide(b) + 2
+}
+
+fn take_opener(b: u8, words: &mut [u16], depth: usize) -> Depth
+    requires { ⌜ (64 ≤ length (now words)) × (depth ≤ 64) ⌝ }
+    ensures { λ r. ⌜ DepthMeans (opened b (held (now (words .entry)) depth)) (now (words .exit)) r ⌝ }
+{
+    if depth < 64 {
+        words[depth] = closer(b);
+        return Depth::Open(depth + 1);
+    }
+    Depth::Unfit(Refusal::TooManyOpen)
+}
+
+fn take_closer(b: u8, words: &[u16], depth: usize) -> Depth
+    requires { ⌜ (64 ≤ length (now words)) × (depth ≤ 64) ⌝ }
+    ensures { λ r. ⌜ DepthMeans (closed b (held (now (words .entry)) depth)) (now (words .entry)) r ⌝ }
+{
+    if depth == 0 {
+        return Depth::Unfit(Refusal::Unbalanced);
+    }
+    let last = depth - 1;
+    if words[last] == wide(b) {
+        return Depth::Open(last);
+    }
+    Depth::Unfit(Refusal::Unbalanced)
+}
+
+fn nest_mark(b: u8, words: &mut [u16], depth: usize) -> Depth
+    requires { ⌜ (64 ≤ length (now words)) × (depth ≤ 64) ⌝ }
+    ensures { λ r. ⌜ DepthMeans (nestMark b (held (now (words .entry)) depth)) (now (words .exit)) r ⌝ }
+{
+    if text::has(b"([{", b) {
+        return take_opener(b, words, depth);
+    }
+    if text::has(b")]}", b) {
+        return take_closer(b, words, depth);
+    }
+    Depth::Open(depth)
+}
+
+// What a token makes of the delimiters.
+fn nest(k: Tok, words: &mut [u16], depth: usize) -> Depth
+    requires { ⌜ (64 ≤ length (now words)) × (depth ≤ 64) ⌝ }
+    ensures { λ r. ⌜ ((t : List ℕ) → DepthMeans (nest (kindOf t k) (held (now (words .entry)) depth)) (now (words .exit)) r) ⌝ }
+{
+    match k {
+        Tok::Mark(b) => nest_mark(b, words, depth),
+        Tok::Name(_) => Depth::Open(depth),
+        Tok::Num(_) => Depth::Open(depth),
+        Tok::Quoted(_) => Depth::Open(depth),
+    }
+}
+
+// The answer at the end of the text.
+fn ended(place: usize, depth: usize) -> SplitAnswer
+    ensures { λ r. ⌜ ((s : List ℕ) → r ≡ answerOf (ended place (held s depth))) ⌝ }
+{
+    if depth == 0 {
+        return SplitAnswer::Accepted;
+    }
+    SplitAnswer::Refused {
+        refusal: Refusal::Unbalanced,
+        place: place,
+    }
+}
+
+fn step(text: &[u8], at: usize, words: &mut [u16], depth: usize) -> Turn
+    requires { ⌜ (at ≤ length (now text)) × (64 ≤ length (now words)) × (depth ≤ 64) ⌝ }
+    ensures { λ r. ⌜ TurnMeans (now (text .entry)) at (answerFrom (now (text .entry)) at (held (now (words .entry)) depth)) (now (words .exit)) r ⌝ }
+{
+    let start = text::run_end(text, at, Class::Blank);
+    if text.len() <= start {
+        return Turn::Over(ended(start, depth));
+    }
+    match first(&text[start..]) {
+        Cut::Bad(r) => Turn::Over(SplitAnswer::Refused {
+            refusal: r,
+            place: start,
+        }),
+        Cut::Piece(k, n) => match nest(k, words, depth) {
+            Depth::Unfit(r) => Turn::Over(SplitAnswer::Refused {
+                refusal: r,
+                place: start,
+            }),
+            Depth::Open(d) => Turn::On(start + n, d),
+        },
+    }
+}
+
+fn pass(text: &[u8], words: &mut [u16]) -> SplitAnswer
+    requires { ⌜ 64 ≤ length (now words) ⌝ }
+    ensures { λ r. ⌜ r ≡ answerOf (split (now (text .entry))) ⌝ }
+{
+    let mut at = 0;
+    let mut depth = 0;
+    loop {
+        match step(text, at, words, depth) {
+            Turn::Over(a) => return a,
+            Turn::On(next, d) => {
+                at = next;
+                depth = d;
+            }
+        }
+    }
+}
+
+fn clear(words: &mut [u16])
+    ensures { λ _. ⌜ now (words .exit) ≡ replicate (length (now (words .entry))) 0 ⌝ }
+{
+    let mut i = 0;
+    while i < words.len() {
+        words[i] = 0;
+        i += 1;
+    }
+}
+
+// Judges a text by the text rules. It uses the first 64 words of the scratch, and leaves all of it zero.
+pub fn split(text: &[u8], scratch: &mut [u16]) -> SplitAnswer
+    ensures { λ r. ⌜ outcome r (now (scratch .exit)) ≡ splitting (now (text .entry)) (now (scratch .entry)) ⌝ }
+{
+    if scratch.len() < 64 {
+        return SplitAnswer::Refused {
+            refusal: Refusal::ScratchTooShort,
+            place: 0,
+        };
+    }
+    let answer = pass(text, scratch);
+    clear(scratch);
+    answer
+}

@@ -1,0 +1,4 @@
+pub mod NumberLaws
+pub mod LexLaws
+pub mod TokenLaws
+pub mod SplitLaws

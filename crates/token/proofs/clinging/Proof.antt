@@ -1,0 +1,54 @@
+-- `token::clinging` meets its contract. Assumes nothing.
+use mathlib.Core.Bool.{false, true}
+use mathlib.Core.Path.{refl, sym, _∙_}
+use lib.Dec.{eqb}
+use borrow.Author.Needs.{needs}
+use borrow.Author.Tests.{eq-eqb, ne-eqb}
+use Rattle.token.proofs.LexLaws.{clings-is}
+use Rattle.token.proofs.clinging.Statement.{statement}
+use Rattle.token.proofs.clinging.Tie as tie
+
+byte-at-requires : tie.Need-byte-at-requires
+byte-at-requires c κs = search needs
+
+in-class-requires : tie.Need-in-class-requires
+in-class-requires c κs = search needs
+
+returns : tie.Need-returns
+returns c = clings-is (c .before .before .before .before .args .t .now) (c .before .before .before .before .args .point) (c .before .before .before .before .args .suffix) (c .before .before .before .before .args .n) true _ _ _ _ (rw (sym (c .before .before .byte-at .ensures)) (sym (c .before .in-class .ensures) ∙ c .if1 .taken)) refl refl refl refl
+
+returns-2 : tie.Need-returns-2
+returns-2 c = clings-is (c .before .before .before .before .before .args .t .now) (c .before .before .before .before .before .args .point) (c .before .before .before .before .before .args .suffix) (c .before .before .before .before .before .args .n) false true _ _ _ (rw (sym (c .before .before .before .byte-at .ensures)) (sym (c .before .before .in-class .ensures) ∙ c .before .if1 .left)) (c .if2 .taken) refl refl refl
+
+returns-3 : tie.Need-returns-3
+returns-3 c = clings-is (c .before .before .before .before .before .before .args .t .now) (c .before .before .before .before .before .before .args .point) (c .before .before .before .before .before .before .args .suffix) (c .before .before .before .before .before .before .args .n) false false true _ _ (rw (sym (c .before .before .before .before .byte-at .ensures)) (sym (c .before .before .before .in-class .ensures) ∙ c .before .before .if1 .left)) (c .before .if2 .left) (c .if3 .taken) refl refl
+
+byte-at-requires-2 : tie.Need-byte-at-requires-2
+byte-at-requires-2 c κs = search needs
+
+add-byte-at : tie.Need-add-byte-at
+add-byte-at c = search needs
+
+byte-at-requires-3 : tie.Need-byte-at-requires-3
+byte-at-requires-3 c κs = search needs
+
+returns-4 : tie.Need-returns-4
+returns-4 c = clings-is (c .before .before .before .before .before .before .before .before .before .args .t .now) (c .before .before .before .before .before .before .before .before .before .args .point) (c .before .before .before .before .before .before .before .before .before .args .suffix) (c .before .before .before .before .before .before .before .before .before .args .n) false false false true (eqb (c .byte-at3 .result) 46) (rw (sym (c .before .before .before .before .before .before .before .byte-at .ensures)) (sym (c .before .before .before .before .before .before .in-class .ensures) ∙ c .before .before .before .before .before .if1 .left)) (c .before .before .before .before .if2 .left) (c .before .before .before .if3 .left) (eq-eqb _ 46 (sym (c .before .before .byte-at2 .ensures) ∙ c .before .if4 .taken)) (rw (c .byte-at3 .ensures))
+
+returns-5 : tie.Need-returns-5
+returns-5 c = clings-is (c .before .before .before .before .before .before .before .before .args .t .now) (c .before .before .before .before .before .before .before .before .args .point) (c .before .before .before .before .before .before .before .before .args .suffix) (c .before .before .before .before .before .before .before .before .args .n) false false false false _ (rw (sym (c .before .before .before .before .before .before .byte-at .ensures)) (sym (c .before .before .before .before .before .in-class .ensures) ∙ c .before .before .before .before .if1 .left)) (c .before .before .before .if2 .left) (c .before .before .if3 .left) (ne-eqb _ 46 (λ q. c .if4 .left (c .before .byte-at2 .ensures ∙ q))) refl
+
+pub clinging-spec : {M : Type 1} → statement M
+clinging-spec =
+    tie.close
+    (tie.spec
+    byte-at-requires
+    in-class-requires
+    returns
+    returns-2
+    returns-3
+    byte-at-requires-2
+    add-byte-at
+    byte-at-requires-3
+    returns-4
+    returns-5)

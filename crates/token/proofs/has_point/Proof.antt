@@ -1,0 +1,33 @@
+-- `token::has_point` meets its contract. Assumes nothing.
+use mathlib.Core.Path.{sym, _∙_}
+use native.Mathlib.Numerals.{add-one}
+use borrow.Author.Needs.{needs}
+use borrow.Author.Tests.{eq-eqb, ne-eqb}
+use Rattle.token.specs.Token.{pointAt}
+use Rattle.token.proofs.has_point.Statement.{statement}
+use Rattle.token.proofs.has_point.Tie as tie
+
+byte-at-requires : tie.Need-byte-at-requires
+byte-at-requires c κs = search needs
+
+add-byte-at : tie.Need-add-byte-at
+add-byte-at c = search needs
+
+byte-at-requires-2 : tie.Need-byte-at-requires-2
+byte-at-requires-2 c κs = search needs
+
+in-class-requires : tie.Need-in-class-requires
+in-class-requires c κs = search needs
+
+returns : tie.Need-returns
+unfolding pointAt
+returns c = rw (eq-eqb _ 46 (sym (c .before .before .before .byte-at .ensures) ∙ c .before .before .if1 .taken)) (c .in-class .ensures ∙ (rw (c .before .byte-at2 .ensures, add-one)))
+
+returns-2 : tie.Need-returns-2
+unfolding pointAt
+returns-2 c = rw (ne-eqb _ 46 (λ q. c .if1 .left (c .before .byte-at .ensures ∙ q)))
+
+pub has-point-spec : {M : Type 1} → statement M
+has-point-spec =
+    tie.close
+    (tie.spec byte-at-requires add-byte-at byte-at-requires-2 in-class-requires returns returns-2)

@@ -1,0 +1,98 @@
+-- `token::number_at` meets its contract; each answer comes from the parts of a number, `Parts`. Assumes nothing.
+use Prim.Native.Nat.{_-_, suc, ℕ}
+use mathlib.Core.Path.{ap, sym, _∙_}
+use native.Mathlib.Nat.{zero-add}
+use native.Mathlib.Omega.{arith}
+use borrow.Author.Needs.{needs}
+use borrow.Author.Tests.{le-ltb, lt-ltb}
+use Rattle.text.proofs.ByteLaws.{run-at}
+use Rattle.text.specs.Bytes.{at, decimal, isDigit, part}
+use Rattle.number.specs.Number.{whole}
+use Rattle.token.proofs.NumberLaws.{ten-positive, whole-small}
+use Rattle.token.proofs.LexLaws.{Parts, number-clings, number-long, number-fine, run-fits}
+use Rattle.token.proofs.number_at.Statement.{statement}
+use Rattle.token.proofs.number_at.Tie as tie
+
+-- the number's parts, once each is known
+parts : (w : tie.After-clinging)
+    → Parts
+    (w .before .before .before .before .before .before .before .before .args .t .now)
+    (w .before .before .before .before .before .before .run-end .result)
+    (w .before .before .before .before .before .has-point .result)
+    (w .before .before .before .before .past-fraction .result)
+    (w .before .before .before .has-suffix .result)
+    (w .before .before .past-suffix .result)
+parts w =
+    record {
+      whole = w .before .before .before .before .before .before .run-end .ensures ∙ zero-add _;
+      point = w .before .before .before .before .before .has-point .ensures;
+      end = w .before .before .before .before .past-fraction .ensures .is;
+      suffix = w .before .before .before .has-suffix .ensures;
+      next = w .before .before .past-suffix .ensures .0;
+    }
+
+run-end-requires : tie.Need-run-end-requires
+run-end-requires c κs = search needs
+
+has-point-requires : tie.Need-has-point-requires
+has-point-requires c κs = omega (arith, run-fits isDigit (c .before .before .args .t .now) 0 (omega arith))
+
+past-fraction-requires : tie.Need-past-fraction-requires
+past-fraction-requires c κs = (omega (arith, run-fits isDigit (c .before .before .before .args .t .now) 0 (omega arith)), c .has-point .ensures)
+
+has-suffix-requires : tie.Need-has-suffix-requires
+has-suffix-requires c κs = search needs
+
+past-suffix-requires : tie.Need-past-suffix-requires
+past-suffix-requires c κs = search needs
+
+places-of-requires : tie.Need-places-of-requires
+places-of-requires c κs = search needs
+
+clinging-requires : tie.Need-clinging-requires
+clinging-requires c κs = search needs
+
+returns : tie.Need-returns
+returns c = number-clings (parts (c .before)) (sym (c .before .clinging .ensures) ∙ c .if1 .taken)
+
+returns-2 : tie.Need-returns-2
+returns-2 c = number-long (parts (c .before .before)) (sym (c .before .before .clinging .ensures) ∙ c .before .if1 .left) (rw (lt-ltb 10 (c .before .before .before .before .before .before .before .before .run-end .result) (c .if2 .taken)))
+
+returns-3 : tie.Need-returns-3
+returns-3 c = number-long (parts (c .before .before .before)) (sym (c .before .before .before .clinging .ensures) ∙ c .before .before .if1 .left) (rw (le-ltb 10 (c .before .before .before .before .before .before .before .before .before .run-end .result) (c .before .if2 .left), sym (c .before .before .before .before .places-of .ensures), lt-ltb 9 (c .before .before .before .before .places-of .result) (c .if3 .taken)))
+
+value-requires : tie.Need-value-requires
+value-requires c κs = (omega (arith, run-fits isDigit (c .before .before .before .before .before .before .before .before .before .before .before .args .t .now) 0 (omega arith)), omega (arith, c .before .before .before .before .before .before .before .before .before .run-end .ensures), ten-positive (19 - c .before .before .before .before .before .before .before .before .before .run-end .result), omega arith)
+
+fraction-requires : tie.Need-fraction-requires
+fraction-requires c κs = (omega arith, whole-small (c .before .before .before .before .before .before .before .before .before .before .before .before .args .t .now) (c .before .before .before .before .before .before .before .before .before .before .run-end .result) (c .value .result) (c .value .ensures .0) (omega (arith, c .before .before .before .before .before .before .before .before .before .before .run-end .ensures)) (omega arith), rw (sym (c .before .before .before .before .before .places-of .ensures)) at (c .before .before .before .before .before .before .before .before .past-fraction .ensures .room), rw (c .before .before .before .before .before .places-of .ensures) (c .before .before .before .before .before .before .before .before .past-fraction .ensures .digits))
+
+returns-4 : tie.Need-returns-4
+returns-4 c =
+    let w = c .before .before .before .before .before .before .before .before .before .before .before .run-end .result in
+    let t = c .before .before .before .before .before .before .before .before .before .before .before .before .before .args .t .now in
+    let z = run-at isDigit t 0 (c .before .before .before .before .before .before .before .before .before .before .before .before .before .pre .0) (c .before .before .before .before .before .before .before .before .before .before .before .before .before .pre .1) in
+    record {
+      is = number-fine (parts (c .before .before .before .before .before)) (c .fraction .result) (c .before .before .before .before .before .before .places-of .result) (sym (c .before .before .before .before .before .clinging .ensures) ∙ c .before .before .before .before .if1 .left) (omega arith) (c .before .before .before .before .before .before .places-of .ensures) (omega arith) (c .fraction .ensures .0 ∙ ap (λ (v : ℕ). decimal v (part t (suc w) (c .before .before .before .before .before .before .places-of .result))) (c .before .value .ensures .0));
+      some = omega (arith, c .before .before .before .before .before .before .before .before .before .before .before .run-end .ensures, c .before .before .before .before .before .before .before .before .before .past-fraction .ensures .low, c .before .before .before .before .before .before .before .past-suffix .ensures);
+      high = c .before .before .before .before .before .before .before .past-suffix .ensures .2;
+      sound = record { places = omega arith; digits = c .fraction .ensures .1 };
+    }
+
+pub number-at-spec : {M : Type 1} → statement M
+number-at-spec =
+    tie.close
+    (tie.spec
+    run-end-requires
+    has-point-requires
+    past-fraction-requires
+    has-suffix-requires
+    past-suffix-requires
+    places-of-requires
+    clinging-requires
+    returns
+    returns-2
+    returns-3
+    value-requires
+    fraction-requires
+    returns-4)

@@ -1,0 +1,64 @@
+-- `token::pass` meets its contract; the loop keeps the answer: that from `at` on, with the closers that the words hold, is the one for the text. Assumes nothing.
+use Prim.Native.Nat.{_-_, _≤_}
+use mathlib.Core.Path.{refl, sym, _∙_, _≡_}
+use native.Mathlib.Omega.{arith}
+use lib.ListN.{length}
+use borrow.Author.Needs.{needs}
+use Rattle.text.specs.Bytes.{at}
+use Rattle.text.specs.Words.{words}
+use Rattle.token.proofs.SplitLaws.{from-zero}
+use Rattle.token.specs.Means.{answerFrom, answerOf, held}
+use Rattle.token.specs.Split.{split}
+use Rattle.token.proofs.pass.Statement.{statement}
+use Rattle.token.proofs.pass.Tie as tie
+
+abbrev Inv-loop : tie.InvT-loop
+Inv-loop text words₀ at₀ depth₀ words at depth = (length words ≡ length words₀) × (at ≤ length text) × (depth ≤ 64) × (answerOf (split text) ≡ answerFrom text at (held words depth))
+
+abbrev μ-loop : tie.MeasureT-loop
+μ-loop text words₀ at₀ depth₀ words at depth = length text - at
+
+loop-holds : tie.Need-loop-holds Inv-loop μ-loop
+loop-holds c = (refl, omega arith, omega arith, from-zero _ _)
+
+step-requires : tie.Need-step-requires Inv-loop μ-loop
+step-requires c κs = search needs
+
+enum-known-a : tie.Need-enum-known-a Inv-loop μ-loop
+enum-known-a c = search needs
+
+same-length : tie.Need-same-length Inv-loop μ-loop
+same-length c = search needs
+
+returns : tie.Need-returns Inv-loop μ-loop
+returns c =
+    let m = rw (c .before .a .given .1) at (c .before .before .before .before .before .step .ensures) in
+    m ∙ sym (c .before .before .before .before .before .before .before .loop .inv .3)
+
+enum-known-next : tie.Need-enum-known-next Inv-loop μ-loop
+enum-known-next c = search needs
+
+loop-less : tie.Need-loop-less Inv-loop μ-loop
+loop-less c =
+    let m = rw (c .before .next .given .1) at (c .before .before .before .before .before .step .ensures) in
+    omega (arith, m .low, m .high)
+
+loop-again : tie.Need-loop-again Inv-loop μ-loop
+loop-again c =
+    let m = rw (c .before .next .given .1) at (c .before .before .before .before .before .step .ensures) in
+    (search needs, m .high, m .few, c .before .before .before .before .before .before .before .loop .inv .3 ∙ m .is)
+
+pub pass-spec : {M : Type 1} → statement M
+pass-spec =
+    tie.close
+    (tie.spec
+    Inv-loop
+    μ-loop
+    loop-holds
+    step-requires
+    enum-known-a
+    same-length
+    returns
+    enum-known-next
+    loop-less
+    loop-again)

@@ -1,0 +1,93 @@
+-- `token::step` meets its contract; behind the blanks stands the end, no token, or one that the delimiters allow or not. Assumes nothing.
+use mathlib.Core.Path.{sym, _∙_}
+use native.Mathlib.Omega.{arith}
+use lib.ListN.{drop, length-drop}
+use borrow.Author.Needs.{needs}
+use Rattle.text.specs.Bytes.{at}
+use Rattle.token.proofs.TokenLaws.{rest-of}
+use Rattle.token.proofs.SplitLaws.{over-end, over-bad, over-unfit, goes-on}
+use Rattle.token.proofs.step.Statement.{statement}
+use Rattle.token.proofs.step.Tie as tie
+
+run-end-requires : tie.Need-run-end-requires
+run-end-requires c κs = search needs
+
+ended-requires : tie.Need-ended-requires
+ended-requires c κs = search needs
+
+returns : tie.Need-returns
+returns c = c .ended .ensures (c .before .before .before .before .before .args .words .now) ∙ sym (over-end (c .before .before .before .before .before .args .text .now) (c .before .before .before .before .before .args .at) (c .before .before .run-end .result) (c .before .before .run-end .ensures) _ (omega arith))
+
+sub-first : tie.Need-sub-first
+sub-first c = search needs
+
+part-first-start : tie.Need-part-first-start
+part-first-start c = search needs
+
+part-first-end : tie.Need-part-first-end
+part-first-end c = search needs
+
+first-requires : tie.Need-first-requires
+first-requires c κs = search needs
+
+enum-known-r : tie.Need-enum-known-r
+enum-known-r c = search needs
+
+enum-known-k : tie.Need-enum-known-k
+enum-known-k c = search needs
+
+nest-requires : tie.Need-nest-requires
+nest-requires c κs = search needs
+
+enum-known-r-2 : tie.Need-enum-known-r-2
+enum-known-r-2 c = search needs
+
+enum-known-d : tie.Need-enum-known-d
+enum-known-d c = search needs
+
+add-t26 : tie.Need-add-t26
+add-t26 c =
+    let m = rw (rest-of (c .before .before .before .before .before .before .before .before .before .before .before .before .before .before .before .before .args .text .now) (c .before .before .before .before .before .before .before .before .before .before .before .before .before .run-end .result), c .before .before .before .before .before .before .before .before .k .given .1) at (c .before .before .before .before .before .before .before .before .before .before .first .ensures) in
+    omega (arith, rw length-drop at (m .high))
+
+returns-2 : tie.Need-returns-2
+returns-2 c = sym (over-bad (c .before .before .before .before .before .before .before .before .before .args .text .now) (c .before .before .before .before .before .before .before .before .before .args .at) (c .before .before .before .before .before .before .run-end .result) (c .before .before .before .before .before .before .run-end .ensures) _ (omega arith) _ (rw (rest-of (c .before .before .before .before .before .before .before .before .before .args .text .now) (c .before .before .before .before .before .before .run-end .result), c .before .r .given .1) at (c .before .before .before .first .ensures)))
+
+same-length : tie.Need-same-length
+same-length c = search needs
+
+returns-3 : tie.Need-returns-3
+returns-3 c =
+    let m = rw (rest-of (c .before .before .before .before .before .before .before .before .before .before .before .before .before .before .before .before .args .text .now) (c .before .before .before .before .before .before .before .before .before .before .before .before .before .run-end .result), c .before .before .before .before .before .before .before .before .k .given .1) at (c .before .before .before .before .before .before .before .before .before .before .first .ensures) in
+    sym (over-unfit (c .before .before .before .before .before .before .before .before .before .before .before .before .before .before .before .before .args .text .now) (c .before .before .before .before .before .before .before .before .before .before .before .before .before .before .before .before .args .at) (c .before .before .before .before .before .before .before .before .before .before .before .before .before .run-end .result) (c .before .before .before .before .before .before .before .before .before .before .before .before .before .run-end .ensures) _ (omega arith) _ _ m _ (rw (c .before .r2 .given .1) at (c .before .before .before .before .before .nest .ensures (drop (c .before .before .before .before .before .before .before .before .before .before .before .before .before .run-end .result) (c .before .before .before .before .before .before .before .before .before .before .before .before .before .before .before .before .args .text .now)))))
+
+same-length-2 : tie.Need-same-length-2
+same-length-2 c = search needs
+
+returns-4 : tie.Need-returns-4
+returns-4 c =
+    let m = rw (rest-of (c .before .before .before .before .before .before .before .before .before .before .before .before .before .before .before .before .args .text .now) (c .before .before .before .before .before .before .before .before .before .before .before .before .before .run-end .result), c .before .before .before .before .before .before .before .before .k .given .1) at (c .before .before .before .before .before .before .before .before .before .before .first .ensures) in
+    goes-on (c .before .before .before .before .before .before .before .before .before .before .before .before .before .before .before .before .args .text .now) (c .before .before .before .before .before .before .before .before .before .before .before .before .before .before .before .before .args .at) (c .before .before .before .before .before .before .before .before .before .before .before .before .before .run-end .result) (c .before .before .before .before .before .before .before .before .before .before .before .before .before .run-end .ensures) _ (omega arith) _ _ m _ _ (rw (c .before .d .given .1) at (c .before .before .before .before .before .nest .ensures (drop (c .before .before .before .before .before .before .before .before .before .before .before .before .before .run-end .result) (c .before .before .before .before .before .before .before .before .before .before .before .before .before .before .before .before .args .text .now))))
+
+pub step-spec : {M : Type 1} → statement M
+step-spec =
+    tie.close
+    (tie.spec
+    run-end-requires
+    ended-requires
+    returns
+    sub-first
+    part-first-start
+    part-first-end
+    first-requires
+    enum-known-r
+    enum-known-k
+    nest-requires
+    enum-known-r-2
+    enum-known-d
+    add-t26
+    returns-2
+    same-length
+    returns-3
+    same-length-2
+    returns-4)

@@ -1,0 +1,35 @@
+-- `token::take_closer` meets its contract; the last word is the closer that is awaited. Assumes nothing.
+use mathlib.Core.Bool.{false, true}
+use mathlib.Core.Path.{sym, _∙_}
+use native.Mathlib.Omega.{arith}
+use borrow.Author.Needs.{needs}
+use borrow.Author.Tests.{eq-eqb, ne-eqb}
+use Rattle.token.proofs.SplitLaws.{closes-none, closes-by}
+use Rattle.token.proofs.take_closer.Statement.{statement}
+use Rattle.token.proofs.take_closer.Tie as tie
+
+returns : tie.Need-returns
+returns c = closes-none (c .before .before .args .words .now) (c .before .before .args .depth) (c .before .before .args .b) (c .if1 .taken)
+
+sub-last : tie.Need-sub-last
+sub-last c = search needs
+
+mul-if2 : tie.Need-mul-if2
+mul-if2 c = search needs
+
+shared-slice-read-if2 : tie.Need-shared-slice-read-if2
+shared-slice-read-if2 c = search needs
+
+wide-requires : tie.Need-wide-requires
+wide-requires c κs = search needs
+
+returns-2 : tie.Need-returns-2
+returns-2 c = record { is = closes-by (c .before .before .before .before .before .args .words .now) (c .before .before .before .before .before .args .depth) (c .before .before .before .before .before .args .b) true (c .before .before .before .if1 .left) (eq-eqb _ _ (sym (c .if2 .taken ∙ c .before .wide .ensures))); few = omega (arith, c .before .before .before .before .before .pre .1) }
+
+returns-3 : tie.Need-returns-3
+returns-3 c = closes-by (c .before .before .before .before .before .args .words .now) (c .before .before .before .before .before .args .depth) (c .before .before .before .before .before .args .b) false (c .before .before .before .if1 .left) (ne-eqb _ _ (λ q. c .if2 .left (sym (c .before .wide .ensures ∙ q))))
+
+pub take-closer-spec : {M : Type 1} → statement M
+take-closer-spec =
+    tie.close
+    (tie.spec returns sub-last mul-if2 shared-slice-read-if2 wide-requires returns-2 returns-3)

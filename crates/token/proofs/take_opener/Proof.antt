@@ -1,0 +1,32 @@
+-- `token::take_opener` meets its contract. Assumes nothing.
+use native.Mathlib.Omega.{arith}
+use borrow.Author.Needs.{needs}
+use Rattle.token.proofs.SplitLaws.{opens, full}
+use Rattle.token.proofs.take_opener.Statement.{statement}
+use Rattle.token.proofs.take_opener.Tie as tie
+
+closer-requires : tie.Need-closer-requires
+closer-requires c κs = search needs
+
+mul-words : tie.Need-mul-words
+mul-words c = search needs
+
+slice-write-words : tie.Need-slice-write-words
+slice-write-words c = search needs
+
+add-t6 : tie.Need-add-t6
+add-t6 c = search needs
+
+same-length : tie.Need-same-length
+same-length c = search needs
+
+returns : tie.Need-returns
+returns c = opens (c .before .before .before .args .words .now) (c .before .before .before .args .depth) (c .before .before .before .args .b) (c .closer .result) (c .closer .ensures) (omega arith) (omega (arith, c .before .before .before .pre .0))
+
+returns-2 : tie.Need-returns-2
+returns-2 c = full (c .before .before .args .words .now) (c .before .before .args .depth) (c .before .before .args .b) (omega arith)
+
+pub take-opener-spec : {M : Type 1} → statement M
+take-opener-spec =
+    tie.close
+    (tie.spec closer-requires mul-words slice-write-words add-t6 same-length returns returns-2)

@@ -1,0 +1,141 @@
+-- What the answers of the code mean. Contracts cite these. Assumes nothing.
+use Prim.Native.Nat.{ℕ, zero, suc, _+_, _^_, _≤_, _<_}
+use mathlib.Core.List.{List, [], _∷_}
+use mathlib.Core.Bool.{Bool, false, cond}
+use mathlib.Core.Path.{_≡_}
+use lib.Dec.{ltb, eqb}
+use lib.ListN.{length, getD, take, drop, replicate}
+use Rattle.text.specs.Bytes.{run, isDigit}
+use Rattle.number.specs.Number.{Written}
+use Rattle.token.specs.Token.{Kind, name, number, quoted, mark, Lexeme, bad, piece, pastFraction, placesOf, tokensFrom, place, kind, isMark, rest}
+use Rattle.error.specs.declared.Refusal.the-variants.{TooManyOpen, ScratchTooShort}
+use Rattle.token.specs.Split.{Nest, unfit, awaits, closer, Split, unlexed, tokens, splitFrom, split}
+use Rattle.token.specs.declared.Number.{Number}
+use Rattle.token.specs.declared.Tok.{Tok}
+use Rattle.token.specs.declared.Tok.the-variants as tok
+use Rattle.token.specs.declared.Cut.{Cut}
+use Rattle.token.specs.declared.Cut.the-variants as cut
+use Rattle.token.specs.declared.Lexed.{Lexed}
+use Rattle.token.specs.declared.Depth.{Depth}
+use Rattle.token.specs.declared.Depth.the-variants as depth
+use Rattle.token.specs.declared.SplitAnswer.{SplitAnswer}
+use Rattle.token.specs.declared.SplitAnswer.the-variants as answer
+use Rattle.token.specs.declared.Turn.{Turn}
+use Rattle.token.specs.declared.Turn.the-variants as turn
+
+-- ---- a token
+
+abbrev pub written : Number → Written
+written n = record { digits = n .digits; places = n .places; point = n .point; suffix = n .suffix }
+
+-- the kind that a token is, t being the text from its start on
+abbrev pub kindOf : List ℕ → Tok → Kind
+kindOf t (tok.Name n) = name (take n t)
+kindOf t (tok.Num n) = number (written n)
+kindOf t (tok.Quoted n) = quoted n
+kindOf t (tok.Mark b) = mark b
+
+-- what the digit limits of 01 leave of a number
+pub record Small (n : Number) : Type 0 where
+  pub places : n .places ≤ 9
+  pub digits : n .digits < 10 ^ 19
+
+-- ---- the token that a text begins with
+
+-- r ends the digits of a number, w of them standing before the point
+pub record Fraction (t : List ℕ) (w : ℕ) (point : Bool) (r : ℕ) : Type 0 where
+  pub is : r ≡ pastFraction point t w
+  pub low : w ≤ r
+  pub high : r ≤ length t
+  pub room : 0 < placesOf point w r → w + 1 + placesOf point w r ≤ length t
+  pub digits : placesOf point w r ≤ run isDigit (drop (suc w) t)
+
+-- what else is known of a token of n bytes
+abbrev pub Sound : Tok → ℕ → Type 0
+Sound (tok.Name m) n = m ≡ n
+Sound (tok.Num m) n = Small m
+Sound (tok.Quoted m) n = n ≡ m + 2
+Sound (tok.Mark b) n = eqb b 0 ≡ false
+
+pub record Pieces (t : List ℕ) (x : Lexeme) (k : Tok) (n : ℕ) : Type 0 where
+  pub is : x ≡ piece (kindOf t k) n
+  pub some : 0 < n
+  pub high : n ≤ length t
+  pub sound : Sound k n
+
+-- the lexeme x of t, as the code has it
+abbrev pub CutMeans : List ℕ → Lexeme → Cut → Type 0
+CutMeans t x (cut.Bad r) = x ≡ bad r
+CutMeans t x (cut.Piece k n) = Pieces t x k n
+
+-- ---- the token at a place
+
+abbrev pub endAt : ℕ → Lexed
+endAt at = record { start = at; tok = tok.Mark 0; next = at }
+
+-- what else is known of a token from start to next; of the end, a mark 0, nothing
+abbrev pub Stands : Tok → ℕ → ℕ → Type 0
+Stands (tok.Name m) start next = next ≡ start + m
+Stands (tok.Num m) start next = Small m
+Stands (tok.Quoted m) start next = next ≡ start + (m + 2)
+Stands (tok.Mark b) start next = Unit {0}
+
+-- r is the first of the tokens from `at` on, with its place and the place after it; only the end takes no byte
+pub record Lexes (s : List ℕ) (at : ℕ) (r : Lexed) : Type 0 where
+  pub kind : kind (tokensFrom s at) ≡ kindOf (drop (r .start) s) (r .tok)
+  pub place : place (tokensFrom s at) ≡ r .start
+  pub rest : rest (tokensFrom s at) ≡ tokensFrom s (r .next)
+  pub low : at ≤ r .start
+  pub some : r .start ≤ r .next
+  pub high : at ≤ length s → r .next ≤ length s
+  pub moved : isMark (kindOf (drop (r .start) s) (r .tok)) 0 ≡ false → at < r .next
+  pub stands : Stands (r .tok) (r .start) (r .next)
+
+-- ---- the pass over a whole text
+
+-- the awaited closers, the innermost first, where the first d words have them, the innermost last
+unfoldable pub held : List ℕ → ℕ → List ℕ
+held s zero = []
+held s (suc d) = getD s d 0 ∷ held s d
+
+-- what an opener makes of the awaited closers: "a 65th opener while 64 are open": 5
+abbrev pub opened : ℕ → List ℕ → Nest
+opened b cs = cond (ltb (length cs) 64) (awaits (closer b ∷ cs)) (unfit TooManyOpen)
+
+-- the first d of the words hold the closers that are awaited then
+pub record Awaits (x : Nest) (words : List ℕ) (d : ℕ) : Type 0 where
+  pub is : x ≡ awaits (held words d)
+  pub few : d ≤ 64
+
+-- what a token makes of the awaited closers, x, as the code has it
+abbrev pub DepthMeans : Nest → List ℕ → Depth → Type 0
+DepthMeans x words (depth.Unfit r) = x ≡ unfit r
+DepthMeans x words (depth.Open d) = Awaits x words d
+
+abbrev pub answerOf : Split → SplitAnswer
+answerOf (unlexed r p) = answer.Refused r p
+answerOf (tokens ts) = answer.Accepted
+
+-- the answer for what stands from a place on, the closers cs being awaited there
+abbrev pub answerFrom : List ℕ → ℕ → List ℕ → SplitAnswer
+answerFrom s at cs = answerOf (splitFrom 0 at cs (drop at s))
+
+-- the pass goes on at next with d closers awaited, and a is the answer from there on
+pub record GoesOn (s : List ℕ) (at : ℕ) (a : SplitAnswer) (words : List ℕ) (next d : ℕ) : Type 0 where
+  pub is : a ≡ answerFrom s next (held words d)
+  pub low : at < next
+  pub high : next ≤ length s
+  pub few : d ≤ 64
+
+-- what a step from `at` makes of the answer a from there on
+abbrev pub TurnMeans : List ℕ → ℕ → SplitAnswer → List ℕ → Turn → Type 0
+TurnMeans s at a words (turn.Over b) = b ≡ a
+TurnMeans s at a words (turn.On next d) = GoesOn s at a words next d
+
+-- an answer, and the scratch then
+abbrev pub outcome : SplitAnswer → List ℕ → SplitAnswer × List ℕ
+outcome a s = (a, s)
+
+-- 01: "2 to 5 at the first place left to right"; "After reading, unless 1 or 16, scratch is all zero"; fewer words than 64 do not do
+unfoldable pub splitting : List ℕ → List ℕ → SplitAnswer × List ℕ
+splitting t s = cond (ltb (length s) 64) (outcome (answer.Refused ScratchTooShort 0) s) (outcome (answerOf (split t)) (replicate (length s) 0))
