@@ -63,8 +63,11 @@ abbrev pub sees : Char → List Token → Bool
 sees c ts = seesByte (code c) ts
 
 -- "`=>`, `::` and `..` need their two characters adjacent"
+abbrev pub seesPair : ℕ → ℕ → List Token → Bool
+seesPair b d ts = seesByte b ts && seesByte d (rest ts) && eqb (place (rest ts)) (suc (place ts))
+
 abbrev pub seesTwo : Char → Char → List Token → Bool
-seesTwo c d ts = sees c ts && sees d (rest ts) && eqb (place (rest ts)) (suc (place ts))
+seesTwo c d ts = seesPair (code c) (code d) ts
 
 abbrev pub isEnd : Kind → Bool
 isEnd (name w) = false
@@ -76,13 +79,16 @@ isEnd (mark b) = oneOf (0 ∷ 41 ∷ 93 ∷ 125 ∷ []) b
 abbrev pub ends : List Token → Bool
 ends ts = isEnd (kind ts)
 
-abbrev pub isWord : Option (List ℕ) → String → Bool
-isWord none s = false
-isWord (some w) s = same w (bytes s)
+abbrev pub isWord : Option (List ℕ) → List ℕ → Bool
+isWord none v = false
+isWord (some w) v = same w v
 
 -- whether the next token is that word, a name or a keyword
+abbrev pub seesBytes : List ℕ → List Token → Bool
+seesBytes v ts = isWord (wordOf (kind ts)) v
+
 abbrev pub seesWord : String → List Token → Bool
-seesWord s ts = isWord (wordOf (kind ts)) s
+seesWord s ts = seesBytes (bytes s) ts
 
 abbrev pub seesName : List Token → Bool
 seesName ts = isSome (nameOf (kind ts))
@@ -102,12 +108,18 @@ theByte b = if (seesByte b) skip (refuse Missing)
 abbrev pub the : Char → Rule Unit
 the c = theByte (code c)
 
+abbrev pub bothBytes : ℕ → ℕ → Rule Unit
+bothBytes b d = if (seesPair b d) (skip >> skip) (refuse Missing)
+
 abbrev pub both : Char → Char → Rule Unit
-both c d = if (seesTwo c d) (skip >> skip) (refuse Missing)
+both c d = bothBytes (code c) (code d)
 
 -- take a mark if it is there, and say whether it was
+abbrev pub eatByte : ℕ → Rule Bool
+eatByte b = if (seesByte b) (skip >> give true) (give false)
+
 abbrev pub eat : Char → Rule Bool
-eat c = if (sees c) (skip >> give true) (give false)
+eat c = eatByte (code c)
 
 -- take the next token for what it holds
 abbrev pub found : {A B : Type 0} → Option A → (A → B) → Rule B
@@ -123,8 +135,11 @@ abbrev pub text : Rule (ℕ × ℕ)
 text l ts = found (quoteOf (kind ts)) (λ n. (suc (place ts), n)) l ts
 
 -- a name among some, as its position there
+abbrev pub choiceIn : Refusal → List (List ℕ) → Rule ℕ
+choiceIn r names = word >>= λ w. need r (find names 0 (w .1))
+
 abbrev pub choice : Refusal → List String → Rule ℕ
-choice r names = word >>= λ w. need r (find (words names) 0 (w .1))
+choice r names = choiceIn r (words names)
 
 -- ---- "`-` and the number after it, spaces or not, make one negative number wherever a number is wanted"
 
@@ -212,9 +227,12 @@ noted l p = record { leftover = firstOf (l .leftover) p; bound = l .bound }
 abbrev pub leave : Rule Unit
 leave l ts = cond (ends ts) (got tt l (rest ts)) (got tt (noted l (place ts)) (behind 0 ts))
 
--- a rule inside a group that begins with c
+-- a rule inside a group that begins with an opener
+abbrev pub insideByte : {A : Type 0} → ℕ → Rule A → Rule A
+insideByte b p = theByte b >> (p >>= λ a. leave >> give a)
+
 abbrev pub inside : {A : Type 0} → Char → Rule A → Rule A
-inside c p = the c >> (p >>= λ a. leave >> give a)
+inside c p = insideByte (code c) p
 
 -- ---- repetition: a step goes on with what it has so far, or ends
 

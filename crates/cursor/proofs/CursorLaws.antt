@@ -1,0 +1,303 @@
+-- Laws of a cursor, and of the grammar's rules at one. Assumes nothing.
+use Prim.Native.Nat.{ℕ, zero, suc, _+_, _-_, _≤_, _<_}
+use mathlib.Core.Bool.{Bool, true, false, not, cond, _&&_}
+use mathlib.Core.List.{List, [], _∷_}
+use mathlib.Core.Option.{Option, none, some}
+use mathlib.Core.Path.{_≡_, refl, sym, ap, _∙_, subst}
+use mathlib.Core.Logic.{_⊎_, inl, inr, ⊎-elim}
+use native.Mathlib.Numerals.{add-one}
+use native.Mathlib.Omega.{arith}
+use borrow.Author.Tests.{eqb-true, ne-eqb, eq-eqb}
+use lib.Dec.{T, eqb}
+use lib.ListN.{length, take, drop}
+use lib.Ieee.{isNan}
+use Rattle.text.specs.Bytes.{bytes, among}
+use Rattle.number.specs.Number.{Written, whole, bits}
+use Rattle.token.specs.Token.{Kind, name, number, quoted, mark, Token, token, tokensFrom, place, kind, isMark, rest}
+use Rattle.token.specs.Means.{Lexes, Small, kindOf, written}
+use Rattle.token.specs.declared.Number.{Number}
+use Rattle.token.specs.declared.Tok.the-variants.{Num, Quoted}
+use Rattle.token.specs.Names.{wordOf, quoteOf}
+use Rattle.grammar.specs.Values.{truth}
+use Rattle.grammar.specs.Rule.{isWord, seesBytes, text, Rule, Out, got, refused, seesByte, seesPair, theByte, bothBytes, eatByte, skip, _>>_, Signed, absent, plus, minus, plain, negated, pointless, seesNumber, seesWhole, taken, signed, Pass, halts, closes, goes, closing, depth, weigh, behind, ends, isEnd, firstOf, leave}
+use Rattle.error.specs.declared.Refusal.{Refusal}
+use Rattle.error.specs.declared.Refusal.the-variants.{Missing}
+use Rattle.cursor.specs.Means.{leftOf, Ready, notes, tokens, run, Took, Follows, Behind, sign, past, Numbers}
+use Rattle.cursor.specs.declared.Cursor.{Cursor}
+
+-- ---- the head
+
+pub head-kind : (s : List ℕ) (c : Cursor) → Ready s c → kind (tokens s c) ≡ kindOf (drop (c .head .start) s) (c .head .tok)
+head-kind s c r = r .head .kind
+
+pub head-place : (s : List ℕ) (c : Cursor) → Ready s c → place (tokens s c) ≡ c .head .start
+head-place s c r = r .head .place
+
+pub next-high : (s : List ℕ) (c : Cursor) → Ready s c → c .head .next ≤ length s
+next-high s c r = r .head .high (r .high)
+
+pub no-end : (k : Kind) (b : ℕ) → isMark k b ≡ true → 0 < b → isMark k 0 ≡ false
+no-end (name w) b e h = refl
+no-end (number w) b e h = refl
+no-end (quoted w) b e h = refl
+no-end (mark d) b e h = ne-eqb d 0 (λ z. let q = eqb-true d b e in omega arith)
+
+-- a head that is not the text's end takes a byte
+pub head-moves : (s : List ℕ) (c : Cursor) → Ready s c → isMark (kind (tokens s c)) 0 ≡ false → c .at < c .head .next
+head-moves s c r e = r .head .moved (sym (ap (λ (k : Kind). isMark k 0) (r .head .kind)) ∙ e)
+
+-- and no head goes back
+pub head-low : (s : List ℕ) (c : Cursor) → Ready s c → c .at ≤ c .head .next
+head-low s c r = omega (arith, r .head .low, r .head .some)
+
+-- ---- m stands behind the head of c
+
+module _ (s : List ℕ) (c m : Cursor) (r : Ready s c) (f : Follows s c m) where
+  same-notes : notes s c ≡ notes s m
+  same-notes = rw (f .left)
+
+  -- a rule that takes the head
+  pub took : {A : Type 0} (p : Rule A) (x : A) → isMark (kind (tokens s c)) 0 ≡ false → run s c p ≡ got x (notes s c) (rest (tokens s c)) → Took 1 s c m p x
+  took p x e h = record { is = h ∙ (rw (f .rest, f .left)); low = let a = head-moves s c r e in omega (arith, f .at); ready = f .ready }
+
+  pub took-mark : (d : ℕ) → 0 < d → seesByte d (tokens s c) ≡ true → Took 1 s c m (theByte d) tt
+  took-mark d h e = took (theByte d) tt (no-end (kind (tokens s c)) d e h) (rw e)
+
+  pub took-eaten : (d : ℕ) → 0 < d → seesByte d (tokens s c) ≡ true → Took 1 s c m (eatByte d) true
+  took-eaten d h e = took (eatByte d) true (no-end (kind (tokens s c)) d e h) (rw e)
+
+  pub moved-low : c .at ≤ m .at
+  moved-low = let a = head-low s c r in omega (arith, f .at)
+
+-- a rule that takes nothing
+pub stays : {A : Type 0} (s : List ℕ) (c : Cursor) → Ready s c → (p : Rule A) (x : A) → run s c p ≡ got x (notes s c) (tokens s c) → Took 0 s c c p x
+stays s c r p x h = record { is = h; low = omega arith; ready = r }
+
+-- more bytes are enough bytes
+pub fewer : {A : Type 0} {s : List ℕ} {c m : Cursor} {p : Rule A} {x : A} → Took 1 s c m p x → Took 0 s c m p x
+fewer t = record { is = t .is; low = omega (arith, t .low); ready = t .ready }
+
+pub mark-missing : (s : List ℕ) (c : Cursor) → Ready s c → (d : ℕ) → seesByte d (tokens s c) ≡ false → run s c (theByte d) ≡ refused Missing (c .head .start)
+mark-missing s c r d e = rw (e, r .head .place)
+
+-- ---- words and strings
+
+pub small-number : (s : List ℕ) (c : Cursor) (n : Number) → Ready s c → c .head .tok ≡ Num n → Small n
+small-number s c n r k = rw k at (r .head .stands)
+
+-- what stands between the quotes of a string, in the text
+pub string-in : (s : List ℕ) (c : Cursor) (n : ℕ) → Ready s c → c .head .tok ≡ Quoted n → c .head .start + 1 + n ≤ length s
+string-in s c n r k = let a = rw k at (r .head .stands) in omega (arith, next-high s c r)
+
+pub took-string : (s : List ℕ) (c m : Cursor) (r : Ready s c) (f : Follows s c m) (n : ℕ) → c .head .tok ≡ Quoted n → Took 1 s c m text (c .head .start + 1, n)
+took-string s c m r f n k = took s c m r f text _ (rw (r .head .kind, k)) (rw (r .head .kind, k, r .head .place, add-one))
+
+pub no-string : (s : List ℕ) (c : Cursor) → Ready s c → quoteOf (kind (tokens s c)) ≡ none → run s c text ≡ refused Missing (c .head .start)
+no-string s c r e = rw (e, r .head .place)
+
+-- the word of the head is no end
+word-end : (k : Kind) (v : List ℕ) → isWord (wordOf k) v ≡ true → isMark k 0 ≡ false
+word-end (name w) v e = refl
+word-end (number w) v e = refl
+word-end (quoted w) v e = refl
+word-end (mark b) v e = absurd (let z : _≡_ {A = ℕ} 0 1 = cc in omega arith)
+
+pub took-true : (s : List ℕ) (c m : Cursor) (r : Ready s c) (f : Follows s c m) → seesBytes (bytes "true") (tokens s c) ≡ true → Took 1 s c m truth true
+unfolding truth
+took-true s c m r f e = took s c m r f truth true (word-end (kind (tokens s c)) (bytes "true") e) (rw e)
+
+pub took-false : (s : List ℕ) (c m : Cursor) (r : Ready s c) (f : Follows s c m) → seesBytes (bytes "true") (tokens s c) ≡ false → seesBytes (bytes "false") (tokens s c) ≡ true → Took 1 s c m truth false
+unfolding truth
+took-false s c m r f d e = took s c m r f truth false (word-end (kind (tokens s c)) (bytes "false") e) (rw (d, e))
+
+pub no-truth : (s : List ℕ) (c : Cursor) → Ready s c → seesBytes (bytes "true") (tokens s c) ≡ false → seesBytes (bytes "false") (tokens s c) ≡ false → run s c truth ≡ refused Missing (c .head .start)
+unfolding truth
+no-truth s c r d e = rw (d, e, r .head .place)
+
+-- ---- two marks
+
+-- u stands behind the second of two marks
+pub took-both : (s : List ℕ) (c m u : Cursor) (r : Ready s c) (f : Follows s c m) (g : Follows s m u) (a b : ℕ) → 0 < a
+    → seesByte a (tokens s c) ≡ true → seesByte b (tokens s m) ≡ true → m .head .start ≡ c .head .start + 1 → Took 1 s c u (bothBytes a b) tt
+took-both s c m u r f g a b h x y e =
+    let q : place (tokens s m) ≡ suc (place (tokens s c)) = head-place s m (f .ready) ∙ e ∙ (rw (add-one, r .head .place)) in
+    record {
+      is = rw (x, f .rest, y, eq-eqb (place (tokens s m)) (suc (place (tokens s c))) q, f .rest, g .rest, g .left, f .left);
+      low = let i = head-moves s c r (no-end (kind (tokens s c)) a x h) in let j = moved-low s m u (f .ready) g in omega (arith, f .at);
+      ready = g .ready;
+    }
+
+no-pair : (x y z : Bool) → (x ≡ false) ⊎ ((y ≡ false) ⊎ (z ≡ false)) → (x && y && z) ≡ false
+no-pair true true true h = ⊎-elim (λ e. e) (λ g. ⊎-elim (λ e. e) (λ e. e) g) h
+no-pair true true false h = refl
+no-pair true false z h = refl
+no-pair false y z h = refl
+
+pub both-missing : (s : List ℕ) (c : Cursor) → Ready s c → (a b : ℕ) → seesPair a b (tokens s c) ≡ false → run s c (bothBytes a b) ≡ refused Missing (c .head .start)
+both-missing s c r a b e = rw (e, r .head .place)
+
+-- the first is not there; or the second; or they are not adjacent
+pub pair-first : (s : List ℕ) (c : Cursor) (a b : ℕ) → seesByte a (tokens s c) ≡ false → seesPair a b (tokens s c) ≡ false
+pair-first s c a b e = no-pair _ _ _ (inl e)
+
+pub pair-second : (s : List ℕ) (c m : Cursor) (f : Follows s c m) (a b : ℕ) → seesByte b (tokens s m) ≡ false → seesPair a b (tokens s c) ≡ false
+pair-second s c m f a b e = no-pair (seesByte a (tokens s c)) _ _ (inr (inl (rw (f .rest, e))))
+
+pub pair-apart : (s : List ℕ) (c m : Cursor) (r : Ready s c) (f : Follows s c m) (a b : ℕ) → (m .head .start ≡ c .head .start + 1 → ⊥) → seesPair a b (tokens s c) ≡ false
+pair-apart s c m r f a b n =
+    no-pair (seesByte a (tokens s c)) (seesByte b (rest (tokens s c))) _
+    (inr (inr (rw (f .rest, head-place s m (f .ready), r .head .place) (ne-eqb (m .head .start) (suc (c .head .start)) (λ e. n (omega arith))))))
+
+-- ---- numbers
+
+module _ (s : List ℕ) (c m : Cursor) (r : Ready s c) (f : Follows s c m) where
+  pub plus-number : (n : Number) → seesByte 45 (tokens s c) ≡ false → c .head .tok ≡ Num n → Small n → Numbers s c false n m
+  plus-number n e k l = record {
+    sees = rw (e, r .head .kind, k);
+    past = f .rest;
+    left = f .left;
+    low = let a = head-moves s c r (rw (r .head .kind, k)) in omega (arith, f .at);
+    ready = f .ready;
+    small = l;
+  }
+
+  pub minus-number : (u : Cursor) → Follows s m u → (n : Number) → seesByte 45 (tokens s c) ≡ true → m .head .tok ≡ Num n → Small n → Numbers s c true n u
+  minus-number u g n e k l = record {
+    sees = rw (e, f .rest, f .ready .head .kind, k);
+    past = rw (f .rest, g .rest);
+    left = g .left ∙ f .left;
+    low = let a = head-moves s c r (no-end (kind (tokens s c)) 45 e (omega arith)) in let b = moved-low s m u (f .ready) g in omega (arith, f .at);
+    ready = g .ready;
+    small = l;
+  }
+
+  pub no-minus : seesByte 45 (tokens s c) ≡ true → ((t : List ℕ) → plain (kindOf t (m .head .tok)) ≡ absent) → seesNumber (tokens s c) ≡ absent
+  no-minus e k = rw (e, f .rest, f .ready .head .kind, k)
+
+pub no-number : (s : List ℕ) (c : Cursor) → Ready s c → seesByte 45 (tokens s c) ≡ false → ((t : List ℕ) → plain (kindOf t (c .head .tok)) ≡ absent) → seesNumber (tokens s c) ≡ absent
+no-number s c r e k = rw (e, r .head .kind, k)
+
+module _ (s : List ℕ) (c m : Cursor) (b : Bool) (n : Number) (h : Numbers s c b n m) where
+  by-sign : (r : Refusal) (x : Bool) (v : Signed) → v ≡ sign x (written n) → (us : List Token) → past x (tokens s c) ≡ us → taken r v (notes s c) (tokens s c) ≡ got (x, written n) (notes s c) us
+  by-sign r false v e us q = rw (e, q)
+  by-sign r true v e us q = rw (e, q)
+
+  whole-sign : (x : Bool) → n .point ≡ false → pointless (sign x (written n)) ≡ sign x (written n)
+  whole-sign false e = rw e
+  whole-sign true e = rw e
+
+  whole-none : (x : Bool) → n .point ≡ true → pointless (sign x (written n)) ≡ absent
+  whole-none false e = rw e
+  whole-none true e = rw e
+
+  pub took-number : (r : Refusal) → Took 1 s c m (signed seesNumber r) (b, written n)
+  took-number r = record { is = by-sign r b _ (h .sees) _ (h .past) ∙ (rw (h .left)); low = h .low; ready = h .ready }
+
+  pub took-whole : (r : Refusal) → n .point ≡ false → Took 1 s c m (signed seesWhole r) (b, written n)
+  took-whole r e = record { is = by-sign r b _ (ap pointless (h .sees) ∙ whole-sign b e) _ (h .past) ∙ (rw (h .left)); low = h .low; ready = h .ready }
+
+  pub whole-missing : (r : Refusal) → n .point ≡ true → run s c (signed seesWhole r) ≡ refused r (place (tokens s c))
+  whole-missing r e = ap (λ (v : Signed). taken r v (notes s c) (tokens s c)) (ap pointless (h .sees) ∙ whole-none b e)
+
+-- ---- leaving a group
+
+behind-halts : (d : ℕ) (ts : List Token) → weigh (kind ts) d ≡ halts → behind d ts ≡ ts
+unfolding behind
+behind-halts d [] e = refl
+behind-halts d (token p k ∷ ts) e = rw e
+
+-- the end of a text is passed by nobody, so what is behind a token is what `rest` gives
+weighed : (k : Kind) (d : ℕ) → isMark k 0 ≡ true → weigh k d ≡ halts
+unfolding weigh
+weighed (name w) d e = absurd (let z : _≡_ {A = ℕ} 0 1 = cc in omega arith)
+weighed (number w) d e = absurd (let z : _≡_ {A = ℕ} 0 1 = cc in omega arith)
+weighed (quoted w) d e = absurd (let z : _≡_ {A = ℕ} 0 1 = cc in omega arith)
+weighed (mark b) d e = rw e
+
+not-halted : (k : Kind) (d : ℕ) (x : Pass) → weigh k d ≡ x → (x ≡ halts → ⊥) → isMark k 0 ≡ false
+not-halted k d x e n = go (isMark k 0) refl
+  where
+    go : (b : Bool) → isMark k 0 ≡ b → b ≡ false
+    go true q = absurd (n (sym e ∙ weighed k d q))
+    go false q = refl
+
+behind-closes : (d : ℕ) (ts : List Token) → weigh (kind ts) d ≡ closes → isMark (kind ts) 0 ≡ false → behind d ts ≡ rest ts
+unfolding behind
+behind-closes d [] e f = refl
+behind-closes d (token p k ∷ ts) e f = rw (e, f)
+
+behind-goes : (d x : ℕ) (ts : List Token) → weigh (kind ts) d ≡ goes x → isMark (kind ts) 0 ≡ false → behind d ts ≡ behind x (rest ts)
+unfolding behind
+behind-goes d x [] e f = absurd (let z : _≡_ {A = ℕ} 0 1 = cc in omega arith)
+behind-goes d x (token p k ∷ ts) e f = rw (e, f)
+
+not-goes : (x : ℕ) → goes x ≡ halts → ⊥
+not-goes x e = let z : _≡_ {A = ℕ} 0 1 = cc in omega arith
+
+not-closes : closes ≡ halts → ⊥
+not-closes e = let z : _≡_ {A = ℕ} 0 1 = cc in omega arith
+
+pub closing-some : (d : ℕ) → (d ≡ 0 → ⊥) → closing d ≡ goes (d - 1)
+closing-some zero n = absurd (n refl)
+closing-some (suc d) n = ap goes (omega arith)
+
+-- a walk out of the group of c has come to m, d deeper groups being open
+pub record Leaving (s : List ℕ) (c m : Cursor) (d : ℕ) : Type 0 where
+  pub is : behind 0 (tokens s c) ≡ behind d (tokens s m)
+  pub low : c .at ≤ m .at
+  pub deep : d ≤ m .at
+  pub left : m .left ≡ c .left
+  pub ready : Ready s m
+
+pub leaving-start : (s : List ℕ) (c : Cursor) → Ready s c → Leaving s c c 0
+leaving-start s c r = record { is = refl; low = omega arith; deep = omega arith; left = refl; ready = r }
+
+depth-mark : (a b c : Bool) (d : ℕ) → depth (cond a halts (cond b (closing d) (cond c (goes (suc d)) (goes d)))) ≤ d + 1
+depth-mark true b c d = omega arith
+depth-mark false true c zero = omega arith
+depth-mark false true c (suc d) = omega arith
+depth-mark false false true d = omega arith
+depth-mark false false false d = omega arith
+
+depth-small : (k : Kind) (d : ℕ) → depth (weigh k d) ≤ d + 1
+unfolding weigh
+depth-small (name w) d = omega arith
+depth-small (number w) d = omega arith
+depth-small (quoted w) d = omega arith
+depth-small (mark b) d = depth-mark (eqb b 0) (among ")]}" b) (among "([{" b) d
+
+module _ (s : List ℕ) (c m : Cursor) (d : ℕ) (w : Leaving s c m d) where
+  pub leaving-halts : weigh (kind (tokens s m)) d ≡ halts → Behind s c m
+  leaving-halts e = record { is = sym (w .is ∙ behind-halts d (tokens s m) e); low = w .low; left = w .left; ready = w .ready }
+
+  pub leaving-closes : (u : Cursor) → Follows s m u → weigh (kind (tokens s m)) d ≡ closes → Behind s c u
+  leaving-closes u f e = record {
+    is = sym (w .is ∙ behind-closes d (tokens s m) e (not-halted (kind (tokens s m)) d closes e not-closes) ∙ f .rest);
+    low = let a = moved-low s m u (w .ready) f in omega (arith, w .low);
+    left = f .left ∙ w .left;
+    ready = f .ready;
+  }
+
+  pub leaving-moves : (u : Cursor) → Follows s m u → (x : ℕ) → weigh (kind (tokens s m)) d ≡ goes x → m .at < u .at
+  leaving-moves u f x e = let a = head-moves s m (w .ready) (not-halted (kind (tokens s m)) d (goes x) e (not-goes x)) in omega (arith, f .at)
+
+  pub leaving-goes : (u : Cursor) → Follows s m u → (x : ℕ) → weigh (kind (tokens s m)) d ≡ goes x → Leaving s c u x
+  leaving-goes u f x e = record {
+    is = w .is ∙ behind-goes d x (tokens s m) e (not-halted (kind (tokens s m)) d (goes x) e (not-goes x)) ∙ ap (behind x) (f .rest);
+    low = let a = leaving-moves u f x e in omega (arith, w .low);
+    deep = let a = leaving-moves u f x e in let b : depth (goes x) ≤ d + 1 = subst (λ (p : Pass). depth p ≤ d + 1) e (depth-small (kind (tokens s m)) d) in omega (arith, w .deep);
+    left = f .left ∙ w .left;
+    ready = f .ready;
+  }
+
+-- leaving at the group's end, and with something left
+pub leave-end : (s : List ℕ) (c m : Cursor) → Ready s c → Follows s c m → ends (tokens s c) ≡ true → Took 0 s c m leave tt
+leave-end s c m r f e = record { is = rw (e, f .rest, f .left); low = let a = moved-low s c m r f in omega arith; ready = f .ready }
+
+pub leave-left : (s : List ℕ) (c m u : Cursor) → Ready s c → Behind s c m → ends (tokens s c) ≡ false → u .at ≡ m .at → u .head ≡ m .head → leftOf (u .left) ≡ firstOf (leftOf (c .left)) (c .head .start)
+    → Took 0 s c u leave tt
+leave-left s c m u r b e i j l = record {
+  is = rw (e, r .head .place, l, i, b .is);
+  low = omega (arith, b .low);
+  ready = record { head = rw (i, j) (b .ready .head); high = rw i (b .ready .high) };
+}

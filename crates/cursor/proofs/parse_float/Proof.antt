@@ -1,0 +1,48 @@
+use Rattle.text.specs.Bytes.{at}
+use Rattle.error.specs.declared.Refusal.the-variants.{Malformed}
+use Rattle.cursor.proofs.CursorLaws.{took-number}
+use Rattle.number.specs.Number.{nearest}
+use Rattle.grammar.specs.Values.{parseFloat}
+use Rattle.number.proofs.Floats.{round-number}
+use mathlib.Core.Path.{_∙_}
+use borrow.Author.Needs.{needs}
+use Rattle.cursor.proofs.parse_float.Statement.{statement}
+use Rattle.cursor.proofs.parse_float.Tie as tie
+use Rattle.cursor.proofs.parse_float.Reads as reads
+use Rattle.cursor.proofs.parse_float.Lts as lts
+use Rattle.cursor.proofs.number.Reads as number-reads
+use Rattle.number.proofs.decimal.Reads as decimal-reads
+
+-- src/lib.rt:286:11
+number-requires : tie.Need-number-requires
+number-requires c κs = search needs
+
+-- src/lib.rt:287:29
+enum-known-p : tie.Need-enum-known-p
+enum-known-p c = search needs
+
+-- src/lib.rt:288:24
+enum-known-negative : tie.Need-enum-known-negative
+enum-known-negative c = search needs
+
+-- src/lib.rt:289:13
+decimal-requires : tie.Need-decimal-requires
+decimal-requires c κs = (rw (c .before .negative .given .1) at (c .before .before .before .number .ensures)) .small .places
+
+-- src/lib.rt:282:1
+returns : tie.Need-returns
+unfolding parseFloat
+returns c = let n = rw (c .before .p .given .1) at (c .before .before .before .number .ensures) in rw (n .0, n .1)
+
+-- src/lib.rt:282:1
+returns-2 : tie.Need-returns-2
+unfolding parseFloat nearest
+returns-2 c =
+    let n = rw (c .before .before .negative .given .1) at (c .before .before .before .before .number .ensures) in
+    let t = took-number (c .before .before .before .before .before .before .args .text .now) (c .before .before .before .before .before .before .args .c) _ _ _ n Malformed in
+    (record { is = rw (t .is, c .decimal .ensures); low = t .low; ready = t .ready }, rw (c .decimal .ensures) (round-number _ _ _))
+
+pub parse-float-spec : {M : Type 1} → statement M
+parse-float-spec =
+    tie.close
+    (tie.spec number-requires enum-known-p enum-known-negative decimal-requires returns returns-2)

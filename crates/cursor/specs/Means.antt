@@ -1,0 +1,149 @@
+-- What a cursor is, and what the answers of the functions over it mean, in terms of the grammar's rules. Contracts cite these. Assumes nothing.
+use Prim.Native.Nat.{ℕ, suc, _+_, _≤_, _<_}
+use mathlib.Core.Bool.{Bool, true, false, not}
+use mathlib.Core.List.{List}
+use mathlib.Core.Option.{Option, none, some}
+use mathlib.Core.Path.{_≡_}
+use lib.Dec.{T}
+use lib.ListN.{length}
+use lib.Ieee.{isNan}
+use Rattle.text.specs.Bytes.{part}
+use Rattle.number.specs.Number.{Written, bits}
+use Rattle.token.specs.Token.{Token, tokensFrom, place, rest}
+use Rattle.token.specs.Means.{Lexes, Small, written, kindOf}
+use Rattle.token.specs.declared.Number.{Number}
+use Rattle.token.specs.declared.Tok.{Tok}
+use Rattle.token.specs.declared.Tok.the-variants as tok
+use Rattle.ast.specs.declared.Span.{Span}
+use Rattle.error.specs.declared.Refusal.the-variants as cause
+use Rattle.grammar.specs.Rule.{Notes, Out, got, refused, Rule, Signed, absent, plus, minus, plain, seesNumber, word, text, behind, Pass, halts, closes, goes}
+use Rattle.cursor.specs.declared.Left.{Left}
+use Rattle.cursor.specs.declared.Left.the-variants as left
+use Rattle.cursor.specs.declared.Cursor.{Cursor}
+use Rattle.cursor.specs.declared.MarkRead.{MarkRead}
+use Rattle.cursor.specs.declared.MarkRead.the-variants as mark
+use Rattle.cursor.specs.declared.WordRead.{WordRead}
+use Rattle.cursor.specs.declared.WordRead.the-variants as words
+use Rattle.cursor.specs.declared.NumberRead.{NumberRead}
+use Rattle.cursor.specs.declared.NumberRead.the-variants as number
+use Rattle.cursor.specs.declared.FloatRead.{FloatRead}
+use Rattle.cursor.specs.declared.FloatRead.the-variants as float
+use Rattle.cursor.specs.declared.UintRead.{UintRead}
+use Rattle.cursor.specs.declared.UintRead.the-variants as uint
+use Rattle.cursor.specs.declared.TruthRead.{TruthRead}
+use Rattle.cursor.specs.declared.TruthRead.the-variants as truth
+use Rattle.cursor.specs.declared.CaseRead.{CaseRead}
+use Rattle.cursor.specs.declared.CaseRead.the-variants as case
+use Rattle.cursor.specs.declared.NumberSeen.{NumberSeen}
+use Rattle.cursor.specs.declared.NumberSeen.the-variants as seen
+use Rattle.cursor.specs.declared.Passing.{Passing}
+use Rattle.cursor.specs.declared.Passing.the-variants as passing
+
+-- ---- the cursor
+
+abbrev pub leftOf : Left → Option ℕ
+leftOf left.Nothing = none
+leftOf (left.At p) = some p
+
+-- the cursor stands in the text s, before its head
+pub record Ready (s : List ℕ) (c : Cursor) : Type 0 where
+  pub head : Lexes s (c .at) (c .head)
+  pub high : c .at ≤ length s
+
+-- what is noted at a cursor; a repetition takes a byte with each step
+abbrev pub notes : List ℕ → Cursor → Notes
+notes s c = record { leftover = leftOf (c .left); bound = suc (length s) }
+
+abbrev pub tokens : List ℕ → Cursor → List Token
+tokens s c = tokensFrom s (c .at)
+
+-- what the rule p gives at the cursor c
+abbrev pub run : {A : Type 0} → List ℕ → Cursor → Rule A → Out A
+run s c p = p (notes s c) (tokens s c)
+
+-- the rule p takes the value a from the cursor c to the cursor m, at least e bytes on
+pub record Took {A : Type 0} (e : ℕ) (s : List ℕ) (c m : Cursor) (p : Rule A) (a : A) : Type 0 where
+  pub is : run s c p ≡ got a (notes s m) (tokens s m)
+  pub low : c .at + e ≤ m .at
+  pub ready : Ready s m
+
+-- m stands behind the head of c
+pub record Follows (s : List ℕ) (c m : Cursor) : Type 0 where
+  pub rest : rest (tokens s c) ≡ tokens s m
+  pub at : m .at ≡ c .head .next
+  pub left : m .left ≡ c .left
+  pub ready : Ready s m
+
+-- m stands behind the closer of the group that c stands in
+pub record Behind (s : List ℕ) (c m : Cursor) : Type 0 where
+  pub is : tokens s m ≡ behind 0 (tokens s c)
+  pub low : c .at ≤ m .at
+  pub left : m .left ≡ c .left
+  pub ready : Ready s m
+
+-- ---- answers
+
+abbrev pub MarkMeans : List ℕ → Cursor → Rule Unit → MarkRead → Type 0
+MarkMeans s c p (mark.Is m) = Took 1 s c m p tt
+MarkMeans s c p (mark.Missing q) = run s c p ≡ refused cause.Missing q
+
+-- the bytes of a place in the text
+abbrev pub spelled : List ℕ → Span → List ℕ
+spelled s x = part s (x .start) (x .size)
+
+-- a name, which lies in the text
+abbrev pub WordMeans : List ℕ → Cursor → WordRead → Type 0
+WordMeans s c (words.Is x m) = Took 1 s c m word (x .start, spelled s x) × (x .start + x .size ≤ length s)
+WordMeans s c (words.Missing q) = run s c word ≡ refused cause.Missing q
+
+-- what stands between a string's quotes, which lies in the text
+abbrev pub StringMeans : List ℕ → Cursor → WordRead → Type 0
+StringMeans s c (words.Is x m) = Took 1 s c m text (x .start, x .size) × (x .start + x .size ≤ length s)
+StringMeans s c (words.Missing q) = run s c text ≡ refused cause.Missing q
+
+-- a number with its sign, and the tokens behind it
+abbrev pub sign : Bool → Written → Signed
+sign false w = plus w
+sign true w = minus w
+
+abbrev pub past : Bool → List Token → List Token
+past false ts = rest ts
+past true ts = rest (rest ts)
+
+pub record Numbers (s : List ℕ) (c : Cursor) (b : Bool) (n : Number) (m : Cursor) : Type 0 where
+  pub sees : seesNumber (tokens s c) ≡ sign b (written n)
+  pub past : past b (tokens s c) ≡ tokens s m
+  pub left : m .left ≡ c .left
+  pub low : c .at + 1 ≤ m .at
+  pub ready : Ready s m
+  pub small : Small n
+
+abbrev pub NumberMeans : List ℕ → Cursor → NumberRead → Type 0
+NumberMeans s c (number.Is b n m) = Numbers s c b n m
+NumberMeans s c (number.Missing q) = (seesNumber (tokens s c) ≡ absent) × (place (tokens s c) ≡ q)
+
+abbrev pub NumberView : Tok → NumberSeen → Type 0
+NumberView k (seen.Is n) = k ≡ tok.Num n
+NumberView k seen.Not = (t : List ℕ) → plain (kindOf t k) ≡ absent
+
+abbrev pub FloatMeans : List ℕ → Cursor → Rule ℕ → FloatRead → Type 0
+FloatMeans s c p (float.Is v m) = Took 1 s c m p (bits v) × T (not (isNan v))
+FloatMeans s c p (float.Refused r q) = run s c p ≡ refused r q
+
+abbrev pub UintMeans : List ℕ → Cursor → Rule ℕ → UintRead → Type 0
+UintMeans s c p (uint.Is v m) = Took 1 s c m p v
+UintMeans s c p (uint.Refused r q) = run s c p ≡ refused r q
+
+abbrev pub TruthMeans : List ℕ → Cursor → Rule Bool → TruthRead → Type 0
+TruthMeans s c p (truth.Is v m) = Took 1 s c m p v
+TruthMeans s c p (truth.Missing q) = run s c p ≡ refused cause.Missing q
+
+-- the position of a word among some
+abbrev pub CaseMeans : List ℕ → Cursor → Rule ℕ → CaseRead → Type 0
+CaseMeans s c p (case.Is i m) = Took 1 s c m p i
+CaseMeans s c p (case.Refused r q) = run s c p ≡ refused r q
+
+abbrev pub passOf : Passing → Pass
+passOf passing.Halts = halts
+passOf passing.Closes = closes
+passOf (passing.Goes d) = goes d
