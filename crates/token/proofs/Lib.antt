@@ -1,4 +1,5 @@
 pub mod NumberLaws
 pub mod LexLaws
+pub mod WholeLaws
 pub mod TokenLaws
 pub mod SplitLaws

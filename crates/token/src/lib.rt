@@ -1,13 +1,13 @@
 // Tokens of a text: the one at a place, and the pass that judges a whole text by the text rules.
 ghost use mathlib.Core.Path.{_≡_};
-ghost use mathlib.Core.Bool.{true, not, _||_};
+ghost use mathlib.Core.Bool.{not, _||_};
 ghost use mathlib.Core.List.{List};
-ghost use Prim.Native.Nat.{ℕ, suc, _+_, _-_, _^_, _≤_, _<_};
+ghost use Prim.Native.Nat.{ℕ, _-_, _^_, _≤_, _<_};
 ghost use lib.ListN.{length, drop, replicate};
-ghost use Rattle.text.specs.Bytes.{at, run, part, among, decimal, isDigit, isLetter};
+ghost use Rattle.text.specs.Bytes.{run, part, among, decimal, isDigit};
 ghost use Rattle.token.specs.Token.{nameAt, pointAt, pastFraction, suffixAt, pastSuffix, clings, placesOf, numberAt, quotedAt, lexeme};
 ghost use Rattle.token.specs.Split.{closer, closed, nestMark, nest, ended, split};
-ghost use Rattle.token.specs.Means.{kindOf, Fraction, CutMeans, endAt, Lexes, held, opened, DepthMeans, answerOf, answerFrom, TurnMeans, outcome, splitting};
+ghost use Rattle.token.specs.Means.{kindOf, CutMeans, endAt, Lexes, held, opened, DepthMeans, answerOf, answerFrom, TurnMeans, outcome, splitting};
 use error::Refusal;
 use text::Class;
 
@@ -43,7 +43,6 @@ pub struct Lexed {
 // ---- the token that a text begins with
 
 fn name_at(t: &[u8]) -> Cut
-    requires { ⌜ (0 < length (now t)) × (isLetter (at (now t) 0) ≡ true) ⌝ }
     ensures { λ r. ⌜ CutMeans (now (t .entry)) (nameAt (now (t .entry))) r ⌝ }
 {
     let n = text::run_end(t, 0, Class::NameByte);
@@ -54,7 +53,6 @@ fn name_at(t: &[u8]) -> Cut
 }
 
 fn quoted_at(t: &[u8]) -> Cut
-    requires { ⌜ 0 < length (now t) ⌝ }
     ensures { λ r. ⌜ CutMeans (now (t .entry)) (quotedAt (now (t .entry))) r ⌝ }
 {
     let e = text::run_end(t, 1, Class::Inside);
@@ -69,7 +67,6 @@ fn quoted_at(t: &[u8]) -> Cut
 
 // Whether a point and a digit stand at w.
 fn has_point(t: &[u8], w: usize) -> bool
-    requires { ⌜ w ≤ length (now t) ⌝ }
     ensures { λ r. ⌜ r ≡ pointAt (now (t .entry)) w ⌝ }
 {
     if text::byte_at(t, w) == b'.' {
@@ -80,8 +77,8 @@ fn has_point(t: &[u8], w: usize) -> bool
 
 // The end of the digits, of which w stand before the point, if there is one.
 fn past_fraction(t: &[u8], w: usize, point: bool) -> usize
-    requires { ⌜ (w ≤ length (now t)) × (point ≡ pointAt (now t) w) ⌝ }
-    ensures { λ r. ⌜ Fraction (now (t .entry)) w point r ⌝ }
+    requires { ⌜ point ≡ pointAt (now t) w ⌝ }
+    ensures { λ r. ⌜ r ≡ pastFraction point (now (t .entry)) w ⌝ }
 {
     if point {
         return text::run_end(t, w + 1, Class::Digit);
@@ -97,8 +94,8 @@ fn has_suffix(t: &[u8], end: usize) -> bool
 
 // The place behind a number whose digits end at `end`.
 fn past_suffix(t: &[u8], suffix: bool, end: usize) -> usize
-    requires { ⌜ (end ≤ length (now t)) × (suffix ≡ suffixAt (now t) end) ⌝ }
-    ensures { λ r. ⌜ (r ≡ pastSuffix suffix end) × (end ≤ r) × (r ≤ length (now (t .entry))) ⌝ }
+    requires { ⌜ suffix ≡ suffixAt (now t) end ⌝ }
+    ensures { λ r. ⌜ r ≡ pastSuffix suffix end ⌝ }
 {
     if suffix {
         return end + 1;
@@ -121,7 +118,6 @@ fn places_of(point: bool, w: usize, end: usize) -> usize
 
 // Whether something stands at n that may not follow a number.
 fn clinging(t: &[u8], point: bool, suffix: bool, n: usize) -> bool
-    requires { ⌜ n ≤ length (now t) ⌝ }
     ensures { λ r. ⌜ r ≡ clings (now (t .entry)) (not (point || suffix)) n ⌝ }
 {
     if text::in_class(Class::NameByte, text::byte_at(t, n)) {
@@ -141,8 +137,8 @@ fn clinging(t: &[u8], point: bool, suffix: bool, n: usize) -> bool
 
 // The n digits from `from` on, onto a number below 10^(19 - n).
 fn value(t: &[u8], seed: u64, from: usize, n: usize) -> u64
-    requires { ⌜ (from + n ≤ length (now t)) × (n ≤ run isDigit (drop from (now t))) × (seed < 10 ^ (19 - n)) × (n ≤ 19) ⌝ }
-    ensures { λ r. ⌜ (r ≡ decimal seed (part (now (t .entry)) from n)) × (r < 10 ^ 19) ⌝ }
+    requires { ⌜ (n ≤ run isDigit (drop from (now t))) × (seed < 10 ^ (19 - n)) × (n ≤ 19) ⌝ }
+    ensures { λ r. ⌜ r ≡ decimal seed (part (now (t .entry)) from n) ⌝ }
 {
     let mut v = seed;
     let mut i: usize = 0;
@@ -153,19 +149,7 @@ fn value(t: &[u8], seed: u64, from: usize, n: usize) -> u64
     v
 }
 
-// The digits behind the point, onto those before it.
-fn fraction(t: &[u8], seed: u64, w: usize, places: usize) -> u64
-    requires { ⌜ (places ≤ 9) × (seed < 10 ^ 10) × (0 < places → w + 1 + places ≤ length (now t)) × (places ≤ run isDigit (drop (suc w) (now t))) ⌝ }
-    ensures { λ r. ⌜ (r ≡ decimal seed (part (now (t .entry)) (suc w) places)) × (r < 10 ^ 19) ⌝ }
-{
-    if places == 0 {
-        return seed;
-    }
-    value(t, seed, w + 1, places)
-}
-
 fn number_at(t: &[u8]) -> Cut
-    requires { ⌜ (0 < length (now t)) × (isDigit (at (now t) 0) ≡ true) ⌝ }
     ensures { λ r. ⌜ CutMeans (now (t .entry)) (numberAt (now (t .entry))) r ⌝ }
 {
     let w = text::run_end(t, 0, Class::Digit);
@@ -184,7 +168,7 @@ fn number_at(t: &[u8]) -> Cut
         return Cut::Bad(Refusal::TooManyDigits);
     }
     let whole = value(t, 0, 0, w);
-    let digits = fraction(t, whole, w, places);
+    let digits = value(t, whole, end - places, places);
     Cut::Piece(
         Tok::Num(Number {
             digits: digits,
@@ -204,10 +188,9 @@ fn is_mark(b: u8) -> bool
 
 // The token that a text begins with; no blank stands first.
 fn first(t: &[u8]) -> Cut
-    requires { ⌜ 0 < length (now t) ⌝ }
     ensures { λ r. ⌜ CutMeans (now (t .entry)) (lexeme (now (t .entry))) r ⌝ }
 {
-    let b = t[0];
+    let b = text::byte_at(t, 0);
     if text::in_class(Class::Letter, b) {
         return name_at(t);
     }
