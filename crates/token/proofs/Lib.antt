@@ -3,3 +3,5 @@ pub mod LexLaws
 pub mod WholeLaws
 pub mod TokenLaws
 pub mod SplitLaws
+pub mod NameLaws
+pub mod StreamLaws

@@ -13,7 +13,7 @@ use Rattle.text.specs.Bytes.{run, among, isBlank}
 use Rattle.error.specs.declared.Refusal.{Refusal}
 use Rattle.error.specs.declared.Refusal.the-variants.{Unbalanced, TooManyOpen, ScratchTooShort}
 use Rattle.token.specs.Token.{Kind, Token, token, bad, piece, lexeme}
-use Rattle.token.specs.Split.{Nest, unfit, awaits, closer, closed, nestMark, nest, Step, halt, blank, takes, nested, step, Split, unlexed, tokens, before, ended, splitFrom, split}
+use Rattle.token.specs.Split.{Nest, unfit, awaits, closer, closed, nestMark, nest, halt, takes, nested, step, Split, unlexed, tokens, before, ended, splitFrom, split}
 use Rattle.token.specs.Means.{kindOf, Pieces, held, opened, Awaits, DepthMeans, answerOf, answerFrom, GoesOn, outcome, splitting}
 use Rattle.token.specs.declared.Depth.{Depth}
 use Rattle.token.specs.declared.SplitAnswer.{SplitAnswer}

@@ -86,6 +86,11 @@ past-blanks s p start e h =
     let g : run isBlank (drop p s) < length (drop p s) = rw length-drop (omega arith) in
     rw (getD-drop, add-zero, e) (rw getD-drop at (run-stop isBlank (drop p s) g))
 
+-- from the end on there is only the end
+pub past-end : (s : List ℕ) (p : ℕ) → length s ≤ p → tokensFrom s p ≡ token p (mark 0) ∷ []
+unfolding tokensFrom cut
+past-end s p h = rw (drop-of-length-le s h)
+
 module _ (s : List ℕ) (p start : ℕ) (r : start ≡ p + run isBlank (drop p s)) where
   from-start : tokensFrom s p ≡ tokensFrom s start
   unfolding tokensFrom
@@ -98,8 +103,7 @@ module _ (s : List ℕ) (p start : ℕ) (r : start ≡ p + run isBlank (drop p s
       record { kind = rw q; place = rw q; rest = rw (q, q′); low = omega arith; some = omega arith; high = λ h. omega (arith, run-fits isBlank s p h); moved = λ e. absurd (no e); stands = tt }
 
   pub lexes-end : length s ≤ start → Lexes s p (endAt start)
-  unfolding tokensFrom cut
-  lexes-end h = none-at (rw (drop-of-length-le s h))
+  lexes-end h = none-at (past-end s start h)
 
   pub lexes-bad : start < length s → (x : Refusal) → lexeme (drop start s) ≡ bad x → Lexes s p (endAt start)
   unfolding tokensFrom

@@ -1,18 +1,17 @@
 -- What holds of each token that a text begins with: its bytes stand in the text, none of them is foreign, and its kind has its size. Assumes nothing.
-use Prim.Native.Nat.{ℕ, zero, suc, _+_, _-_, _^_, _≤_, _<_}
+use Prim.Native.Nat.{ℕ, suc, _+_, _-_, _^_, _≤_, _<_}
 use mathlib.Core.List.{List, [], _∷_}
 use mathlib.Core.Bool.{Bool, true, false, _&&_, _||_, not}
 use mathlib.Core.Path.{_≡_, refl, sym, _∙_, subst}
 use native.Mathlib.Omega.{arith}
-use native.Mathlib.Nat.{zero-add}
-use lib.Dec.{eqb, ltb, leb}
-use lib.ListN.{length, getD, take, drop, length-drop}
-use lib.Seq.{getD-drop, length-take-le}
+use lib.Dec.{eqb, ltb}
+use lib.ListN.{length, getD, take, drop}
+use lib.Seq.{length-take-le}
 use borrow.Author.Tests.{le-leb, eqb-true, ne-eqb, eqb-false, ltb-true, ltb-false, not-true}
 use Rattle.text.specs.Bytes.{bytes, run, part, oneOf, within, isUpper, isLetter, isDigit, isName, isInside, isBlank, isForeign, decimal, among}
 use Rattle.text.proofs.ByteLaws.{run-at, run-le, run-in, within-is}
 use Rattle.token.specs.Token.{Kind, name, number, quoted, mark, Lexeme, bad, piece, nameAt, pointAt, pastFraction, suffixAt, pastSuffix, clings, placesOf, numberAt, quotedAt, lexeme}
-use Rattle.token.proofs.NumberLaws.{run-in-at, digits-small, ten-positive, ten-fits, whole-small}
+use Rattle.token.proofs.NumberLaws.{run-in-at, digits-small, ten-fits, whole-small}
 use Rattle.token.proofs.LexLaws.{Parts, inside, run-fits, name-is, quoted-is, point-inside, suffix-inside, fraction-run, fraction-is, number-clings, number-long, number-fine, lex-is}
 
 -- ---- classes of bytes with no foreign byte

@@ -2,9 +2,11 @@
 use Prim.Native.Nat.{ℕ, zero, suc, _+_, _^_, _≤_, _<_}
 use mathlib.Core.List.{List, [], _∷_}
 use mathlib.Core.Bool.{Bool, false, cond}
+use mathlib.Core.Option.{Option, none, some}
 use mathlib.Core.Path.{_≡_}
-use lib.Dec.{ltb, eqb}
+use lib.Dec.{ltb}
 use lib.ListN.{length, getD, take, drop, replicate}
+use Rattle.text.specs.Bytes.{same}
 use Rattle.number.specs.Number.{Written}
 use Rattle.token.specs.Token.{Kind, name, number, quoted, mark, Lexeme, bad, piece, tokensFrom, place, kind, isMark, rest}
 use Rattle.error.specs.declared.Refusal.the-variants.{TooManyOpen, ScratchTooShort}
@@ -33,6 +35,11 @@ kindOf t (tok.Name n) = name (take n t)
 kindOf t (tok.Num n) = number (written n)
 kindOf t (tok.Quoted n) = quoted n
 kindOf t (tok.Mark b) = mark b
+
+-- whether a word is these bytes
+abbrev pub isSpelt : Option (List ℕ) → List ℕ → Bool
+isSpelt none bs = false
+isSpelt (some w) bs = same w bs
 
 -- ---- the token that a text begins with
 

@@ -5,9 +5,10 @@ ghost use mathlib.Core.List.{List};
 ghost use Prim.Native.Nat.{ℕ, _-_, _^_, _≤_, _<_};
 ghost use lib.ListN.{length, drop, replicate};
 ghost use Rattle.text.specs.Bytes.{run, part, among, decimal, isDigit};
-ghost use Rattle.token.specs.Token.{nameAt, pointAt, pastFraction, suffixAt, pastSuffix, clings, placesOf, numberAt, quotedAt, lexeme};
+ghost use Rattle.token.specs.Token.{isMark, nameAt, pointAt, pastFraction, suffixAt, pastSuffix, clings, placesOf, numberAt, quotedAt, lexeme};
 ghost use Rattle.token.specs.Split.{closer, closed, nestMark, nest, ended, split};
-ghost use Rattle.token.specs.Means.{kindOf, CutMeans, endAt, Lexes, held, opened, DepthMeans, answerOf, answerFrom, TurnMeans, outcome, splitting};
+ghost use Rattle.token.specs.Names.{isKeyword, wordOf};
+ghost use Rattle.token.specs.Means.{kindOf, isSpelt, CutMeans, endAt, Lexes, held, opened, DepthMeans, answerOf, answerFrom, TurnMeans, outcome, splitting};
 use error::Refusal;
 use text::Class;
 
@@ -399,4 +400,71 @@ pub fn split(text: &[u8], scratch: &mut [u16]) -> SplitAnswer
     let answer = pass(text, scratch);
     clear(scratch);
     answer
+}
+
+// ---- what a token is
+
+// Whether a token is the mark b.
+pub fn seen(k: Tok, b: u8) -> bool
+    ensures { λ r. ⌜ ((t : List ℕ) → r ≡ isMark (kindOf t k) b) ⌝ }
+{
+    match k {
+        Tok::Mark(c) => c == b,
+        Tok::Name(_) => false,
+        Tok::Num(_) => false,
+        Tok::Quoted(_) => false,
+    }
+}
+
+// Whether the token that begins at `start` is a name or a keyword of these bytes.
+pub fn spells(text: &[u8], start: usize, k: Tok, word: &[u8]) -> bool
+    ensures { λ r. ⌜ r ≡ isSpelt (wordOf (kindOf (drop start (now (text .entry))) k)) (now (word .entry)) ⌝ }
+{
+    match k {
+        Tok::Name(n) => text::is_word(text::part(text, start, n), word),
+        Tok::Num(_) => false,
+        Tok::Quoted(_) => false,
+        Tok::Mark(_) => false,
+    }
+}
+
+// The words that are no names, by their lengths, each behind a byte that is its length.
+const KEYWORDS_1: [u8; 2] = *b"\x01_";
+
+const KEYWORDS_2: [u8; 15] = *b"\x02as\x02fn\x02if\x02in\x02do";
+
+const KEYWORDS_3: [u8; 40] =
+    *b"\x03for\x03let\x03mod\x03mut\x03pub\x03ref\x03use\x03dyn\x03box\x03try";
+
+const KEYWORDS_4: [u8; 50] =
+    *b"\x04else\x04enum\x04impl\x04loop\x04move\x04self\x04Self\x04true\x04type\x04priv";
+
+const KEYWORDS_5: [u8; 84] = *b"\x05break\x05const\x05crate\x05false\x05match\x05super\x05trait\
+\x05where\x05while\x05async\x05await\x05final\x05macro\x05yield";
+
+const KEYWORDS_6: [u8; 49] =
+    *b"\x06extern\x06return\x06static\x06struct\x06unsafe\x06become\x06typeof";
+
+const KEYWORDS_7: [u8; 16] = *b"\x07unsized\x07virtual";
+
+const KEYWORDS_8: [u8; 27] = *b"\x08continue\x08abstract\x08override";
+
+// Whether a word is no name: those of its length are a table.
+pub fn is_keyword(word: &[u8]) -> bool
+    ensures { λ r. ⌜ r ≡ isKeyword (now (word .entry)) ⌝ }
+{
+    let n = word.len();
+    if 8 < n {
+        return false;
+    }
+    match n {
+        8 => text::is_listed(&KEYWORDS_8, word),
+        7 => text::is_listed(&KEYWORDS_7, word),
+        6 => text::is_listed(&KEYWORDS_6, word),
+        5 => text::is_listed(&KEYWORDS_5, word),
+        4 => text::is_listed(&KEYWORDS_4, word),
+        3 => text::is_listed(&KEYWORDS_3, word),
+        2 => text::is_listed(&KEYWORDS_2, word),
+        _ => text::is_listed(&KEYWORDS_1, word),
+    }
 }
