@@ -7,12 +7,12 @@ use native.Mathlib.Omega.{arith}
 use native.Mathlib.Numerals.{add-one}
 use lib.Dec.{ltb, eqb}
 use lib.ListN.{length, getD, take, drop, length-drop, List·getD-eq-default}
-use borrow.Author.Tests.{ltb-true, ltb-false, le-ltb, ne-eqb, eqb-true}
-use Rattle.text.specs.Bytes.{run, part, among, oneOf, decimal, isName, isDigit, isLetter, isInside}
+use borrow.Author.Tests.{ltb-true, ltb-false, le-ltb, eqb-true}
+use Rattle.text.specs.Bytes.{run, part, among, decimal, isName, isDigit, isLetter, isInside}
 use Rattle.text.proofs.ByteLaws.{run-le}
 use Rattle.error.specs.declared.Refusal.the-variants.{BadForm, TooManyDigits}
 use Rattle.token.specs.Token.{name, number, quoted, mark, Lexeme, bad, piece, nameAt, quotedAt, pointAt, pastFraction, suffixAt, pastSuffix, clings, placesOf, numberBy, numberAt, lexeme}
-use Rattle.token.specs.Means.{Fraction, CutMeans}
+use Rattle.token.specs.Means.{CutMeans}
 use Rattle.token.specs.declared.Cut.{Cut}
 
 -- a byte that is not 0 stands inside
@@ -33,7 +33,7 @@ pub name-is : (t : List ℕ) (n : ℕ) (b : Bool) → n ≡ run isName t → eqb
 unfolding nameAt
 name-is t n b e h = rw (sym e, h)
 
-quoted-is : (t : List ℕ) (n : ℕ) (b c : Bool) → n ≡ run isInside (drop 1 t) → eqb (getD t (suc n) 0) 34 ≡ b → isName (getD t (n + 2) 0) ≡ c → quotedAt t ≡ cond (b && not c) (piece (quoted n) (n + 2)) (bad BadForm)
+pub quoted-is : (t : List ℕ) (n : ℕ) (b c : Bool) → n ≡ run isInside (drop 1 t) → eqb (getD t (suc n) 0) 34 ≡ b → isName (getD t (n + 2) 0) ≡ c → quotedAt t ≡ cond (b && not c) (piece (quoted n) (n + 2)) (bad BadForm)
 unfolding quotedAt
 quoted-is t n b c e h g = rw (sym e, h, g)
 
@@ -59,15 +59,22 @@ pub suffix-inside : (t : List ℕ) (n : ℕ) → suffixAt t n ≡ true → n < l
 unfolding suffixAt
 suffix-inside t n h = inside t n 115 (eqb-true (getD t n 0) 115 h) (omega arith)
 
-pub fraction-yes : (t : List ℕ) (w r : ℕ) → r ≡ suc w + run isDigit (drop (suc w) t) → w < length t → Fraction t w true r
-unfolding pastFraction placesOf
-fraction-yes t w r e h =
-    let g = run-fits isDigit t (suc w) (omega arith) in
-    record { is = e; low = omega arith; high = omega arith; room = λ z. omega arith; digits = omega arith }
+-- q digits stand after the point, up to e, w of them before it
+module _ (t : List ℕ) (w e q : ℕ) where
+  pub fraction-low : (x : Bool) → q ≡ placesOf x w e → q ≤ e
+  unfolding placesOf
+  fraction-low true l = omega arith
+  fraction-low false l = omega arith
 
-pub fraction-no : (t : List ℕ) (w : ℕ) → w ≤ length t → Fraction t w false w
-unfolding pastFraction placesOf
-fraction-no t w h = record { is = refl; low = omega arith; high = h; room = λ z. absurd (omega arith); digits = omega arith }
+  pub fraction-run : (x : Bool) → e ≡ pastFraction x t w → q ≡ placesOf x w e → q ≤ run isDigit (drop (e - q) t)
+  unfolding pastFraction placesOf
+  fraction-run true k l = let z : e - q ≡ suc w = omega arith in rw z (omega arith)
+  fraction-run false k l = omega arith
+
+  pub fraction-is : (x : Bool) → e ≡ pastFraction x t w → q ≡ placesOf x w e → part t (e - q) q ≡ part t (suc w) q
+  unfolding pastFraction placesOf
+  fraction-is true k l = let z : e - q ≡ suc w = omega arith in rw z
+  fraction-is false k l = rw l
 
 pub clings-is : (t : List ℕ) (point s : Bool) (n : ℕ) (a b c d e : Bool) → isName (getD t n 0) ≡ a → point ≡ b → s ≡ c → eqb (getD t n 0) 46 ≡ d → eqb (getD t (n + 1) 0) 46 ≡ e → (a || (not (b || c) && d && not e)) ≡ clings t (not (point || s)) n
 unfolding clings
@@ -106,10 +113,3 @@ lex-is t a b c d h g k l = rw (h, g, k, l)
 
 pub lex-cut : (t : List ℕ) (x : Lexeme) → lexeme t ≡ x → (r : Cut) → CutMeans t x r → CutMeans t (lexeme t) r
 lex-cut t x e r m = rw e m
-
-pub mark-some : (t : List ℕ) → among ":;,=>.+-%([{)]}" (getD t 0 0) ≡ true → eqb (getD t 0 0) 0 ≡ false
-unfolding oneOf
-mark-some t h = ne-eqb (getD t 0 0) 0 (λ e. different (rw e at h))
-  where
-    different : (false ≡ true) → ⊥
-    different q = let z : _≡_ {A = ℕ} 0 1 = cc in omega arith

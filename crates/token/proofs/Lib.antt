@@ -1,4 +1,7 @@
 pub mod NumberLaws
 pub mod LexLaws
+pub mod WholeLaws
 pub mod TokenLaws
 pub mod SplitLaws
+pub mod NameLaws
+pub mod StreamLaws

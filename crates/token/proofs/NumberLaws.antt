@@ -6,10 +6,10 @@ use mathlib.Core.Path.{_≡_, refl}
 use native.Mathlib.Omega.{arith}
 use native.Mathlib.Numerals.{add-one}
 use native.Mathlib.Nat.{pow-suc, pow-le-pow-right, add-zero}
-use lib.ListN.{length, getD, take, drop}
+use lib.ListN.{length, getD, take, drop, length-drop}
 use lib.Seq.{drop-cons, getD-drop}
 use Rattle.text.specs.Bytes.{run, isDigit, decimal, part}
-use Rattle.text.proofs.ByteLaws.{run-yes, run-no, run-in, within-is}
+use Rattle.text.proofs.ByteLaws.{run-yes, run-no, run-in, run-le, within-is}
 
 pub run-in-at : (p : ℕ → Bool) (s : List ℕ) (from i : ℕ) → i < run p (drop from s) → p (getD s (from + i) 0) ≡ true
 run-in-at p s from i h = rw getD-drop at (run-in p (drop from s) i h)
@@ -53,3 +53,7 @@ pub whole-small : (t : List ℕ) (w v : ℕ) → v ≡ decimal 0 (part t 0 w) �
 whole-small t w v e h g =
     let z : 0 + w ≤ 10 = omega arith in
     rw e (ten-fits _ _ 10 (digits-small t w 0 0 (ten-positive 0) h) z)
+
+-- digits stand in the text
+pub digits-inside : (t : List ℕ) (from n : ℕ) → n ≤ run isDigit (drop from t) → 0 < n → from + n ≤ length t
+digits-inside t from n h z = omega (arith, run-le isDigit (drop from t), length-drop from t)

@@ -13,13 +13,13 @@ use Rattle.text.specs.Bytes.{run, among, isBlank}
 use Rattle.error.specs.declared.Refusal.{Refusal}
 use Rattle.error.specs.declared.Refusal.the-variants.{Unbalanced, TooManyOpen, ScratchTooShort}
 use Rattle.token.specs.Token.{Kind, Token, token, bad, piece, lexeme}
-use Rattle.token.specs.Split.{Nest, unfit, awaits, closer, closed, nestMark, nest, Step, halt, blank, takes, nested, step, Split, unlexed, tokens, before, ended, splitFrom, split}
+use Rattle.token.specs.Split.{Nest, unfit, awaits, closer, closed, nestMark, nest, halt, takes, nested, step, Split, unlexed, tokens, before, ended, splitFrom, split}
 use Rattle.token.specs.Means.{kindOf, Pieces, held, opened, Awaits, DepthMeans, answerOf, answerFrom, GoesOn, outcome, splitting}
 use Rattle.token.specs.declared.Depth.{Depth}
 use Rattle.token.specs.declared.SplitAnswer.{SplitAnswer}
 use Rattle.token.specs.declared.SplitAnswer.the-variants.{Refused}
 use Rattle.token.specs.declared.Tok.{Tok}
-use Rattle.token.proofs.LexLaws.{run-fits}
+use Rattle.token.proofs.WholeLaws.{whole-of}
 use Rattle.token.proofs.TokenLaws.{skips, blanks, past-blanks}
 
 -- ---- the closers that the scratch holds
@@ -130,11 +130,12 @@ module _ (s : List ℕ) (p start : ℕ) (r : start ≡ p + run isBlank (drop p s
 
       pub goes-on : (words : List ℕ) (d : ℕ) → Awaits (nest (kindOf (drop start s) k) cs) words d → GoesOn s p (answerFrom s p cs) words (start + n) d
       goes-on words d a =
-          let g : n ≤ length s - start = rw length-drop at (m .high) in
-          let q = step-takes start n cs _ _ _ (m .some) (m .high) (step-piece cs _ _ n _ (past-blanks s p start r h) (m .is) (a .is)) in
+          let x = whole-of (drop start s) _ n (m .is) in
+          let g : n ≤ length s - start = rw length-drop at (x .high) in
+          let q = step-takes start n cs _ _ _ (x .some) (x .high) (step-piece cs _ _ n _ (past-blanks s p start r h) (m .is) (a .is)) in
           record {
             is = ap answerOf (to-start ∙ q) ∙ answer-before (token start (kindOf (drop start s) k)) (splitFrom 0 (start + n) (held words d) (drop n (drop start s))) ∙ (rw drop-drop);
-            low = omega (arith, m .some);
+            low = omega (arith, x .some);
             high = omega arith;
             few = a .few;
           }

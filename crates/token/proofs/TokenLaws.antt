@@ -10,11 +10,12 @@ use lib.Seq.{drop-drop, getD-drop, take-length}
 use Rattle.text.specs.Bytes.{run, isBlank}
 use Rattle.text.proofs.ByteLaws.{run-yes, run-no, run-stop}
 use Rattle.error.specs.declared.Refusal.{Refusal}
-use Rattle.token.specs.Token.{Kind, mark, Token, token, bad, piece, lexeme, cut, tokensFrom, isMark}
-use Rattle.token.specs.Means.{kindOf, Sound, Stands, Pieces, endAt, Lexes}
+use Rattle.token.specs.Token.{Kind, name, number, quoted, mark, Token, token, bad, piece, lexeme, cut, tokensFrom, isMark}
+use Rattle.token.specs.Means.{kindOf, Sized, Stands, Pieces, endAt, Lexes}
 use Rattle.token.specs.declared.Tok.{Tok}
 use Rattle.token.specs.declared.Tok.the-variants.{Name, Num, Quoted, Mark}
 use Rattle.token.proofs.LexLaws.{run-fits}
+use Rattle.token.proofs.WholeLaws.{Fits, whole-of}
 
 -- the rest of a text, as the code's `&s[i..]` is
 pub rest-of : (s : List ℕ) (i : ℕ) → take (length s - i) (drop i s) ≡ drop i s
@@ -67,23 +68,28 @@ cut-piece p n k (b ∷ l) h e q z m =
 no : (true ≡ false) → ⊥
 no q = let z : _≡_ {A = ℕ} 0 1 = cc in omega arith
 
-no-end : (k : Tok) (n : ℕ) (t : List ℕ) → Sound k n → isMark (kindOf t k) 0 ≡ false
-no-end (Name m) n t h = refl
-no-end (Num m) n t h = refl
-no-end (Quoted m) n t h = refl
-no-end (Mark b) n t h = h
+no-end : (k : Kind) (n : ℕ) → Fits k n → isMark k 0 ≡ false
+no-end (name w) n h = refl
+no-end (number w) n h = refl
+no-end (quoted m) n h = refl
+no-end (mark b) n h = h
 
-stood : (k : Tok) (start n : ℕ) → Sound k n → Stands k start (start + n)
-stood (Name m) start n h = rw h
-stood (Num m) start n h = h
-stood (Quoted m) start n h = rw h
-stood (Mark b) start n h = tt
+stood : (k : Tok) (start n : ℕ) (t : List ℕ) → Sized k n → Fits (kindOf t k) n → Stands k start (start + n)
+stood (Name m) start n t e h = rw e
+stood (Num m) start n t e h = record { places = h .0; digits = h .1 }
+stood (Quoted m) start n t e h = rw h
+stood (Mark b) start n t e h = tt
 
 -- no blank stands behind a run of blanks
 pub past-blanks : (s : List ℕ) (p start : ℕ) → start ≡ p + run isBlank (drop p s) → start < length s → isBlank (getD (drop start s) 0 0) ≡ false
 past-blanks s p start e h =
     let g : run isBlank (drop p s) < length (drop p s) = rw length-drop (omega arith) in
     rw (getD-drop, add-zero, e) (rw getD-drop at (run-stop isBlank (drop p s) g))
+
+-- from the end on there is only the end
+pub past-end : (s : List ℕ) (p : ℕ) → length s ≤ p → tokensFrom s p ≡ token p (mark 0) ∷ []
+unfolding tokensFrom cut
+past-end s p h = rw (drop-of-length-le s h)
 
 module _ (s : List ℕ) (p start : ℕ) (r : start ≡ p + run isBlank (drop p s)) where
   from-start : tokensFrom s p ≡ tokensFrom s start
@@ -97,8 +103,7 @@ module _ (s : List ℕ) (p start : ℕ) (r : start ≡ p + run isBlank (drop p s
       record { kind = rw q; place = rw q; rest = rw (q, q′); low = omega arith; some = omega arith; high = λ h. omega (arith, run-fits isBlank s p h); moved = λ e. absurd (no e); stands = tt }
 
   pub lexes-end : length s ≤ start → Lexes s p (endAt start)
-  unfolding tokensFrom cut
-  lexes-end h = none-at (rw (drop-of-length-le s h))
+  lexes-end h = none-at (past-end s start h)
 
   pub lexes-bad : start < length s → (x : Refusal) → lexeme (drop start s) ≡ bad x → Lexes s p (endAt start)
   unfolding tokensFrom
@@ -107,6 +112,7 @@ module _ (s : List ℕ) (p start : ℕ) (r : start ≡ p + run isBlank (drop p s
   pub lexes-piece : start < length s → (k : Tok) (n : ℕ) → Pieces (drop start s) (lexeme (drop start s)) k n → Lexes s p (record { start = start; tok = k; next = start + n })
   unfolding tokensFrom
   lexes-piece h k n m =
-      let g : n ≤ length s - start = rw length-drop at (m .high) in
-      let q : tokensFrom s p ≡ token start (kindOf (drop start s) k) ∷ tokensFrom s (start + n) = from-start ∙ cut-piece start n _ (drop start s) (rw length-drop (omega arith)) (past-blanks s p start r h) (m .is) (m .some) (m .high) ∙ (rw drop-drop) in
-      record { kind = rw q; place = rw q; rest = rw (q, no-end k n (drop start s) (m .sound)); low = omega arith; some = omega arith; high = λ h. omega arith; moved = λ e. omega (arith, m .some); stands = stood k start n (m .sound) }
+      let x = whole-of (drop start s) _ n (m .is) in
+      let g : n ≤ length s - start = rw length-drop at (x .high) in
+      let q : tokensFrom s p ≡ token start (kindOf (drop start s) k) ∷ tokensFrom s (start + n) = from-start ∙ cut-piece start n _ (drop start s) (rw length-drop (omega arith)) (past-blanks s p start r h) (m .is) (x .some) (x .high) ∙ (rw drop-drop) in
+      record { kind = rw q; place = rw q; rest = rw (q, no-end (kindOf (drop start s) k) n (x .fits)); low = omega arith; some = omega arith; high = λ h. omega arith; moved = λ e. omega (arith, x .some); stands = stood k start n (drop start s) (m .sized) (x .fits) }

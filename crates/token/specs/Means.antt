@@ -2,12 +2,13 @@
 use Prim.Native.Nat.{ℕ, zero, suc, _+_, _^_, _≤_, _<_}
 use mathlib.Core.List.{List, [], _∷_}
 use mathlib.Core.Bool.{Bool, false, cond}
+use mathlib.Core.Option.{Option, none, some}
 use mathlib.Core.Path.{_≡_}
-use lib.Dec.{ltb, eqb}
+use lib.Dec.{ltb}
 use lib.ListN.{length, getD, take, drop, replicate}
-use Rattle.text.specs.Bytes.{run, isDigit}
+use Rattle.text.specs.Bytes.{same}
 use Rattle.number.specs.Number.{Written}
-use Rattle.token.specs.Token.{Kind, name, number, quoted, mark, Lexeme, bad, piece, pastFraction, placesOf, tokensFrom, place, kind, isMark, rest}
+use Rattle.token.specs.Token.{Kind, name, number, quoted, mark, Lexeme, bad, piece, tokensFrom, place, kind, isMark, rest}
 use Rattle.error.specs.declared.Refusal.the-variants.{TooManyOpen, ScratchTooShort}
 use Rattle.token.specs.Split.{Nest, unfit, awaits, closer, Split, unlexed, tokens, splitFrom, split}
 use Rattle.token.specs.declared.Number.{Number}
@@ -35,33 +36,23 @@ kindOf t (tok.Num n) = number (written n)
 kindOf t (tok.Quoted n) = quoted n
 kindOf t (tok.Mark b) = mark b
 
--- what the digit limits of 01 leave of a number
-pub record Small (n : Number) : Type 0 where
-  pub places : n .places ≤ 9
-  pub digits : n .digits < 10 ^ 19
+-- whether a word is these bytes
+abbrev pub isSpelt : Option (List ℕ) → List ℕ → Bool
+isSpelt none bs = false
+isSpelt (some w) bs = same w bs
 
 -- ---- the token that a text begins with
 
--- r ends the digits of a number, w of them standing before the point
-pub record Fraction (t : List ℕ) (w : ℕ) (point : Bool) (r : ℕ) : Type 0 where
-  pub is : r ≡ pastFraction point t w
-  pub low : w ≤ r
-  pub high : r ≤ length t
-  pub room : 0 < placesOf point w r → w + 1 + placesOf point w r ≤ length t
-  pub digits : placesOf point w r ≤ run isDigit (drop (suc w) t)
-
--- what else is known of a token of n bytes
-abbrev pub Sound : Tok → ℕ → Type 0
-Sound (tok.Name m) n = m ≡ n
-Sound (tok.Num m) n = Small m
-Sound (tok.Quoted m) n = n ≡ m + 2
-Sound (tok.Mark b) n = eqb b 0 ≡ false
+-- a name's size is said twice
+abbrev pub Sized : Tok → ℕ → Type 0
+Sized (tok.Name m) n = m ≡ n
+Sized (tok.Num m) n = Unit {0}
+Sized (tok.Quoted m) n = Unit {0}
+Sized (tok.Mark b) n = Unit {0}
 
 pub record Pieces (t : List ℕ) (x : Lexeme) (k : Tok) (n : ℕ) : Type 0 where
   pub is : x ≡ piece (kindOf t k) n
-  pub some : 0 < n
-  pub high : n ≤ length t
-  pub sound : Sound k n
+  pub sized : Sized k n
 
 -- the lexeme x of t, as the code has it
 abbrev pub CutMeans : List ℕ → Lexeme → Cut → Type 0
@@ -72,6 +63,11 @@ CutMeans t x (cut.Piece k n) = Pieces t x k n
 
 abbrev pub endAt : ℕ → Lexed
 endAt at = record { start = at; tok = tok.Mark 0; next = at }
+
+-- what the digit limits of 01 leave of a number
+pub record Small (n : Number) : Type 0 where
+  pub places : n .places ≤ 9
+  pub digits : n .digits < 10 ^ 19
 
 -- what else is known of a token from start to next; of the end, a mark 0, nothing
 abbrev pub Stands : Tok → ℕ → ℕ → Type 0

@@ -1,13 +1,14 @@
 // Tokens of a text: the one at a place, and the pass that judges a whole text by the text rules.
 ghost use mathlib.Core.Path.{_≡_};
-ghost use mathlib.Core.Bool.{true, not, _||_};
+ghost use mathlib.Core.Bool.{not, _||_};
 ghost use mathlib.Core.List.{List};
-ghost use Prim.Native.Nat.{ℕ, suc, _+_, _-_, _^_, _≤_, _<_};
+ghost use Prim.Native.Nat.{ℕ, _-_, _^_, _≤_, _<_};
 ghost use lib.ListN.{length, drop, replicate};
-ghost use Rattle.text.specs.Bytes.{at, run, part, among, decimal, isDigit, isLetter};
-ghost use Rattle.token.specs.Token.{nameAt, pointAt, pastFraction, suffixAt, pastSuffix, clings, placesOf, numberAt, quotedAt, lexeme};
+ghost use Rattle.text.specs.Bytes.{run, part, among, decimal, isDigit};
+ghost use Rattle.token.specs.Token.{isMark, nameAt, pointAt, pastFraction, suffixAt, pastSuffix, clings, placesOf, numberAt, quotedAt, lexeme};
 ghost use Rattle.token.specs.Split.{closer, closed, nestMark, nest, ended, split};
-ghost use Rattle.token.specs.Means.{kindOf, Fraction, CutMeans, endAt, Lexes, held, opened, DepthMeans, answerOf, answerFrom, TurnMeans, outcome, splitting};
+ghost use Rattle.token.specs.Names.{isKeyword, wordOf};
+ghost use Rattle.token.specs.Means.{kindOf, isSpelt, CutMeans, endAt, Lexes, held, opened, DepthMeans, answerOf, answerFrom, TurnMeans, outcome, splitting};
 use error::Refusal;
 use text::Class;
 
@@ -43,7 +44,6 @@ pub struct Lexed {
 // ---- the token that a text begins with
 
 fn name_at(t: &[u8]) -> Cut
-    requires { ⌜ (0 < length (now t)) × (isLetter (at (now t) 0) ≡ true) ⌝ }
     ensures { λ r. ⌜ CutMeans (now (t .entry)) (nameAt (now (t .entry))) r ⌝ }
 {
     let n = text::run_end(t, 0, Class::NameByte);
@@ -54,7 +54,6 @@ fn name_at(t: &[u8]) -> Cut
 }
 
 fn quoted_at(t: &[u8]) -> Cut
-    requires { ⌜ 0 < length (now t) ⌝ }
     ensures { λ r. ⌜ CutMeans (now (t .entry)) (quotedAt (now (t .entry))) r ⌝ }
 {
     let e = text::run_end(t, 1, Class::Inside);
@@ -69,7 +68,6 @@ fn quoted_at(t: &[u8]) -> Cut
 
 // Whether a point and a digit stand at w.
 fn has_point(t: &[u8], w: usize) -> bool
-    requires { ⌜ w ≤ length (now t) ⌝ }
     ensures { λ r. ⌜ r ≡ pointAt (now (t .entry)) w ⌝ }
 {
     if text::byte_at(t, w) == b'.' {
@@ -80,8 +78,8 @@ fn has_point(t: &[u8], w: usize) -> bool
 
 // The end of the digits, of which w stand before the point, if there is one.
 fn past_fraction(t: &[u8], w: usize, point: bool) -> usize
-    requires { ⌜ (w ≤ length (now t)) × (point ≡ pointAt (now t) w) ⌝ }
-    ensures { λ r. ⌜ Fraction (now (t .entry)) w point r ⌝ }
+    requires { ⌜ point ≡ pointAt (now t) w ⌝ }
+    ensures { λ r. ⌜ r ≡ pastFraction point (now (t .entry)) w ⌝ }
 {
     if point {
         return text::run_end(t, w + 1, Class::Digit);
@@ -97,8 +95,8 @@ fn has_suffix(t: &[u8], end: usize) -> bool
 
 // The place behind a number whose digits end at `end`.
 fn past_suffix(t: &[u8], suffix: bool, end: usize) -> usize
-    requires { ⌜ (end ≤ length (now t)) × (suffix ≡ suffixAt (now t) end) ⌝ }
-    ensures { λ r. ⌜ (r ≡ pastSuffix suffix end) × (end ≤ r) × (r ≤ length (now (t .entry))) ⌝ }
+    requires { ⌜ suffix ≡ suffixAt (now t) end ⌝ }
+    ensures { λ r. ⌜ r ≡ pastSuffix suffix end ⌝ }
 {
     if suffix {
         return end + 1;
@@ -121,7 +119,6 @@ fn places_of(point: bool, w: usize, end: usize) -> usize
 
 // Whether something stands at n that may not follow a number.
 fn clinging(t: &[u8], point: bool, suffix: bool, n: usize) -> bool
-    requires { ⌜ n ≤ length (now t) ⌝ }
     ensures { λ r. ⌜ r ≡ clings (now (t .entry)) (not (point || suffix)) n ⌝ }
 {
     if text::in_class(Class::NameByte, text::byte_at(t, n)) {
@@ -141,8 +138,8 @@ fn clinging(t: &[u8], point: bool, suffix: bool, n: usize) -> bool
 
 // The n digits from `from` on, onto a number below 10^(19 - n).
 fn value(t: &[u8], seed: u64, from: usize, n: usize) -> u64
-    requires { ⌜ (from + n ≤ length (now t)) × (n ≤ run isDigit (drop from (now t))) × (seed < 10 ^ (19 - n)) × (n ≤ 19) ⌝ }
-    ensures { λ r. ⌜ (r ≡ decimal seed (part (now (t .entry)) from n)) × (r < 10 ^ 19) ⌝ }
+    requires { ⌜ (n ≤ run isDigit (drop from (now t))) × (seed < 10 ^ (19 - n)) × (n ≤ 19) ⌝ }
+    ensures { λ r. ⌜ r ≡ decimal seed (part (now (t .entry)) from n) ⌝ }
 {
     let mut v = seed;
     let mut i: usize = 0;
@@ -153,19 +150,7 @@ fn value(t: &[u8], seed: u64, from: usize, n: usize) -> u64
     v
 }
 
-// The digits behind the point, onto those before it.
-fn fraction(t: &[u8], seed: u64, w: usize, places: usize) -> u64
-    requires { ⌜ (places ≤ 9) × (seed < 10 ^ 10) × (0 < places → w + 1 + places ≤ length (now t)) × (places ≤ run isDigit (drop (suc w) (now t))) ⌝ }
-    ensures { λ r. ⌜ (r ≡ decimal seed (part (now (t .entry)) (suc w) places)) × (r < 10 ^ 19) ⌝ }
-{
-    if places == 0 {
-        return seed;
-    }
-    value(t, seed, w + 1, places)
-}
-
 fn number_at(t: &[u8]) -> Cut
-    requires { ⌜ (0 < length (now t)) × (isDigit (at (now t) 0) ≡ true) ⌝ }
     ensures { λ r. ⌜ CutMeans (now (t .entry)) (numberAt (now (t .entry))) r ⌝ }
 {
     let w = text::run_end(t, 0, Class::Digit);
@@ -184,7 +169,7 @@ fn number_at(t: &[u8]) -> Cut
         return Cut::Bad(Refusal::TooManyDigits);
     }
     let whole = value(t, 0, 0, w);
-    let digits = fraction(t, whole, w, places);
+    let digits = value(t, whole, end - places, places);
     Cut::Piece(
         Tok::Num(Number {
             digits: digits,
@@ -204,10 +189,9 @@ fn is_mark(b: u8) -> bool
 
 // The token that a text begins with; no blank stands first.
 fn first(t: &[u8]) -> Cut
-    requires { ⌜ 0 < length (now t) ⌝ }
     ensures { λ r. ⌜ CutMeans (now (t .entry)) (lexeme (now (t .entry))) r ⌝ }
 {
-    let b = t[0];
+    let b = text::byte_at(t, 0);
     if text::in_class(Class::Letter, b) {
         return name_at(t);
     }
@@ -416,4 +400,71 @@ pub fn split(text: &[u8], scratch: &mut [u16]) -> SplitAnswer
     let answer = pass(text, scratch);
     clear(scratch);
     answer
+}
+
+// ---- what a token is
+
+// Whether a token is the mark b.
+pub fn seen(k: Tok, b: u8) -> bool
+    ensures { λ r. ⌜ ((t : List ℕ) → r ≡ isMark (kindOf t k) b) ⌝ }
+{
+    match k {
+        Tok::Mark(c) => c == b,
+        Tok::Name(_) => false,
+        Tok::Num(_) => false,
+        Tok::Quoted(_) => false,
+    }
+}
+
+// Whether the token that begins at `start` is a name or a keyword of these bytes.
+pub fn spells(text: &[u8], start: usize, k: Tok, word: &[u8]) -> bool
+    ensures { λ r. ⌜ r ≡ isSpelt (wordOf (kindOf (drop start (now (text .entry))) k)) (now (word .entry)) ⌝ }
+{
+    match k {
+        Tok::Name(n) => text::is_word(text::part(text, start, n), word),
+        Tok::Num(_) => false,
+        Tok::Quoted(_) => false,
+        Tok::Mark(_) => false,
+    }
+}
+
+// The words that are no names, by their lengths, each behind a byte that is its length.
+const KEYWORDS_1: [u8; 2] = *b"\x01_";
+
+const KEYWORDS_2: [u8; 15] = *b"\x02as\x02fn\x02if\x02in\x02do";
+
+const KEYWORDS_3: [u8; 40] =
+    *b"\x03for\x03let\x03mod\x03mut\x03pub\x03ref\x03use\x03dyn\x03box\x03try";
+
+const KEYWORDS_4: [u8; 50] =
+    *b"\x04else\x04enum\x04impl\x04loop\x04move\x04self\x04Self\x04true\x04type\x04priv";
+
+const KEYWORDS_5: [u8; 84] = *b"\x05break\x05const\x05crate\x05false\x05match\x05super\x05trait\
+\x05where\x05while\x05async\x05await\x05final\x05macro\x05yield";
+
+const KEYWORDS_6: [u8; 49] =
+    *b"\x06extern\x06return\x06static\x06struct\x06unsafe\x06become\x06typeof";
+
+const KEYWORDS_7: [u8; 16] = *b"\x07unsized\x07virtual";
+
+const KEYWORDS_8: [u8; 27] = *b"\x08continue\x08abstract\x08override";
+
+// Whether a word is no name: those of its length are a table.
+pub fn is_keyword(word: &[u8]) -> bool
+    ensures { λ r. ⌜ r ≡ isKeyword (now (word .entry)) ⌝ }
+{
+    let n = word.len();
+    if 8 < n {
+        return false;
+    }
+    match n {
+        8 => text::is_listed(&KEYWORDS_8, word),
+        7 => text::is_listed(&KEYWORDS_7, word),
+        6 => text::is_listed(&KEYWORDS_6, word),
+        5 => text::is_listed(&KEYWORDS_5, word),
+        4 => text::is_listed(&KEYWORDS_4, word),
+        3 => text::is_listed(&KEYWORDS_3, word),
+        2 => text::is_listed(&KEYWORDS_2, word),
+        _ => text::is_listed(&KEYWORDS_1, word),
+    }
 }

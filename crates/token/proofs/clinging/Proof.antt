@@ -1,10 +1,11 @@
 -- `token::clinging` meets its contract. Assumes nothing.
 use mathlib.Core.Bool.{false, true}
 use mathlib.Core.Path.{refl, sym, _∙_}
+use native.Mathlib.Omega.{arith}
 use lib.Dec.{eqb}
 use borrow.Author.Needs.{needs}
 use borrow.Author.Tests.{eq-eqb, ne-eqb}
-use Rattle.token.proofs.LexLaws.{clings-is}
+use Rattle.token.proofs.LexLaws.{inside, clings-is}
 use Rattle.token.proofs.clinging.Statement.{statement}
 use Rattle.token.proofs.clinging.Tie as tie
 
@@ -27,7 +28,7 @@ byte-at-requires-2 : tie.Need-byte-at-requires-2
 byte-at-requires-2 c κs = search needs
 
 add-byte-at : tie.Need-add-byte-at
-add-byte-at c = search needs
+add-byte-at c = omega (arith, inside (c .before .before .before .before .before .before .before .before .args .t .now) (c .before .before .before .before .before .before .before .before .args .n) 46 (sym (c .before .byte-at2 .ensures) ∙ c .if4 .taken) (omega arith))
 
 byte-at-requires-3 : tie.Need-byte-at-requires-3
 byte-at-requires-3 c κs = search needs

@@ -1,60 +1,70 @@
 -- `token::first` meets its contract; the first byte decides. Assumes nothing.
 use mathlib.Core.Bool.{false, true}
 use mathlib.Core.Path.{refl, sym, _∙_}
-use native.Mathlib.Omega.{arith}
 use borrow.Author.Needs.{needs}
 use borrow.Author.Tests.{eq-eqb, ne-eqb}
-use Rattle.token.proofs.LexLaws.{lex-cut, lex-is, mark-some}
+use Rattle.text.specs.Bytes.{at}
+use Rattle.token.proofs.LexLaws.{lex-cut, lex-is}
 use Rattle.token.proofs.first.Statement.{statement}
 use Rattle.token.proofs.first.Tie as tie
 
-shared-slice-read-b : tie.Need-shared-slice-read-b
-shared-slice-read-b c = search needs
+byte-at-requires : tie.Need-byte-at-requires
+byte-at-requires c κs = search needs
 
 in-class-requires : tie.Need-in-class-requires
 in-class-requires c κs = search needs
 
 name-at-requires : tie.Need-name-at-requires
-name-at-requires c κs = (c .before .before .before .before .pre, sym (c .before .in-class .ensures) ∙ c .if1 .taken)
+name-at-requires c κs = search needs
 
 returns : tie.Need-returns
-returns c = lex-cut (c .before .before .before .before .before .args .t .now) _ (lex-is (c .before .before .before .before .before .args .t .now) true _ _ _ (sym (c .before .before .in-class .ensures) ∙ c .before .if1 .taken) refl refl refl) (c .name-at .result) (c .name-at .ensures)
+returns c =
+    let t = c .before .before .before .before .before .args .t .now in
+    let e = sym (c .before .before .before .byte-at .ensures) in
+    lex-cut t _ (lex-is t true _ _ _ (rw e (sym (c .before .before .in-class .ensures) ∙ c .before .if1 .taken)) refl refl refl) (c .name-at .result) (c .name-at .ensures)
 
 in-class-requires-2 : tie.Need-in-class-requires-2
 in-class-requires-2 c κs = search needs
 
 number-at-requires : tie.Need-number-at-requires
-number-at-requires c κs = (c .before .before .before .before .before .before .pre, sym (c .before .in-class2 .ensures) ∙ c .if2 .taken)
+number-at-requires c κs = search needs
 
 returns-2 : tie.Need-returns-2
-returns-2 c = lex-cut (c .before .before .before .before .before .before .before .args .t .now) _ (lex-is (c .before .before .before .before .before .before .before .args .t .now) false true _ _ (sym (c .before .before .before .before .in-class .ensures) ∙ c .before .before .before .if1 .left) (sym (c .before .before .in-class2 .ensures) ∙ c .before .if2 .taken) refl refl) (c .number-at .result) (c .number-at .ensures)
+returns-2 c =
+    let t = c .before .before .before .before .before .before .before .args .t .now in
+    let e = sym (c .before .before .before .before .before .byte-at .ensures) in
+    lex-cut t _ (lex-is t false true _ _ (rw e (sym (c .before .before .before .before .in-class .ensures) ∙ c .before .before .before .if1 .left)) (rw e (sym (c .before .before .in-class2 .ensures) ∙ c .before .if2 .taken)) refl refl) (c .number-at .result) (c .number-at .ensures)
 
 quoted-at-requires : tie.Need-quoted-at-requires
 quoted-at-requires c κs = search needs
 
 returns-3 : tie.Need-returns-3
-returns-3 c = lex-cut (c .before .before .before .before .before .before .before .before .args .t .now) _ (lex-is (c .before .before .before .before .before .before .before .before .args .t .now) false false true _ (sym (c .before .before .before .before .before .in-class .ensures) ∙ c .before .before .before .before .if1 .left) (sym (c .before .before .before .in-class2 .ensures) ∙ c .before .before .if2 .left) (eq-eqb _ 34 (c .before .if3 .taken)) refl) (c .quoted-at .result) (c .quoted-at .ensures)
+returns-3 c =
+    let t = c .before .before .before .before .before .before .before .before .args .t .now in
+    let e = sym (c .before .before .before .before .before .before .byte-at .ensures) in
+    lex-cut t _ (lex-is t false false true _ (rw e (sym (c .before .before .before .before .before .in-class .ensures) ∙ c .before .before .before .before .if1 .left)) (rw e (sym (c .before .before .before .in-class2 .ensures) ∙ c .before .before .if2 .left)) (eq-eqb _ 34 (e ∙ c .before .if3 .taken)) refl) (c .quoted-at .result) (c .quoted-at .ensures)
 
 is-mark-requires : tie.Need-is-mark-requires
 is-mark-requires c κs = search needs
 
 returns-4 : tie.Need-returns-4
 returns-4 c =
-    record {
-      is = lex-is (c .before .before .before .before .before .before .before .before .before .args .t .now) false false false true (sym (c .before .before .before .before .before .before .in-class .ensures) ∙ c .before .before .before .before .before .if1 .left) (sym (c .before .before .before .before .in-class2 .ensures) ∙ c .before .before .before .if2 .left) (ne-eqb _ 34 (c .before .before .if3 .left)) (sym (c .before .is-mark .ensures) ∙ c .if4 .taken);
-      some = omega arith;
-      high = omega (arith, c .before .before .before .before .before .before .before .before .before .pre);
-      sound = mark-some (c .before .before .before .before .before .before .before .before .before .args .t .now) (sym (c .before .is-mark .ensures) ∙ c .if4 .taken);
-    }
+    let t = c .before .before .before .before .before .before .before .before .before .args .t .now in
+    let e = sym (c .before .before .before .before .before .before .before .byte-at .ensures) in
+    let q = lex-is t false false false true (rw e (sym (c .before .before .before .before .before .before .in-class .ensures) ∙ c .before .before .before .before .before .if1 .left)) (rw e (sym (c .before .before .before .before .in-class2 .ensures) ∙ c .before .before .before .if2 .left)) (rw e (ne-eqb _ 34 (c .before .before .if3 .left))) (rw e (sym (c .before .is-mark .ensures) ∙ c .if4 .taken)) in
+    record { is = rw e at q; sized = tt }
 
 returns-5 : tie.Need-returns-5
-returns-5 c = lex-is (c .before .before .before .before .before .before .before .before .before .args .t .now) false false false false (sym (c .before .before .before .before .before .before .in-class .ensures) ∙ c .before .before .before .before .before .if1 .left) (sym (c .before .before .before .before .in-class2 .ensures) ∙ c .before .before .before .if2 .left) (ne-eqb _ 34 (c .before .before .if3 .left)) (sym (c .before .is-mark .ensures) ∙ c .if4 .left)
+returns-5 c =
+    let t = c .before .before .before .before .before .before .before .before .before .args .t .now in
+    let e = sym (c .before .before .before .before .before .before .before .byte-at .ensures) in
+    lex-is t false false false false (rw e (sym (c .before .before .before .before .before .before .in-class .ensures) ∙ c .before .before .before .before .before .if1 .left)) (rw e (sym (c .before .before .before .before .in-class2 .ensures) ∙ c .before .before .before .if2 .left)) (rw e (ne-eqb _ 34 (c .before .before .if3 .left))) (rw e (sym (c .before .is-mark .ensures) ∙ c .if4 .left))
 
 pub first-spec : {M : Type 1} → statement M
 first-spec =
     tie.close
     (tie.spec
-    shared-slice-read-b
+    byte-at-requires
     in-class-requires
     name-at-requires
     returns

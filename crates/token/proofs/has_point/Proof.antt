@@ -1,8 +1,10 @@
 -- `token::has_point` meets its contract. Assumes nothing.
 use mathlib.Core.Path.{sym, _∙_}
 use native.Mathlib.Numerals.{add-one}
+use native.Mathlib.Omega.{arith}
 use borrow.Author.Needs.{needs}
 use borrow.Author.Tests.{eq-eqb, ne-eqb}
+use Rattle.token.proofs.LexLaws.{inside}
 use Rattle.token.specs.Token.{pointAt}
 use Rattle.token.proofs.has_point.Statement.{statement}
 use Rattle.token.proofs.has_point.Tie as tie
@@ -11,7 +13,7 @@ byte-at-requires : tie.Need-byte-at-requires
 byte-at-requires c κs = search needs
 
 add-byte-at : tie.Need-add-byte-at
-add-byte-at c = search needs
+add-byte-at c = omega (arith, inside (c .before .before .before .args .t .now) (c .before .before .before .args .w) 46 (sym (c .before .byte-at .ensures) ∙ c .if1 .taken) (omega arith))
 
 byte-at-requires-2 : tie.Need-byte-at-requires-2
 byte-at-requires-2 c κs = search needs

@@ -1,12 +1,9 @@
 -- `token::name_at` meets its contract. Assumes nothing.
 use mathlib.Core.Bool.{false, true}
-use mathlib.Core.Path.{sym, _∙_}
+use mathlib.Core.Path.{refl, sym, _∙_}
 use native.Mathlib.Nat.{zero-add}
-use native.Mathlib.Omega.{arith}
 use borrow.Author.Needs.{needs}
 use borrow.Author.Tests.{eq-eqb, ne-eqb}
-use Rattle.text.proofs.ByteLaws.{run-at, run-le}
-use Rattle.text.specs.Bytes.{isName}
 use Rattle.token.proofs.LexLaws.{name-is}
 use Rattle.token.proofs.name_at.Statement.{statement}
 use Rattle.token.proofs.name_at.Tie as tie
@@ -21,11 +18,7 @@ returns : tie.Need-returns
 returns c = name-is (c .before .before .before .before .args .t .now) (c .before .before .run-end .result) true (c .before .before .run-end .ensures ∙ zero-add _) (eq-eqb _ 34 (sym (c .before .byte-at .ensures) ∙ c .if1 .taken))
 
 returns-2 : tie.Need-returns-2
-returns-2 c =
-    let t = c .before .before .before .before .args .t .now in
-    let e = c .before .before .run-end .ensures ∙ zero-add _ in
-    let z = run-at isName t 0 (c .before .before .before .before .pre .0) (rw (c .before .before .before .before .pre .1)) in
-    record { is = name-is t (c .before .before .run-end .result) false e (ne-eqb _ 34 (λ q. c .if1 .left (c .before .byte-at .ensures ∙ q))); some = omega (arith, e); high = omega (arith, e, run-le isName t); sound = search needs }
+returns-2 c = record { is = name-is (c .before .before .before .before .args .t .now) (c .before .before .run-end .result) false (c .before .before .run-end .ensures ∙ zero-add _) (ne-eqb _ 34 (λ q. c .if1 .left (c .before .byte-at .ensures ∙ q))); sized = refl }
 
 pub name-at-spec : {M : Type 1} → statement M
 name-at-spec = tie.close (tie.spec run-end-requires byte-at-requires returns returns-2)

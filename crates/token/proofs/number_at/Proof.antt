@@ -1,15 +1,12 @@
 -- `token::number_at` meets its contract; each answer comes from the parts of a number, `Parts`. Assumes nothing.
-use Prim.Native.Nat.{_-_, suc, ℕ}
-use mathlib.Core.Path.{ap, sym, _∙_}
+use Prim.Native.Nat.{_-_}
+use mathlib.Core.Path.{sym, _∙_}
 use native.Mathlib.Nat.{zero-add}
 use native.Mathlib.Omega.{arith}
 use borrow.Author.Needs.{needs}
 use borrow.Author.Tests.{le-ltb, lt-ltb}
-use Rattle.text.proofs.ByteLaws.{run-at}
-use Rattle.text.specs.Bytes.{at, decimal, isDigit, part}
-use Rattle.number.specs.Number.{whole}
-use Rattle.token.proofs.NumberLaws.{ten-positive, whole-small}
-use Rattle.token.proofs.LexLaws.{Parts, number-clings, number-long, number-fine, run-fits}
+use Rattle.token.proofs.NumberLaws.{ten-fits, ten-positive, whole-small}
+use Rattle.token.proofs.LexLaws.{Parts, number-clings, number-long, number-fine, fraction-low, fraction-run, fraction-is}
 use Rattle.token.proofs.number_at.Statement.{statement}
 use Rattle.token.proofs.number_at.Tie as tie
 
@@ -26,19 +23,19 @@ parts w =
     record {
       whole = w .before .before .before .before .before .before .run-end .ensures ∙ zero-add _;
       point = w .before .before .before .before .before .has-point .ensures;
-      end = w .before .before .before .before .past-fraction .ensures .is;
+      end = w .before .before .before .before .past-fraction .ensures;
       suffix = w .before .before .before .has-suffix .ensures;
-      next = w .before .before .past-suffix .ensures .0;
+      next = w .before .before .past-suffix .ensures;
     }
 
 run-end-requires : tie.Need-run-end-requires
 run-end-requires c κs = search needs
 
 has-point-requires : tie.Need-has-point-requires
-has-point-requires c κs = omega (arith, run-fits isDigit (c .before .before .args .t .now) 0 (omega arith))
+has-point-requires c κs = search needs
 
 past-fraction-requires : tie.Need-past-fraction-requires
-past-fraction-requires c κs = (omega (arith, run-fits isDigit (c .before .before .before .args .t .now) 0 (omega arith)), c .has-point .ensures)
+past-fraction-requires c κs = search needs
 
 has-suffix-requires : tie.Need-has-suffix-requires
 has-suffix-requires c κs = search needs
@@ -62,21 +59,22 @@ returns-3 : tie.Need-returns-3
 returns-3 c = number-long (parts (c .before .before .before)) (sym (c .before .before .before .clinging .ensures) ∙ c .before .before .if1 .left) (rw (le-ltb 10 (c .before .before .before .before .before .before .before .before .before .run-end .result) (c .before .if2 .left), sym (c .before .before .before .before .places-of .ensures), lt-ltb 9 (c .before .before .before .before .places-of .result) (c .if3 .taken)))
 
 value-requires : tie.Need-value-requires
-value-requires c κs = (omega (arith, run-fits isDigit (c .before .before .before .before .before .before .before .before .before .before .before .args .t .now) 0 (omega arith)), omega (arith, c .before .before .before .before .before .before .before .before .before .run-end .ensures), ten-positive (19 - c .before .before .before .before .before .before .before .before .before .run-end .result), omega arith)
+value-requires c κs = (omega (arith, c .before .before .before .before .before .before .before .before .before .run-end .ensures), ten-positive (19 - c .before .before .before .before .before .before .before .before .before .run-end .result), omega arith)
 
-fraction-requires : tie.Need-fraction-requires
-fraction-requires c κs = (omega arith, whole-small (c .before .before .before .before .before .before .before .before .before .before .before .before .args .t .now) (c .before .before .before .before .before .before .before .before .before .before .run-end .result) (c .value .result) (c .value .ensures .0) (omega (arith, c .before .before .before .before .before .before .before .before .before .before .run-end .ensures)) (omega arith), rw (sym (c .before .before .before .before .before .places-of .ensures)) at (c .before .before .before .before .before .before .before .before .past-fraction .ensures .room), rw (c .before .before .before .before .before .places-of .ensures) (c .before .before .before .before .before .before .before .before .past-fraction .ensures .digits))
+sub-value : tie.Need-sub-value
+sub-value c = fraction-low (c .before .before .before .before .before .before .before .before .before .before .before .before .args .t .now) (c .before .before .before .before .before .before .before .before .before .before .run-end .result) (c .before .before .before .before .before .before .before .before .past-fraction .result) (c .before .before .before .before .before .places-of .result) (c .before .before .before .before .before .before .before .before .before .has-point .result) (c .before .before .before .before .before .places-of .ensures)
+
+value-requires-2 : tie.Need-value-requires-2
+value-requires-2 c κs =
+    let small = whole-small (c .before .before .before .before .before .before .before .before .before .before .before .before .args .t .now) (c .before .before .before .before .before .before .before .before .before .before .run-end .result) (c .value .result) (c .value .ensures) (omega (arith, c .before .before .before .before .before .before .before .before .before .before .run-end .ensures)) (omega arith) in
+    (fraction-run (c .before .before .before .before .before .before .before .before .before .before .before .before .args .t .now) (c .before .before .before .before .before .before .before .before .before .before .run-end .result) (c .before .before .before .before .before .before .before .before .past-fraction .result) (c .before .before .before .before .before .places-of .result) (c .before .before .before .before .before .before .before .before .before .has-point .result) (c .before .before .before .before .before .before .before .before .past-fraction .ensures) (c .before .before .before .before .before .places-of .ensures), ten-fits (c .value .result) 10 _ small (omega arith), omega arith)
 
 returns-4 : tie.Need-returns-4
 returns-4 c =
-    let w = c .before .before .before .before .before .before .before .before .before .before .before .run-end .result in
     let t = c .before .before .before .before .before .before .before .before .before .before .before .before .before .args .t .now in
-    let z = run-at isDigit t 0 (c .before .before .before .before .before .before .before .before .before .before .before .before .before .pre .0) (c .before .before .before .before .before .before .before .before .before .before .before .before .before .pre .1) in
     record {
-      is = number-fine (parts (c .before .before .before .before .before)) (c .fraction .result) (c .before .before .before .before .before .before .places-of .result) (sym (c .before .before .before .before .before .clinging .ensures) ∙ c .before .before .before .before .if1 .left) (omega arith) (c .before .before .before .before .before .before .places-of .ensures) (omega arith) (c .fraction .ensures .0 ∙ ap (λ (v : ℕ). decimal v (part t (suc w) (c .before .before .before .before .before .before .places-of .result))) (c .before .value .ensures .0));
-      some = omega (arith, c .before .before .before .before .before .before .before .before .before .before .before .run-end .ensures, c .before .before .before .before .before .before .before .before .before .past-fraction .ensures .low, c .before .before .before .before .before .before .before .past-suffix .ensures);
-      high = c .before .before .before .before .before .before .before .past-suffix .ensures .2;
-      sound = record { places = omega arith; digits = c .fraction .ensures .1 };
+      is = number-fine (parts (c .before .before .before .before .before)) (c .value2 .result) (c .before .before .before .before .before .before .places-of .result) (sym (c .before .before .before .before .before .clinging .ensures) ∙ c .before .before .before .before .if1 .left) (omega arith) (c .before .before .before .before .before .before .places-of .ensures) (omega arith) (c .value2 .ensures ∙ (rw (c .before .value .ensures, fraction-is t (c .before .before .before .before .before .before .before .before .before .before .before .run-end .result) (c .before .before .before .before .before .before .before .before .before .past-fraction .result) (c .before .before .before .before .before .before .places-of .result) (c .before .before .before .before .before .before .before .before .before .before .has-point .result) (c .before .before .before .before .before .before .before .before .before .past-fraction .ensures) (c .before .before .before .before .before .before .places-of .ensures))));
+      sized = tt;
     }
 
 pub number-at-spec : {M : Type 1} → statement M
@@ -94,5 +92,6 @@ number-at-spec =
     returns-2
     returns-3
     value-requires
-    fraction-requires
+    sub-value
+    value-requires-2
     returns-4)

@@ -4,8 +4,7 @@ use mathlib.Core.Path.{refl, sym, _∙_}
 use native.Mathlib.Omega.{arith}
 use borrow.Author.Needs.{needs}
 use borrow.Author.Tests.{eq-eqb, ne-eqb}
-use Rattle.text.specs.Bytes.{isInside}
-use Rattle.token.proofs.LexLaws.{inside, quoted-at-is, run-fits}
+use Rattle.token.proofs.LexLaws.{inside, quoted-at-is}
 use Rattle.token.proofs.quoted_at.Statement.{statement}
 use Rattle.token.proofs.quoted_at.Tie as tie
 
@@ -16,7 +15,7 @@ byte-at-requires : tie.Need-byte-at-requires
 byte-at-requires c κs = search needs
 
 add-byte-at : tie.Need-add-byte-at
-add-byte-at c = omega (arith, run-fits isInside (c .before .before .before .before .args .t .now) 1 (c .before .before .before .before .pre))
+add-byte-at c = omega (arith, inside (c .before .before .before .before .args .t .now) (c .before .before .run-end .result) 34 (sym (c .before .byte-at .ensures) ∙ c .if1 .taken) (omega arith))
 
 byte-at-requires-2 : tie.Need-byte-at-requires-2
 byte-at-requires-2 c κs = search needs
@@ -31,15 +30,10 @@ sub-t9 : tie.Need-sub-t9
 sub-t9 c = search needs
 
 add-t12 : tie.Need-add-t12
-add-t12 c = omega (arith, run-fits isInside (c .before .before .before .before .before .before .before .args .t .now) 1 (c .before .before .before .before .before .before .before .pre))
+add-t12 c = omega (arith, inside (c .before .before .before .before .before .before .before .args .t .now) (c .before .before .before .before .before .run-end .result) 34 (sym (c .before .before .before .before .byte-at .ensures) ∙ c .before .before .before .if1 .taken) (omega arith))
 
 returns-2 : tie.Need-returns-2
-returns-2 c =
-    let e = sym (c .before .before .before .before .byte-at .ensures) ∙ c .before .before .before .if1 .taken in
-    let t = c .before .before .before .before .before .before .before .args .t .now in
-    let r = c .before .before .before .before .before .run-end .result in
-    let q = quoted-at-is t r true false (c .before .before .before .before .before .run-end .ensures) (eq-eqb _ 34 e) (rw (sym (c .before .before .byte-at2 .ensures)) (sym (c .before .in-class .ensures) ∙ c .if2 .left)) in
-    record { is = q; some = omega arith; high = omega (arith, inside t r 34 e (omega arith)); sound = omega (arith, c .before .before .before .before .before .run-end .ensures) }
+returns-2 c = record { is = quoted-at-is (c .before .before .before .before .before .before .before .args .t .now) (c .before .before .before .before .before .run-end .result) true false (c .before .before .before .before .before .run-end .ensures) (eq-eqb _ 34 (sym (c .before .before .before .before .byte-at .ensures) ∙ c .before .before .before .if1 .taken)) (rw (sym (c .before .before .byte-at2 .ensures)) (sym (c .before .in-class .ensures) ∙ c .if2 .left)); sized = tt }
 
 returns-3 : tie.Need-returns-3
 returns-3 c = quoted-at-is (c .before .before .before .before .args .t .now) (c .before .before .run-end .result) false _ (c .before .before .run-end .ensures) (ne-eqb _ 34 (λ q. c .if1 .left (c .before .byte-at .ensures ∙ q))) refl

@@ -6,6 +6,7 @@ use borrow.Author.Needs.{needs}
 use Rattle.text.specs.Bytes.{at}
 use Rattle.token.proofs.TokenLaws.{rest-of}
 use Rattle.token.proofs.SplitLaws.{over-end, over-bad, over-unfit, goes-on}
+use Rattle.token.proofs.WholeLaws.{whole-of}
 use Rattle.token.proofs.step.Statement.{statement}
 use Rattle.token.proofs.step.Tie as tie
 
@@ -48,7 +49,7 @@ enum-known-d c = search needs
 add-t26 : tie.Need-add-t26
 add-t26 c =
     let m = rw (rest-of (c .before .before .before .before .before .before .before .before .before .before .before .before .before .before .before .before .args .text .now) (c .before .before .before .before .before .before .before .before .before .before .before .before .before .run-end .result), c .before .before .before .before .before .before .before .before .k .given .1) at (c .before .before .before .before .before .before .before .before .before .before .first .ensures) in
-    omega (arith, rw length-drop at (m .high))
+    omega (arith, rw length-drop at (whole-of _ _ _ (m .is) .high))
 
 returns-2 : tie.Need-returns-2
 returns-2 c = sym (over-bad (c .before .before .before .before .before .before .before .before .before .args .text .now) (c .before .before .before .before .before .before .before .before .before .args .at) (c .before .before .before .before .before .before .run-end .result) (c .before .before .before .before .before .before .run-end .ensures) _ (omega arith) _ (rw (rest-of (c .before .before .before .before .before .before .before .before .before .args .text .now) (c .before .before .before .before .before .before .run-end .result), c .before .r .given .1) at (c .before .before .before .first .ensures)))

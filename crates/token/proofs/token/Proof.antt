@@ -4,6 +4,7 @@ use lib.ListN.{length-drop}
 use borrow.Author.Needs.{needs}
 use Rattle.text.specs.Bytes.{at}
 use Rattle.token.proofs.TokenLaws.{lexes-end, lexes-bad, lexes-piece, rest-of}
+use Rattle.token.proofs.WholeLaws.{whole-of}
 use Rattle.token.proofs.token.Statement.{statement}
 use Rattle.token.proofs.token.Tie as tie
 
@@ -40,7 +41,7 @@ enum-known-k c = search needs
 add-t14 : tie.Need-add-t14
 add-t14 c =
     let m = rw (rest-of (c .before .before .before .before .before .before .before .before .args .text .now) (c .before .before .before .before .before .before .run-end .result), c .before .k .given .1) at (c .before .before .before .first .ensures) in
-    omega (arith, rw length-drop at (m .high))
+    omega (arith, rw length-drop at (whole-of _ _ _ (m .is) .high))
 
 returns-2 : tie.Need-returns-2
 returns-2 c = rw (c .end-at2 .ensures) (lexes-bad (c .before .before .before .before .before .before .before .before .args .text .now) (c .before .before .before .before .before .before .before .before .args .at) (c .before .before .before .before .before .before .run-end .result) (c .before .before .before .before .before .before .run-end .ensures) (omega arith) _ (rw (rest-of (c .before .before .before .before .before .before .before .before .args .text .now) (c .before .before .before .before .before .before .run-end .result), c .before .enum-told .given .1) at (c .before .before .before .first .ensures)))

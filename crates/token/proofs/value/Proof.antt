@@ -7,7 +7,7 @@ use lib.ListN.{drop, take, getD}
 use borrow.Author.Needs.{needs}
 use Rattle.text.proofs.ByteLaws.{within-is}
 use Rattle.text.specs.Bytes.{decimal, part, isDigit, at}
-use Rattle.token.proofs.NumberLaws.{run-in-at, decimal-at, decimal-nil, ten-more, ten-fits}
+use Rattle.token.proofs.NumberLaws.{digits-inside, run-in-at, decimal-at, decimal-nil, ten-more, ten-fits}
 use Rattle.token.proofs.value.Statement.{statement}
 use Rattle.token.proofs.value.Tie as tie
 
@@ -18,16 +18,16 @@ abbrev μ-loop : tie.MeasureT-loop
 μ-loop t seed from n v₀ i₀ v i = n - i
 
 loop-holds : tie.Need-loop-holds Inv-loop μ-loop
-loop-holds c = (omega arith, simp (add-zero, sub-zero), rw add-zero (c .pre .2))
+loop-holds c = (omega arith, simp (add-zero, sub-zero), rw add-zero (c .pre .1))
 
 mul-v : tie.Need-mul-v Inv-loop μ-loop
 mul-v c = omega (arith, ten-fits (c .before .loop .v) _ 18 (c .before .loop .inv .2) (omega arith))
 
 add-v : tie.Need-add-v Inv-loop μ-loop
-add-v c = search needs
+add-v c = omega (arith, digits-inside (c .before .before .args .t .now) (c .before .before .args .from) (c .before .before .args .n) (c .before .before .pre .0) (omega arith))
 
 shared-slice-read-v : tie.Need-shared-slice-read-v Inv-loop μ-loop
-shared-slice-read-v c = search needs
+shared-slice-read-v c = omega (arith, digits-inside (c .before .before .before .args .t .now) (c .before .before .before .args .from) (c .before .before .before .args .n) (c .before .before .before .pre .0) (omega arith))
 
 sub-v : tie.Need-sub-v Inv-loop μ-loop
 sub-v c =
@@ -53,18 +53,17 @@ loop-less c = search needs
 loop-again : tie.Need-loop-again Inv-loop μ-loop
 loop-again c =
     let l = c .before .before .loop in
-    let st = c .before .before .before in
-    let a = st .args in
-    let d = within-is 48 57 (getD (a .t .now) (a .from + l .i) 0) (run-in-at isDigit (a .t .now) (a .from) (l .i) (omega (arith, st .pre))) in
+    let a = c .before .before .before .args in
+    let d = within-is 48 57 (getD (a .t .now) (a .from + l .i) 0) (run-in-at isDigit (a .t .now) (a .from) (l .i) (omega (arith, c .before .before .before .pre))) in
+    let f = digits-inside (a .t .now) (a .from) (a .n) (c .before .before .before .pre .0) (omega arith) in
     let e : 19 - a .n + l .i + 1 ≡ 19 - a .n + (l .i + 1) = omega arith in
-    (omega arith, sym (decimal-at (l .v) (a .t .now) (a .from) (a .n) (l .i) (omega (arith, st .pre)) (omega arith)) ∙ l .inv .1, rw e at (ten-more (l .v) (getD (a .t .now) (a .from + l .i) 0 - 48) (19 - a .n + l .i) (l .inv .2) (omega arith)))
+    (omega arith, sym (decimal-at (l .v) (a .t .now) (a .from) (a .n) (l .i) f (omega arith)) ∙ l .inv .1, rw e at (ten-more (l .v) (getD (a .t .now) (a .from + l .i) 0 - 48) (19 - a .n + l .i) (l .inv .2) (omega arith)))
 
 returns : tie.Need-returns Inv-loop μ-loop
 returns c =
     let l = c .before .loop in
-    let a = c .before .before .args in
-    let e : a .n - l .i ≡ 0 = omega arith in
-    (sym (decimal-nil (l .v) _ (a .n - l .i) e) ∙ l .inv .1, ten-fits (l .v) _ 19 (l .inv .2) (omega (arith, c .before .before .pre)))
+    let e : c .before .before .args .n - l .i ≡ 0 = omega arith in
+    sym (decimal-nil (l .v) _ (c .before .before .args .n - l .i) e) ∙ l .inv .1
 
 pub value-spec : {M : Type 1} → statement M
 value-spec =

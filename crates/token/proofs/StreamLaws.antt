@@ -1,0 +1,140 @@
+-- What the grammar's proofs stand on: the tokens of a text that is split are those that a reader comes to, its bytes are none of the foreign ones, and tokens lie in the text. Assumes nothing.
+use Prim.Native.Nat.{ℕ, zero, suc, _+_, _-_, _^_, _≤_, _<_}
+use mathlib.Core.List.{List, [], _∷_}
+use mathlib.Core.Bool.{Bool, true, false, cond}
+use mathlib.Core.Path.{_≡_, refl, sym, ap, _∙_, subst}
+use native.Mathlib.Omega.{arith}
+use lib.ListN.{length, getD, drop, length-drop}
+use Rattle.text.specs.Bytes.{isBlank, isForeign}
+use Rattle.token.specs.Token.{Kind, name, number, quoted, mark, Token, token, Lexeme, bad, piece, lexeme, cutBy, further, cut, tokensFrom, isMark, rest}
+use Rattle.token.specs.Split.{Nest, unfit, awaits, nest, blank, nested, lexed, step, Split, unlexed, tokens, before, stepped, more, awaited, splitFrom, split}
+use Rattle.token.proofs.WholeLaws.{Whole, whole-of, blank-clean}
+
+abbrev split-tokens : Split → List Token
+split-tokens (unlexed r p) = []
+split-tokens (tokens ts) = ts
+
+abbrev IsTokens : Split → Type 0
+IsTokens (unlexed r p) = ⊥
+IsTokens (tokens ts) = Unit {0}
+
+is-tokens : (x : Split) (ts : List Token) → x ≡ tokens ts → IsTokens x
+is-tokens x ts e = subst IsTokens (sym e) tt
+
+-- ---- a reader comes to the tokens that a text is split into
+
+-- one step of both, where the rest agrees
+join-step : (p : ℕ) (b : Bool) (x : Lexeme) (cs : List ℕ) (y : Split) (us : List Token) → (IsTokens y → us ≡ split-tokens y)
+    → IsTokens (stepped (cond b blank (lexed cs x)) p y) → cutBy b x p us ≡ split-tokens (stepped (cond b blank (lexed cs x)) p y)
+join-step p true x cs y us ih h = ih h
+join-step p false (bad r) cs y us ih h = absurd h
+join-step p false (piece k n) cs y us ih h = on (nest k cs) y ih h
+  where
+    on : (z : Nest) (y : Split) → (IsTokens y → us ≡ split-tokens y) → IsTokens (stepped (nested k n z) p y) → token p k ∷ us ≡ split-tokens (stepped (nested k n z) p y)
+    on (unfit r) y ih h = absurd h
+    on (awaits ds) (unlexed r q) ih h = absurd h
+    on (awaits ds) (tokens ts) ih h = ap (λ (vs : List Token). token p k ∷ vs) (ih h)
+
+-- the bytes that a step takes beyond the first are the same
+join-more : (b : Bool) (x : Lexeme) (cs : List ℕ) (y : Split) (p : ℕ) → IsTokens (stepped (cond b blank (lexed cs x)) p y) → further b x ≡ more (cond b blank (lexed cs x))
+join-more true x cs y p h = refl
+join-more false (bad r) cs y p h = absurd h
+join-more false (piece k n) cs y p h = on (nest k cs) h
+  where
+    on : (z : Nest) → IsTokens (stepped (nested k n z) p y) → n - 1 ≡ more (nested k n z)
+    on (unfit r) h = absurd h
+    on (awaits ds) h = refl
+
+joined : (t : List ℕ) (k p : ℕ) (cs : List ℕ) → IsTokens (splitFrom k p cs t) → cut k p t ≡ split-tokens (splitFrom k p cs t)
+unfolding cut splitFrom step
+joined [] k p [] h = refl
+joined [] k p (c ∷ cs) h = absurd h
+joined (b ∷ t) (suc k) p cs h = joined t k (suc p) cs h
+joined (b ∷ t) zero p cs h =
+    let st = cond (isBlank b) blank (lexed cs (lexeme (b ∷ t))) in
+    let y = splitFrom (more st) (suc p) (awaited cs st) t in
+    ap (λ (n : ℕ). cutBy (isBlank b) (lexeme (b ∷ t)) p (cut n (suc p) t)) (join-more (isBlank b) (lexeme (b ∷ t)) cs y p h)
+    ∙ join-step p (isBlank b) (lexeme (b ∷ t)) cs y (cut (more st) (suc p) t) (λ g. joined t (more st) (suc p) (awaited cs st) g) h
+
+pub split-reads : (s : List ℕ) (ts : List Token) → split s ≡ tokens ts → tokensFrom s 0 ≡ ts
+unfolding split tokensFrom
+split-reads s ts e = joined s 0 0 [] (is-tokens _ ts e) ∙ ap split-tokens e
+
+-- ---- a text that is split has no foreign byte
+
+abbrev Clean : List ℕ → Type 0
+Clean t = (i : ℕ) → i < length t → isForeign (getD t i 0) ≡ false
+
+clean-cons : (b : ℕ) (t : List ℕ) → isForeign b ≡ false → Clean t → Clean (b ∷ t)
+clean-cons b t h r zero l = h
+clean-cons b t h r (suc i) l = r i (omega arith)
+
+before-tokens : (t : Token) (x : Split) → IsTokens (before t x) → IsTokens x
+before-tokens t (unlexed r p) h = h
+before-tokens t (tokens ts) h = tt
+
+-- the first k bytes belong to a token before
+clean-from : (t : List ℕ) (k p : ℕ) (cs : List ℕ) → IsTokens (splitFrom k p cs t) → ((j : ℕ) → j < k → isForeign (getD t j 0) ≡ false) → Clean t
+unfolding splitFrom step
+clean-from [] k p cs g h = λ i l. absurd (omega arith)
+clean-from (b ∷ t) (suc k) p cs g h = clean-cons b t (h 0 (omega arith)) (clean-from t k (suc p) cs g (λ j q. h (suc j) (omega arith)))
+clean-from (b ∷ t) zero p cs g h = by (isBlank b) refl (lexeme (b ∷ t)) refl (λ k p cs g h. clean-from t k p cs g h) g
+  where
+    by : (x : Bool) → isBlank b ≡ x → (y : Lexeme) → lexeme (b ∷ t) ≡ y
+        → ((k p : ℕ) (cs : List ℕ) → IsTokens (splitFrom k p cs t) → ((j : ℕ) → j < k → isForeign (getD t j 0) ≡ false) → Clean t)
+        → IsTokens (stepped (cond x blank (lexed cs y)) p (splitFrom (more (cond x blank (lexed cs y))) (suc p) (awaited cs (cond x blank (lexed cs y))) t)) → Clean (b ∷ t)
+    by true e y f ih g = clean-cons b t (blank-clean b e) (ih 0 (suc p) cs g (λ j q. absurd (omega arith)))
+    by false e (bad r) f ih g = absurd g
+    by false e (piece k n) f ih g = on (nest k cs) g
+      where
+        on : (z : Nest) → IsTokens (stepped (nested k n z) p (splitFrom (more (nested k n z)) (suc p) (awaited cs (nested k n z)) t)) → Clean (b ∷ t)
+        on (unfit r) g = absurd g
+        on (awaits ds) g =
+            let w = whole-of (b ∷ t) k n f in
+            clean-cons b t (w .clean 0 (w .some)) (ih (n - 1) (suc p) ds (before-tokens (token p k) (splitFrom (n - 1) (suc p) ds t) g) (λ j q. w .clean (suc j) (omega arith)))
+
+pub clean : (t : List ℕ) (ts : List Token) → split t ≡ tokens ts → (i : ℕ) → i < length t → isForeign (getD t i 0) ≡ false
+unfolding split
+clean t ts e = clean-from t 0 0 [] (is-tokens _ ts e) (λ j q. absurd (omega arith))
+
+-- ---- tokens lie in the text
+
+-- a token of the kind k at the place p, in a text of n bytes; its number is what the digit limits leave
+abbrev pub InText : ℕ → ℕ → Kind → Type 0
+InText n p (name w) = p + length w ≤ n
+InText n p (number w) = (p ≤ n) × (w .places ≤ 9) × (w .digits < 10 ^ 19)
+InText n p (quoted m) = suc p + m ≤ n
+InText n p (mark b) = p ≤ n
+
+abbrev pub AllIn : ℕ → List Token → Type 0
+AllIn n [] = Unit {0}
+AllIn n (token p k ∷ ts) = InText n p k × AllIn n ts
+
+whole-in : (p n : ℕ) (k : Kind) (l : List ℕ) (m : ℕ) → Whole l k m → p + length l ≡ n → InText n p k
+whole-in p n (name w) l m h e = omega (arith, h .fits, h .high)
+whole-in p n (number w) l m h e = (omega arith, h .fits .0, h .fits .1)
+whole-in p n (quoted k) l m h e = omega (arith, h .fits, h .high)
+whole-in p n (mark b) l m h e = omega arith
+
+cut-in : (l : List ℕ) (k p n : ℕ) → p + length l ≡ n → AllIn n (cut k p l)
+unfolding cut
+cut-in [] k p n e = (omega arith, tt)
+cut-in (b ∷ l) (suc k) p n e = cut-in l k (suc p) n (omega arith)
+cut-in (b ∷ l) zero p n e = go (isBlank b) (lexeme (b ∷ l)) refl _ (cut-in l (further (isBlank b) (lexeme (b ∷ l))) (suc p) n (omega arith))
+  where
+    go : (x : Bool) (y : Lexeme) → lexeme (b ∷ l) ≡ y → (ts : List Token) → AllIn n ts → AllIn n (cutBy x y p ts)
+    go true y f ts h = h
+    go false (bad r) f ts h = (omega arith, tt)
+    go false (piece k m) f ts h = (whole-in p n k (b ∷ l) m (whole-of (b ∷ l) k m f) e, h)
+
+pub tokens-in : (s : List ℕ) (p : ℕ) → p ≤ length s → AllIn (length s) (tokensFrom s p)
+unfolding tokensFrom
+tokens-in s p h = cut-in (drop p s) 0 p (length s) (rw length-drop (omega arith))
+
+pub rest-in : (n : ℕ) (ts : List Token) → AllIn n ts → AllIn n (rest ts)
+rest-in n [] h = tt
+rest-in n (token p k ∷ ts) h = go (isMark k 0)
+  where
+    go : (b : Bool) → AllIn n (cond b (token p k ∷ ts) ts)
+    go true = h
+    go false = h .1

@@ -1,0 +1,33 @@
+-- `token::seen` meets its contract. Assumes nothing.
+use borrow.Author.Needs.{needs}
+use Rattle.token.proofs.seen.Statement.{statement}
+use Rattle.token.proofs.seen.Tie as tie
+
+enum-known-k : tie.Need-enum-known-k
+enum-known-k c = search needs
+
+enum-told : tie.Need-enum-told
+enum-told c = search needs
+
+enum-told-2 : tie.Need-enum-told-2
+enum-told-2 c = search needs
+
+enum-told-3 : tie.Need-enum-told-3
+enum-told-3 c = search needs
+
+returns : tie.Need-returns
+returns c = λ t. rw (c .before .k .given .1)
+
+returns-2 : tie.Need-returns-2
+returns-2 c = λ t. rw (c .enum-told .given .1)
+
+returns-3 : tie.Need-returns-3
+returns-3 c = λ t. rw (c .enum-told2 .given .1)
+
+returns-4 : tie.Need-returns-4
+returns-4 c = λ t. rw (c .enum-told3 .given .1)
+
+pub seen-spec : {M : Type 1} → statement M
+seen-spec =
+    tie.close
+    (tie.spec enum-known-k enum-told enum-told-2 enum-told-3 returns returns-2 returns-3 returns-4)
