@@ -1,0 +1,4 @@
+-- The laws of writing that callers cite.
+pub mod FieldLaws
+pub mod OverLaws
+pub mod ClearLaws
