@@ -1,15 +1,19 @@
 -- Laws of the fields' widths: a number in k bytes, over any k; the lengths of the small forms. Assumes nothing.
 use Prim.Native.Nat.{ℕ, zero, suc, _+_, _-_, _*_, _/_, _%_, _^_, _<_}
 use mathlib.Core.Bool.{Bool, true, false}
-use mathlib.Core.List.{List, [], _∷_, _++_}
+use mathlib.Core.List.{List, [], _∷_, _++_, append-nil, append-assoc}
 use mathlib.Core.Option.{none, some}
 use mathlib.Core.Path.{_≡_, refl, sym, ap, _∙_}
 use native.Mathlib.Omega.{arith}
 use native.Mathlib.Nat.{pow-suc}
+use lib.Dec.{T}
+use lib.Ieee.{Float, binary32, fits}
 use lib.ListN.{length, set, length-append}
 use lib.Seq.{sets}
 use Rattle.text.proofs.WriteLaws.{sets-append}
-use Rattle.codec.specs.Codec.{Form, big, opt}
+use Rattle.number.specs.Number.{bits}
+use Rattle.number.proofs.Floats.{bits-lt}
+use Rattle.codec.specs.Codec.{Form, big, opt, eachOut}
 use Rattle.codec.proofs.Laws.{Small, big-lawful}
 use Rattle.ast.specs.Tree.{Span}
 use Rattle.sheet.specs.Sheet.{word, flag, spanForm}
@@ -41,6 +45,10 @@ small (suc k) n h = small k (n / 256) (quotient (256 ^ k) (rw pow-suc at h))
 pub big-back : (k n : ℕ) → n < 256 ^ k → (r : List ℕ) → big k .read (big k .write n ++ r) ≡ some (n, r)
 big-back k n h r = big-lawful k .back n (small k n h) r
 
+-- the bits of a float are 4 bytes
+pub small-bits : (x : Float) → T (fits binary32 x) → Small 4 (bits x)
+small-bits x h = small 4 (bits x) (bits-lt x h)
+
 -- ---- the lengths of the others
 
 pub length-word : (n : ℕ) → length (word .write n) ≡ 4
@@ -57,3 +65,12 @@ length-absent c = refl
 
 pub length-present : {A : Type 0} (c : Form A) (a : A) → length (opt c .write (some a)) ≡ suc (length (c .write a))
 length-present c a = refl
+
+-- ---- elements, one more at a time
+
+pub each-append : {A : Type 0} (w : A → List ℕ) (xs ys : List A) → eachOut w (xs ++ ys) ≡ eachOut w xs ++ eachOut w ys
+each-append w [] ys = refl
+each-append w (x ∷ xs) ys = rw (each-append w xs ys, append-assoc)
+
+pub each-more : {A : Type 0} (w : A → List ℕ) (xs : List A) (x : A) → eachOut w (xs ++ x ∷ []) ≡ eachOut w xs ++ w x
+each-more w xs x = each-append w xs (x ∷ []) ∙ (rw append-nil)

@@ -6,6 +6,7 @@ use native.Mathlib.Omega.{arith}
 use lib.ListN.{length, set, length-append}
 use lib.Seq.{sets, set-set, set-comm, length-sets}
 use Rattle.text.proofs.WriteLaws.{sets-append}
+use Rattle.codec.specs.Codec.{big}
 use Rattle.encode.specs.Writes.{Writes}
 
 -- ---- one overlay and another
@@ -85,3 +86,8 @@ writes-fill {out} {xs = xs} {ys = ys} {zs = zs} {at} p g q f = record {
   bytes = f .bytes ∙ (rw (q .bytes, g, p .bytes, p .place) (sets-fill out at xs ys zs));
   place = rw (length-append, length-append) (omega (arith, p .place, q .place));
 }
+
+-- what stands behind a count of two bytes, then the count
+pub writes-counted : {out late after bs : List ℕ} {at m end e : ℕ} (n : ℕ) → m ≡ at + 2 → Writes out m bs late end → Writes late at (big 2 .write n) after e
+    → Writes out at (big 2 .write n ++ bs) after end
+writes-counted {out} {at = at} n g q f = writes-fill (writes-none out at) g q f

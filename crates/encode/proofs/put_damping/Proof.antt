@@ -1,60 +1,62 @@
+-- `encode::put_damping` meets its contract. Assumes nothing.
 use native.Mathlib.Omega.{arith}
-use Rattle.text.specs.Bytes.{at}
 use borrow.Author.Needs.{needs}
 use Rattle.encode.proofs.put_damping.Statement.{statement}
 use Rattle.encode.proofs.put_damping.Tie as tie
-use Rattle.encode.proofs.put_damping.Reads as reads
-use Rattle.encode.proofs.put_damping.Lts as lts
-use Rattle.encode.proofs.put_case_float.Reads as put-case-float-reads
-use Rattle.encode.proofs.put_case_floats.Reads as put-case-floats-reads
 
--- src/lib.rt:199:39
 enum-known-d : tie.Need-enum-known-d
 enum-known-d c = search needs
 
--- src/lib.rt:199:45
 put-case-float-requires : tie.Need-put-case-float-requires
-put-case-float-requires c κs = (omega arith, rw (c .before .before .d .given .1) at (c .before .before .before .before .before .pre .1))
+put-case-float-requires c κs =
+    let at-d = c .before .before in
+    let start = at-d .before .before .before in
+    (omega arith, rw (at-d .d .given .1) at (start .pre .1))
 
--- src/lib.rt:200:33
 enum-known-d-2 : tie.Need-enum-known-d-2
 enum-known-d-2 c = search needs
 
--- src/lib.rt:200:42
 put-case-floats-requires : tie.Need-put-case-floats-requires
-put-case-floats-requires c κs = (omega arith, rw (c .before .before .d2 .given .1) at (c .before .before .before .before .before .pre .1))
+put-case-floats-requires c κs =
+    let at-d2 = c .before .before in
+    let start = at-d2 .before .before .before in
+    (omega arith, rw (at-d2 .d2 .given .1) at (start .pre .1))
 
--- src/lib.rt:201:34
 enum-known-d-3 : tie.Need-enum-known-d-3
 enum-known-d-3 c = search needs
 
--- src/lib.rt:201:43
 put-case-floats-requires-2 : tie.Need-put-case-floats-requires-2
-put-case-floats-requires-2 c κs = (omega arith, rw (c .before .before .d3 .given .1) at (c .before .before .before .before .before .pre .1))
+put-case-floats-requires-2 c κs =
+    let at-d3 = c .before .before in
+    let start = at-d3 .before .before .before in
+    (omega arith, rw (at-d3 .d3 .given .1) at (start .pre .1))
 
--- src/lib.rt:194:1
 same-length : tie.Need-same-length
 same-length c = search needs
 
--- src/lib.rt:194:1
 returns : tie.Need-returns
-returns c = rw (c .before .before .before .before .before .d .given .1) (c .before .before .put-case-float .ensures)
+returns c =
+    let at-put-case-float = c .before .before in
+    let at-d = at-put-case-float .before .before .before in
+    rw (at-d .d .given .1) (at-put-case-float .put-case-float .ensures)
 
--- src/lib.rt:194:1
 same-length-2 : tie.Need-same-length-2
 same-length-2 c = search needs
 
--- src/lib.rt:194:1
 returns-2 : tie.Need-returns-2
-returns-2 c = rw (c .before .before .before .before .before .d2 .given .1) (c .before .before .put-case-floats .ensures)
+returns-2 c =
+    let at-put-case-floats = c .before .before in
+    let at-d2 = at-put-case-floats .before .before .before in
+    rw (at-d2 .d2 .given .1) (at-put-case-floats .put-case-floats .ensures)
 
--- src/lib.rt:194:1
 same-length-3 : tie.Need-same-length-3
 same-length-3 c = search needs
 
--- src/lib.rt:194:1
 returns-3 : tie.Need-returns-3
-returns-3 c = rw (c .before .before .before .before .before .d3 .given .1) (c .before .before .put-case-floats2 .ensures)
+returns-3 c =
+    let at-put-case-floats2 = c .before .before in
+    let at-d3 = at-put-case-floats2 .before .before .before in
+    rw (at-d3 .d3 .given .1) (at-put-case-floats2 .put-case-floats2 .ensures)
 
 pub put-damping-spec : {M : Type 1} → statement M
 put-damping-spec =

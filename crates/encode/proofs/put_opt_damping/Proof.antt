@@ -1,49 +1,46 @@
+-- `encode::put_opt_damping` meets its contract. Assumes nothing.
 use native.Mathlib.Omega.{arith}
-use Rattle.text.specs.Bytes.{at}
-use Rattle.encode.proofs.OverLaws.{writes-then}
 use borrow.Author.Needs.{needs}
+use Rattle.encode.proofs.OverLaws.{writes-then}
 use Rattle.encode.proofs.put_opt_damping.Statement.{statement}
 use Rattle.encode.proofs.put_opt_damping.Tie as tie
-use Rattle.encode.proofs.put_opt_damping.Reads as reads
-use Rattle.encode.proofs.put_opt_damping.Lts as lts
-use Rattle.encode.proofs.put_byte.Reads as put-byte-reads
-use Rattle.encode.proofs.put_damping.Reads as put-damping-reads
 
--- src/lib.rt:325:40
 enum-told : tie.Need-enum-told
 enum-told c = search needs
 
--- src/lib.rt:325:31
 put-byte-requires : tie.Need-put-byte-requires
 put-byte-requires c κs = search needs
 
--- src/lib.rt:326:29
 enum-known-o : tie.Need-enum-known-o
 enum-known-o c = search needs
 
--- src/lib.rt:327:17
 put-byte-requires-2 : tie.Need-put-byte-requires-2
 put-byte-requires-2 c κs = search needs
 
--- src/lib.rt:328:13
 put-damping-requires : tie.Need-put-damping-requires
-put-damping-requires c κs = (omega arith, rw (c .before .before .before .before .before .before .o .given .1) at (c .before .before .before .before .before .before .before .before .before .pre .1))
+put-damping-requires c κs =
+    let at-o = c .before .before .before .before .before .before in
+    let start = at-o .before .before .before in
+    (omega arith, rw (at-o .o .given .1) at (start .pre .1))
 
--- src/lib.rt:320:1
 same-length : tie.Need-same-length
 same-length c = search needs
 
--- src/lib.rt:320:1
 returns : tie.Need-returns
-returns c = rw (c .before .before .before .before .enum-told .given .1) (c .before .before .put-byte .ensures)
+returns c =
+    let at-put-byte = c .before .before in
+    let at-enum-told = at-put-byte .before .before in
+    rw (at-enum-told .enum-told .given .1) (at-put-byte .put-byte .ensures)
 
--- src/lib.rt:320:1
 same-length-2 : tie.Need-same-length-2
 same-length-2 c = search needs
 
--- src/lib.rt:320:1
 returns-2 : tie.Need-returns-2
-returns-2 c = rw (c .before .before .before .before .before .before .before .before .before .o .given .1) (writes-then (c .before .before .before .before .before .before .put-byte2 .ensures) (c .before .before .put-damping .ensures))
+returns-2 c =
+    let at-put-damping = c .before .before in
+    let at-put-byte2 = at-put-damping .before .before .before .before in
+    let at-o = at-put-byte2 .before .before .before in
+    rw (at-o .o .given .1) (writes-then (at-put-byte2 .put-byte2 .ensures) (at-put-damping .put-damping .ensures))
 
 pub put-opt-damping-spec : {M : Type 1} → statement M
 put-opt-damping-spec =

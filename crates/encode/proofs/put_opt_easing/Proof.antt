@@ -1,49 +1,46 @@
+-- `encode::put_opt_easing` meets its contract. Assumes nothing.
 use native.Mathlib.Omega.{arith}
-use Rattle.text.specs.Bytes.{at}
-use Rattle.encode.proofs.OverLaws.{writes-then}
 use borrow.Author.Needs.{needs}
+use Rattle.encode.proofs.OverLaws.{writes-then}
 use Rattle.encode.proofs.put_opt_easing.Statement.{statement}
 use Rattle.encode.proofs.put_opt_easing.Tie as tie
-use Rattle.encode.proofs.put_opt_easing.Reads as reads
-use Rattle.encode.proofs.put_opt_easing.Lts as lts
-use Rattle.encode.proofs.put_byte.Reads as put-byte-reads
-use Rattle.encode.proofs.put_easing.Reads as put-easing-reads
 
--- src/lib.rt:299:39
 enum-told : tie.Need-enum-told
 enum-told c = search needs
 
--- src/lib.rt:299:30
 put-byte-requires : tie.Need-put-byte-requires
 put-byte-requires c κs = search needs
 
--- src/lib.rt:300:28
 enum-known-o : tie.Need-enum-known-o
 enum-known-o c = search needs
 
--- src/lib.rt:301:17
 put-byte-requires-2 : tie.Need-put-byte-requires-2
 put-byte-requires-2 c κs = search needs
 
--- src/lib.rt:302:13
 put-easing-requires : tie.Need-put-easing-requires
-put-easing-requires c κs = (omega arith, rw (c .before .before .before .before .before .before .o .given .1) at (c .before .before .before .before .before .before .before .before .before .pre .1))
+put-easing-requires c κs =
+    let at-o = c .before .before .before .before .before .before in
+    let start = at-o .before .before .before in
+    (omega arith, rw (at-o .o .given .1) at (start .pre .1))
 
--- src/lib.rt:294:1
 same-length : tie.Need-same-length
 same-length c = search needs
 
--- src/lib.rt:294:1
 returns : tie.Need-returns
-returns c = λ n. rw (c .before .before .before .before .enum-told .given .1) (c .before .before .put-byte .ensures)
+returns c =
+    let at-put-byte = c .before .before in
+    let at-enum-told = at-put-byte .before .before in
+    λ n. rw (at-enum-told .enum-told .given .1) (at-put-byte .put-byte .ensures)
 
--- src/lib.rt:294:1
 same-length-2 : tie.Need-same-length-2
 same-length-2 c = search needs
 
--- src/lib.rt:294:1
 returns-2 : tie.Need-returns-2
-returns-2 c = λ n. rw (c .before .before .before .before .before .before .before .before .before .o .given .1) (writes-then (c .before .before .before .before .before .before .put-byte2 .ensures) (c .before .before .put-easing .ensures n))
+returns-2 c =
+    let at-put-easing = c .before .before in
+    let at-put-byte2 = at-put-easing .before .before .before .before in
+    let at-o = at-put-byte2 .before .before .before in
+    λ n. rw (at-o .o .given .1) (writes-then (at-put-byte2 .put-byte2 .ensures) (at-put-easing .put-easing .ensures n))
 
 pub put-opt-easing-spec : {M : Type 1} → statement M
 put-opt-easing-spec =

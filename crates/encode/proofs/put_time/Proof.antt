@@ -1,43 +1,44 @@
+-- `encode::put_time` meets its contract. Assumes nothing.
 use native.Mathlib.Omega.{arith}
-use Rattle.text.specs.Bytes.{at}
 use borrow.Author.Needs.{needs}
 use Rattle.encode.proofs.put_time.Statement.{statement}
 use Rattle.encode.proofs.put_time.Tie as tie
-use Rattle.encode.proofs.put_time.Reads as reads
-use Rattle.encode.proofs.put_time.Lts as lts
-use Rattle.encode.proofs.put_case_float.Reads as put-case-float-reads
 
--- src/lib.rt:210:31
 enum-known-t : tie.Need-enum-known-t
 enum-known-t c = search needs
 
--- src/lib.rt:210:37
 put-case-float-requires : tie.Need-put-case-float-requires
-put-case-float-requires c κs = (omega arith, rw (c .before .before .t .given .1) at (c .before .before .before .before .before .pre .1))
+put-case-float-requires c κs =
+    let at-t = c .before .before in
+    let start = at-t .before .before .before in
+    (omega arith, rw (at-t .t .given .1) at (start .pre .1))
 
--- src/lib.rt:211:31
 enum-known-t-2 : tie.Need-enum-known-t-2
 enum-known-t-2 c = search needs
 
--- src/lib.rt:211:37
 put-case-float-requires-2 : tie.Need-put-case-float-requires-2
-put-case-float-requires-2 c κs = (omega arith, rw (c .before .before .t2 .given .1) at (c .before .before .before .before .before .pre .1))
+put-case-float-requires-2 c κs =
+    let at-t2 = c .before .before in
+    let start = at-t2 .before .before .before in
+    (omega arith, rw (at-t2 .t2 .given .1) at (start .pre .1))
 
--- src/lib.rt:205:1
 same-length : tie.Need-same-length
 same-length c = search needs
 
--- src/lib.rt:205:1
 returns : tie.Need-returns
-returns c = rw (c .before .before .before .before .before .t .given .1) (c .before .before .put-case-float .ensures)
+returns c =
+    let at-put-case-float = c .before .before in
+    let at-t = at-put-case-float .before .before .before in
+    rw (at-t .t .given .1) (at-put-case-float .put-case-float .ensures)
 
--- src/lib.rt:205:1
 same-length-2 : tie.Need-same-length-2
 same-length-2 c = search needs
 
--- src/lib.rt:205:1
 returns-2 : tie.Need-returns-2
-returns-2 c = rw (c .before .before .before .before .before .t2 .given .1) (c .before .before .put-case-float2 .ensures)
+returns-2 c =
+    let at-put-case-float2 = c .before .before in
+    let at-t2 = at-put-case-float2 .before .before .before in
+    rw (at-t2 .t2 .given .1) (at-put-case-float2 .put-case-float2 .ensures)
 
 pub put-time-spec : {M : Type 1} → statement M
 put-time-spec =
