@@ -1,15 +1,15 @@
 -- Laws of a sheet that is zeroed from a place on. Assumes nothing.
-use Prim.Native.Nat.{ℕ, suc, _+_, _-_, _≤_, _<_}
+use Prim.Native.Nat.{ℕ, _+_, _-_, _≤_}
 use mathlib.Core.Bool.{Bool, true, false}
 use mathlib.Core.List.{List, [], _∷_, _++_, append-nil}
-use mathlib.Core.Path.{_≡_, refl, sym, ap, _∙_}
+use mathlib.Core.Path.{_≡_, refl, sym, _∙_}
 use native.Mathlib.Omega.{arith}
 use native.Mathlib.Nat.{zero-add, sub-zero}
 use lib.Dec.{leb}
-use lib.ListN.{length, set, take, drop, replicate, length-append, length-replicate, replicate-append-replicate, drop-of-length-le}
-use lib.Seq.{sets, sets-eq, length-sets, take-all, take-at}
+use lib.ListN.{length, set, take, drop, replicate, length-replicate, replicate-append-replicate, drop-of-length-le}
+use lib.Seq.{sets, sets-eq, take-all, take-at}
 use borrow.Author.Tests.{leb-true, leb-false}
-use Rattle.text.proofs.WriteLaws.{sets-append, sets-out}
+use Rattle.text.proofs.WriteLaws.{sets-append}
 use Rattle.encode.specs.Writes.{Writes}
 use Rattle.encode.proofs.OverLaws.{writes-keeps}
 

@@ -1,7 +1,7 @@
 -- The bytes of each case of an enum, by computing, and how long they are at most. Assumes nothing.
 use Prim.Native.Nat.{ℕ, suc, _≤_}
 use mathlib.Core.Bool.{Bool}
-use mathlib.Core.List.{List, [], _∷_, _++_}
+use mathlib.Core.List.{[], _∷_, _++_}
 use mathlib.Core.Option.{Option, none, some}
 use mathlib.Core.Path.{_≡_, refl}
 use native.Mathlib.Omega.{arith}
@@ -9,7 +9,7 @@ use lib.Dec.{lit≤}
 use lib.ListN.{length}
 use Rattle.codec.specs.Codec.{Form, opt}
 use Rattle.ast.specs.Tree
-use Rattle.ast.specs.Tree.{Span, ValueExpr, EasingSpec, LoopSpec, DampingMode, KeyframeTime, StaggerPatternSpec}
+use Rattle.ast.specs.Tree.{Span, EasingSpec, LoopSpec, DampingMode, KeyframeTime, StaggerPatternSpec}
 use Rattle.sheet.specs.Sheet.{word, flag, spanForm, valueForm, easingForm, loopForm, dampingForm, timeForm, patternForm}
 
 -- ---- the bytes of each case

@@ -1,5 +1,6 @@
 // The writing side of the sheet: each value's bytes from a place on, as far as the lent slice goes, while the place behind
-// them goes on counting. All of it is for our own crates, whose places stay below 2^31 and whose floats are no NaN.
+// them goes on counting. All of it is for our own crates, whose places stay below 2^31 and whose floats are no NaN. Where a
+// contract holds for every n, a form's bound for reading (the text's length, a number of cases), n is not written.
 ghost use mathlib.Core.Path.{_≡_};
 ghost use mathlib.Core.Bool.{cond};
 ghost use mathlib.Core.List.{[], _∷_, _++_};
@@ -62,6 +63,7 @@ pub fn patch_count(sheet: &mut [u8], at: usize, count: usize) -> usize
     put_field(sheet, at, 2, count)
 }
 
+// A truth value as a byte.
 fn bit(b: bool) -> u8
     ensures { λ r. ⌜ r ≡ cond b 1 0 ⌝ }
 {
@@ -101,7 +103,7 @@ pub fn put_span(sheet: &mut [u8], at: usize, s: Span) -> usize
     put_field(sheet, size_at, 2, s.size)
 }
 
-// ---- a case's position and its fields
+// ---- the position of a case, and its fields
 
 // Writes the position of a case that holds a u32, and that.
 fn put_case_word(sheet: &mut [u8], at: usize, case: u8, v: u32) -> usize
@@ -140,6 +142,7 @@ pub fn put_scalar(sheet: &mut [u8], at: usize, x: f32) -> usize
 
 // ---- enums
 
+// `Named` of an easing.
 fn put_named(sheet: &mut [u8], at: usize, variant: bool, name: Span) -> usize
     requires { ⌜ at < 2 ^ 32 ⌝ }
     ensures { λ r. ⌜ ((n : ℕ) → Writes (now (sheet .entry)) at (easingForm n .write (named variant (of.spanOf name))) (now (sheet .exit)) r) ⌝ }
@@ -149,6 +152,7 @@ fn put_named(sheet: &mut [u8], at: usize, variant: bool, name: Span) -> usize
     put_span(sheet, name_at, name)
 }
 
+// `CubicBezier` of an easing.
 fn put_bezier(sheet: &mut [u8], at: usize, a: f32, b: f32, c: f32, d: f32) -> usize
     requires { ⌜ (at < 2 ^ 32) × (Plain a × Plain b × Plain c × Plain d) ⌝ }
     ensures { λ r. ⌜ ((n : ℕ) → Writes (now (sheet .entry)) at (easingForm n .write (cubicBezier (bits a) (bits b) (bits c) (bits d))) (now (sheet .exit)) r) ⌝ }
@@ -267,7 +271,7 @@ pub fn put_opt_bool(sheet: &mut [u8], at: usize, o: OptBool) -> usize
     }
 }
 
-// Writes the position of a case that holds nothing, of n cases.
+// The position of a case that holds nothing, of n cases.
 pub fn put_opt_case(sheet: &mut [u8], at: usize, o: OptCase) -> usize
     requires { ⌜ at < 2 ^ 31 ⌝ }
     ensures { λ r. ⌜ ((n : ℕ) → Writes (now (sheet .entry)) at (opt (below n) .write (of.optCaseOf o)) (now (sheet .exit)) r) ⌝ }
