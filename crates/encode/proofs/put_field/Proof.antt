@@ -1,0 +1,78 @@
+-- `encode::put_field` meets its contract: the loop writes the last byte first; with what is left of the field written over it, the sheet is that of the whole field. Assumes nothing.
+use Prim.Native.Nat.{_≤_}
+use mathlib.Core.Path.{sym, _∙_, _≡_}
+use native.Mathlib.Omega.{arith}
+use lib.ListN.{length, length-set}
+use lib.Seq.{sets}
+use borrow.Author.Needs.{needs}
+use Rattle.codec.specs.Codec.{big}
+use Rattle.encode.proofs.FieldLaws.{big-last, length-big}
+use Rattle.encode.proofs.put_field.Statement.{statement}
+use Rattle.encode.proofs.put_field.Tie as tie
+
+abbrev Inv-loop : tie.InvT-loop
+Inv-loop sheet₀ at width v k₀ w₀ sheet k w =
+    (k ≤ width) × (length sheet ≡ length sheet₀) × (sets sheet at (big k .write w) ≡ sets sheet₀ at (big width .write v))
+
+abbrev μ-loop : tie.MeasureT-loop
+μ-loop sheet₀ at width v k₀ w₀ sheet k w = k
+
+loop-holds : tie.Need-loop-holds Inv-loop μ-loop
+loop-holds c = search needs
+
+sub-k : tie.Need-sub-k Inv-loop μ-loop
+sub-k c = search needs
+
+add-put : tie.Need-add-put Inv-loop μ-loop
+add-put c = search needs
+
+cast-put : tie.Need-cast-put Inv-loop μ-loop
+cast-put c = search needs
+
+put-requires : tie.Need-put-requires Inv-loop μ-loop
+put-requires c κs = search needs
+
+loop-less : tie.Need-loop-less Inv-loop μ-loop
+loop-less c = search needs
+
+loop-again : tie.Need-loop-again Inv-loop μ-loop
+loop-again c =
+    let at-put = c .before .before in
+    let at-loop = at-put .before .before .before in
+    let start = at-loop .before .before in
+    let p = at-put .put .ensures .bytes in (
+      omega arith,
+      rw (p, length-set) (at-loop .loop .inv .1),
+      rw p (sym (big-last (at-loop .loop .sheet) (start .args .at) (at-loop .loop .k) (at-loop .loop .w) (omega arith)) ∙ at-loop .loop .inv .2),
+    )
+
+add-result : tie.Need-add-result Inv-loop μ-loop
+add-result c = search needs
+
+same-length : tie.Need-same-length Inv-loop μ-loop
+same-length c = c .before .loop .inv .1
+
+returns : tie.Need-returns Inv-loop μ-loop
+returns c =
+    let at-loop = c .before in
+    let start = at-loop .before .before in
+    let l = at-loop .loop in
+    let e : l .k ≡ 0 = omega arith in
+    record { bytes = rw e at (l .inv .2); place = omega (arith, length-big (start .args .width) (start .args .v)) }
+
+pub put-field-spec : {M : Type 1} → statement M
+put-field-spec =
+    tie.close
+    (tie.spec
+    Inv-loop
+    μ-loop
+    loop-holds
+    sub-k
+    add-put
+    cast-put
+    put-requires
+    loop-less
+    loop-again
+    add-result
+    same-length
+    returns)

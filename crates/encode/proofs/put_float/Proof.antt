@@ -1,0 +1,22 @@
+-- `encode::put_float` meets its contract. Assumes nothing.
+use borrow.Author.Needs.{needs}
+use Rattle.encode.proofs.put_float.Statement.{statement}
+use Rattle.encode.proofs.put_float.Tie as tie
+
+bits-of-requires : tie.Need-bits-of-requires
+bits-of-requires c κs = search needs
+
+put-word-requires : tie.Need-put-word-requires
+put-word-requires c κs = search needs
+
+same-length : tie.Need-same-length
+same-length c = search needs
+
+returns : tie.Need-returns
+returns c =
+    let at-put-word = c .before .before in
+    let at-bits-of = at-put-word .before in
+    rw (at-bits-of .bits-of .ensures) at (at-put-word .put-word .ensures)
+
+pub put-float-spec : {M : Type 1} → statement M
+put-float-spec = tie.close (tie.spec bits-of-requires put-word-requires same-length returns)

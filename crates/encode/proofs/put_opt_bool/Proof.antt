@@ -1,0 +1,53 @@
+-- `encode::put_opt_bool` meets its contract. Assumes nothing.
+use borrow.Author.Needs.{needs}
+use Rattle.encode.proofs.OverLaws.{writes-then}
+use Rattle.encode.proofs.put_opt_bool.Statement.{statement}
+use Rattle.encode.proofs.put_opt_bool.Tie as tie
+
+enum-told : tie.Need-enum-told
+enum-told c = search needs
+
+put-byte-requires : tie.Need-put-byte-requires
+put-byte-requires c κs = search needs
+
+enum-known-o : tie.Need-enum-known-o
+enum-known-o c = search needs
+
+put-byte-requires-2 : tie.Need-put-byte-requires-2
+put-byte-requires-2 c κs = search needs
+
+put-flag-requires : tie.Need-put-flag-requires
+put-flag-requires c κs = search needs
+
+same-length : tie.Need-same-length
+same-length c = search needs
+
+returns : tie.Need-returns
+returns c =
+    let at-put-byte = c .before .before in
+    let at-enum-told = at-put-byte .before .before in
+    rw (at-enum-told .enum-told .given .1) (at-put-byte .put-byte .ensures)
+
+same-length-2 : tie.Need-same-length-2
+same-length-2 c = search needs
+
+returns-2 : tie.Need-returns-2
+returns-2 c =
+    let at-put-flag = c .before .before in
+    let at-put-byte2 = at-put-flag .before .before .before .before in
+    let at-o = at-put-byte2 .before .before .before in
+    rw (at-o .o .given .1) (writes-then (at-put-byte2 .put-byte2 .ensures) (at-put-flag .put-flag .ensures))
+
+pub put-opt-bool-spec : {M : Type 1} → statement M
+put-opt-bool-spec =
+    tie.close
+    (tie.spec
+    enum-told
+    put-byte-requires
+    enum-known-o
+    put-byte-requires-2
+    put-flag-requires
+    same-length
+    returns
+    same-length-2
+    returns-2)

@@ -1,0 +1,57 @@
+-- `encode::put_opt_easing` meets its contract. Assumes nothing.
+use native.Mathlib.Omega.{arith}
+use borrow.Author.Needs.{needs}
+use Rattle.encode.proofs.OverLaws.{writes-then}
+use Rattle.encode.proofs.put_opt_easing.Statement.{statement}
+use Rattle.encode.proofs.put_opt_easing.Tie as tie
+
+enum-told : tie.Need-enum-told
+enum-told c = search needs
+
+put-byte-requires : tie.Need-put-byte-requires
+put-byte-requires c κs = search needs
+
+enum-known-o : tie.Need-enum-known-o
+enum-known-o c = search needs
+
+put-byte-requires-2 : tie.Need-put-byte-requires-2
+put-byte-requires-2 c κs = search needs
+
+put-easing-requires : tie.Need-put-easing-requires
+put-easing-requires c κs =
+    let at-o = c .before .before .before .before .before .before in
+    let start = at-o .before .before .before in
+    (omega arith, rw (at-o .o .given .1) at (start .pre .1))
+
+same-length : tie.Need-same-length
+same-length c = search needs
+
+returns : tie.Need-returns
+returns c =
+    let at-put-byte = c .before .before in
+    let at-enum-told = at-put-byte .before .before in
+    λ n. rw (at-enum-told .enum-told .given .1) (at-put-byte .put-byte .ensures)
+
+same-length-2 : tie.Need-same-length-2
+same-length-2 c = search needs
+
+returns-2 : tie.Need-returns-2
+returns-2 c =
+    let at-put-easing = c .before .before in
+    let at-put-byte2 = at-put-easing .before .before .before .before in
+    let at-o = at-put-byte2 .before .before .before in
+    λ n. rw (at-o .o .given .1) (writes-then (at-put-byte2 .put-byte2 .ensures) (at-put-easing .put-easing .ensures n))
+
+pub put-opt-easing-spec : {M : Type 1} → statement M
+put-opt-easing-spec =
+    tie.close
+    (tie.spec
+    enum-told
+    put-byte-requires
+    enum-known-o
+    put-byte-requires-2
+    put-easing-requires
+    same-length
+    returns
+    same-length-2
+    returns-2)

@@ -1,0 +1,57 @@
+-- `encode::put_opt_pattern` meets its contract. Assumes nothing.
+use native.Mathlib.Omega.{arith}
+use borrow.Author.Needs.{needs}
+use Rattle.encode.proofs.OverLaws.{writes-then}
+use Rattle.encode.proofs.put_opt_pattern.Statement.{statement}
+use Rattle.encode.proofs.put_opt_pattern.Tie as tie
+
+enum-told : tie.Need-enum-told
+enum-told c = search needs
+
+put-byte-requires : tie.Need-put-byte-requires
+put-byte-requires c κs = search needs
+
+enum-known-o : tie.Need-enum-known-o
+enum-known-o c = search needs
+
+put-byte-requires-2 : tie.Need-put-byte-requires-2
+put-byte-requires-2 c κs = search needs
+
+put-pattern-requires : tie.Need-put-pattern-requires
+put-pattern-requires c κs =
+    let at-o = c .before .before .before .before .before .before in
+    let start = at-o .before .before .before in
+    (omega arith, rw (at-o .o .given .1) at (start .pre .1))
+
+same-length : tie.Need-same-length
+same-length c = search needs
+
+returns : tie.Need-returns
+returns c =
+    let at-put-byte = c .before .before in
+    let at-enum-told = at-put-byte .before .before in
+    rw (at-enum-told .enum-told .given .1) (at-put-byte .put-byte .ensures)
+
+same-length-2 : tie.Need-same-length-2
+same-length-2 c = search needs
+
+returns-2 : tie.Need-returns-2
+returns-2 c =
+    let at-put-pattern = c .before .before in
+    let at-put-byte2 = at-put-pattern .before .before .before .before in
+    let at-o = at-put-byte2 .before .before .before in
+    rw (at-o .o .given .1) (writes-then (at-put-byte2 .put-byte2 .ensures) (at-put-pattern .put-pattern .ensures))
+
+pub put-opt-pattern-spec : {M : Type 1} → statement M
+put-opt-pattern-spec =
+    tie.close
+    (tie.spec
+    enum-told
+    put-byte-requires
+    enum-known-o
+    put-byte-requires-2
+    put-pattern-requires
+    same-length
+    returns
+    same-length-2
+    returns-2)
