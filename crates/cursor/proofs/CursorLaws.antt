@@ -11,15 +11,16 @@ use borrow.Author.Tests.{eqb-true, ne-eqb, eq-eqb}
 use lib.Dec.{T, eqb}
 use lib.ListN.{length, take, drop}
 use lib.Ieee.{isNan}
-use Rattle.text.specs.Bytes.{bytes, among}
+use Rattle.text.specs.Bytes.{bytes, part, among}
+use Rattle.text.specs.Words.{isSome}
 use Rattle.number.specs.Number.{Written, whole, bits}
 use Rattle.token.specs.Token.{Kind, name, number, quoted, mark, Token, token, tokensFrom, place, kind, isMark, rest}
 use Rattle.token.specs.Means.{Lexes, Small, kindOf, written}
 use Rattle.token.specs.declared.Number.{Number}
-use Rattle.token.specs.declared.Tok.the-variants.{Num, Quoted}
-use Rattle.token.specs.Names.{wordOf, quoteOf}
+use Rattle.token.specs.declared.Tok.the-variants.{Name, Num, Quoted}
+use Rattle.token.specs.Names.{isKeyword, unless, wordOf, nameOf, quoteOf}
 use Rattle.grammar.specs.Values.{truth}
-use Rattle.grammar.specs.Rule.{isWord, seesBytes, text, Rule, Out, got, refused, seesByte, seesPair, theByte, bothBytes, eatByte, skip, _>>_, Signed, absent, plus, minus, plain, negated, pointless, seesNumber, seesWhole, taken, signed, Pass, halts, closes, goes, closing, depth, weigh, behind, ends, isEnd, firstOf, leave}
+use Rattle.grammar.specs.Rule.{isWord, seesBytes, word, text, Rule, Out, got, refused, seesByte, seesPair, theByte, bothBytes, eatByte, skip, _>>_, Signed, absent, plus, minus, plain, negated, pointless, seesNumber, seesWhole, taken, signed, Pass, halts, closes, goes, closing, depth, weigh, behind, ends, isEnd, firstOf, leave}
 use Rattle.error.specs.declared.Refusal.{Refusal}
 use Rattle.error.specs.declared.Refusal.the-variants.{Missing}
 use Rattle.cursor.specs.Means.{leftOf, Ready, notes, tokens, run, Took, Follows, Behind, sign, past, Numbers}
@@ -85,6 +86,16 @@ mark-missing s c r d e = rw (e, r .head .place)
 pub small-number : (s : List ℕ) (c : Cursor) (n : Number) → Ready s c → c .head .tok ≡ Num n → Small n
 small-number s c n r k = rw k at (r .head .stands)
 
+pub name-in : (s : List ℕ) (c : Cursor) (n : ℕ) → Ready s c → c .head .tok ≡ Name n → c .head .start + n ≤ length s
+name-in s c n r k = let a = rw k at (r .head .stands) in omega (arith, next-high s c r)
+
+pub took-word : (s : List ℕ) (c m : Cursor) (r : Ready s c) (f : Follows s c m) (n : ℕ) → c .head .tok ≡ Name n → isKeyword (part s (c .head .start) n) ≡ false
+    → Took 1 s c m word (c .head .start, part s (c .head .start) n)
+took-word s c m r f n k e = took s c m r f word _ (rw (r .head .kind, k)) (rw (r .head .kind, k, e, r .head .place))
+
+pub no-word : (s : List ℕ) (c : Cursor) → Ready s c → nameOf (kind (tokens s c)) ≡ none → run s c word ≡ refused Missing (c .head .start)
+no-word s c r e = rw (e, r .head .place)
+
 -- what stands between the quotes of a string, in the text
 pub string-in : (s : List ℕ) (c : Cursor) (n : ℕ) → Ready s c → c .head .tok ≡ Quoted n → c .head .start + 1 + n ≤ length s
 string-in s c n r k = let a = rw k at (r .head .stands) in omega (arith, next-high s c r)
@@ -113,6 +124,11 @@ took-false s c m r f d e = took s c m r f truth false (word-end (kind (tokens s 
 pub no-truth : (s : List ℕ) (c : Cursor) → Ready s c → seesBytes (bytes "true") (tokens s c) ≡ false → seesBytes (bytes "false") (tokens s c) ≡ false → run s c truth ≡ refused Missing (c .head .start)
 unfolding truth
 no-truth s c r d e = rw (d, e, r .head .place)
+
+-- whether there is a name, but for keywords
+pub some-unless : (b : Bool) (w : List ℕ) → not b ≡ isSome (unless b w)
+some-unless true w = refl
+some-unless false w = refl
 
 -- ---- two marks
 

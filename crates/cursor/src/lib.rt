@@ -161,6 +161,20 @@ pub fn sees_word(text: &[u8], c: Cursor, word: &[u8]) -> bool
     }
 }
 
+// Whether the next token is a name that is no keyword.
+pub fn sees_name(text: &[u8], c: Cursor) -> bool
+    ensures { λ r. ⌜ (Ready (now (text .entry)) c → r ≡ seesName (tokensFrom (now (text .entry)) (c .at))) ⌝ }
+{
+    let head = c.head;
+    let k = head.tok;
+    match k {
+        Tok::Name(n) => !token::is_keyword(text::part(text, head.start, n)),
+        Tok::Mark(_) => false,
+        Tok::Num(_) => false,
+        Tok::Quoted(_) => false,
+    }
+}
+
 // ---- taking the next token
 
 pub fn mark(text: &[u8], c: Cursor, b: u8) -> MarkRead
@@ -207,6 +221,27 @@ pub fn eat(text: &[u8], c: Cursor, b: u8) -> Eaten
     }
 }
 
+// A name that is no keyword.
+pub fn word(text: &[u8], c: Cursor) -> WordRead
+    requires { ⌜ Ready (now text) c ⌝ }
+    ensures { λ r. ⌜ WordMeans (now (text .entry)) c r ⌝ }
+{
+    let head = c.head;
+    let k = head.tok;
+    let start = head.start;
+    match k {
+        Tok::Name(size) => {
+            if token::is_keyword(text::part(text, start, size)) {
+                return WordRead::Missing(start);
+            }
+            WordRead::Is(Span { start, size }, advance(text, c))
+        }
+        Tok::Mark(_) => WordRead::Missing(start),
+        Tok::Num(_) => WordRead::Missing(start),
+        Tok::Quoted(_) => WordRead::Missing(start),
+    }
+}
+
 // A string: what stands between its quotes.
 pub fn string(text: &[u8], c: Cursor) -> WordRead
     requires { ⌜ Ready (now text) c ⌝ }
@@ -242,6 +277,23 @@ pub fn truth(text: &[u8], c: Cursor) -> TruthRead
     }
     let head = c.head;
     TruthRead::Missing(head.start)
+}
+
+// A name among some, as its position there.
+pub fn choice(text: &[u8], c: Cursor, names: &[u8], refusal: Refusal) -> CaseRead
+    requires { ⌜ Ready (now text) c ⌝ }
+    ensures { λ r. ⌜ CaseMeans (now (text .entry)) c (choiceIn refusal (table (now (names .entry)))) r ⌝ }
+{
+    match word(text, c) {
+        WordRead::Missing(p) => CaseRead::Refused(Refusal::Missing, p),
+        WordRead::Is(w, m) => match text::find(names, text::part(text, w.start, w.size)) {
+            text::Found::At(i) => CaseRead::Is(i, m),
+            text::Found::Nothing => {
+                let head = m.head;
+                CaseRead::Refused(refusal, head.start)
+            }
+        },
+    }
 }
 
 // ---- numbers
