@@ -60,14 +60,24 @@ unfoldable pub rowOf : Table → List ℕ → Option (String × Rule Content)
 rowOf [] w = none
 rowOf (f ∷ fs) w = elim (same w (bytes (f .0))) [ true ↦ some f | false ↦ rowOf fs w ]
 
--- a field: its name, `:`, and what its row of the table says
-unfoldable pub entry : Rule (List ℕ) → Table → Rule Entry
-entry fieldName table = do
+-- a field's name and `:`, for its row of the table
+unfoldable pub fieldHead : Rule (List ℕ) → Table → Rule (String × Rule Content)
+fieldHead fieldName table = do
   w ← fieldName
   the ":"
-  f ← need UnknownKeyword (rowOf table w)
-  c ← f .1
-  give (bytes (f .0), c)
+  need UnknownKeyword (rowOf table w)
+
+-- what stands behind them
+unfoldable pub fieldValue : String × Rule Content → Rule Entry
+fieldValue f = do
+  x ← f .1
+  give (bytes (f .0), x)
+
+-- a field
+unfoldable pub entry : Rule (List ℕ) → Table → Rule Entry
+entry fieldName table = do
+  f ← fieldHead fieldName table
+  fieldValue f
 
 -- ---- fields in parentheses
 

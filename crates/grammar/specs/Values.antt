@@ -66,13 +66,17 @@ parseUint = do
 unfoldable pub parseFloatInParens : Rule ℕ
 parseFloatInParens = inside "(" parseFloat
 
--- parse_two_floats_in_parens
-unfoldable pub parseTwoFloatsInParens : Rule (ℕ × ℕ)
-parseTwoFloatsInParens = inside "(" (do
+-- two f32 with a `,` between them
+unfoldable pub twoFloats : Rule (ℕ × ℕ)
+twoFloats = do
   a ← parseFloat
   the ","
   b ← parseFloat
-  give (a, b))
+  give (a, b)
+
+-- parse_two_floats_in_parens
+unfoldable pub parseTwoFloatsInParens : Rule (ℕ × ℕ)
+parseTwoFloatsInParens = inside "(" twoFloats
 
 -- `parse_uint` in parentheses
 unfoldable pub parseUintInParens : Rule ℕ
@@ -111,14 +115,10 @@ f32Of n d = bits (round binary32 false n d)
 -- `cubic_bezier(x1, y1, x2, y2)`
 unfoldable pub bezierCurve : Rule EasingSpec
 bezierCurve = inside "(" (do
-  x1 ← parseFloat
+  p ← twoFloats
   the ","
-  y1 ← parseFloat
-  the ","
-  x2 ← parseFloat
-  the ","
-  y2 ← parseFloat
-  give (cubicBezier x1 y1 x2 y2))
+  q ← twoFloats
+  give (cubicBezier (p .0) (p .1) (q .0) (q .1)))
 
 unfoldable pub roughFields : Table
 roughFields = ("strength", number) ∷ ("points", count) ∷ []

@@ -1,0 +1,43 @@
+use borrow.Author.Needs.{needs}
+use Rattle.fields.proofs.field_name.Statement.{statement}
+use Rattle.fields.proofs.field_name.Tie as tie
+use Rattle.fields.proofs.field_name.Reads as reads
+use Rattle.fields.proofs.field_name.Lts as lts
+use Rattle.cursor.proofs.advance.Reads as advance-reads
+use Rattle.cursor.proofs.sees_word.Reads as sees-word-reads
+use Rattle.cursor.proofs.word.Reads as word-reads
+
+-- src/lib.rt:60:35
+slice-aggregate-sees-word : tie.Need-slice-aggregate-sees-word
+slice-aggregate-sees-word c = search needs
+
+-- src/lib.rt:60:8
+sees-word-requires : tie.Need-sees-word-requires
+sees-word-requires c κs = search needs
+
+-- src/lib.rt:66:35
+advance-requires : tie.Need-advance-requires
+advance-requires c κs = search needs
+
+-- src/lib.rt:66:9
+returns : tie.Need-returns
+returns c = ?
+
+-- src/lib.rt:68:5
+word-requires : tie.Need-word-requires
+word-requires c κs = search needs
+
+-- src/lib.rt:56:1
+returns-2 : tie.Need-returns-2
+returns-2 c = ?
+
+pub field-name-spec : {M : Type 1} → statement M
+field-name-spec =
+    tie.close
+    (tie.spec
+    slice-aggregate-sees-word
+    sees-word-requires
+    advance-requires
+    returns
+    word-requires
+    returns-2)

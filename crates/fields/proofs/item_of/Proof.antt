@@ -1,0 +1,76 @@
+use borrow.Author.Needs.{needs}
+use Rattle.fields.proofs.item_of.Statement.{statement}
+use Rattle.fields.proofs.item_of.Tie as tie
+use Rattle.fields.proofs.item_of.Reads as reads
+use Rattle.fields.proofs.item_of.Lts as lts
+use Rattle.text.proofs.has.Reads as has-reads
+
+-- src/lib.rt:37:19
+enum-known-k : tie.Need-enum-known-k
+enum-known-k c = search needs
+
+-- src/lib.rt:38:26
+slice-aggregate-has : tie.Need-slice-aggregate-has
+slice-aggregate-has c = search needs
+
+-- src/lib.rt:38:16
+has-requires : tie.Need-has-requires
+has-requires c κs = search needs
+
+-- src/lib.rt:39:17
+returns : tie.Need-returns
+returns c = ?
+
+-- src/lib.rt:42:17
+returns-2 : tie.Need-returns-2
+returns-2 c = ?
+
+-- src/lib.rt:45:17
+returns-3 : tie.Need-returns-3
+returns-3 c = ?
+
+-- src/lib.rt:49:25
+enum-told : tie.Need-enum-told
+enum-told c = search needs
+
+-- src/lib.rt:50:24
+enum-told-2 : tie.Need-enum-told-2
+enum-told-2 c = search needs
+
+-- src/lib.rt:51:27
+enum-told-3 : tie.Need-enum-told-3
+enum-told-3 c = search needs
+
+-- src/lib.rt:33:1
+returns-4 : tie.Need-returns-4
+returns-4 c = ?
+
+-- src/lib.rt:33:1
+returns-5 : tie.Need-returns-5
+returns-5 c = ?
+
+-- src/lib.rt:33:1
+returns-6 : tie.Need-returns-6
+returns-6 c = ?
+
+-- src/lib.rt:33:1
+returns-7 : tie.Need-returns-7
+returns-7 c = ?
+
+pub item-of-spec : {M : Type 1} → statement M
+item-of-spec =
+    tie.close
+    (tie.spec
+    enum-known-k
+    slice-aggregate-has
+    has-requires
+    returns
+    returns-2
+    returns-3
+    enum-told
+    enum-told-2
+    enum-told-3
+    returns-4
+    returns-5
+    returns-6
+    returns-7)

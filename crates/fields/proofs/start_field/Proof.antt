@@ -1,0 +1,42 @@
+use borrow.Author.Needs.{needs}
+use Rattle.fields.proofs.start_field.Statement.{statement}
+use Rattle.fields.proofs.start_field.Tie as tie
+use Rattle.fields.proofs.start_field.Reads as reads
+use Rattle.fields.proofs.start_field.Lts as lts
+use Rattle.fields.proofs.after_name.Reads as after-name-reads
+use Rattle.fields.proofs.field_name.Reads as field-name-reads
+
+-- src/lib.rt:93:11
+field-name-requires : tie.Need-field-name-requires
+field-name-requires c κs = search needs
+
+-- src/lib.rt:94:27
+enum-known-p : tie.Need-enum-known-p
+enum-known-p c = search needs
+
+-- src/lib.rt:95:22
+enum-known-name : tie.Need-enum-known-name
+enum-known-name c = search needs
+
+-- src/lib.rt:95:34
+after-name-requires : tie.Need-after-name-requires
+after-name-requires c κs = ?
+
+-- src/lib.rt:89:1
+returns : tie.Need-returns
+returns c = ?
+
+-- src/lib.rt:89:1
+returns-2 : tie.Need-returns-2
+returns-2 c = ?
+
+pub start-field-spec : {M : Type 1} → statement M
+start-field-spec =
+    tie.close
+    (tie.spec
+    field-name-requires
+    enum-known-p
+    enum-known-name
+    after-name-requires
+    returns
+    returns-2)
