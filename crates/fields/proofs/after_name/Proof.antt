@@ -1,3 +1,9 @@
+use Rattle.fields.proofs.FieldLaws.{looked-up}
+use mathlib.Core.Path.{ap, sym, _∙_}
+use Rattle.text.specs.Bytes.{at}
+use Rattle.text.specs.Means.{placeOf}
+use Rattle.fields.proofs.FieldLaws.{row-found, row-none}
+use Rattle.cursor.proofs.CursorLaws.{took}
 use borrow.Author.Needs.{needs}
 use Rattle.fields.proofs.after_name.Statement.{statement}
 use Rattle.fields.proofs.after_name.Tie as tie
@@ -37,15 +43,21 @@ enum-told c = search needs
 
 -- src/lib.rt:72:1
 returns : tie.Need-returns
-returns c = ?
+returns c t e = let h = rw (c .before .p .given .1) at (c .before .before .before .mark .ensures) in rw h
 
 -- src/lib.rt:72:1
 returns-2 : tie.Need-returns-2
-returns-2 c = ?
+returns-2 c t e =
+    let m = rw (c .before .before .before .before .before .before .m .given .1) at (c .before .before .before .before .before .before .before .before .mark .ensures) in
+    let f = row-found t _ _ (looked-up t _ _ _ _ e (c .before .before .before .before .part .ensures) (c .before .before .before .find .ensures) ∙ ap placeOf (c .before .i .given .1)) in
+    record { row = f .row; is = f .is; took = record { is = rw (m .is, f .under); low = m .low; ready = m .ready } }
 
 -- src/lib.rt:72:1
 returns-3 : tie.Need-returns-3
-returns-3 c = ?
+returns-3 c t e =
+    let m = rw (c .before .before .before .before .before .before .m .given .1) at (c .before .before .before .before .before .before .before .before .mark .ensures) in
+    let f = row-none t _ (looked-up t _ _ _ _ e (c .before .before .before .before .part .ensures) (c .before .before .before .find .ensures) ∙ ap placeOf (c .before .enum-told .given .1)) in
+    rw (m .is, f, m .ready .head .place)
 
 pub after-name-spec : {M : Type 1} → statement M
 after-name-spec =

@@ -1,3 +1,6 @@
+use Rattle.fields.proofs.FieldLaws.{named}
+use mathlib.Core.Path.{sym, _∙_}
+use Rattle.fields.proofs.FieldLaws.{took-loop}
 use borrow.Author.Needs.{needs}
 use Rattle.fields.proofs.field_name.Statement.{statement}
 use Rattle.fields.proofs.field_name.Tie as tie
@@ -21,7 +24,7 @@ advance-requires c κs = search needs
 
 -- src/lib.rt:66:9
 returns : tie.Need-returns
-returns c = ?
+returns c = took-loop (c .before .before .before .before .before .before .args .text .now) (c .before .before .before .before .before .before .args .c) (c .advance .result) (c .before .before .before .before .before .before .pre) (c .advance .ensures) (sym (c .before .before .before .sees-word .ensures (c .before .before .before .before .before .before .pre)) ∙ c .before .before .if1 .taken)
 
 -- src/lib.rt:68:5
 word-requires : tie.Need-word-requires
@@ -29,7 +32,7 @@ word-requires c κs = search needs
 
 -- src/lib.rt:56:1
 returns-2 : tie.Need-returns-2
-returns-2 c = ?
+returns-2 c = named (c .before .before .before .before .before .args .text .now) (c .before .before .before .before .before .args .c) (c .word .result) (sym (c .before .before .sees-word .ensures (c .before .before .before .before .before .pre)) ∙ c .before .if1 .left) (c .word .ensures)
 
 pub field-name-spec : {M : Type 1} → statement M
 field-name-spec =

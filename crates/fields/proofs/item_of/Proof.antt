@@ -1,3 +1,6 @@
+use Rattle.grammar.specs.Fields.{itemOf}
+use borrow.Author.Tests.{ne-eqb}
+use mathlib.Core.Path.{sym, _∙_}
 use borrow.Author.Needs.{needs}
 use Rattle.fields.proofs.item_of.Statement.{statement}
 use Rattle.fields.proofs.item_of.Tie as tie
@@ -19,15 +22,18 @@ has-requires c κs = search needs
 
 -- src/lib.rt:39:17
 returns : tie.Need-returns
-returns c = ?
+unfolding itemOf
+returns c t = rw (c .before .before .before .before .k .given .1, sym (c .before .has .ensures) ∙ c .if1 .taken)
 
 -- src/lib.rt:42:17
 returns-2 : tie.Need-returns-2
-returns-2 c = ?
+unfolding itemOf
+returns-2 c t = rw (c .before .before .before .before .before .k .given .1, sym (c .before .before .has .ensures) ∙ c .before .if1 .left, c .if2 .taken)
 
 -- src/lib.rt:45:17
 returns-3 : tie.Need-returns-3
-returns-3 c = ?
+unfolding itemOf
+returns-3 c t = rw (c .before .before .before .before .before .before .k .given .1, sym (c .before .before .before .has .ensures) ∙ c .before .before .if1 .left, ne-eqb _ _ (c .before .if2 .left), c .if3 .taken)
 
 -- src/lib.rt:49:25
 enum-told : tie.Need-enum-told
@@ -43,19 +49,23 @@ enum-told-3 c = search needs
 
 -- src/lib.rt:33:1
 returns-4 : tie.Need-returns-4
-returns-4 c = ?
+unfolding itemOf
+returns-4 c t = rw (c .before .before .before .before .before .before .k .given .1, sym (c .before .before .before .has .ensures) ∙ c .before .before .if1 .left, ne-eqb _ _ (c .before .if2 .left), ne-eqb _ _ (c .if3 .left))
 
 -- src/lib.rt:33:1
 returns-5 : tie.Need-returns-5
-returns-5 c = ?
+unfolding itemOf
+returns-5 c t = rw (c .enum-told .given .1)
 
 -- src/lib.rt:33:1
 returns-6 : tie.Need-returns-6
-returns-6 c = ?
+unfolding itemOf
+returns-6 c t = rw (c .enum-told2 .given .1)
 
 -- src/lib.rt:33:1
 returns-7 : tie.Need-returns-7
-returns-7 c = ?
+unfolding itemOf
+returns-7 c t = rw (c .enum-told3 .given .1)
 
 pub item-of-spec : {M : Type 1} → statement M
 item-of-spec =

@@ -1,3 +1,6 @@
+use Rattle.text.specs.Bytes.{at}
+use Rattle.grammar.specs.Fields.{fieldName}
+use Rattle.fields.proofs.FieldLaws.{head-missing, started}
 use borrow.Author.Needs.{needs}
 use Rattle.fields.proofs.start_field.Statement.{statement}
 use Rattle.fields.proofs.start_field.Tie as tie
@@ -20,15 +23,15 @@ enum-known-name c = search needs
 
 -- src/lib.rt:95:34
 after-name-requires : tie.Need-after-name-requires
-after-name-requires c κs = ?
+after-name-requires c κs = (rw (c .before .name .given .1) at (c .before .before .before .field-name .ensures)) .ready
 
 -- src/lib.rt:89:1
 returns : tie.Need-returns
-returns c = ?
+returns c t e = head-missing (c .before .before .before .before .before .before .args .text .now) fieldName (c .before .before .before .before .before .before .args .c) t _ _ (rw (c .before .p .given .1) at (c .before .before .before .field-name .ensures))
 
 -- src/lib.rt:89:1
 returns-2 : tie.Need-returns-2
-returns-2 c = ?
+returns-2 c t e = started (c .before .before .before .before .before .before .before .args .text .now) fieldName (c .before .before .before .before .before .before .before .args .c) _ _ t (c .after-name .result) (rw (c .before .before .name .given .1) at (c .before .before .before .before .field-name .ensures)) (c .after-name .ensures t e)
 
 pub start-field-spec : {M : Type 1} → statement M
 start-field-spec =
