@@ -66,12 +66,15 @@ parseUint = do
 unfoldable pub parseFloatInParens : Rule ℕ
 parseFloatInParens = inside "(" parseFloat
 
+-- `,` and an f32
+unfoldable pub commaFloat : Rule ℕ
+commaFloat = the "," >> parseFloat
+
 -- two f32 with a `,` between them
 unfoldable pub twoFloats : Rule (ℕ × ℕ)
 twoFloats = do
   a ← parseFloat
-  the ","
-  b ← parseFloat
+  b ← commaFloat
   give (a, b)
 
 -- parse_two_floats_in_parens
@@ -112,13 +115,19 @@ value = parseValue >>= λ v. give (aValue v)
 unfoldable pub f32Of : ℕ → ℕ → ℕ
 f32Of n d = bits (round binary32 false n d)
 
+-- `,` and two f32
+unfoldable pub commaFloats : Rule (ℕ × ℕ)
+commaFloats = the "," >> twoFloats
+
+unfoldable pub fourFloats : Rule EasingSpec
+fourFloats = do
+  p ← twoFloats
+  q ← commaFloats
+  give (cubicBezier (p .0) (p .1) (q .0) (q .1))
+
 -- `cubic_bezier(x1, y1, x2, y2)`
 unfoldable pub bezierCurve : Rule EasingSpec
-bezierCurve = inside "(" (do
-  p ← twoFloats
-  the ","
-  q ← twoFloats
-  give (cubicBezier (p .0) (p .1) (q .0) (q .1)))
+bezierCurve = inside "(" fourFloats
 
 unfoldable pub roughFields : Table
 roughFields = ("strength", number) ∷ ("points", count) ∷ []

@@ -1,0 +1,69 @@
+use native.Mathlib.Omega.{arith}
+use Rattle.text.specs.Bytes.{at}
+use Rattle.grammar.specs.Values.{fourFloats}
+use borrow.Author.Needs.{needs}
+use Rattle.values.proofs.four_floats.Statement.{statement}
+use Rattle.values.proofs.four_floats.Tie as tie
+use Rattle.values.proofs.four_floats.Reads as reads
+use Rattle.values.proofs.four_floats.Lts as lts
+use Rattle.values.proofs.comma_floats.Reads as comma-floats-reads
+use Rattle.values.proofs.two_floats.Reads as two-floats-reads
+
+-- src/lib.rt:120:11
+two-floats-requires : tie.Need-two-floats-requires
+two-floats-requires c κs = search needs
+
+-- src/lib.rt:121:27
+enum-known-r : tie.Need-enum-known-r
+enum-known-r c = search needs
+
+-- src/lib.rt:122:22
+enum-known-x1 : tie.Need-enum-known-x1
+enum-known-x1 c = search needs
+
+-- src/lib.rt:122:42
+comma-floats-requires : tie.Need-comma-floats-requires
+comma-floats-requires c κs = (rw (c .before .x1 .given .1) at (c .before .before .before .two-floats .ensures)) .took .ready
+
+-- src/lib.rt:123:31
+enum-known-r-2 : tie.Need-enum-known-r-2
+enum-known-r-2 c = search needs
+
+-- src/lib.rt:124:26
+enum-known-x2 : tie.Need-enum-known-x2
+enum-known-x2 c = search needs
+
+-- src/lib.rt:116:1
+returns : tie.Need-returns
+unfolding fourFloats
+returns c = let h = rw (c .before .r .given .1) at (c .before .before .before .two-floats .ensures) in rw h
+
+-- src/lib.rt:116:1
+returns-2 : tie.Need-returns-2
+unfolding fourFloats
+returns-2 c =
+    let t = (rw (c .before .before .before .before .before .x1 .given .1) at (c .before .before .before .before .before .before .before .two-floats .ensures)) .took in
+    let h = rw (c .before .r2 .given .1) at (c .before .before .before .comma-floats .ensures) in
+    rw (t .is, h)
+
+-- src/lib.rt:116:1
+returns-3 : tie.Need-returns-3
+unfolding fourFloats
+returns-3 c =
+    let t = rw (c .before .before .before .before .before .x1 .given .1) at (c .before .before .before .before .before .before .before .two-floats .ensures) in
+    let u = rw (c .before .x2 .given .1) at (c .before .before .before .comma-floats .ensures) in
+    (record { is = rw (t .took .is, u .took .is); low = omega (arith, t .took .low, u .took .low); ready = u .took .ready }, (t .first, t .second, u .first, u .second))
+
+pub four-floats-spec : {M : Type 1} → statement M
+four-floats-spec =
+    tie.close
+    (tie.spec
+    two-floats-requires
+    enum-known-r
+    enum-known-x1
+    comma-floats-requires
+    enum-known-r-2
+    enum-known-x2
+    returns
+    returns-2
+    returns-3)
