@@ -1,18 +1,27 @@
 -- What the answers of the functions mean, in terms of the grammar's rules. Contracts cite these. Assumes nothing.
 use Prim.Native.Nat.{ℕ}
-use mathlib.Core.List.{List}
+use Prim.Native.String.{String}
+use mathlib.Core.List.{List, _∷_}
+use mathlib.Core.Option.{some}
 use mathlib.Core.Path.{_≡_}
+use lib.ListN.{getElem?}
 use lib.Ieee.{Float}
 use Rattle.number.specs.Number.{bits}
 use Rattle.ast.specs.Tree as tree
-use Rattle.encode.specs.Of.{Plain, PlainEasing, easingOf, loopOf}
+use Rattle.encode.specs.Of.{Plain, PlainEasing, PlainOptFloat, easingOf, loopOf, optFloatOf, optWordOf}
 use Rattle.grammar.specs.Rule.{refused, Rule}
+use Rattle.grammar.specs.Fields.{Content, Fields, pairs, numberOf}
+use Rattle.grammar.specs.Values.{roughFields, slowMoFields}
+use Rattle.text.specs.Bytes.{bytes}
 use Rattle.cursor.specs.Means.{run, Took}
 use Rattle.cursor.specs.declared.Cursor.{Cursor}
 use Rattle.values.specs.declared.PairRead.{PairRead}
 use Rattle.values.specs.declared.PairRead.the-variants as pair
 use Rattle.values.specs.declared.EasingRead.{EasingRead}
 use Rattle.values.specs.declared.EasingRead.the-variants as easing
+use Rattle.values.specs.declared.RoughFields.{RoughFields}
+use Rattle.values.specs.declared.RoughRead.{RoughRead}
+use Rattle.values.specs.declared.RoughRead.the-variants as rough
 use Rattle.values.specs.declared.LoopRead.{LoopRead}
 use Rattle.values.specs.declared.LoopRead.the-variants as loop
 
@@ -37,3 +46,23 @@ EasingMeans s c p (easing.Refused r q) = run s c p ≡ refused r q
 abbrev pub LoopMeans : List ℕ → Cursor → Rule tree.LoopSpec → LoopRead → Type 0
 LoopMeans s c p (loop.Is x m) = Took 1 s c m p (loopOf x)
 LoopMeans s c p (loop.Refused r q) = run s c p ≡ refused r q
+
+-- ---- fields of a curve
+
+-- the value of the row i of a table, onto the fields that f holds: `held` says which fields they are
+abbrev pub Holds : {F : Type 0} → (F → Fields → Type 0) → F → F → List ℕ → Content → Type 0
+Holds held f g n x = (fs : Fields) → held f fs → held g ((n, x) ∷ fs)
+
+-- f holds what the fields of `rough` say
+pub record RoughHeld (f : RoughFields) (fs : Fields) : Type 0 where
+  pub strength : optFloatOf (f .strength) ≡ numberOf "strength" fs
+  pub plain : PlainOptFloat (f .strength)
+  pub points : optWordOf (f .points) ≡ numberOf "points" fs
+
+abbrev pub RoughFieldMeans : List ℕ → Cursor → RoughFields → ℕ → RoughRead → Type 0
+RoughFieldMeans s c f i (rough.Is g m) = (row : String × Rule Content) → getElem? roughFields i ≡ some row → (x : Content) × Took 1 s c m (row .1) x × Holds RoughHeld f g (bytes (row .0)) x
+RoughFieldMeans s c f i (rough.Refused r q) = (row : String × Rule Content) → getElem? roughFields i ≡ some row → run s c (row .1) ≡ refused r q
+
+abbrev pub RoughMeans : List ℕ → Cursor → RoughRead → Type 0
+RoughMeans s c (rough.Is g m) = (gs : Fields) × Took 0 s c m (pairs roughFields) gs × RoughHeld g gs
+RoughMeans s c (rough.Refused r q) = run s c (pairs roughFields) ≡ refused r q

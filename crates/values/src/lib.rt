@@ -3,9 +3,10 @@
 ghost use mathlib.Core.Path.{_≡_};
 ghost use mathlib.Core.List.{[]};
 ghost use Prim.Native.Nat.{ℕ};
-ghost use Rattle.grammar.specs.Values.{parseFloatInParens, parseUintInParens, commaFloat, twoFloats, parseTwoFloatsInParens, commaFloats, fourFloats, bezierCurve};
+ghost use Rattle.grammar.specs.Values.{parseFloatInParens, parseUintInParens, commaFloat, twoFloats, parseTwoFloatsInParens, commaFloats, fourFloats, bezierCurve, roughFields};
+ghost use Rattle.fields.specs.Means as fields;
 ghost use Rattle.cursor.specs.Means.{Ready, FloatMeans, UintMeans};
-ghost use Rattle.values.specs.Means.{PairMeans, EasingMeans, LoopMeans};
+ghost use Rattle.values.specs.Means.{PairMeans, EasingMeans, LoopMeans, RoughFieldMeans, RoughMeans};
 use ast::EasingSpec;
 use ast::LoopSpec;
 use ast::OptF32;
@@ -137,5 +138,87 @@ fn bezier_curve(text: &[u8], c: Cursor) -> EasingRead
             EasingRead::Refused(r, p) => EasingRead::Refused(r, p),
             EasingRead::Is(e, n) => EasingRead::Is(e, cursor::leave_group(text, n)),
         },
+    }
+}
+
+// ---- rough
+
+const ROUGH_FIELDS: [u8; 16] = *b"\x08strength\x06points";
+
+// The fields so far.
+pub struct RoughFields {
+    pub strength: OptF32,
+    pub points: OptU32,
+}
+
+pub enum RoughRead {
+    Is(RoughFields, Cursor),
+    Refused(Refusal, usize),
+}
+
+// The value of a field, onto those so far.
+fn rough_field(text: &[u8], c: Cursor, f: RoughFields, i: usize) -> RoughRead
+    requires { ⌜ Ready (now text) c ⌝ }
+    ensures { λ r. ⌜ RoughFieldMeans (now (text .entry)) c f i r ⌝ }
+{
+    let strength = f.strength;
+    let points = f.points;
+    if i == 0 {
+        return match cursor::parse_float(text, c) {
+            FloatRead::Refused(r, p) => RoughRead::Refused(r, p),
+            FloatRead::Is(x, m) => RoughRead::Is(
+                RoughFields {
+                    strength: OptF32::Present(x),
+                    points,
+                },
+                m,
+            ),
+        };
+    }
+    match cursor::parse_uint(text, c) {
+        UintRead::Refused(r, p) => RoughRead::Refused(r, p),
+        UintRead::Is(n, m) => RoughRead::Is(
+            RoughFields {
+                strength,
+                points: OptU32::Present(n),
+            },
+            m,
+        ),
+    }
+}
+
+fn next_rough(text: &[u8], c: Cursor) -> NextField
+    requires { ⌜ Ready (now text) c ⌝ }
+    ensures { λ r. ⌜ fields.PairMeans (now (text .entry)) c roughFields r ⌝ }
+{
+    fields::next_pair(text, c, &ROUGH_FIELDS)
+}
+
+fn rough_fields(text: &[u8], c: Cursor) -> RoughRead
+    requires { ⌜ Ready (now text) c ⌝ }
+    ensures { λ r. ⌜ RoughMeans (now (text .entry)) c r ⌝ }
+{
+    let mut m = c;
+    let mut f = RoughFields {
+        strength: OptF32::Absent,
+        points: OptU32::Absent,
+    };
+    loop {
+        match next_rough(text, m) {
+            NextField::Refused(r, p) => return RoughRead::Refused(r, p),
+            NextField::Done(e) => return RoughRead::Is(f, e),
+            NextField::Field(i, v) => match rough_field(text, v, f, i) {
+                RoughRead::Refused(r, p) => return RoughRead::Refused(r, p),
+                RoughRead::Is(g, e) => {
+                    let ate = cursor::eat(text, e, 44);
+                    let next = ate.next;
+                    if !ate.taken {
+                        return RoughRead::Is(g, next);
+                    }
+                    f = g;
+                    m = next;
+                }
+            },
+        }
     }
 }
