@@ -256,7 +256,7 @@ pub fn token(text: &[u8], at: usize) -> Lexed
 // ---- the pass over a whole text, with the awaited closers in the first words of the scratch, the innermost last
 
 // What a token makes of the delimiters: they do not fit, or so many are open then.
-pub enum Depth {
+enum Depth {
     Unfit(Refusal),
     Open(usize),
 }
@@ -268,11 +268,12 @@ pub enum SplitAnswer {
 }
 
 // A step of the pass: it is over, or goes on from a place with so many delimiters open.
-pub enum Turn {
+enum Turn {
     Over(SplitAnswer),
     On(usize, usize),
 }
 
+// A byte as a word.
 fn wide(b: u8) -> u16
     ensures { λ r. ⌜ r ≡ b ⌝ }
 {
@@ -284,11 +285,12 @@ fn closer(b: u8) -> u16
     ensures { λ r. ⌜ r ≡ closer b ⌝ }
 {
     if b == b'(' {
-        return 41;
+        return wide(b')');
     }
     wide(b) + 2
 }
 
+// An opener's closer is awaited next.
 fn take_opener(b: u8, words: &mut [u16], depth: usize) -> Depth
     requires { ⌜ (64 ≤ length (now words)) × (depth ≤ 64) ⌝ }
     ensures { λ r. ⌜ DepthMeans (opened b (held (now (words .entry)) depth)) (now (words .exit)) r ⌝ }
@@ -301,6 +303,7 @@ fn take_opener(b: u8, words: &mut [u16], depth: usize) -> Depth
     Depth::Unfit(Refusal::TooManyOpen)
 }
 
+// A closer is the one that is awaited, or it does not fit.
 fn take_closer(b: u8, words: &[u16], depth: usize) -> Depth
     requires { ⌜ (64 ≤ length (now words)) × (depth ≤ 64) ⌝ }
     ensures { λ r. ⌜ DepthMeans (closed b (held (now (words .entry)) depth)) (now (words .entry)) r ⌝ }
@@ -315,6 +318,7 @@ fn take_closer(b: u8, words: &[u16], depth: usize) -> Depth
     Depth::Unfit(Refusal::Unbalanced)
 }
 
+// What a mark makes of the delimiters.
 fn nest_mark(b: u8, words: &mut [u16], depth: usize) -> Depth
     requires { ⌜ (64 ≤ length (now words)) × (depth ≤ 64) ⌝ }
     ensures { λ r. ⌜ DepthMeans (nestMark b (held (now (words .entry)) depth)) (now (words .exit)) r ⌝ }
@@ -354,6 +358,7 @@ fn ended(place: usize, depth: usize) -> SplitAnswer
     }
 }
 
+// The pass ends with a refusal.
 fn halt(refusal: Refusal, place: usize) -> Turn
     ensures { λ r. ⌜ r ≡ Turn.Over (SplitAnswer.Refused refusal place) ⌝ }
 {
@@ -363,7 +368,7 @@ fn halt(refusal: Refusal, place: usize) -> Turn
     })
 }
 
-// What stands at a place: the end, or a token behind blanks.
+// One step of the pass: past blanks to the end of the text, or past a token.
 fn step(text: &[u8], at: usize, words: &mut [u16], depth: usize) -> Turn
     requires { ⌜ (at ≤ length (now text)) × (64 ≤ length (now words)) × (depth ≤ 64) ⌝ }
     ensures { λ r. ⌜ TurnMeans (now (text .entry)) at (answerFrom (now (text .entry)) at (held (now (words .entry)) depth)) (now (words .exit)) r ⌝ }
