@@ -48,7 +48,7 @@ isSpelt (some w) bs = same w bs
 abbrev pub excessOf : Bool → Refusal
 excessOf clings = cond clings BadForm TooManyDigits
 
--- a name's size is said twice
+-- a name is as long as its token
 abbrev pub Sized : Tok → ℕ → Type 0
 Sized (tok.Name m) n = m ≡ n
 Sized (tok.Num m) n = Unit {0}
