@@ -10,9 +10,9 @@ use lib.ListN.{length, getD, take, drop, length-drop, List·getD-eq-default}
 use borrow.Author.Tests.{ltb-true, ltb-false, le-ltb, eqb-true}
 use Rattle.text.specs.Bytes.{run, part, among, decimal, isName, isDigit, isLetter, isInside}
 use Rattle.text.proofs.ByteLaws.{run-le}
-use Rattle.error.specs.declared.Refusal.the-variants.{BadForm, TooManyDigits}
+use Rattle.error.specs.declared.Refusal.the-variants.{BadForm}
 use Rattle.token.specs.Token.{name, number, quoted, mark, Lexeme, bad, piece, nameAt, quotedAt, pointAt, pastFraction, suffixAt, pastSuffix, clings, placesOf, numberBy, numberAt, lexeme}
-use Rattle.token.specs.Means.{CutMeans}
+use Rattle.token.specs.Means.{excessOf, CutMeans}
 use Rattle.token.specs.declared.Cut.{Cut}
 
 -- a byte that is not 0 stands inside
@@ -97,9 +97,10 @@ module _ {t : List ℕ} {w : ℕ} {x : Bool} {e : ℕ} {z : Bool} {n : ℕ} (p :
   unfolding numberBy
   number-clings h = number-is ∙ (rw h)
 
-  pub number-long : clings t (not (x || z)) n ≡ false → (ltb 10 w || ltb 9 (placesOf x w e)) ≡ true → numberAt t ≡ bad TooManyDigits
+  pub number-long : (c : Bool) → clings t (not (x || z)) n ≡ c → (ltb 10 w || ltb 9 (placesOf x w e)) ≡ true → numberAt t ≡ bad (excessOf c)
   unfolding numberBy
-  number-long h g = number-is ∙ (rw (h, g))
+  number-long true h g = number-clings h
+  number-long false h g = number-is ∙ (rw (h, g))
 
   pub number-fine : (v q : ℕ) → clings t (not (x || z)) n ≡ false → w ≤ 10 → q ≡ placesOf x w e → q ≤ 9 → v ≡ decimal (decimal 0 (take w t)) (part t (suc w) q) → numberAt t ≡ piece (number (record { digits = v; places = q; point = x; suffix = z })) n
   unfolding numberBy

@@ -9,7 +9,8 @@ use lib.ListN.{length, getD, take, drop, replicate}
 use Rattle.text.specs.Bytes.{same}
 use Rattle.number.specs.Number.{Written}
 use Rattle.token.specs.Token.{Kind, name, number, quoted, mark, Lexeme, bad, piece, tokensFrom, place, kind, isMark, rest}
-use Rattle.error.specs.declared.Refusal.the-variants.{TooManyOpen, ScratchTooShort}
+use Rattle.error.specs.declared.Refusal.{Refusal}
+use Rattle.error.specs.declared.Refusal.the-variants.{BadForm, TooManyDigits, TooManyOpen, ScratchTooShort}
 use Rattle.token.specs.Split.{Nest, unfit, awaits, closer, Split, unlexed, tokens, splitFrom, split}
 use Rattle.token.specs.declared.Number.{Number}
 use Rattle.token.specs.declared.Tok.{Tok}
@@ -43,7 +44,11 @@ isSpelt (some w) bs = same w bs
 
 -- ---- the token that a text begins with
 
--- a name's size is said twice
+-- what a number with too many digits is refused with: "Both: 2"
+abbrev pub excessOf : Bool → Refusal
+excessOf clings = cond clings BadForm TooManyDigits
+
+-- a name is as long as its token
 abbrev pub Sized : Tok → ℕ → Type 0
 Sized (tok.Name m) n = m ≡ n
 Sized (tok.Num m) n = Unit {0}

@@ -8,7 +8,7 @@ ghost use Rattle.text.specs.Bytes.{run, part, among, decimal, isDigit};
 ghost use Rattle.token.specs.Token.{isMark, nameAt, pointAt, pastFraction, suffixAt, pastSuffix, clings, placesOf, numberAt, quotedAt, lexeme};
 ghost use Rattle.token.specs.Split.{closer, closed, nestMark, nest, ended, split};
 ghost use Rattle.token.specs.Names.{isKeyword, wordOf};
-ghost use Rattle.token.specs.Means.{kindOf, isSpelt, CutMeans, endAt, Lexes, held, opened, DepthMeans, answerOf, answerFrom, TurnMeans, outcome, splitting};
+ghost use Rattle.token.specs.Means.{kindOf, isSpelt, excessOf, CutMeans, endAt, Lexes, held, opened, DepthMeans, answerOf, answerFrom, TurnMeans, outcome, splitting};
 use error::Refusal;
 use text::Class;
 
@@ -58,10 +58,12 @@ fn quoted_at(t: &[u8]) -> Cut
 {
     let e = text::run_end(t, 1, Class::Inside);
     if text::byte_at(t, e) == b'"' {
-        if text::in_class(Class::NameByte, text::byte_at(t, e + 1)) {
+        let n = e + 1;
+        if text::in_class(Class::NameByte, text::byte_at(t, n)) {
             return Cut::Bad(Refusal::BadForm);
         }
-        return Cut::Piece(Tok::Quoted(e - 1), e + 1);
+        let size = e - 1;
+        return Cut::Piece(Tok::Quoted(size), n);
     }
     Cut::Bad(Refusal::BadForm)
 }
@@ -150,6 +152,16 @@ fn value(t: &[u8], seed: u64, from: usize, n: usize) -> u64
     v
 }
 
+// The refusal of a number with too many digits, which may have a bad form too.
+fn excess(clings: bool) -> Refusal
+    ensures { λ r. ⌜ r ≡ excessOf clings ⌝ }
+{
+    if clings {
+        return Refusal::BadForm;
+    }
+    Refusal::TooManyDigits
+}
+
 fn number_at(t: &[u8]) -> Cut
     ensures { λ r. ⌜ CutMeans (now (t .entry)) (numberAt (now (t .entry))) r ⌝ }
 {
@@ -159,14 +171,15 @@ fn number_at(t: &[u8]) -> Cut
     let suffix = has_suffix(t, end);
     let n = past_suffix(t, suffix, end);
     let places = places_of(point, w, end);
-    if clinging(t, point, suffix, n) {
-        return Cut::Bad(Refusal::BadForm);
-    }
+    let clings = clinging(t, point, suffix, n);
     if 10 < w {
-        return Cut::Bad(Refusal::TooManyDigits);
+        return Cut::Bad(excess(clings));
     }
     if 9 < places {
-        return Cut::Bad(Refusal::TooManyDigits);
+        return Cut::Bad(excess(clings));
+    }
+    if clings {
+        return Cut::Bad(Refusal::BadForm);
     }
     let whole = value(t, 0, 0, w);
     let digits = value(t, whole, end - places, places);
@@ -229,18 +242,21 @@ pub fn token(text: &[u8], at: usize) -> Lexed
     }
     match first(&text[start..]) {
         Cut::Bad(_) => end_at(start),
-        Cut::Piece(k, n) => Lexed {
-            start: start,
-            tok: k,
-            next: start + n,
-        },
+        Cut::Piece(k, n) => {
+            let next = start + n;
+            Lexed {
+                start: start,
+                tok: k,
+                next: next,
+            }
+        }
     }
 }
 
 // ---- the pass over a whole text, with the awaited closers in the first words of the scratch, the innermost last
 
 // What a token makes of the delimiters: they do not fit, or so many are open then.
-pub enum Depth {
+enum Depth {
     Unfit(Refusal),
     Open(usize),
 }
@@ -252,11 +268,12 @@ pub enum SplitAnswer {
 }
 
 // A step of the pass: it is over, or goes on from a place with so many delimiters open.
-pub enum Turn {
+enum Turn {
     Over(SplitAnswer),
     On(usize, usize),
 }
 
+// A byte as a word.
 fn wide(b: u8) -> u16
     ensures { λ r. ⌜ r ≡ b ⌝ }
 {
@@ -268,22 +285,25 @@ fn closer(b: u8) -> u16
     ensures { λ r. ⌜ r ≡ closer b ⌝ }
 {
     if b == b'(' {
-        return 41;
+        return wide(b')');
     }
     wide(b) + 2
 }
 
+// An opener's closer is awaited next.
 fn take_opener(b: u8, words: &mut [u16], depth: usize) -> Depth
     requires { ⌜ (64 ≤ length (now words)) × (depth ≤ 64) ⌝ }
     ensures { λ r. ⌜ DepthMeans (opened b (held (now (words .entry)) depth)) (now (words .exit)) r ⌝ }
 {
     if depth < 64 {
         words[depth] = closer(b);
-        return Depth::Open(depth + 1);
+        let deeper = depth + 1;
+        return Depth::Open(deeper);
     }
     Depth::Unfit(Refusal::TooManyOpen)
 }
 
+// A closer is the one that is awaited, or it does not fit.
 fn take_closer(b: u8, words: &[u16], depth: usize) -> Depth
     requires { ⌜ (64 ≤ length (now words)) × (depth ≤ 64) ⌝ }
     ensures { λ r. ⌜ DepthMeans (closed b (held (now (words .entry)) depth)) (now (words .entry)) r ⌝ }
@@ -298,6 +318,7 @@ fn take_closer(b: u8, words: &[u16], depth: usize) -> Depth
     Depth::Unfit(Refusal::Unbalanced)
 }
 
+// What a mark makes of the delimiters.
 fn nest_mark(b: u8, words: &mut [u16], depth: usize) -> Depth
     requires { ⌜ (64 ≤ length (now words)) × (depth ≤ 64) ⌝ }
     ensures { λ r. ⌜ DepthMeans (nestMark b (held (now (words .entry)) depth)) (now (words .exit)) r ⌝ }
@@ -337,6 +358,17 @@ fn ended(place: usize, depth: usize) -> SplitAnswer
     }
 }
 
+// The pass ends with a refusal.
+fn halt(refusal: Refusal, place: usize) -> Turn
+    ensures { λ r. ⌜ r ≡ Turn.Over (SplitAnswer.Refused refusal place) ⌝ }
+{
+    Turn::Over(SplitAnswer::Refused {
+        refusal: refusal,
+        place: place,
+    })
+}
+
+// One step of the pass: past blanks to the end of the text, or past a token.
 fn step(text: &[u8], at: usize, words: &mut [u16], depth: usize) -> Turn
     requires { ⌜ (at ≤ length (now text)) × (64 ≤ length (now words)) × (depth ≤ 64) ⌝ }
     ensures { λ r. ⌜ TurnMeans (now (text .entry)) at (answerFrom (now (text .entry)) at (held (now (words .entry)) depth)) (now (words .exit)) r ⌝ }
@@ -346,20 +378,18 @@ fn step(text: &[u8], at: usize, words: &mut [u16], depth: usize) -> Turn
         return Turn::Over(ended(start, depth));
     }
     match first(&text[start..]) {
-        Cut::Bad(r) => Turn::Over(SplitAnswer::Refused {
-            refusal: r,
-            place: start,
-        }),
+        Cut::Bad(r) => halt(r, start),
         Cut::Piece(k, n) => match nest(k, words, depth) {
-            Depth::Unfit(r) => Turn::Over(SplitAnswer::Refused {
-                refusal: r,
-                place: start,
-            }),
-            Depth::Open(d) => Turn::On(start + n, d),
+            Depth::Unfit(r) => halt(r, start),
+            Depth::Open(d) => {
+                let next = start + n;
+                Turn::On(next, d)
+            }
         },
     }
 }
 
+// The answer for a text.
 fn pass(text: &[u8], words: &mut [u16]) -> SplitAnswer
     requires { ⌜ 64 ≤ length (now words) ⌝ }
     ensures { λ r. ⌜ r ≡ answerOf (split (now (text .entry))) ⌝ }

@@ -7,6 +7,7 @@ use borrow.Author.Needs.{needs}
 use borrow.Author.Tests.{le-ltb, lt-ltb}
 use Rattle.token.proofs.NumberLaws.{ten-fits, ten-positive, whole-small}
 use Rattle.token.proofs.LexLaws.{Parts, number-clings, number-long, number-fine, fraction-low, fraction-run, fraction-is}
+use Rattle.token.proofs.NameLaws.{sized}
 use Rattle.token.proofs.number_at.Statement.{statement}
 use Rattle.token.proofs.number_at.Tie as tie
 
@@ -49,14 +50,20 @@ places-of-requires c κs = search needs
 clinging-requires : tie.Need-clinging-requires
 clinging-requires c κs = search needs
 
+excess-requires : tie.Need-excess-requires
+excess-requires c κs = search needs
+
 returns : tie.Need-returns
-returns c = number-clings (parts (c .before)) (sym (c .before .clinging .ensures) ∙ c .if1 .taken)
+returns c = rw (c .excess .ensures) (number-long (parts (c .before .before)) (c .before .before .clinging .result) (sym (c .before .before .clinging .ensures)) (rw (lt-ltb 10 (c .before .before .before .before .before .before .before .before .run-end .result) (c .before .if1 .taken))))
+
+excess-requires-2 : tie.Need-excess-requires-2
+excess-requires-2 c κs = search needs
 
 returns-2 : tie.Need-returns-2
-returns-2 c = number-long (parts (c .before .before)) (sym (c .before .before .clinging .ensures) ∙ c .before .if1 .left) (rw (lt-ltb 10 (c .before .before .before .before .before .before .before .before .run-end .result) (c .if2 .taken)))
+returns-2 c = rw (c .excess2 .ensures) (number-long (parts (c .before .before .before)) (c .before .before .before .clinging .result) (sym (c .before .before .before .clinging .ensures)) (rw (le-ltb 10 (c .before .before .before .before .before .before .before .before .before .run-end .result) (c .before .before .if1 .left), sym (c .before .before .before .before .places-of .ensures), lt-ltb 9 (c .before .before .before .before .places-of .result) (c .before .if2 .taken))))
 
 returns-3 : tie.Need-returns-3
-returns-3 c = number-long (parts (c .before .before .before)) (sym (c .before .before .before .clinging .ensures) ∙ c .before .before .if1 .left) (rw (le-ltb 10 (c .before .before .before .before .before .before .before .before .before .run-end .result) (c .before .if2 .left), sym (c .before .before .before .before .places-of .ensures), lt-ltb 9 (c .before .before .before .before .places-of .result) (c .if3 .taken)))
+returns-3 c = number-clings (parts (c .before .before .before)) (sym (c .before .before .before .clinging .ensures) ∙ c .if3 .taken)
 
 value-requires : tie.Need-value-requires
 value-requires c κs = (omega (arith, c .before .before .before .before .before .before .before .before .before .run-end .ensures), ten-positive (19 - c .before .before .before .before .before .before .before .before .before .run-end .result), omega arith)
@@ -73,7 +80,7 @@ returns-4 : tie.Need-returns-4
 returns-4 c =
     let t = c .before .before .before .before .before .before .before .before .before .before .before .before .before .args .t .now in
     record {
-      is = number-fine (parts (c .before .before .before .before .before)) (c .value2 .result) (c .before .before .before .before .before .before .places-of .result) (sym (c .before .before .before .before .before .clinging .ensures) ∙ c .before .before .before .before .if1 .left) (omega arith) (c .before .before .before .before .before .before .places-of .ensures) (omega arith) (c .value2 .ensures ∙ (rw (c .before .value .ensures, fraction-is t (c .before .before .before .before .before .before .before .before .before .before .before .run-end .result) (c .before .before .before .before .before .before .before .before .before .past-fraction .result) (c .before .before .before .before .before .before .places-of .result) (c .before .before .before .before .before .before .before .before .before .before .has-point .result) (c .before .before .before .before .before .before .before .before .before .past-fraction .ensures) (c .before .before .before .before .before .before .places-of .ensures))));
+      is = number-fine (parts (c .before .before .before .before .before)) (c .value2 .result) (c .before .before .before .before .before .before .places-of .result) (sym (c .before .before .before .before .before .clinging .ensures) ∙ c .before .before .if3 .left) (omega arith) (c .before .before .before .before .before .before .places-of .ensures) (omega arith) (c .value2 .ensures ∙ (rw (c .before .value .ensures, fraction-is t (c .before .before .before .before .before .before .before .before .before .before .before .run-end .result) (c .before .before .before .before .before .before .before .before .before .past-fraction .result) (c .before .before .before .before .before .before .places-of .result) (c .before .before .before .before .before .before .before .before .before .before .has-point .result) (c .before .before .before .before .before .before .before .before .before .past-fraction .ensures) (c .before .before .before .before .before .before .places-of .ensures))));
       sized = tt;
     }
 
@@ -88,7 +95,9 @@ number-at-spec =
     past-suffix-requires
     places-of-requires
     clinging-requires
+    excess-requires
     returns
+    excess-requires-2
     returns-2
     returns-3
     value-requires

@@ -5,6 +5,7 @@ use native.Mathlib.Omega.{arith}
 use borrow.Author.Needs.{needs}
 use borrow.Author.Tests.{eq-eqb, ne-eqb}
 use Rattle.token.proofs.LexLaws.{inside, quoted-at-is}
+use Rattle.token.proofs.NameLaws.{sized}
 use Rattle.token.proofs.quoted_at.Statement.{statement}
 use Rattle.token.proofs.quoted_at.Tie as tie
 
@@ -14,8 +15,8 @@ run-end-requires c κs = search needs
 byte-at-requires : tie.Need-byte-at-requires
 byte-at-requires c κs = search needs
 
-add-byte-at : tie.Need-add-byte-at
-add-byte-at c = omega (arith, inside (c .before .before .before .before .args .t .now) (c .before .before .run-end .result) 34 (sym (c .before .byte-at .ensures) ∙ c .if1 .taken) (omega arith))
+add-n : tie.Need-add-n
+add-n c = omega (arith, inside (c .before .before .before .before .args .t .now) (c .before .before .run-end .result) 34 (sym (c .before .byte-at .ensures) ∙ c .if1 .taken) (omega arith))
 
 byte-at-requires-2 : tie.Need-byte-at-requires-2
 byte-at-requires-2 c κs = search needs
@@ -26,11 +27,8 @@ in-class-requires c κs = search needs
 returns : tie.Need-returns
 returns c = quoted-at-is (c .before .before .before .before .before .before .before .args .t .now) (c .before .before .before .before .before .run-end .result) true true (c .before .before .before .before .before .run-end .ensures) (eq-eqb _ 34 (sym (c .before .before .before .before .byte-at .ensures) ∙ c .before .before .before .if1 .taken)) (rw (sym (c .before .before .byte-at2 .ensures)) (sym (c .before .in-class .ensures) ∙ c .if2 .taken))
 
-sub-t9 : tie.Need-sub-t9
-sub-t9 c = search needs
-
-add-t12 : tie.Need-add-t12
-add-t12 c = omega (arith, inside (c .before .before .before .before .before .before .before .args .t .now) (c .before .before .before .before .before .run-end .result) 34 (sym (c .before .before .before .before .byte-at .ensures) ∙ c .before .before .before .if1 .taken) (omega arith))
+sub-size : tie.Need-sub-size
+sub-size c = search needs
 
 returns-2 : tie.Need-returns-2
 returns-2 c = record { is = quoted-at-is (c .before .before .before .before .before .before .before .args .t .now) (c .before .before .before .before .before .run-end .result) true false (c .before .before .before .before .before .run-end .ensures) (eq-eqb _ 34 (sym (c .before .before .before .before .byte-at .ensures) ∙ c .before .before .before .if1 .taken)) (rw (sym (c .before .before .byte-at2 .ensures)) (sym (c .before .in-class .ensures) ∙ c .if2 .left)); sized = tt }
@@ -44,11 +42,10 @@ quoted-at-spec =
     (tie.spec
     run-end-requires
     byte-at-requires
-    add-byte-at
+    add-n
     byte-at-requires-2
     in-class-requires
     returns
-    sub-t9
-    add-t12
+    sub-size
     returns-2
     returns-3)

@@ -34,6 +34,9 @@ first-requires c κs = search needs
 enum-known-r : tie.Need-enum-known-r
 enum-known-r c = search needs
 
+halt-requires : tie.Need-halt-requires
+halt-requires c κs = search needs
+
 enum-known-k : tie.Need-enum-known-k
 enum-known-k c = search needs
 
@@ -43,24 +46,27 @@ nest-requires c κs = search needs
 enum-known-r-2 : tie.Need-enum-known-r-2
 enum-known-r-2 c = search needs
 
+halt-requires-2 : tie.Need-halt-requires-2
+halt-requires-2 c κs = search needs
+
 enum-known-d : tie.Need-enum-known-d
 enum-known-d c = search needs
 
-add-t26 : tie.Need-add-t26
-add-t26 c =
+add-next : tie.Need-add-next
+add-next c =
     let m = rw (rest-of (c .before .before .before .before .before .before .before .before .before .before .before .before .before .before .before .before .args .text .now) (c .before .before .before .before .before .before .before .before .before .before .before .before .before .run-end .result), c .before .before .before .before .before .before .before .before .k .given .1) at (c .before .before .before .before .before .before .before .before .before .before .first .ensures) in
     omega (arith, rw length-drop at (whole-of _ _ _ (m .is) .high))
 
 returns-2 : tie.Need-returns-2
-returns-2 c = sym (over-bad (c .before .before .before .before .before .before .before .before .before .args .text .now) (c .before .before .before .before .before .before .before .before .before .args .at) (c .before .before .before .before .before .before .run-end .result) (c .before .before .before .before .before .before .run-end .ensures) _ (omega arith) _ (rw (rest-of (c .before .before .before .before .before .before .before .before .before .args .text .now) (c .before .before .before .before .before .before .run-end .result), c .before .r .given .1) at (c .before .before .before .first .ensures)))
+returns-2 c = rw (c .halt .ensures) (sym (over-bad (c .before .before .before .before .before .before .before .before .before .before .args .text .now) (c .before .before .before .before .before .before .before .before .before .before .args .at) (c .before .before .before .before .before .before .before .run-end .result) (c .before .before .before .before .before .before .before .run-end .ensures) _ (omega arith) _ (rw (rest-of (c .before .before .before .before .before .before .before .before .before .before .args .text .now) (c .before .before .before .before .before .before .before .run-end .result), c .before .before .r .given .1) at (c .before .before .before .before .first .ensures))))
 
 same-length : tie.Need-same-length
 same-length c = search needs
 
 returns-3 : tie.Need-returns-3
 returns-3 c =
-    let m = rw (rest-of (c .before .before .before .before .before .before .before .before .before .before .before .before .before .before .before .before .args .text .now) (c .before .before .before .before .before .before .before .before .before .before .before .before .before .run-end .result), c .before .before .before .before .before .before .before .before .k .given .1) at (c .before .before .before .before .before .before .before .before .before .before .first .ensures) in
-    sym (over-unfit (c .before .before .before .before .before .before .before .before .before .before .before .before .before .before .before .before .args .text .now) (c .before .before .before .before .before .before .before .before .before .before .before .before .before .before .before .before .args .at) (c .before .before .before .before .before .before .before .before .before .before .before .before .before .run-end .result) (c .before .before .before .before .before .before .before .before .before .before .before .before .before .run-end .ensures) _ (omega arith) _ _ m _ (rw (c .before .r2 .given .1) at (c .before .before .before .before .before .nest .ensures (drop (c .before .before .before .before .before .before .before .before .before .before .before .before .before .run-end .result) (c .before .before .before .before .before .before .before .before .before .before .before .before .before .before .before .before .args .text .now)))))
+    let m = rw (rest-of (c .before .before .before .before .before .before .before .before .before .before .before .before .before .before .before .before .before .args .text .now) (c .before .before .before .before .before .before .before .before .before .before .before .before .before .before .run-end .result), c .before .before .before .before .before .before .before .before .before .k .given .1) at (c .before .before .before .before .before .before .before .before .before .before .before .first .ensures) in
+    rw (c .halt2 .ensures) (sym (over-unfit (c .before .before .before .before .before .before .before .before .before .before .before .before .before .before .before .before .before .args .text .now) (c .before .before .before .before .before .before .before .before .before .before .before .before .before .before .before .before .before .args .at) (c .before .before .before .before .before .before .before .before .before .before .before .before .before .before .run-end .result) (c .before .before .before .before .before .before .before .before .before .before .before .before .before .before .run-end .ensures) _ (omega arith) _ _ m _ (rw (c .before .before .r2 .given .1) at (c .before .before .before .before .before .before .nest .ensures (drop (c .before .before .before .before .before .before .before .before .before .before .before .before .before .before .run-end .result) (c .before .before .before .before .before .before .before .before .before .before .before .before .before .before .before .before .before .args .text .now))))))
 
 same-length-2 : tie.Need-same-length-2
 same-length-2 c = search needs
@@ -82,11 +88,13 @@ step-spec =
     part-first-end
     first-requires
     enum-known-r
+    halt-requires
     enum-known-k
     nest-requires
     enum-known-r-2
+    halt-requires-2
     enum-known-d
-    add-t26
+    add-next
     returns-2
     same-length
     returns-3

@@ -14,8 +14,8 @@ mul-words c = search needs
 slice-write-words : tie.Need-slice-write-words
 slice-write-words c = search needs
 
-add-t6 : tie.Need-add-t6
-add-t6 c = search needs
+add-deeper : tie.Need-add-deeper
+add-deeper c = search needs
 
 same-length : tie.Need-same-length
 same-length c = search needs
@@ -29,4 +29,4 @@ returns-2 c = full (c .before .before .args .words .now) (c .before .before .arg
 pub take-opener-spec : {M : Type 1} → statement M
 take-opener-spec =
     tie.close
-    (tie.spec closer-requires mul-words slice-write-words add-t6 same-length returns returns-2)
+    (tie.spec closer-requires mul-words slice-write-words add-deeper same-length returns returns-2)

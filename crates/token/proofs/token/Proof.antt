@@ -3,7 +3,7 @@ use native.Mathlib.Omega.{arith}
 use lib.ListN.{length-drop}
 use borrow.Author.Needs.{needs}
 use Rattle.text.specs.Bytes.{at}
-use Rattle.token.proofs.TokenLaws.{lexes-end, lexes-bad, lexes-piece, rest-of}
+use Rattle.token.proofs.TokenLaws.{rest-of, lexes-end, lexes-bad, lexes-piece}
 use Rattle.token.proofs.WholeLaws.{whole-of}
 use Rattle.token.proofs.token.Statement.{statement}
 use Rattle.token.proofs.token.Tie as tie
@@ -38,8 +38,8 @@ end-at-requires-2 c κs = search needs
 enum-known-k : tie.Need-enum-known-k
 enum-known-k c = search needs
 
-add-t14 : tie.Need-add-t14
-add-t14 c =
+add-next : tie.Need-add-next
+add-next c =
     let m = rw (rest-of (c .before .before .before .before .before .before .before .before .args .text .now) (c .before .before .before .before .before .before .run-end .result), c .before .k .given .1) at (c .before .before .before .first .ensures) in
     omega (arith, rw length-drop at (whole-of _ _ _ (m .is) .high))
 
@@ -63,6 +63,6 @@ token-spec =
     enum-told
     end-at-requires-2
     enum-known-k
-    add-t14
+    add-next
     returns-2
     returns-3)

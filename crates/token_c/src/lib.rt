@@ -1,0 +1,25 @@
+// token's pass and its keyword test for C and Rust to link: what bench/token measures.
+ghost use mathlib.Core.Path.{_≡_};
+ghost use Rattle.token.specs.Names.{isKeyword};
+ghost use Rattle.token.specs.Means.{splitting};
+ghost use Rattle.token_c.specs.Answer.{Answers};
+use token::SplitAnswer;
+
+// token::split: 0, or the number of the refusal.
+#[no_mangle]
+pub extern "C" fn token_split(text: &[u8], scratch: &mut [u16]) -> u8
+    ensures { λ r. ⌜ Answers (splitting (now (text .entry)) (now (scratch .entry))) r (now (scratch .exit)) ⌝ }
+{
+    match token::split(text, scratch) {
+        SplitAnswer::Accepted => 0,
+        SplitAnswer::Refused { refusal, place: _ } => error::number_of(refusal),
+    }
+}
+
+// token::is_keyword.
+#[no_mangle]
+pub extern "C" fn token_is_keyword(word: &[u8]) -> bool
+    ensures { λ r. ⌜ r ≡ isKeyword (now (word .entry)) ⌝ }
+{
+    token::is_keyword(word)
+}

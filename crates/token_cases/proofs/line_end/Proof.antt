@@ -1,0 +1,16 @@
+-- `token_cases::line_end` meets its contract; a run ends within the text. Assumes nothing.
+use native.Mathlib.Omega.{arith}
+use borrow.Author.Needs.{needs}
+use Rattle.text.specs.Bytes.{isHex}
+use Rattle.token.proofs.LexLaws.{run-fits}
+use Rattle.token_cases.proofs.line_end.Statement.{statement}
+use Rattle.token_cases.proofs.line_end.Tie as tie
+
+run-end-requires : tie.Need-run-end-requires
+run-end-requires c κs = search needs
+
+returns : tie.Need-returns
+returns c = (omega (arith, c .run-end .ensures), omega (arith, c .run-end .ensures, run-fits isHex (c .before .before .args .s .now) (c .before .before .args .at) (c .before .before .pre)))
+
+pub line-end-spec : {M : Type 1} → statement M
+line-end-spec = tie.close (tie.spec run-end-requires returns)
