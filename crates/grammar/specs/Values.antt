@@ -147,10 +147,17 @@ slowMoCurve = do
   fs ← inside "(" (pairs slowMoFields)
   give (slowMo (default (numberOf "linear_ratio" fs) (f32Of 7 10)) (default (numberOf "power" fs) (f32Of 2 1)))
 
+-- `steps(n)`
+unfoldable pub stepsCurve : Rule EasingSpec
+stepsCurve = parseUintInParens >>= λ n. give (steps n)
+
+-- `wiggle(n)`
+unfoldable pub wiggleCurve : Rule EasingSpec
+wiggleCurve = parseUintInParens >>= λ n. give (wiggle n)
+
 unfoldable pub curves : List (String × Rule EasingSpec)
 curves =
-    ("cubic_bezier", bezierCurve) ∷ ("steps", parseUintInParens >>= λ n. give (steps n)) ∷ ("wiggle", parseUintInParens >>= λ n. give (wiggle n))
-    ∷ ("rough", roughCurve) ∷ ("slowmo", slowMoCurve) ∷ []
+    ("cubic_bezier", bezierCurve) ∷ ("steps", stepsCurve) ∷ ("wiggle", wiggleCurve) ∷ ("rough", roughCurve) ∷ ("slowmo", slowMoCurve) ∷ []
 
 -- `Easing::Name`, behind `Easing`
 unfoldable pub variantEasing : Rule EasingSpec
@@ -163,17 +170,24 @@ variantEasing = do
 unfoldable pub namedEasing : ℕ × List ℕ → Rule EasingSpec
 namedEasing w = if (λ ts. same (w .1) (bytes "Easing") && seesTwo ":" ":" ts) variantEasing (give (named false (record { start = w .0; size = length (w .1) })))
 
+-- a curve by its word, or a name
+unfoldable pub curveOr : ℕ × List ℕ → Rule EasingSpec
+curveOr w = default (under curves (w .1)) (namedEasing w)
+
 -- parse_easing
 unfoldable pub parseEasing : Rule EasingSpec
-parseEasing = if (sees "(") (refuse Malformed) (do
-  w ← word
-  default (under curves (w .1)) (namedEasing w))
+parseEasing = if (sees "(") (refuse Malformed) (word >>= curveOr)
+
+-- `times(n)`
+unfoldable pub timesMode : Rule LoopSpec
+timesMode = parseUintInParens >>= λ n. give (times n)
+
+-- `ping_pong` and `ping_pong(n)`
+unfoldable pub pingPongMode : Rule LoopSpec
+pingPongMode = if (sees "(") (parseUintInParens >>= λ n. give (pingPongTimes n)) (give pingPong)
 
 unfoldable pub loopModes : List (String × Rule LoopSpec)
-loopModes =
-    ("once", give once) ∷ ("forever", give forever)
-    ∷ ("ping_pong", if (sees "(") (parseUintInParens >>= λ n. give (pingPongTimes n)) (give pingPong))
-    ∷ ("times", parseUintInParens >>= λ n. give (times n)) ∷ []
+loopModes = ("once", give once) ∷ ("forever", give forever) ∷ ("ping_pong", pingPongMode) ∷ ("times", timesMode) ∷ []
 
 -- parse_loop_mode: "`ping_pong_times(n)` is refused with 8"
 unfoldable pub parseLoopMode : Rule LoopSpec

@@ -2,14 +2,19 @@
 use Prim.Native.Nat.{ℕ}
 use mathlib.Core.List.{List, [], _∷_}
 use mathlib.Core.Path.{_≡_, refl}
-use lib.Ieee.{Float}
+use lib.Ieee.{Float, binary32, round, toBits, ofBits, isNan}
 use Rattle.text.specs.Bytes.{bytes, same}
 use Rattle.number.specs.Number.{bits}
+use Rattle.ast.specs.declared.OptF32.{OptF32}
 use Rattle.ast.specs.declared.OptF32.the-variants as optFloat
+use Rattle.ast.specs.declared.OptU32.{OptU32}
+use Rattle.text.specs.Words.{default}
+use Rattle.grammar.specs.Values.{f32Of}
 use Rattle.ast.specs.declared.OptU32.the-variants as optWord
-use Rattle.encode.specs.Of.{Plain}
+use Rattle.encode.specs.Of.{Plain, PlainOptFloat, optFloatOf, optWordOf}
 use Rattle.grammar.specs.Fields.{Fields, aNumber, last}
-use Rattle.values.specs.Means.{Holds, RoughHeld}
+use Rattle.values.specs.Means.{Holds, RoughHeld, SlowMoHeld, floatOr, wordOr}
+use Rattle.values.specs.declared.SlowMoFields.{SlowMoFields}
 use Rattle.values.specs.declared.RoughFields.{RoughFields}
 
 pub rough-none : RoughHeld (record { strength = optFloat.Absent; points = optWord.Absent }) []
@@ -23,3 +28,54 @@ rough-strength f x p fs h = record { strength = refl; plain = p; points = h .poi
 pub rough-points : (f : RoughFields) (n : ℕ) → Holds RoughHeld f (record { strength = f .strength; points = optWord.Present n }) (bytes "points") (aNumber n)
 unfolding last same
 rough-points f n fs h = record { strength = h .strength; plain = h .plain; points = refl }
+
+pub slow-none : SlowMoHeld (record { «linear_ratio» = optFloat.Absent; power = optFloat.Absent }) []
+unfolding last
+slow-none = record { linearRatio = refl; plainRatio = tt; power = refl; plainPower = tt }
+
+pub slow-ratio : (f : SlowMoFields) (x : Float) → Plain x → Holds SlowMoHeld f (record { «linear_ratio» = optFloat.Present x; power = f .power }) (bytes "linear_ratio") (aNumber (bits x))
+unfolding last same
+slow-ratio f x p fs h = record { linearRatio = refl; plainRatio = p; power = h .power; plainPower = h .plainPower }
+
+pub slow-power : (f : SlowMoFields) (x : Float) → Plain x → Holds SlowMoHeld f (record { «linear_ratio» = f .«linear_ratio»; power = optFloat.Present x }) (bytes "power") (aNumber (bits x))
+unfolding last same
+slow-power f x p fs h = record { linearRatio = h .linearRatio; plainRatio = h .plainRatio; power = refl; plainPower = p }
+
+-- ---- what is there, or else another
+
+pub float-or : (o : OptF32) (y : Float) (n : ℕ) → bits y ≡ n → bits (floatOr o y) ≡ default (optFloatOf o) n
+float-or (optFloat.Present x) y n e = refl
+float-or optFloat.Absent y n e = e
+
+pub plain-or : (o : OptF32) (y : Float) → PlainOptFloat o → Plain y → Plain (floatOr o y)
+plain-or (optFloat.Present x) y p q = p
+plain-or optFloat.Absent y p q = q
+
+pub word-or : (o : OptU32) (n : ℕ) → wordOr o n ≡ default (optWordOf o) n
+word-or (optWord.Present m) n = refl
+word-or optWord.Absent n = refl
+
+-- the literals 0.5, 0.7 and 2.0
+pub a-half : bits (ofBits binary32 1056964608) ≡ f32Of 1 2
+unfolding bits f32Of round toBits ofBits
+a-half = refl
+
+pub seven-tenths : bits (ofBits binary32 1060320051) ≡ f32Of 7 10
+unfolding bits f32Of round toBits ofBits
+seven-tenths = refl
+
+pub two-wholes : bits (ofBits binary32 1073741824) ≡ f32Of 2 1
+unfolding bits f32Of round toBits ofBits
+two-wholes = refl
+
+pub plain-half : Plain (ofBits binary32 1056964608)
+unfolding ofBits isNan
+plain-half = tt
+
+pub plain-seven : Plain (ofBits binary32 1060320051)
+unfolding ofBits isNan
+plain-seven = tt
+
+pub plain-two : Plain (ofBits binary32 1073741824)
+unfolding ofBits isNan
+plain-two = tt

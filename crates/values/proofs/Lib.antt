@@ -1,3 +1,4 @@
 pub mod ValueLaws
 pub mod RowLaws
 pub mod CurveLaws
+pub mod EasingLaws

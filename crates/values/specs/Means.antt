@@ -11,7 +11,7 @@ use Rattle.ast.specs.Tree as tree
 use Rattle.encode.specs.Of.{Plain, PlainEasing, PlainOptFloat, easingOf, loopOf, optFloatOf, optWordOf}
 use Rattle.grammar.specs.Rule.{refused, Rule}
 use Rattle.grammar.specs.Fields.{Content, Fields, pairs, numberOf}
-use Rattle.grammar.specs.Values.{roughFields, slowMoFields}
+use Rattle.grammar.specs.Values.{roughFields, slowMoFields, curves, loopModes}
 use Rattle.text.specs.Bytes.{bytes}
 use Rattle.cursor.specs.Means.{run, Took}
 use Rattle.cursor.specs.declared.Cursor.{Cursor}
@@ -19,6 +19,13 @@ use Rattle.values.specs.declared.PairRead.{PairRead}
 use Rattle.values.specs.declared.PairRead.the-variants as pair
 use Rattle.values.specs.declared.EasingRead.{EasingRead}
 use Rattle.values.specs.declared.EasingRead.the-variants as easing
+use Rattle.ast.specs.declared.OptF32.{OptF32}
+use Rattle.ast.specs.declared.OptF32.the-variants as optFloat
+use Rattle.ast.specs.declared.OptU32.{OptU32}
+use Rattle.ast.specs.declared.OptU32.the-variants as optWord
+use Rattle.values.specs.declared.SlowMoFields.{SlowMoFields}
+use Rattle.values.specs.declared.SlowMoRead.{SlowMoRead}
+use Rattle.values.specs.declared.SlowMoRead.the-variants as slowMo
 use Rattle.values.specs.declared.RoughFields.{RoughFields}
 use Rattle.values.specs.declared.RoughRead.{RoughRead}
 use Rattle.values.specs.declared.RoughRead.the-variants as rough
@@ -43,9 +50,34 @@ abbrev pub EasingMeans : List ℕ → Cursor → Rule tree.EasingSpec → Easing
 EasingMeans s c p (easing.Is e m) = Took 1 s c m p (easingOf e) × PlainEasing e
 EasingMeans s c p (easing.Refused r q) = run s c p ≡ refused r q
 
+-- the same, where nothing may be taken
+abbrev pub NamedMeans : List ℕ → Cursor → Rule tree.EasingSpec → EasingRead → Type 0
+NamedMeans s c p (easing.Is e m) = Took 0 s c m p (easingOf e) × PlainEasing e
+NamedMeans s c p (easing.Refused r q) = run s c p ≡ refused r q
+
 abbrev pub LoopMeans : List ℕ → Cursor → Rule tree.LoopSpec → LoopRead → Type 0
 LoopMeans s c p (loop.Is x m) = Took 1 s c m p (loopOf x)
 LoopMeans s c p (loop.Refused r q) = run s c p ≡ refused r q
+
+abbrev pub ModeMeans : List ℕ → Cursor → Rule tree.LoopSpec → LoopRead → Type 0
+ModeMeans s c p (loop.Is x m) = Took 0 s c m p (loopOf x)
+ModeMeans s c p (loop.Refused r q) = run s c p ≡ refused r q
+
+-- the curve, and the mode, at a place of their tables
+abbrev pub CurveMeans : List ℕ → Cursor → ℕ → EasingRead → Type 0
+CurveMeans s c i a = (row : String × Rule tree.EasingSpec) → getElem? curves i ≡ some row → EasingMeans s c (row .1) a
+
+abbrev pub ModeAtMeans : List ℕ → Cursor → ℕ → LoopRead → Type 0
+ModeAtMeans s c i a = (row : String × Rule tree.LoopSpec) → getElem? loopModes i ≡ some row → ModeMeans s c (row .1) a
+
+-- what is there, or else another
+abbrev pub floatOr : OptF32 → Float → Float
+floatOr (optFloat.Present x) y = x
+floatOr optFloat.Absent y = y
+
+abbrev pub wordOr : OptU32 → ℕ → ℕ
+wordOr (optWord.Present n) m = n
+wordOr optWord.Absent m = m
 
 -- ---- fields of a curve
 
@@ -66,3 +98,18 @@ RoughFieldMeans s c f i (rough.Refused r q) = (row : String × Rule Content) →
 abbrev pub RoughMeans : List ℕ → Cursor → RoughRead → Type 0
 RoughMeans s c (rough.Is g m) = (gs : Fields) × Took 0 s c m (pairs roughFields) gs × RoughHeld g gs
 RoughMeans s c (rough.Refused r q) = run s c (pairs roughFields) ≡ refused r q
+
+-- f holds what the fields of `slowmo` say
+pub record SlowMoHeld (f : SlowMoFields) (fs : Fields) : Type 0 where
+  pub linearRatio : optFloatOf (f .«linear_ratio») ≡ numberOf "linear_ratio" fs
+  pub plainRatio : PlainOptFloat (f .«linear_ratio»)
+  pub power : optFloatOf (f .power) ≡ numberOf "power" fs
+  pub plainPower : PlainOptFloat (f .power)
+
+abbrev pub SlowMoFieldMeans : List ℕ → Cursor → SlowMoFields → ℕ → SlowMoRead → Type 0
+SlowMoFieldMeans s c f i (slowMo.Is g m) = (row : String × Rule Content) → getElem? slowMoFields i ≡ some row → (x : Content) × Took 1 s c m (row .1) x × Holds SlowMoHeld f g (bytes (row .0)) x
+SlowMoFieldMeans s c f i (slowMo.Refused r q) = (row : String × Rule Content) → getElem? slowMoFields i ≡ some row → run s c (row .1) ≡ refused r q
+
+abbrev pub SlowMoMeans : List ℕ → Cursor → SlowMoRead → Type 0
+SlowMoMeans s c (slowMo.Is g m) = (gs : Fields) × Took 0 s c m (pairs slowMoFields) gs × SlowMoHeld g gs
+SlowMoMeans s c (slowMo.Refused r q) = run s c (pairs slowMoFields) ≡ refused r q

@@ -2,11 +2,12 @@
 // The functions are for our own crates: each requires a cursor that stands in the text.
 ghost use mathlib.Core.Path.{_≡_};
 ghost use mathlib.Core.List.{[]};
-ghost use Prim.Native.Nat.{ℕ};
-ghost use Rattle.grammar.specs.Values.{parseFloatInParens, parseUintInParens, commaFloat, twoFloats, parseTwoFloatsInParens, commaFloats, fourFloats, bezierCurve, roughFields};
+ghost use Prim.Native.Nat.{ℕ, _+_, _≤_};
+ghost use Rattle.grammar.specs.Values.{parseFloatInParens, parseUintInParens, commaFloat, twoFloats, parseTwoFloatsInParens, commaFloats, fourFloats, bezierCurve, roughFields, slowMoFields, roughCurve, slowMoCurve, stepsCurve, wiggleCurve, namedEasing, curveOr, parseEasing, timesMode, pingPongMode, parseLoopMode};
 ghost use Rattle.fields.specs.Means as fields;
-ghost use Rattle.cursor.specs.Means.{Ready, FloatMeans, UintMeans};
-ghost use Rattle.values.specs.Means.{PairMeans, EasingMeans, LoopMeans, RoughFieldMeans, RoughMeans};
+ghost use Rattle.cursor.specs.Means.{Ready, FloatMeans, UintMeans, spelled};
+ghost use lib.ListN.{length};
+ghost use Rattle.values.specs.Means.{PairMeans, EasingMeans, CurveMeans, NamedMeans, LoopMeans, ModeMeans, ModeAtMeans, RoughFieldMeans, RoughMeans, SlowMoFieldMeans, SlowMoMeans, floatOr, wordOr};
 use ast::EasingSpec;
 use ast::LoopSpec;
 use ast::OptF32;
@@ -220,5 +221,296 @@ fn rough_fields(text: &[u8], c: Cursor) -> RoughRead
                 }
             },
         }
+    }
+}
+
+// ---- slowmo
+
+const SLOW_MO_FIELDS: [u8; 19] = *b"\x0clinear_ratio\x05power";
+
+// The fields so far.
+pub struct SlowMoFields {
+    pub linear_ratio: OptF32,
+    pub power: OptF32,
+}
+
+pub enum SlowMoRead {
+    Is(SlowMoFields, Cursor),
+    Refused(Refusal, usize),
+}
+
+// The value of a field, onto those so far.
+fn slow_mo_field(text: &[u8], c: Cursor, f: SlowMoFields, i: usize) -> SlowMoRead
+    requires { ⌜ Ready (now text) c ⌝ }
+    ensures { λ r. ⌜ SlowMoFieldMeans (now (text .entry)) c f i r ⌝ }
+{
+    let linear_ratio = f.linear_ratio;
+    let power = f.power;
+    if i == 0 {
+        return match cursor::parse_float(text, c) {
+            FloatRead::Refused(r, p) => SlowMoRead::Refused(r, p),
+            FloatRead::Is(x, m) => SlowMoRead::Is(
+                SlowMoFields {
+                    linear_ratio: OptF32::Present(x),
+                    power,
+                },
+                m,
+            ),
+        };
+    }
+    match cursor::parse_float(text, c) {
+        FloatRead::Refused(r, p) => SlowMoRead::Refused(r, p),
+        FloatRead::Is(n, m) => SlowMoRead::Is(
+            SlowMoFields {
+                linear_ratio,
+                power: OptF32::Present(n),
+            },
+            m,
+        ),
+    }
+}
+
+fn next_slow_mo(text: &[u8], c: Cursor) -> NextField
+    requires { ⌜ Ready (now text) c ⌝ }
+    ensures { λ r. ⌜ fields.PairMeans (now (text .entry)) c slowMoFields r ⌝ }
+{
+    fields::next_pair(text, c, &SLOW_MO_FIELDS)
+}
+
+fn slow_mo_fields(text: &[u8], c: Cursor) -> SlowMoRead
+    requires { ⌜ Ready (now text) c ⌝ }
+    ensures { λ r. ⌜ SlowMoMeans (now (text .entry)) c r ⌝ }
+{
+    let mut m = c;
+    let mut f = SlowMoFields {
+        linear_ratio: OptF32::Absent,
+        power: OptF32::Absent,
+    };
+    loop {
+        match next_slow_mo(text, m) {
+            NextField::Refused(r, p) => return SlowMoRead::Refused(r, p),
+            NextField::Done(e) => return SlowMoRead::Is(f, e),
+            NextField::Field(i, v) => match slow_mo_field(text, v, f, i) {
+                SlowMoRead::Refused(r, p) => return SlowMoRead::Refused(r, p),
+                SlowMoRead::Is(g, e) => {
+                    let ate = cursor::eat(text, e, 44);
+                    let next = ate.next;
+                    if !ate.taken {
+                        return SlowMoRead::Is(g, next);
+                    }
+                    f = g;
+                    m = next;
+                }
+            },
+        }
+    }
+}
+
+// ---- the curves, and names
+
+fn float_or(o: OptF32, other: f32) -> f32
+    ensures { λ r. ⌜ r ≡ floatOr o other ⌝ }
+{
+    match o {
+        OptF32::Present(x) => x,
+        OptF32::Absent => other,
+    }
+}
+
+fn word_or(o: OptU32, other: u32) -> u32
+    ensures { λ r. ⌜ r ≡ wordOr o other ⌝ }
+{
+    match o {
+        OptU32::Present(n) => n,
+        OptU32::Absent => other,
+    }
+}
+
+// `(strength: s, points: n)`, behind `rough`; 0.5 and 8 where they are left out.
+fn rough_curve(text: &[u8], c: Cursor) -> EasingRead
+    requires { ⌜ Ready (now text) c ⌝ }
+    ensures { λ r. ⌜ EasingMeans (now (text .entry)) c roughCurve r ⌝ }
+{
+    match cursor::mark(text, c, 40) {
+        MarkRead::Missing(p) => EasingRead::Refused(Refusal::Missing, p),
+        MarkRead::Is(m) => match rough_fields(text, m) {
+            RoughRead::Refused(r, p) => EasingRead::Refused(r, p),
+            RoughRead::Is(f, n) => {
+                let next = cursor::leave_group(text, n);
+                let s = f.strength;
+                let k = f.points;
+                let strength = float_or(s, 0.5);
+                let points = word_or(k, 8);
+                EasingRead::Is(EasingSpec::Rough { strength, points }, next)
+            }
+        },
+    }
+}
+
+// `(linear_ratio: r, power: p)`, behind `slowmo`; 0.7 and 2.0 where they are left out.
+fn slow_mo_curve(text: &[u8], c: Cursor) -> EasingRead
+    requires { ⌜ Ready (now text) c ⌝ }
+    ensures { λ r. ⌜ EasingMeans (now (text .entry)) c slowMoCurve r ⌝ }
+{
+    match cursor::mark(text, c, 40) {
+        MarkRead::Missing(p) => EasingRead::Refused(Refusal::Missing, p),
+        MarkRead::Is(m) => match slow_mo_fields(text, m) {
+            SlowMoRead::Refused(r, p) => EasingRead::Refused(r, p),
+            SlowMoRead::Is(f, n) => {
+                let next = cursor::leave_group(text, n);
+                let l = f.linear_ratio;
+                let w = f.power;
+                let linear_ratio = float_or(l, 0.7);
+                let power = float_or(w, 2.0);
+                EasingRead::Is(
+                    EasingSpec::SlowMo {
+                        linear_ratio,
+                        power,
+                    },
+                    next,
+                )
+            }
+        },
+    }
+}
+
+// `(n)`, behind `steps`.
+fn steps_curve(text: &[u8], c: Cursor) -> EasingRead
+    requires { ⌜ Ready (now text) c ⌝ }
+    ensures { λ r. ⌜ EasingMeans (now (text .entry)) c stepsCurve r ⌝ }
+{
+    match uint_in_parens(text, c) {
+        UintRead::Refused(r, p) => EasingRead::Refused(r, p),
+        UintRead::Is(n, m) => EasingRead::Is(EasingSpec::Steps(n), m),
+    }
+}
+
+// `(n)`, behind `wiggle`.
+fn wiggle_curve(text: &[u8], c: Cursor) -> EasingRead
+    requires { ⌜ Ready (now text) c ⌝ }
+    ensures { λ r. ⌜ EasingMeans (now (text .entry)) c wiggleCurve r ⌝ }
+{
+    match uint_in_parens(text, c) {
+        UintRead::Refused(r, p) => EasingRead::Refused(r, p),
+        UintRead::Is(n, m) => EasingRead::Is(EasingSpec::Wiggle(n), m),
+    }
+}
+
+const CURVES: [u8; 39] = *b"\x0ccubic_bezier\x05steps\x06wiggle\x05rough\x06slowmo";
+
+// A word that is no curve's: a name, or the one behind `Easing::`.
+fn named_easing(text: &[u8], name: Span, c: Cursor) -> EasingRead
+    requires { ⌜ Ready (now text) c × (name .start + name .size ≤ length (now text)) ⌝ }
+    ensures { λ r. ⌜ NamedMeans (now (text .entry)) c (namedEasing (name .start, spelled (now (text .entry)) name)) r ⌝ }
+{
+    if !text::is_word(text::part(text, name.start, name.size), b"Easing") {
+        return EasingRead::Is(EasingSpec::Named(false, name), c);
+    }
+    match cursor::both(text, c, 58, 58) {
+        MarkRead::Missing(_) => EasingRead::Is(EasingSpec::Named(false, name), c),
+        MarkRead::Is(m) => match cursor::word(text, m) {
+            WordRead::Missing(p) => EasingRead::Refused(Refusal::Missing, p),
+            WordRead::Is(variant, n) => EasingRead::Is(EasingSpec::Named(true, variant), n),
+        },
+    }
+}
+
+// The curve at a place of the table.
+fn curve(text: &[u8], c: Cursor, i: usize) -> EasingRead
+    requires { ⌜ Ready (now text) c ⌝ }
+    ensures { λ r. ⌜ CurveMeans (now (text .entry)) c i r ⌝ }
+{
+    match i {
+        0 => bezier_curve(text, c),
+        1 => steps_curve(text, c),
+        2 => wiggle_curve(text, c),
+        3 => rough_curve(text, c),
+        _ => slow_mo_curve(text, c),
+    }
+}
+
+// What follows a word in an easing's place.
+fn after_word(text: &[u8], name: Span, c: Cursor) -> EasingRead
+    requires { ⌜ Ready (now text) c × (name .start + name .size ≤ length (now text)) ⌝ }
+    ensures { λ r. ⌜ NamedMeans (now (text .entry)) c (curveOr (name .start, spelled (now (text .entry)) name)) r ⌝ }
+{
+    match text::find(&CURVES, text::part(text, name.start, name.size)) {
+        text::Found::Nothing => named_easing(text, name, c),
+        text::Found::At(i) => curve(text, c, i),
+    }
+}
+
+pub fn parse_easing(text: &[u8], c: Cursor) -> EasingRead
+    requires { ⌜ Ready (now text) c ⌝ }
+    ensures { λ r. ⌜ EasingMeans (now (text .entry)) c parseEasing r ⌝ }
+{
+    if cursor::sees(c, 40) {
+        let head = c.head;
+        return EasingRead::Refused(Refusal::Malformed, head.start);
+    }
+    match cursor::word(text, c) {
+        WordRead::Missing(p) => EasingRead::Refused(Refusal::Missing, p),
+        WordRead::Is(name, m) => after_word(text, name, m),
+    }
+}
+
+// ---- loop mode
+
+const LOOP_MODES: [u8; 29] = *b"\x04once\x07forever\x09ping_pong\x05times";
+
+// `(n)`, behind `times`.
+fn times_mode(text: &[u8], c: Cursor) -> LoopRead
+    requires { ⌜ Ready (now text) c ⌝ }
+    ensures { λ r. ⌜ LoopMeans (now (text .entry)) c timesMode r ⌝ }
+{
+    match uint_in_parens(text, c) {
+        UintRead::Refused(r, p) => LoopRead::Refused(r, p),
+        UintRead::Is(n, m) => LoopRead::Is(LoopSpec::Times(n), m),
+    }
+}
+
+// `(n)` or nothing, behind `ping_pong`.
+fn ping_pong_mode(text: &[u8], c: Cursor) -> LoopRead
+    requires { ⌜ Ready (now text) c ⌝ }
+    ensures { λ r. ⌜ ModeMeans (now (text .entry)) c pingPongMode r ⌝ }
+{
+    if !cursor::sees(c, 40) {
+        return LoopRead::Is(LoopSpec::PingPong, c);
+    }
+    match uint_in_parens(text, c) {
+        UintRead::Refused(r, p) => LoopRead::Refused(r, p),
+        UintRead::Is(n, m) => LoopRead::Is(LoopSpec::PingPongTimes(n), m),
+    }
+}
+
+// What follows the word of a mode, at a place of the table.
+fn mode(text: &[u8], c: Cursor, i: usize) -> LoopRead
+    requires { ⌜ Ready (now text) c ⌝ }
+    ensures { λ r. ⌜ ModeAtMeans (now (text .entry)) c i r ⌝ }
+{
+    match i {
+        0 => LoopRead::Is(LoopSpec::Once, c),
+        1 => LoopRead::Is(LoopSpec::Forever, c),
+        2 => ping_pong_mode(text, c),
+        _ => times_mode(text, c),
+    }
+}
+
+pub fn parse_loop_mode(text: &[u8], c: Cursor) -> LoopRead
+    requires { ⌜ Ready (now text) c ⌝ }
+    ensures { λ r. ⌜ LoopMeans (now (text .entry)) c parseLoopMode r ⌝ }
+{
+    match cursor::word(text, c) {
+        WordRead::Missing(p) => LoopRead::Refused(Refusal::Missing, p),
+        WordRead::Is(name, m) => match text::find(
+            &LOOP_MODES,
+            text::part(text, name.start, name.size),
+        ) {
+            text::Found::At(i) => mode(text, m, i),
+            text::Found::Nothing => {
+                let head = m.head;
+                LoopRead::Refused(Refusal::Malformed, head.start)
+            }
+        },
     }
 }

@@ -1,0 +1,93 @@
+use lib.Ieee.{ofBits, binary32}
+use mathlib.Core.Option.{Option}
+use Rattle.values.proofs.CurveLaws.{a-half, float-or, plain-half, plain-or, word-or}
+use mathlib.Core.Path.{ap, _∙_}
+use Rattle.text.specs.Bytes.{at}
+use Rattle.text.specs.Words.{default}
+use Rattle.grammar.specs.Values.{f32Of, roughCurve, roughFields}
+use Rattle.values.proofs.ValueLaws.{inside-any, inside-missing, inside-refused}
+use Rattle.grammar.specs.Fields.{pairs}
+use Prim.Native.Nat.{ℕ}
+use borrow.Author.Needs.{needs}
+use Rattle.values.proofs.rough_curve.Statement.{statement}
+use Rattle.values.proofs.rough_curve.Tie as tie
+use Rattle.values.proofs.rough_curve.Reads as reads
+use Rattle.values.proofs.rough_curve.Lts as lts
+use Rattle.cursor.proofs.leave_group.Reads as leave-group-reads
+use Rattle.cursor.proofs.mark.Reads as mark-reads
+use Rattle.values.proofs.float_or.Reads as float-or-reads
+use Rattle.values.proofs.rough_fields.Reads as rough-fields-reads
+use Rattle.values.proofs.word_or.Reads as word-or-reads
+
+-- src/lib.rt:334:11
+mark-requires : tie.Need-mark-requires
+mark-requires c κs = search needs
+
+-- src/lib.rt:335:27
+enum-known-p : tie.Need-enum-known-p
+enum-known-p c = search needs
+
+-- src/lib.rt:336:22
+enum-known-m : tie.Need-enum-known-m
+enum-known-m c = search needs
+
+-- src/lib.rt:336:34
+rough-fields-requires : tie.Need-rough-fields-requires
+rough-fields-requires c κs = (rw (c .before .m .given .1) at (c .before .before .before .mark .ensures)) .ready
+
+-- src/lib.rt:337:32
+enum-known-r : tie.Need-enum-known-r
+enum-known-r c = search needs
+
+-- src/lib.rt:338:27
+enum-known-f : tie.Need-enum-known-f
+enum-known-f c = search needs
+
+-- src/lib.rt:339:21
+leave-group-requires : tie.Need-leave-group-requires
+leave-group-requires c κs = (rw (c .before .f .given .1) at (c .before .before .before .rough-fields .ensures)) .1 .ready
+
+-- src/lib.rt:342:21
+float-or-requires : tie.Need-float-or-requires
+float-or-requires c κs = search needs
+
+-- src/lib.rt:343:21
+word-or-requires : tie.Need-word-or-requires
+word-or-requires c κs = search needs
+
+-- src/lib.rt:330:1
+returns : tie.Need-returns
+unfolding roughCurve
+returns c = let h = inside-missing (c .before .before .before .before .before .args .text .now) 40 (pairs roughFields) (c .before .before .before .before .before .args .c) _ (rw (c .before .p .given .1) at (c .before .before .before .mark .ensures)) in rw h
+
+-- src/lib.rt:330:1
+returns-2 : tie.Need-returns-2
+unfolding roughCurve
+returns-2 c = let h = inside-refused (c .before .before .before .before .before .before .before .before .before .args .text .now) 40 (pairs roughFields) (c .before .before .before .before .before .before .before .before .before .args .c) _ (rw (c .before .before .before .before .before .m .given .1) at (c .before .before .before .before .before .before .before .mark .ensures)) _ _ (rw (c .before .r .given .1) at (c .before .before .before .rough-fields .ensures)) in rw h
+
+-- src/lib.rt:330:1
+returns-3 : tie.Need-returns-3
+unfolding roughCurve
+returns-3 c =
+    let f = rw (c .before .before .before .before .f .given .1) at (c .before .before .before .before .before .before .rough-fields .ensures) in
+    let t = inside-any (c .before .before .before .before .before .before .before .before .before .before .before .before .args .text .now) 40 (pairs roughFields) (c .before .before .before .before .before .before .before .before .before .before .before .before .args .c) _ (rw (c .before .before .before .before .before .before .before .before .m .given .1) at (c .before .before .before .before .before .before .before .before .before .before .mark .ensures)) _ _ _ (f .1) (c .before .before .leave-group .ensures) in
+    let s = float-or (c .before .before .before .before .f .given .0 .0 .strength) (ofBits binary32 1056964608) _ a-half ∙ ap (λ (o : Option ℕ). default o (f32Of 1 2)) (f .2 .strength) in
+    let p = word-or (c .before .before .before .before .f .given .0 .0 .points) 8 ∙ ap (λ (o : Option ℕ). default o 8) (f .2 .points) in
+    (record { is = rw (t .is, c .before .float-or .ensures, c .word-or .ensures, s, p); low = t .low; ready = t .ready }, rw (c .before .float-or .ensures) (plain-or (c .before .before .before .before .f .given .0 .0 .strength) (ofBits binary32 1056964608) (f .2 .plain) plain-half))
+
+pub rough-curve-spec : {M : Type 1} → statement M
+rough-curve-spec =
+    tie.close
+    (tie.spec
+    mark-requires
+    enum-known-p
+    enum-known-m
+    rough-fields-requires
+    enum-known-r
+    enum-known-f
+    leave-group-requires
+    float-or-requires
+    word-or-requires
+    returns
+    returns-2
+    returns-3)

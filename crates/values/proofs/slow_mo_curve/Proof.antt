@@ -1,0 +1,92 @@
+use lib.Ieee.{ofBits, binary32}
+use mathlib.Core.Option.{Option}
+use mathlib.Core.Path.{ap, _∙_}
+use Rattle.text.specs.Bytes.{at}
+use Rattle.text.specs.Words.{default}
+use Rattle.grammar.specs.Values.{f32Of, slowMoCurve, slowMoFields}
+use Rattle.values.proofs.CurveLaws.{float-or, plain-or, plain-seven, plain-two, seven-tenths, two-wholes}
+use Rattle.values.proofs.ValueLaws.{inside-any, inside-missing, inside-refused}
+use Rattle.grammar.specs.Fields.{pairs}
+use Prim.Native.Nat.{ℕ}
+use borrow.Author.Needs.{needs}
+use Rattle.values.proofs.slow_mo_curve.Statement.{statement}
+use Rattle.values.proofs.slow_mo_curve.Tie as tie
+use Rattle.values.proofs.slow_mo_curve.Reads as reads
+use Rattle.values.proofs.slow_mo_curve.Lts as lts
+use Rattle.cursor.proofs.leave_group.Reads as leave-group-reads
+use Rattle.cursor.proofs.mark.Reads as mark-reads
+use Rattle.values.proofs.float_or.Reads as float-or-reads
+use Rattle.values.proofs.slow_mo_fields.Reads as slow-mo-fields-reads
+
+-- src/lib.rt:355:11
+mark-requires : tie.Need-mark-requires
+mark-requires c κs = search needs
+
+-- src/lib.rt:356:27
+enum-known-p : tie.Need-enum-known-p
+enum-known-p c = search needs
+
+-- src/lib.rt:357:22
+enum-known-m : tie.Need-enum-known-m
+enum-known-m c = search needs
+
+-- src/lib.rt:357:34
+slow-mo-fields-requires : tie.Need-slow-mo-fields-requires
+slow-mo-fields-requires c κs = (rw (c .before .m .given .1) at (c .before .before .before .mark .ensures)) .ready
+
+-- src/lib.rt:358:33
+enum-known-r : tie.Need-enum-known-r
+enum-known-r c = search needs
+
+-- src/lib.rt:359:28
+enum-known-f : tie.Need-enum-known-f
+enum-known-f c = search needs
+
+-- src/lib.rt:360:21
+leave-group-requires : tie.Need-leave-group-requires
+leave-group-requires c κs = (rw (c .before .f .given .1) at (c .before .before .before .slow-mo-fields .ensures)) .1 .ready
+
+-- src/lib.rt:363:21
+float-or-requires : tie.Need-float-or-requires
+float-or-requires c κs = search needs
+
+-- src/lib.rt:364:21
+float-or-requires-2 : tie.Need-float-or-requires-2
+float-or-requires-2 c κs = search needs
+
+-- src/lib.rt:351:1
+returns : tie.Need-returns
+unfolding slowMoCurve
+returns c = let h = inside-missing (c .before .before .before .before .before .args .text .now) 40 (pairs slowMoFields) (c .before .before .before .before .before .args .c) _ (rw (c .before .p .given .1) at (c .before .before .before .mark .ensures)) in rw h
+
+-- src/lib.rt:351:1
+returns-2 : tie.Need-returns-2
+unfolding slowMoCurve
+returns-2 c = let h = inside-refused (c .before .before .before .before .before .before .before .before .before .args .text .now) 40 (pairs slowMoFields) (c .before .before .before .before .before .before .before .before .before .args .c) _ (rw (c .before .before .before .before .before .m .given .1) at (c .before .before .before .before .before .before .before .mark .ensures)) _ _ (rw (c .before .r .given .1) at (c .before .before .before .slow-mo-fields .ensures)) in rw h
+
+-- src/lib.rt:351:1
+returns-3 : tie.Need-returns-3
+unfolding slowMoCurve
+returns-3 c =
+    let f = rw (c .before .before .before .before .f .given .1) at (c .before .before .before .before .before .before .slow-mo-fields .ensures) in
+    let t = inside-any (c .before .before .before .before .before .before .before .before .before .before .before .before .args .text .now) 40 (pairs slowMoFields) (c .before .before .before .before .before .before .before .before .before .before .before .before .args .c) _ (rw (c .before .before .before .before .before .before .before .before .m .given .1) at (c .before .before .before .before .before .before .before .before .before .before .mark .ensures)) _ _ _ (f .1) (c .before .before .leave-group .ensures) in
+    let s = float-or (c .before .before .before .before .f .given .0 .0 .«linear_ratio») (ofBits binary32 1060320051) _ seven-tenths ∙ ap (λ (o : Option ℕ). default o (f32Of 7 10)) (f .2 .linearRatio) in
+    let p = float-or (c .before .before .before .before .f .given .0 .0 .power) (ofBits binary32 1073741824) _ two-wholes ∙ ap (λ (o : Option ℕ). default o (f32Of 2 1)) (f .2 .power) in
+    (record { is = rw (t .is, c .before .float-or .ensures, c .float-or2 .ensures, s, p); low = t .low; ready = t .ready }, (rw (c .before .float-or .ensures) (plain-or (c .before .before .before .before .f .given .0 .0 .«linear_ratio») (ofBits binary32 1060320051) (f .2 .plainRatio) plain-seven), rw (c .float-or2 .ensures) (plain-or (c .before .before .before .before .f .given .0 .0 .power) (ofBits binary32 1073741824) (f .2 .plainPower) plain-two)))
+
+pub slow-mo-curve-spec : {M : Type 1} → statement M
+slow-mo-curve-spec =
+    tie.close
+    (tie.spec
+    mark-requires
+    enum-known-p
+    enum-known-m
+    slow-mo-fields-requires
+    enum-known-r
+    enum-known-f
+    leave-group-requires
+    float-or-requires
+    float-or-requires-2
+    returns
+    returns-2
+    returns-3)

@@ -1,0 +1,136 @@
+use mathlib.Core.List.{[]}
+use lib.Dec.{lit<}
+use borrow.Author.Needs.{needs}
+use Prim.Native.Nat.{_-_}
+use Rattle.grammar.specs.Fields.{Fields, onePair, pairs}
+use Rattle.fields.proofs.ListLaws.{Listed, listed-done, listed-gives, listed-start, pair-last, pair-more, pair-moves, pair-refused}
+use Rattle.values.specs.Means.{SlowMoHeld}
+use native.Mathlib.Omega.{arith}
+use Rattle.text.specs.Bytes.{at}
+use lib.ListN.{length}
+use Rattle.grammar.specs.Rule.{listStep, text}
+use borrow.Author.Tests.{not-false, not-true}
+use Rattle.values.proofs.CurveLaws.{slow-none}
+use Rattle.grammar.specs.Values.{slowMoFields}
+use Rattle.values.proofs.slow_mo_fields.Statement.{statement}
+use Rattle.values.proofs.slow_mo_fields.Tie as tie
+use Rattle.values.proofs.slow_mo_fields.Reads as reads
+use Rattle.values.proofs.slow_mo_fields.Lts as lts
+use Rattle.cursor.proofs.eat.Reads as eat-reads
+use Rattle.values.proofs.next_slow_mo.Reads as next-slow-mo-reads
+use Rattle.values.proofs.slow_mo_field.Reads as slow-mo-field-reads
+
+abbrev Inv-loop : tie.InvT-loop
+Inv-loop text m₀ f₀ m f = (fs : Fields) × Listed (listStep (onePair slowMoFields)) text m₀ m [] fs × SlowMoHeld f fs
+
+abbrev μ-loop : tie.MeasureT-loop
+μ-loop text m₀ f₀ m f = length text - m .at
+
+-- src/lib.rt:206:5
+loop-holds : tie.Need-loop-holds Inv-loop μ-loop
+loop-holds c = ([], listed-start (listStep (onePair slowMoFields)) (c .before .args .text .now) (c .before .args .c) [] (c .before .pre), slow-none)
+
+-- src/lib.rt:207:15
+next-slow-mo-requires : tie.Need-next-slow-mo-requires Inv-loop μ-loop
+next-slow-mo-requires c κs = c .loop .inv .1 .ready
+
+-- src/lib.rt:208:32
+enum-known-r : tie.Need-enum-known-r Inv-loop μ-loop
+enum-known-r c = search needs
+
+-- src/lib.rt:208:41
+returns : tie.Need-returns Inv-loop μ-loop
+unfolding pairs
+returns c =
+    let n = rw (c .before .r .given .1) at (c .before .before .before .next-slow-mo .ensures) in
+    listed-gives (listStep (onePair slowMoFields)) (c .before .before .before .before .before .before .args .text .now) (c .before .before .before .before .before .before .args .c) (c .before .before .before .before .loop .m) [] (c .before .before .before .before .loop .inv .0) (c .before .before .before .before .loop .inv .1) _ (n (c .before .before .before .before .loop .inv .0))
+
+-- src/lib.rt:209:29
+enum-known-e : tie.Need-enum-known-e Inv-loop μ-loop
+enum-known-e c = search needs
+
+-- src/lib.rt:209:35
+returns-2 : tie.Need-returns-2 Inv-loop μ-loop
+unfolding pairs
+returns-2 c =
+    let n = rw (c .before .e .given .1) at (c .before .before .before .next-slow-mo .ensures) in
+    (c .before .before .before .before .loop .inv .0, listed-done (listStep (onePair slowMoFields)) (c .before .before .before .before .before .before .args .text .now) (c .before .before .before .before .before .before .args .c) (c .before .before .before .before .loop .m) [] (c .before .before .before .before .loop .inv .0) (c .before .before .before .before .loop .inv .1) _ (rw (n .0) (c .before .before .before .before .loop .inv .1 .ready)) (rw (n .0) (omega arith)) (rw (n .0) (n .1 (c .before .before .before .before .loop .inv .0))), c .before .before .before .before .loop .inv .2)
+
+-- src/lib.rt:210:30
+enum-known-i : tie.Need-enum-known-i Inv-loop μ-loop
+enum-known-i c = search needs
+
+-- src/lib.rt:210:45
+slow-mo-field-requires : tie.Need-slow-mo-field-requires Inv-loop μ-loop
+slow-mo-field-requires c κs = (rw (c .before .i .given .1) at (c .before .before .before .next-slow-mo .ensures)) .ready
+
+-- src/lib.rt:211:36
+enum-known-r-2 : tie.Need-enum-known-r-2 Inv-loop μ-loop
+enum-known-r-2 c = search needs
+
+-- src/lib.rt:211:45
+returns-3 : tie.Need-returns-3 Inv-loop μ-loop
+unfolding pairs
+returns-3 c =
+    let n = rw (c .before .before .before .before .before .i .given .1) at (c .before .before .before .before .before .before .before .next-slow-mo .ensures) in
+    let h = rw (c .before .r2 .given .1) at (c .before .before .before .slow-mo-field .ensures) in
+    pair-refused (c .before .before .before .before .before .before .before .before .before .before .args .text .now) slowMoFields (c .before .before .before .before .before .before .before .before .before .before .args .c) (c .before .before .before .before .before .before .before .before .loop .m) _ [] (c .before .before .before .before .before .before .before .before .loop .inv .0) (c .before .before .before .before .before .before .before .before .loop .inv .1) _ n _ _ (h (n .row) (n .is))
+
+-- src/lib.rt:212:31
+enum-known-g : tie.Need-enum-known-g Inv-loop μ-loop
+enum-known-g c = search needs
+
+-- src/lib.rt:213:25
+eat-requires : tie.Need-eat-requires Inv-loop μ-loop
+eat-requires c κs =
+    let n = rw (c .before .before .before .before .before .i .given .1) at (c .before .before .before .before .before .before .before .next-slow-mo .ensures) in
+    let h = rw (c .before .g .given .1) at (c .before .before .before .slow-mo-field .ensures) in
+    (h (n .row) (n .is) .1 .ready, lit< tt)
+
+-- src/lib.rt:216:25
+returns-4 : tie.Need-returns-4 Inv-loop μ-loop
+unfolding pairs
+returns-4 c =
+    let n = rw (c .before .before .before .before .before .before .before .before .before .i .given .1) at (c .before .before .before .before .before .before .before .before .before .before .before .next-slow-mo .ensures) in
+    let h = (rw (c .before .before .before .before .before .g .given .1) at (c .before .before .before .before .before .before .before .slow-mo-field .ensures)) (n .row) (n .is) in
+    let z = rw (not-true (c .before .before .before .eat .result .taken) (c .if1 .taken)) at (c .before .before .before .eat .ensures) in
+    (_, pair-last (c .before .before .before .before .before .before .before .before .before .before .before .before .before .before .args .text .now) slowMoFields (c .before .before .before .before .before .before .before .before .before .before .before .before .before .before .args .c) (c .before .before .before .before .before .before .before .before .before .before .before .before .loop .m) _ [] (c .before .before .before .before .before .before .before .before .before .before .before .before .loop .inv .0) (c .before .before .before .before .before .before .before .before .before .before .before .before .loop .inv .1) _ n _ (c .before .before .before .eat .result .next) (h .0) (h .1) z, h .2 (c .before .before .before .before .before .before .before .before .before .before .before .before .loop .inv .0) (c .before .before .before .before .before .before .before .before .before .before .before .before .loop .inv .2))
+
+-- src/lib.rt:206:5
+loop-less : tie.Need-loop-less Inv-loop μ-loop
+loop-less c =
+    let n = rw (c .before .before .before .before .before .before .before .before .before .i .given .1) at (c .before .before .before .before .before .before .before .before .before .before .before .next-slow-mo .ensures) in
+    let h = (rw (c .before .before .before .before .before .g .given .1) at (c .before .before .before .before .before .before .before .slow-mo-field .ensures)) (n .row) (n .is) in
+    let z = rw (not-false (c .before .before .before .eat .result .taken) (c .if1 .left)) at (c .before .before .before .eat .ensures) in
+    let a = pair-moves (c .before .before .before .before .before .before .before .before .before .before .before .before .before .before .args .text .now) slowMoFields (c .before .before .before .before .before .before .before .before .before .before .before .before .before .before .args .c) (c .before .before .before .before .before .before .before .before .before .before .before .before .loop .m) _ [] (c .before .before .before .before .before .before .before .before .before .before .before .before .loop .inv .0) (c .before .before .before .before .before .before .before .before .before .before .before .before .loop .inv .1) _ n _ (c .before .before .before .eat .result .next) (h .0) (h .1) z in
+    omega (arith, z .ready .high)
+
+-- src/lib.rt:206:5
+loop-again : tie.Need-loop-again Inv-loop μ-loop
+loop-again c =
+    let n = rw (c .before .before .before .before .before .before .before .before .before .i .given .1) at (c .before .before .before .before .before .before .before .before .before .before .before .next-slow-mo .ensures) in
+    let h = (rw (c .before .before .before .before .before .g .given .1) at (c .before .before .before .before .before .before .before .slow-mo-field .ensures)) (n .row) (n .is) in
+    let z = rw (not-false (c .before .before .before .eat .result .taken) (c .if1 .left)) at (c .before .before .before .eat .ensures) in
+    (_, pair-more (c .before .before .before .before .before .before .before .before .before .before .before .before .before .before .args .text .now) slowMoFields (c .before .before .before .before .before .before .before .before .before .before .before .before .before .before .args .c) (c .before .before .before .before .before .before .before .before .before .before .before .before .loop .m) _ [] (c .before .before .before .before .before .before .before .before .before .before .before .before .loop .inv .0) (c .before .before .before .before .before .before .before .before .before .before .before .before .loop .inv .1) _ n _ (c .before .before .before .eat .result .next) (h .0) (h .1) z, h .2 (c .before .before .before .before .before .before .before .before .before .before .before .before .loop .inv .0) (c .before .before .before .before .before .before .before .before .before .before .before .before .loop .inv .2))
+
+pub slow-mo-fields-spec : {M : Type 1} → statement M
+slow-mo-fields-spec =
+    tie.close
+    (tie.spec
+    Inv-loop
+    μ-loop
+    loop-holds
+    next-slow-mo-requires
+    enum-known-r
+    returns
+    enum-known-e
+    returns-2
+    enum-known-i
+    slow-mo-field-requires
+    enum-known-r-2
+    returns-3
+    enum-known-g
+    eat-requires
+    returns-4
+    loop-less
+    loop-again)
