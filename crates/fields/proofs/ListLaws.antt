@@ -1,4 +1,4 @@
--- A list of fields that is read in a loop: what the loop has so far, and what it gives. Assumes nothing.
+-- A list that is read in a loop: what the loop has so far, and what it gives. Assumes nothing.
 use Prim.Native.Nat.{ℕ, suc, _+_, _≤_, _<_}
 use Prim.Native.String.{String}
 use mathlib.Core.Bool.{Bool, true, false}
@@ -15,20 +15,20 @@ use Rattle.cursor.specs.declared.Cursor.{Cursor}
 use Rattle.fields.specs.Means.{Gives, FieldAt, PairAt}
 
 -- the list that began at c with b stands at m with a: what it gives from there on it gives from c on
-pub record Listed (step : Fields → Rule (Next Fields)) (s : List ℕ) (c m : Cursor) (b a : Fields) : Type 0 where
+pub record Listed {A : Type 0} (step : A → Rule (Next A)) (s : List ℕ) (c m : Cursor) (b a : A) : Type 0 where
   pub low : c .at ≤ m .at
   pub ready : Ready s m
-  pub goes : (out : Out Fields) → Gives step s m a out → Gives step s c b out
+  pub goes : (out : Out A) → Gives step s m a out → Gives step s c b out
 
-pub listed-start : (step : Fields → Rule (Next Fields)) (s : List ℕ) (c : Cursor) (b : Fields) → Ready s c → Listed step s c c b b
+pub listed-start : {A : Type 0} (step : A → Rule (Next A)) (s : List ℕ) (c : Cursor) (b : A) → Ready s c → Listed step s c c b b
 listed-start step s c b r = record { low = omega arith; ready = r; goes = λ out h. h }
 
 -- the repetition's own bound is enough
-whole : (step : Fields → Rule (Next Fields)) (s : List ℕ) (c : Cursor) (b : Fields) (out : Out Fields) → Gives step s c b out → run s c (repeat step b) ≡ out
+whole : {A : Type 0} (step : A → Rule (Next A)) (s : List ℕ) (c : Cursor) (b : A) (out : Out A) → Gives step s c b out → run s c (repeat step b) ≡ out
 whole step s c b out g = g (suc (length s)) (omega arith)
 
-module _ (step : Fields → Rule (Next Fields)) (s : List ℕ) (c m : Cursor) (b a : Fields) (l : Listed step s c m b a) where
-  pub listed-gives : (out : Out Fields) → Gives step s m a out → run s c (repeat step b) ≡ out
+module _ {A : Type 0} (step : A → Rule (Next A)) (s : List ℕ) (c m : Cursor) (b a : A) (l : Listed step s c m b a) where
+  pub listed-gives : (out : Out A) → Gives step s m a out → run s c (repeat step b) ≡ out
   listed-gives out g = whole step s c b out (l .goes out g)
 
   pub listed-done : (e : Cursor) → Ready s e → m .at ≤ e .at → Gives step s m a (got a (notes s e) (tokens s e)) → Took 0 s c e (repeat step b) a

@@ -87,10 +87,19 @@ parseUintInParens = inside "(" parseUint
 
 -- ---- value, easing, loop
 
+-- an element of an array, onto those before it
+unfoldable pub arrayItem : List ℕ → Rule (List ℕ)
+arrayItem xs = do
+  x ← parseFloat
+  give (xs ++ x ∷ [])
+
+unfoldable pub arrayItems : Rule (List ℕ)
+arrayItems = list arrayItem []
+
 -- parse_value
 unfoldable pub parseValue : Rule ValueExpr
 parseValue = if (sees "[") (do
-  xs ← inside "[" (list (λ xs. parseFloat >>= λ x. give (xs ++ x ∷ [])) [])
+  xs ← inside "[" arrayItems
   give (array xs)) (do
     x ← parseFloat
     give (scalar x))

@@ -1,0 +1,79 @@
+// parser.rs, parse_value: a number or an array of numbers, written into the sheet as it is read.
+// The functions are for our own crates: each requires a cursor that stands in a text of at most 16,384 bytes, and a place below 2^30.
+ghost use mathlib.Core.Path.{_≡_};
+ghost use Prim.Native.Nat.{_≤_, _<_, _^_};
+ghost use lib.ListN.{length};
+ghost use Rattle.cursor.specs.Means.{Ready};
+ghost use Rattle.arrays.specs.Means.{Room, Wide, ItemsMeans, ArrayMeans, ValueMeans};
+use cursor::Cursor;
+use cursor::FloatRead;
+use cursor::MarkRead;
+use error::Refusal;
+
+// How many elements, the place behind what was written, and the cursor.
+pub enum ItemsRead {
+    Is(usize, usize, Cursor),
+    Refused(Refusal, usize),
+}
+
+// The place behind what was written, and the cursor.
+pub enum ValueRead {
+    Is(usize, Cursor),
+    Refused(Refusal, usize),
+}
+
+// The elements of an array, written from `out` on.
+fn array_items(text: &[u8], sheet: &mut [u8], c: Cursor, out: usize) -> ItemsRead
+    requires { ⌜ Ready (now text) c × Wide (now text) out ⌝ }
+    ensures { λ r. ⌜ ItemsMeans (now (text .entry)) (now (sheet .entry)) (now (sheet .exit)) c out r ⌝ }
+{
+    let mut m = c;
+    let mut at = out;
+    let mut n: usize = 0;
+    loop {
+        if cursor::ends(m) {
+            return ItemsRead::Is(n, at, m);
+        }
+        match cursor::parse_float(text, m) {
+            FloatRead::Refused(r, p) => return ItemsRead::Refused(r, p),
+            FloatRead::Is(x, e) => {
+                at = encode::put_float(sheet, at, x);
+                n += 1;
+                let ate = cursor::eat(text, e, 44);
+                m = ate.next;
+                if !ate.taken {
+                    return ItemsRead::Is(n, at, m);
+                }
+            }
+        }
+    }
+}
+
+// An array, behind its `[`: its case, its count, its elements.
+fn array_value(text: &[u8], sheet: &mut [u8], c: Cursor, out: usize) -> ValueRead
+    requires { ⌜ Ready (now text) c × Room (now text) out ⌝ }
+    ensures { λ r. ⌜ ArrayMeans (now (text .entry)) (now (sheet .entry)) (now (sheet .exit)) c out r ⌝ }
+{
+    let first = encode::put_byte(sheet, out, 1);
+    match array_items(text, sheet, c, first + 2) {
+        ItemsRead::Refused(r, p) => ValueRead::Refused(r, p),
+        ItemsRead::Is(n, end, m) => {
+            encode::patch_count(sheet, first, n);
+            ValueRead::Is(end, cursor::leave_group(text, m))
+        }
+    }
+}
+
+// A number or an array, written at `out`.
+pub fn parse_value(text: &[u8], sheet: &mut [u8], c: Cursor, out: usize) -> ValueRead
+    requires { ⌜ Ready (now text) c × Room (now text) out ⌝ }
+    ensures { λ r. ⌜ ValueMeans (now (text .entry)) (now (sheet .entry)) (now (sheet .exit)) c out r ⌝ }
+{
+    match cursor::mark(text, c, 91) {
+        MarkRead::Is(m) => array_value(text, sheet, m, out),
+        MarkRead::Missing(_) => match cursor::parse_float(text, c) {
+            FloatRead::Refused(r, p) => ValueRead::Refused(r, p),
+            FloatRead::Is(x, m) => ValueRead::Is(encode::put_scalar(sheet, out, x), m),
+        },
+    }
+}
