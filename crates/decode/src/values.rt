@@ -1,0 +1,1 @@
+// Enums: a byte, the case's position, then its fields.
