@@ -116,10 +116,7 @@ pub fn take_span(s: &[u8], at: usize, n: usize) -> SpanRead
     if start + size <= n {
         SpanRead { v, next: b.next }
     } else {
-        SpanRead {
-            v,
-            next: lost(s),
-        }
+        SpanRead { v, next: lost(s) }
     }
 }
 
