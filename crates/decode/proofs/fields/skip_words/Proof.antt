@@ -3,12 +3,9 @@ use native.Mathlib.Omega.{arith}
 use borrow.Author.Needs.{needs}
 use Rattle.sheet.specs.Sheet.{word}
 use Rattle.decode.proofs.ReadLaws as laws
-use Rattle.decode.proofs.ReadLaws.{_&_}
 use Rattle.decode.proofs.fields.skip_words.Statement.{statement}
 use Rattle.decode.proofs.fields.skip_words.Tie as tie
 use Rattle.decode.proofs.fields.skip_words.Reads as reads
-use Rattle.decode.proofs.fields.skip_words.Lts as lts
-use Rattle.decode.proofs.fields.take_field.Reads as take-field-reads
 
 abbrev Inv-loop : tie.InvT-loop
 Inv-loop s at n k₀ a₀ k a = (k ≤ n) × laws.Walk word s at n a k

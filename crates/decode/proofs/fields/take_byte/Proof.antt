@@ -5,8 +5,6 @@ use borrow.Author.Needs.{needs}
 use Rattle.decode.proofs.fields.take_byte.Statement.{statement}
 use Rattle.decode.proofs.fields.take_byte.Tie as tie
 use Rattle.decode.proofs.fields.take_byte.Reads as reads
-use Rattle.decode.proofs.fields.take_byte.Lts as lts
-use Rattle.decode.proofs.fields.lost.Reads as lost-reads
 
 -- src/fields.rt:49:17
 shared-slice-read-b : tie.Need-shared-slice-read-b

@@ -9,9 +9,6 @@ use mathlib.Core.Path.{_≡_}
 use mathlib.Core.Option.{some}
 use Rattle.decode.proofs.fields.take_field.Statement.{statement}
 use Rattle.decode.proofs.fields.take_field.Tie as tie
-use Rattle.decode.proofs.fields.take_field.Reads as reads
-use Rattle.decode.proofs.fields.take_field.Lts as lts
-use Rattle.decode.proofs.fields.lost.Reads as lost-reads
 
 abbrev Inv-loop : tie.InvT-loop
 Inv-loop s at width v₀ k₀ v k = (k ≤ width) × (at + k ≤ length s) × (v < 256 ^ k) × (big k .read (drop at s) ≡ some (v, drop (at + k) s))

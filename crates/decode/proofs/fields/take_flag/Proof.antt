@@ -4,8 +4,6 @@ use borrow.Author.Needs.{needs}
 use Rattle.decode.proofs.fields.take_flag.Statement.{statement}
 use Rattle.decode.proofs.fields.take_flag.Tie as tie
 use Rattle.decode.proofs.fields.take_flag.Reads as reads
-use Rattle.decode.proofs.fields.take_flag.Lts as lts
-use Rattle.decode.proofs.fields.take_byte.Reads as take-byte-reads
 
 -- src/fields.rt:89:9
 take-byte-requires : tie.Need-take-byte-requires

@@ -1,14 +1,10 @@
 use mathlib.Core.Path.{ap, sym, _∙_}
 use Rattle.number.specs.Number.{f32}
 use Rattle.decode.proofs.ReadLaws as laws
-use Rattle.decode.proofs.ReadLaws.{_&_}
 use borrow.Author.Needs.{needs}
 use Rattle.decode.proofs.fields.take_float.Statement.{statement}
 use Rattle.decode.proofs.fields.take_float.Tie as tie
 use Rattle.decode.proofs.fields.take_float.Reads as reads
-use Rattle.decode.proofs.fields.take_float.Lts as lts
-use Rattle.decode.proofs.fields.take_field.Reads as take-field-reads
-use Rattle.number.proofs.f32_of_bits.Reads as f32-of-bits-reads
 
 -- src/fields.rt:100:9
 take-field-requires : tie.Need-take-field-requires

@@ -12,9 +12,6 @@ use borrow.Author.Needs.{needs}
 use Rattle.decode.proofs.fields.take_span.Statement.{statement}
 use Rattle.decode.proofs.fields.take_span.Tie as tie
 use Rattle.decode.proofs.fields.take_span.Reads as reads
-use Rattle.decode.proofs.fields.take_span.Lts as lts
-use Rattle.decode.proofs.fields.lost.Reads as lost-reads
-use Rattle.decode.proofs.fields.take_field.Reads as take-field-reads
 
 -- src/fields.rt:111:9
 take-field-requires : tie.Need-take-field-requires

@@ -2,13 +2,10 @@ use Rattle.codec.specs.Codec.{below}
 use mathlib.Core.Path.{refl}
 use Rattle.ast.specs.declared.OptCase.the-variants.{Present}
 use Rattle.decode.proofs.ReadLaws as laws
-use Rattle.decode.proofs.ReadLaws.{_&_}
 use borrow.Author.Needs.{needs}
 use Rattle.decode.proofs.optional.take_opt_case.Statement.{statement}
 use Rattle.decode.proofs.optional.take_opt_case.Tie as tie
 use Rattle.decode.proofs.optional.take_opt_case.Reads as reads
-use Rattle.decode.proofs.optional.take_opt_case.Lts as lts
-use Rattle.decode.proofs.fields.take_byte.Reads as take-byte-reads
 
 -- src/optional.rt:133:9
 take-byte-requires : tie.Need-take-byte-requires

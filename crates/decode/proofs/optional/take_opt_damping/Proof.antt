@@ -2,14 +2,9 @@ use Rattle.sheet.specs.Sheet.{dampingForm}
 use mathlib.Core.Path.{refl}
 use Rattle.ast.specs.declared.OptDamping.the-variants.{Present}
 use Rattle.decode.proofs.ReadLaws as laws
-use Rattle.decode.proofs.ReadLaws.{_&_}
 use borrow.Author.Needs.{needs}
 use Rattle.decode.proofs.optional.take_opt_damping.Statement.{statement}
 use Rattle.decode.proofs.optional.take_opt_damping.Tie as tie
-use Rattle.decode.proofs.optional.take_opt_damping.Reads as reads
-use Rattle.decode.proofs.optional.take_opt_damping.Lts as lts
-use Rattle.decode.proofs.fields.take_byte.Reads as take-byte-reads
-use Rattle.decode.proofs.values.take_damping.Reads as take-damping-reads
 
 -- src/optional.rt:204:9
 take-byte-requires : tie.Need-take-byte-requires

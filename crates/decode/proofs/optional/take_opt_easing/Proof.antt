@@ -2,14 +2,9 @@ use Rattle.sheet.specs.Sheet.{easingForm}
 use mathlib.Core.Path.{refl}
 use Rattle.ast.specs.declared.OptEasing.the-variants.{Present}
 use Rattle.decode.proofs.ReadLaws as laws
-use Rattle.decode.proofs.ReadLaws.{_&_}
 use borrow.Author.Needs.{needs}
 use Rattle.decode.proofs.optional.take_opt_easing.Statement.{statement}
 use Rattle.decode.proofs.optional.take_opt_easing.Tie as tie
-use Rattle.decode.proofs.optional.take_opt_easing.Reads as reads
-use Rattle.decode.proofs.optional.take_opt_easing.Lts as lts
-use Rattle.decode.proofs.fields.take_byte.Reads as take-byte-reads
-use Rattle.decode.proofs.values.take_easing.Reads as take-easing-reads
 
 -- src/optional.rt:168:9
 take-byte-requires : tie.Need-take-byte-requires

@@ -2,14 +2,9 @@ use Rattle.sheet.specs.Sheet.{flag}
 use mathlib.Core.Path.{refl}
 use Rattle.ast.specs.declared.OptBool.the-variants.{Present}
 use Rattle.decode.proofs.ReadLaws as laws
-use Rattle.decode.proofs.ReadLaws.{_&_}
 use borrow.Author.Needs.{needs}
 use Rattle.decode.proofs.optional.take_opt_flag.Statement.{statement}
 use Rattle.decode.proofs.optional.take_opt_flag.Tie as tie
-use Rattle.decode.proofs.optional.take_opt_flag.Reads as reads
-use Rattle.decode.proofs.optional.take_opt_flag.Lts as lts
-use Rattle.decode.proofs.fields.take_byte.Reads as take-byte-reads
-use Rattle.decode.proofs.fields.take_flag.Reads as take-flag-reads
 
 -- src/optional.rt:114:9
 take-byte-requires : tie.Need-take-byte-requires

@@ -2,14 +2,9 @@ use mathlib.Core.Path.{refl}
 use Rattle.sheet.specs.Sheet.{word}
 use Rattle.ast.specs.declared.OptF32.the-variants.{Present}
 use Rattle.decode.proofs.ReadLaws as laws
-use Rattle.decode.proofs.ReadLaws.{_&_}
 use borrow.Author.Needs.{needs}
 use Rattle.decode.proofs.optional.take_opt_float.Statement.{statement}
 use Rattle.decode.proofs.optional.take_opt_float.Tie as tie
-use Rattle.decode.proofs.optional.take_opt_float.Reads as reads
-use Rattle.decode.proofs.optional.take_opt_float.Lts as lts
-use Rattle.decode.proofs.fields.take_byte.Reads as take-byte-reads
-use Rattle.decode.proofs.fields.take_float.Reads as take-float-reads
 
 -- src/optional.rt:80:9
 take-byte-requires : tie.Need-take-byte-requires

@@ -2,14 +2,9 @@ use Rattle.sheet.specs.Sheet.{loopForm}
 use mathlib.Core.Path.{refl}
 use Rattle.ast.specs.declared.OptLoop.the-variants.{Present}
 use Rattle.decode.proofs.ReadLaws as laws
-use Rattle.decode.proofs.ReadLaws.{_&_}
 use borrow.Author.Needs.{needs}
 use Rattle.decode.proofs.optional.take_opt_loop.Statement.{statement}
 use Rattle.decode.proofs.optional.take_opt_loop.Tie as tie
-use Rattle.decode.proofs.optional.take_opt_loop.Reads as reads
-use Rattle.decode.proofs.optional.take_opt_loop.Lts as lts
-use Rattle.decode.proofs.fields.take_byte.Reads as take-byte-reads
-use Rattle.decode.proofs.values.take_loop.Reads as take-loop-reads
 
 -- src/optional.rt:186:9
 take-byte-requires : tie.Need-take-byte-requires

@@ -2,14 +2,9 @@ use Rattle.sheet.specs.Sheet.{patternForm}
 use mathlib.Core.Path.{refl}
 use Rattle.ast.specs.declared.OptPattern.the-variants.{Present}
 use Rattle.decode.proofs.ReadLaws as laws
-use Rattle.decode.proofs.ReadLaws.{_&_}
 use borrow.Author.Needs.{needs}
 use Rattle.decode.proofs.optional.take_opt_pattern.Statement.{statement}
 use Rattle.decode.proofs.optional.take_opt_pattern.Tie as tie
-use Rattle.decode.proofs.optional.take_opt_pattern.Reads as reads
-use Rattle.decode.proofs.optional.take_opt_pattern.Lts as lts
-use Rattle.decode.proofs.fields.take_byte.Reads as take-byte-reads
-use Rattle.decode.proofs.values.take_pattern.Reads as take-pattern-reads
 
 -- src/optional.rt:222:9
 take-byte-requires : tie.Need-take-byte-requires

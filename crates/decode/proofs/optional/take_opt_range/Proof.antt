@@ -7,10 +7,6 @@ use Rattle.decode.proofs.ReadLaws.{_&_}
 use borrow.Author.Needs.{needs}
 use Rattle.decode.proofs.optional.take_opt_range.Statement.{statement}
 use Rattle.decode.proofs.optional.take_opt_range.Tie as tie
-use Rattle.decode.proofs.optional.take_opt_range.Reads as reads
-use Rattle.decode.proofs.optional.take_opt_range.Lts as lts
-use Rattle.decode.proofs.fields.take_byte.Reads as take-byte-reads
-use Rattle.decode.proofs.fields.take_float.Reads as take-float-reads
 
 -- src/optional.rt:241:9
 take-byte-requires : tie.Need-take-byte-requires

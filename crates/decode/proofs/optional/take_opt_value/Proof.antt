@@ -2,14 +2,9 @@ use mathlib.Core.Path.{refl}
 use Rattle.sheet.specs.Sheet.{valueForm}
 use Rattle.ast.specs.declared.OptValue.the-variants.{Present}
 use Rattle.decode.proofs.ReadLaws as laws
-use Rattle.decode.proofs.ReadLaws.{_&_}
 use borrow.Author.Needs.{needs}
 use Rattle.decode.proofs.optional.take_opt_value.Statement.{statement}
 use Rattle.decode.proofs.optional.take_opt_value.Tie as tie
-use Rattle.decode.proofs.optional.take_opt_value.Reads as reads
-use Rattle.decode.proofs.optional.take_opt_value.Lts as lts
-use Rattle.decode.proofs.fields.take_byte.Reads as take-byte-reads
-use Rattle.decode.proofs.values.take_value.Reads as take-value-reads
 
 -- src/optional.rt:150:9
 take-byte-requires : tie.Need-take-byte-requires

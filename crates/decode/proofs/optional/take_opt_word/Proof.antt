@@ -2,14 +2,10 @@ use mathlib.Core.Path.{refl}
 use Rattle.sheet.specs.Sheet.{word}
 use Rattle.ast.specs.declared.OptU32.the-variants.{Present}
 use Rattle.decode.proofs.ReadLaws as laws
-use Rattle.decode.proofs.ReadLaws.{_&_}
 use borrow.Author.Needs.{needs}
 use Rattle.decode.proofs.optional.take_opt_word.Statement.{statement}
 use Rattle.decode.proofs.optional.take_opt_word.Tie as tie
 use Rattle.decode.proofs.optional.take_opt_word.Reads as reads
-use Rattle.decode.proofs.optional.take_opt_word.Lts as lts
-use Rattle.decode.proofs.fields.take_byte.Reads as take-byte-reads
-use Rattle.decode.proofs.fields.take_field.Reads as take-field-reads
 
 -- src/optional.rt:97:9
 take-byte-requires : tie.Need-take-byte-requires

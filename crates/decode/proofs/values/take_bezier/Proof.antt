@@ -4,9 +4,6 @@ use Rattle.decode.proofs.ReadLaws.{_&_}
 use borrow.Author.Needs.{needs}
 use Rattle.decode.proofs.values.take_bezier.Statement.{statement}
 use Rattle.decode.proofs.values.take_bezier.Tie as tie
-use Rattle.decode.proofs.values.take_bezier.Reads as reads
-use Rattle.decode.proofs.values.take_bezier.Lts as lts
-use Rattle.decode.proofs.fields.take_float.Reads as take-float-reads
 
 -- src/values.rt:86:9
 take-float-requires : tie.Need-take-float-requires

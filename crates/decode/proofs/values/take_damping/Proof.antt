@@ -7,9 +7,6 @@ use borrow.Author.Needs.{needs}
 use Rattle.decode.proofs.values.take_damping.Statement.{statement}
 use Rattle.decode.proofs.values.take_damping.Tie as tie
 use Rattle.decode.proofs.values.take_damping.Reads as reads
-use Rattle.decode.proofs.values.take_damping.Lts as lts
-use Rattle.decode.proofs.fields.take_byte.Reads as take-byte-reads
-use Rattle.decode.proofs.fields.take_float.Reads as take-float-reads
 
 -- src/values.rt:172:9
 take-byte-requires : tie.Need-take-byte-requires

@@ -7,12 +7,6 @@ use borrow.Author.Needs.{needs}
 use Rattle.decode.proofs.values.take_easing.Statement.{statement}
 use Rattle.decode.proofs.values.take_easing.Tie as tie
 use Rattle.decode.proofs.values.take_easing.Reads as reads
-use Rattle.decode.proofs.values.take_easing.Lts as lts
-use Rattle.decode.proofs.fields.take_byte.Reads as take-byte-reads
-use Rattle.decode.proofs.fields.take_field.Reads as take-field-reads
-use Rattle.decode.proofs.fields.take_float.Reads as take-float-reads
-use Rattle.decode.proofs.values.take_bezier.Reads as take-bezier-reads
-use Rattle.decode.proofs.values.take_named.Reads as take-named-reads
 
 -- src/values.rt:99:9
 take-byte-requires : tie.Need-take-byte-requires

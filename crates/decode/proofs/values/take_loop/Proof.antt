@@ -4,14 +4,10 @@ use mathlib.Core.Path.{refl}
 use Rattle.decode.specs.Reads.{same}
 use Rattle.ast.specs.declared.LoopSpec.the-variants as loop
 use Rattle.decode.proofs.ReadLaws as laws
-use Rattle.decode.proofs.ReadLaws.{_&_}
 use borrow.Author.Needs.{needs}
 use Rattle.decode.proofs.values.take_loop.Statement.{statement}
 use Rattle.decode.proofs.values.take_loop.Tie as tie
 use Rattle.decode.proofs.values.take_loop.Reads as reads
-use Rattle.decode.proofs.values.take_loop.Lts as lts
-use Rattle.decode.proofs.fields.take_byte.Reads as take-byte-reads
-use Rattle.decode.proofs.fields.take_field.Reads as take-field-reads
 
 -- src/values.rt:136:9
 take-byte-requires : tie.Need-take-byte-requires

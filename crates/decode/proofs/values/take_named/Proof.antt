@@ -4,10 +4,6 @@ use Rattle.decode.proofs.ReadLaws.{_&_}
 use borrow.Author.Needs.{needs}
 use Rattle.decode.proofs.values.take_named.Statement.{statement}
 use Rattle.decode.proofs.values.take_named.Tie as tie
-use Rattle.decode.proofs.values.take_named.Reads as reads
-use Rattle.decode.proofs.values.take_named.Lts as lts
-use Rattle.decode.proofs.fields.take_flag.Reads as take-flag-reads
-use Rattle.decode.proofs.fields.take_span.Reads as take-span-reads
 
 -- src/values.rt:74:9
 take-flag-requires : tie.Need-take-flag-requires

@@ -9,10 +9,6 @@ use borrow.Author.Needs.{needs}
 use Rattle.decode.proofs.values.take_pattern.Statement.{statement}
 use Rattle.decode.proofs.values.take_pattern.Tie as tie
 use Rattle.decode.proofs.values.take_pattern.Reads as reads
-use Rattle.decode.proofs.values.take_pattern.Lts as lts
-use Rattle.decode.proofs.fields.take_byte.Reads as take-byte-reads
-use Rattle.decode.proofs.fields.take_field.Reads as take-field-reads
-use Rattle.decode.proofs.fields.take_float.Reads as take-float-reads
 
 -- src/values.rt:214:9
 take-byte-requires : tie.Need-take-byte-requires

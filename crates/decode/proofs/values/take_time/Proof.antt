@@ -2,14 +2,10 @@ use native.Mathlib.Omega.{arith}
 use Rattle.sheet.specs.Sheet.{splitTime, timeCases}
 use Rattle.ast.specs.declared.KeyframeTime.the-variants as time
 use Rattle.decode.proofs.ReadLaws as laws
-use Rattle.decode.proofs.ReadLaws.{_&_}
 use borrow.Author.Needs.{needs}
 use Rattle.decode.proofs.values.take_time.Statement.{statement}
 use Rattle.decode.proofs.values.take_time.Tie as tie
 use Rattle.decode.proofs.values.take_time.Reads as reads
-use Rattle.decode.proofs.values.take_time.Lts as lts
-use Rattle.decode.proofs.fields.take_byte.Reads as take-byte-reads
-use Rattle.decode.proofs.fields.take_float.Reads as take-float-reads
 
 -- src/values.rt:197:9
 take-byte-requires : tie.Need-take-byte-requires

@@ -4,16 +4,10 @@ use lib.ListN.{length}
 use Rattle.sheet.specs.Sheet.{splitValue, values, word}
 use Rattle.ast.specs.declared.ValueExpr.the-variants as value
 use Rattle.decode.proofs.ReadLaws as laws
-use Rattle.decode.proofs.ReadLaws.{_&_}
 use borrow.Author.Needs.{needs}
 use Rattle.decode.proofs.values.take_value.Statement.{statement}
 use Rattle.decode.proofs.values.take_value.Tie as tie
 use Rattle.decode.proofs.values.take_value.Reads as reads
-use Rattle.decode.proofs.values.take_value.Lts as lts
-use Rattle.decode.proofs.fields.skip_words.Reads as skip-words-reads
-use Rattle.decode.proofs.fields.take_byte.Reads as take-byte-reads
-use Rattle.decode.proofs.fields.take_field.Reads as take-field-reads
-use Rattle.decode.proofs.fields.take_float.Reads as take-float-reads
 
 -- src/values.rt:52:9
 take-byte-requires : tie.Need-take-byte-requires
