@@ -1,17 +1,19 @@
 -- Reading a node is reading its record and then the nodes in it. Assumes nothing.
 use Prim.Native.Nat.{ℕ, zero, suc, _≤_, _<_}
-use mathlib.Core.List.{List, [], _∷_}
+use mathlib.Core.List.{List, [], _∷_, _++_}
 use mathlib.Core.Option.{Option, none, some}
 use mathlib.Core.Logic.{_⊎_, inl, inr, ⊎-elim}
-use mathlib.Core.Path.{_≡_, refl, sym, _∙_, ap}
+use mathlib.Core.Path.{_≡_, refl, sym, _∙_, ap, subst⁻¹}
 use native.Mathlib.Omega.{arith}
-use lib.ListN.{drop}
+use lib.ListN.{length, drop, length-append, length-drop}
 use Rattle.decode.specs.Reads.{Reads, got, bad}
 use Rattle.decode.proofs.ReadLaws.{le-or-lt}
-use Rattle.codec.specs.Codec.{Form, Reader, andThen, _▹_, below, big, opt, Case, readAt}
+use Rattle.codec.specs.Codec.{Form, Reader, andThen, _▹_, below, big, opt, Case, writeAt, readAt}
+use Rattle.codec.proofs.Laws.{Law, Small, via-lawful, big-lawful}
+use Rattle.sheet.proofs.Laws.{nodeL}
 use Rattle.ast.specs.Tree as tree
 use Rattle.ast.specs.Tree.{Nodes, Leaf, Container, KeyframeTime, single, holding, width}
-use Rattle.sheet.specs.Sheet.{word, spanForm, patternForm, tweenForm, springForm, keyframesForm, pathForm, morphForm, drawForm, colorForm, waveformForm, presetForm, atForm, Node, Forest, nodeForm, forest, inner, kinds}
+use Rattle.sheet.specs.Sheet.{word, spanForm, patternForm, tweenForm, springForm, keyframesForm, pathForm, morphForm, drawForm, colorForm, waveformForm, presetForm, atForm, Node, Forest, nodeForm, kinds, splitNode}
 use Rattle.records.specs.Record.{blank, countForm, recordForm}
 
 pub width-blank : (c : ℕ) → width (blank c) ≡ c
@@ -137,3 +139,28 @@ only-at b l h n5 n6 n7 n8 n9 n10 n11 n12 n13 = upper b h (lower b l n5 n6 n7 n8 
 
     upper : (b : ℕ) → b < 15 → 10 ≤ b → (b ≡ 10 → ⊥) → (b ≡ 11 → ⊥) → (b ≡ 12 → ⊥) → (b ≡ 13 → ⊥) → b ≡ 14
     upper b h l n10 n11 n12 n13 = omega arith
+
+-- ---- a record is lawful
+
+abbrev pub countL : Law countForm
+countL = record {
+  ok = λ ns. Small 2 (width ns) × (blank (width ns) ≡ ns);
+  law =
+      via-lawful (big 2) blank width (Small 2) (λ ns. Small 2 (width ns) × (blank (width ns) ≡ ns)) (big-lawful 2) (λ ns h. h .0) (λ ns h. h .1)
+      (λ c h. (subst⁻¹ (Small 2) (width-blank c) h, ap blank (width-blank c))) (λ c h. width-blank c);
+}
+
+abbrev pub recordL : (n : ℕ) → Law (recordForm n)
+recordL n = nodeL n countL
+
+-- it has at least its kind
+pub moves : {X : Type 0} (n : ℕ) {f : Node → X} {s : List ℕ} {at m : ℕ} {v : X} → Reads (recordForm n) f s at v m → at < length s → at < m
+moves n {s = s} {at = at} {m = m} (got x e q h l) i =
+    let z : length (drop m s) < length (drop at s) =
+    longer (splitNode n countForm x .0) (writeAt (kinds n countForm) (splitNode n countForm x .0) (splitNode n countForm x .1)) (drop m s)
+    (recordL n .law .forth (drop at s) (x, drop m s) e .0) in
+    omega (arith, length-drop at s, length-drop m s)
+  where
+    longer : (k : ℕ) (w r : List ℕ) {b : List ℕ} → b ≡ k ∷ w ++ r → length r < length b
+    longer k w r e = rw e (omega (arith, length-append w r))
+moves n (bad o k) i = omega arith

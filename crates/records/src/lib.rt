@@ -86,3 +86,48 @@ pub fn take_record(s: &[u8], at: usize, n: usize) -> RecordRead
         next,
     }
 }
+
+// Past the node at a place, with the nodes in it, inside containers of which `depth` more may follow.
+fn walk_node(s: &[u8], at: usize, n: usize, depth: usize) -> usize
+    ensures { λ r. ⌜ Reads (nodeForm n (inner n depth)) passed (now (s .entry)) at tt r ⌝ }
+{
+    if s.len() <= at {
+        return lost(s);
+    }
+    let r = take_record(s, at, n);
+    let kind = r.v;
+    match kind {
+        Kind::Leaf => r.next,
+        Kind::Container(count) => {
+            if depth == 0 {
+                return lost(s);
+            }
+            walk_nodes(s, r.next, n, depth - 1, count)
+        }
+    }
+}
+
+// Past so many nodes.
+fn walk_nodes(s: &[u8], at: usize, n: usize, depth: usize, count: usize) -> usize
+    ensures { λ r. ⌜ Reads (forest n (inner n depth) count) passed (now (s .entry)) at tt r ⌝ }
+{
+    let mut a = at;
+    let mut k: usize = 0;
+    while k < count {
+        a = walk_node(s, a, n, depth);
+        k += 1;
+    }
+    a
+}
+
+// Whether bytes are a sheet for a text of so many bytes.
+pub fn is_sheet(bytes: &[u8], text_len: usize) -> bool
+    ensures { λ r. ⌜ r ≡ isSome (decode «text_len» (now (bytes .entry))) ⌝ }
+{
+    if 65535 < bytes.len() {
+        return false;
+    }
+    let count = take_field(bytes, 0, 2);
+    let end = walk_nodes(bytes, count.next, text_len, 16, count.v as usize);
+    end == bytes.len()
+}
