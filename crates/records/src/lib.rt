@@ -131,3 +131,29 @@ pub fn is_sheet(bytes: &[u8], text_len: usize) -> bool
     let end = walk_nodes(bytes, count.next, text_len, 16, count.v as usize);
     end == bytes.len()
 }
+
+// Where the record with an ordinal stands in a sheet, the head being 0.
+pub fn record_at(bytes: &[u8], text_len: usize, ordinal: usize) -> RecordAt
+    ensures { λ r. ⌜ Located «text_len» (now (bytes .entry)) ordinal r ⌝ }
+{
+    let head = take_field(bytes, 0, 2);
+    let mut start: usize = 0;
+    let mut end = head.next;
+    let mut k: usize = 0;
+    while k < ordinal {
+        if bytes.len() <= end {
+            return RecordAt::Nothing;
+        }
+        start = end;
+        let r = take_record(bytes, start, text_len);
+        end = r.next;
+        k += 1;
+    }
+    if bytes.len() < end {
+        return RecordAt::Nothing;
+    }
+    RecordAt::At {
+        start,
+        size: end - start,
+    }
+}

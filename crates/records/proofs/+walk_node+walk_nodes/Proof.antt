@@ -1,6 +1,4 @@
-use Rattle.records.specs.declared.Kind.the-variants.{Container}
 use Rattle.decode.specs.Reads.{passed}
-use mathlib.Core.Path.{_≡_}
 use Prim.Native.Nat.{_*_, _+_, _-_, _≤_}
 use native.Mathlib.Omega.{arith}
 use Rattle.text.specs.Bytes.{at}
@@ -9,9 +7,8 @@ use lib.ListN.{length}
 use borrow.Author.Needs.{needs}
 use Rattle.ast.specs.Tree.{records}
 use Rattle.records.proofs.WalkLaws as walks
-use Rattle.decode.proofs.ReadLaws as laws
 use Rattle.records.proofs.RecordLaws as records
-use Prim.Native.Nat.{ℕ, _<_}
+use Prim.Native.Nat.{ℕ}
 use borrow.Fn.Kinds.{In}
 use borrow.Fn.PlainCycle.{Measures, is, falls, and}
 use Rattle.records.proofs.walk_node.Reads as walk-node

@@ -1,13 +1,8 @@
 use Rattle.records.proofs.WalkLaws as walks
-use Rattle.decode.proofs.ReadLaws as laws
-use Rattle.records.proofs.RecordLaws as records
 use borrow.Author.Needs.{needs}
 use Rattle.records.proofs.is_sheet.Statement.{statement}
 use Rattle.records.proofs.is_sheet.Tie as tie
 use Rattle.records.proofs.is_sheet.Reads as reads
-use Rattle.records.proofs.is_sheet.Lts as lts
-use Rattle.decode.proofs.fields.take_field.Reads as take-field-reads
-use Rattle.records.proofs.walk_nodes.Reads as walk-nodes-reads
 
 -- src/lib.rt:128:9
 returns : tie.Need-returns

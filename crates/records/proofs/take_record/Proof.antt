@@ -7,29 +7,12 @@ use mathlib.Core.Logic.{⊎-elim}
 use Rattle.records.specs.declared.Kind.the-variants.{Container}
 use Rattle.ast.specs.Tree.{width}
 use Rattle.codec.specs.Codec.{_▹_}
-use native.Mathlib.Omega.{arith}
 use Rattle.decode.proofs.ReadLaws as laws
 use Rattle.records.proofs.RecordLaws as records
 use borrow.Author.Needs.{needs}
 use Rattle.records.proofs.take_record.Statement.{statement}
 use Rattle.records.proofs.take_record.Tie as tie
 use Rattle.records.proofs.take_record.Reads as reads
-use Rattle.records.proofs.take_record.Lts as lts
-use Rattle.decode.proofs.fields.take_byte.Reads as take-byte-reads
-use Rattle.decode.proofs.fields.take_field.Reads as take-field-reads
-use Rattle.decode.proofs.fields.take_span.Reads as take-span-reads
-use Rattle.decode.proofs.nodes.take_at.Reads as take-at-reads
-use Rattle.decode.proofs.nodes.take_color.Reads as take-color-reads
-use Rattle.decode.proofs.nodes.take_draw.Reads as take-draw-reads
-use Rattle.decode.proofs.nodes.take_group.Reads as take-group-reads
-use Rattle.decode.proofs.nodes.take_keyframes.Reads as take-keyframes-reads
-use Rattle.decode.proofs.nodes.take_morph.Reads as take-morph-reads
-use Rattle.decode.proofs.nodes.take_path.Reads as take-path-reads
-use Rattle.decode.proofs.nodes.take_preset.Reads as take-preset-reads
-use Rattle.decode.proofs.nodes.take_spring.Reads as take-spring-reads
-use Rattle.decode.proofs.nodes.take_stagger.Reads as take-stagger-reads
-use Rattle.decode.proofs.nodes.take_tween.Reads as take-tween-reads
-use Rattle.decode.proofs.nodes.take_waveform.Reads as take-waveform-reads
 
 -- src/lib.rt:45:9
 take-byte-requires : tie.Need-take-byte-requires
