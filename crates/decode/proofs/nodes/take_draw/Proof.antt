@@ -1,0 +1,29 @@
+-- `decode::nodes::take_draw` meets its contract: one field after the other. Assumes nothing.
+use borrow.Author.Needs.{needs}
+use Rattle.sheet.specs.Sheet.{ofDraw, toDraw}
+use Rattle.decode.proofs.ReadLaws.{_&_}
+use Rattle.decode.proofs.ReadLaws as laws
+use Rattle.decode.proofs.nodes.take_draw.Statement.{statement}
+use Rattle.decode.proofs.nodes.take_draw.Tie as tie
+
+take-span-requires : tie.Need-take-span-requires
+take-span-requires c κs = search needs
+
+take-float-requires : tie.Need-take-float-requires
+take-float-requires c κs = search needs
+
+take-opt-easing-requires : tie.Need-take-opt-easing-requires
+take-opt-easing-requires c κs = search needs
+
+returns : tie.Need-returns
+returns c =
+    let at-take-opt-easing = c .before in
+    let at-take-float = at-take-opt-easing .before in
+    let at-take-span = at-take-float .before in
+    laws.through toDraw ofDraw (laws.seen (at-take-span .take-span .ensures & at-take-float .take-float .ensures
+    & at-take-opt-easing .take-opt-easing .ensures)
+    (λ p e i. record { svg = e i .0; duration = e i .1 .0; easing = e i .1 .1 }))
+
+pub take-draw-spec : {M : Type 1} → statement M
+take-draw-spec =
+    tie.close (tie.spec take-span-requires take-float-requires take-opt-easing-requires returns)

@@ -1,0 +1,48 @@
+-- `decode::nodes::take_keyframes` meets its contract: one field after the other. Assumes nothing.
+use lib.ListN.{length}
+use borrow.Author.Needs.{needs}
+use Rattle.codec.specs.Codec.{each}
+use Rattle.sheet.specs.Sheet.{entryForm, ofKeyframes, toKeyframes}
+use Rattle.decode.proofs.ReadLaws.{_&_}
+use Rattle.decode.proofs.ReadLaws as laws
+use Rattle.decode.proofs.nodes.take_keyframes.Statement.{statement}
+use Rattle.decode.proofs.nodes.take_keyframes.Tie as tie
+
+take-span-requires : tie.Need-take-span-requires
+take-span-requires c κs = search needs
+
+take-field-requires : tie.Need-take-field-requires
+take-field-requires c κs = search needs
+
+cast-frames : tie.Need-cast-frames
+cast-frames c = search needs
+
+skip-entries-requires : tie.Need-skip-entries-requires
+skip-entries-requires c κs = search needs
+
+take-opt-loop-requires : tie.Need-take-opt-loop-requires
+take-opt-loop-requires c κs = search needs
+
+returns : tie.Need-returns
+returns c =
+    let at-take-opt-loop = c .before in
+    let at-skip-entries = at-take-opt-loop .before in
+    let at-take-field = at-skip-entries .before .before in
+    let at-take-span = at-take-field .before in
+    let start = at-take-span .before .before in
+    laws.through toKeyframes ofKeyframes
+    (laws.seen (at-take-span .take-span .ensures
+    & laws.counted length (each (entryForm (start .args .n))) (at-take-field .take-field .ensures .reads) (at-skip-entries .skip-entries .ensures)
+    & at-take-opt-loop .take-opt-loop .ensures)
+    (λ p e i. record { target = e i .0; frames = e i .1 .0; «loop_mode» = e i .1 .1 }))
+
+pub take-keyframes-spec : {M : Type 1} → statement M
+take-keyframes-spec =
+    tie.close
+    (tie.spec
+    take-span-requires
+    take-field-requires
+    cast-frames
+    skip-entries-requires
+    take-opt-loop-requires
+    returns)

@@ -1,0 +1,30 @@
+-- `decode::nodes::take_preset` meets its contract: one field after the other. Assumes nothing.
+use borrow.Author.Needs.{needs}
+use Rattle.sheet.specs.Sheet.{ofPreset, toPreset}
+use Rattle.decode.proofs.ReadLaws.{_&_}
+use Rattle.decode.proofs.ReadLaws as laws
+use Rattle.decode.proofs.nodes.take_preset.Statement.{statement}
+use Rattle.decode.proofs.nodes.take_preset.Tie as tie
+
+take-span-requires : tie.Need-take-span-requires
+take-span-requires c κs = search needs
+
+take-opt-float-requires : tie.Need-take-opt-float-requires
+take-opt-float-requires c κs = search needs
+
+take-opt-easing-requires : tie.Need-take-opt-easing-requires
+take-opt-easing-requires c κs = search needs
+
+returns : tie.Need-returns
+returns c =
+    let at-take-opt-easing = c .before in
+    let at-take-opt-float = at-take-opt-easing .before in
+    let at-take-span = at-take-opt-float .before in
+    laws.through toPreset ofPreset (laws.seen (at-take-span .take-span .ensures & at-take-opt-float .take-opt-float .ensures
+    & at-take-opt-easing .take-opt-easing .ensures)
+    (λ p e i. record { name = e i .0; duration = e i .1 .0; easing = e i .1 .1 }))
+
+pub take-preset-spec : {M : Type 1} → statement M
+take-preset-spec =
+    tie.close
+    (tie.spec take-span-requires take-opt-float-requires take-opt-easing-requires returns)

@@ -1,0 +1,24 @@
+-- `decode::optional::take_opt_damping` meets its contract: a byte 0, or 1 and the value. Assumes nothing.
+use mathlib.Core.Path.{refl}
+use borrow.Author.Needs.{needs}
+use Rattle.ast.specs.declared.OptDamping.the-variants.{Present}
+use Rattle.sheet.specs.Sheet.{dampingForm}
+use Rattle.decode.proofs.ReadLaws as laws
+use Rattle.decode.proofs.optional.take_opt_damping.Statement.{statement}
+use Rattle.decode.proofs.optional.take_opt_damping.Tie as tie
+
+take-byte-requires : tie.Need-take-byte-requires
+take-byte-requires c κs = search needs
+
+returns : tie.Need-returns
+returns c = laws.absent dampingForm (c .before .before .take-byte .ensures) (c .if1 .taken) refl
+
+take-damping-requires : tie.Need-take-damping-requires
+take-damping-requires c κs = search needs
+
+returns-2 : tie.Need-returns-2
+returns-2 c = laws.present dampingForm (c .before .before .before .take-byte .ensures) (c .before .if1 .left) (c .take-damping .ensures) (λ a e i. Present (e i))
+
+pub take-opt-damping-spec : {M : Type 1} → statement M
+take-opt-damping-spec =
+    tie.close (tie.spec take-byte-requires returns take-damping-requires returns-2)

@@ -1,0 +1,23 @@
+-- `decode::optional::take_opt_flag` meets its contract: a byte 0, or 1 and the value. Assumes nothing.
+use mathlib.Core.Path.{refl}
+use borrow.Author.Needs.{needs}
+use Rattle.ast.specs.declared.OptBool.the-variants.{Present}
+use Rattle.sheet.specs.Sheet.{flag}
+use Rattle.decode.proofs.ReadLaws as laws
+use Rattle.decode.proofs.optional.take_opt_flag.Statement.{statement}
+use Rattle.decode.proofs.optional.take_opt_flag.Tie as tie
+
+take-byte-requires : tie.Need-take-byte-requires
+take-byte-requires c κs = search needs
+
+returns : tie.Need-returns
+returns c = laws.absent flag (c .before .before .take-byte .ensures) (c .if1 .taken) refl
+
+take-flag-requires : tie.Need-take-flag-requires
+take-flag-requires c κs = search needs
+
+returns-2 : tie.Need-returns-2
+returns-2 c = laws.present flag (c .before .before .before .take-byte .ensures) (c .before .if1 .left) (c .take-flag .ensures) (λ a e i. Present (e i))
+
+pub take-opt-flag-spec : {M : Type 1} → statement M
+take-opt-flag-spec = tie.close (tie.spec take-byte-requires returns take-flag-requires returns-2)

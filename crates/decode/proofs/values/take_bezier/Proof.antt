@@ -1,0 +1,38 @@
+-- `decode::values::take_bezier` meets its contract: one field after the other. Assumes nothing.
+use borrow.Author.Needs.{needs}
+use Rattle.ast.specs.declared.EasingSpec.the-variants as easing
+use Rattle.decode.proofs.ReadLaws.{_&_}
+use Rattle.decode.proofs.ReadLaws as laws
+use Rattle.decode.proofs.values.take_bezier.Statement.{statement}
+use Rattle.decode.proofs.values.take_bezier.Tie as tie
+
+take-float-requires : tie.Need-take-float-requires
+take-float-requires c κs = search needs
+
+take-float-requires-2 : tie.Need-take-float-requires-2
+take-float-requires-2 c κs = search needs
+
+take-float-requires-3 : tie.Need-take-float-requires-3
+take-float-requires-3 c κs = search needs
+
+take-float-requires-4 : tie.Need-take-float-requires-4
+take-float-requires-4 c κs = search needs
+
+returns : tie.Need-returns
+returns c =
+    let at-take-float3 = c .before in
+    let at-take-float2 = at-take-float3 .before in
+    let at-take-float = at-take-float2 .before in
+    laws.seen (at-take-float .take-float .ensures & at-take-float2 .take-float2 .ensures & at-take-float3 .take-float3 .ensures
+    & c .take-float4 .ensures)
+    (λ p e i. easing.CubicBezier (e i .0) (e i .1 .0) (e i .1 .1 .0) (e i .1 .1 .1))
+
+pub take-bezier-spec : {M : Type 1} → statement M
+take-bezier-spec =
+    tie.close
+    (tie.spec
+    take-float-requires
+    take-float-requires-2
+    take-float-requires-3
+    take-float-requires-4
+    returns)

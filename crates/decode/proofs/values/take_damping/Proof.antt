@@ -1,0 +1,49 @@
+-- `decode::values::take_damping` meets its contract: one case a position. Assumes nothing.
+use native.Mathlib.Omega.{arith}
+use borrow.Author.Needs.{needs}
+use Rattle.ast.specs.declared.DampingMode.the-variants as damping
+use Rattle.sheet.specs.Sheet.{dampings, splitDamping}
+use Rattle.decode.proofs.ReadLaws.{_&_}
+use Rattle.decode.proofs.ReadLaws as laws
+use Rattle.decode.proofs.values.take_damping.Statement.{statement}
+use Rattle.decode.proofs.values.take_damping.Tie as tie
+
+take-byte-requires : tie.Need-take-byte-requires
+take-byte-requires c κs = search needs
+
+take-float-requires : tie.Need-take-float-requires
+take-float-requires c κs = search needs
+
+returns : tie.Need-returns
+returns c = laws.chosen dampings splitDamping 0 (c .before .before .take-byte .ensures .reads) (c .if1 .taken) (c .before .take-float .ensures) (λ x e i. damping.CriticallyDamped (e i))
+
+take-float-requires-2 : tie.Need-take-float-requires-2
+take-float-requires-2 c κs = search needs
+
+returns-2 : tie.Need-returns-2
+returns-2 c =
+    let at-take-float2 = c .before in
+    let at-take-float = at-take-float2 .before .before in
+    let at-take-byte = at-take-float .before in
+    laws.chosen dampings splitDamping 1 (at-take-byte .take-byte .ensures .reads) (c .if2 .taken) (at-take-float .take-float .ensures & at-take-float2 .take-float2 .ensures)
+    (λ x e i. damping.Overdamped (e i .0) (e i .1))
+
+returns-3 : tie.Need-returns-3
+returns-3 c =
+    let at-take-float2 = c .before in
+    let at-if1 = at-take-float2 .before in
+    let at-take-float = at-if1 .before in
+    let at-take-byte = at-take-float .before in
+    laws.chosen dampings splitDamping 2 (at-take-byte .take-byte .ensures .reads) (omega (arith, at-take-byte .take-byte .ensures .small, at-if1 .if1 .left, c .if2 .left))
+    (at-take-float .take-float .ensures & at-take-float2 .take-float2 .ensures) (λ x e i. damping.Underdamped (e i .0) (e i .1))
+
+pub take-damping-spec : {M : Type 1} → statement M
+take-damping-spec =
+    tie.close
+    (tie.spec
+    take-byte-requires
+    take-float-requires
+    returns
+    take-float-requires-2
+    returns-2
+    returns-3)

@@ -1,0 +1,163 @@
+-- `records::walk_node` and `records::walk_nodes` meet their contracts: a node is its record and then the nodes in it; bytes left fall from a node to the nodes in it. Assumes nothing.
+use Prim.Native.Nat.{_*_, _+_, _-_, _≤_, ℕ, _<_}
+use native.Mathlib.Omega.{arith}
+use lib.ListN.{length}
+use borrow.Author.Needs.{needs}
+use borrow.Fn.Kinds.{In}
+use borrow.Fn.PlainCycle.{Measures, is, falls, and}
+use Rattle.decode.specs.Reads.{passed}
+use Rattle.sheet.specs.Sheet.{inner}
+use Rattle.records.proofs.RecordLaws as records
+use Rattle.records.proofs.WalkLaws as walks
+use Rattle.decode.proofs.fields.lost.Reads as lost-reads
+use Rattle.records.proofs.+walk_node+walk_nodes.{statement}
+use Rattle.records.proofs.+walk_node+walk_nodes.Lts-walk_node as walk-node-lts
+use Rattle.records.proofs.+walk_node+walk_nodes.Lts-walk_nodes as walk-nodes-lts
+use Rattle.records.proofs.+walk_node+walk_nodes.Tie.{close}
+use Rattle.records.proofs.take_record.Reads as take-record-reads
+use Rattle.records.proofs.walk_node.Kinds as walk-node-kinds
+use Rattle.records.proofs.walk_node.Reads as walk-node
+use Rattle.records.proofs.walk_nodes.Kinds as walk-nodes-kinds
+use Rattle.records.proofs.walk_nodes.Reads as walk-nodes
+
+abbrev μ-walk-node : Measures 1 walk-node-kinds.ps ℕ
+μ-walk-node κs a = 2 * (length (a .0 .now) - a .1 .0)
+
+abbrev μ-walk-nodes : Measures 1 walk-nodes-kinds.ps ℕ
+μ-walk-nodes κs a = 2 * (length (a .0 .now) - a .1 .0) + 1
+
+abbrev walk-node-at : ℕ → In 1 walk-node-kinds.ps
+walk-node-at t = and 1 walk-node-kinds.ps (is 1 walk-node-kinds.ps μ-walk-node t) walk-node.Pre
+
+abbrev walk-node-below : ℕ → In 1 walk-node-kinds.ps
+walk-node-below t =
+    and 1 walk-node-kinds.ps (falls 1 walk-node-kinds.ps _<_ μ-walk-node t) walk-node.Pre
+
+abbrev walk-nodes-at : ℕ → In 1 walk-nodes-kinds.ps
+walk-nodes-at t =
+    and 1 walk-nodes-kinds.ps (is 1 walk-nodes-kinds.ps μ-walk-nodes t) walk-nodes.Pre
+
+abbrev walk-nodes-below : ℕ → In 1 walk-nodes-kinds.ps
+walk-nodes-below t =
+    and 1 walk-nodes-kinds.ps (falls 1 walk-nodes-kinds.ps _<_ μ-walk-nodes t) walk-nodes.Pre
+
+-- what the two know of the functions that they call
+abbrev node-calls : ℕ → walk-node-lts.Claims
+node-calls t = (lost-reads.Asked, lost-reads.Learnt, take-record-reads.Asked, take-record-reads.Learnt, walk-nodes-below t, walk-nodes.Post)
+
+abbrev nodes-calls : ℕ → walk-nodes-lts.Claims
+nodes-calls t = (walk-node-below t, walk-node.Post)
+
+walk-node-lost-requires : (t : ℕ) → walk-node-lts.Need-lost-requires (node-calls t) (walk-node-at t) walk-node.Post
+walk-node-lost-requires t c κs = search needs
+
+walk-node-returns : (t : ℕ) → walk-node-lts.Need-returns (node-calls t) (walk-node-at t) walk-node.Post
+walk-node-returns t c =
+    let at-if1 = c .before in
+    let start = at-if1 .before .before in
+    walks.node-end (start .args .n) (inner (start .args .n) (start .args .depth)) _ _ (at-if1 .if1 .taken) (c .lost .ensures)
+
+walk-node-take-record-requires : (t : ℕ) → walk-node-lts.Need-take-record-requires (node-calls t) (walk-node-at t) walk-node.Post
+walk-node-take-record-requires t c κs = search needs
+
+walk-node-enum-told : (t : ℕ) → walk-node-lts.Need-enum-told (node-calls t) (walk-node-at t) walk-node.Post
+walk-node-enum-told t c = search needs
+
+walk-node-enum-known-kind : (t : ℕ) → walk-node-lts.Need-enum-known-kind (node-calls t) (walk-node-at t) walk-node.Post
+walk-node-enum-known-kind t c = search needs
+
+walk-node-lost-requires-2 : (t : ℕ) → walk-node-lts.Need-lost-requires-2 (node-calls t) (walk-node-at t) walk-node.Post
+walk-node-lost-requires-2 t c κs = search needs
+
+walk-node-returns-2 : (t : ℕ) → walk-node-lts.Need-returns-2 (node-calls t) (walk-node-at t) walk-node.Post
+walk-node-returns-2 t c =
+    let at-if2 = c .before in
+    let at-kind = at-if2 .before .before in
+    let at-take-record = at-kind .before .before in
+    let start = at-take-record .before .before .before in
+    walks.too-deep (start .args .n) (start .args .depth) _ passed tt (at-if2 .if2 .taken) (rw (at-kind .kind .given .1) at (at-take-record .take-record .ensures)) (walks.is-container (at-kind .kind .given .0 .0)) (c .lost2 .ensures)
+
+walk-node-sub-walk-nodes : (t : ℕ) → walk-node-lts.Need-sub-walk-nodes (node-calls t) (walk-node-at t) walk-node.Post
+walk-node-sub-walk-nodes t c = search needs
+
+walk-node-walk-nodes-requires : (t : ℕ) → walk-node-lts.Need-walk-nodes-requires (node-calls t) (walk-node-at t) walk-node.Post
+walk-node-walk-nodes-requires t c κs =
+    let at-take-record = c .before .before .before .before in
+    let at-if1 = at-take-record .before in
+    let start = at-if1 .before .before in
+    (omega (arith, records.moves _ (at-take-record .take-record .ensures) (at-if1 .if1 .left), at-if1 .if1 .left, start .pre .0), tt)
+
+walk-node-returns-3 : (t : ℕ) → walk-node-lts.Need-returns-3 (node-calls t) (walk-node-at t) walk-node.Post
+walk-node-returns-3 t c =
+    let at-take-record = c .before .before in
+    let start = at-take-record .before .before .before in
+    walks.a-leaf (start .args .n) (start .args .depth) (rw (c .enum-told .given .1) at (at-take-record .take-record .ensures)) walks.is-leaf
+
+walk-node-returns-4 : (t : ℕ) → walk-node-lts.Need-returns-4 (node-calls t) (walk-node-at t) walk-node.Post
+walk-node-returns-4 t c =
+    let at-kind = c .before .before .before in
+    let at-take-record = at-kind .before .before in
+    let start = at-take-record .before .before .before in
+    walks.a-container (start .args .n) (start .args .depth) _ passed tt (omega arith) (rw (at-kind .kind .given .1) at (at-take-record .take-record .ensures)) (walks.is-container (at-kind .kind .given .0 .0)) (c .walk-nodes .ensures)
+
+abbrev walk-nodes-Inv-loop : walk-nodes-lts.InvT-loop
+walk-nodes-Inv-loop s at n depth count a₀ k₀ a k = (k ≤ count) × (length s - a ≤ length s - at) × walks.Going n (inner n depth) s at count a k
+
+abbrev walk-nodes-μ-loop : walk-nodes-lts.MeasureT-loop
+walk-nodes-μ-loop s at n depth count a₀ k₀ a k = count - k
+
+walk-nodes-loop-holds : (t : ℕ) → walk-nodes-lts.Need-loop-holds (nodes-calls t) (walk-nodes-at t) walk-nodes.Post walk-nodes-Inv-loop walk-nodes-μ-loop
+walk-nodes-loop-holds t c = (omega arith, omega arith, walks.going-start (c .before .args .n) (inner (c .before .args .n) (c .before .args .depth)) _ _ (c .before .args .count))
+
+walk-nodes-walk-node-requires : (t : ℕ) → walk-nodes-lts.Need-walk-node-requires (nodes-calls t) (walk-nodes-at t) walk-nodes.Post walk-nodes-Inv-loop walk-nodes-μ-loop
+walk-nodes-walk-node-requires t c κs = (omega (arith, c .before .before .before .pre .0, c .before .loop .inv), tt)
+
+walk-nodes-add-k : (t : ℕ) → walk-nodes-lts.Need-add-k (nodes-calls t) (walk-nodes-at t) walk-nodes.Post walk-nodes-Inv-loop walk-nodes-μ-loop
+walk-nodes-add-k t c = omega arith
+
+walk-nodes-loop-less : (t : ℕ) → walk-nodes-lts.Need-loop-less (nodes-calls t) (walk-nodes-at t) walk-nodes.Post walk-nodes-Inv-loop walk-nodes-μ-loop
+walk-nodes-loop-less t c = omega arith
+
+walk-nodes-loop-again : (t : ℕ) → walk-nodes-lts.Need-loop-again (nodes-calls t) (walk-nodes-at t) walk-nodes.Post walk-nodes-Inv-loop walk-nodes-μ-loop
+walk-nodes-loop-again t c =
+    let at-loop-test = c .before in
+    let at-loop = at-loop-test .before in
+    let start = at-loop .before .before in (
+      omega arith,
+      omega (arith, walks.nearer (c .walk-node .ensures), at-loop .loop .inv),
+      walks.going-next (start .args .n) (inner (start .args .n) (start .args .depth)) _ _ _ _ _ _ (at-loop-test .loop-test .taken) (c .walk-node .ensures) (at-loop .loop .inv .2),
+    )
+
+walk-nodes-returns : (t : ℕ) → walk-nodes-lts.Need-returns (nodes-calls t) (walk-nodes-at t) walk-nodes.Post walk-nodes-Inv-loop walk-nodes-μ-loop
+walk-nodes-returns t c =
+    let at-loop = c .before in
+    let start = at-loop .before .before in
+    walks.going-done (start .args .n) (inner (start .args .n) (start .args .depth)) _ _ _ _ _ (c .loop-test .left) (at-loop .loop .inv .2)
+
+pub +walk-node+walk-nodes-spec : {M : Type 1} → statement M
++walk-node+walk-nodes-spec = close μ-walk-node μ-walk-nodes (λ t. walk-node-lts.spec (node-calls t)
+    (walk-node-at t)
+    walk-node.Post
+    (walk-node-lost-requires t)
+    (walk-node-returns t)
+    (walk-node-take-record-requires t)
+    (walk-node-enum-told t)
+    (walk-node-enum-known-kind t)
+    (walk-node-lost-requires-2 t)
+    (walk-node-returns-2 t)
+    (walk-node-sub-walk-nodes t)
+    (walk-node-walk-nodes-requires t)
+    (walk-node-returns-3 t)
+    (walk-node-returns-4 t))
+    λ t. walk-nodes-lts.spec
+    (nodes-calls t)
+    (walk-nodes-at t)
+    walk-nodes.Post
+    walk-nodes-Inv-loop
+    walk-nodes-μ-loop
+    (walk-nodes-loop-holds t)
+    (walk-nodes-walk-node-requires t)
+    (walk-nodes-add-k t)
+    (walk-nodes-loop-less t)
+    (walk-nodes-loop-again t)
+    (walk-nodes-returns t)
