@@ -1,7 +1,7 @@
 -- Laws of the fields of `grid` and `random`, and of patterns. Assumes nothing.
 use Prim.Native.Nat.{ℕ}
 use Prim.Native.String.{String}
-use mathlib.Core.List.{List, [], _∷_}
+use mathlib.Core.List.{List, []}
 use mathlib.Core.Option.{Option}
 use mathlib.Core.Path.{_≡_, refl}
 use native.Mathlib.Omega.{arith}
@@ -18,7 +18,7 @@ use Rattle.encode.specs.Of.{Plain, optFloatOf, optWordOf, optCaseOf, patternOf}
 use Rattle.error.specs.declared.Refusal.{Refusal}
 use Rattle.error.specs.declared.Refusal.the-variants.{Malformed, StaggerGridIncomplete}
 use Rattle.grammar.specs.Rule.{Rule, refused, theByte, insideByte, leave, choiceIn}
-use Rattle.grammar.specs.Fields.{Fields, aNumber, last, pairs}
+use Rattle.grammar.specs.Fields.{aNumber, last, pairs}
 use Rattle.grammar.specs.Values.{f32Of}
 use Rattle.grammar.specs.Grammar.{parseGridOrigin, origin, gridFields, randomFields, randomPattern, patterns, parseStaggerPattern}
 use Rattle.cursor.specs.Means.{run, Took}

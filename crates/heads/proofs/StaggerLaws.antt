@@ -1,18 +1,18 @@
 -- Laws of the fields before the block of `stagger`, read in a loop. Assumes nothing.
-use Prim.Native.Nat.{ℕ, suc, _+_, _≤_, _<_}
+use Prim.Native.Nat.{ℕ, suc, _≤_, _<_}
 use Prim.Native.String.{String}
 use mathlib.Core.Bool.{true, false}
 use mathlib.Core.List.{List}
 use mathlib.Core.Option.{Option, none, some}
-use mathlib.Core.Path.{_≡_, refl, _∙_}
+use mathlib.Core.Path.{_≡_, refl}
 use native.Mathlib.Omega.{arith}
 use lib.ListN.{length}
 use Rattle.text.specs.Words.{under}
 use Rattle.token.specs.Token.{Token}
 use Rattle.ast.specs.Tree.{StaggerPatternSpec, stagger}
 use Rattle.error.specs.declared.Refusal.{Refusal}
-use Rattle.error.specs.declared.Refusal.the-variants.{Missing, UnknownKeyword}
-use Rattle.grammar.specs.Rule.{Notes, Out, got, refused, after, Rule, _>>=_, _>>_, give, need, seesByte, theByte, eat, eatByte, word, choiceIn, Next, steps, repeat, goOn}
+use Rattle.error.specs.declared.Refusal.the-variants.{UnknownKeyword}
+use Rattle.grammar.specs.Rule.{Notes, Out, got, refused, after, Rule, _>>=_, _>>_, give, need, seesByte, theByte, eat, eatByte, word, choiceIn, Next, repeat, goOn}
 use Rattle.grammar.specs.Grammar.{Opening, openingFields, openingField, openingStep, parseStagger}
 use Rattle.cursor.specs.Means.{Ready, notes, tokens, run, Took}
 use Rattle.cursor.specs.declared.Cursor.{Cursor}
@@ -22,7 +22,7 @@ use Rattle.heads.specs.Means.{namesOf, openingOf, oneOpening, OpeningMea
 use Rattle.heads.specs.declared.Opening as openings
 use Rattle.heads.specs.declared.OpeningRead.{OpeningRead}
 use Rattle.heads.specs.declared.OpeningRead.the-variants as read
-use Rattle.heads.proofs.NameLaws.{unnamed, named-row, named-took, named-refused}
+use Rattle.heads.proofs.NameLaws.{named-row, named-took, named-refused}
 use Rattle.heads.proofs.RowLaws.{Each, by-row}
 
 -- ---- a field

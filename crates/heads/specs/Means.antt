@@ -13,7 +13,7 @@ use Rattle.ast.specs.Tree as tree
 use Rattle.ast.specs.declared.OptF32.{OptF32}
 use Rattle.encode.specs.Of.{Plain, PlainPattern, PlainOptFloat, PlainOptPattern, patternOf, optFloatOf, optWordOf, optCaseOf, optPatternOf}
 use Rattle.error.specs.declared.Refusal.{Refusal}
-use Rattle.error.specs.declared.Refusal.the-variants.{Malformed, UnknownKeyword, StaggerGridIncomplete}
+use Rattle.error.specs.declared.Refusal.the-variants.{UnknownKeyword, StaggerGridIncomplete}
 use Rattle.grammar.specs.Rule.{refused, Rule, _>>=_, give, need, word}
 use Rattle.grammar.specs.Fields.{Content, Fields, Table, pairs, numberOf}
 use Rattle.grammar.specs.Grammar.{parseGroup, parseGridOrigin, gridFields, randomFields, patterns, Opening, openingFields, parseStagger}

@@ -135,25 +135,12 @@ fn grid_field(text: &[u8], c: Cursor, f: GridFields, i: usize) -> GridRead
     match cursor::parse_uint(text, c) {
         UintRead::Refused(r, p) => GridRead::Refused(r, p),
         UintRead::Is(n, m) => {
-            let count = OptU32::Present(n);
             if i == 0 {
-                return GridRead::Is(
-                    GridFields {
-                        cols: count,
-                        rows,
-                        origin,
-                    },
-                    m,
-                );
+                let cols = OptU32::Present(n);
+                return GridRead::Is(GridFields { cols, rows, origin }, m);
             }
-            GridRead::Is(
-                GridFields {
-                    cols,
-                    rows: count,
-                    origin,
-                },
-                m,
-            )
+            let rows = OptU32::Present(n);
+            GridRead::Is(GridFields { cols, rows, origin }, m)
         }
     }
 }
@@ -269,25 +256,12 @@ fn random_field(text: &[u8], c: Cursor, f: RandomFields, i: usize) -> RandomRead
     match cursor::parse_float(text, c) {
         FloatRead::Refused(r, p) => RandomRead::Refused(r, p),
         FloatRead::Is(x, m) => {
-            let number = OptF32::Present(x);
             if i == 1 {
-                return RandomRead::Is(
-                    RandomFields {
-                        seed,
-                        min: number,
-                        max,
-                    },
-                    m,
-                );
+                let min = OptF32::Present(x);
+                return RandomRead::Is(RandomFields { seed, min, max }, m);
             }
-            RandomRead::Is(
-                RandomFields {
-                    seed,
-                    min,
-                    max: number,
-                },
-                m,
-            )
+            let max = OptF32::Present(x);
+            RandomRead::Is(RandomFields { seed, min, max }, m)
         }
     }
 }

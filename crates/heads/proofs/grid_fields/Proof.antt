@@ -7,7 +7,6 @@ use Rattle.grammar.specs.Grammar.{gridFields}
 use lib.ListN.{length}
 use borrow.Author.Needs.{needs}
 use borrow.Author.Tests.{not-false, not-true}
-use Rattle.grammar.specs.Rule.{text}
 use lib.Dec.{lit<}
 use Rattle.heads.proofs.grid_fields.Statement.{statement}
 use Rattle.heads.proofs.grid_fields.Tie as tie

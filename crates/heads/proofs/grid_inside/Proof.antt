@@ -1,4 +1,3 @@
-use Rattle.text.specs.Bytes.{at}
 use Rattle.heads.specs.Means.{gridInside}
 use Rattle.heads.proofs.HeadLaws.{no-cols, no-rows, took-grid}
 use borrow.Author.Needs.{needs}

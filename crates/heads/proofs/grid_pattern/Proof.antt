@@ -1,4 +1,3 @@
-use Rattle.text.specs.Bytes.{at}
 use Rattle.heads.specs.Means.{gridInside}
 use Rattle.grammar.specs.Grammar.{gridPattern}
 use Rattle.values.proofs.ValueLaws.{inside-any, inside-missing, inside-refused}

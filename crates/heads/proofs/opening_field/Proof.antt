@@ -1,4 +1,3 @@
-use Rattle.text.specs.Bytes.{at}
 use Rattle.text.specs.Words.{entries}
 use Rattle.heads.proofs.StaggerLaws.{named-opening}
 use Rattle.grammar.specs.Grammar.{openingFields}

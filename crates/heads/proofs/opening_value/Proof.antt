@@ -1,11 +1,9 @@
-use Rattle.heads.proofs.StaggerLaws.{withDelay, withPattern}
+use Rattle.heads.proofs.StaggerLaws.{by-opening, marked-refused, marked-took, withDelay, withPattern}
 use Rattle.ast.specs.declared.OptF32.the-variants as optFloat
 use Rattle.ast.specs.declared.OptPattern.the-variants as optPattern
 use Rattle.error.specs.declared.Refusal.the-variants.{Missing}
 use Rattle.heads.specs.declared.OpeningRead.the-variants.{Is, Refused}
 use native.Mathlib.Omega.{arith}
-use Rattle.text.specs.Bytes.{at}
-use Rattle.heads.proofs.StaggerLaws.{by-opening, marked-refused, marked-took}
 use Rattle.grammar.specs.Grammar.{openingFields, parseStaggerPattern}
 use Rattle.heads.specs.Means.{openingOf}
 use Rattle.grammar.specs.Values.{parseFloat}

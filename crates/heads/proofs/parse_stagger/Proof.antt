@@ -2,12 +2,10 @@ use Prim.Native.Nat.{_-_}
 use Rattle.heads.proofs.StaggerLaws.{Opened, opened-block, opened-last, opened-more, opened-moves, opened-refused, opened-start}
 use Rattle.heads.specs.Means.{PlainOpening, openingOf}
 use native.Mathlib.Omega.{arith}
-use Rattle.text.specs.Bytes.{at}
 use lib.ListN.{length}
 use borrow.Author.Needs.{needs}
 use borrow.Author.Tests.{not-false, not-true}
 use mathlib.Core.Path.{sym, _∙_}
-use Rattle.grammar.specs.Rule.{text}
 use lib.Dec.{lit<}
 use Rattle.heads.proofs.parse_stagger.Statement.{statement}
 use Rattle.heads.proofs.parse_stagger.Tie as tie

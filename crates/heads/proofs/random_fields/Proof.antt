@@ -7,7 +7,6 @@ use borrow.Author.Needs.{needs}
 use borrow.Author.Tests.{not-false, not-true}
 use Rattle.heads.proofs.HeadLaws.{random-none}
 use Rattle.grammar.specs.Grammar.{randomFields}
-use Rattle.grammar.specs.Rule.{text}
 use lib.Dec.{lit<}
 use Rattle.heads.proofs.random_fields.Statement.{statement}
 use Rattle.heads.proofs.random_fields.Tie as tie

@@ -1,12 +1,8 @@
-use Rattle.heads.proofs.HeadLaws.{nought, tenth}
+use Rattle.heads.proofs.HeadLaws.{no-random, nought, tenth, took-random}
 use lib.Ieee.{isNan, ofBits}
-use Rattle.text.specs.Bytes.{at}
-use Rattle.grammar.specs.Values.{f32Of}
 use Rattle.values.proofs.ValueLaws.{inside-missing, inside-refused}
-use Rattle.heads.proofs.HeadLaws.{no-random, took-random}
 use Rattle.grammar.specs.Fields.{pairs}
 use Rattle.grammar.specs.Grammar.{randomFields}
-use mathlib.Core.Path.{refl}
 use borrow.Author.Needs.{needs}
 use Rattle.heads.proofs.random_pattern.Statement.{statement}
 use Rattle.heads.proofs.random_pattern.Tie as tie
