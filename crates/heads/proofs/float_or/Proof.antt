@@ -6,19 +6,15 @@ use Rattle.heads.proofs.float_or.Tie as tie
 use Rattle.heads.proofs.float_or.Reads as reads
 use Rattle.heads.proofs.float_or.Lts as lts
 
--- src/lib.rt:84:27
 enum-told : tie.Need-enum-told
 enum-told c = search needs
 
--- src/lib.rt:85:25
 enum-known-o : tie.Need-enum-known-o
 enum-known-o c = search needs
 
--- src/lib.rt:80:1
 returns : tie.Need-returns
 returns c = rw (c .enum-told .given .1) (record { is = refl; plain = λ o d. d })
 
--- src/lib.rt:80:1
 returns-2 : tie.Need-returns-2
 returns-2 c = rw (c .before .o .given .1) (record { is = refl; plain = λ o d. o })
 

@@ -8,52 +8,40 @@ use Rattle.heads.proofs.grid_inside.Lts as lts
 use Rattle.heads.proofs.case_or.Reads as case-or-reads
 use Rattle.heads.proofs.grid_fields.Reads as grid-fields-reads
 
--- src/lib.rt:188:11
 grid-fields-requires : tie.Need-grid-fields-requires
 grid-fields-requires c κs = search needs
 
--- src/lib.rt:189:27
 enum-known-r : tie.Need-enum-known-r
 enum-known-r c = search needs
 
--- src/lib.rt:190:22
 enum-known-f : tie.Need-enum-known-f
 enum-known-f c = search needs
 
--- src/lib.rt:193:33
 enum-known-counted : tie.Need-enum-known-counted
 enum-known-counted c = search needs
 
--- src/lib.rt:194:45
 enum-told : tie.Need-enum-told
 enum-told c = search needs
 
--- src/lib.rt:194:17
 returns : tie.Need-returns
 returns c = no-cols (c .before .before .before .before .before .before .before .before .args .text .now) (c .before .before .before .before .before .before .before .before .args .c) _ (c .before .before .before .before .f .given .0 .0) (rw (c .before .before .before .before .f .given .1) at (c .before .before .before .before .before .before .grid-fields .ensures)) (c .enum-told .given .1)
 
--- src/lib.rt:197:33
 enum-known-counted-rows : tie.Need-enum-known-counted-rows
 enum-known-counted-rows c = search needs
 
--- src/lib.rt:198:45
 enum-told-2 : tie.Need-enum-told-2
 enum-told-2 c = search needs
 
--- src/lib.rt:198:17
 returns-2 : tie.Need-returns-2
 returns-2 c = no-rows (c .before .before .before .before .before .before .before .before .before .before .before .args .text .now) (c .before .before .before .before .before .before .before .before .before .before .before .args .c) _ (c .before .before .before .before .before .before .before .f .given .0 .0) (rw (c .before .before .before .before .before .before .before .f .given .1) at (c .before .before .before .before .before .before .before .before .before .grid-fields .ensures)) _ (c .before .before .before .counted .given .1) (c .enum-told2 .given .1)
 
--- src/lib.rt:201:17
 case-or-requires : tie.Need-case-or-requires
 case-or-requires c κs = search needs
 
--- src/lib.rt:184:1
 returns-3 : tie.Need-returns-3
 unfolding gridInside
 returns-3 c = let h = rw (c .before .r .given .1) at (c .before .before .before .grid-fields .ensures) in rw h
 
--- src/lib.rt:184:1
 returns-4 : tie.Need-returns-4
 returns-4 c = (took-grid (c .before .before .before .before .before .before .before .before .before .before .before .before .before .args .text .now) (c .before .before .before .before .before .before .before .before .before .before .before .before .before .args .c) _ (c .before .before .before .before .before .before .before .before .before .f .given .0 .0) (rw (c .before .before .before .before .before .before .before .before .before .f .given .1) at (c .before .before .before .before .before .before .before .before .before .before .before .grid-fields .ensures)) _ _ _ (c .before .before .before .before .before .counted .given .1) (c .before .before .counted-rows .given .1) (c .case-or .ensures), tt)
 

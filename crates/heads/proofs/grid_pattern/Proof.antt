@@ -10,45 +10,35 @@ use Rattle.cursor.proofs.leave_group.Reads as leave-group-reads
 use Rattle.cursor.proofs.mark.Reads as mark-reads
 use Rattle.heads.proofs.grid_inside.Reads as grid-inside-reads
 
--- src/lib.rt:212:11
 mark-requires : tie.Need-mark-requires
 mark-requires c κs = search needs
 
--- src/lib.rt:213:27
 enum-known-p : tie.Need-enum-known-p
 enum-known-p c = search needs
 
--- src/lib.rt:214:22
 enum-known-m : tie.Need-enum-known-m
 enum-known-m c = search needs
 
--- src/lib.rt:214:34
 grid-inside-requires : tie.Need-grid-inside-requires
 grid-inside-requires c κs = (rw (c .before .m .given .1) at (c .before .before .before .mark .ensures)) .ready
 
--- src/lib.rt:215:34
 enum-known-r : tie.Need-enum-known-r
 enum-known-r c = search needs
 
--- src/lib.rt:216:29
 enum-known-x : tie.Need-enum-known-x
 enum-known-x c = search needs
 
--- src/lib.rt:216:57
 leave-group-requires : tie.Need-leave-group-requires
 leave-group-requires c κs = (rw (c .before .x .given .1) at (c .before .before .before .grid-inside .ensures)) .0 .ready
 
--- src/lib.rt:208:1
 returns : tie.Need-returns
 unfolding gridPattern gridInside
 returns c = inside-missing (c .before .before .before .before .before .args .text .now) 40 gridInside (c .before .before .before .before .before .args .c) _ (rw (c .before .p .given .1) at (c .before .before .before .mark .ensures))
 
--- src/lib.rt:208:1
 returns-2 : tie.Need-returns-2
 unfolding gridPattern gridInside
 returns-2 c = inside-refused (c .before .before .before .before .before .before .before .before .before .args .text .now) 40 gridInside (c .before .before .before .before .before .before .before .before .before .args .c) _ (rw (c .before .before .before .before .before .m .given .1) at (c .before .before .before .before .before .before .before .mark .ensures)) _ _ (rw (c .before .r .given .1) at (c .before .before .before .grid-inside .ensures))
 
--- src/lib.rt:208:1
 returns-3 : tie.Need-returns-3
 unfolding gridPattern gridInside
 returns-3 c =

@@ -15,30 +15,24 @@ use Rattle.heads.proofs.named_pattern.Lts as lts
 use Rattle.heads.proofs.grid_pattern.Reads as grid-pattern-reads
 use Rattle.heads.proofs.random_pattern.Reads as random-pattern-reads
 
--- src/lib.rt:335:14
 grid-pattern-requires : tie.Need-grid-pattern-requires
 grid-pattern-requires c κs = search needs
 
--- src/lib.rt:336:14
 random-pattern-requires : tie.Need-random-pattern-requires
 random-pattern-requires c κs = search needs
 
--- src/lib.rt:330:1
 returns : tie.Need-returns
 unfolding patterns
 returns c = by-pattern (c .before .before .before .args .text .now) (c .before .before .before .args .c) (c .before .before .before .args .i) (c .grid-pattern .result) (λ z. any-pattern (c .before .before .before .args .text .now) (c .before .before .before .args .c) gridPattern (c .grid-pattern .result) (c .grid-pattern .ensures), (λ z. absurd (omega arith), (λ z. absurd (omega arith), (λ z. absurd (omega arith), tt))))
 
--- src/lib.rt:330:1
 returns-2 : tie.Need-returns-2
 unfolding patterns
 returns-2 c = by-pattern (c .before .before .before .args .text .now) (c .before .before .before .args .c) (c .before .before .before .args .i) (c .random-pattern .result) (λ z. absurd (omega arith), (λ z. any-pattern (c .before .before .before .args .text .now) (c .before .before .before .args .c) randomPattern (c .random-pattern .result) (c .random-pattern .ensures), (λ z. absurd (omega arith), (λ z. absurd (omega arith), tt))))
 
--- src/lib.rt:330:1
 returns-3 : tie.Need-returns-3
 unfolding patterns
 returns-3 c = by-pattern (c .before .before .args .text .now) (c .before .before .args .c) (c .before .before .args .i) (Is CenterOut (c .before .before .args .c)) (λ z. absurd (omega arith), (λ z. absurd (omega arith), (λ z. (stays (c .before .before .args .text .now) (c .before .before .args .c) (c .before .before .pre) (give centerOut) centerOut refl, tt), (λ z. absurd (omega arith), tt))))
 
--- src/lib.rt:330:1
 returns-4 : tie.Need-returns-4
 unfolding patterns
 returns-4 c = by-pattern (c .before .before .args .text .now) (c .before .before .args .c) (c .before .before .args .i) (Is EdgesIn (c .before .before .args .c)) (λ z. absurd (omega arith), (λ z. absurd (omega arith), (λ z. absurd (omega arith), (λ z. (stays (c .before .before .args .text .now) (c .before .before .args .c) (c .before .before .pre) (give edgesIn) edgesIn refl, tt), tt))))

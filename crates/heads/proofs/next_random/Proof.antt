@@ -8,15 +8,12 @@ use Rattle.heads.proofs.next_random.Reads as reads
 use Rattle.heads.proofs.next_random.Lts as lts
 use Rattle.fields.proofs.next_pair.Reads as next-pair-reads
 
--- src/lib.rt:270:32
 slice-aggregate-next-pair : tie.Need-slice-aggregate-next-pair
 slice-aggregate-next-pair c = search needs
 
--- src/lib.rt:270:5
 next-pair-requires : tie.Need-next-pair-requires
 next-pair-requires c κs = search needs
 
--- src/lib.rt:266:1
 returns : tie.Need-returns
 unfolding randomFields entries
 returns c = c .next-pair .ensures randomFields refl

@@ -12,32 +12,25 @@ use Rattle.heads.proofs.opening_field.Lts as lts
 use Rattle.cursor.proofs.choice.Reads as choice-reads
 use Rattle.heads.proofs.opening_value.Reads as opening-value-reads
 
--- src/lib.rt:400:35
 slice-aggregate-choice : tie.Need-slice-aggregate-choice
 slice-aggregate-choice c = search needs
 
--- src/lib.rt:400:11
 choice-requires : tie.Need-choice-requires
 choice-requires c κs = search needs
 
--- src/lib.rt:401:27
 enum-known-r : tie.Need-enum-known-r
 enum-known-r c = search needs
 
--- src/lib.rt:402:22
 enum-known-i : tie.Need-enum-known-i
 enum-known-i c = search needs
 
--- src/lib.rt:402:31
 opening-value-requires : tie.Need-opening-value-requires
 opening-value-requires c κs = ((rw (c .before .i .given .1) at (c .before .before .before .choice .ensures)) .ready, c .before .before .before .before .before .before .pre .1)
 
--- src/lib.rt:396:1
 returns : tie.Need-returns
 unfolding openingFields entries
 returns c = unnamed (c .before .before .before .before .before .before .args .text .now) (c .before .before .before .before .before .before .args .c) UnknownKeyword (openingFields (openingOf (c .before .before .before .before .before .before .args .f))) _ _ (rw (c .before .r .given .1) at (c .before .before .before .choice .ensures))
 
--- src/lib.rt:396:1
 returns-2 : tie.Need-returns-2
 unfolding openingFields entries
 returns-2 c = named-opening (c .before .before .before .before .before .before .before .args .text .now) (c .before .before .before .before .before .before .before .args .c) _ (c .before .before .before .before .before .before .before .args .f) _ (c .opening-value .result) (rw (c .before .before .i .given .1) at (c .before .before .before .before .choice .ensures)) (c .opening-value .ensures)

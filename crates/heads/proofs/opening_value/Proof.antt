@@ -16,38 +16,30 @@ use Rattle.cursor.proofs.mark.Reads as mark-reads
 use Rattle.cursor.proofs.parse_float.Reads as parse-float-reads
 use Rattle.heads.proofs.parse_stagger_pattern.Reads as parse-stagger-pattern-reads
 
--- src/lib.rt:372:11
 mark-requires : tie.Need-mark-requires
 mark-requires c κs = search needs
 
--- src/lib.rt:373:27
 enum-known-p : tie.Need-enum-known-p
 enum-known-p c = search needs
 
--- src/lib.rt:374:22
 enum-known-m : tie.Need-enum-known-m
 enum-known-m c = search needs
 
--- src/lib.rt:376:30
 parse-stagger-pattern-requires : tie.Need-parse-stagger-pattern-requires
 parse-stagger-pattern-requires c κs = (rw (c .before .before .m .given .1) at (c .before .before .before .before .mark .ensures)) .ready
 
--- src/lib.rt:377:42
 enum-known-r : tie.Need-enum-known-r
 enum-known-r c = search needs
 
--- src/lib.rt:378:37
 enum-known-x : tie.Need-enum-known-x
 enum-known-x c = search needs
 
--- src/lib.rt:376:17
 returns : tie.Need-returns
 unfolding openingFields
 returns c =
     let h = marked-refused (c .before .before .before .before .before .before .before .before .before .before .args .text .now) 58 parseStaggerPattern (withPattern (openingOf (c .before .before .before .before .before .before .before .before .before .before .args .f))) (c .before .before .before .before .before .before .before .before .before .before .args .c) _ (rw (c .before .before .before .before .before .before .m .given .1) at (c .before .before .before .before .before .before .before .before .mark .ensures)) _ _ (rw (c .before .r .given .1) at (c .before .before .before .parse-stagger-pattern .ensures)) in
     by-opening (c .before .before .before .before .before .before .before .before .before .before .args .text .now) (c .before .before .before .before .before .before .before .before .before .before .args .c) (c .before .before .before .before .before .before .before .before .before .before .args .f) (c .before .before .before .before .before .before .before .before .before .before .args .i) (Refused (c .before .r .given .0 .0) (c .before .r .given .0 .1 .0)) (λ z. h, (λ z. absurd (omega arith), tt))
 
--- src/lib.rt:376:17
 returns-2 : tie.Need-returns-2
 unfolding openingFields
 returns-2 c =
@@ -55,33 +47,27 @@ returns-2 c =
     let h = marked-took (c .before .before .before .before .before .before .before .before .before .before .args .text .now) 58 parseStaggerPattern (withPattern (openingOf (c .before .before .before .before .before .before .before .before .before .before .args .f))) (c .before .before .before .before .before .before .before .before .before .before .args .c) _ (rw (c .before .before .before .before .before .before .m .given .1) at (c .before .before .before .before .before .before .before .before .mark .ensures)) _ _ (t .0) in
     by-opening (c .before .before .before .before .before .before .before .before .before .before .args .text .now) (c .before .before .before .before .before .before .before .before .before .before .args .c) (c .before .before .before .before .before .before .before .before .before .before .args .f) (c .before .before .before .before .before .before .before .before .before .before .args .i) (Is (record { pattern = optPattern.Present (c .before .x .given .0 .0); delay = c .before .before .before .before .before .before .before .before .before .before .args .f .delay }) (c .before .x .given .0 .1 .0)) (λ z. (h, (t .1, c .before .before .before .before .before .before .before .before .before .before .pre .1 .1)), (λ z. absurd (omega arith), tt))
 
--- src/lib.rt:384:19
 parse-float-requires : tie.Need-parse-float-requires
 parse-float-requires c κs = (rw (c .before .before .m .given .1) at (c .before .before .before .before .mark .ensures)) .ready
 
--- src/lib.rt:385:36
 enum-known-r-2 : tie.Need-enum-known-r-2
 enum-known-r-2 c = search needs
 
--- src/lib.rt:386:31
 enum-known-x-2 : tie.Need-enum-known-x-2
 enum-known-x-2 c = search needs
 
--- src/lib.rt:366:1
 returns-3 : tie.Need-returns-3
 unfolding openingFields
 returns-3 c =
     let h = rw (c .before .p .given .1) at (c .before .before .before .mark .ensures) in
     by-opening (c .before .before .before .before .before .args .text .now) (c .before .before .before .before .before .args .c) (c .before .before .before .before .before .args .f) (c .before .before .before .before .before .args .i) (Refused Missing (c .before .p .given .0 .0)) (λ z. rw h, (λ z. rw h, tt))
 
--- src/lib.rt:366:1
 returns-4 : tie.Need-returns-4
 unfolding openingFields
 returns-4 c =
     let h = marked-refused (c .before .before .before .before .before .before .before .before .before .before .args .text .now) 58 parseFloat (withDelay (openingOf (c .before .before .before .before .before .before .before .before .before .before .args .f))) (c .before .before .before .before .before .before .before .before .before .before .args .c) _ (rw (c .before .before .before .before .before .before .m .given .1) at (c .before .before .before .before .before .before .before .before .mark .ensures)) _ _ (rw (c .before .r2 .given .1) at (c .before .before .before .parse-float .ensures)) in
     by-opening (c .before .before .before .before .before .before .before .before .before .before .args .text .now) (c .before .before .before .before .before .before .before .before .before .before .args .c) (c .before .before .before .before .before .before .before .before .before .before .args .f) (c .before .before .before .before .before .before .before .before .before .before .args .i) (Refused (c .before .r2 .given .0 .0) (c .before .r2 .given .0 .1 .0)) (λ z. absurd (c .before .before .before .before .if1 .left z), (λ z. h, tt))
 
--- src/lib.rt:366:1
 returns-5 : tie.Need-returns-5
 unfolding openingFields
 returns-5 c =

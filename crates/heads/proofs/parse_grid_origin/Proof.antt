@@ -10,33 +10,26 @@ use Rattle.heads.proofs.parse_grid_origin.Reads as reads
 use Rattle.heads.proofs.parse_grid_origin.Lts as lts
 use Rattle.cursor.proofs.choice.Reads as choice-reads
 
--- src/lib.rt:97:35
 slice-aggregate-choice : tie.Need-slice-aggregate-choice
 slice-aggregate-choice c = search needs
 
--- src/lib.rt:97:11
 choice-requires : tie.Need-choice-requires
 choice-requires c κs = search needs
 
--- src/lib.rt:98:27
 enum-known-r : tie.Need-enum-known-r
 enum-known-r c = search needs
 
--- src/lib.rt:99:22
 enum-known-i : tie.Need-enum-known-i
 enum-known-i c = search needs
 
--- src/lib.rt:99:46
 cast-t13 : tie.Need-cast-t13
 unfolding entries
 cast-t13 c = let b = choice-below (c .before .before .before .before .before .before .args .text .now) (c .before .before .before .before .before .before .args .c) _ Malformed _ _ (rw (c .before .i .given .1) at (c .before .before .before .choice .ensures)) in omega arith
 
--- src/lib.rt:93:1
 returns : tie.Need-returns
 unfolding parseGridOrigin entries
 returns c = rw (c .before .r .given .1) at (c .before .before .before .choice .ensures)
 
--- src/lib.rt:93:1
 returns-2 : tie.Need-returns-2
 unfolding parseGridOrigin entries
 returns-2 c =

@@ -10,33 +10,26 @@ use Rattle.heads.proofs.parse_group.Reads as reads
 use Rattle.heads.proofs.parse_group.Lts as lts
 use Rattle.cursor.proofs.choice.Reads as choice-reads
 
--- src/lib.rt:54:35
 slice-aggregate-choice : tie.Need-slice-aggregate-choice
 slice-aggregate-choice c = search needs
 
--- src/lib.rt:54:11
 choice-requires : tie.Need-choice-requires
 choice-requires c κs = search needs
 
--- src/lib.rt:55:27
 enum-known-r : tie.Need-enum-known-r
 enum-known-r c = search needs
 
--- src/lib.rt:56:22
 enum-known-i : tie.Need-enum-known-i
 enum-known-i c = search needs
 
--- src/lib.rt:56:45
 cast-t13 : tie.Need-cast-t13
 unfolding entries
 cast-t13 c = let b = choice-below (c .before .before .before .before .before .before .args .text .now) (c .before .before .before .before .before .before .args .c) _ Malformed _ _ (rw (c .before .i .given .1) at (c .before .before .before .choice .ensures)) in omega arith
 
--- src/lib.rt:50:1
 returns : tie.Need-returns
 unfolding parseGroup entries
 returns c = let h = rw (c .before .r .given .1) at (c .before .before .before .choice .ensures) in rw h
 
--- src/lib.rt:50:1
 returns-2 : tie.Need-returns-2
 unfolding parseGroup entries
 returns-2 c =

@@ -21,43 +21,34 @@ Inv-loop text m₀ f₀ m f = Opened text m₀ m (openingOf f) × PlainOpening f
 abbrev μ-loop : tie.MeasureT-loop
 μ-loop text m₀ f₀ m f = length text - m .at
 
--- src/lib.rt:415:5
 loop-holds : tie.Need-loop-holds Inv-loop μ-loop
 loop-holds c = (opened-start (c .before .args .text .now) (c .before .args .c) (c .before .pre), (tt, tt))
 
--- src/lib.rt:416:12
 sees-requires : tie.Need-sees-requires Inv-loop μ-loop
 sees-requires c κs = search needs
 
--- src/lib.rt:419:13
 returns : tie.Need-returns Inv-loop μ-loop
 returns c =
     let e = sym (c .before .sees .ensures (c .before .before .before .before .args .text .now) (c .before .before .loop .inv .0 .ready)) ∙ c .if1 .taken in
     (opened-block (c .before .before .before .before .args .text .now) (c .before .before .before .before .args .c) (c .before .before .loop .m) (openingOf (c .before .before .loop .f)) (c .before .before .loop .inv .0) e, c .before .before .loop .inv .1 .0, c .before .before .loop .inv .1 .1)
 
--- src/lib.rt:421:15
 opening-field-requires : tie.Need-opening-field-requires Inv-loop μ-loop
 opening-field-requires c κs = (c .before .before .loop .inv .0 .ready, c .before .before .loop .inv .1)
 
--- src/lib.rt:422:34
 enum-known-r : tie.Need-enum-known-r Inv-loop μ-loop
 enum-known-r c = search needs
 
--- src/lib.rt:422:43
 returns-2 : tie.Need-returns-2 Inv-loop μ-loop
 returns-2 c =
     let e = sym (c .before .before .before .before .before .sees .ensures (c .before .before .before .before .before .before .before .before .args .text .now) (c .before .before .before .before .before .before .loop .inv .0 .ready)) ∙ c .before .before .before .before .if1 .left in
     opened-refused (c .before .before .before .before .before .before .before .before .args .text .now) (c .before .before .before .before .before .before .before .before .args .c) (c .before .before .before .before .before .before .loop .m) (openingOf (c .before .before .before .before .before .before .loop .f)) (c .before .before .before .before .before .before .loop .inv .0) e _ _ (rw (c .before .r .given .1) at (c .before .before .before .opening-field .ensures))
 
--- src/lib.rt:423:29
 enum-known-g : tie.Need-enum-known-g Inv-loop μ-loop
 enum-known-g c = search needs
 
--- src/lib.rt:424:21
 eat-requires : tie.Need-eat-requires Inv-loop μ-loop
 eat-requires c κs = ((rw (c .before .g .given .1) at (c .before .before .before .opening-field .ensures)) .0 .ready, lit< tt)
 
--- src/lib.rt:429:21
 returns-3 : tie.Need-returns-3 Inv-loop μ-loop
 returns-3 c =
     let e = sym (c .before .before .before .before .before .before .before .before .before .sees .ensures (c .before .before .before .before .before .before .before .before .before .before .before .before .args .text .now) (c .before .before .before .before .before .before .before .before .before .before .loop .inv .0 .ready)) ∙ c .before .before .before .before .before .before .before .before .if1 .left in
@@ -65,7 +56,6 @@ returns-3 c =
     let z = rw (not-true (c .before .before .before .eat .result .taken) (c .if2 .taken)) at (c .before .before .before .eat .ensures) in
     (opened-last (c .before .before .before .before .before .before .before .before .before .before .before .before .args .text .now) (c .before .before .before .before .before .before .before .before .before .before .before .before .args .c) (c .before .before .before .before .before .before .before .before .before .before .loop .m) (openingOf (c .before .before .before .before .before .before .before .before .before .before .loop .f)) (c .before .before .before .before .before .before .before .before .before .before .loop .inv .0) e _ (c .before .before .before .eat .result .next) _ (y .0) z, y .1 .0, y .1 .1)
 
--- src/lib.rt:415:5
 loop-less : tie.Need-loop-less Inv-loop μ-loop
 loop-less c =
     let e = sym (c .before .before .before .before .before .before .before .before .before .sees .ensures (c .before .before .before .before .before .before .before .before .before .before .before .before .args .text .now) (c .before .before .before .before .before .before .before .before .before .before .loop .inv .0 .ready)) ∙ c .before .before .before .before .before .before .before .before .if1 .left in
@@ -74,7 +64,6 @@ loop-less c =
     let a = opened-moves (c .before .before .before .before .before .before .before .before .before .before .before .before .args .text .now) (c .before .before .before .before .before .before .before .before .before .before .before .before .args .c) (c .before .before .before .before .before .before .before .before .before .before .loop .m) (openingOf (c .before .before .before .before .before .before .before .before .before .before .loop .f)) (c .before .before .before .before .before .before .before .before .before .before .loop .inv .0) e _ (c .before .before .before .eat .result .next) _ (y .0) z in
     omega (arith, z .ready .high)
 
--- src/lib.rt:415:5
 loop-again : tie.Need-loop-again Inv-loop μ-loop
 loop-again c =
     let e = sym (c .before .before .before .before .before .before .before .before .before .sees .ensures (c .before .before .before .before .before .before .before .before .before .before .before .before .args .text .now) (c .before .before .before .before .before .before .before .before .before .before .loop .inv .0 .ready)) ∙ c .before .before .before .before .before .before .before .before .if1 .left in

@@ -11,32 +11,25 @@ use Rattle.heads.proofs.parse_stagger_pattern.Lts as lts
 use Rattle.cursor.proofs.choice.Reads as choice-reads
 use Rattle.heads.proofs.named_pattern.Reads as named-pattern-reads
 
--- src/lib.rt:346:35
 slice-aggregate-choice : tie.Need-slice-aggregate-choice
 slice-aggregate-choice c = search needs
 
--- src/lib.rt:346:11
 choice-requires : tie.Need-choice-requires
 choice-requires c κs = search needs
 
--- src/lib.rt:347:27
 enum-known-r : tie.Need-enum-known-r
 enum-known-r c = search needs
 
--- src/lib.rt:348:22
 enum-known-i : tie.Need-enum-known-i
 enum-known-i c = search needs
 
--- src/lib.rt:348:31
 named-pattern-requires : tie.Need-named-pattern-requires
 named-pattern-requires c κs = (rw (c .before .i .given .1) at (c .before .before .before .choice .ensures)) .ready
 
--- src/lib.rt:342:1
 returns : tie.Need-returns
 unfolding parseStaggerPattern patterns entries
 returns c = unnamed (c .before .before .before .before .before .before .args .text .now) (c .before .before .before .before .before .before .args .c) Malformed patterns _ _ (rw (c .before .r .given .1) at (c .before .before .before .choice .ensures))
 
--- src/lib.rt:342:1
 returns-2 : tie.Need-returns-2
 unfolding patterns entries
 returns-2 c = named-pattern (c .before .before .before .before .before .before .before .args .text .now) (c .before .before .before .before .before .before .before .args .c) _ _ (c .named-pattern .result) (rw (c .before .before .i .given .1) at (c .before .before .before .before .choice .ensures)) (c .named-pattern .ensures)

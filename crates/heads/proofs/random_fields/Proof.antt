@@ -22,71 +22,56 @@ Inv-loop text m₀ f₀ m f = Kept RandomHeld randomFields text m₀ m f
 abbrev μ-loop : tie.MeasureT-loop
 μ-loop text m₀ f₀ m f = length text - m .at
 
--- src/lib.rt:283:5
 loop-holds : tie.Need-loop-holds Inv-loop μ-loop
 loop-holds c = kept-start RandomHeld randomFields (c .before .args .text .now) (c .before .args .c) _ (c .before .pre) random-none
 
--- src/lib.rt:284:15
 next-random-requires : tie.Need-next-random-requires Inv-loop μ-loop
 next-random-requires c κs = c .loop .inv .listed .ready
 
--- src/lib.rt:285:32
 enum-known-r : tie.Need-enum-known-r Inv-loop μ-loop
 enum-known-r c = search needs
 
--- src/lib.rt:285:41
 returns : tie.Need-returns Inv-loop μ-loop
 returns c = kept-refused RandomHeld randomFields (c .before .before .before .before .before .before .args .text .now) (c .before .before .before .before .before .before .args .c) (c .before .before .before .before .loop .m) (c .before .before .before .before .loop .f) (c .before .before .before .before .loop .inv) _ _ (rw (c .before .r .given .1) at (c .before .before .before .next-random .ensures))
 
--- src/lib.rt:286:29
 enum-known-e : tie.Need-enum-known-e Inv-loop μ-loop
 enum-known-e c = search needs
 
--- src/lib.rt:286:35
 returns-2 : tie.Need-returns-2 Inv-loop μ-loop
 returns-2 c = kept-done RandomHeld randomFields (c .before .before .before .before .before .before .args .text .now) (c .before .before .before .before .before .before .args .c) (c .before .before .before .before .loop .m) (c .before .before .before .before .loop .f) (c .before .before .before .before .loop .inv) _ (rw (c .before .e .given .1) at (c .before .before .before .next-random .ensures))
 
--- src/lib.rt:287:30
 enum-known-i : tie.Need-enum-known-i Inv-loop μ-loop
 enum-known-i c = search needs
 
--- src/lib.rt:287:45
 random-field-requires : tie.Need-random-field-requires Inv-loop μ-loop
 random-field-requires c κs = (rw (c .before .i .given .1) at (c .before .before .before .next-random .ensures)) .ready
 
--- src/lib.rt:288:37
 enum-known-r-2 : tie.Need-enum-known-r-2 Inv-loop μ-loop
 enum-known-r-2 c = search needs
 
--- src/lib.rt:288:46
 returns-3 : tie.Need-returns-3 Inv-loop μ-loop
 returns-3 c = value-refused RandomHeld randomFields (c .before .before .before .before .before .before .before .before .before .before .args .text .now) (c .before .before .before .before .before .before .before .before .before .before .args .c) (c .before .before .before .before .before .before .before .before .loop .m) (c .before .before .before .before .before .before .before .before .loop .f) (c .before .before .before .before .before .before .before .before .loop .inv) _ _ (rw (c .before .before .before .before .before .i .given .1) at (c .before .before .before .before .before .before .before .next-random .ensures)) _ _ (rw (c .before .r2 .given .1) at (c .before .before .before .random-field .ensures))
 
--- src/lib.rt:289:32
 enum-known-g : tie.Need-enum-known-g Inv-loop μ-loop
 enum-known-g c = search needs
 
--- src/lib.rt:290:25
 eat-requires : tie.Need-eat-requires Inv-loop μ-loop
 eat-requires c κs =
     let n = rw (c .before .before .before .before .before .i .given .1) at (c .before .before .before .before .before .before .before .next-random .ensures) in
     let h = rw (c .before .g .given .1) at (c .before .before .before .random-field .ensures) in
     (h (n .row) (n .is) .1 .ready, lit< tt)
 
--- src/lib.rt:293:25
 returns-4 : tie.Need-returns-4 Inv-loop μ-loop
 returns-4 c =
     let z = rw (not-true (c .before .before .before .eat .result .taken) (c .if1 .taken)) at (c .before .before .before .eat .ensures) in
     value-last RandomHeld randomFields (c .before .before .before .before .before .before .before .before .before .before .before .before .before .before .args .text .now) (c .before .before .before .before .before .before .before .before .before .before .before .before .before .before .args .c) (c .before .before .before .before .before .before .before .before .before .before .before .before .loop .m) (c .before .before .before .before .before .before .before .before .before .before .before .before .loop .f) (c .before .before .before .before .before .before .before .before .before .before .before .before .loop .inv) _ _ (rw (c .before .before .before .before .before .before .before .before .before .i .given .1) at (c .before .before .before .before .before .before .before .before .before .before .before .next-random .ensures)) _ (c .before .before .before .eat .result .next) _ (rw (c .before .before .before .before .before .g .given .1) at (c .before .before .before .before .before .before .before .random-field .ensures)) z
 
--- src/lib.rt:283:5
 loop-less : tie.Need-loop-less Inv-loop μ-loop
 loop-less c =
     let z = rw (not-false (c .before .before .before .eat .result .taken) (c .if1 .left)) at (c .before .before .before .eat .ensures) in
     let a = value-moves RandomHeld randomFields (c .before .before .before .before .before .before .before .before .before .before .before .before .before .before .args .text .now) (c .before .before .before .before .before .before .before .before .before .before .before .before .before .before .args .c) (c .before .before .before .before .before .before .before .before .before .before .before .before .loop .m) (c .before .before .before .before .before .before .before .before .before .before .before .before .loop .f) (c .before .before .before .before .before .before .before .before .before .before .before .before .loop .inv) _ _ (rw (c .before .before .before .before .before .before .before .before .before .i .given .1) at (c .before .before .before .before .before .before .before .before .before .before .before .next-random .ensures)) _ (c .before .before .before .eat .result .next) _ (rw (c .before .before .before .before .before .g .given .1) at (c .before .before .before .before .before .before .before .random-field .ensures)) z in
     omega (arith, z .ready .high)
 
--- src/lib.rt:283:5
 loop-again : tie.Need-loop-again Inv-loop μ-loop
 loop-again c =
     let z = rw (not-false (c .before .before .before .eat .result .taken) (c .if1 .left)) at (c .before .before .before .eat .ensures) in

@@ -14,55 +14,42 @@ use Rattle.heads.proofs.float_or.Reads as float-or-reads
 use Rattle.heads.proofs.random_fields.Reads as random-fields-reads
 use Rattle.heads.proofs.word_or.Reads as word-or-reads
 
--- src/lib.rt:308:11
 mark-requires : tie.Need-mark-requires
 mark-requires c κs = search needs
 
--- src/lib.rt:309:27
 enum-known-p : tie.Need-enum-known-p
 enum-known-p c = search needs
 
--- src/lib.rt:310:22
 enum-known-m : tie.Need-enum-known-m
 enum-known-m c = search needs
 
--- src/lib.rt:310:34
 random-fields-requires : tie.Need-random-fields-requires
 random-fields-requires c κs = (rw (c .before .m .given .1) at (c .before .before .before .mark .ensures)) .ready
 
--- src/lib.rt:311:33
 enum-known-r : tie.Need-enum-known-r
 enum-known-r c = search needs
 
--- src/lib.rt:312:28
 enum-known-f : tie.Need-enum-known-f
 enum-known-f c = search needs
 
--- src/lib.rt:316:21
 word-or-requires : tie.Need-word-or-requires
 word-or-requires c κs = search needs
 
--- src/lib.rt:317:21
 float-or-requires : tie.Need-float-or-requires
 float-or-requires c κs = search needs
 
--- src/lib.rt:318:21
 float-or-requires-2 : tie.Need-float-or-requires-2
 float-or-requires-2 c κs = search needs
 
--- src/lib.rt:319:80
 leave-group-requires : tie.Need-leave-group-requires
 leave-group-requires c κs = (rw (c .before .before .before .before .f .given .1) at (c .before .before .before .before .before .before .random-fields .ensures)) .1 .ready
 
--- src/lib.rt:304:1
 returns : tie.Need-returns
 returns c = no-random (c .before .before .before .before .before .args .text .now) (c .before .before .before .before .before .args .c) _ _ (inside-missing (c .before .before .before .before .before .args .text .now) 40 (pairs randomFields) (c .before .before .before .before .before .args .c) _ (rw (c .before .p .given .1) at (c .before .before .before .mark .ensures)))
 
--- src/lib.rt:304:1
 returns-2 : tie.Need-returns-2
 returns-2 c = no-random (c .before .before .before .before .before .before .before .before .before .args .text .now) (c .before .before .before .before .before .before .before .before .before .args .c) _ _ (inside-refused (c .before .before .before .before .before .before .before .before .before .args .text .now) 40 (pairs randomFields) (c .before .before .before .before .before .before .before .before .before .args .c) _ (rw (c .before .before .before .before .before .m .given .1) at (c .before .before .before .before .before .before .before .mark .ensures)) _ _ (rw (c .before .r .given .1) at (c .before .before .before .random-fields .ensures)))
 
--- src/lib.rt:304:1
 returns-3 : tie.Need-returns-3
 unfolding isNan ofBits
 returns-3 c = took-random (c .before .before .before .before .before .before .before .before .before .before .before .before .before .args .text .now) (c .before .before .before .before .before .before .before .before .before .before .before .before .before .args .c) _ _ _ (c .before .before .before .before .before .f .given .0 .0) (rw (c .before .before .before .before .before .before .before .before .before .m .given .1) at (c .before .before .before .before .before .before .before .before .before .before .before .mark .ensures)) (rw (c .before .before .before .before .before .f .given .1) at (c .before .before .before .before .before .before .before .random-fields .ensures)) (c .leave-group .ensures) _ _ _ _ _ (c .before .before .before .word-or .ensures) (c .before .before .float-or .ensures) (c .before .float-or2 .ensures) nought tenth tt tt
