@@ -1,0 +1,4 @@
+pub mod NameLaws
+pub mod RowLaws
+pub mod HeadLaws
+pub mod StaggerLaws

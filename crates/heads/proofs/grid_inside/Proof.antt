@@ -1,0 +1,63 @@
+use Rattle.heads.specs.Means.{gridInside}
+use Rattle.heads.proofs.HeadLaws.{no-cols, no-rows, took-grid}
+use borrow.Author.Needs.{needs}
+use Rattle.heads.proofs.grid_inside.Statement.{statement}
+use Rattle.heads.proofs.grid_inside.Tie as tie
+use Rattle.heads.proofs.grid_inside.Reads as reads
+use Rattle.heads.proofs.grid_inside.Lts as lts
+use Rattle.heads.proofs.case_or.Reads as case-or-reads
+use Rattle.heads.proofs.grid_fields.Reads as grid-fields-reads
+
+grid-fields-requires : tie.Need-grid-fields-requires
+grid-fields-requires c κs = search needs
+
+enum-known-r : tie.Need-enum-known-r
+enum-known-r c = search needs
+
+enum-known-f : tie.Need-enum-known-f
+enum-known-f c = search needs
+
+enum-known-counted : tie.Need-enum-known-counted
+enum-known-counted c = search needs
+
+enum-told : tie.Need-enum-told
+enum-told c = search needs
+
+returns : tie.Need-returns
+returns c = no-cols (c .before .before .before .before .before .before .before .before .args .text .now) (c .before .before .before .before .before .before .before .before .args .c) _ (c .before .before .before .before .f .given .0 .0) (rw (c .before .before .before .before .f .given .1) at (c .before .before .before .before .before .before .grid-fields .ensures)) (c .enum-told .given .1)
+
+enum-known-counted-rows : tie.Need-enum-known-counted-rows
+enum-known-counted-rows c = search needs
+
+enum-told-2 : tie.Need-enum-told-2
+enum-told-2 c = search needs
+
+returns-2 : tie.Need-returns-2
+returns-2 c = no-rows (c .before .before .before .before .before .before .before .before .before .before .before .args .text .now) (c .before .before .before .before .before .before .before .before .before .before .before .args .c) _ (c .before .before .before .before .before .before .before .f .given .0 .0) (rw (c .before .before .before .before .before .before .before .f .given .1) at (c .before .before .before .before .before .before .before .before .before .grid-fields .ensures)) _ (c .before .before .before .counted .given .1) (c .enum-told2 .given .1)
+
+case-or-requires : tie.Need-case-or-requires
+case-or-requires c κs = search needs
+
+returns-3 : tie.Need-returns-3
+unfolding gridInside
+returns-3 c = let h = rw (c .before .r .given .1) at (c .before .before .before .grid-fields .ensures) in rw h
+
+returns-4 : tie.Need-returns-4
+returns-4 c = (took-grid (c .before .before .before .before .before .before .before .before .before .before .before .before .before .args .text .now) (c .before .before .before .before .before .before .before .before .before .before .before .before .before .args .c) _ (c .before .before .before .before .before .before .before .before .before .f .given .0 .0) (rw (c .before .before .before .before .before .before .before .before .before .f .given .1) at (c .before .before .before .before .before .before .before .before .before .before .before .grid-fields .ensures)) _ _ _ (c .before .before .before .before .before .counted .given .1) (c .before .before .counted-rows .given .1) (c .case-or .ensures), tt)
+
+pub grid-inside-spec : {M : Type 1} → statement M
+grid-inside-spec =
+    tie.close
+    (tie.spec
+    grid-fields-requires
+    enum-known-r
+    enum-known-f
+    enum-known-counted
+    enum-told
+    returns
+    enum-known-counted-rows
+    enum-told-2
+    returns-2
+    case-or-requires
+    returns-3
+    returns-4)

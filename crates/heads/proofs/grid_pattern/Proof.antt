@@ -1,0 +1,61 @@
+use Rattle.heads.specs.Means.{gridInside}
+use Rattle.grammar.specs.Grammar.{gridPattern}
+use Rattle.values.proofs.ValueLaws.{inside-any, inside-missing, inside-refused}
+use borrow.Author.Needs.{needs}
+use Rattle.heads.proofs.grid_pattern.Statement.{statement}
+use Rattle.heads.proofs.grid_pattern.Tie as tie
+use Rattle.heads.proofs.grid_pattern.Reads as reads
+use Rattle.heads.proofs.grid_pattern.Lts as lts
+use Rattle.cursor.proofs.leave_group.Reads as leave-group-reads
+use Rattle.cursor.proofs.mark.Reads as mark-reads
+use Rattle.heads.proofs.grid_inside.Reads as grid-inside-reads
+
+mark-requires : tie.Need-mark-requires
+mark-requires c κs = search needs
+
+enum-known-p : tie.Need-enum-known-p
+enum-known-p c = search needs
+
+enum-known-m : tie.Need-enum-known-m
+enum-known-m c = search needs
+
+grid-inside-requires : tie.Need-grid-inside-requires
+grid-inside-requires c κs = (rw (c .before .m .given .1) at (c .before .before .before .mark .ensures)) .ready
+
+enum-known-r : tie.Need-enum-known-r
+enum-known-r c = search needs
+
+enum-known-x : tie.Need-enum-known-x
+enum-known-x c = search needs
+
+leave-group-requires : tie.Need-leave-group-requires
+leave-group-requires c κs = (rw (c .before .x .given .1) at (c .before .before .before .grid-inside .ensures)) .0 .ready
+
+returns : tie.Need-returns
+unfolding gridPattern gridInside
+returns c = inside-missing (c .before .before .before .before .before .args .text .now) 40 gridInside (c .before .before .before .before .before .args .c) _ (rw (c .before .p .given .1) at (c .before .before .before .mark .ensures))
+
+returns-2 : tie.Need-returns-2
+unfolding gridPattern gridInside
+returns-2 c = inside-refused (c .before .before .before .before .before .before .before .before .before .args .text .now) 40 gridInside (c .before .before .before .before .before .before .before .before .before .args .c) _ (rw (c .before .before .before .before .before .m .given .1) at (c .before .before .before .before .before .before .before .mark .ensures)) _ _ (rw (c .before .r .given .1) at (c .before .before .before .grid-inside .ensures))
+
+returns-3 : tie.Need-returns-3
+unfolding gridPattern gridInside
+returns-3 c =
+    let t = rw (c .before .before .x .given .1) at (c .before .before .before .before .grid-inside .ensures) in
+    (inside-any (c .before .before .before .before .before .before .before .before .before .before .args .text .now) 40 gridInside (c .before .before .before .before .before .before .before .before .before .before .args .c) _ (rw (c .before .before .before .before .before .before .m .given .1) at (c .before .before .before .before .before .before .before .before .mark .ensures)) _ _ _ (t .0) (c .leave-group .ensures), t .1)
+
+pub grid-pattern-spec : {M : Type 1} → statement M
+grid-pattern-spec =
+    tie.close
+    (tie.spec
+    mark-requires
+    enum-known-p
+    enum-known-m
+    grid-inside-requires
+    enum-known-r
+    enum-known-x
+    leave-group-requires
+    returns
+    returns-2
+    returns-3)

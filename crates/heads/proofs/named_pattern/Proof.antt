@@ -1,0 +1,43 @@
+use Rattle.grammar.specs.Rule.{give}
+use Rattle.ast.specs.Tree.{centerOut, edgesIn}
+use Rattle.ast.specs.declared.StaggerPatternSpec.the-variants.{CenterOut, EdgesIn}
+use Rattle.heads.specs.declared.PatternRead.the-variants.{Is}
+use Rattle.heads.proofs.HeadLaws.{any-pattern, by-pattern}
+use native.Mathlib.Omega.{arith}
+use Rattle.grammar.specs.Grammar.{gridPattern, patterns, randomPattern}
+use mathlib.Core.Path.{refl}
+use Rattle.cursor.proofs.CursorLaws.{stays}
+use borrow.Author.Needs.{needs}
+use Rattle.heads.proofs.named_pattern.Statement.{statement}
+use Rattle.heads.proofs.named_pattern.Tie as tie
+use Rattle.heads.proofs.named_pattern.Reads as reads
+use Rattle.heads.proofs.named_pattern.Lts as lts
+use Rattle.heads.proofs.grid_pattern.Reads as grid-pattern-reads
+use Rattle.heads.proofs.random_pattern.Reads as random-pattern-reads
+
+grid-pattern-requires : tie.Need-grid-pattern-requires
+grid-pattern-requires c κs = search needs
+
+random-pattern-requires : tie.Need-random-pattern-requires
+random-pattern-requires c κs = search needs
+
+returns : tie.Need-returns
+unfolding patterns
+returns c = by-pattern (c .before .before .before .args .text .now) (c .before .before .before .args .c) (c .before .before .before .args .i) (c .grid-pattern .result) (λ z. any-pattern (c .before .before .before .args .text .now) (c .before .before .before .args .c) gridPattern (c .grid-pattern .result) (c .grid-pattern .ensures), (λ z. absurd (omega arith), (λ z. absurd (omega arith), (λ z. absurd (omega arith), tt))))
+
+returns-2 : tie.Need-returns-2
+unfolding patterns
+returns-2 c = by-pattern (c .before .before .before .args .text .now) (c .before .before .before .args .c) (c .before .before .before .args .i) (c .random-pattern .result) (λ z. absurd (omega arith), (λ z. any-pattern (c .before .before .before .args .text .now) (c .before .before .before .args .c) randomPattern (c .random-pattern .result) (c .random-pattern .ensures), (λ z. absurd (omega arith), (λ z. absurd (omega arith), tt))))
+
+returns-3 : tie.Need-returns-3
+unfolding patterns
+returns-3 c = by-pattern (c .before .before .args .text .now) (c .before .before .args .c) (c .before .before .args .i) (Is CenterOut (c .before .before .args .c)) (λ z. absurd (omega arith), (λ z. absurd (omega arith), (λ z. (stays (c .before .before .args .text .now) (c .before .before .args .c) (c .before .before .pre) (give centerOut) centerOut refl, tt), (λ z. absurd (omega arith), tt))))
+
+returns-4 : tie.Need-returns-4
+unfolding patterns
+returns-4 c = by-pattern (c .before .before .args .text .now) (c .before .before .args .c) (c .before .before .args .i) (Is EdgesIn (c .before .before .args .c)) (λ z. absurd (omega arith), (λ z. absurd (omega arith), (λ z. absurd (omega arith), (λ z. (stays (c .before .before .args .text .now) (c .before .before .args .c) (c .before .before .pre) (give edgesIn) edgesIn refl, tt), tt))))
+
+pub named-pattern-spec : {M : Type 1} → statement M
+named-pattern-spec =
+    tie.close
+    (tie.spec grid-pattern-requires random-pattern-requires returns returns-2 returns-3 returns-4)

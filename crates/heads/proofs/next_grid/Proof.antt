@@ -1,0 +1,22 @@
+use Rattle.text.specs.Words.{entries}
+use Rattle.grammar.specs.Grammar.{gridFields}
+use mathlib.Core.Path.{refl}
+use borrow.Author.Needs.{needs}
+use Rattle.heads.proofs.next_grid.Statement.{statement}
+use Rattle.heads.proofs.next_grid.Tie as tie
+use Rattle.heads.proofs.next_grid.Reads as reads
+use Rattle.heads.proofs.next_grid.Lts as lts
+use Rattle.fields.proofs.next_pair.Reads as next-pair-reads
+
+slice-aggregate-next-pair : tie.Need-slice-aggregate-next-pair
+slice-aggregate-next-pair c = search needs
+
+next-pair-requires : tie.Need-next-pair-requires
+next-pair-requires c κs = search needs
+
+returns : tie.Need-returns
+unfolding gridFields entries
+returns c = c .next-pair .ensures gridFields refl
+
+pub next-grid-spec : {M : Type 1} → statement M
+next-grid-spec = tie.close (tie.spec slice-aggregate-next-pair next-pair-requires returns)

@@ -1,0 +1,48 @@
+use Rattle.text.specs.Words.{entries}
+use Rattle.heads.proofs.StaggerLaws.{named-opening}
+use Rattle.grammar.specs.Grammar.{openingFields}
+use Rattle.heads.specs.Means.{openingOf}
+use Rattle.heads.proofs.NameLaws.{unnamed}
+use Rattle.error.specs.declared.Refusal.the-variants.{UnknownKeyword}
+use borrow.Author.Needs.{needs}
+use Rattle.heads.proofs.opening_field.Statement.{statement}
+use Rattle.heads.proofs.opening_field.Tie as tie
+use Rattle.heads.proofs.opening_field.Reads as reads
+use Rattle.heads.proofs.opening_field.Lts as lts
+use Rattle.cursor.proofs.choice.Reads as choice-reads
+use Rattle.heads.proofs.opening_value.Reads as opening-value-reads
+
+slice-aggregate-choice : tie.Need-slice-aggregate-choice
+slice-aggregate-choice c = search needs
+
+choice-requires : tie.Need-choice-requires
+choice-requires c κs = search needs
+
+enum-known-r : tie.Need-enum-known-r
+enum-known-r c = search needs
+
+enum-known-i : tie.Need-enum-known-i
+enum-known-i c = search needs
+
+opening-value-requires : tie.Need-opening-value-requires
+opening-value-requires c κs = ((rw (c .before .i .given .1) at (c .before .before .before .choice .ensures)) .ready, c .before .before .before .before .before .before .pre .1)
+
+returns : tie.Need-returns
+unfolding openingFields entries
+returns c = unnamed (c .before .before .before .before .before .before .args .text .now) (c .before .before .before .before .before .before .args .c) UnknownKeyword (openingFields (openingOf (c .before .before .before .before .before .before .args .f))) _ _ (rw (c .before .r .given .1) at (c .before .before .before .choice .ensures))
+
+returns-2 : tie.Need-returns-2
+unfolding openingFields entries
+returns-2 c = named-opening (c .before .before .before .before .before .before .before .args .text .now) (c .before .before .before .before .before .before .before .args .c) _ (c .before .before .before .before .before .before .before .args .f) _ (c .opening-value .result) (rw (c .before .before .i .given .1) at (c .before .before .before .before .choice .ensures)) (c .opening-value .ensures)
+
+pub opening-field-spec : {M : Type 1} → statement M
+opening-field-spec =
+    tie.close
+    (tie.spec
+    slice-aggregate-choice
+    choice-requires
+    enum-known-r
+    enum-known-i
+    opening-value-requires
+    returns
+    returns-2)

@@ -1,0 +1,95 @@
+use Rattle.heads.proofs.StaggerLaws.{by-opening, marked-refused, marked-took, withDelay, withPattern}
+use Rattle.ast.specs.declared.OptF32.the-variants as optFloat
+use Rattle.ast.specs.declared.OptPattern.the-variants as optPattern
+use Rattle.error.specs.declared.Refusal.the-variants.{Missing}
+use Rattle.heads.specs.declared.OpeningRead.the-variants.{Is, Refused}
+use native.Mathlib.Omega.{arith}
+use Rattle.grammar.specs.Grammar.{openingFields, parseStaggerPattern}
+use Rattle.heads.specs.Means.{openingOf}
+use Rattle.grammar.specs.Values.{parseFloat}
+use borrow.Author.Needs.{needs}
+use Rattle.heads.proofs.opening_value.Statement.{statement}
+use Rattle.heads.proofs.opening_value.Tie as tie
+use Rattle.heads.proofs.opening_value.Reads as reads
+use Rattle.heads.proofs.opening_value.Lts as lts
+use Rattle.cursor.proofs.mark.Reads as mark-reads
+use Rattle.cursor.proofs.parse_float.Reads as parse-float-reads
+use Rattle.heads.proofs.parse_stagger_pattern.Reads as parse-stagger-pattern-reads
+
+mark-requires : tie.Need-mark-requires
+mark-requires c κs = search needs
+
+enum-known-p : tie.Need-enum-known-p
+enum-known-p c = search needs
+
+enum-known-m : tie.Need-enum-known-m
+enum-known-m c = search needs
+
+parse-stagger-pattern-requires : tie.Need-parse-stagger-pattern-requires
+parse-stagger-pattern-requires c κs = (rw (c .before .before .m .given .1) at (c .before .before .before .before .mark .ensures)) .ready
+
+enum-known-r : tie.Need-enum-known-r
+enum-known-r c = search needs
+
+enum-known-x : tie.Need-enum-known-x
+enum-known-x c = search needs
+
+returns : tie.Need-returns
+unfolding openingFields
+returns c =
+    let h = marked-refused (c .before .before .before .before .before .before .before .before .before .before .args .text .now) 58 parseStaggerPattern (withPattern (openingOf (c .before .before .before .before .before .before .before .before .before .before .args .f))) (c .before .before .before .before .before .before .before .before .before .before .args .c) _ (rw (c .before .before .before .before .before .before .m .given .1) at (c .before .before .before .before .before .before .before .before .mark .ensures)) _ _ (rw (c .before .r .given .1) at (c .before .before .before .parse-stagger-pattern .ensures)) in
+    by-opening (c .before .before .before .before .before .before .before .before .before .before .args .text .now) (c .before .before .before .before .before .before .before .before .before .before .args .c) (c .before .before .before .before .before .before .before .before .before .before .args .f) (c .before .before .before .before .before .before .before .before .before .before .args .i) (Refused (c .before .r .given .0 .0) (c .before .r .given .0 .1 .0)) (λ z. h, (λ z. absurd (omega arith), tt))
+
+returns-2 : tie.Need-returns-2
+unfolding openingFields
+returns-2 c =
+    let t = rw (c .before .x .given .1) at (c .before .before .before .parse-stagger-pattern .ensures) in
+    let h = marked-took (c .before .before .before .before .before .before .before .before .before .before .args .text .now) 58 parseStaggerPattern (withPattern (openingOf (c .before .before .before .before .before .before .before .before .before .before .args .f))) (c .before .before .before .before .before .before .before .before .before .before .args .c) _ (rw (c .before .before .before .before .before .before .m .given .1) at (c .before .before .before .before .before .before .before .before .mark .ensures)) _ _ (t .0) in
+    by-opening (c .before .before .before .before .before .before .before .before .before .before .args .text .now) (c .before .before .before .before .before .before .before .before .before .before .args .c) (c .before .before .before .before .before .before .before .before .before .before .args .f) (c .before .before .before .before .before .before .before .before .before .before .args .i) (Is (record { pattern = optPattern.Present (c .before .x .given .0 .0); delay = c .before .before .before .before .before .before .before .before .before .before .args .f .delay }) (c .before .x .given .0 .1 .0)) (λ z. (h, (t .1, c .before .before .before .before .before .before .before .before .before .before .pre .1 .1)), (λ z. absurd (omega arith), tt))
+
+parse-float-requires : tie.Need-parse-float-requires
+parse-float-requires c κs = (rw (c .before .before .m .given .1) at (c .before .before .before .before .mark .ensures)) .ready
+
+enum-known-r-2 : tie.Need-enum-known-r-2
+enum-known-r-2 c = search needs
+
+enum-known-x-2 : tie.Need-enum-known-x-2
+enum-known-x-2 c = search needs
+
+returns-3 : tie.Need-returns-3
+unfolding openingFields
+returns-3 c =
+    let h = rw (c .before .p .given .1) at (c .before .before .before .mark .ensures) in
+    by-opening (c .before .before .before .before .before .args .text .now) (c .before .before .before .before .before .args .c) (c .before .before .before .before .before .args .f) (c .before .before .before .before .before .args .i) (Refused Missing (c .before .p .given .0 .0)) (λ z. rw h, (λ z. rw h, tt))
+
+returns-4 : tie.Need-returns-4
+unfolding openingFields
+returns-4 c =
+    let h = marked-refused (c .before .before .before .before .before .before .before .before .before .before .args .text .now) 58 parseFloat (withDelay (openingOf (c .before .before .before .before .before .before .before .before .before .before .args .f))) (c .before .before .before .before .before .before .before .before .before .before .args .c) _ (rw (c .before .before .before .before .before .before .m .given .1) at (c .before .before .before .before .before .before .before .before .mark .ensures)) _ _ (rw (c .before .r2 .given .1) at (c .before .before .before .parse-float .ensures)) in
+    by-opening (c .before .before .before .before .before .before .before .before .before .before .args .text .now) (c .before .before .before .before .before .before .before .before .before .before .args .c) (c .before .before .before .before .before .before .before .before .before .before .args .f) (c .before .before .before .before .before .before .before .before .before .before .args .i) (Refused (c .before .r2 .given .0 .0) (c .before .r2 .given .0 .1 .0)) (λ z. absurd (c .before .before .before .before .if1 .left z), (λ z. h, tt))
+
+returns-5 : tie.Need-returns-5
+unfolding openingFields
+returns-5 c =
+    let t = rw (c .before .x2 .given .1) at (c .before .before .before .parse-float .ensures) in
+    let h = marked-took (c .before .before .before .before .before .before .before .before .before .before .args .text .now) 58 parseFloat (withDelay (openingOf (c .before .before .before .before .before .before .before .before .before .before .args .f))) (c .before .before .before .before .before .before .before .before .before .before .args .c) _ (rw (c .before .before .before .before .before .before .m .given .1) at (c .before .before .before .before .before .before .before .before .mark .ensures)) _ _ (t .0) in
+    by-opening (c .before .before .before .before .before .before .before .before .before .before .args .text .now) (c .before .before .before .before .before .before .before .before .before .before .args .c) (c .before .before .before .before .before .before .before .before .before .before .args .f) (c .before .before .before .before .before .before .before .before .before .before .args .i) (Is (record { pattern = c .before .before .before .before .before .before .before .before .before .before .args .f .pattern; delay = optFloat.Present (c .before .x2 .given .0 .0) }) (c .before .x2 .given .0 .1 .0)) (λ z. absurd (c .before .before .before .before .if1 .left z), (λ z. (h, (c .before .before .before .before .before .before .before .before .before .before .pre .1 .0, t .1)), tt))
+
+pub opening-value-spec : {M : Type 1} → statement M
+opening-value-spec =
+    tie.close
+    (tie.spec
+    mark-requires
+    enum-known-p
+    enum-known-m
+    parse-stagger-pattern-requires
+    enum-known-r
+    enum-known-x
+    returns
+    returns-2
+    parse-float-requires
+    enum-known-r-2
+    enum-known-x-2
+    returns-3
+    returns-4
+    returns-5)

@@ -1,0 +1,49 @@
+use native.Mathlib.Omega.{arith}
+use Rattle.heads.proofs.NameLaws.{choice-below}
+use Rattle.text.specs.Words.{entries}
+use Rattle.grammar.specs.Grammar.{parseGridOrigin}
+use Rattle.error.specs.declared.Refusal.the-variants.{Malformed}
+use borrow.Author.Needs.{needs}
+use Rattle.heads.proofs.parse_grid_origin.Statement.{statement}
+use Rattle.heads.proofs.parse_grid_origin.Tie as tie
+use Rattle.heads.proofs.parse_grid_origin.Reads as reads
+use Rattle.heads.proofs.parse_grid_origin.Lts as lts
+use Rattle.cursor.proofs.choice.Reads as choice-reads
+
+slice-aggregate-choice : tie.Need-slice-aggregate-choice
+slice-aggregate-choice c = search needs
+
+choice-requires : tie.Need-choice-requires
+choice-requires c κs = search needs
+
+enum-known-r : tie.Need-enum-known-r
+enum-known-r c = search needs
+
+enum-known-i : tie.Need-enum-known-i
+enum-known-i c = search needs
+
+cast-t13 : tie.Need-cast-t13
+unfolding entries
+cast-t13 c = let b = choice-below (c .before .before .before .before .before .before .args .text .now) (c .before .before .before .before .before .before .args .c) _ Malformed _ _ (rw (c .before .i .given .1) at (c .before .before .before .choice .ensures)) in omega arith
+
+returns : tie.Need-returns
+unfolding parseGridOrigin entries
+returns c = rw (c .before .r .given .1) at (c .before .before .before .choice .ensures)
+
+returns-2 : tie.Need-returns-2
+unfolding parseGridOrigin entries
+returns-2 c =
+    let t = rw (c .before .i .given .1) at (c .before .before .before .choice .ensures) in
+    (t, choice-below (c .before .before .before .before .before .before .args .text .now) (c .before .before .before .before .before .before .args .c) _ Malformed _ _ t)
+
+pub parse-grid-origin-spec : {M : Type 1} → statement M
+parse-grid-origin-spec =
+    tie.close
+    (tie.spec
+    slice-aggregate-choice
+    choice-requires
+    enum-known-r
+    enum-known-i
+    cast-t13
+    returns
+    returns-2)

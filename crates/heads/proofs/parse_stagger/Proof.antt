@@ -1,0 +1,90 @@
+use Prim.Native.Nat.{_-_}
+use Rattle.heads.proofs.StaggerLaws.{Opened, opened-block, opened-last, opened-more, opened-moves, opened-refused, opened-start}
+use Rattle.heads.specs.Means.{PlainOpening, openingOf}
+use native.Mathlib.Omega.{arith}
+use lib.ListN.{length}
+use borrow.Author.Needs.{needs}
+use borrow.Author.Tests.{not-false, not-true}
+use mathlib.Core.Path.{sym, _∙_}
+use lib.Dec.{lit<}
+use Rattle.heads.proofs.parse_stagger.Statement.{statement}
+use Rattle.heads.proofs.parse_stagger.Tie as tie
+use Rattle.heads.proofs.parse_stagger.Reads as reads
+use Rattle.heads.proofs.parse_stagger.Lts as lts
+use Rattle.cursor.proofs.eat.Reads as eat-reads
+use Rattle.cursor.proofs.sees.Reads as sees-reads
+use Rattle.heads.proofs.opening_field.Reads as opening-field-reads
+
+abbrev Inv-loop : tie.InvT-loop
+Inv-loop text m₀ f₀ m f = Opened text m₀ m (openingOf f) × PlainOpening f
+
+abbrev μ-loop : tie.MeasureT-loop
+μ-loop text m₀ f₀ m f = length text - m .at
+
+loop-holds : tie.Need-loop-holds Inv-loop μ-loop
+loop-holds c = (opened-start (c .before .args .text .now) (c .before .args .c) (c .before .pre), (tt, tt))
+
+sees-requires : tie.Need-sees-requires Inv-loop μ-loop
+sees-requires c κs = search needs
+
+returns : tie.Need-returns Inv-loop μ-loop
+returns c =
+    let e = sym (c .before .sees .ensures (c .before .before .before .before .args .text .now) (c .before .before .loop .inv .0 .ready)) ∙ c .if1 .taken in
+    (opened-block (c .before .before .before .before .args .text .now) (c .before .before .before .before .args .c) (c .before .before .loop .m) (openingOf (c .before .before .loop .f)) (c .before .before .loop .inv .0) e, c .before .before .loop .inv .1 .0, c .before .before .loop .inv .1 .1)
+
+opening-field-requires : tie.Need-opening-field-requires Inv-loop μ-loop
+opening-field-requires c κs = (c .before .before .loop .inv .0 .ready, c .before .before .loop .inv .1)
+
+enum-known-r : tie.Need-enum-known-r Inv-loop μ-loop
+enum-known-r c = search needs
+
+returns-2 : tie.Need-returns-2 Inv-loop μ-loop
+returns-2 c =
+    let e = sym (c .before .before .before .before .before .sees .ensures (c .before .before .before .before .before .before .before .before .args .text .now) (c .before .before .before .before .before .before .loop .inv .0 .ready)) ∙ c .before .before .before .before .if1 .left in
+    opened-refused (c .before .before .before .before .before .before .before .before .args .text .now) (c .before .before .before .before .before .before .before .before .args .c) (c .before .before .before .before .before .before .loop .m) (openingOf (c .before .before .before .before .before .before .loop .f)) (c .before .before .before .before .before .before .loop .inv .0) e _ _ (rw (c .before .r .given .1) at (c .before .before .before .opening-field .ensures))
+
+enum-known-g : tie.Need-enum-known-g Inv-loop μ-loop
+enum-known-g c = search needs
+
+eat-requires : tie.Need-eat-requires Inv-loop μ-loop
+eat-requires c κs = ((rw (c .before .g .given .1) at (c .before .before .before .opening-field .ensures)) .0 .ready, lit< tt)
+
+returns-3 : tie.Need-returns-3 Inv-loop μ-loop
+returns-3 c =
+    let e = sym (c .before .before .before .before .before .before .before .before .before .sees .ensures (c .before .before .before .before .before .before .before .before .before .before .before .before .args .text .now) (c .before .before .before .before .before .before .before .before .before .before .loop .inv .0 .ready)) ∙ c .before .before .before .before .before .before .before .before .if1 .left in
+    let y = rw (c .before .before .before .before .before .g .given .1) at (c .before .before .before .before .before .before .before .opening-field .ensures) in
+    let z = rw (not-true (c .before .before .before .eat .result .taken) (c .if2 .taken)) at (c .before .before .before .eat .ensures) in
+    (opened-last (c .before .before .before .before .before .before .before .before .before .before .before .before .args .text .now) (c .before .before .before .before .before .before .before .before .before .before .before .before .args .c) (c .before .before .before .before .before .before .before .before .before .before .loop .m) (openingOf (c .before .before .before .before .before .before .before .before .before .before .loop .f)) (c .before .before .before .before .before .before .before .before .before .before .loop .inv .0) e _ (c .before .before .before .eat .result .next) _ (y .0) z, y .1 .0, y .1 .1)
+
+loop-less : tie.Need-loop-less Inv-loop μ-loop
+loop-less c =
+    let e = sym (c .before .before .before .before .before .before .before .before .before .sees .ensures (c .before .before .before .before .before .before .before .before .before .before .before .before .args .text .now) (c .before .before .before .before .before .before .before .before .before .before .loop .inv .0 .ready)) ∙ c .before .before .before .before .before .before .before .before .if1 .left in
+    let y = rw (c .before .before .before .before .before .g .given .1) at (c .before .before .before .before .before .before .before .opening-field .ensures) in
+    let z = rw (not-false (c .before .before .before .eat .result .taken) (c .if2 .left)) at (c .before .before .before .eat .ensures) in
+    let a = opened-moves (c .before .before .before .before .before .before .before .before .before .before .before .before .args .text .now) (c .before .before .before .before .before .before .before .before .before .before .before .before .args .c) (c .before .before .before .before .before .before .before .before .before .before .loop .m) (openingOf (c .before .before .before .before .before .before .before .before .before .before .loop .f)) (c .before .before .before .before .before .before .before .before .before .before .loop .inv .0) e _ (c .before .before .before .eat .result .next) _ (y .0) z in
+    omega (arith, z .ready .high)
+
+loop-again : tie.Need-loop-again Inv-loop μ-loop
+loop-again c =
+    let e = sym (c .before .before .before .before .before .before .before .before .before .sees .ensures (c .before .before .before .before .before .before .before .before .before .before .before .before .args .text .now) (c .before .before .before .before .before .before .before .before .before .before .loop .inv .0 .ready)) ∙ c .before .before .before .before .before .before .before .before .if1 .left in
+    let y = rw (c .before .before .before .before .before .g .given .1) at (c .before .before .before .before .before .before .before .opening-field .ensures) in
+    let z = rw (not-false (c .before .before .before .eat .result .taken) (c .if2 .left)) at (c .before .before .before .eat .ensures) in
+    (opened-more (c .before .before .before .before .before .before .before .before .before .before .before .before .args .text .now) (c .before .before .before .before .before .before .before .before .before .before .before .before .args .c) (c .before .before .before .before .before .before .before .before .before .before .loop .m) (openingOf (c .before .before .before .before .before .before .before .before .before .before .loop .f)) (c .before .before .before .before .before .before .before .before .before .before .loop .inv .0) e _ (c .before .before .before .eat .result .next) _ (y .0) z, y .1)
+
+pub parse-stagger-spec : {M : Type 1} → statement M
+parse-stagger-spec =
+    tie.close
+    (tie.spec
+    Inv-loop
+    μ-loop
+    loop-holds
+    sees-requires
+    returns
+    opening-field-requires
+    enum-known-r
+    returns-2
+    enum-known-g
+    eat-requires
+    returns-3
+    loop-less
+    loop-again)

@@ -1,0 +1,47 @@
+use Rattle.text.specs.Words.{entries}
+use Rattle.heads.proofs.HeadLaws.{named-pattern}
+use Rattle.grammar.specs.Grammar.{parseStaggerPattern, patterns}
+use Rattle.heads.proofs.NameLaws.{unnamed}
+use Rattle.error.specs.declared.Refusal.the-variants.{Malformed}
+use borrow.Author.Needs.{needs}
+use Rattle.heads.proofs.parse_stagger_pattern.Statement.{statement}
+use Rattle.heads.proofs.parse_stagger_pattern.Tie as tie
+use Rattle.heads.proofs.parse_stagger_pattern.Reads as reads
+use Rattle.heads.proofs.parse_stagger_pattern.Lts as lts
+use Rattle.cursor.proofs.choice.Reads as choice-reads
+use Rattle.heads.proofs.named_pattern.Reads as named-pattern-reads
+
+slice-aggregate-choice : tie.Need-slice-aggregate-choice
+slice-aggregate-choice c = search needs
+
+choice-requires : tie.Need-choice-requires
+choice-requires c κs = search needs
+
+enum-known-r : tie.Need-enum-known-r
+enum-known-r c = search needs
+
+enum-known-i : tie.Need-enum-known-i
+enum-known-i c = search needs
+
+named-pattern-requires : tie.Need-named-pattern-requires
+named-pattern-requires c κs = (rw (c .before .i .given .1) at (c .before .before .before .choice .ensures)) .ready
+
+returns : tie.Need-returns
+unfolding parseStaggerPattern patterns entries
+returns c = unnamed (c .before .before .before .before .before .before .args .text .now) (c .before .before .before .before .before .before .args .c) Malformed patterns _ _ (rw (c .before .r .given .1) at (c .before .before .before .choice .ensures))
+
+returns-2 : tie.Need-returns-2
+unfolding patterns entries
+returns-2 c = named-pattern (c .before .before .before .before .before .before .before .args .text .now) (c .before .before .before .before .before .before .before .args .c) _ _ (c .named-pattern .result) (rw (c .before .before .i .given .1) at (c .before .before .before .before .choice .ensures)) (c .named-pattern .ensures)
+
+pub parse-stagger-pattern-spec : {M : Type 1} → statement M
+parse-stagger-pattern-spec =
+    tie.close
+    (tie.spec
+    slice-aggregate-choice
+    choice-requires
+    enum-known-r
+    enum-known-i
+    named-pattern-requires
+    returns
+    returns-2)

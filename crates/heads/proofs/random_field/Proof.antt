@@ -1,0 +1,78 @@
+use Rattle.heads.specs.Means.{RandomHeld}
+use Rattle.grammar.specs.Fields.{aNumber}
+use Rattle.number.specs.Number.{bits}
+use native.Mathlib.Omega.{arith}
+use Rattle.heads.proofs.RowLaws.{refused-row, took-row}
+use Rattle.values.proofs.RowLaws.{no-count, no-number, took-count, took-number}
+use Rattle.heads.proofs.HeadLaws.{random-max, random-min, random-seed}
+use Rattle.grammar.specs.Grammar.{randomFields}
+use borrow.Author.Needs.{needs}
+use Rattle.heads.proofs.random_field.Statement.{statement}
+use Rattle.heads.proofs.random_field.Tie as tie
+use Rattle.heads.proofs.random_field.Reads as reads
+use Rattle.heads.proofs.random_field.Lts as lts
+use Rattle.cursor.proofs.parse_float.Reads as parse-float-reads
+use Rattle.cursor.proofs.parse_uint.Reads as parse-uint-reads
+
+parse-uint-requires : tie.Need-parse-uint-requires
+parse-uint-requires c κs = search needs
+
+enum-known-r : tie.Need-enum-known-r
+enum-known-r c = search needs
+
+enum-known-n : tie.Need-enum-known-n
+enum-known-n c = search needs
+
+returns : tie.Need-returns
+unfolding randomFields
+returns c =
+    refused-row randomFields (c .before .before .before .before .before .before .args .text .now) (c .before .before .before .before .before .before .args .c) (c .before .before .before .before .before .before .args .i) _ _ (λ z. no-count (c .before .before .before .before .before .before .args .text .now) (c .before .before .before .before .before .before .args .c) _ _ (rw (c .before .r .given .1) at (c .before .before .before .parse-uint .ensures)), (λ z. absurd (omega arith), (λ z. absurd (omega arith), tt)))
+
+returns-2 : tie.Need-returns-2
+unfolding randomFields
+returns-2 c =
+    let t = rw (c .before .n .given .1) at (c .before .before .before .parse-uint .ensures) in
+    took-row randomFields (c .before .before .before .before .before .before .args .text .now) (c .before .before .before .before .before .before .args .c) (c .before .before .before .before .before .before .args .i) RandomHeld _ (c .before .before .before .before .before .before .args .f) _ (λ z. (aNumber (c .before .n .given .0 .0), took-count (c .before .before .before .before .before .before .args .text .now) (c .before .before .before .before .before .before .args .c) _ _ t, random-seed (c .before .before .before .before .before .before .args .f) _), (λ z. absurd (omega arith), (λ z. absurd (omega arith), tt)))
+
+parse-float-requires : tie.Need-parse-float-requires
+parse-float-requires c κs = search needs
+
+enum-known-r-2 : tie.Need-enum-known-r-2
+enum-known-r-2 c = search needs
+
+enum-known-x : tie.Need-enum-known-x
+enum-known-x c = search needs
+
+returns-3 : tie.Need-returns-3
+unfolding randomFields
+returns-3 c =
+    let t = rw (c .before .before .x .given .1) at (c .before .before .before .before .parse-float .ensures) in
+    took-row randomFields (c .before .before .before .before .before .before .before .args .text .now) (c .before .before .before .before .before .before .before .args .c) (c .before .before .before .before .before .before .before .args .i) RandomHeld _ (c .before .before .before .before .before .before .before .args .f) _ (λ z. absurd (c .before .before .before .before .before .if1 .left z), (λ z. (aNumber (bits (c .before .before .x .given .0 .0)), took-number (c .before .before .before .before .before .before .before .args .text .now) (c .before .before .before .before .before .before .before .args .c) _ _ (t .0), random-min (c .before .before .before .before .before .before .before .args .f) _ (t .1)), (λ z. absurd (omega arith), tt)))
+
+returns-4 : tie.Need-returns-4
+unfolding randomFields
+returns-4 c =
+    let h = no-number (c .before .before .before .before .before .before .args .text .now) (c .before .before .before .before .before .before .args .c) _ _ (rw (c .before .r2 .given .1) at (c .before .before .before .parse-float .ensures)) in
+    refused-row randomFields (c .before .before .before .before .before .before .args .text .now) (c .before .before .before .before .before .before .args .c) (c .before .before .before .before .before .before .args .i) _ _ (λ z. absurd (c .before .before .before .before .if1 .left z), (λ z. h, (λ z. h, tt)))
+
+returns-5 : tie.Need-returns-5
+unfolding randomFields
+returns-5 c =
+    let t = rw (c .before .before .x .given .1) at (c .before .before .before .before .parse-float .ensures) in
+    took-row randomFields (c .before .before .before .before .before .before .before .args .text .now) (c .before .before .before .before .before .before .before .args .c) (c .before .before .before .before .before .before .before .args .i) RandomHeld _ (c .before .before .before .before .before .before .before .args .f) _ (λ z. absurd (c .before .before .before .before .before .if1 .left z), (λ z. absurd (c .if2 .left z), (λ z. (aNumber (bits (c .before .before .x .given .0 .0)), took-number (c .before .before .before .before .before .before .before .args .text .now) (c .before .before .before .before .before .before .before .args .c) _ _ (t .0), random-max (c .before .before .before .before .before .before .before .args .f) _ (t .1)), tt)))
+
+pub random-field-spec : {M : Type 1} → statement M
+random-field-spec =
+    tie.close
+    (tie.spec
+    parse-uint-requires
+    enum-known-r
+    enum-known-n
+    returns
+    returns-2
+    parse-float-requires
+    enum-known-r-2
+    enum-known-x
+    returns-3
+    returns-4
+    returns-5)

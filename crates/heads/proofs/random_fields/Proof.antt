@@ -1,0 +1,100 @@
+use Prim.Native.Nat.{_-_}
+use Rattle.heads.proofs.RowLaws.{Kept, kept-done, kept-refused, kept-start, value-last, value-more, value-moves, value-refused}
+use Rattle.heads.specs.Means.{RandomHeld}
+use native.Mathlib.Omega.{arith}
+use lib.ListN.{length}
+use borrow.Author.Needs.{needs}
+use borrow.Author.Tests.{not-false, not-true}
+use Rattle.heads.proofs.HeadLaws.{random-none}
+use Rattle.grammar.specs.Grammar.{randomFields}
+use lib.Dec.{lit<}
+use Rattle.heads.proofs.random_fields.Statement.{statement}
+use Rattle.heads.proofs.random_fields.Tie as tie
+use Rattle.heads.proofs.random_fields.Reads as reads
+use Rattle.heads.proofs.random_fields.Lts as lts
+use Rattle.cursor.proofs.eat.Reads as eat-reads
+use Rattle.heads.proofs.next_random.Reads as next-random-reads
+use Rattle.heads.proofs.random_field.Reads as random-field-reads
+
+abbrev Inv-loop : tie.InvT-loop
+Inv-loop text m₀ f₀ m f = Kept RandomHeld randomFields text m₀ m f
+
+abbrev μ-loop : tie.MeasureT-loop
+μ-loop text m₀ f₀ m f = length text - m .at
+
+loop-holds : tie.Need-loop-holds Inv-loop μ-loop
+loop-holds c = kept-start RandomHeld randomFields (c .before .args .text .now) (c .before .args .c) _ (c .before .pre) random-none
+
+next-random-requires : tie.Need-next-random-requires Inv-loop μ-loop
+next-random-requires c κs = c .loop .inv .listed .ready
+
+enum-known-r : tie.Need-enum-known-r Inv-loop μ-loop
+enum-known-r c = search needs
+
+returns : tie.Need-returns Inv-loop μ-loop
+returns c = kept-refused RandomHeld randomFields (c .before .before .before .before .before .before .args .text .now) (c .before .before .before .before .before .before .args .c) (c .before .before .before .before .loop .m) (c .before .before .before .before .loop .f) (c .before .before .before .before .loop .inv) _ _ (rw (c .before .r .given .1) at (c .before .before .before .next-random .ensures))
+
+enum-known-e : tie.Need-enum-known-e Inv-loop μ-loop
+enum-known-e c = search needs
+
+returns-2 : tie.Need-returns-2 Inv-loop μ-loop
+returns-2 c = kept-done RandomHeld randomFields (c .before .before .before .before .before .before .args .text .now) (c .before .before .before .before .before .before .args .c) (c .before .before .before .before .loop .m) (c .before .before .before .before .loop .f) (c .before .before .before .before .loop .inv) _ (rw (c .before .e .given .1) at (c .before .before .before .next-random .ensures))
+
+enum-known-i : tie.Need-enum-known-i Inv-loop μ-loop
+enum-known-i c = search needs
+
+random-field-requires : tie.Need-random-field-requires Inv-loop μ-loop
+random-field-requires c κs = (rw (c .before .i .given .1) at (c .before .before .before .next-random .ensures)) .ready
+
+enum-known-r-2 : tie.Need-enum-known-r-2 Inv-loop μ-loop
+enum-known-r-2 c = search needs
+
+returns-3 : tie.Need-returns-3 Inv-loop μ-loop
+returns-3 c = value-refused RandomHeld randomFields (c .before .before .before .before .before .before .before .before .before .before .args .text .now) (c .before .before .before .before .before .before .before .before .before .before .args .c) (c .before .before .before .before .before .before .before .before .loop .m) (c .before .before .before .before .before .before .before .before .loop .f) (c .before .before .before .before .before .before .before .before .loop .inv) _ _ (rw (c .before .before .before .before .before .i .given .1) at (c .before .before .before .before .before .before .before .next-random .ensures)) _ _ (rw (c .before .r2 .given .1) at (c .before .before .before .random-field .ensures))
+
+enum-known-g : tie.Need-enum-known-g Inv-loop μ-loop
+enum-known-g c = search needs
+
+eat-requires : tie.Need-eat-requires Inv-loop μ-loop
+eat-requires c κs =
+    let n = rw (c .before .before .before .before .before .i .given .1) at (c .before .before .before .before .before .before .before .next-random .ensures) in
+    let h = rw (c .before .g .given .1) at (c .before .before .before .random-field .ensures) in
+    (h (n .row) (n .is) .1 .ready, lit< tt)
+
+returns-4 : tie.Need-returns-4 Inv-loop μ-loop
+returns-4 c =
+    let z = rw (not-true (c .before .before .before .eat .result .taken) (c .if1 .taken)) at (c .before .before .before .eat .ensures) in
+    value-last RandomHeld randomFields (c .before .before .before .before .before .before .before .before .before .before .before .before .before .before .args .text .now) (c .before .before .before .before .before .before .before .before .before .before .before .before .before .before .args .c) (c .before .before .before .before .before .before .before .before .before .before .before .before .loop .m) (c .before .before .before .before .before .before .before .before .before .before .before .before .loop .f) (c .before .before .before .before .before .before .before .before .before .before .before .before .loop .inv) _ _ (rw (c .before .before .before .before .before .before .before .before .before .i .given .1) at (c .before .before .before .before .before .before .before .before .before .before .before .next-random .ensures)) _ (c .before .before .before .eat .result .next) _ (rw (c .before .before .before .before .before .g .given .1) at (c .before .before .before .before .before .before .before .random-field .ensures)) z
+
+loop-less : tie.Need-loop-less Inv-loop μ-loop
+loop-less c =
+    let z = rw (not-false (c .before .before .before .eat .result .taken) (c .if1 .left)) at (c .before .before .before .eat .ensures) in
+    let a = value-moves RandomHeld randomFields (c .before .before .before .before .before .before .before .before .before .before .before .before .before .before .args .text .now) (c .before .before .before .before .before .before .before .before .before .before .before .before .before .before .args .c) (c .before .before .before .before .before .before .before .before .before .before .before .before .loop .m) (c .before .before .before .before .before .before .before .before .before .before .before .before .loop .f) (c .before .before .before .before .before .before .before .before .before .before .before .before .loop .inv) _ _ (rw (c .before .before .before .before .before .before .before .before .before .i .given .1) at (c .before .before .before .before .before .before .before .before .before .before .before .next-random .ensures)) _ (c .before .before .before .eat .result .next) _ (rw (c .before .before .before .before .before .g .given .1) at (c .before .before .before .before .before .before .before .random-field .ensures)) z in
+    omega (arith, z .ready .high)
+
+loop-again : tie.Need-loop-again Inv-loop μ-loop
+loop-again c =
+    let z = rw (not-false (c .before .before .before .eat .result .taken) (c .if1 .left)) at (c .before .before .before .eat .ensures) in
+    value-more RandomHeld randomFields (c .before .before .before .before .before .before .before .before .before .before .before .before .before .before .args .text .now) (c .before .before .before .before .before .before .before .before .before .before .before .before .before .before .args .c) (c .before .before .before .before .before .before .before .before .before .before .before .before .loop .m) (c .before .before .before .before .before .before .before .before .before .before .before .before .loop .f) (c .before .before .before .before .before .before .before .before .before .before .before .before .loop .inv) _ _ (rw (c .before .before .before .before .before .before .before .before .before .i .given .1) at (c .before .before .before .before .before .before .before .before .before .before .before .next-random .ensures)) _ (c .before .before .before .eat .result .next) _ (rw (c .before .before .before .before .before .g .given .1) at (c .before .before .before .before .before .before .before .random-field .ensures)) z
+
+pub random-fields-spec : {M : Type 1} → statement M
+random-fields-spec =
+    tie.close
+    (tie.spec
+    Inv-loop
+    μ-loop
+    loop-holds
+    next-random-requires
+    enum-known-r
+    returns
+    enum-known-e
+    returns-2
+    enum-known-i
+    random-field-requires
+    enum-known-r-2
+    returns-3
+    enum-known-g
+    eat-requires
+    returns-4
+    loop-less
+    loop-again)

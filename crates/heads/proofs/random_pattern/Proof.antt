@@ -1,0 +1,73 @@
+use Rattle.heads.proofs.HeadLaws.{no-random, nought, tenth, took-random}
+use lib.Ieee.{isNan, ofBits}
+use Rattle.values.proofs.ValueLaws.{inside-missing, inside-refused}
+use Rattle.grammar.specs.Fields.{pairs}
+use Rattle.grammar.specs.Grammar.{randomFields}
+use borrow.Author.Needs.{needs}
+use Rattle.heads.proofs.random_pattern.Statement.{statement}
+use Rattle.heads.proofs.random_pattern.Tie as tie
+use Rattle.heads.proofs.random_pattern.Reads as reads
+use Rattle.heads.proofs.random_pattern.Lts as lts
+use Rattle.cursor.proofs.leave_group.Reads as leave-group-reads
+use Rattle.cursor.proofs.mark.Reads as mark-reads
+use Rattle.heads.proofs.float_or.Reads as float-or-reads
+use Rattle.heads.proofs.random_fields.Reads as random-fields-reads
+use Rattle.heads.proofs.word_or.Reads as word-or-reads
+
+mark-requires : tie.Need-mark-requires
+mark-requires c κs = search needs
+
+enum-known-p : tie.Need-enum-known-p
+enum-known-p c = search needs
+
+enum-known-m : tie.Need-enum-known-m
+enum-known-m c = search needs
+
+random-fields-requires : tie.Need-random-fields-requires
+random-fields-requires c κs = (rw (c .before .m .given .1) at (c .before .before .before .mark .ensures)) .ready
+
+enum-known-r : tie.Need-enum-known-r
+enum-known-r c = search needs
+
+enum-known-f : tie.Need-enum-known-f
+enum-known-f c = search needs
+
+word-or-requires : tie.Need-word-or-requires
+word-or-requires c κs = search needs
+
+float-or-requires : tie.Need-float-or-requires
+float-or-requires c κs = search needs
+
+float-or-requires-2 : tie.Need-float-or-requires-2
+float-or-requires-2 c κs = search needs
+
+leave-group-requires : tie.Need-leave-group-requires
+leave-group-requires c κs = (rw (c .before .before .before .before .f .given .1) at (c .before .before .before .before .before .before .random-fields .ensures)) .1 .ready
+
+returns : tie.Need-returns
+returns c = no-random (c .before .before .before .before .before .args .text .now) (c .before .before .before .before .before .args .c) _ _ (inside-missing (c .before .before .before .before .before .args .text .now) 40 (pairs randomFields) (c .before .before .before .before .before .args .c) _ (rw (c .before .p .given .1) at (c .before .before .before .mark .ensures)))
+
+returns-2 : tie.Need-returns-2
+returns-2 c = no-random (c .before .before .before .before .before .before .before .before .before .args .text .now) (c .before .before .before .before .before .before .before .before .before .args .c) _ _ (inside-refused (c .before .before .before .before .before .before .before .before .before .args .text .now) 40 (pairs randomFields) (c .before .before .before .before .before .before .before .before .before .args .c) _ (rw (c .before .before .before .before .before .m .given .1) at (c .before .before .before .before .before .before .before .mark .ensures)) _ _ (rw (c .before .r .given .1) at (c .before .before .before .random-fields .ensures)))
+
+returns-3 : tie.Need-returns-3
+unfolding isNan ofBits
+returns-3 c = took-random (c .before .before .before .before .before .before .before .before .before .before .before .before .before .args .text .now) (c .before .before .before .before .before .before .before .before .before .before .before .before .before .args .c) _ _ _ (c .before .before .before .before .before .f .given .0 .0) (rw (c .before .before .before .before .before .before .before .before .before .m .given .1) at (c .before .before .before .before .before .before .before .before .before .before .before .mark .ensures)) (rw (c .before .before .before .before .before .f .given .1) at (c .before .before .before .before .before .before .before .random-fields .ensures)) (c .leave-group .ensures) _ _ _ _ _ (c .before .before .before .word-or .ensures) (c .before .before .float-or .ensures) (c .before .float-or2 .ensures) nought tenth tt tt
+
+pub random-pattern-spec : {M : Type 1} → statement M
+random-pattern-spec =
+    tie.close
+    (tie.spec
+    mark-requires
+    enum-known-p
+    enum-known-m
+    random-fields-requires
+    enum-known-r
+    enum-known-f
+    word-or-requires
+    float-or-requires
+    float-or-requires-2
+    leave-group-requires
+    returns
+    returns-2
+    returns-3)

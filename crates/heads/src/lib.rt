@@ -1,0 +1,442 @@
+// parser.rs: what stands between a container's keyword and its block. `sequence` and `parallel` have nothing there.
+// The functions are for our own crates: each requires a cursor that stands in the text.
+ghost use mathlib.Core.Path.{_≡_};
+ghost use Prim.Native.Nat.{ℕ};
+ghost use Rattle.text.specs.Words.{default};
+ghost use Rattle.encode.specs.Of.{optWordOf, optCaseOf};
+ghost use Rattle.grammar.specs.Grammar.{gridFields, gridPattern, randomFields, randomPattern, parseStaggerPattern};
+ghost use Rattle.fields.specs.Means as fields;
+ghost use Rattle.cursor.specs.Means.{Ready};
+ghost use Rattle.heads.specs.Means.{GroupMeans, OriginMeans, GridFieldMeans, GridMeans, RandomFieldMeans, RandomMeans, FloatOr, PatternMeans, gridInside, NamedMeans, openingOf, PlainOpening, oneOpening, OpeningMeans, ValueMeans, StaggerMeans};
+use ast::GridOriginSpec;
+use ast::GroupMode;
+use ast::OptCase;
+use ast::OptF32;
+use ast::OptPattern;
+use ast::OptU32;
+use ast::StaggerPatternSpec;
+use cursor::CaseRead;
+use cursor::Cursor;
+use cursor::FloatRead;
+use cursor::MarkRead;
+use cursor::UintRead;
+use error::Refusal;
+use fields::NextField;
+
+pub enum GroupRead {
+    Is(GroupMode, Cursor),
+    Refused(Refusal, usize),
+}
+
+pub enum OriginRead {
+    Is(GridOriginSpec, Cursor),
+    Refused(Refusal, usize),
+}
+
+pub enum PatternRead {
+    Is(StaggerPatternSpec, Cursor),
+    Refused(Refusal, usize),
+}
+
+pub enum StaggerRead {
+    Is(OptPattern, OptF32, Cursor),
+    Refused(Refusal, usize),
+}
+
+// ---- group
+
+const GROUP_MODES: [u8; 18] = *b"\x08sequence\x08parallel";
+
+pub fn parse_group(text: &[u8], c: Cursor) -> GroupRead
+    requires { ⌜ Ready (now text) c ⌝ }
+    ensures { λ r. ⌜ GroupMeans (now (text .entry)) c r ⌝ }
+{
+    match cursor::choice(text, c, &GROUP_MODES, Refusal::Malformed) {
+        CaseRead::Refused(r, p) => GroupRead::Refused(r, p),
+        CaseRead::Is(i, m) => GroupRead::Is(i as u8, m),
+    }
+}
+
+// ---- what is present, or else a default
+
+fn word_or(o: OptU32, d: u32) -> u32
+    ensures { λ r. ⌜ r ≡ default (optWordOf o) d ⌝ }
+{
+    match o {
+        OptU32::Absent => d,
+        OptU32::Present(n) => n,
+    }
+}
+
+fn case_or(o: OptCase, d: u8) -> u8
+    ensures { λ r. ⌜ r ≡ default (optCaseOf o) d ⌝ }
+{
+    match o {
+        OptCase::Absent => d,
+        OptCase::Present(k) => k,
+    }
+}
+
+fn float_or(o: OptF32, d: f32) -> f32
+    ensures { λ r. ⌜ FloatOr o d r ⌝ }
+{
+    match o {
+        OptF32::Absent => d,
+        OptF32::Present(x) => x,
+    }
+}
+
+// ---- grid
+
+const GRID_ORIGINS: [u8; 73] =
+    *b"\x08top_left\x09top_right\x0bbottom_left\x0cbottom_right\x06center\x03top\x06bottom\x04left\x05right";
+
+pub fn parse_grid_origin(text: &[u8], c: Cursor) -> OriginRead
+    requires { ⌜ Ready (now text) c ⌝ }
+    ensures { λ r. ⌜ OriginMeans (now (text .entry)) c r ⌝ }
+{
+    match cursor::choice(text, c, &GRID_ORIGINS, Refusal::Malformed) {
+        CaseRead::Refused(r, p) => OriginRead::Refused(r, p),
+        CaseRead::Is(i, m) => OriginRead::Is(i as u8, m),
+    }
+}
+
+const GRID_FIELDS: [u8; 17] = *b"\x04cols\x04rows\x06origin";
+
+// The fields so far.
+pub struct GridFields {
+    pub cols: OptU32,
+    pub rows: OptU32,
+    pub origin: OptCase,
+}
+
+pub enum GridRead {
+    Is(GridFields, Cursor),
+    Refused(Refusal, usize),
+}
+
+// The value of a field, onto those so far.
+fn grid_field(text: &[u8], c: Cursor, f: GridFields, i: usize) -> GridRead
+    requires { ⌜ Ready (now text) c ⌝ }
+    ensures { λ r. ⌜ GridFieldMeans (now (text .entry)) c f i r ⌝ }
+{
+    let cols = f.cols;
+    let rows = f.rows;
+    let origin = f.origin;
+    if i == 2 {
+        return match parse_grid_origin(text, c) {
+            OriginRead::Refused(r, p) => GridRead::Refused(r, p),
+            OriginRead::Is(k, m) => {
+                let origin = OptCase::Present(k);
+                GridRead::Is(GridFields { cols, rows, origin }, m)
+            }
+        };
+    }
+    match cursor::parse_uint(text, c) {
+        UintRead::Refused(r, p) => GridRead::Refused(r, p),
+        UintRead::Is(n, m) => {
+            if i == 0 {
+                let cols = OptU32::Present(n);
+                return GridRead::Is(GridFields { cols, rows, origin }, m);
+            }
+            let rows = OptU32::Present(n);
+            GridRead::Is(GridFields { cols, rows, origin }, m)
+        }
+    }
+}
+
+fn next_grid(text: &[u8], c: Cursor) -> NextField
+    requires { ⌜ Ready (now text) c ⌝ }
+    ensures { λ r. ⌜ fields.PairMeans (now (text .entry)) c gridFields r ⌝ }
+{
+    fields::next_pair(text, c, &GRID_FIELDS)
+}
+
+fn grid_fields(text: &[u8], c: Cursor) -> GridRead
+    requires { ⌜ Ready (now text) c ⌝ }
+    ensures { λ r. ⌜ GridMeans (now (text .entry)) c r ⌝ }
+{
+    let mut m = c;
+    let mut f = GridFields {
+        cols: OptU32::Absent,
+        rows: OptU32::Absent,
+        origin: OptCase::Absent,
+    };
+    loop {
+        match next_grid(text, m) {
+            NextField::Refused(r, p) => return GridRead::Refused(r, p),
+            NextField::Done(e) => return GridRead::Is(f, e),
+            NextField::Field(i, v) => match grid_field(text, v, f, i) {
+                GridRead::Refused(r, p) => return GridRead::Refused(r, p),
+                GridRead::Is(g, e) => {
+                    let ate = cursor::eat(text, e, 44);
+                    let next = ate.next;
+                    if !ate.taken {
+                        return GridRead::Is(g, next);
+                    }
+                    f = g;
+                    m = next;
+                }
+            },
+        }
+    }
+}
+
+// Between the parentheses: both counts, and an origin or `center`.
+fn grid_inside(text: &[u8], c: Cursor) -> PatternRead
+    requires { ⌜ Ready (now text) c ⌝ }
+    ensures { λ r. ⌜ PatternMeans 0 (now (text .entry)) c gridInside r ⌝ }
+{
+    match grid_fields(text, c) {
+        GridRead::Refused(r, p) => PatternRead::Refused(r, p),
+        GridRead::Is(f, m) => {
+            let head = m.head;
+            let counted = f.cols;
+            let OptU32::Present(cols) = counted else {
+                return PatternRead::Refused(Refusal::StaggerGridIncomplete, head.start);
+            };
+            let counted_rows = f.rows;
+            let OptU32::Present(rows) = counted_rows else {
+                return PatternRead::Refused(Refusal::StaggerGridIncomplete, head.start);
+            };
+            let written = f.origin;
+            let origin = case_or(written, 4);
+            PatternRead::Is(StaggerPatternSpec::Grid { cols, rows, origin }, m)
+        }
+    }
+}
+
+// Behind `grid`.
+fn grid_pattern(text: &[u8], c: Cursor) -> PatternRead
+    requires { ⌜ Ready (now text) c ⌝ }
+    ensures { λ r. ⌜ PatternMeans 1 (now (text .entry)) c gridPattern r ⌝ }
+{
+    match cursor::mark(text, c, 40) {
+        MarkRead::Missing(p) => PatternRead::Refused(Refusal::Missing, p),
+        MarkRead::Is(m) => match grid_inside(text, m) {
+            PatternRead::Refused(r, p) => PatternRead::Refused(r, p),
+            PatternRead::Is(x, n) => PatternRead::Is(x, cursor::leave_group(text, n)),
+        },
+    }
+}
+
+// ---- random
+
+const RANDOM_FIELDS: [u8; 13] = *b"\x04seed\x03min\x03max";
+
+// The fields so far.
+pub struct RandomFields {
+    pub seed: OptU32,
+    pub min: OptF32,
+    pub max: OptF32,
+}
+
+pub enum RandomRead {
+    Is(RandomFields, Cursor),
+    Refused(Refusal, usize),
+}
+
+// The value of a field, onto those so far.
+fn random_field(text: &[u8], c: Cursor, f: RandomFields, i: usize) -> RandomRead
+    requires { ⌜ Ready (now text) c ⌝ }
+    ensures { λ r. ⌜ RandomFieldMeans (now (text .entry)) c f i r ⌝ }
+{
+    let seed = f.seed;
+    let min = f.min;
+    let max = f.max;
+    if i == 0 {
+        return match cursor::parse_uint(text, c) {
+            UintRead::Refused(r, p) => RandomRead::Refused(r, p),
+            UintRead::Is(n, m) => {
+                let seed = OptU32::Present(n);
+                RandomRead::Is(RandomFields { seed, min, max }, m)
+            }
+        };
+    }
+    match cursor::parse_float(text, c) {
+        FloatRead::Refused(r, p) => RandomRead::Refused(r, p),
+        FloatRead::Is(x, m) => {
+            if i == 1 {
+                let min = OptF32::Present(x);
+                return RandomRead::Is(RandomFields { seed, min, max }, m);
+            }
+            let max = OptF32::Present(x);
+            RandomRead::Is(RandomFields { seed, min, max }, m)
+        }
+    }
+}
+
+fn next_random(text: &[u8], c: Cursor) -> NextField
+    requires { ⌜ Ready (now text) c ⌝ }
+    ensures { λ r. ⌜ fields.PairMeans (now (text .entry)) c randomFields r ⌝ }
+{
+    fields::next_pair(text, c, &RANDOM_FIELDS)
+}
+
+fn random_fields(text: &[u8], c: Cursor) -> RandomRead
+    requires { ⌜ Ready (now text) c ⌝ }
+    ensures { λ r. ⌜ RandomMeans (now (text .entry)) c r ⌝ }
+{
+    let mut m = c;
+    let mut f = RandomFields {
+        seed: OptU32::Absent,
+        min: OptF32::Absent,
+        max: OptF32::Absent,
+    };
+    loop {
+        match next_random(text, m) {
+            NextField::Refused(r, p) => return RandomRead::Refused(r, p),
+            NextField::Done(e) => return RandomRead::Is(f, e),
+            NextField::Field(i, v) => match random_field(text, v, f, i) {
+                RandomRead::Refused(r, p) => return RandomRead::Refused(r, p),
+                RandomRead::Is(g, e) => {
+                    let ate = cursor::eat(text, e, 44);
+                    let next = ate.next;
+                    if !ate.taken {
+                        return RandomRead::Is(g, next);
+                    }
+                    f = g;
+                    m = next;
+                }
+            },
+        }
+    }
+}
+
+// Behind `random`.
+fn random_pattern(text: &[u8], c: Cursor) -> PatternRead
+    requires { ⌜ Ready (now text) c ⌝ }
+    ensures { λ r. ⌜ PatternMeans 1 (now (text .entry)) c randomPattern r ⌝ }
+{
+    match cursor::mark(text, c, 40) {
+        MarkRead::Missing(p) => PatternRead::Refused(Refusal::Missing, p),
+        MarkRead::Is(m) => match random_fields(text, m) {
+            RandomRead::Refused(r, p) => PatternRead::Refused(r, p),
+            RandomRead::Is(f, n) => {
+                let seeded = f.seed;
+                let low = f.min;
+                let high = f.max;
+                let seed = word_or(seeded, 0);
+                let min = float_or(low, 0.0);
+                let max = float_or(high, 0.1);
+                PatternRead::Is(
+                    StaggerPatternSpec::Random { seed, min, max },
+                    cursor::leave_group(text, n),
+                )
+            }
+        },
+    }
+}
+
+// ---- stagger
+
+const PATTERNS: [u8; 32] = *b"\x04grid\x06random\x0acenter_out\x08edges_in";
+
+// Behind a pattern's name.
+fn named_pattern(text: &[u8], c: Cursor, i: usize) -> PatternRead
+    requires { ⌜ Ready (now text) c ⌝ }
+    ensures { λ r. ⌜ NamedMeans (now (text .entry)) c i r ⌝ }
+{
+    match i {
+        0 => grid_pattern(text, c),
+        1 => random_pattern(text, c),
+        2 => PatternRead::Is(StaggerPatternSpec::CenterOut, c),
+        _ => PatternRead::Is(StaggerPatternSpec::EdgesIn, c),
+    }
+}
+
+pub fn parse_stagger_pattern(text: &[u8], c: Cursor) -> PatternRead
+    requires { ⌜ Ready (now text) c ⌝ }
+    ensures { λ r. ⌜ PatternMeans 1 (now (text .entry)) c parseStaggerPattern r ⌝ }
+{
+    match cursor::choice(text, c, &PATTERNS, Refusal::Malformed) {
+        CaseRead::Refused(r, p) => PatternRead::Refused(r, p),
+        CaseRead::Is(i, m) => named_pattern(text, m, i),
+    }
+}
+
+const OPENING_FIELDS: [u8; 14] = *b"\x07pattern\x05delay";
+
+// The fields so far.
+pub struct Opening {
+    pub pattern: OptPattern,
+    pub delay: OptF32,
+}
+
+pub enum OpeningRead {
+    Is(Opening, Cursor),
+    Refused(Refusal, usize),
+}
+
+// Behind a field's name: `:` and its value, onto those so far.
+fn opening_value(text: &[u8], c: Cursor, f: Opening, i: usize) -> OpeningRead
+    requires { ⌜ Ready (now text) c × PlainOpening f ⌝ }
+    ensures { λ r. ⌜ ValueMeans (now (text .entry)) c f i r ⌝ }
+{
+    let pattern = f.pattern;
+    let delay = f.delay;
+    match cursor::mark(text, c, 58) {
+        MarkRead::Missing(p) => OpeningRead::Refused(Refusal::Missing, p),
+        MarkRead::Is(m) => {
+            if i == 0 {
+                return match parse_stagger_pattern(text, m) {
+                    PatternRead::Refused(r, p) => OpeningRead::Refused(r, p),
+                    PatternRead::Is(x, n) => {
+                        let pattern = OptPattern::Present(x);
+                        OpeningRead::Is(Opening { pattern, delay }, n)
+                    }
+                };
+            }
+            match cursor::parse_float(text, m) {
+                FloatRead::Refused(r, p) => OpeningRead::Refused(r, p),
+                FloatRead::Is(x, n) => {
+                    let delay = OptF32::Present(x);
+                    OpeningRead::Is(Opening { pattern, delay }, n)
+                }
+            }
+        }
+    }
+}
+
+// A field, onto those so far.
+fn opening_field(text: &[u8], c: Cursor, f: Opening) -> OpeningRead
+    requires { ⌜ Ready (now text) c × PlainOpening f ⌝ }
+    ensures { λ r. ⌜ OpeningMeans (now (text .entry)) c (oneOpening (openingOf f)) r ⌝ }
+{
+    match cursor::choice(text, c, &OPENING_FIELDS, Refusal::UnknownKeyword) {
+        CaseRead::Refused(r, p) => OpeningRead::Refused(r, p),
+        CaseRead::Is(i, m) => opening_value(text, m, f, i),
+    }
+}
+
+pub fn parse_stagger(text: &[u8], c: Cursor) -> StaggerRead
+    requires { ⌜ Ready (now text) c ⌝ }
+    ensures { λ r. ⌜ StaggerMeans (now (text .entry)) c r ⌝ }
+{
+    let mut m = c;
+    let mut f = Opening {
+        pattern: OptPattern::Absent,
+        delay: OptF32::Absent,
+    };
+    loop {
+        if cursor::sees(m, 123) {
+            let pattern = f.pattern;
+            let delay = f.delay;
+            return StaggerRead::Is(pattern, delay, m);
+        }
+        match opening_field(text, m, f) {
+            OpeningRead::Refused(r, p) => return StaggerRead::Refused(r, p),
+            OpeningRead::Is(g, e) => {
+                let ate = cursor::eat(text, e, 44);
+                let next = ate.next;
+                if !ate.taken {
+                    let pattern = g.pattern;
+                    let delay = g.delay;
+                    return StaggerRead::Is(pattern, delay, next);
+                }
+                f = g;
+                m = next;
+            }
+        }
+    }
+}
