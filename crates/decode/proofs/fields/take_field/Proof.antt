@@ -1,0 +1,112 @@
+use Rattle.decode.proofs.ReadLaws as laws
+use Prim.Native.Nat.{_+_, _-_, _<_, _^_, _≤_}
+use native.Mathlib.Nat.{add-zero}
+use native.Mathlib.Omega.{arith}
+use Rattle.codec.specs.Codec.{big}
+use lib.ListN.{drop, getD, length}
+use borrow.Author.Needs.{needs}
+use mathlib.Core.Path.{_≡_}
+use mathlib.Core.Option.{some}
+use Rattle.decode.proofs.fields.take_field.Statement.{statement}
+use Rattle.decode.proofs.fields.take_field.Tie as tie
+
+abbrev Inv-loop : tie.InvT-loop
+Inv-loop s at width v₀ k₀ v k = (k ≤ width) × (at + k ≤ length s) × (v < 256 ^ k) × (big k .read (drop at s) ≡ some (v, drop (at + k) s))
+
+abbrev μ-loop : tie.MeasureT-loop
+μ-loop s at width v₀ k₀ v k = width - k
+
+-- src/fields.rt:68:19
+lost-requires : tie.Need-lost-requires Inv-loop μ-loop
+lost-requires c κs = search needs
+
+-- src/fields.rt:66:9
+returns : tie.Need-returns Inv-loop μ-loop
+returns c = laws.big-lost _ _ (c .before .before .before .args .width) (c .before .if1 .taken) (c .lost .ensures)
+
+-- src/fields.rt:73:5
+loop-holds : tie.Need-loop-holds Inv-loop μ-loop
+loop-holds c = (omega arith, omega (arith, c .if1 .left), omega arith, rw add-zero)
+
+-- src/fields.rt:74:23
+add-if2 : tie.Need-add-if2 Inv-loop μ-loop
+add-if2 c = search needs
+
+-- src/fields.rt:77:23
+lost-requires-2 : tie.Need-lost-requires-2 Inv-loop μ-loop
+lost-requires-2 c κs = search needs
+
+-- src/fields.rt:75:13
+returns-2 : tie.Need-returns-2 Inv-loop μ-loop
+returns-2 c = laws.big-short _ _ _ _ _ (c .before .if2 .taken) (c .before .before .before .loop .inv .3) (c .before .before .loop-test .taken) (c .lost2 .ensures)
+
+-- src/fields.rt:80:13
+mul-v : tie.Need-mul-v Inv-loop μ-loop
+mul-v c = let l = c .before .before .loop in omega (arith, laws.room (l .k) (l .v) 0 (omega arith) (l .inv .2) (omega arith))
+
+-- src/fields.rt:80:25
+add-v : tie.Need-add-v Inv-loop μ-loop
+add-v c = search needs
+
+-- src/fields.rt:80:23
+shared-slice-read-v : tie.Need-shared-slice-read-v Inv-loop μ-loop
+shared-slice-read-v c = search needs
+
+-- src/fields.rt:80:23
+cast-v : tie.Need-cast-v Inv-loop μ-loop
+cast-v c = omega (arith, c .shared-slice-known2 .given (c .before .before .before .before .before .before .args .at + c .before .before .before .loop .k))
+
+-- src/fields.rt:80:13
+add-v-2 : tie.Need-add-v-2 Inv-loop μ-loop
+add-v-2 c =
+    let l = c .before .before .before .loop in
+    let i = c .before .before .before .before .before .before .args .at + l .k in
+    let b : getD (c .before .before .before .before .before .before .args .s .now) i 0 < 256 = omega (arith, c .shared-slice-known2 .given i) in
+    omega (arith, laws.room (l .k) (l .v) _ (omega arith) (l .inv .2) b)
+
+-- src/fields.rt:81:9
+add-k : tie.Need-add-k Inv-loop μ-loop
+add-k c = search needs
+
+-- src/fields.rt:73:5
+loop-less : tie.Need-loop-less Inv-loop μ-loop
+loop-less c = search needs
+
+-- src/fields.rt:73:5
+loop-again : tie.Need-loop-again Inv-loop μ-loop
+loop-again c =
+    let l = c .before .before .before .loop in
+    let i = c .before .before .before .before .before .before .args .at + l .k in
+    let b : getD (c .before .before .before .before .before .before .args .s .now) i 0 < 256 = omega (arith, c .shared-slice-known2 .given i) in
+    (omega arith, omega (arith, c .before .if2 .left), laws.grow _ _ _ (l .inv .2) b, laws.big-next _ _ _ _ (c .before .if2 .left) b (l .inv .3))
+
+-- src/fields.rt:83:26
+add-t6 : tie.Need-add-t6 Inv-loop μ-loop
+add-t6 c = search needs
+
+-- src/fields.rt:61:1
+returns-3 : tie.Need-returns-3 Inv-loop μ-loop
+returns-3 c = laws.big-got _ _ _ _ _ (omega arith) (c .before .loop .inv .3) (c .before .loop .inv .1) (c .before .loop .inv .2)
+
+pub take-field-spec : {M : Type 1} → statement M
+take-field-spec =
+    tie.close
+    (tie.spec
+    Inv-loop
+    μ-loop
+    lost-requires
+    returns
+    loop-holds
+    add-if2
+    lost-requires-2
+    returns-2
+    mul-v
+    add-v
+    shared-slice-read-v
+    cast-v
+    add-v-2
+    add-k
+    loop-less
+    loop-again
+    add-t6
+    returns-3)

@@ -1,0 +1,27 @@
+use mathlib.Core.Path.{refl}
+use Rattle.sheet.specs.Sheet.{word}
+use Rattle.ast.specs.declared.OptU32.the-variants.{Present}
+use Rattle.decode.proofs.ReadLaws as laws
+use borrow.Author.Needs.{needs}
+use Rattle.decode.proofs.optional.take_opt_word.Statement.{statement}
+use Rattle.decode.proofs.optional.take_opt_word.Tie as tie
+use Rattle.decode.proofs.optional.take_opt_word.Reads as reads
+
+-- src/optional.rt:97:9
+take-byte-requires : tie.Need-take-byte-requires
+take-byte-requires c κs = search needs
+
+-- src/optional.rt:99:9
+returns : tie.Need-returns
+returns c = laws.absent word (c .before .before .take-byte .ensures) (c .if1 .taken) refl
+
+-- src/optional.rt:104:9
+take-field-requires : tie.Need-take-field-requires
+take-field-requires c κs = search needs
+
+-- src/optional.rt:94:1
+returns-2 : tie.Need-returns-2
+returns-2 c = laws.present word (c .before .before .before .take-byte .ensures) (c .before .if1 .left) (c .take-field .ensures .reads) (λ a e i. Present (e i))
+
+pub take-opt-word-spec : {M : Type 1} → statement M
+take-opt-word-spec = tie.close (tie.spec take-byte-requires returns take-field-requires returns-2)

@@ -1,0 +1,150 @@
+-- Where the records of a sheet stand. Assumes nothing.
+use Prim.Native.Nat.{ℕ, zero, suc, _+_, _-_, _≤_, _<_}
+use mathlib.Core.List.{List, [], _∷_, _++_}
+use mathlib.Core.Option.{Option, none, some, Option·some-injective}
+use mathlib.Core.Path.{_≡_, refl, sym, _∙_, ap, subst, subst⁻¹}
+use native.Mathlib.Nat.{le-of-suc-le-suc}
+use native.Mathlib.Omega.{arith}
+use lib.ListN.{length, take, drop, getElem?, drop-of-length-le, length-append, length-drop}
+use lib.Seq.{drop-drop, drop-append-seam, take-at}
+use Rattle.codec.specs.Codec.{Form, big, opt}
+use Rattle.codec.proofs.Laws.{Small, All, big-lawful}
+use Rattle.ast.specs.Tree as tree
+use Rattle.ast.specs.Tree.{Nodes, Container, leaf, box, single, holding, width}
+use Rattle.sheet.specs.Sheet.{word, patternForm, Node, Forest, decode}
+use Rattle.sheet.specs.Records.{recordOf, recordsOf, allRecords}
+use Rattle.sheet.proofs.Laws.{nodeL, innerL, OkNodes, Fits, decoded}
+use Rattle.sheet.proofs.Flat.{concat, leaf-same, leaf-ok, inside, sheet-flat}
+use Rattle.decode.specs.Reads.{Reads, got, bad, same}
+use Rattle.records.specs.Record.{blank, countForm, recordForm}
+use Rattle.records.proofs.RecordLaws.{width-blank, countL, recordL}
+
+-- ---- each record of a tree within the limits is read back alone
+
+abbrev pub Alone : ℕ → List ℕ → Type 0
+Alone n r = (rest : List ℕ) → (y : Node) × (recordForm n .read (r ++ rest) ≡ some (y, rest))
+
+written : (n : ℕ) (x : Node) {r : List ℕ} → recordL n .ok x → r ≡ recordForm n .write x → Alone n r
+written n x h e rest = (x, ap (λ (l : List ℕ). recordForm n .read (l ++ rest)) e ∙ recordL n .law .back x h rest)
+
+-- a container's record says no more of the nodes in it than their count
+same-count : (n : ℕ) (k : Container) (ns ms : Forest) → width ns ≡ width ms → recordOf n (holding k ns) ≡ recordForm n .write (holding k ms)
+same-count n tree.sequence ns ms e = ap (λ (w : ℕ). 3 ∷ big 2 .write w) e
+same-count n tree.parallel ns ms e = ap (λ (w : ℕ). 4 ∷ big 2 .write w) e
+same-count n (tree.group m) ns ms e = ap (λ (w : ℕ). 5 ∷ m ∷ big 2 .write w) e
+same-count n (tree.stagger p d) ns ms e = ap (λ (w : ℕ). 6 ∷ opt patternForm .write p ++ (opt word .write d ++ big 2 .write w)) e
+
+bare : (n d : ℕ) (ns : Forest) → innerL n d .ok ns → countL .ok (blank (width ns))
+bare n zero ns h = absurd h
+bare n (suc d) ns h = (subst⁻¹ (Small 2) (width-blank (width ns)) (h .0), ap blank (width-blank (width ns)))
+
+box-ok : (n d : ℕ) (k : Container) (ns : Forest) → nodeL n (innerL n d) .ok (holding k ns) → recordL n .ok (holding k (blank (width ns)))
+box-ok n d tree.sequence ns h = bare n d ns h
+box-ok n d tree.parallel ns h = bare n d ns h
+box-ok n d (tree.group m) ns h = (h .0, bare n d ns (h .1))
+box-ok n d (tree.stagger p e) ns h = (h .0, (h .1 .0, bare n d ns (h .1 .1)))
+
+all-append : (P : List ℕ → Type 0) (rs qs : List (List ℕ)) → All P rs → All P qs → All P (rs ++ qs)
+all-append P [] qs h g = g
+all-append P (r ∷ rs) qs h g = (h .0, all-append P rs qs (h .1) g)
+
+all-alone : (n d : ℕ) (ns : Forest) → OkNodes n (innerL n d) ns → All (Alone n) (recordsOf n ns)
+all-alone n d Nodes.none h = tt
+all-alone n d (leaf l rest) h = (written n (single l) (leaf-ok n (innerL n d) countL l (h .0)) (sym (leaf-same n countForm l)), all-alone n d rest (h .1))
+all-alone n zero (box k ns rest) h = absurd (inside n 0 k ns (h .0))
+all-alone n (suc d) (box k ns rest) h = (
+  written n (holding k (blank (width ns))) (box-ok n (suc d) k ns (h .0)) (same-count n k ns (blank (width ns)) (sym (width-blank (width ns)))),
+  all-append (Alone n) (recordsOf n ns) (recordsOf n rest) (all-alone n d ns (inside n (suc d) k ns (h .0) .1)) (all-alone n (suc d) rest (h .1)),
+)
+
+-- ---- a place behind some records
+
+-- the record k of rs stands from start to end
+pub record Stands (n : ℕ) (s : List ℕ) (rs : List (List ℕ)) (k start end : ℕ) : Type 0 where
+  pub this : List ℕ
+  pub those : List (List ℕ)
+  pub listed : drop k rs ≡ this ∷ those
+  pub here : drop start s ≡ this ++ concat those
+  pub long : end ≡ start + length this
+  pub within : end ≤ length s
+  pub alone : All (Alone n) those
+
+-- what is read where something stands that is read back
+landed : {A X : Type 0} (c : Form A) {f : A → X} {s : List ℕ} {start m : ℕ} {v : X} (r rest : List ℕ) → start ≤ length s → drop start s ≡ r ++ rest
+    → (y : A) × (c .read (r ++ rest) ≡ some (y, rest)) → Reads c f s start v m → (m ≡ start + length r) × (m ≤ length s)
+landed {A} c {s = s} {start = start} {m = m} r rest h e b (got a g q i l) =
+    let z : Prim.Path (Option (A × List ℕ)) (some (a, drop m s)) (some (b .0, rest)) = sym g ∙ ap (c .read) e ∙ b .1 in
+    let w : drop m s ≡ rest = ap (λ (p : A × List ℕ). p .1) (Option·some-injective (a, drop m s) (b .0, rest) z) in
+    let x : length (drop start s) ≡ length r + length rest = ap length e ∙ length-append r rest in
+    let y : length (drop m s) ≡ length rest = ap length w in
+    (omega (arith, length-drop start s, length-drop m s), l)
+landed {A} c {s = s} {start = start} r rest h e b (bad o k) =
+    let z : Prim.Path (Option (A × List ℕ)) none (some (b .0, rest)) = sym (k h) ∙ ap (c .read) e ∙ b .1 in
+    let x : _≡_ {A = ℕ} 0 1 = cc in
+    absurd (omega arith)
+
+drop-next : (rs : List (List ℕ)) (k : ℕ) {r : List ℕ} {qs : List (List ℕ)} → drop k rs ≡ r ∷ qs → drop (k + 1) rs ≡ qs
+drop-next rs k {r} {qs} e = sym (drop-drop 1 k rs) ∙ ap (drop 1) e
+
+module _ (n : ℕ) (s : List ℕ) where
+  -- the head
+  pub first : (ns : Forest) {c end : ℕ} → decode n s ≡ some ns → Reads (big 2) same s 0 c end → Stands n s (allRecords n ns) 0 0 end
+  unfolding allRecords Fits
+  first ns {end = end} e r =
+      let d = decoded n s ns e in
+      let w = big 2 .write (width ns) in
+      let h : s ≡ w ++ concat (recordsOf n ns) = d .encodes ∙ sheet-flat n ns (d .fits) in
+      let z = landed (big 2) w (concat (recordsOf n ns)) (omega arith) h (width ns, big-lawful 2 .back (width ns) (d .fits .0) (concat (recordsOf n ns))) r in
+      record {
+        this = w;
+        those = recordsOf n ns;
+        listed = refl;
+        here = h;
+        long = z .0;
+        within = z .1;
+        alone = all-alone n 16 ns (d .fits .1);
+      }
+
+  module _ (rs : List (List ℕ)) {k start end : ℕ} (t : Stands n s rs k start end) where
+    behind : drop end s ≡ concat (t .those)
+    behind =
+        ap (λ (m : ℕ). drop m s) (t .long) ∙ sym (drop-drop (length (t .this)) start s) ∙ ap (drop (length (t .this))) (t .here)
+        ∙ drop-append-seam (t .this) (concat (t .those))
+
+    -- the next one
+    pub next : {X : Type 0} {f : Node → X} {m : ℕ} {v : X} → end < length s → Reads (recordForm n) f s end v m → Stands n s rs (k + 1) end m
+    next {X} {f} {m} {v} h r = go (t .those) (drop-next rs k (t .listed)) behind (t .alone)
+      where
+        go : (qs : List (List ℕ)) → drop (k + 1) rs ≡ qs → drop end s ≡ concat qs → All (Alone n) qs → Stands n s rs (k + 1) end m
+        go [] l b a = absurd (let z : length (drop end s) ≡ 0 = ap length b in omega (arith, length-drop end s))
+        go (q ∷ qs) l b a =
+            let z = landed (recordForm n) q (concat qs) (omega arith) b (a .0 (concat qs)) r in
+            record { this = q; those = qs; listed = l; here = b; long = z .0; within = z .1; alone = a .1 }
+
+    -- there is none behind the last
+    pub no-more : (o : ℕ) → length s ≤ end → k < o → none ≡ getElem? rs o
+    no-more o h l = go (t .those) (drop-next rs k (t .listed)) behind (t .alone)
+      where
+        past : (rs : List (List ℕ)) (o : ℕ) → length rs ≤ o → none ≡ getElem? rs o
+        past [] o h = refl
+        past (r ∷ rs) zero h = absurd (no (length rs) h)
+          where
+            no : (m : ℕ) → suc m ≤ 0 → ⊥
+            no m h = omega arith
+        past (r ∷ rs) (suc o) h = past rs o (le-of-suc-le-suc h)
+
+        go : (qs : List (List ℕ)) → drop (k + 1) rs ≡ qs → drop end s ≡ concat qs → All (Alone n) qs → none ≡ getElem? rs o
+        go [] d b a = let z : length (drop (k + 1) rs) ≡ 0 = ap length d in past rs o (omega (arith, length-drop (k + 1) rs))
+        go ([] ∷ qs) d b a = let e = a .0 [] .1 in let z : _≡_ {A = ℕ} 0 1 = cc in absurd (omega arith)
+        go ((x ∷ q) ∷ qs) d b a = absurd (let z : length (drop end s) ≡ suc (length (q ++ concat qs)) = ap length b in omega (arith, length-drop end s))
+
+    -- this one
+    pub this-one : (o : ℕ) → o ≡ k → some (take (end - start) (drop start s)) ≡ getElem? rs o
+    this-one o e =
+        let l : length (t .this) ≡ end - start = let z = t .long in omega arith in
+        ap some (ap (take (end - start)) (t .here) ∙ take-at (t .this) (concat (t .those)) (end - start) l) ∙ sym (ap (getElem? rs) e ∙ at-drop rs k ∙ ap (λ (l : List (List ℕ)). getElem? l 0) (t .listed))
+      where
+        at-drop : (rs : List (List ℕ)) (k : ℕ) → getElem? rs k ≡ getElem? (drop k rs) 0
+        at-drop rs zero = refl
+        at-drop [] (suc k) = refl
+        at-drop (r ∷ rs) (suc k) = at-drop rs k
