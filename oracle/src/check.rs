@@ -8,11 +8,22 @@ use crate::{hex, sheet, validate};
 
 /// Answers `TEXTHEX TAB SHEETHEX`.
 pub fn line(line: &str) -> String {
-    let fields = line.split_once('\t').and_then(|(t, s)| Some((hex::read(t)?, hex::read(s)?)));
-    let Some((text, sheet)) = fields else {
-        return "not hexadecimal".to_string();
-    };
-    verdict(checked(&text, &sheet))
+    both(line, |text, sheet| verdict(checked(text, sheet)))
+}
+
+/// Answers `TEXTHEX TAB SHEETHEX` with the sizes of the sheet's records.
+pub fn records_line(line: &str) -> String {
+    both(line, |text, sheet| match sheet::record_sizes(text, sheet) {
+        None => "no sheet".to_string(),
+        Some(sizes) => sizes.iter().fold("sheet".to_string(), |line, size| format!("{line} {size}")),
+    })
+}
+
+fn both(line: &str, answer: impl Fn(&[u8], &[u8]) -> String) -> String {
+    match line.split_once('\t').and_then(|(t, s)| Some((hex::read(t)?, hex::read(s)?))) {
+        None => "not hexadecimal".to_string(),
+        Some((text, sheet)) => answer(&text, &sheet),
+    }
 }
 
 /// 01's checking: 1, 2 and 20 are a model, the others are the Rust's.

@@ -40,6 +40,7 @@ fn main() {
         ["read", "--rust-only"] => each_line(|line| read::line(line, read::Rules::RustOnly)),
         ["tree"] => each_line(read::tree_line),
         ["check"] => each_line(check::line),
+        ["records"] => each_line(check::records_line),
         ["compare-syn", plain] => compare::run(plain),
         ["gen", seed, count] => gen::run(number(seed), number(count), "all"),
         ["gen", seed, count, kind] => gen::run(number(seed), number(count), kind),
@@ -49,7 +50,7 @@ fn main() {
 }
 
 fn usage() -> ! {
-    eprintln!("usage: oracle read [--rust-only] | check | tree | compare-syn PLAIN-ORACLE");
+    eprintln!("usage: oracle read [--rust-only] | check | records | tree | compare-syn PLAIN-ORACLE");
     eprintln!("     | gen SEED COUNT [grammar|damage|limits|words|short] | gen-sheets SEED COUNT");
     std::process::exit(2)
 }

@@ -3,7 +3,7 @@
 mod decode;
 mod encode;
 
-pub use decode::decode;
+pub use decode::{decode, record_sizes};
 pub use encode::{encode, Names, Sheet};
 
 /// As in parser.rs, whose own is private.

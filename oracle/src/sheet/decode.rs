@@ -9,18 +9,33 @@ const CONTAINER_LIMIT: usize = 16;
 
 /// The tree that `sheet` encodes, or none if it is no sheet for `text`.
 pub fn decode(text: &[u8], sheet: &[u8]) -> Option<Vec<MotionNode>> {
+    walk(text, sheet).map(|(nodes, _)| nodes)
+}
+
+/// The sizes of the records of `sheet`, or none if it is no sheet for `text`.
+pub fn record_sizes(text: &[u8], sheet: &[u8]) -> Option<Vec<usize>> {
+    let (_, starts) = walk(text, sheet)?;
+    Some(starts.windows(2).map(|pair| pair[1] - pair[0]).collect())
+}
+
+/// The tree, and the places where its records start, with the sheet's length.
+fn walk(text: &[u8], sheet: &[u8]) -> Option<(Vec<MotionNode>, Vec<usize>)> {
     if sheet.len() > SHEET_LIMIT {
         return None;
     }
-    let mut reader = Reader { text, rest: sheet };
+    let mut reader = Reader { text, rest: sheet, left: vec![sheet.len()] };
     let count = reader.count()?;
     let nodes = reader.nodes(count, 0)?;
-    reader.rest.is_empty().then_some(nodes)
+    reader.left.push(0);
+    let starts = reader.left.iter().map(|left| sheet.len() - left).collect();
+    reader.rest.is_empty().then_some((nodes, starts))
 }
 
 struct Reader<'a> {
     text: &'a [u8],
     rest: &'a [u8],
+    /// The bytes left where each record starts.
+    left: Vec<usize>,
 }
 
 impl Reader<'_> {
@@ -159,6 +174,7 @@ impl Reader<'_> {
     }
 
     fn node(&mut self, depth: usize) -> Option<MotionNode> {
+        self.left.push(self.rest.len());
         Some(match self.byte()? {
             0 => MotionNode::Tween(self.tween()?),
             1 => MotionNode::Spring(self.spring()?),

@@ -8,7 +8,7 @@ use borrow.Author.Needs.{needs}
 use Rattle.ast.specs.Tree.{records}
 use Rattle.records.proofs.WalkLaws as walks
 use Rattle.records.proofs.RecordLaws as records
-use Prim.Native.Nat.{ℕ}
+use Prim.Native.Nat.{ℕ, _<_}
 use borrow.Fn.Kinds.{In}
 use borrow.Fn.PlainCycle.{Measures, is, falls, and}
 use Rattle.records.proofs.walk_node.Reads as walk-node
