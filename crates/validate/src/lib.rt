@@ -1,1 +1,3 @@
 // validate.rs: checking a sheet.
+mod faults;
+mod rules;
