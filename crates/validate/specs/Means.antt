@@ -1,6 +1,15 @@
 -- What the answers of the code mean. Contracts cite these. Assumes nothing.
+use Prim.Native.Nat.{ℕ, _≤_}
+use mathlib.Core.List.{List, []}
 use mathlib.Core.Option.{Option, none, some}
 use mathlib.Core.Path.{_≡_}
+use lib.ListN.{length, drop}
+use Rattle.codec.specs.Codec.{Form, each}
+use Rattle.ast.specs.Tree.{KeyframeEntry, KeyframeSpec, KeyframeTime}
+use Rattle.ast.specs.View.{keyframesView}
+use Rattle.ast.specs.declared.KeyframeSpec as tracks
+use Rattle.sheet.specs.Sheet.{entryForm, keyframesForm}
+use Rattle.validate.specs.Rules.{validateFrames, validateKeyframes}
 use Rattle.error.specs.declared.Refusal.{Refusal}
 use Rattle.validate.specs.declared.faults.Fault.{Fault}
 use Rattle.validate.specs.declared.faults.Fault.the-variants.{None, Is}
@@ -12,3 +21,24 @@ faultOf (Is r) = some r
 -- r is what f gives, of whatever `view` shows as v
 abbrev pub Tells : {A X B : Type 0} → (A → X) → (A → B) → X → B → Type 0
 Tells {A} view f v r = (a : A) → view a ≡ v → r ≡ f a
+
+-- a stands at a place of some bytes, in the form c
+pub record Stands {A : Type 0} (c : Form A) (s : List ℕ) (at : ℕ) (a : A) : Type 0 where
+  pub within : at ≤ length s
+  pub rest : List ℕ
+  pub reads : c .read (drop at s) ≡ some (a, rest)
+
+-- ---- tracks
+
+-- whichever frames stand there, r is their first fault
+abbrev pub FramesTell : List ℕ → List ℕ → ℕ → ℕ → Fault → Type 0
+FramesTell t s at count r =
+    (fs : List (KeyframeEntry KeyframeTime)) → Stands (each (entryForm (length t)) count) s at fs → faultOf r ≡ validateFrames t [] fs
+
+-- the frames of the track that stands at a place stand at r
+abbrev pub FramesAt : ℕ → List ℕ → ℕ → ℕ → Type 0
+FramesAt n s at r = (x : KeyframeSpec KeyframeTime) → Stands (keyframesForm n) s at x → Stands (each (entryForm n) (length (x .frames))) s r (x .frames)
+
+-- whichever track stands there, shown as v, r is its fault
+abbrev pub TrackTells : List ℕ → List ℕ → ℕ → tracks.KeyframeSpec → Fault → Type 0
+TrackTells t s at v r = (x : KeyframeSpec KeyframeTime) → Stands (keyframesForm (length t)) s at x → keyframesView x ≡ v → faultOf r ≡ validateKeyframes t x

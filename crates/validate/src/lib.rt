@@ -1,3 +1,4 @@
 // validate.rs: checking a sheet.
 mod faults;
+mod frames;
 mod rules;
