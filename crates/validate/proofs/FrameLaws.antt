@@ -42,7 +42,7 @@ module _ {A : Type 0} (c : Form A) (s : List ℕ) (n : ℕ) (xs : List A) where
 
   -- what is read next is the next value
   pub record Next {X : Type 0} (f : A → X) (v : X) (k b : ℕ) : Type 0 where
-    pub x : A
+    pub value : A
     pub list : drop k xs ≡ x ∷ drop (k + 1) xs
     pub seen : f x ≡ v
     pub on : Left (k + 1) b
@@ -56,7 +56,7 @@ module _ {A : Type 0} (c : Form A) (s : List ℕ) (n : ℕ) (xs : List A) where
       let d : drop k xs ≡ x ∷ y .0 = sym (ap (λ (z : List A × List ℕ). z .0) p) in
       let t : drop (k + 1) xs ≡ y .0 = sym (drop-drop 1 k xs) ∙ ap (drop 1) d in
       record {
-        x = x;
+        value = x;
         list = d ∙ ap (λ (l : List A). x ∷ l) (sym t);
         seen = q;
         on = record { within = r; rest = y .1; reads = o ∙ ap (λ (l : List A). some (l, y .1)) (sym t) };
@@ -114,18 +114,18 @@ module _ (t s : List ℕ) (n : ℕ) (fs : List Entry) where
 
   module _ (time : Float) (i j : ℕ) {v : entries.KeyframeEntry} {b : ℕ} (l : j < i) (w : Next form s n fs entryView v j b) where
     -- one more of them
-    unroll : anyNear time (stamps (take (i - j) (drop j fs))) ≡ (near (stamp (w .x)) time || anyNear time (stamps (take (i - (j + 1)) (drop (j + 1) fs))))
+    unroll : anyNear time (stamps (take (i - j) (drop j fs))) ≡ (near (stamp (w .value)) time || anyNear time (stamps (take (i - (j + 1)) (drop (j + 1) fs))))
     unroll =
         let z : i - j ≡ suc (i - (j + 1)) = omega arith in
         ap (λ (l : List Entry). anyNear time (stamps (take (i - j) l))) (w .list)
-        ∙ ap (λ (m : ℕ). anyNear time (stamps (take m (w .x ∷ drop (j + 1) fs)))) z
-        ∙ any-cons time (stamp (w .x)) (stamps (take (i - (j + 1)) (drop (j + 1) fs)))
+        ∙ ap (λ (m : ℕ). anyNear time (stamps (take m (w .value ∷ drop (j + 1) fs)))) z
+        ∙ any-cons time (stamp (w .value)) (stamps (take (i - (j + 1)) (drop (j + 1) fs)))
 
-    pub tried-next : near (stamp (w .x)) time ≡ false → Tried time i j → Tried time i (j + 1)
-    tried-next e g = g ∙ unroll ∙ or-rest (near (stamp (w .x)) time) _ e
+    pub tried-next : near (stamp (w .value)) time ≡ false → Tried time i j → Tried time i (j + 1)
+    tried-next e g = g ∙ unroll ∙ or-rest (near (stamp (w .value)) time) _ e
 
-    pub tried-hit : near (stamp (w .x)) time ≡ true → Tried time i j → anyNear time (stamps (take i fs)) ≡ true
-    tried-hit e g = g ∙ unroll ∙ or-first (near (stamp (w .x)) time) _ e
+    pub tried-hit : near (stamp (w .value)) time ≡ true → Tried time i j → anyNear time (stamps (take i fs)) ≡ true
+    tried-hit e g = g ∙ unroll ∙ or-first (near (stamp (w .value)) time) _ e
 
   pub tried-end : (time : Float) (i j : ℕ) → i ≤ j → Tried time i j → anyNear time (stamps (take i fs)) ≡ false
   tried-end time i j l g = let z : i - j ≡ 0 = omega arith in g ∙ ap (λ (m : ℕ). anyNear time (stamps (take m (drop j fs)))) z ∙ any-nil time
@@ -143,13 +143,13 @@ module _ (t s : List ℕ) (n : ℕ) (fs : List Entry) where
 
   module _ (i : ℕ) {v : entries.KeyframeEntry} {b : ℕ} (w : Next form s n fs entryView v i b) where
     abbrev near-one : Bool
-    near-one = anyNear (stamp (w .x)) (stamps (take i fs))
+    near-one = anyNear (stamp (w .value)) (stamps (take i fs))
 
     abbrev no-easing : Bool
-    no-easing = given (unknownEasing t) (w .x .easing)
+    no-easing = given (unknownEasing t) (w .value .easing)
 
     abbrev onward : Option Refusal
-    onward = validateFrames t (stamps (take i fs) ++ stamp (w .x) ∷ []) (drop (i + 1) fs)
+    onward = validateFrames t (stamps (take i fs) ++ stamp (w .value) ∷ []) (drop (i + 1) fs)
 
     head : validateFrames t (stamps (take i fs)) (drop i fs) ≡ orElse (first ((near-one, DuplicateTime) ∷ (no-easing, UnknownEasing) ∷ [])) onward
     unfolding validateFrames
@@ -166,8 +166,8 @@ module _ (t s : List ℕ) (n : ℕ) (fs : List Entry) where
     pub passed-next : near-one ≡ false → no-easing ≡ false → Passed i → Passed (i + 1)
     unfolding first
     passed-next e q g =
-        let k : take (i + 1) fs ≡ take i fs ++ w .x ∷ [] = take-add i 1 fs ∙ ap (λ (l : List Entry). take i fs ++ take 1 l) (w .list) in
-        ap (λ (l : List Float). validateFrames t l (drop (i + 1) fs)) (ap stamps k ∙ stamps-append (take i fs) (w .x ∷ [])) ∙ sym (rw (e, q) at head) ∙ g
+        let k : take (i + 1) fs ≡ take i fs ++ w .value ∷ [] = take-add i 1 fs ∙ ap (λ (l : List Entry). take i fs ++ take 1 l) (w .list) in
+        ap (λ (l : List Float). validateFrames t l (drop (i + 1) fs)) (ap stamps k ∙ stamps-append (take i fs) (w .value ∷ [])) ∙ sym (rw (e, q) at head) ∙ g
 
 -- ---- a track
 

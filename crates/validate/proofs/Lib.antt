@@ -1,3 +1,4 @@
 pub mod TestLaws
 pub mod RuleLaws
 pub mod FrameLaws
+pub mod KindLaws

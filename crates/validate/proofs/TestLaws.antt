@@ -5,22 +5,26 @@ use mathlib.Core.List.{List}
 use mathlib.Core.Option.{Option, none, some}
 use mathlib.Core.Path.{_≡_, refl, sym, _∙_, ap}
 use native.Mathlib.Omega.{arith}
+use borrow.Author.Tests.{eq-eqb, ne-eqb}
 use lib.Dec.{eqb}
 use lib.Ieee.{Float, binary32, ofBits, lt, le}
 use Rattle.text.specs.Bytes.{part}
 use Rattle.number.specs.Number.{f32}
 use Rattle.easing.specs.Names.{isEasing}
 use Rattle.ast.specs.Tree as tree
-use Rattle.ast.specs.View.{valueView, countOf, easingView, timeView, optFloatView, optRangeView, optEasingView}
+use Rattle.ast.specs.View.{valueView, countOf, easingView, timeView, optFloatView, optRangeView, optEasingView, patternView, optPatternView}
 use Rattle.ast.specs.declared.ValueExpr as values
 use Rattle.ast.specs.declared.EasingSpec as easings
 use Rattle.ast.specs.declared.EasingSpec.the-variants as easing
 use Rattle.ast.specs.declared.KeyframeTime as times
 use Rattle.ast.specs.declared.KeyframeTime.the-variants as time
+use Rattle.ast.specs.declared.StaggerPatternSpec as patterns
+use Rattle.ast.specs.declared.StaggerPatternSpec.the-variants as pattern
+use Rattle.ast.specs.declared.OptPattern.the-variants as optPattern
 use Rattle.ast.specs.declared.OptF32.the-variants as optFloat
 use Rattle.ast.specs.declared.OptRange.the-variants as optRange
 use Rattle.ast.specs.declared.OptEasing.the-variants as optEasing
-use Rattle.validate.specs.Rules.{nought, one, negative, notPositive, outsideUnit, given, unknownEasing, mismatched, timeOf}
+use Rattle.validate.specs.Rules.{nought, one, negative, notPositive, outsideUnit, given, unknownEasing, mismatched, timeOf, emptyGrid}
 use Rattle.validate.specs.Means.{Tells}
 
 -- ---- numbers
@@ -127,3 +131,37 @@ module _ (p : tree.EasingSpec → Bool) where
   pub easing-present : {y : easings.EasingSpec} {r : Bool} → Tells easingView p y r → Tells optEasingView (given p) (optEasing.Present y) r
   easing-present t none e = let z : _≡_ {A = ℕ} 0 1 = cc in absurd (omega arith)
   easing-present t (some a) e = t a (cc)
+
+-- ---- patterns of a stagger
+
+abbrev empty : patterns.StaggerPatternSpec → Bool
+empty (pattern.Grid cols rows origin) = eqb cols 0 || eqb rows 0
+empty (pattern.Random seed min max) = false
+empty pattern.CenterOut = false
+empty pattern.EdgesIn = false
+
+empty-is : (p : tree.StaggerPatternSpec) → empty (patternView p) ≡ emptyGrid p
+unfolding emptyGrid
+empty-is (tree.grid cols rows origin) = refl
+empty-is (tree.random seed min max) = refl
+empty-is tree.centerOut = refl
+empty-is tree.edgesIn = refl
+
+pub pattern-tells : (x : patterns.StaggerPatternSpec) → Tells patternView emptyGrid x (empty x)
+pattern-tells x p h = sym (ap empty h) ∙ empty-is p
+
+module _ (cols rows origin : ℕ) where
+  pub grid-cols : cols ≡ 0 → Tells patternView emptyGrid (pattern.Grid cols rows origin) true
+  grid-cols e p h = sym (rw (eq-eqb cols 0 e)) ∙ pattern-tells (pattern.Grid cols rows origin) p h
+
+  pub grid-rows : (cols ≡ 0 → ⊥) → Tells patternView emptyGrid (pattern.Grid cols rows origin) (eqb rows 0)
+  grid-rows n p h = sym (rw (ne-eqb cols 0 n)) ∙ pattern-tells (pattern.Grid cols rows origin) p h
+
+module _ (q : tree.StaggerPatternSpec → Bool) where
+  pub pattern-absent : Tells optPatternView (given q) optPattern.Absent false
+  pattern-absent none e = refl
+  pattern-absent (some a) e = let z : _≡_ {A = ℕ} 0 1 = cc in absurd (omega arith)
+
+  pub pattern-present : {y : patterns.StaggerPatternSpec} {r : Bool} → Tells patternView q y r → Tells optPatternView (given q) (optPattern.Present y) r
+  pattern-present t none e = let z : _≡_ {A = ℕ} 0 1 = cc in absurd (omega arith)
+  pattern-present t (some a) e = t a (cc)

@@ -5,11 +5,12 @@ use mathlib.Core.Option.{Option, none, some}
 use mathlib.Core.Path.{_≡_}
 use lib.ListN.{length, drop}
 use Rattle.codec.specs.Codec.{Form, each}
-use Rattle.ast.specs.Tree.{KeyframeEntry, KeyframeSpec, KeyframeTime}
-use Rattle.ast.specs.View.{keyframesView}
+use Rattle.ast.specs.Tree.{KeyframeEntry, KeyframeSpec, KeyframeTime, StaggerPatternSpec, stagger}
+use Rattle.ast.specs.View.{keyframesView, staggerView}
 use Rattle.ast.specs.declared.KeyframeSpec as tracks
+use Rattle.ast.specs.declared.StaggerSpec as staggers
 use Rattle.sheet.specs.Sheet.{entryForm, keyframesForm}
-use Rattle.validate.specs.Rules.{validateFrames, validateKeyframes}
+use Rattle.validate.specs.Rules.{validateFrames, validateKeyframes, validateContainer}
 use Rattle.error.specs.declared.Refusal.{Refusal}
 use Rattle.validate.specs.declared.faults.Fault.{Fault}
 use Rattle.validate.specs.declared.faults.Fault.the-variants.{None, Is}
@@ -28,7 +29,11 @@ pub record Stands {A : Type 0} (c : Form A) (s : List ℕ) (at : ℕ) (a : A) : 
   pub rest : List ℕ
   pub reads : c .read (drop at s) ≡ some (a, rest)
 
--- ---- tracks
+-- ---- containers and tracks
+
+-- whichever stagger is shown as v, r is the fault of its own fields
+abbrev pub StaggerTells : staggers.StaggerSpec → Fault → Type 0
+StaggerTells v r = (p : Option StaggerPatternSpec) (d : Option ℕ) (c : ℕ) → staggerView p d c ≡ v → faultOf r ≡ validateContainer (stagger p d)
 
 -- whichever frames stand there, r is their first fault
 abbrev pub FramesTell : List ℕ → List ℕ → ℕ → ℕ → Fault → Type 0

@@ -1,4 +1,5 @@
 // validate.rs: checking a sheet.
 mod faults;
 mod frames;
+mod kinds;
 mod rules;

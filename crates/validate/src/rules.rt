@@ -1,8 +1,8 @@
 // The rules of each kind of node, in validate.rs's order and under its names.
-ghost use Rattle.ast.specs.View.{tweenView, springView, pathView, morphView, drawView, colorView, waveformView, presetView};
+ghost use Rattle.ast.specs.View.{tweenView, springView, pathView, morphView, drawView, colorView, waveformView, presetView, patternView, optPatternView};
 ghost use Rattle.presets.specs.Colors.{colors};
-ghost use Rattle.validate.specs.Rules.{validateTween, validateSpring, validatePath, validateMorph, validateDraw, validateColor, validateWaveform, validatePresetCall};
-ghost use Rattle.validate.specs.Means.{faultOf, Tells};
+ghost use Rattle.validate.specs.Rules.{validateTween, validateSpring, validatePath, validateMorph, validateDraw, validateColor, validateWaveform, validatePresetCall, given, emptyGrid};
+ghost use Rattle.validate.specs.Means.{faultOf, Tells, StaggerTells};
 use crate::faults::Fault;
 use crate::faults::is_mismatched;
 use crate::faults::is_negative;
@@ -14,9 +14,12 @@ use crate::faults::validate_easing;
 use ast::ColorSpec;
 use ast::DrawSpec;
 use ast::MorphSpec;
+use ast::OptPattern;
 use ast::PathSpec;
 use ast::PresetCall;
 use ast::SpringSpec;
+use ast::StaggerPatternSpec;
+use ast::StaggerSpec;
 use ast::TweenSpec;
 use ast::WaveformSpec;
 use error::Refusal;
@@ -119,4 +122,45 @@ pub fn validate_preset_call(text: &[u8], call: PresetCall) -> Fault
     let f = rule(Fault::None, !known, Refusal::UnknownPreset);
     let f = validate_easing(text, f, easing);
     rule(f, some_negative(duration), Refusal::OutOfRange)
+}
+
+fn is_empty_grid(pattern: StaggerPatternSpec) -> bool
+    ensures { λ r. ⌜ Tells patternView emptyGrid pattern r ⌝ }
+{
+    match pattern {
+        StaggerPatternSpec::Grid {
+            cols,
+            rows,
+            origin: _,
+        } => {
+            if cols == 0 {
+                return true;
+            }
+            rows == 0
+        }
+        StaggerPatternSpec::Random {
+            seed: _,
+            min: _,
+            max: _,
+        } => false,
+        StaggerPatternSpec::CenterOut => false,
+        StaggerPatternSpec::EdgesIn => false,
+    }
+}
+
+fn some_empty_grid(pattern: OptPattern) -> bool
+    ensures { λ r. ⌜ Tells optPatternView (given emptyGrid) pattern r ⌝ }
+{
+    match pattern {
+        OptPattern::Absent => false,
+        OptPattern::Present(p) => is_empty_grid(p),
+    }
+}
+
+// A stagger's own fields.
+pub fn validate_stagger(spec: StaggerSpec) -> Fault
+    ensures { λ r. ⌜ StaggerTells spec r ⌝ }
+{
+    let pattern = spec.pattern;
+    rule(Fault::None, some_empty_grid(pattern), Refusal::OutOfRange)
 }

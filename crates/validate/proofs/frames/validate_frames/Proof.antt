@@ -94,7 +94,7 @@ loop-again c =
       λ fs h.
           let q = l .inv .2 fs h in
           let w = frames.left-next (entryForm (length t)) s (c .before .before .before .before .before .before .before .before .before .before .before .before .before .before .args .count) fs (l .j) (l .back) (r .result .next) (omega arith) (q .0) (r .ensures) in
-          let z = c .before .before .time-of2 .ensures (w .x .time) (ap (λ v. v .time) (w .seen)) in (
+          let z = c .before .before .time-of2 .ensures (w .value .time) (ap (λ v. v .time) (w .seen)) in (
             w .on,
             frames.tried-next t s (c .before .before .before .before .before .before .before .before .before .before .before .before .before .before .args .count) fs (c .before .before .before .before .before .before .before .time-of .result) (c .before .before .before .before .before .before .before .before .before .before .before .frames .i) (l .j) (c .before .before .before .before .before .loop-test .taken) w
                 (ap (λ y. near y (c .before .before .before .before .before .before .before .time-of .result)) (sym z) ∙ sym (c .before .duplicate .ensures) ∙ c .if1 .left) (q .1),
@@ -126,8 +126,8 @@ frames-again c =
       λ fs h.
           let q = o .inv .2 fs h in
           let w = frames.left-next (entryForm (length t)) s (c .before .before .before .before .before .before .before .before .before .before .before .args .count) fs (o .i) (o .at) (r .result .next) (c .before .before .before .before .before .before .before .frames-test .taken) (q .0) (r .ensures) in
-          let z = c .before .before .before .before .time-of .ensures (w .x .time) (ap (λ v. v .time) (w .seen)) in
-          let y = c .before .some-unknown .ensures (w .x .easing) (ap (λ v. v .easing) (w .seen)) in (
+          let z = c .before .before .before .before .time-of .ensures (w .value .time) (ap (λ v. v .time) (w .seen)) in
+          let y = c .before .some-unknown .ensures (w .value .easing) (ap (λ v. v .easing) (w .seen)) in (
             w .on,
             frames.passed-next t s (c .before .before .before .before .before .before .before .before .before .before .before .args .count) fs (o .i) w
                 (ap (λ u. anyNear u (frames.stamps (take (o .i) fs))) (sym z) ∙ frames.tried-end t s (c .before .before .before .before .before .before .before .before .before .before .before .args .count) fs (c .before .before .before .before .time-of .result) (o .i) (l .j) (c .before .before .loop-test .left) (l .inv .2 fs h .1))
@@ -157,8 +157,8 @@ returns-2 c =
     let g = o .inv .2 fs h in
     let w = frames.left-next (entryForm (length t)) s (c .before .before .before .before .before .before .before .before .before .before .before .before .before .before .args .count) fs (l .j) (l .back) (r .result .next) (omega arith) (q .0) (r .ensures) in
     let u = frames.left-next (entryForm (length t)) s (c .before .before .before .before .before .before .before .before .before .before .before .before .before .before .args .count) fs (o .i) (o .at) (f .result .next) (c .before .before .before .before .before .before .before .before .before .before .frames-test .taken) (g .0) (f .ensures) in
-    let z = c .before .before .time-of2 .ensures (w .x .time) (ap (λ v. v .time) (w .seen)) in
-    let y = c .before .before .before .before .before .before .before .time-of .ensures (u .x .time) (ap (λ v. v .time) (u .seen)) in
+    let z = c .before .before .time-of2 .ensures (w .value .time) (ap (λ v. v .time) (w .seen)) in
+    let y = c .before .before .before .before .before .before .before .time-of .ensures (u .value .time) (ap (λ v. v .time) (u .seen)) in
     frames.passed-near t s (c .before .before .before .before .before .before .before .before .before .before .before .before .before .before .args .count) fs (o .i) u
     (ap (λ u. anyNear u (frames.stamps (take (o .i) fs))) (sym y) ∙ frames.tried-hit t s (c .before .before .before .before .before .before .before .before .before .before .before .before .before .before .args .count) fs (c .before .before .before .before .before .before .before .time-of .result) (o .i) (l .j) (c .before .before .before .before .before .loop-test .taken) w
     (ap (λ y. near y (c .before .before .before .before .before .before .before .time-of .result)) (sym z) ∙ sym (c .before .duplicate .ensures) ∙ c .if1 .taken) (q .1)) (g .1)
@@ -174,8 +174,8 @@ returns-3 c =
     λ fs h.
     let q = o .inv .2 fs h in
     let w = frames.left-next (entryForm (length t)) s (c .before .before .before .before .before .before .before .before .before .before .before .args .count) fs (o .i) (o .at) (r .result .next) (c .before .before .before .before .before .before .before .frames-test .taken) (q .0) (r .ensures) in
-    let z = c .before .before .before .before .time-of .ensures (w .x .time) (ap (λ v. v .time) (w .seen)) in
-    let y = c .before .some-unknown .ensures (w .x .easing) (ap (λ v. v .easing) (w .seen)) in
+    let z = c .before .before .before .before .time-of .ensures (w .value .time) (ap (λ v. v .time) (w .seen)) in
+    let y = c .before .some-unknown .ensures (w .value .easing) (ap (λ v. v .easing) (w .seen)) in
     frames.passed-bad t s (c .before .before .before .before .before .before .before .before .before .before .before .args .count) fs (o .i) w
     (ap (λ u. anyNear u (frames.stamps (take (o .i) fs))) (sym z) ∙ frames.tried-end t s (c .before .before .before .before .before .before .before .before .before .before .before .args .count) fs (c .before .before .before .before .time-of .result) (o .i) (l .j) (c .before .before .loop-test .left) (l .inv .2 fs h .1))
     (sym y ∙ c .if2 .taken) (q .1)
