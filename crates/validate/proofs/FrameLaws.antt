@@ -27,7 +27,7 @@ use Rattle.error.specs.declared.Refusal.the-variants.{UnknownEasing, DuplicateT
 use Rattle.validate.specs.Rules.{given, unknownEasing, first, timeOf, validateFrames, validateKeyframes}
 use Rattle.validate.specs.Means.{Stands, FramesAt}
 
-none≢some : {A B : Type 0} {a : A} → Prim.Path (Option A) none (some a) → B
+pub none≢some : {A B : Type 0} {a : A} → Prim.Path (Option A) none (some a) → B
 none≢some e = let z : _≡_ {A = ℕ} 0 1 = cc in absurd (omega arith)
 
 -- ---- a walk over values that stand one after the other
@@ -43,8 +43,8 @@ module _ {A : Type 0} (c : Form A) (s : List ℕ) (n : ℕ) (xs : List A) where
   -- what is read next is the next value
   pub record Next {X : Type 0} (f : A → X) (v : X) (k b : ℕ) : Type 0 where
     pub value : A
-    pub list : drop k xs ≡ x ∷ drop (k + 1) xs
-    pub seen : f x ≡ v
+    pub list : drop k xs ≡ value ∷ drop (k + 1) xs
+    pub seen : f value ≡ v
     pub on : Left (k + 1) b
 
   pub left-next : {X : Type 0} {f : A → X} {v : X} (k a b : ℕ) → k < n → Left k a → Reads c f s a v b → Next f v k b

@@ -2,3 +2,4 @@ pub mod TestLaws
 pub mod RuleLaws
 pub mod FrameLaws
 pub mod KindLaws
+pub mod WalkLaws

@@ -2,4 +2,5 @@
 mod faults;
 mod frames;
 mod kinds;
+mod nodes;
 mod rules;
