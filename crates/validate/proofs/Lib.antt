@@ -3,3 +3,4 @@ pub mod RuleLaws
 pub mod FrameLaws
 pub mod KindLaws
 pub mod WalkLaws
+pub mod CheckLaws
