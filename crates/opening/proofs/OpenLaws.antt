@@ -1,15 +1,16 @@
 -- The first foreign byte, and the first refusal. Assumes nothing.
+-- ---- the first foreign byte
 use Prim.Native.Nat.{ℕ, suc, _+_, _≤_, _<_}
 use mathlib.Core.Bool.{Bool, true, false, cond}
-use mathlib.Core.List.{List, [], _∷_}
+use mathlib.Core.List.{List}
 use mathlib.Core.Option.{Option, none, some}
 use mathlib.Core.Path.{_≡_, refl, sym, _∙_, ap}
 use native.Mathlib.Numerals.{add-one}
 use native.Mathlib.Omega.{arith}
-use borrow.Author.Tests.{lt-ltb, le-ltb}
 use lib.Dec.{ltb}
 use lib.ListN.{length, drop, getD, drop-of-length-le}
 use lib.Seq.{drop-cons}
+use borrow.Author.Tests.{lt-ltb, le-ltb}
 use Rattle.text.specs.Bytes.{isForeign}
 use Rattle.text.specs.Words.{isSome}
 use Rattle.error.specs.declared.Refusal.{Refusal}
@@ -17,10 +18,7 @@ use Rattle.error.specs.declared.Refusal.the-variants.{TextTooLong, BadForm, Not
 use Rattle.sheet.specs.Sheet.{Forest, decode}
 use Rattle.sheet.specs.Opening.{foreignFrom, Opened, opened, shut, decoded, unlessForeign, opening}
 use Rattle.opening.specs.Means.{answerOf}
-use Rattle.opening.specs.declared.Opening.{Opening}
 use Rattle.opening.specs.declared.Opening.the-variants.{Open, Shut}
-
--- ---- the first foreign byte
 
 module _ (t : List ℕ) (i : ℕ) where
   next : i < length t → {b : Bool} → isForeign (getD t i 0) ≡ b → foreignFrom i (drop i t) ≡ elim b [ true ↦ some i | false ↦ foreignFrom (suc i) (drop (suc i) t) ]

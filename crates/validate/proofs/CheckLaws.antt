@@ -1,30 +1,30 @@
 -- From a sheet's head to the verdict. Assumes nothing.
+-- the nodes of a sheet stand behind its head
 use Prim.Native.Nat.{ℕ}
 use mathlib.Core.List.{List, [], append-nil}
-use mathlib.Core.Option.{Option, none, some}
-use mathlib.Core.Path.{_≡_, refl, sym, _∙_, ap}
+use mathlib.Core.Option.{some}
+use mathlib.Core.Path.{_≡_, sym, _∙_, ap}
 use native.Mathlib.Omega.{arith}
 use lib.ListN.{length}
 use Rattle.codec.specs.Codec.{big}
 use Rattle.sheet.specs.Sheet.{Forest, sheet, forest, inner, encode, decode}
 use Rattle.sheet.specs.Opening.{opening}
-use Rattle.sheet.proofs.Laws.{sheet-lawful}
-use Rattle.sheet.proofs.Laws as sheet-laws
 use Rattle.decode.specs.Reads.{Reads, got, bad, same}
 use Rattle.opening.specs.Means.{answerOf}
 use Rattle.opening.specs.declared.Opening.the-variants.{Open, Shut}
-use Rattle.opening.proofs.OpenLaws.{Tree, the-tree, the-refusal}
 use Rattle.error.specs.declared.Refusal.{Refusal}
 use Rattle.error.specs.declared.CheckAnswer.the-variants.{Accepted, Refused}
 use Rattle.presets.specs.Colors.{colors}
+use Rattle.sheet.proofs.Laws.{sheet-lawful}
+use Rattle.sheet.proofs.Laws as sheet-laws
+use Rattle.opening.proofs.OpenLaws.{the-tree, the-refusal}
 use Rattle.validate.specs.Rules.{validateNodes}
-use Rattle.validate.specs.Checking.{answerOf as verdictOf, judged, verdict, checking}
+use Rattle.validate.specs.Checking.{answerOf as verdictOf, judged, checking}
 use Rattle.validate.specs.Means.{Stands}
 use Rattle.validate.specs.Walks.{NodesWalk}
 use Rattle.validate.specs.declared.nodes.Walk.the-variants as walk
 use Rattle.validate.proofs.FrameLaws.{none≢some}
 
--- the nodes of a sheet stand behind its head
 head : (n : ℕ) (s : List ℕ) (ns : Forest) {c m : ℕ} → decode n s ≡ some ns → Reads (big 2) same s 0 c m → Stands (forest n (inner n 16) c) s m ns
 unfolding encode
 head n s ns e r = go r all

@@ -1,29 +1,28 @@
 -- The search over a track's frames. Assumes nothing.
-use Prim.Native.Nat.{ℕ, zero, suc, _+_, _-_, _≤_, _<_}
+use Prim.Native.Nat.{ℕ, suc, _+_, _-_, _≤_, _<_}
 use mathlib.Core.Bool.{Bool, true, false, _||_}
 use mathlib.Core.List.{List, [], _∷_, _++_}
 use mathlib.Core.Option.{Option, none, some, Option·some-injective}
-use mathlib.Core.Path.{_≡_, refl, sym, _∙_, ap, subst}
+use mathlib.Core.Path.{_≡_, refl, sym, _∙_, ap}
 use native.Mathlib.Omega.{arith}
-use borrow.Author.Tests.{lt-ltb, le-ltb}
-use lib.Dec.{ltb}
 use lib.ListN.{length, take, drop}
 use lib.Seq.{drop-drop, take-add}
 use lib.Ieee.{Float}
+use borrow.Author.Tests.{lt-ltb, le-ltb}
 use Rattle.text.specs.Words.{orElse}
 use Rattle.number.specs.Number.{f32}
 use Rattle.number.specs.Time.{near, anyNear}
 use Rattle.codec.specs.Codec.{Form, andThen, big, each, eachIn, opt}
-use Rattle.codec.proofs.Laws.{inverse, each-lawful}
-use Rattle.sheet.proofs.Laws.{entryL}
 use Rattle.ast.specs.Tree.{Span, KeyframeEntry, KeyframeSpec, KeyframeTime, LoopSpec}
-use Rattle.ast.specs.View.{entryView, keyframesView, spanView, timeView, optEasingView}
+use Rattle.ast.specs.View.{entryView, keyframesView}
 use Rattle.ast.specs.declared.KeyframeEntry as entries
 use Rattle.ast.specs.declared.KeyframeSpec as tracks
-use Rattle.sheet.specs.Sheet.{spanForm, entryForm, keyframesForm, toKeyframes, loopForm}
+use Rattle.sheet.specs.Sheet.{spanForm, entryForm, toKeyframes, loopForm}
 use Rattle.decode.specs.Reads.{Reads, got, bad, same}
 use Rattle.error.specs.declared.Refusal.{Refusal}
 use Rattle.error.specs.declared.Refusal.the-variants.{UnknownEasing, DuplicateTime, TooFewFrames}
+use Rattle.codec.proofs.Laws.{inverse, each-lawful}
+use Rattle.sheet.proofs.Laws.{entryL}
 use Rattle.validate.specs.Rules.{given, unknownEasing, first, timeOf, validateFrames, validateKeyframes}
 use Rattle.validate.specs.Means.{Stands, FramesAt}
 

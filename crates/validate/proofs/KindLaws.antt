@@ -1,33 +1,33 @@
 -- A record of each kind: its kind, then its fields. Assumes nothing.
+-- the same bytes under another view, where what stands there is known too
 use Prim.Native.Nat.{ℕ, _≤_, _<_}
 use mathlib.Core.List.{List}
-use mathlib.Core.Option.{Option, none, some}
+use mathlib.Core.Option.{Option, none}
 use mathlib.Core.Logic.{_⊎_, ⊎-elim}
-use mathlib.Core.Path.{_≡_, refl, sym, _∙_, ap}
+use mathlib.Core.Path.{_≡_, sym, _∙_, ap}
 use native.Mathlib.Nat.{le-trans}
 use native.Mathlib.Omega.{arith}
-use lib.ListN.{length, drop}
+use lib.ListN.{length}
 use Rattle.codec.specs.Codec.{Form, _▹_, below, big, opt, Case}
 use Rattle.ast.specs.Tree as tree
-use Rattle.ast.specs.Tree.{Leaf, KeyframeTime, StaggerPatternSpec, single, holding, width}
+use Rattle.ast.specs.Tree.{Leaf, KeyframeTime, single, holding, width}
 use Rattle.ast.specs.View.{groupView, staggerView}
 use Rattle.ast.specs.declared.GroupSpec as groups
 use Rattle.ast.specs.declared.StaggerSpec as staggers
 use Rattle.sheet.specs.Sheet.{Node, word, patternForm, kinds, splitNode}
 use Rattle.decode.specs.Reads.{Reads, got, bad, same}
-use Rattle.decode.proofs.ReadLaws as laws
 use Rattle.records.specs.Record.{blank, countForm, recordForm}
 use Rattle.records.specs.declared.Kind.{Kind}
 use Rattle.records.specs.declared.Kind.the-variants as kind
-use Rattle.records.proofs.RecordLaws.{made, after, counts, width-blank, three-or-four, only-at}
 use Rattle.presets.specs.Colors.{colors}
 use Rattle.error.specs.declared.Refusal.{Refusal}
+use Rattle.decode.proofs.ReadLaws as laws
+use Rattle.records.proofs.RecordLaws.{made, after, counts, width-blank, three-or-four, only-at}
 use Rattle.validate.specs.Rules.{validateLeaf, validateContainer}
 use Rattle.validate.specs.Means.{faultOf, Stands, StaggerTells}
 use Rattle.validate.specs.Walks.{recordView, LeafKind, ContainerKind}
 use Rattle.validate.specs.declared.faults.Fault.{Fault}
 
--- the same bytes under another view, where what stands there is known too
 pub known : {A X Y : Type 0} {c : Form A} {f : A → X} {g : A → Y} {s : List ℕ} {at m : ℕ} {v : X} {w : Y}
     → Reads c f s at v m → ((a : A) → Stands c s at a → f a ≡ v → w ≡ g a) → Reads c g s at w m
 known (got a e q h l) k = got a e (sym (k a (record { within = le-trans h l; rest = _; reads = e }) q)) h l

@@ -1,13 +1,14 @@
 -- The tests, over what the code holds: each agrees with its definition through the view. Assumes nothing.
+-- ---- numbers
 use Prim.Native.Nat.{ℕ}
 use mathlib.Core.Bool.{Bool, true, false, not, _&&_, _||_}
 use mathlib.Core.List.{List}
-use mathlib.Core.Option.{Option, none, some}
+use mathlib.Core.Option.{none, some}
 use mathlib.Core.Path.{_≡_, refl, sym, _∙_, ap}
 use native.Mathlib.Omega.{arith}
-use borrow.Author.Tests.{eq-eqb, ne-eqb}
 use lib.Dec.{eqb}
 use lib.Ieee.{Float, binary32, ofBits, lt, le}
+use borrow.Author.Tests.{eq-eqb, ne-eqb}
 use Rattle.text.specs.Bytes.{part}
 use Rattle.number.specs.Number.{f32}
 use Rattle.easing.specs.Names.{isEasing}
@@ -26,8 +27,6 @@ use Rattle.ast.specs.declared.OptRange.the-variants as optRange
 use Rattle.ast.specs.declared.OptEasing.the-variants as optEasing
 use Rattle.validate.specs.Rules.{nought, one, negative, notPositive, outsideUnit, given, unknownEasing, mismatched, timeOf, emptyGrid}
 use Rattle.validate.specs.Means.{Tells}
-
--- ---- numbers
 
 literals : (ofBits binary32 0 ≡ nought) × (ofBits binary32 1065353216 ≡ one)
 unfolding f32

@@ -9,17 +9,17 @@ use native.Mathlib.Omega.{arith}
 use lib.ListN.{length, drop, drop-of-length-le}
 use Rattle.text.specs.Words.{orElse}
 use Rattle.codec.specs.Codec.{Form, Reader, andThen, step, never, big}
-use Rattle.codec.proofs.Laws.{inverse}
-use Rattle.ast.specs.Tree.{Nodes, Leaf, Container, KeyframeTime, leaf, box, single, holding, push, records, width}
+use Rattle.ast.specs.Tree.{Nodes, Leaf, Container, KeyframeTime, box, single, holding, push, records, width}
 use Rattle.sheet.specs.Sheet.{Node, Forest, nodeForm, forest, toForest, inner}
 use Rattle.decode.specs.Reads.{Reads, got, bad}
-use Rattle.records.specs.Record.{recordForm, kindView}
+use Rattle.records.specs.Record.{recordForm}
 use Rattle.records.specs.declared.Kind.{Kind}
 use Rattle.records.specs.declared.Kind.the-variants as kind
-use Rattle.records.proofs.RecordLaws.{behind, node-read}
 use Rattle.presets.specs.Colors.{colors}
 use Rattle.error.specs.declared.Refusal.{Refusal}
-use Rattle.validate.specs.Rules.{validateLeaf, validateContainer, validateNodes, atOrdinal}
+use Rattle.codec.proofs.Laws.{inverse}
+use Rattle.records.proofs.RecordLaws.{behind, node-read}
+use Rattle.validate.specs.Rules.{validateLeaf, validateContainer, validateNodes}
 use Rattle.validate.specs.Means.{Stands}
 use Rattle.validate.specs.Walks.{recordView, Clean, Says, Onward, NodeWalk}
 use Rattle.validate.specs.declared.nodes.Walk.{Walk}

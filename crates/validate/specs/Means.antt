@@ -10,8 +10,8 @@ use Rattle.ast.specs.View.{keyframesView, staggerView}
 use Rattle.ast.specs.declared.KeyframeSpec as tracks
 use Rattle.ast.specs.declared.StaggerSpec as staggers
 use Rattle.sheet.specs.Sheet.{entryForm, keyframesForm}
-use Rattle.validate.specs.Rules.{validateFrames, validateKeyframes, validateContainer}
 use Rattle.error.specs.declared.Refusal.{Refusal}
+use Rattle.validate.specs.Rules.{validateFrames, validateKeyframes, validateContainer}
 use Rattle.validate.specs.declared.faults.Fault.{Fault}
 use Rattle.validate.specs.declared.faults.Fault.the-variants.{None, Is}
 

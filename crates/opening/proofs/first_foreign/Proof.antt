@@ -1,15 +1,12 @@
+-- `opening::first_foreign` meets its contract: the loop keeps which byte is the first foreign one. Assumes nothing.
 use Prim.Native.Nat.{_-_}
 use mathlib.Core.Path.{_≡_, refl, sym, _∙_}
-use native.Mathlib.Omega.{arith}
 use lib.ListN.{length, drop}
 use borrow.Author.Needs.{needs}
 use Rattle.sheet.specs.Opening.{foreignFrom}
 use Rattle.opening.proofs.OpenLaws as laws
 use Rattle.opening.proofs.first_foreign.Statement.{statement}
 use Rattle.opening.proofs.first_foreign.Tie as tie
-use Rattle.opening.proofs.first_foreign.Reads as reads
-use Rattle.opening.proofs.first_foreign.Lts as lts
-use Rattle.text.proofs.in_class.Reads as in-class-reads
 
 abbrev Inv-loop : tie.InvT-loop
 Inv-loop text i₀ i = foreignFrom i (drop i text) ≡ foreignFrom 0 text
@@ -17,35 +14,27 @@ Inv-loop text i₀ i = foreignFrom i (drop i text) ≡ foreignFrom 0 text
 abbrev μ-loop : tie.MeasureT-loop
 μ-loop text i₀ i = length text - i
 
--- src/lib.rt:21:5
 loop-holds : tie.Need-loop-holds Inv-loop μ-loop
 loop-holds c = refl
 
--- src/lib.rt:22:43
 shared-slice-read-in-class : tie.Need-shared-slice-read-in-class Inv-loop μ-loop
 shared-slice-read-in-class c = search needs
 
--- src/lib.rt:22:12
 in-class-requires : tie.Need-in-class-requires Inv-loop μ-loop
 in-class-requires c κs = search needs
 
--- src/lib.rt:23:13
 returns : tie.Need-returns Inv-loop μ-loop
 returns c = sym (laws.foreign-here _ _ (c .before .before .before .loop-test .taken) (sym (c .before .in-class .ensures) ∙ c .if1 .taken)) ∙ c .before .before .before .before .loop .inv
 
--- src/lib.rt:25:9
 add-i : tie.Need-add-i Inv-loop μ-loop
 add-i c = search needs
 
--- src/lib.rt:21:5
 loop-less : tie.Need-loop-less Inv-loop μ-loop
 loop-less c = search needs
 
--- src/lib.rt:21:5
 loop-again : tie.Need-loop-again Inv-loop μ-loop
 loop-again c = sym (laws.foreign-later _ _ (c .before .before .before .loop-test .taken) (sym (c .before .in-class .ensures) ∙ c .if1 .left)) ∙ c .before .before .before .before .loop .inv
 
--- src/lib.rt:17:1
 returns-2 : tie.Need-returns-2 Inv-loop μ-loop
 returns-2 c = sym (laws.foreign-none _ _ (c .loop-test .left)) ∙ c .before .loop .inv
 

@@ -1,20 +1,15 @@
-use Rattle.validate.proofs.TestLaws as tests
+-- `validate::faults::is_mismatched` meets its contract: a count is that of the view. Assumes nothing.
 use borrow.Author.Needs.{needs}
+use Rattle.validate.proofs.TestLaws as tests
 use Rattle.validate.proofs.faults.is_mismatched.Statement.{statement}
 use Rattle.validate.proofs.faults.is_mismatched.Tie as tie
-use Rattle.validate.proofs.faults.is_mismatched.Reads as reads
-use Rattle.validate.proofs.faults.is_mismatched.Lts as lts
-use Rattle.ast.proofs.component_count.Reads as component-count-reads
 
--- src/faults.rt:100:5
 component-count-requires : tie.Need-component-count-requires
 component-count-requires c κs = search needs
 
--- src/faults.rt:100:35
 component-count-requires-2 : tie.Need-component-count-requires-2
 component-count-requires-2 c κs = search needs
 
--- src/faults.rt:97:1
 returns : tie.Need-returns
 returns c = rw (c .before .component-count .ensures, c .component-count2 .ensures) tests.mismatch-tells
 

@@ -1,14 +1,11 @@
+-- `validate::faults::is_outside_unit` meets its contract: the two tests in turn. Assumes nothing.
 use Rattle.validate.proofs.TestLaws as tests
 use Rattle.validate.proofs.faults.is_outside_unit.Statement.{statement}
 use Rattle.validate.proofs.faults.is_outside_unit.Tie as tie
-use Rattle.validate.proofs.faults.is_outside_unit.Reads as reads
-use Rattle.validate.proofs.faults.is_outside_unit.Lts as lts
 
--- src/faults.rt:57:9
 returns : tie.Need-returns
 returns c = tests.above-tells _ (c .if1 .taken)
 
--- src/faults.rt:53:1
 returns-2 : tie.Need-returns-2
 returns-2 c = tests.below-tells _ (c .if1 .left)
 

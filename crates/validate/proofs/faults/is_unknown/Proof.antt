@@ -1,60 +1,45 @@
-use Rattle.validate.proofs.TestLaws as tests
+-- `validate::faults::is_unknown` meets its contract: only a name can be unknown. Assumes nothing.
 use borrow.Author.Needs.{needs}
+use Rattle.validate.proofs.TestLaws as tests
 use Rattle.validate.proofs.faults.is_unknown.Statement.{statement}
 use Rattle.validate.proofs.faults.is_unknown.Tie as tie
-use Rattle.validate.proofs.faults.is_unknown.Reads as reads
-use Rattle.validate.proofs.faults.is_unknown.Lts as lts
-use Rattle.easing.proofs.is_named_easing.Reads as is-named-easing-reads
 
--- src/faults.rt:109:27
 enum-known-easing : tie.Need-enum-known-easing
 enum-known-easing c = search needs
 
--- src/faults.rt:112:14
 is-named-easing-requires : tie.Need-is-named-easing-requires
 is-named-easing-requires c κs = search needs
 
--- src/faults.rt:114:48
 enum-told : tie.Need-enum-told
 enum-told c = search needs
 
--- src/faults.rt:115:33
 enum-told-2 : tie.Need-enum-told-2
 enum-told-2 c = search needs
 
--- src/faults.rt:116:34
 enum-told-3 : tie.Need-enum-told-3
 enum-told-3 c = search needs
 
--- src/faults.rt:120:14
 enum-told-4 : tie.Need-enum-told-4
 enum-told-4 c = search needs
 
--- src/faults.rt:124:14
 enum-told-5 : tie.Need-enum-told-5
 enum-told-5 c = search needs
 
--- src/faults.rt:105:1
 returns : tie.Need-returns
 returns c = rw (c .before .before .easing .given .1, c .is-named-easing .ensures) (tests.easing-tells _ _)
 
--- src/faults.rt:105:1
 returns-2 : tie.Need-returns-2
 returns-2 c = rw (c .enum-told .given .1) (tests.easing-tells _ _)
 
--- src/faults.rt:105:1
 returns-3 : tie.Need-returns-3
 returns-3 c = rw (c .enum-told2 .given .1) (tests.easing-tells _ _)
 
--- src/faults.rt:105:1
 returns-4 : tie.Need-returns-4
 returns-4 c = rw (c .enum-told3 .given .1) (tests.easing-tells _ _)
 
--- src/faults.rt:105:1
 returns-5 : tie.Need-returns-5
 returns-5 c = rw (c .enum-told4 .given .1) (tests.easing-tells _ _)
 
--- src/faults.rt:105:1
 returns-6 : tie.Need-returns-6
 returns-6 c = rw (c .enum-told5 .given .1) (tests.easing-tells _ _)
 

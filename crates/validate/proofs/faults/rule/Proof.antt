@@ -1,28 +1,21 @@
-use Rattle.validate.proofs.RuleLaws as rules
-use Rattle.validate.proofs.TestLaws as tests
+-- `validate::faults::rule` meets its contract: a fault so far stays; else the rule decides. Assumes nothing.
 use borrow.Author.Needs.{needs}
+use Rattle.validate.proofs.RuleLaws as rules
 use Rattle.validate.proofs.faults.rule.Statement.{statement}
 use Rattle.validate.proofs.faults.rule.Tie as tie
-use Rattle.validate.proofs.faults.rule.Reads as reads
-use Rattle.validate.proofs.faults.rule.Lts as lts
 
--- src/faults.rt:29:25
 enum-told : tie.Need-enum-told
 enum-told c = search needs
 
--- src/faults.rt:31:16
 enum-told-2 : tie.Need-enum-told-2
 enum-told-2 c = search needs
 
--- src/faults.rt:32:17
 returns : tie.Need-returns
 returns c = rw (c .before .enum-told2 .given .1) (rules.broken _ _ (c .if1 .taken))
 
--- src/faults.rt:25:1
 returns-2 : tie.Need-returns-2
 returns-2 c = rw (c .enum-told .given .1)
 
--- src/faults.rt:25:1
 returns-3 : tie.Need-returns-3
 returns-3 c = rw (c .before .enum-told2 .given .1) (rules.held _ _ (c .if1 .left))
 

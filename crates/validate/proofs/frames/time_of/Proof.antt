@@ -1,23 +1,18 @@
-use Rattle.validate.proofs.TestLaws as tests
+-- `validate::frames::time_of` meets its contract: either case holds the time. Assumes nothing.
 use borrow.Author.Needs.{needs}
+use Rattle.validate.proofs.TestLaws as tests
 use Rattle.validate.proofs.frames.time_of.Statement.{statement}
 use Rattle.validate.proofs.frames.time_of.Tie as tie
-use Rattle.validate.proofs.frames.time_of.Reads as reads
-use Rattle.validate.proofs.frames.time_of.Lts as lts
 
--- src/frames.rt:20:31
 enum-known-time : tie.Need-enum-known-time
 enum-known-time c = search needs
 
--- src/frames.rt:21:31
 enum-known-time-2 : tie.Need-enum-known-time-2
 enum-known-time-2 c = search needs
 
--- src/frames.rt:16:1
 returns : tie.Need-returns
 returns c = rw (c .before .time .given .1) (tests.time-tells _)
 
--- src/frames.rt:16:1
 returns-2 : tie.Need-returns-2
 returns-2 c = rw (c .before .time2 .given .1) (tests.time-tells _)
 

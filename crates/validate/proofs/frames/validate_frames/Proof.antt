@@ -1,4 +1,5 @@
-use Prim.Native.Nat.{ℕ, _-_, _≤_}
+-- `validate::frames::validate_frames` meets its contract: the outer loop has passed the frames before i, the inner one has tried the first j of these. Assumes nothing.
+use Prim.Native.Nat.{_-_, _≤_}
 use mathlib.Core.List.{List}
 use mathlib.Core.Path.{_≡_, refl, sym, ap, _∙_}
 use native.Mathlib.Omega.{arith}
@@ -13,12 +14,6 @@ use Rattle.validate.specs.Means.{Stands, faultOf}
 use Rattle.validate.proofs.FrameLaws as frames
 use Rattle.validate.proofs.frames.validate_frames.Statement.{statement}
 use Rattle.validate.proofs.frames.validate_frames.Tie as tie
-use Rattle.validate.proofs.frames.validate_frames.Reads as reads
-use Rattle.validate.proofs.frames.validate_frames.Lts as lts
-use Rattle.decode.proofs.nodes.take_entry.Reads as take-entry-reads
-use Rattle.number.proofs.duplicate.Reads as duplicate-reads
-use Rattle.validate.proofs.faults.some_unknown.Reads as some-unknown-reads
-use Rattle.validate.proofs.frames.time_of.Reads as time-of-reads
 
 abbrev Inv-loop : tie.InvT-loop
 Inv-loop text s first count n fault₀ i at frame entry time j₀ back₀ fault j back =
@@ -38,20 +33,16 @@ Inv-frames text s first count n fault₀ i₀ at₀ fault i at =
 abbrev μ-frames : tie.MeasureT-frames
 μ-frames text s first count n fault₀ i₀ at₀ fault i at = count - i
 
--- src/frames.rt:34:5
 frames-holds : tie.Need-frames-holds Inv-loop μ-loop Inv-frames μ-frames
 frames-holds c =
     (omega arith, refl, λ fs h. (frames.left-start (entryForm (length (c .before .before .args .text .now))) (c .before .before .args .s .now) (c .before .before .args .count) fs (c .before .before .args .first) h, refl))
 
--- src/frames.rt:35:13
 take-entry-requires : tie.Need-take-entry-requires Inv-loop μ-loop Inv-frames μ-frames
 take-entry-requires c κs = search needs
 
--- src/frames.rt:38:13
 time-of-requires : tie.Need-time-of-requires Inv-loop μ-loop Inv-frames μ-frames
 time-of-requires c κs = search needs
 
--- src/frames.rt:41:9
 loop-holds : tie.Need-loop-holds Inv-loop μ-loop Inv-frames μ-frames
 loop-holds c = (
   omega arith,
@@ -62,27 +53,21 @@ loop-holds c = (
   ),
 )
 
--- src/frames.rt:42:17
 take-entry-requires-2 : tie.Need-take-entry-requires-2 Inv-loop μ-loop Inv-frames μ-frames
 take-entry-requires-2 c κs = search needs
 
--- src/frames.rt:45:34
 time-of-requires-2 : tie.Need-time-of-requires-2 Inv-loop μ-loop Inv-frames μ-frames
 time-of-requires-2 c κs = search needs
 
--- src/frames.rt:45:16
 duplicate-requires : tie.Need-duplicate-requires Inv-loop μ-loop Inv-frames μ-frames
 duplicate-requires c κs = search needs
 
--- src/frames.rt:50:13
 add-j : tie.Need-add-j Inv-loop μ-loop Inv-frames μ-frames
 add-j c = omega arith
 
--- src/frames.rt:41:9
 loop-less : tie.Need-loop-less Inv-loop μ-loop Inv-frames μ-frames
 loop-less c = omega arith
 
--- src/frames.rt:41:9
 loop-again : tie.Need-loop-again Inv-loop μ-loop Inv-frames μ-frames
 loop-again c =
     let t = c .before .before .before .before .before .before .before .before .before .before .before .before .before .before .args .text .now in
@@ -101,19 +86,15 @@ loop-again c =
           ),
     )
 
--- src/frames.rt:53:12
 some-unknown-requires : tie.Need-some-unknown-requires Inv-loop μ-loop Inv-frames μ-frames
 some-unknown-requires c κs = search needs
 
--- src/frames.rt:58:9
 add-i : tie.Need-add-i Inv-loop μ-loop Inv-frames μ-frames
 add-i c = omega arith
 
--- src/frames.rt:34:5
 frames-less : tie.Need-frames-less Inv-loop μ-loop Inv-frames μ-frames
 frames-less c = omega arith
 
--- src/frames.rt:34:5
 frames-again : tie.Need-frames-again Inv-loop μ-loop Inv-frames μ-frames
 frames-again c =
     let t = c .before .before .before .before .before .before .before .before .before .before .before .args .text .now in
@@ -135,7 +116,6 @@ frames-again c =
           ),
     )
 
--- src/frames.rt:27:1
 returns : tie.Need-returns Inv-loop μ-loop Inv-frames μ-frames
 returns c =
     let o = c .before .frames in
@@ -143,7 +123,6 @@ returns c =
     let q = o .inv .2 fs h in
     ap faultOf (o .inv .1) ∙ frames.passed-end (c .before .before .before .before .args .text .now) (c .before .before .before .before .args .s .now) (c .before .before .before .before .args .count) fs (o .i) (o .at) (c .frames-test .left) (q .0) (q .1)
 
--- src/frames.rt:27:1
 returns-2 : tie.Need-returns-2 Inv-loop μ-loop Inv-frames μ-frames
 returns-2 c =
     let t = c .before .before .before .before .before .before .before .before .before .before .before .before .before .before .args .text .now in
@@ -163,7 +142,6 @@ returns-2 c =
     (ap (λ u. anyNear u (frames.stamps (take (o .i) fs))) (sym y) ∙ frames.tried-hit t s (c .before .before .before .before .before .before .before .before .before .before .before .before .before .before .args .count) fs (c .before .before .before .before .before .before .before .time-of .result) (o .i) (l .j) (c .before .before .before .before .before .loop-test .taken) w
     (ap (λ y. near y (c .before .before .before .before .before .before .before .time-of .result)) (sym z) ∙ sym (c .before .duplicate .ensures) ∙ c .if1 .taken) (q .1)) (g .1)
 
--- src/frames.rt:27:1
 returns-3 : tie.Need-returns-3 Inv-loop μ-loop Inv-frames μ-frames
 returns-3 c =
     let t = c .before .before .before .before .before .before .before .before .before .before .before .args .text .now in

@@ -1,12 +1,13 @@
+-- `validate::nodes::validate_node` and `validate_nodes` meet their contracts: bytes left fall; the loop keeps that what a walk says of the nodes left it says of all. Assumes nothing.
 use Prim.Native.Nat.{ℕ, _+_, _*_, _-_, _≤_, _<_}
 use native.Mathlib.Omega.{arith}
 use lib.ListN.{length}
 use borrow.Author.Needs.{needs}
+use borrow.Fn.Kinds.{In}
+use borrow.Fn.PlainCycle.{Measures, is, falls, and}
 use Rattle.records.proofs.RecordLaws.{moves}
 use Rattle.records.proofs.WalkLaws.{nearer}
 use Rattle.validate.proofs.WalkLaws as walks
-use borrow.Fn.Kinds.{In}
-use borrow.Fn.PlainCycle.{Measures, is, falls, and}
 use Rattle.validate.proofs.nodes.validate_node.Reads as validate-node
 use Rattle.validate.proofs.nodes.validate_node.Kinds as validate-node-kinds
 use Rattle.validate.proofs.nodes.+validate_node+validate_nodes.Lts-validate_node as validate-node-lts
@@ -58,19 +59,15 @@ node-calls t = (validate-record-reads.Asked, validate-record-reads.Learnt, valid
 abbrev nodes-calls : ℕ → validate-nodes-lts.Claims
 nodes-calls t = (validate-node-below t, validate-node.Post)
 
--- src/nodes.rt:23:9
 validate-node-returns : (t : ℕ) → validate-node-lts.Need-returns (node-calls t) (validate-node-at t) validate-node.Post
 validate-node-returns t c = record { on = (omega arith, c .before .before .before .pre .1); is = λ d x h. walks.no-node (c .before .before .before .args .text .now) _ (c .if1 .taken) d x h }
 
--- src/nodes.rt:25:9
 validate-node-validate-record-requires : (t : ℕ) → validate-node-lts.Need-validate-record-requires (node-calls t) (validate-node-at t) validate-node.Post
 validate-node-validate-record-requires t c κs = search needs
 
--- src/nodes.rt:27:22
 validate-node-enum-known-fault : (t : ℕ) → validate-node-lts.Need-enum-known-fault (node-calls t) (validate-node-at t) validate-node.Post
 validate-node-enum-known-fault t c = search needs
 
--- src/nodes.rt:28:9
 validate-node-returns-2 : (t : ℕ) → validate-node-lts.Need-returns-2 (node-calls t) (validate-node-at t) validate-node.Post
 validate-node-returns-2 t c = record {
   on = tt;
@@ -80,29 +77,23 @@ validate-node-returns-2 t c = record {
 validate-node-enum-told : (t : ℕ) → validate-node-lts.Need-enum-told (node-calls t) (validate-node-at t) validate-node.Post
 validate-node-enum-told t c = search needs
 
--- src/nodes.rt:34:22
 validate-node-enum-told-2 : (t : ℕ) → validate-node-lts.Need-enum-told-2 (node-calls t) (validate-node-at t) validate-node.Post
 validate-node-enum-told-2 t c = search needs
 
--- src/nodes.rt:34:22
 validate-node-add-t13 : (t : ℕ) → validate-node-lts.Need-add-t13 (node-calls t) (validate-node-at t) validate-node.Post
 validate-node-add-t13 t c = omega (arith, c .before .before .before .before .before .if1 .left, c .before .before .before .before .before .before .before .before .pre .1)
 
--- src/nodes.rt:36:25
 validate-node-enum-known-kind : (t : ℕ) → validate-node-lts.Need-enum-known-kind (node-calls t) (validate-node-at t) validate-node.Post
 validate-node-enum-known-kind t c = search needs
 
--- src/nodes.rt:36:74
 validate-node-add-validate-nodes : (t : ℕ) → validate-node-lts.Need-add-validate-nodes (node-calls t) (validate-node-at t) validate-node.Post
 validate-node-add-validate-nodes t c = omega (arith, c .before .before .before .before .before .before .if1 .left, c .before .before .before .before .before .before .before .before .before .pre .1)
 
--- src/nodes.rt:36:35
 validate-node-validate-nodes-requires : (t : ℕ) → validate-node-lts.Need-validate-nodes-requires (node-calls t) (validate-node-at t) validate-node.Post
 validate-node-validate-nodes-requires t c κs =
     let m = moves _ (c .before .before .before .before .before .validate-record .ensures) (c .before .before .before .before .before .before .if1 .left) in
     (omega (arith, m, c .before .before .before .before .before .before .if1 .left, c .before .before .before .before .before .before .before .before .before .pre .0), omega (arith, m, c .before .before .before .before .before .before .before .before .before .pre .1))
 
--- src/nodes.rt:18:1
 validate-node-returns-3 : (t : ℕ) → validate-node-lts.Need-returns-3 (node-calls t) (validate-node-at t) validate-node.Post
 validate-node-returns-3 t c =
     let m = moves _ (c .before .before .before .before .validate-record .ensures) (c .before .before .before .before .before .if1 .left) in
@@ -111,7 +102,6 @@ validate-node-returns-3 t c =
       is = λ d x h. walks.clean-leaf _ _ _ (walks.opens _ _ (rw (c .before .before .enum-told .given .1, c .enum-told2 .given .1) at (c .before .before .before .before .validate-record .ensures)) d x h);
     }
 
--- src/nodes.rt:18:1
 validate-node-returns-4 : (t : ℕ) → validate-node-lts.Need-returns-4 (node-calls t) (validate-node-at t) validate-node.Post
 validate-node-returns-4 t c = record {
   on = walks.onward _ _ _ (c .validate-nodes .result) (nearer (c .before .before .before .before .before .before .validate-record .ensures)) (c .validate-nodes .ensures .on);
@@ -124,43 +114,34 @@ validate-nodes-Inv-loop text s at count ordinal a₀ o₀ k₀ a o k = (k ≤ co
 abbrev validate-nodes-μ-loop : validate-nodes-lts.MeasureT-loop
 validate-nodes-μ-loop text s at count ordinal a₀ o₀ k₀ a o k = count - k
 
--- src/nodes.rt:48:5
 validate-nodes-loop-holds : (t : ℕ) → validate-nodes-lts.Need-loop-holds (nodes-calls t) (validate-nodes-at t) validate-nodes.Post validate-nodes-Inv-loop validate-nodes-μ-loop
 validate-nodes-loop-holds t c = (omega arith, c .before .before .pre .1, omega arith, walks.going-start (c .before .before .args .text .now) (c .before .before .args .s .now) (c .before .before .args .ordinal) (c .before .before .args .at) (c .before .before .args .count))
 
--- src/nodes.rt:49:13
 validate-nodes-validate-node-requires : (t : ℕ) → validate-nodes-lts.Need-validate-node-requires (nodes-calls t) (validate-nodes-at t) validate-nodes.Post validate-nodes-Inv-loop validate-nodes-μ-loop
 validate-nodes-validate-node-requires t c κs = (omega (arith, c .before .before .before .before .pre .0, c .before .loop .inv), c .before .loop .inv .1)
 
--- src/nodes.rt:50:28
 validate-nodes-enum-known-w : (t : ℕ) → validate-nodes-lts.Need-enum-known-w (nodes-calls t) (validate-nodes-at t) validate-nodes.Post validate-nodes-Inv-loop validate-nodes-μ-loop
 validate-nodes-enum-known-w t c = search needs
 
--- src/nodes.rt:51:13
 validate-nodes-enum-told : (t : ℕ) → validate-nodes-lts.Need-enum-told (nodes-calls t) (validate-nodes-at t) validate-nodes.Post validate-nodes-Inv-loop validate-nodes-μ-loop
 validate-nodes-enum-told t c = search needs
 
--- src/nodes.rt:51:13
 validate-nodes-returns : (t : ℕ) → validate-nodes-lts.Need-returns (nodes-calls t) (validate-nodes-at t) validate-nodes.Post validate-nodes-Inv-loop validate-nodes-μ-loop
 validate-nodes-returns t c =
     let w = rw (c .enum-told .given .1) at (c .before .before .validate-node .ensures) in
     rw (c .enum-told .given .1) (record { on = tt; is = walks.going-refused _ _ _ _ _ (c .before .before .before .before .loop .inv .3) (c .before .before .before .loop-test .taken) w })
 
--- src/nodes.rt:55:9
 validate-nodes-add-k : (t : ℕ) → validate-nodes-lts.Need-add-k (nodes-calls t) (validate-nodes-at t) validate-nodes.Post validate-nodes-Inv-loop validate-nodes-μ-loop
 validate-nodes-add-k t c = omega arith
 
--- src/nodes.rt:48:5
 validate-nodes-loop-less : (t : ℕ) → validate-nodes-lts.Need-loop-less (nodes-calls t) (validate-nodes-at t) validate-nodes.Post validate-nodes-Inv-loop validate-nodes-μ-loop
 validate-nodes-loop-less t c = omega arith
 
--- src/nodes.rt:48:5
 validate-nodes-loop-again : (t : ℕ) → validate-nodes-lts.Need-loop-again (nodes-calls t) (validate-nodes-at t) validate-nodes.Post validate-nodes-Inv-loop validate-nodes-μ-loop
 validate-nodes-loop-again t c =
     let w = rw (c .before .w .given .1) at (c .before .before .before .validate-node .ensures) in
     (omega arith, w .on .1, omega (arith, w .on .0, c .before .before .before .before .before .loop .inv .2), walks.going-next _ _ _ _ _ (c .before .before .before .before .before .loop .inv .3) (c .before .before .before .before .loop-test .taken) w)
 
--- src/nodes.rt:41:1
 validate-nodes-returns-2 : (t : ℕ) → validate-nodes-lts.Need-returns-2 (nodes-calls t) (validate-nodes-at t) validate-nodes.Post validate-nodes-Inv-loop validate-nodes-μ-loop
 validate-nodes-returns-2 t c = record {
   on = (c .before .loop .inv .2, c .before .loop .inv .1);

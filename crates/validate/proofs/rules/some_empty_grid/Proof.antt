@@ -1,28 +1,21 @@
-use Rattle.validate.proofs.TestLaws as tests
+-- `validate::rules::some_empty_grid` meets its contract: absent, or the test of what is present. Assumes nothing.
 use borrow.Author.Needs.{needs}
+use Rattle.validate.proofs.TestLaws as tests
 use Rattle.validate.proofs.rules.some_empty_grid.Statement.{statement}
 use Rattle.validate.proofs.rules.some_empty_grid.Tie as tie
-use Rattle.validate.proofs.rules.some_empty_grid.Reads as reads
-use Rattle.validate.proofs.rules.some_empty_grid.Lts as lts
-use Rattle.validate.proofs.rules.is_empty_grid.Reads as is-empty-grid-reads
 
--- src/rules.rt:155:31
 enum-told : tie.Need-enum-told
 enum-told c = search needs
 
--- src/rules.rt:156:29
 enum-known-pattern : tie.Need-enum-known-pattern
 enum-known-pattern c = search needs
 
--- src/rules.rt:156:35
 is-empty-grid-requires : tie.Need-is-empty-grid-requires
 is-empty-grid-requires c κs = search needs
 
--- src/rules.rt:151:1
 returns : tie.Need-returns
 returns c = rw (c .enum-told .given .1) (tests.pattern-absent _)
 
--- src/rules.rt:151:1
 returns-2 : tie.Need-returns-2
 returns-2 c = rw (c .before .before .pattern .given .1) (tests.pattern-present _ (c .is-empty-grid .ensures))
 

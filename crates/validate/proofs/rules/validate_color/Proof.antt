@@ -1,49 +1,36 @@
-use Rattle.error.specs.declared.Refusal.the-variants.{OutOfRange, UnknownEasing, InvalidColor}
+-- `validate::rules::validate_color` meets its contract: rules in the order of the definition's list. Assumes nothing.
 use mathlib.Core.Path.{ap, refl, sym, _∙_}
-use Rattle.presets.specs.Colors.{colors, isColor}
 use mathlib.Core.Bool.{not}
+use borrow.Author.Needs.{needs}
+use Rattle.error.specs.declared.Refusal.the-variants.{OutOfRange, UnknownEasing, InvalidColor}
+use Rattle.presets.specs.Colors.{colors, isColor}
 use Rattle.text.specs.Bytes.{part}
 use Rattle.validate.specs.Rules.{validateColor}
 use Rattle.validate.proofs.RuleLaws as rules
-use borrow.Author.Needs.{needs}
 use Rattle.validate.proofs.rules.validate_color.Statement.{statement}
 use Rattle.validate.proofs.rules.validate_color.Tie as tie
-use Rattle.validate.proofs.rules.validate_color.Reads as reads
-use Rattle.validate.proofs.rules.validate_color.Lts as lts
-use Rattle.presets.proofs.is_valid_color.Reads as is-valid-color-reads
-use Rattle.validate.proofs.faults.is_negative.Reads as is-negative-reads
-use Rattle.validate.proofs.faults.rule.Reads as rule-reads
-use Rattle.validate.proofs.faults.validate_easing.Reads as validate-easing-reads
 
--- src/rules.rt:91:31
 is-negative-requires : tie.Need-is-negative-requires
 is-negative-requires c κs = search needs
 
--- src/rules.rt:91:9
 rule-requires : tie.Need-rule-requires
 rule-requires c κs = search needs
 
--- src/rules.rt:94:10
 is-valid-color-requires : tie.Need-is-valid-color-requires
 is-valid-color-requires c κs = search needs
 
--- src/rules.rt:92:9
 rule-requires-2 : tie.Need-rule-requires-2
 rule-requires-2 c κs = search needs
 
--- src/rules.rt:99:10
 is-valid-color-requires-2 : tie.Need-is-valid-color-requires-2
 is-valid-color-requires-2 c κs = search needs
 
--- src/rules.rt:97:9
 rule-requires-3 : tie.Need-rule-requires-3
 rule-requires-3 c κs = search needs
 
--- src/rules.rt:102:5
 validate-easing-requires : tie.Need-validate-easing-requires
 validate-easing-requires c κs = search needs
 
--- src/rules.rt:85:1
 returns : tie.Need-returns
 unfolding validateColor
 returns c = λ x e.

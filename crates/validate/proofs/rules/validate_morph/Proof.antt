@@ -1,34 +1,25 @@
-use lib.Dec.{eqb}
-use Rattle.error.specs.declared.Refusal.the-variants.{OutOfRange, UnknownEasing}
+-- `validate::rules::validate_morph` meets its contract: rules in the order of the definition's list. Assumes nothing.
 use mathlib.Core.Path.{ap, refl, sym}
+use lib.Dec.{eqb}
+use borrow.Author.Needs.{needs}
+use Rattle.error.specs.declared.Refusal.the-variants.{OutOfRange, UnknownEasing}
 use Rattle.validate.specs.Rules.{validateMorph}
 use Rattle.validate.proofs.RuleLaws as rules
-use borrow.Author.Needs.{needs}
 use Rattle.validate.proofs.rules.validate_morph.Statement.{statement}
 use Rattle.validate.proofs.rules.validate_morph.Tie as tie
-use Rattle.validate.proofs.rules.validate_morph.Reads as reads
-use Rattle.validate.proofs.rules.validate_morph.Lts as lts
-use Rattle.validate.proofs.faults.is_negative.Reads as is-negative-reads
-use Rattle.validate.proofs.faults.rule.Reads as rule-reads
-use Rattle.validate.proofs.faults.validate_easing.Reads as validate-easing-reads
 
--- src/rules.rt:72:31
 is-negative-requires : tie.Need-is-negative-requires
 is-negative-requires c κs = search needs
 
--- src/rules.rt:72:9
 rule-requires : tie.Need-rule-requires
 rule-requires c κs = search needs
 
--- src/rules.rt:73:9
 rule-requires-2 : tie.Need-rule-requires-2
 rule-requires-2 c κs = search needs
 
--- src/rules.rt:74:5
 validate-easing-requires : tie.Need-validate-easing-requires
 validate-easing-requires c κs = search needs
 
--- src/rules.rt:68:1
 returns : tie.Need-returns
 unfolding validateMorph
 returns c = λ x e.

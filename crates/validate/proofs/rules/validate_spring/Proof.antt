@@ -1,50 +1,36 @@
-use Rattle.error.specs.declared.Refusal.the-variants.{OutOfRange, ValueTypeMismatch}
+-- `validate::rules::validate_spring` meets its contract: rules in the order of the definition's list. Assumes nothing.
 use mathlib.Core.Path.{ap}
+use borrow.Author.Needs.{needs}
+use Rattle.error.specs.declared.Refusal.the-variants.{OutOfRange, ValueTypeMismatch}
 use Rattle.validate.specs.Rules.{validateSpring}
 use Rattle.validate.proofs.RuleLaws as rules
-use borrow.Author.Needs.{needs}
 use Rattle.validate.proofs.rules.validate_spring.Statement.{statement}
 use Rattle.validate.proofs.rules.validate_spring.Tie as tie
-use Rattle.validate.proofs.rules.validate_spring.Reads as reads
-use Rattle.validate.proofs.rules.validate_spring.Lts as lts
-use Rattle.validate.proofs.faults.is_mismatched.Reads as is-mismatched-reads
-use Rattle.validate.proofs.faults.rule.Reads as rule-reads
-use Rattle.validate.proofs.faults.some_negative.Reads as some-negative-reads
-use Rattle.validate.proofs.faults.some_not_positive.Reads as some-not-positive-reads
 
--- src/rules.rt:50:9
 is-mismatched-requires : tie.Need-is-mismatched-requires
 is-mismatched-requires c κs = search needs
 
--- src/rules.rt:48:9
 rule-requires : tie.Need-rule-requires
 rule-requires c κs = search needs
 
--- src/rules.rt:53:21
 some-negative-requires : tie.Need-some-negative-requires
 some-negative-requires c κs = search needs
 
--- src/rules.rt:53:9
 rule-requires-2 : tie.Need-rule-requires-2
 rule-requires-2 c κs = search needs
 
--- src/rules.rt:54:21
 some-not-positive-requires : tie.Need-some-not-positive-requires
 some-not-positive-requires c κs = search needs
 
--- src/rules.rt:54:9
 rule-requires-3 : tie.Need-rule-requires-3
 rule-requires-3 c κs = search needs
 
--- src/rules.rt:55:13
 some-not-positive-requires-2 : tie.Need-some-not-positive-requires-2
 some-not-positive-requires-2 c κs = search needs
 
--- src/rules.rt:55:5
 rule-requires-4 : tie.Need-rule-requires-4
 rule-requires-4 c κs = search needs
 
--- src/rules.rt:40:1
 returns : tie.Need-returns
 unfolding validateSpring
 returns c = λ x e.

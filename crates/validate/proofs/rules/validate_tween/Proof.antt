@@ -1,55 +1,39 @@
-use Rattle.error.specs.declared.Refusal.the-variants.{OutOfRange, ValueTypeMismatch, UnknownEasing}
+-- `validate::rules::validate_tween` meets its contract: rules in the order of the definition's list. Assumes nothing.
 use mathlib.Core.Path.{ap, refl}
+use borrow.Author.Needs.{needs}
+use Rattle.error.specs.declared.Refusal.the-variants.{OutOfRange, ValueTypeMismatch, UnknownEasing}
 use Rattle.validate.specs.Rules.{validateTween}
 use Rattle.validate.proofs.RuleLaws as rules
-use borrow.Author.Needs.{needs}
 use Rattle.validate.proofs.rules.validate_tween.Statement.{statement}
 use Rattle.validate.proofs.rules.validate_tween.Tie as tie
-use Rattle.validate.proofs.rules.validate_tween.Reads as reads
-use Rattle.validate.proofs.rules.validate_tween.Lts as lts
-use Rattle.validate.proofs.faults.is_mismatched.Reads as is-mismatched-reads
-use Rattle.validate.proofs.faults.is_negative.Reads as is-negative-reads
-use Rattle.validate.proofs.faults.rule.Reads as rule-reads
-use Rattle.validate.proofs.faults.some_negative.Reads as some-negative-reads
-use Rattle.validate.proofs.faults.validate_easing.Reads as validate-easing-reads
 
--- src/rules.rt:33:31
 is-negative-requires : tie.Need-is-negative-requires
 is-negative-requires c κs = search needs
 
--- src/rules.rt:33:9
 rule-requires : tie.Need-rule-requires
 rule-requires c κs = search needs
 
--- src/rules.rt:34:21
 is-mismatched-requires : tie.Need-is-mismatched-requires
 is-mismatched-requires c κs = search needs
 
--- src/rules.rt:34:9
 rule-requires-2 : tie.Need-rule-requires-2
 rule-requires-2 c κs = search needs
 
--- src/rules.rt:35:9
 validate-easing-requires : tie.Need-validate-easing-requires
 validate-easing-requires c κs = search needs
 
--- src/rules.rt:36:21
 some-negative-requires : tie.Need-some-negative-requires
 some-negative-requires c κs = search needs
 
--- src/rules.rt:36:9
 rule-requires-3 : tie.Need-rule-requires-3
 rule-requires-3 c κs = search needs
 
--- src/rules.rt:37:13
 some-negative-requires-2 : tie.Need-some-negative-requires-2
 some-negative-requires-2 c κs = search needs
 
--- src/rules.rt:37:5
 rule-requires-4 : tie.Need-rule-requires-4
 rule-requires-4 c κs = search needs
 
--- src/rules.rt:25:1
 returns : tie.Need-returns
 unfolding validateTween
 returns c = λ x e.
