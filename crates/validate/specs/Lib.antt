@@ -1,2 +1,4 @@
 pub mod Rules
 pub mod Checking
+pub mod Means
+pub mod Walks

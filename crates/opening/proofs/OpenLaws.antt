@@ -1,0 +1,92 @@
+-- The first foreign byte, and the first refusal. Assumes nothing.
+-- ---- the first foreign byte
+use Prim.Native.Nat.{ℕ, suc, _+_, _≤_, _<_}
+use mathlib.Core.Bool.{Bool, true, false, cond}
+use mathlib.Core.List.{List}
+use mathlib.Core.Option.{Option, none, some}
+use mathlib.Core.Path.{_≡_, refl, sym, _∙_, ap}
+use native.Mathlib.Numerals.{add-one}
+use native.Mathlib.Omega.{arith}
+use lib.Dec.{ltb}
+use lib.ListN.{length, drop, getD, drop-of-length-le}
+use lib.Seq.{drop-cons}
+use borrow.Author.Tests.{lt-ltb, le-ltb}
+use Rattle.text.specs.Bytes.{isForeign}
+use Rattle.text.specs.Words.{isSome}
+use Rattle.error.specs.declared.Refusal.{Refusal}
+use Rattle.error.specs.declared.Refusal.the-variants.{TextTooLong, BadForm, NotASheet}
+use Rattle.sheet.specs.Sheet.{Forest, decode}
+use Rattle.sheet.specs.Opening.{foreignFrom, Opened, opened, shut, decoded, unlessForeign, opening}
+use Rattle.opening.specs.Means.{answerOf}
+use Rattle.opening.specs.declared.Opening.the-variants.{Open, Shut}
+
+module _ (t : List ℕ) (i : ℕ) where
+  next : i < length t → {b : Bool} → isForeign (getD t i 0) ≡ b → foreignFrom i (drop i t) ≡ elim b [ true ↦ some i | false ↦ foreignFrom (suc i) (drop (suc i) t) ]
+  unfolding foreignFrom
+  next h e = ap (foreignFrom i) (drop-cons t i 0 h) ∙ ap {B = Option ℕ} (λ (b : Bool). elim b [ true ↦ some i | false ↦ foreignFrom (suc i) (drop (suc i) t) ]) e
+
+  pub foreign-here : i < length t → isForeign (getD t i 0) ≡ true → foreignFrom i (drop i t) ≡ some i
+  foreign-here h e = next h e
+
+  pub foreign-later : i < length t → isForeign (getD t i 0) ≡ false → foreignFrom i (drop i t) ≡ foreignFrom (i + 1) (drop (i + 1) t)
+  foreign-later h e = next h e ∙ rw add-one
+
+  pub foreign-none : length t ≤ i → foreignFrom i (drop i t) ≡ none
+  unfolding foreignFrom
+  foreign-none h = rw (drop-of-length-le t {i = i} h)
+
+-- ---- the first refusal
+
+module _ (t s : List ℕ) where
+  pub too-long : 16384 < length t → Shut TextTooLong 0 ≡ answerOf (opening t s)
+  unfolding opening
+  too-long h = rw (lt-ltb 16384 (length t) h)
+
+  module _ (h : length t ≤ 16384) where
+    pub foreign : {i : ℕ} → some i ≡ foreignFrom 0 t → Shut BadForm i ≡ answerOf (opening t s)
+    unfolding opening
+    foreign e = rw (le-ltb 16384 (length t) h, ← e)
+
+    plain : none ≡ foreignFrom 0 t → opening t s ≡ decoded (decode (length t) s)
+    unfolding opening
+    plain e = rw (le-ltb 16384 (length t) h, ← e)
+
+    pub a-sheet : none ≡ foreignFrom 0 t → true ≡ isSome (decode (length t) s) → Open ≡ answerOf (opening t s)
+    a-sheet e p = go (decode (length t) s) p ∙ sym (ap answerOf (plain e))
+      where
+        go : (o : Option Forest) → true ≡ isSome o → Open ≡ answerOf (decoded o)
+        go none q = let z : _≡_ {A = ℕ} 0 1 = cc in absurd (omega arith)
+        go (some ns) q = refl
+
+    pub no-sheet : none ≡ foreignFrom 0 t → false ≡ isSome (decode (length t) s) → Shut NotASheet 0 ≡ answerOf (opening t s)
+    no-sheet e p = go (decode (length t) s) p ∙ sym (ap answerOf (plain e))
+      where
+        go : (o : Option Forest) → false ≡ isSome o → Shut NotASheet 0 ≡ answerOf (decoded o)
+        go none q = refl
+        go (some ns) q = let z : _≡_ {A = ℕ} 0 1 = cc in absurd (omega arith)
+
+-- ---- what an answer tells
+
+pub record Tree (t s : List ℕ) : Type 0 where
+  pub nodes : Forest
+  pub opens : opening t s ≡ opened nodes
+  pub decodes : decode (length t) s ≡ some nodes
+
+-- an open sheet has a tree
+pub the-tree : (t s : List ℕ) → Open ≡ answerOf (opening t s) → Tree t s
+unfolding opening
+the-tree t s e = long (ltb 16384 (length t)) refl e
+  where
+    tree : (f : Option ℕ) → foreignFrom 0 t ≡ f → (d : Option Forest) → decode (length t) s ≡ d → ltb 16384 (length t) ≡ false → Open ≡ answerOf (unlessForeign f (decoded d)) → Tree t s
+    tree (some i) p d q l e = let z : _≡_ {A = ℕ} 0 1 = cc in absurd (omega arith)
+    tree none p none q l e = let z : _≡_ {A = ℕ} 0 1 = cc in absurd (omega arith)
+    tree none p (some ns) q l e = record { nodes = ns; opens = rw (l, p, q); decodes = q }
+
+    long : (b : Bool) → ltb 16384 (length t) ≡ b → Open ≡ answerOf (cond b (shut TextTooLong 0) (unlessForeign (foreignFrom 0 t) (decoded (decode (length t) s)))) → Tree t s
+    long true p e = let z : _≡_ {A = ℕ} 0 1 = cc in absurd (omega arith)
+    long false p e = tree (foreignFrom 0 t) refl (decode (length t) s) refl p e
+
+-- a shut one has its refusal
+pub the-refusal : (o : Opened) {r : Refusal} {p : ℕ} → Shut r p ≡ answerOf o → o ≡ shut r p
+the-refusal (opened ns) e = let z : _≡_ {A = ℕ} 0 1 = cc in absurd (omega arith)
+the-refusal (shut r p) e = cc

@@ -1,0 +1,54 @@
+-- `opening::first_foreign` meets its contract: the loop keeps which byte is the first foreign one. Assumes nothing.
+use Prim.Native.Nat.{_-_}
+use mathlib.Core.Path.{_≡_, refl, sym, _∙_}
+use lib.ListN.{length, drop}
+use borrow.Author.Needs.{needs}
+use Rattle.sheet.specs.Opening.{foreignFrom}
+use Rattle.opening.proofs.OpenLaws as laws
+use Rattle.opening.proofs.first_foreign.Statement.{statement}
+use Rattle.opening.proofs.first_foreign.Tie as tie
+
+abbrev Inv-loop : tie.InvT-loop
+Inv-loop text i₀ i = foreignFrom i (drop i text) ≡ foreignFrom 0 text
+
+abbrev μ-loop : tie.MeasureT-loop
+μ-loop text i₀ i = length text - i
+
+loop-holds : tie.Need-loop-holds Inv-loop μ-loop
+loop-holds c = refl
+
+shared-slice-read-in-class : tie.Need-shared-slice-read-in-class Inv-loop μ-loop
+shared-slice-read-in-class c = search needs
+
+in-class-requires : tie.Need-in-class-requires Inv-loop μ-loop
+in-class-requires c κs = search needs
+
+returns : tie.Need-returns Inv-loop μ-loop
+returns c = sym (laws.foreign-here _ _ (c .before .before .before .loop-test .taken) (sym (c .before .in-class .ensures) ∙ c .if1 .taken)) ∙ c .before .before .before .before .loop .inv
+
+add-i : tie.Need-add-i Inv-loop μ-loop
+add-i c = search needs
+
+loop-less : tie.Need-loop-less Inv-loop μ-loop
+loop-less c = search needs
+
+loop-again : tie.Need-loop-again Inv-loop μ-loop
+loop-again c = sym (laws.foreign-later _ _ (c .before .before .before .loop-test .taken) (sym (c .before .in-class .ensures) ∙ c .if1 .left)) ∙ c .before .before .before .before .loop .inv
+
+returns-2 : tie.Need-returns-2 Inv-loop μ-loop
+returns-2 c = sym (laws.foreign-none _ _ (c .loop-test .left)) ∙ c .before .loop .inv
+
+pub first-foreign-spec : {M : Type 1} → statement M
+first-foreign-spec =
+    tie.close
+    (tie.spec
+    Inv-loop
+    μ-loop
+    loop-holds
+    shared-slice-read-in-class
+    in-class-requires
+    returns
+    add-i
+    loop-less
+    loop-again
+    returns-2)

@@ -1,0 +1,53 @@
+// What checking and lining refuse first: a text that is too long, a byte that no script holds, bytes that are no sheet.
+ghost use mathlib.Core.Path.{_≡_};
+ghost use Rattle.text.specs.Means.{placeOf};
+ghost use Rattle.sheet.specs.Opening.{foreignFrom, opening};
+ghost use Rattle.opening.specs.Means.{answerOf};
+use error::Refusal;
+use text::Class;
+use text::Found;
+
+pub enum Opening {
+    // The bytes are a sheet for the text.
+    Open,
+    Shut { refusal: Refusal, place: usize },
+}
+
+// The place of the first byte that no script holds.
+pub fn first_foreign(text: &[u8]) -> Found
+    ensures { λ r. ⌜ placeOf r ≡ foreignFrom 0 (now (text .entry)) ⌝ }
+{
+    let mut i = 0;
+    while i < text.len() {
+        if text::in_class(Class::Foreign, text[i]) {
+            return Found::At(i);
+        }
+        i += 1;
+    }
+    Found::Nothing
+}
+
+pub fn open_sheet(text: &[u8], sheet: &[u8]) -> Opening
+    ensures { λ r. ⌜ r ≡ answerOf (opening (now (text .entry)) (now (sheet .entry))) ⌝ }
+{
+    if 16384 < text.len() {
+        return Opening::Shut {
+            refusal: Refusal::TextTooLong,
+            place: 0,
+        };
+    }
+    let foreign = first_foreign(text);
+    if let Found::At(place) = foreign {
+        return Opening::Shut {
+            refusal: Refusal::BadForm,
+            place,
+        };
+    }
+    if records::is_sheet(sheet, text.len()) {
+        return Opening::Open;
+    }
+    Opening::Shut {
+        refusal: Refusal::NotASheet,
+        place: 0,
+    }
+}

@@ -1,0 +1,6 @@
+pub mod TestLaws
+pub mod RuleLaws
+pub mod FrameLaws
+pub mod KindLaws
+pub mod WalkLaws
+pub mod CheckLaws

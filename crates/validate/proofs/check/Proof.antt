@@ -1,0 +1,56 @@
+-- `validate::check` meets its contract: what is shut is refused so; the walk of an open sheet gives the verdict. Assumes nothing.
+use mathlib.Core.Path.{sym, _∙_}
+use borrow.Author.Needs.{needs}
+use Rattle.text.specs.Bytes.{at}
+use Rattle.validate.proofs.CheckLaws as laws
+use Rattle.validate.proofs.check.Statement.{statement}
+use Rattle.validate.proofs.check.Tie as tie
+
+open-sheet-requires : tie.Need-open-sheet-requires
+open-sheet-requires c κs = search needs
+
+enum-known-opened : tie.Need-enum-known-opened
+enum-known-opened c = search needs
+
+returns : tie.Need-returns
+returns c = laws.shut _ _ (sym (c .before .opened .given .1) ∙ c .before .before .before .open-sheet .ensures)
+
+enum-told : tie.Need-enum-told
+enum-told c = search needs
+
+take-field-requires : tie.Need-take-field-requires
+take-field-requires c κs = search needs
+
+cast-validate-nodes : tie.Need-cast-validate-nodes
+cast-validate-nodes c = search needs
+
+validate-nodes-requires : tie.Need-validate-nodes-requires
+validate-nodes-requires c κs = search needs
+
+enum-known-walk : tie.Need-enum-known-walk
+enum-known-walk c = search needs
+
+enum-told-2 : tie.Need-enum-told-2
+enum-told-2 c = search needs
+
+returns-2 : tie.Need-returns-2
+returns-2 c = laws.refused _ _ (sym (c .before .before .before .before .before .before .enum-told .given .1) ∙ c .before .before .before .before .before .before .before .before .open-sheet .ensures) (c .before .before .before .before .before .take-field .ensures .reads) (rw (c .before .walk .given .1) at (c .before .before .before .validate-nodes .ensures))
+
+returns-3 : tie.Need-returns-3
+returns-3 c = laws.accepted _ _ (sym (c .before .before .before .before .before .enum-told .given .1) ∙ c .before .before .before .before .before .before .before .open-sheet .ensures) (c .before .before .before .before .take-field .ensures .reads) (rw (c .enum-told2 .given .1) at (c .before .before .validate-nodes .ensures))
+
+pub check-spec : {M : Type 1} → statement M
+check-spec =
+    tie.close
+    (tie.spec
+    open-sheet-requires
+    enum-known-opened
+    returns
+    enum-told
+    take-field-requires
+    cast-validate-nodes
+    validate-nodes-requires
+    enum-known-walk
+    enum-told-2
+    returns-2
+    returns-3)

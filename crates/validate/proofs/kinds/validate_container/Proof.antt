@@ -1,0 +1,54 @@
+-- `validate::kinds::validate_container` meets its contract: a count alone, a group's fields or a stagger's. Assumes nothing.
+use borrow.Author.Needs.{needs}
+use Rattle.validate.proofs.KindLaws as kind-laws
+use Rattle.validate.proofs.kinds.validate_container.Statement.{statement}
+use Rattle.validate.proofs.kinds.validate_container.Tie as tie
+
+take-group-requires : tie.Need-take-group-requires
+take-group-requires c κs = search needs
+
+container-requires : tie.Need-container-requires
+container-requires c κs = search needs
+
+take-stagger-requires : tie.Need-take-stagger-requires
+take-stagger-requires c κs = search needs
+
+validate-stagger-requires : tie.Need-validate-stagger-requires
+validate-stagger-requires c κs = search needs
+
+container-requires-2 : tie.Need-container-requires-2
+container-requires-2 c κs = search needs
+
+take-field-requires : tie.Need-take-field-requires
+take-field-requires c κs = search needs
+
+cast-container : tie.Need-cast-container
+cast-container c = search needs
+
+container-requires-3 : tie.Need-container-requires-3
+container-requires-3 c κs = search needs
+
+returns : tie.Need-returns
+returns c = λ t start b. rw (c .container .ensures) (kind-laws.group-record t b (c .before .before .before .match .keys1) (c .before .before .take-group .ensures))
+
+returns-2 : tie.Need-returns-2
+returns-2 c = λ t start b. rw (c .container2 .ensures) (kind-laws.stagger-record t b (c .before .validate-stagger .result) (c .before .before .before .before .match .keys2) (c .before .before .before .take-stagger .ensures) (c .before .validate-stagger .ensures))
+
+returns-3 : tie.Need-returns-3
+returns-3 c = λ t start b. rw (c .container3 .ensures) (kind-laws.count-record t b (c .before .before .before .before .before .pre) (c .before .before .before .match .rest .0 .1) (c .before .before .before .match .rest .1) (c .before .before .take-field .ensures .reads))
+
+pub validate-container-spec : {M : Type 1} → statement M
+validate-container-spec =
+    tie.close
+    (tie.spec
+    take-group-requires
+    container-requires
+    take-stagger-requires
+    validate-stagger-requires
+    container-requires-2
+    take-field-requires
+    cast-container
+    container-requires-3
+    returns
+    returns-2
+    returns-3)

@@ -1,0 +1,198 @@
+-- `validate::kinds::validate_leaf` meets its contract: in each arm the kind is that arm's and the rules are those of its fields. Assumes nothing.
+use mathlib.Core.Path.{refl, sym}
+use lib.ListN.{length}
+use borrow.Author.Needs.{needs}
+use Rattle.records.specs.Record.{countForm}
+use Rattle.sheet.specs.Sheet.{kinds, splitNode}
+use Rattle.ast.specs.Tree as tree
+use Rattle.decode.proofs.ReadLaws as laws
+use Rattle.validate.specs.Rules.{validateLeaf}
+use Rattle.validate.proofs.KindLaws as kind-laws
+use Rattle.validate.proofs.kinds.validate_leaf.Statement.{statement}
+use Rattle.validate.proofs.kinds.validate_leaf.Tie as tie
+
+take-tween-requires : tie.Need-take-tween-requires
+take-tween-requires c κs = search needs
+
+validate-tween-requires : tie.Need-validate-tween-requires
+validate-tween-requires c κs = search needs
+
+leaf-requires : tie.Need-leaf-requires
+leaf-requires c κs = search needs
+
+take-spring-requires : tie.Need-take-spring-requires
+take-spring-requires c κs = search needs
+
+validate-spring-requires : tie.Need-validate-spring-requires
+validate-spring-requires c κs = search needs
+
+leaf-requires-2 : tie.Need-leaf-requires-2
+leaf-requires-2 c κs = search needs
+
+take-keyframes-requires : tie.Need-take-keyframes-requires
+take-keyframes-requires c κs = search needs
+
+validate-keyframes-requires : tie.Need-validate-keyframes-requires
+validate-keyframes-requires c κs = search needs
+
+leaf-requires-3 : tie.Need-leaf-requires-3
+leaf-requires-3 c κs = search needs
+
+take-path-requires : tie.Need-take-path-requires
+take-path-requires c κs = search needs
+
+validate-path-requires : tie.Need-validate-path-requires
+validate-path-requires c κs = search needs
+
+leaf-requires-4 : tie.Need-leaf-requires-4
+leaf-requires-4 c κs = search needs
+
+take-morph-requires : tie.Need-take-morph-requires
+take-morph-requires c κs = search needs
+
+validate-morph-requires : tie.Need-validate-morph-requires
+validate-morph-requires c κs = search needs
+
+leaf-requires-5 : tie.Need-leaf-requires-5
+leaf-requires-5 c κs = search needs
+
+take-draw-requires : tie.Need-take-draw-requires
+take-draw-requires c κs = search needs
+
+validate-draw-requires : tie.Need-validate-draw-requires
+validate-draw-requires c κs = search needs
+
+leaf-requires-6 : tie.Need-leaf-requires-6
+leaf-requires-6 c κs = search needs
+
+take-color-requires : tie.Need-take-color-requires
+take-color-requires c κs = search needs
+
+validate-color-requires : tie.Need-validate-color-requires
+validate-color-requires c κs = search needs
+
+leaf-requires-7 : tie.Need-leaf-requires-7
+leaf-requires-7 c κs = search needs
+
+take-waveform-requires : tie.Need-take-waveform-requires
+take-waveform-requires c κs = search needs
+
+validate-waveform-requires : tie.Need-validate-waveform-requires
+validate-waveform-requires c κs = search needs
+
+leaf-requires-8 : tie.Need-leaf-requires-8
+leaf-requires-8 c κs = search needs
+
+take-preset-requires : tie.Need-take-preset-requires
+take-preset-requires c κs = search needs
+
+validate-preset-call-requires : tie.Need-validate-preset-call-requires
+validate-preset-call-requires c κs = search needs
+
+leaf-requires-9 : tie.Need-leaf-requires-9
+leaf-requires-9 c κs = search needs
+
+take-span-requires : tie.Need-take-span-requires
+take-span-requires c κs = search needs
+
+leaf-requires-10 : tie.Need-leaf-requires-10
+leaf-requires-10 c κs = search needs
+
+take-at-requires : tie.Need-take-at-requires
+take-at-requires c κs = search needs
+
+leaf-requires-11 : tie.Need-leaf-requires-11
+leaf-requires-11 c κs = search needs
+
+returns : tie.Need-returns
+unfolding validateLeaf
+returns c = λ start b. rw (c .leaf .ensures) (laws.chosen (kinds (length (c .before .before .before .before .before .before .args .text .now)) countForm) (splitNode _ _) 0 b (c .before .before .before .match .keys1) (c .before .before .take-tween .ensures) (λ x e. kind-laws.leaf-is (c .before .before .before .before .before .before .args .text .now) (tree.tween x) (c .before .validate-tween .ensures x e)))
+
+returns-2 : tie.Need-returns-2
+unfolding validateLeaf
+returns-2 c = λ start b. rw (c .leaf2 .ensures) (laws.chosen (kinds (length (c .before .before .before .before .before .before .args .text .now)) countForm) (splitNode _ _) 1 b (c .before .before .before .match .keys2) (c .before .before .take-spring .ensures) (λ x e. kind-laws.leaf-is (c .before .before .before .before .before .before .args .text .now) (tree.spring x) (c .before .validate-spring .ensures x e)))
+
+returns-3 : tie.Need-returns-3
+unfolding validateLeaf
+returns-3 c = λ start b. rw (c .leaf3 .ensures) (laws.chosen (kinds (length (c .before .before .before .before .before .before .args .text .now)) countForm) (splitNode _ _) 2 b (c .before .before .before .match .keys3) (kind-laws.known (c .before .before .take-keyframes .ensures) (c .before .validate-keyframes .ensures)) (λ x e. kind-laws.leaf-is (c .before .before .before .before .before .before .args .text .now) (tree.keyframes x) (sym e)))
+
+returns-4 : tie.Need-returns-4
+unfolding validateLeaf
+returns-4 c = λ start b. rw (c .leaf4 .ensures) (laws.chosen (kinds (length (c .before .before .before .before .before .before .args .text .now)) countForm) (splitNode _ _) 7 b (c .before .before .before .match .keys4) (c .before .before .take-path .ensures) (λ x e. kind-laws.leaf-is (c .before .before .before .before .before .before .args .text .now) (tree.path x) (c .before .validate-path .ensures x e)))
+
+returns-5 : tie.Need-returns-5
+unfolding validateLeaf
+returns-5 c = λ start b. rw (c .leaf5 .ensures) (laws.chosen (kinds (length (c .before .before .before .before .before .before .args .text .now)) countForm) (splitNode _ _) 8 b (c .before .before .before .match .keys5) (c .before .before .take-morph .ensures) (λ x e. kind-laws.leaf-is (c .before .before .before .before .before .before .args .text .now) (tree.morph x) (c .before .validate-morph .ensures x e)))
+
+returns-6 : tie.Need-returns-6
+unfolding validateLeaf
+returns-6 c = λ start b. rw (c .leaf6 .ensures) (laws.chosen (kinds (length (c .before .before .before .before .before .before .args .text .now)) countForm) (splitNode _ _) 9 b (c .before .before .before .match .keys6) (c .before .before .take-draw .ensures) (λ x e. kind-laws.leaf-is (c .before .before .before .before .before .before .args .text .now) (tree.draw x) (c .before .validate-draw .ensures x e)))
+
+returns-7 : tie.Need-returns-7
+unfolding validateLeaf
+returns-7 c = λ start b. rw (c .leaf7 .ensures) (laws.chosen (kinds (length (c .before .before .before .before .before .before .args .text .now)) countForm) (splitNode _ _) 10 b (c .before .before .before .match .keys7) (c .before .before .take-color .ensures) (λ x e. kind-laws.leaf-is (c .before .before .before .before .before .before .args .text .now) (tree.color x) (c .before .validate-color .ensures x e)))
+
+returns-8 : tie.Need-returns-8
+unfolding validateLeaf
+returns-8 c = λ start b. rw (c .leaf8 .ensures) (laws.chosen (kinds (length (c .before .before .before .before .before .before .args .text .now)) countForm) (splitNode _ _) 11 b (c .before .before .before .match .keys8) (c .before .before .take-waveform .ensures) (λ x e. kind-laws.leaf-is (c .before .before .before .before .before .before .args .text .now) (tree.waveform x) (c .before .validate-waveform .ensures x e)))
+
+returns-9 : tie.Need-returns-9
+unfolding validateLeaf
+returns-9 c = λ start b. rw (c .leaf9 .ensures) (laws.chosen (kinds (length (c .before .before .before .before .before .before .args .text .now)) countForm) (splitNode _ _) 12 b (c .before .before .before .match .keys9) (c .before .before .take-preset .ensures) (λ x e. kind-laws.leaf-is (c .before .before .before .before .before .before .args .text .now) (tree.preset x) (c .before .validate-preset-call .ensures x e)))
+
+returns-10 : tie.Need-returns-10
+unfolding validateLeaf
+returns-10 c = λ start b. rw (c .leaf10 .ensures) (laws.chosen (kinds (length (c .before .before .before .before .before .args .text .now)) countForm) (splitNode _ _) 13 b (c .before .before .match .keys10) (c .before .take-span .ensures) (λ x e. kind-laws.leaf-is (c .before .before .before .before .before .args .text .now) (tree.label x) refl))
+
+returns-11 : tie.Need-returns-11
+unfolding validateLeaf
+returns-11 c = λ start b.
+    let m = c .before .before .match .rest in
+    rw (c .leaf11 .ensures) (laws.chosen (kinds (length (c .before .before .before .before .before .args .text .now)) countForm) (splitNode _ _) 14 b (kind-laws.last-kind _ (c .before .before .before .before .before .pre) (m .0 .0 .0 .0 .0 .0 .0 .0 .0 .1) (m .0 .0 .0 .0 .0 .0 .0 .0 .1) (m .0 .0 .0 .0 .0 .0 .0 .1) (m .0 .0 .0 .0 .0 .0 .1) (m .0 .0 .0 .0 .0 .1) (m .0 .0 .0 .0 .1) (m .0 .0 .0 .1) (m .0 .0 .1) (m .0 .1) (m .1)) (c .before .take-at .ensures) (λ x e. kind-laws.leaf-is (c .before .before .before .before .before .args .text .now) (tree.at x) refl))
+
+pub validate-leaf-spec : {M : Type 1} → statement M
+validate-leaf-spec =
+    tie.close
+    (tie.spec
+    take-tween-requires
+    validate-tween-requires
+    leaf-requires
+    take-spring-requires
+    validate-spring-requires
+    leaf-requires-2
+    take-keyframes-requires
+    validate-keyframes-requires
+    leaf-requires-3
+    take-path-requires
+    validate-path-requires
+    leaf-requires-4
+    take-morph-requires
+    validate-morph-requires
+    leaf-requires-5
+    take-draw-requires
+    validate-draw-requires
+    leaf-requires-6
+    take-color-requires
+    validate-color-requires
+    leaf-requires-7
+    take-waveform-requires
+    validate-waveform-requires
+    leaf-requires-8
+    take-preset-requires
+    validate-preset-call-requires
+    leaf-requires-9
+    take-span-requires
+    leaf-requires-10
+    take-at-requires
+    leaf-requires-11
+    returns
+    returns-2
+    returns-3
+    returns-4
+    returns-5
+    returns-6
+    returns-7
+    returns-8
+    returns-9
+    returns-10
+    returns-11)

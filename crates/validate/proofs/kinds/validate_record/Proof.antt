@@ -1,0 +1,31 @@
+-- `validate::kinds::validate_record` meets its contract: the kind, then its fields. Assumes nothing.
+use mathlib.Core.Logic.{⊎-elim, inl, inr}
+use native.Mathlib.Omega.{arith}
+use borrow.Author.Needs.{needs}
+use Rattle.validate.proofs.kinds.validate_record.Statement.{statement}
+use Rattle.validate.proofs.kinds.validate_record.Tie as tie
+
+take-byte-requires : tie.Need-take-byte-requires
+take-byte-requires c κs = search needs
+
+validate-container-requires : tie.Need-validate-container-requires
+validate-container-requires c κs = search needs
+
+validate-leaf-requires : tie.Need-validate-leaf-requires
+validate-leaf-requires c κs = ⊎-elim (λ w. (inl (omega arith), c .before .take-byte .ensures .small)) (λ w. (inr (omega arith), c .before .take-byte .ensures .small)) (c .if1 .came)
+
+returns : tie.Need-returns
+returns c = c .validate-container .ensures _ _ (c .before .before .before .take-byte .ensures .reads)
+
+returns-2 : tie.Need-returns-2
+returns-2 c = c .validate-leaf .ensures _ (c .before .before .take-byte .ensures .reads)
+
+pub validate-record-spec : {M : Type 1} → statement M
+validate-record-spec =
+    tie.close
+    (tie.spec
+    take-byte-requires
+    validate-container-requires
+    validate-leaf-requires
+    returns
+    returns-2)

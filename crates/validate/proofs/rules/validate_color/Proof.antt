@@ -1,0 +1,54 @@
+-- `validate::rules::validate_color` meets its contract: rules in the order of the definition's list. Assumes nothing.
+use mathlib.Core.Path.{ap, refl, sym, _∙_}
+use mathlib.Core.Bool.{not}
+use borrow.Author.Needs.{needs}
+use Rattle.error.specs.declared.Refusal.the-variants.{OutOfRange, UnknownEasing, InvalidColor}
+use Rattle.presets.specs.Colors.{colors, isColor}
+use Rattle.text.specs.Bytes.{part}
+use Rattle.validate.specs.Rules.{validateColor}
+use Rattle.validate.proofs.RuleLaws as rules
+use Rattle.validate.proofs.rules.validate_color.Statement.{statement}
+use Rattle.validate.proofs.rules.validate_color.Tie as tie
+
+is-negative-requires : tie.Need-is-negative-requires
+is-negative-requires c κs = search needs
+
+rule-requires : tie.Need-rule-requires
+rule-requires c κs = search needs
+
+is-valid-color-requires : tie.Need-is-valid-color-requires
+is-valid-color-requires c κs = search needs
+
+rule-requires-2 : tie.Need-rule-requires-2
+rule-requires-2 c κs = search needs
+
+is-valid-color-requires-2 : tie.Need-is-valid-color-requires-2
+is-valid-color-requires-2 c κs = search needs
+
+rule-requires-3 : tie.Need-rule-requires-3
+rule-requires-3 c κs = search needs
+
+validate-easing-requires : tie.Need-validate-easing-requires
+validate-easing-requires c κs = search needs
+
+returns : tie.Need-returns
+unfolding validateColor
+returns c = λ x e.
+    let t = c .before .before .before .before .before .before .before .before .before .before .args .text .now in
+    let f1 = rules.one OutOfRange (c .before .before .before .before .before .before .is-negative .ensures (x .duration) (ap (λ v. v .duration) e)) (c .before .before .before .before .before .rule .ensures) in
+    let f2 = rules.more _ InvalidColor f1 (ap not (c .before .before .before .before .is-valid-color .ensures ∙ sym (ap (λ v. isColor colors (part t (v .from .start) (v .from .size))) e))) (c .before .before .before .rule2 .ensures) in
+    let f3 = rules.more _ InvalidColor f2 (ap not (c .before .before .is-valid-color2 .ensures ∙ sym (ap (λ v. isColor colors (part t (v .to .start) (v .to .size))) e))) (c .before .rule3 .ensures) in
+    rules.more _ UnknownEasing f3 refl (c .validate-easing .ensures (x .easing) (ap (λ v. v .easing) e))
+
+pub validate-color-spec : {M : Type 1} → statement M
+validate-color-spec =
+    tie.close
+    (tie.spec
+    is-negative-requires
+    rule-requires
+    is-valid-color-requires
+    rule-requires-2
+    is-valid-color-requires-2
+    rule-requires-3
+    validate-easing-requires
+    returns)

@@ -1,0 +1,33 @@
+-- `validate::rules::validate_morph` meets its contract: rules in the order of the definition's list. Assumes nothing.
+use mathlib.Core.Path.{ap, refl, sym}
+use lib.Dec.{eqb}
+use borrow.Author.Needs.{needs}
+use Rattle.error.specs.declared.Refusal.the-variants.{OutOfRange, UnknownEasing}
+use Rattle.validate.specs.Rules.{validateMorph}
+use Rattle.validate.proofs.RuleLaws as rules
+use Rattle.validate.proofs.rules.validate_morph.Statement.{statement}
+use Rattle.validate.proofs.rules.validate_morph.Tie as tie
+
+is-negative-requires : tie.Need-is-negative-requires
+is-negative-requires c κs = search needs
+
+rule-requires : tie.Need-rule-requires
+rule-requires c κs = search needs
+
+rule-requires-2 : tie.Need-rule-requires-2
+rule-requires-2 c κs = search needs
+
+validate-easing-requires : tie.Need-validate-easing-requires
+validate-easing-requires c κs = search needs
+
+returns : tie.Need-returns
+unfolding validateMorph
+returns c = λ x e.
+    let f1 = rules.one OutOfRange (c .before .before .before .before .is-negative .ensures (x .duration) (ap (λ v. v .duration) e)) (c .before .before .before .rule .ensures) in
+    let f2 = rules.more _ OutOfRange f1 (sym (ap (λ v. eqb (v .samples) 0) e)) (c .before .rule2 .ensures) in
+    rules.more _ UnknownEasing f2 refl (c .validate-easing .ensures (x .easing) (ap (λ v. v .easing) e))
+
+pub validate-morph-spec : {M : Type 1} → statement M
+validate-morph-spec =
+    tie.close
+    (tie.spec is-negative-requires rule-requires rule-requires-2 validate-easing-requires returns)

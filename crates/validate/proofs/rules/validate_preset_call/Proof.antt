@@ -1,0 +1,45 @@
+-- `validate::rules::validate_preset_call` meets its contract: rules in the order of the definition's list. Assumes nothing.
+use mathlib.Core.Path.{ap, refl, sym, _∙_}
+use mathlib.Core.Bool.{not}
+use borrow.Author.Needs.{needs}
+use Rattle.error.specs.declared.Refusal.the-variants.{OutOfRange, UnknownEasing, UnknownPreset}
+use Rattle.presets.specs.Presets.{isPreset}
+use Rattle.text.specs.Bytes.{part}
+use Rattle.validate.specs.Rules.{validatePresetCall}
+use Rattle.validate.proofs.RuleLaws as rules
+use Rattle.validate.proofs.rules.validate_preset_call.Statement.{statement}
+use Rattle.validate.proofs.rules.validate_preset_call.Tie as tie
+
+is-known-preset-requires : tie.Need-is-known-preset-requires
+is-known-preset-requires c κs = search needs
+
+rule-requires : tie.Need-rule-requires
+rule-requires c κs = search needs
+
+validate-easing-requires : tie.Need-validate-easing-requires
+validate-easing-requires c κs = search needs
+
+some-negative-requires : tie.Need-some-negative-requires
+some-negative-requires c κs = search needs
+
+rule-requires-2 : tie.Need-rule-requires-2
+rule-requires-2 c κs = search needs
+
+returns : tie.Need-returns
+unfolding validatePresetCall
+returns c = λ x e.
+    let t = c .before .before .before .before .before .before .before .args .text .now in
+    let f1 = rules.one UnknownPreset (ap not (c .before .before .before .before .is-known-preset .ensures ∙ sym (ap (λ v. isPreset (part t (v .name .start) (v .name .size))) e))) (c .before .before .before .rule .ensures) in
+    let f2 = rules.more _ UnknownEasing f1 refl (c .before .before .validate-easing .ensures (x .easing) (ap (λ v. v .easing) e)) in
+    rules.more _ OutOfRange f2 (c .before .some-negative .ensures (x .duration) (ap (λ v. v .duration) e)) (c .rule2 .ensures)
+
+pub validate-preset-call-spec : {M : Type 1} → statement M
+validate-preset-call-spec =
+    tie.close
+    (tie.spec
+    is-known-preset-requires
+    rule-requires
+    validate-easing-requires
+    some-negative-requires
+    rule-requires-2
+    returns)

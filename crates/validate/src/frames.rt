@@ -1,0 +1,82 @@
+// A track's rules: enough frames, no time twice, easings of known names.
+ghost use Rattle.number.specs.Number.{f32};
+ghost use Rattle.ast.specs.View.{timeView};
+ghost use Rattle.validate.specs.Rules.{timeOf};
+ghost use Rattle.validate.specs.Means.{Tells, FramesTell, FramesAt, TrackTells};
+use crate::faults::Fault;
+use crate::faults::some_unknown;
+use ast::KeyframeSpec;
+use ast::KeyframeTime;
+use decode::fields::take_field;
+use decode::fields::take_span;
+use decode::nodes::take_entry;
+use error::Refusal;
+
+// Percent and seconds share one scale.
+fn time_of(time: KeyframeTime) -> f32
+    ensures { λ r. ⌜ Tells timeView (λ t. f32 (timeOf t)) time r ⌝ }
+{
+    match time {
+        KeyframeTime::Percent(x) => x,
+        KeyframeTime::Seconds(x) => x,
+    }
+}
+
+// The first fault of so many frames from a place on. Each frame's time is tried against those of the frames before it, which
+// are decoded again; the search ends at the first pair of duplicates. A frame's easing comes after its time.
+fn validate_frames(text: &[u8], s: &[u8], first: usize, count: usize) -> Fault
+    ensures { λ r. ⌜ FramesTell (now (text .entry)) (now (s .entry)) first count r ⌝ }
+{
+    let n = text.len();
+    let mut fault = Fault::None;
+    let mut i: usize = 0;
+    let mut at = first;
+    'frames: while i < count {
+        let frame = take_entry(s, at, n);
+        let entry = frame.v;
+        let stored = entry.time;
+        let time = time_of(stored);
+        let mut j: usize = 0;
+        let mut back = first;
+        while j < i {
+            let earlier = take_entry(s, back, n);
+            let before = earlier.v;
+            let existing = before.time;
+            if number::duplicate(time_of(existing), time) {
+                fault = Fault::Is(Refusal::DuplicateTime);
+                break 'frames;
+            }
+            back = earlier.next;
+            j += 1;
+        }
+        let easing = entry.easing;
+        if some_unknown(text, easing) {
+            fault = Fault::Is(Refusal::UnknownEasing);
+            break 'frames;
+        }
+        at = frame.next;
+        i += 1;
+    }
+    fault
+}
+
+// Where the frames of the track at a place begin: behind its target and its count of frames.
+fn frames_at(s: &[u8], at: usize, n: usize) -> usize
+    ensures { λ r. ⌜ FramesAt n (now (s .entry)) at r ⌝ }
+{
+    let target = take_span(s, at, n);
+    let count = take_field(s, target.next, 2);
+    count.next
+}
+
+// The track whose fields stand at a place.
+pub fn validate_keyframes(text: &[u8], s: &[u8], at: usize, spec: KeyframeSpec) -> Fault
+    ensures { λ r. ⌜ TrackTells (now (text .entry)) (now (s .entry)) at spec r ⌝ }
+{
+    let count = spec.frames;
+    if count < 2 {
+        return Fault::Is(Refusal::TooFewFrames);
+    }
+    let first = frames_at(s, at, text.len());
+    validate_frames(text, s, first, count)
+}

@@ -1,0 +1,146 @@
+// A record: its fields, decoded, by the rules of its kind.
+ghost use Prim.Native.Nat.{ℕ};
+ghost use mathlib.Core.List.{List};
+ghost use mathlib.Core.Path.{_≡_};
+ghost use Rattle.decode.specs.Reads.{Reads};
+ghost use Rattle.records.specs.Record.{recordForm};
+ghost use Rattle.records.specs.declared.Kind.the-variants.{Leaf, Container};
+ghost use lib.ListN.{length};
+ghost use Rattle.validate.specs.Walks.{recordView, checkView, checkOf, FieldsTell, LeafKind, ContainerKind};
+use crate::faults::Fault;
+use crate::frames::validate_keyframes;
+use crate::rules::validate_color;
+use crate::rules::validate_draw;
+use crate::rules::validate_morph;
+use crate::rules::validate_path;
+use crate::rules::validate_preset_call;
+use crate::rules::validate_spring;
+use crate::rules::validate_stagger;
+use crate::rules::validate_tween;
+use crate::rules::validate_waveform;
+use decode::fields::take_byte;
+use decode::fields::take_field;
+use decode::fields::take_span;
+use decode::nodes::take_at;
+use decode::nodes::take_color;
+use decode::nodes::take_draw;
+use decode::nodes::take_group;
+use decode::nodes::take_keyframes;
+use decode::nodes::take_morph;
+use decode::nodes::take_path;
+use decode::nodes::take_preset;
+use decode::nodes::take_spring;
+use decode::nodes::take_stagger;
+use decode::nodes::take_tween;
+use decode::nodes::take_waveform;
+use records::Kind;
+
+// A record's first fault, whether it holds nodes and how many, and the place behind it.
+pub struct RecordCheck {
+    pub fault: Fault,
+    pub kind: Kind,
+    pub next: usize,
+}
+
+fn leaf(fault: Fault, next: usize) -> RecordCheck
+    ensures { λ r. ⌜ r ≡ checkOf fault Leaf next ⌝ }
+{
+    RecordCheck {
+        fault,
+        kind: Kind::Leaf,
+        next,
+    }
+}
+
+// A leaf of a kind: its fields at a place.
+fn validate_leaf(text: &[u8], s: &[u8], at: usize, kind: u8) -> RecordCheck
+    requires { ⌜ LeafKind kind ⌝ }
+    ensures { λ r. ⌜ FieldsTell (now (text .entry)) (now (s .entry)) kind at r ⌝ }
+{
+    let n = text.len();
+    match kind {
+        0 => {
+            let x = take_tween(s, at, n);
+            leaf(validate_tween(text, x.v), x.next)
+        }
+        1 => {
+            let x = take_spring(s, at, n);
+            leaf(validate_spring(x.v), x.next)
+        }
+        2 => {
+            let x = take_keyframes(s, at, n);
+            leaf(validate_keyframes(text, s, at, x.v), x.next)
+        }
+        7 => {
+            let x = take_path(s, at, n);
+            leaf(validate_path(text, x.v), x.next)
+        }
+        8 => {
+            let x = take_morph(s, at, n);
+            leaf(validate_morph(text, x.v), x.next)
+        }
+        9 => {
+            let x = take_draw(s, at, n);
+            leaf(validate_draw(text, x.v), x.next)
+        }
+        10 => {
+            let x = take_color(s, at, n);
+            leaf(validate_color(text, x.v), x.next)
+        }
+        11 => {
+            let x = take_waveform(s, at);
+            leaf(validate_waveform(x.v), x.next)
+        }
+        12 => {
+            let x = take_preset(s, at, n);
+            leaf(validate_preset_call(text, x.v), x.next)
+        }
+        13 => leaf(Fault::None, take_span(s, at, n).next),
+        _ => leaf(Fault::None, take_at(s, at).next),
+    }
+}
+
+fn container(fault: Fault, count: usize, next: usize) -> RecordCheck
+    ensures { λ r. ⌜ r ≡ checkOf fault (Container count) next ⌝ }
+{
+    RecordCheck {
+        fault,
+        kind: Kind::Container(count),
+        next,
+    }
+}
+
+// A container of a kind: its own fields at a place.
+fn validate_container(s: &[u8], at: usize, kind: u8) -> RecordCheck
+    requires { ⌜ ContainerKind kind ⌝ }
+    ensures { λ r. ⌜ ((t : List ℕ) → FieldsTell t (now (s .entry)) kind at r) ⌝ }
+{
+    match kind {
+        5 => {
+            let x = take_group(s, at);
+            let group = x.v;
+            container(Fault::None, group.nodes, x.next)
+        }
+        6 => {
+            let x = take_stagger(s, at);
+            let stagger = x.v;
+            container(validate_stagger(stagger), stagger.nodes, x.next)
+        }
+        _ => {
+            let count = take_field(s, at, 2);
+            container(Fault::None, count.v as usize, count.next)
+        }
+    }
+}
+
+// The record at a place, without the nodes in it.
+pub fn validate_record(text: &[u8], s: &[u8], at: usize) -> RecordCheck
+    ensures { λ r. ⌜ Reads (recordForm (length (now (text .entry)))) (recordView (now (text .entry))) (now (s .entry)) at (checkView r) (r .next) ⌝ }
+{
+    let k = take_byte(s, at, 15);
+    let kind = k.v;
+    match kind {
+        3..=6 => validate_container(s, k.next, kind),
+        _ => validate_leaf(text, s, k.next, kind),
+    }
+}
