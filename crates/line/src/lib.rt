@@ -1,1 +1,121 @@
-// A record as a line of hexadecimal.
+// Lining: a record of a sheet as a line of hexadecimal.
+ghost use mathlib.Core.List.{[], _∷_};
+ghost use mathlib.Core.Path.{_≡_};
+ghost use Prim.Native.Nat.{_+_, _*_, _%_, _<_};
+ghost use lib.Dec.{leb};
+ghost use Rattle.text.specs.Write.{Puts};
+ghost use Rattle.line.specs.Line.{digit, hex, total, checkByte, line};
+ghost use Rattle.line.specs.Lining.{placed, lining};
+use error::LineAnswer;
+use error::Refusal;
+use opening::Opening;
+use opening::open_sheet;
+use records::RecordAt;
+
+// ---- the check byte
+
+// The sum of some bytes, modulo 256.
+fn total(bytes: &[u8]) -> u8
+    ensures { λ r. ⌜ r ≡ total (now (bytes .entry)) % 256 ⌝ }
+{
+    let mut sum: u8 = 0;
+    let mut i = 0;
+    while i < bytes.len() {
+        sum = std::num::wrapping_add_u8(sum, bytes[i]);
+        i += 1;
+    }
+    sum
+}
+
+// The byte with which a record's bytes sum to zero modulo 256.
+fn check_byte(bytes: &[u8]) -> u8
+    ensures { λ r. ⌜ r ≡ checkByte (now (bytes .entry)) ⌝ }
+{
+    std::num::wrapping_sub_u8(0, total(bytes))
+}
+
+// ---- writing
+
+// A digit of hexadecimal, a capital from ten on.
+fn digit(n: u8) -> u8
+    requires { ⌜ n < 16 ⌝ }
+    ensures { λ r. ⌜ r ≡ digit n ⌝ }
+{
+    if n < 10 { 48 + n } else { 55 + n }
+}
+
+// Writes a byte as two digits at a place, and gives the place behind them.
+fn put_byte(out: &mut [u8], at: usize, b: u8) -> usize
+    ensures { λ r. ⌜ Puts (now (out .entry)) at (hex (b ∷ [])) (now (out .exit)) r ⌝ }
+{
+    let next = text::put(out, at, digit(b / 16));
+    text::put(out, next, digit(b % 16))
+}
+
+// Writes some bytes so.
+fn put_bytes(out: &mut [u8], at: usize, bytes: &[u8]) -> usize
+    ensures { λ r. ⌜ Puts (now (out .entry)) at (hex (now (bytes .entry))) (now (out .exit)) r ⌝ }
+{
+    let mut end = at;
+    let mut i = 0;
+    while i < bytes.len() {
+        end = put_byte(out, end, bytes[i]);
+        i += 1;
+    }
+    end
+}
+
+// Writes a record's line at the front, and gives its length.
+fn put_line(out: &mut [u8], bytes: &[u8]) -> usize
+    ensures { λ r. ⌜ Puts (now (out .entry)) 0 (line (now (bytes .entry))) (now (out .exit)) r ⌝ }
+{
+    let n = bytes.len();
+    let high = put_byte(out, 0, (n / 256 % 256) as u8);
+    let low = put_byte(out, high, (n % 256) as u8);
+    let body = put_bytes(out, low, bytes);
+    let end = put_byte(out, body, check_byte(bytes));
+    text::put(out, end, b'\n')
+}
+
+// ---- lining
+
+// Whether an output of so many bytes has room for the line of a record of n bytes, which takes 2n + 7.
+fn has_room(room: usize, n: usize) -> bool
+    ensures { λ r. ⌜ r ≡ leb (2 * n + 7) room ⌝ }
+{
+    if room < 7 {
+        return false;
+    }
+    n <= (room - 7) / 2
+}
+
+// Writes a record's line if there is room for it.
+fn place_line(bytes: &[u8], ordinal: usize, out: &mut [u8]) -> LineAnswer
+    ensures { λ r. ⌜ (r, now (out .exit)) ≡ placed ordinal (now (out .entry)) (line (now (bytes .entry))) ⌝ }
+{
+    if has_room(out.len(), bytes.len()) {
+        return LineAnswer::Accepted {
+            length: put_line(out, bytes),
+        };
+    }
+    LineAnswer::Refused {
+        refusal: Refusal::OutputTooShort,
+        place: ordinal,
+    }
+}
+
+// The line of the record with an ordinal, the head being 0, or a refusal and its place.
+pub fn line(text: &[u8], sheet: &[u8], ordinal: usize, out: &mut [u8]) -> LineAnswer
+    ensures { λ r. ⌜ (r, now (out .exit)) ≡ lining (now (text .entry)) (now (sheet .entry)) ordinal (now (out .entry)) ⌝ }
+{
+    if let Opening::Shut { refusal, place } = open_sheet(text, sheet) {
+        return LineAnswer::Refused { refusal, place };
+    }
+    match records::record_at(sheet, text.len(), ordinal) {
+        RecordAt::At { start, size } => place_line(text::part(sheet, start, size), ordinal, out),
+        RecordAt::Nothing => LineAnswer::Refused {
+            refusal: Refusal::NoSuchRecord,
+            place: ordinal,
+        },
+    }
+}

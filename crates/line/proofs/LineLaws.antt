@@ -1,0 +1,116 @@
+-- Laws of a line: its length, its check byte, and where it is written. Assumes nothing.
+use Prim.Native.Nat.{ℕ, _+_, _*_, _-_, _/_, _%_, _≤_, _<_}
+use mathlib.Core.Bool.{Bool, true, false}
+use mathlib.Core.List.{List, [], _∷_, _++_, append-assoc}
+use mathlib.Core.Path.{_≡_, refl, sym, _∙_, ap}
+use native.Mathlib.Omega.{arith}
+use native.Mathlib.Nat.{zero-add, sub-zero}
+use native.Mathlib.Numerals.{add-one}
+use lib.Dec.{leb}
+use lib.ListN.{length, getD, drop, drop-of-length-le, length-append}
+use lib.Seq.{sets, sets-eq, drop-cons, take-all}
+use borrow.Author.Tests.{leb-true, leb-false, le-leb, lt-leb, le-ltb, lt-ltb}
+use Rattle.error.specs.declared.Refusal.{Refusal}
+use Rattle.error.specs.declared.Refusal.the-variants.{OutputTooShort}
+use Rattle.error.specs.declared.LineAnswer.the-variants.{Accepted, Refused}
+use Rattle.text.specs.Write.{Puts}
+use Rattle.codec.specs.Codec.{big}
+use Rattle.sheet.specs.Opening.{opening}
+use Rattle.records.specs.declared.RecordAt.{RecordAt}
+use Rattle.records.specs.Record.{bytesAt, Located}
+use Rattle.opening.specs.declared.Opening.the-variants.{Open, Shut}
+use Rattle.opening.specs.Means.{answerOf}
+use Rattle.opening.proofs.OpenLaws.{Tree, the-tree, the-refusal}
+use Rattle.line.specs.Line.{digit, hex, total, checkByte, line}
+use Rattle.line.specs.Lining.{placed, ofRecord, lining}
+
+-- ---- the check byte
+
+pub total-at : (s : List ℕ) (i : ℕ) → i < length s → total (drop i s) ≡ getD s i 0 + total (drop (i + 1) s)
+unfolding total
+total-at s i h = rw (add-one, drop-cons s i 0)
+
+pub total-end : (s : List ℕ) (i : ℕ) → length s ≤ i → total (drop i s) ≡ 0
+unfolding total
+total-end s i h = rw (drop-of-length-le s h)
+
+-- one more byte in a sum modulo 256
+pub wrapped : (t b rest : ℕ) → ((t + b) % 256 + rest) % 256 ≡ (t + (b + rest)) % 256
+wrapped t b rest = omega arith
+
+-- what with the sum gives zero is the check byte
+pub check-is : (r : List ℕ) (c : ℕ) → c < 256 → (c + total r % 256) % 256 ≡ 0 → c ≡ checkByte r
+unfolding checkByte
+check-is r c h e = omega arith
+
+-- "The record's bytes and the check byte sum to zero modulo 256"
+pub zero-sum : (r : List ℕ) → (total r + checkByte r) % 256 ≡ 0
+unfolding checkByte
+zero-sum r = omega arith
+
+-- ---- hexadecimal
+
+pub hex-at : (s : List ℕ) (i : ℕ) → i < length s → hex (drop i s) ≡ hex (getD s i 0 ∷ []) ++ hex (drop (i + 1) s)
+unfolding hex
+hex-at s i h = rw (add-one, drop-cons s i 0)
+
+pub hex-end : (s : List ℕ) (i : ℕ) → length s ≤ i → hex (drop i s) ≡ []
+unfolding hex
+hex-end s i h = rw (drop-of-length-le s h)
+
+pub hex-append : (a b : List ℕ) → hex (a ++ b) ≡ hex a ++ hex b
+unfolding hex
+hex-append [] b = refl
+hex-append (x ∷ a) b = ap (λ (l : List ℕ). digit (x / 16) ∷ digit (x % 16) ∷ l) (hex-append a b)
+
+pub length-hex : (s : List ℕ) → length (hex s) ≡ 2 * length s
+unfolding hex
+length-hex [] = refl
+length-hex (b ∷ s) = let e = length-hex s in omega arith
+
+-- "A record of n bytes needs 2n + 7 bytes of output"
+pub length-line : (r : List ℕ) → length (line r) ≡ 2 * length r + 7
+unfolding line
+length-line r =
+    let n = big 2 .write (length r) in
+    let c = checkByte r ∷ [] in
+    let a : length (line r) ≡ length (hex (n ++ r ++ c)) + 1 = length-append (hex (n ++ r ++ c)) (10 ∷ []) in
+    let b : length (n ++ r ++ c) ≡ length (n ++ r) + 1 = length-append (n ++ r) c in
+    let d : length (n ++ r) ≡ 2 + length r = length-append n r in
+    omega (arith, length-hex (n ++ r ++ c))
+
+-- a line in the parts that are written one after the other
+pub line-parts : (r : List ℕ) → line r ≡ hex (length r / 256 % 256 ∷ []) ++ (hex (length r % 256 ∷ []) ++ (hex r ++ (hex (checkByte r ∷ []) ++ 10 ∷ [])))
+unfolding line hex
+line-parts r = rw (hex-append r (checkByte r ∷ []), append-assoc (hex r) (hex (checkByte r ∷ [])) (10 ∷ []))
+
+-- ---- lining
+
+-- the test for room, in which no number wraps
+pub room-for : (n room : ℕ) → 7 ≤ room → leb n ((room - 7) / 2) ≡ leb (2 * n + 7) room
+room-for n room h = go (leb n ((room - 7) / 2)) refl
+  where
+    go : (t : Bool) → leb n ((room - 7) / 2) ≡ t → t ≡ leb (2 * n + 7) room
+    go true e = sym (le-leb (2 * n + 7) room (omega (arith, leb-true n ((room - 7) / 2) e)))
+    go false e = sym (lt-leb (2 * n + 7) room (omega (arith, leb-false n ((room - 7) / 2) e)))
+
+module _ (i : ℕ) (out r : List ℕ) where
+  pub with-room : {after : List ℕ} {end : ℕ} → leb (2 * length r + 7) (length out) ≡ true → Puts out 0 (line r) after end → placed i out (line r) ≡ (Accepted end, after)
+  with-room {after} {end} e p =
+      let h : length (line r) ≤ length out = omega (arith, length-line r, leb-true (2 * length r + 7) (length out) e) in
+      let n : end ≡ length (line r) = p .place ∙ (rw (zero-add, sub-zero, take-all (length out) (line r) h)) in
+      let b : sets out 0 (line r) ≡ line r ++ drop (0 + length (line r)) out = sets-eq (line r) out 0 (rw zero-add h) in
+      rw (le-ltb _ _ h, n, p .bytes, b, zero-add)
+
+  pub without-room : leb (2 * length r + 7) (length out) ≡ false → placed i out (line r) ≡ (Refused OutputTooShort i, out)
+  without-room e = let h : length out < length (line r) = omega (arith, length-line r, leb-false (2 * length r + 7) (length out) e) in rw (lt-ltb _ _ h)
+
+module _ (t s : List ℕ) (i : ℕ) (out : List ℕ) where
+  pub refused : {r : Refusal} {p : ℕ} → Shut r p ≡ answerOf (opening t s) → lining t s i out ≡ (Refused r p, out)
+  unfolding lining
+  refused e = rw (the-refusal (opening t s) e)
+
+  -- what is found at the ordinal is lined
+  pub found : {a : RecordAt} → Open ≡ answerOf (opening t s) → Located (length t) s i a → lining t s i out ≡ ofRecord i out (bytesAt a s)
+  unfolding lining
+  found e l = let o = the-tree t s e in rw (o .opens, ← l .is (o .nodes) (o .decodes))

@@ -1,0 +1,57 @@
+-- `line::put_bytes` meets its contract; the loop keeps that what is written from here on is written from the start. Assumes nothing.
+use Prim.Native.Nat.{_-_, ℕ}
+use mathlib.Core.List.{List}
+use mathlib.Core.Path.{refl, _∙_, _≡_}
+use lib.ListN.{drop, length}
+use borrow.Author.Needs.{needs}
+use Rattle.text.specs.Write.{Puts}
+use Rattle.line.specs.Line.{hex}
+use Rattle.line.proofs.LineLaws.{hex-at, hex-end}
+use Rattle.text.proofs.WriteLaws.{puts-none, puts-then}
+use Rattle.line.proofs.put_bytes.Statement.{statement}
+use Rattle.line.proofs.put_bytes.Tie as tie
+
+abbrev Inv-loop : tie.InvT-loop
+Inv-loop out₀ at bytes end₀ i₀ out end i = (length out ≡ length out₀) × ((after : List ℕ) (e : ℕ) → Puts out end (hex (drop i bytes)) after e → Puts out₀ at (hex bytes) after e)
+
+abbrev μ-loop : tie.MeasureT-loop
+μ-loop out₀ at bytes end₀ i₀ out end i = length bytes - i
+
+loop-holds : tie.Need-loop-holds Inv-loop μ-loop
+loop-holds c = (refl, λ after e p. p)
+
+shared-slice-read-put-byte : tie.Need-shared-slice-read-put-byte Inv-loop μ-loop
+shared-slice-read-put-byte c = search needs
+
+put-byte-requires : tie.Need-put-byte-requires Inv-loop μ-loop
+put-byte-requires c κs = search needs
+
+add-i : tie.Need-add-i Inv-loop μ-loop
+add-i c = search needs
+
+loop-less : tie.Need-loop-less Inv-loop μ-loop
+loop-less c = search needs
+
+loop-again : tie.Need-loop-again Inv-loop μ-loop
+loop-again c = (c .before .before .put-byte .kept .0 ∙ c .before .before .before .before .before .before .loop .inv .0, λ after e p. c .before .before .before .before .before .before .loop .inv .1 after e (rw (hex-at (c .before .before .before .before .before .before .before .before .before .args .bytes .now) (c .before .before .before .before .before .before .loop .i) (c .before .before .before .before .before .loop-test .taken)) (puts-then (c .before .before .put-byte .ensures) p)))
+
+same-length : tie.Need-same-length Inv-loop μ-loop
+same-length c = c .before .loop .inv .0
+
+returns : tie.Need-returns Inv-loop μ-loop
+returns c = c .before .loop .inv .1 _ _ (rw (hex-end (c .before .before .before .before .args .bytes .now) (c .before .loop .i) (c .loop-test .left)) (puts-none _ _))
+
+pub put-bytes-spec : {M : Type 1} → statement M
+put-bytes-spec =
+    tie.close
+    (tie.spec
+    Inv-loop
+    μ-loop
+    loop-holds
+    shared-slice-read-put-byte
+    put-byte-requires
+    add-i
+    loop-less
+    loop-again
+    same-length
+    returns)
