@@ -394,14 +394,20 @@ parseLabel = do
   the ";"
   give (Leaf.label s)
 
+-- the sign that `at` takes first, `+` or `-`: whether there is one, and whether it is `-`
+unfoldable pub atSign : Rule (Bool × Bool)
+atSign = do
+  plus ← eat "+"
+  minus ← cond plus (give false) (eat "-")
+  give (plus || minus, minus)
+
 -- parse_at: "`at` takes its own sign first"
 unfoldable pub parseAt : Rule (Leaf Key)
 parseAt = do
-  plus ← eat "+"
-  minus ← cond plus (give false) (eat "-")
+  sign ← atSign
   w ← signed seesNumber Malformed
   eat ";"
-  give (Leaf.at (record { value = bits (nearest (cond minus (not (w .0)) (w .0)) (w .1)); relative = plus || minus }))
+  give (Leaf.at (record { value = bits (nearest (cond (sign .1) (not (w .0)) (w .0)) (w .1)); relative = sign .0 }))
 
 -- ---- nodes
 

@@ -1,0 +1,101 @@
+// parser.rs: the nodes that hold no others and no values of several numbers. Each is read behind its keyword, and its record is written at `out`.
+// The functions are for our own crates: each requires a cursor that stands in a text of at most 16,384 bytes, and a place below 2^30.
+ghost use mathlib.Core.Path.{_≡_};
+ghost use mathlib.Core.Bool.{Bool, not, cond};
+ghost use Rattle.number.specs.Number.{nearest};
+ghost use Rattle.token.specs.Means.{written};
+ghost use Rattle.grammar.specs.Grammar.{parseLabel, parseAt, parseDraw, drawFields};
+ghost use Rattle.cursor.specs.Means.{Ready};
+ghost use Rattle.arrays.specs.Means.{Room};
+ghost use Rattle.nodes.specs.Means.{LeafMeans, SignMeans};
+use ast::Span;
+use cursor::Cursor;
+use cursor::MarkRead;
+use cursor::NumberRead;
+use cursor::WordRead;
+use error::Refusal;
+
+// The place behind the record, and the cursor behind the node.
+pub enum NodeRead {
+    Is(usize, Cursor),
+    Refused(Refusal, usize),
+}
+
+// ---- label
+
+pub fn parse_label(text: &[u8], sheet: &mut [u8], c: Cursor, out: usize) -> NodeRead
+    requires { ⌜ Ready (now text) c × Room (now text) out ⌝ }
+    ensures { λ r. ⌜ LeafMeans (now (text .entry)) (now (sheet .entry)) (now (sheet .exit)) c out parseLabel r ⌝ }
+{
+    match cursor::string(text, c) {
+        WordRead::Missing(p) => NodeRead::Refused(Refusal::Missing, p),
+        WordRead::Is(s, m) => match cursor::mark(text, m, 59) {
+            MarkRead::Missing(p) => NodeRead::Refused(Refusal::Missing, p),
+            MarkRead::Is(n) => {
+                let a = encode::put_byte(sheet, out, 13);
+                NodeRead::Is(encode::put_span(sheet, a, s), n)
+            }
+        },
+    }
+}
+
+// ---- at
+
+// Whether `at` has a sign of its own, whether that is a minus, and the cursor behind it.
+pub struct Sign {
+    pub relative: bool,
+    pub minus: bool,
+    pub next: Cursor,
+}
+
+fn at_sign(text: &[u8], c: Cursor) -> Sign
+    requires { ⌜ Ready (now text) c ⌝ }
+    ensures { λ r. ⌜ SignMeans (now (text .entry)) c r ⌝ }
+{
+    let plus = cursor::eat(text, c, 43);
+    let m = plus.next;
+    if plus.taken {
+        return Sign {
+            relative: true,
+            minus: false,
+            next: m,
+        };
+    }
+    let minus = cursor::eat(text, m, 45);
+    let n = minus.next;
+    Sign {
+        relative: minus.taken,
+        minus: minus.taken,
+        next: n,
+    }
+}
+
+// The number's sign behind `at`'s own.
+fn turned(negative: bool, minus: bool) -> bool
+    ensures { λ r. ⌜ r ≡ cond minus (not negative) negative ⌝ }
+{
+    if minus {
+        return !negative;
+    }
+    negative
+}
+
+pub fn parse_at(text: &[u8], sheet: &mut [u8], c: Cursor, out: usize) -> NodeRead
+    requires { ⌜ Ready (now text) c × Room (now text) out ⌝ }
+    ensures { λ r. ⌜ LeafMeans (now (text .entry)) (now (sheet .entry)) (now (sheet .exit)) c out parseAt r ⌝ }
+{
+    let sign = at_sign(text, c);
+    let m = sign.next;
+    match cursor::number(text, m) {
+        NumberRead::Missing(p) => NodeRead::Refused(Refusal::Malformed, p),
+        NumberRead::Is(negative, n, e) => {
+            let end = cursor::eat(text, e, 59);
+            let value = number::decimal(turned(negative, sign.minus), n.digits, n.places);
+            let a = encode::put_byte(sheet, out, 14);
+            let b = encode::put_float(sheet, a, value);
+            let q = encode::put_flag(sheet, b, sign.relative);
+            let next = end.next;
+            NodeRead::Is(q, next)
+        }
+    }
+}
