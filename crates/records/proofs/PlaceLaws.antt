@@ -2,10 +2,10 @@
 use Prim.Native.Nat.{ℕ, zero, suc, _+_, _-_, _≤_, _<_}
 use mathlib.Core.List.{List, [], _∷_, _++_}
 use mathlib.Core.Option.{Option, none, some, Option·some-injective}
-use mathlib.Core.Path.{_≡_, refl, sym, _∙_, ap, subst, subst⁻¹}
+use mathlib.Core.Path.{_≡_, refl, sym, _∙_, ap, subst⁻¹}
 use native.Mathlib.Nat.{le-of-suc-le-suc}
 use native.Mathlib.Omega.{arith}
-use lib.ListN.{length, take, drop, getElem?, drop-of-length-le, length-append, length-drop}
+use lib.ListN.{length, take, drop, getElem?, length-append, length-drop}
 use lib.Seq.{drop-drop, drop-append-seam, take-at}
 use Rattle.codec.specs.Codec.{Form, big, opt}
 use Rattle.codec.proofs.Laws.{Small, All, big-lawful}

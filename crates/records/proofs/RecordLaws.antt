@@ -12,7 +12,7 @@ use Rattle.codec.specs.Codec.{Form, Reader, andThen, _▹_, below, big, opt, Ca
 use Rattle.codec.proofs.Laws.{Law, Small, via-lawful, big-lawful}
 use Rattle.sheet.proofs.Laws.{nodeL}
 use Rattle.ast.specs.Tree as tree
-use Rattle.ast.specs.Tree.{Nodes, Leaf, Container, KeyframeTime, single, holding, width}
+use Rattle.ast.specs.Tree.{Leaf, Container, KeyframeTime, single, holding, width}
 use Rattle.sheet.specs.Sheet.{word, spanForm, patternForm, tweenForm, springForm, keyframesForm, pathForm, morphForm, drawForm, colorForm, waveformForm, presetForm, atForm, Node, Forest, nodeForm, kinds, splitNode}
 use Rattle.records.specs.Record.{blank, countForm, recordForm}
 

@@ -1,24 +1,23 @@
 -- Walks over nodes: a node, nodes beside each other, and the whole sheet. Assumes nothing.
 use Prim.Native.Nat.{ℕ, zero, suc, _+_, _-_, _≤_, _<_}
-use mathlib.Core.Bool.{Bool, true, false, cond}
-use mathlib.Core.List.{List, [], _∷_, _++_}
+use mathlib.Core.Bool.{Bool, false, cond}
+use mathlib.Core.List.{List}
 use mathlib.Core.Option.{Option, none, some}
 use mathlib.Core.Logic.{⊎-elim}
 use mathlib.Core.Path.{_≡_, refl, sym, _∙_, ap, subst}
 use native.Mathlib.Nat.{le-trans}
 use native.Mathlib.Omega.{arith}
 use borrow.Author.Tests.{eq-eqb, ne-eqb, le-ltb, lt-ltb}
-use lib.Dec.{eqb, ltb}
+use lib.Dec.{eqb}
 use lib.ListN.{length, drop, drop-of-length-le, length-drop}
 use Rattle.text.specs.Words.{isSome}
-use Rattle.codec.specs.Codec.{Form, Reader, andThen, never, big, sized}
-use Rattle.ast.specs.Tree as tree
+use Rattle.codec.specs.Codec.{Form, Reader, andThen, big}
 use Rattle.ast.specs.Tree.{Nodes, single, holding, push, width}
-use Rattle.sheet.specs.Sheet.{Node, Forest, kinds, nodeForm, forest, toForest, ofForest, inner, sheet, whole, decode}
+use Rattle.sheet.specs.Sheet.{Node, Forest, nodeForm, forest, toForest, ofForest, inner, sheet, whole, decode}
 use Rattle.decode.specs.Reads.{Lost, Reads, got, bad, same, passed}
 use Rattle.decode.proofs.ReadLaws as laws
 use Rattle.decode.proofs.ReadLaws.{_&_}
-use Rattle.records.specs.Record.{countForm, recordForm, kindView}
+use Rattle.records.specs.Record.{recordForm, kindView}
 use Rattle.records.specs.declared.Kind.the-variants.{Leaf, Container}
 use Rattle.records.proofs.RecordLaws.{behind, node-read}
 

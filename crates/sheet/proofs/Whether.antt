@@ -3,11 +3,11 @@ use Prim.Native.Nat.{ℕ, _≤_}
 use mathlib.Core.Bool.{true}
 use mathlib.Core.List.{List}
 use mathlib.Core.Option.{Option, none, some}
-use mathlib.Core.Path.{_≡_, refl, sym, _∙_, ap, subst}
+use mathlib.Core.Path.{_≡_, refl, _∙_, ap, subst}
 use native.Mathlib.Omega.{arith}
 use lib.ListN.{length}
 use Rattle.text.specs.Words.{isSome}
-use Rattle.sheet.specs.Sheet.{Forest, encode, decode}
+use Rattle.sheet.specs.Sheet.{Forest, decode}
 use Rattle.sheet.proofs.Laws.{Decoded, decoded, decodes}
 
 pub some-tree : (n : ℕ) (bs : List ℕ) → isSome (decode n bs) ≡ true → (ns : Forest) × Decoded n bs ns

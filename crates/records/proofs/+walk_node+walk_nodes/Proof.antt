@@ -1,26 +1,24 @@
-use Rattle.decode.specs.Reads.{passed}
-use Prim.Native.Nat.{_*_, _+_, _-_, _≤_}
+-- `records::walk_node` and `records::walk_nodes` meet their contracts: a node is its record and then the nodes in it; bytes left fall from a node to the nodes in it. Assumes nothing.
+use Prim.Native.Nat.{_*_, _+_, _-_, _≤_, ℕ, _<_}
 use native.Mathlib.Omega.{arith}
-use Rattle.text.specs.Bytes.{at}
-use Rattle.sheet.specs.Sheet.{inner}
 use lib.ListN.{length}
 use borrow.Author.Needs.{needs}
-use Rattle.ast.specs.Tree.{records}
-use Rattle.records.proofs.WalkLaws as walks
-use Rattle.records.proofs.RecordLaws as records
-use Prim.Native.Nat.{ℕ, _<_}
 use borrow.Fn.Kinds.{In}
 use borrow.Fn.PlainCycle.{Measures, is, falls, and}
-use Rattle.records.proofs.walk_node.Reads as walk-node
-use Rattle.records.proofs.walk_node.Kinds as walk-node-kinds
-use Rattle.records.proofs.+walk_node+walk_nodes.Lts-walk_node as walk-node-lts
-use Rattle.records.proofs.walk_nodes.Reads as walk-nodes
-use Rattle.records.proofs.walk_nodes.Kinds as walk-nodes-kinds
-use Rattle.records.proofs.+walk_node+walk_nodes.Lts-walk_nodes as walk-nodes-lts
+use Rattle.decode.specs.Reads.{passed}
+use Rattle.sheet.specs.Sheet.{inner}
+use Rattle.records.proofs.RecordLaws as records
+use Rattle.records.proofs.WalkLaws as walks
 use Rattle.decode.proofs.fields.lost.Reads as lost-reads
-use Rattle.records.proofs.take_record.Reads as take-record-reads
 use Rattle.records.proofs.+walk_node+walk_nodes.{statement}
+use Rattle.records.proofs.+walk_node+walk_nodes.Lts-walk_node as walk-node-lts
+use Rattle.records.proofs.+walk_node+walk_nodes.Lts-walk_nodes as walk-nodes-lts
 use Rattle.records.proofs.+walk_node+walk_nodes.Tie.{close}
+use Rattle.records.proofs.take_record.Reads as take-record-reads
+use Rattle.records.proofs.walk_node.Kinds as walk-node-kinds
+use Rattle.records.proofs.walk_node.Reads as walk-node
+use Rattle.records.proofs.walk_nodes.Kinds as walk-nodes-kinds
+use Rattle.records.proofs.walk_nodes.Reads as walk-nodes
 
 abbrev μ-walk-node : Measures 1 walk-node-kinds.ps ℕ
 μ-walk-node κs a = 2 * (length (a .0 .now) - a .1 .0)
@@ -50,51 +48,57 @@ node-calls t = (lost-reads.Asked, lost-reads.Learnt, take-record-reads.Asked, ta
 abbrev nodes-calls : ℕ → walk-nodes-lts.Claims
 nodes-calls t = (walk-node-below t, walk-node.Post)
 
--- src/lib.rt:95:9
 walk-node-lost-requires : (t : ℕ) → walk-node-lts.Need-lost-requires (node-calls t) (walk-node-at t) walk-node.Post
 walk-node-lost-requires t c κs = search needs
 
--- src/lib.rt:95:9
 walk-node-returns : (t : ℕ) → walk-node-lts.Need-returns (node-calls t) (walk-node-at t) walk-node.Post
-walk-node-returns t c = walks.node-end (c .before .before .before .args .n) (inner (c .before .before .before .args .n) (c .before .before .before .args .depth)) _ _ (c .before .if1 .taken) (c .lost .ensures)
+walk-node-returns t c =
+    let at-if1 = c .before in
+    let start = at-if1 .before .before in
+    walks.node-end (start .args .n) (inner (start .args .n) (start .args .depth)) _ _ (at-if1 .if1 .taken) (c .lost .ensures)
 
--- src/lib.rt:97:9
 walk-node-take-record-requires : (t : ℕ) → walk-node-lts.Need-take-record-requires (node-calls t) (walk-node-at t) walk-node.Post
 walk-node-take-record-requires t c κs = search needs
 
--- src/lib.rt:100:23
 walk-node-enum-told : (t : ℕ) → walk-node-lts.Need-enum-told (node-calls t) (walk-node-at t) walk-node.Post
 walk-node-enum-told t c = search needs
 
--- src/lib.rt:101:25
 walk-node-enum-known-kind : (t : ℕ) → walk-node-lts.Need-enum-known-kind (node-calls t) (walk-node-at t) walk-node.Post
 walk-node-enum-known-kind t c = search needs
 
--- src/lib.rt:103:17
 walk-node-lost-requires-2 : (t : ℕ) → walk-node-lts.Need-lost-requires-2 (node-calls t) (walk-node-at t) walk-node.Post
 walk-node-lost-requires-2 t c κs = search needs
 
--- src/lib.rt:103:17
 walk-node-returns-2 : (t : ℕ) → walk-node-lts.Need-returns-2 (node-calls t) (walk-node-at t) walk-node.Post
 walk-node-returns-2 t c =
-    walks.too-deep (c .before .before .before .before .before .before .before .before .args .n) (c .before .before .before .before .before .before .before .before .args .depth) _ passed tt (c .before .if2 .taken) (rw (c .before .before .before .kind .given .1) at (c .before .before .before .before .before .take-record .ensures)) (walks.is-container (c .before .before .before .kind .given .0 .0)) (c .lost2 .ensures)
+    let at-if2 = c .before in
+    let at-kind = at-if2 .before .before in
+    let at-take-record = at-kind .before .before in
+    let start = at-take-record .before .before .before in
+    walks.too-deep (start .args .n) (start .args .depth) _ passed tt (at-if2 .if2 .taken) (rw (at-kind .kind .given .1) at (at-take-record .take-record .ensures)) (walks.is-container (at-kind .kind .given .0 .0)) (c .lost2 .ensures)
 
--- src/lib.rt:105:38
 walk-node-sub-walk-nodes : (t : ℕ) → walk-node-lts.Need-sub-walk-nodes (node-calls t) (walk-node-at t) walk-node.Post
 walk-node-sub-walk-nodes t c = search needs
 
--- src/lib.rt:105:13
 walk-node-walk-nodes-requires : (t : ℕ) → walk-node-lts.Need-walk-nodes-requires (node-calls t) (walk-node-at t) walk-node.Post
-walk-node-walk-nodes-requires t c κs = (omega (arith, records.moves _ (c .before .before .before .before .take-record .ensures) (c .before .before .before .before .before .if1 .left), c .before .before .before .before .before .if1 .left, c .before .before .before .before .before .before .before .pre .0), tt)
+walk-node-walk-nodes-requires t c κs =
+    let at-take-record = c .before .before .before .before in
+    let at-if1 = at-take-record .before in
+    let start = at-if1 .before .before in
+    (omega (arith, records.moves _ (at-take-record .take-record .ensures) (at-if1 .if1 .left), at-if1 .if1 .left, start .pre .0), tt)
 
--- src/lib.rt:91:1
 walk-node-returns-3 : (t : ℕ) → walk-node-lts.Need-returns-3 (node-calls t) (walk-node-at t) walk-node.Post
-walk-node-returns-3 t c = walks.a-leaf (c .before .before .before .before .before .args .n) (c .before .before .before .before .before .args .depth) (rw (c .enum-told .given .1) at (c .before .before .take-record .ensures)) walks.is-leaf
+walk-node-returns-3 t c =
+    let at-take-record = c .before .before in
+    let start = at-take-record .before .before .before in
+    walks.a-leaf (start .args .n) (start .args .depth) (rw (c .enum-told .given .1) at (at-take-record .take-record .ensures)) walks.is-leaf
 
--- src/lib.rt:91:1
 walk-node-returns-4 : (t : ℕ) → walk-node-lts.Need-returns-4 (node-calls t) (walk-node-at t) walk-node.Post
 walk-node-returns-4 t c =
-    walks.a-container (c .before .before .before .before .before .before .before .before .args .n) (c .before .before .before .before .before .before .before .before .args .depth) _ passed tt (omega arith) (rw (c .before .before .before .kind .given .1) at (c .before .before .before .before .before .take-record .ensures)) (walks.is-container (c .before .before .before .kind .given .0 .0)) (c .walk-nodes .ensures)
+    let at-kind = c .before .before .before in
+    let at-take-record = at-kind .before .before in
+    let start = at-take-record .before .before .before in
+    walks.a-container (start .args .n) (start .args .depth) _ passed tt (omega arith) (rw (at-kind .kind .given .1) at (at-take-record .take-record .ensures)) (walks.is-container (at-kind .kind .given .0 .0)) (c .walk-nodes .ensures)
 
 abbrev walk-nodes-Inv-loop : walk-nodes-lts.InvT-loop
 walk-nodes-Inv-loop s at n depth count a₀ k₀ a k = (k ≤ count) × (length s - a ≤ length s - at) × walks.Going n (inner n depth) s at count a k
@@ -102,33 +106,33 @@ walk-nodes-Inv-loop s at n depth count a₀ k₀ a k = (k ≤ count) × (length 
 abbrev walk-nodes-μ-loop : walk-nodes-lts.MeasureT-loop
 walk-nodes-μ-loop s at n depth count a₀ k₀ a k = count - k
 
--- src/lib.rt:116:5
 walk-nodes-loop-holds : (t : ℕ) → walk-nodes-lts.Need-loop-holds (nodes-calls t) (walk-nodes-at t) walk-nodes.Post walk-nodes-Inv-loop walk-nodes-μ-loop
 walk-nodes-loop-holds t c = (omega arith, omega arith, walks.going-start (c .before .args .n) (inner (c .before .args .n) (c .before .args .depth)) _ _ (c .before .args .count))
 
--- src/lib.rt:117:9
 walk-nodes-walk-node-requires : (t : ℕ) → walk-nodes-lts.Need-walk-node-requires (nodes-calls t) (walk-nodes-at t) walk-nodes.Post walk-nodes-Inv-loop walk-nodes-μ-loop
 walk-nodes-walk-node-requires t c κs = (omega (arith, c .before .before .before .pre .0, c .before .loop .inv), tt)
 
--- src/lib.rt:118:9
 walk-nodes-add-k : (t : ℕ) → walk-nodes-lts.Need-add-k (nodes-calls t) (walk-nodes-at t) walk-nodes.Post walk-nodes-Inv-loop walk-nodes-μ-loop
 walk-nodes-add-k t c = omega arith
 
--- src/lib.rt:116:5
 walk-nodes-loop-less : (t : ℕ) → walk-nodes-lts.Need-loop-less (nodes-calls t) (walk-nodes-at t) walk-nodes.Post walk-nodes-Inv-loop walk-nodes-μ-loop
 walk-nodes-loop-less t c = omega arith
 
--- src/lib.rt:116:5
 walk-nodes-loop-again : (t : ℕ) → walk-nodes-lts.Need-loop-again (nodes-calls t) (walk-nodes-at t) walk-nodes.Post walk-nodes-Inv-loop walk-nodes-μ-loop
-walk-nodes-loop-again t c = (
-  omega arith,
-  omega (arith, walks.nearer (c .walk-node .ensures), c .before .before .loop .inv),
-  walks.going-next (c .before .before .before .before .args .n) (inner (c .before .before .before .before .args .n) (c .before .before .before .before .args .depth)) _ _ _ _ _ _ (c .before .loop-test .taken) (c .walk-node .ensures) (c .before .before .loop .inv .2),
-)
+walk-nodes-loop-again t c =
+    let at-loop-test = c .before in
+    let at-loop = at-loop-test .before in
+    let start = at-loop .before .before in (
+      omega arith,
+      omega (arith, walks.nearer (c .walk-node .ensures), at-loop .loop .inv),
+      walks.going-next (start .args .n) (inner (start .args .n) (start .args .depth)) _ _ _ _ _ _ (at-loop-test .loop-test .taken) (c .walk-node .ensures) (at-loop .loop .inv .2),
+    )
 
--- src/lib.rt:111:1
 walk-nodes-returns : (t : ℕ) → walk-nodes-lts.Need-returns (nodes-calls t) (walk-nodes-at t) walk-nodes.Post walk-nodes-Inv-loop walk-nodes-μ-loop
-walk-nodes-returns t c = walks.going-done (c .before .before .before .args .n) (inner (c .before .before .before .args .n) (c .before .before .before .args .depth)) _ _ _ _ _ (c .loop-test .left) (c .before .loop .inv .2)
+walk-nodes-returns t c =
+    let at-loop = c .before in
+    let start = at-loop .before .before in
+    walks.going-done (start .args .n) (inner (start .args .n) (start .args .depth)) _ _ _ _ _ (c .loop-test .left) (at-loop .loop .inv .2)
 
 pub +walk-node+walk-nodes-spec : {M : Type 1} → statement M
 +walk-node+walk-nodes-spec = close μ-walk-node μ-walk-nodes (λ t. walk-node-lts.spec (node-calls t)

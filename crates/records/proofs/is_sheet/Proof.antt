@@ -1,26 +1,21 @@
-use Rattle.records.proofs.WalkLaws as walks
+-- `records::is_sheet` meets its contract: the walk ends where the bytes do just if they decode. Assumes nothing.
 use borrow.Author.Needs.{needs}
+use Rattle.records.proofs.WalkLaws as walks
 use Rattle.records.proofs.is_sheet.Statement.{statement}
 use Rattle.records.proofs.is_sheet.Tie as tie
-use Rattle.records.proofs.is_sheet.Reads as reads
 
--- src/lib.rt:128:9
 returns : tie.Need-returns
 returns c = walks.too-long _ _ (c .if1 .taken)
 
--- src/lib.rt:130:9
 take-field-requires : tie.Need-take-field-requires
 take-field-requires c κs = search needs
 
--- src/lib.rt:131:59
 cast-walk-nodes : tie.Need-cast-walk-nodes
 cast-walk-nodes c = search needs
 
--- src/lib.rt:131:9
 walk-nodes-requires : tie.Need-walk-nodes-requires
 walk-nodes-requires c κs = search needs
 
--- src/lib.rt:124:1
 returns-2 : tie.Need-returns-2
 returns-2 c = walks.decides _ _ (c .before .before .before .if1 .left) (c .before .before .take-field .ensures .reads) (c .walk-nodes .ensures)
 

@@ -1,149 +1,174 @@
-use mathlib.Core.Path.{ap, refl, _∙_}
-use Rattle.codec.specs.Codec.{below, big, opt}
-use Rattle.records.specs.Record.{blank, countForm}
-use Rattle.sheet.specs.Sheet.{kinds, patternForm, splitNode, word}
-use Rattle.ast.specs.Tree.{records}
+-- `records::take_record` meets its contract: one case a kind. Assumes nothing.
 use mathlib.Core.Logic.{⊎-elim}
-use Rattle.records.specs.declared.Kind.the-variants.{Container}
+use mathlib.Core.Path.{ap, refl, _∙_}
+use borrow.Author.Needs.{needs}
 use Rattle.ast.specs.Tree.{width}
-use Rattle.codec.specs.Codec.{_▹_}
+use Rattle.codec.specs.Codec.{below, big, opt, _▹_}
+use Rattle.records.specs.Record.{blank, countForm}
+use Rattle.records.specs.declared.Kind.the-variants.{Container}
+use Rattle.sheet.specs.Sheet.{kinds, patternForm, splitNode, word}
 use Rattle.decode.proofs.ReadLaws as laws
 use Rattle.records.proofs.RecordLaws as records
-use borrow.Author.Needs.{needs}
 use Rattle.records.proofs.take_record.Statement.{statement}
 use Rattle.records.proofs.take_record.Tie as tie
-use Rattle.records.proofs.take_record.Reads as reads
 
--- src/lib.rt:45:9
 take-byte-requires : tie.Need-take-byte-requires
 take-byte-requires c κs = search needs
 
--- src/lib.rt:49:14
 take-tween-requires : tie.Need-take-tween-requires
 take-tween-requires c κs = search needs
 
--- src/lib.rt:50:14
 take-spring-requires : tie.Need-take-spring-requires
 take-spring-requires c κs = search needs
 
--- src/lib.rt:51:14
 take-keyframes-requires : tie.Need-take-keyframes-requires
 take-keyframes-requires c κs = search needs
 
--- src/lib.rt:60:17
 take-group-requires : tie.Need-take-group-requires
 take-group-requires c κs = search needs
 
--- src/lib.rt:62:13
 returns : tie.Need-returns
 returns c =
-    let r = records.made (below 2 ▹ big 2) (below 2 ▹ countForm) (λ p. (p .0, blank (p .1))) {g = λ p. Container (width (p .1))} (records.after (below 2) (big 2) countForm blank records.counts) (c .before .take-group .ensures) (λ p e. ap Container (records.width-blank (p .1) ∙ ap (λ g. g .nodes) e)) in
-    laws.chosen (kinds (c .before .before .before .before .before .args .n) countForm) (splitNode _ _) 5 (c .before .before .before .take-byte .ensures .reads) (c .before .before .match .keys4) r (λ x e. e)
+    let at-take-group = c .before in
+    let at-match = at-take-group .before in
+    let at-take-byte = at-match .before in
+    let start = at-take-byte .before .before in
+    let r = records.made (below 2 ▹ big 2) (below 2 ▹ countForm) (λ p. (p .0, blank (p .1))) {g = λ p. Container (width (p .1))} (records.after (below 2) (big 2) countForm blank records.counts) (at-take-group .take-group .ensures) (λ p e. ap Container (records.width-blank (p .1) ∙ ap (λ g. g .nodes) e)) in
+    laws.chosen (kinds (start .args .n) countForm) (splitNode _ _) 5 (at-take-byte .take-byte .ensures .reads) (at-match .match .keys4) r (λ x e. e)
 
--- src/lib.rt:68:17
 take-stagger-requires : tie.Need-take-stagger-requires
 take-stagger-requires c κs = search needs
 
--- src/lib.rt:70:13
 returns-2 : tie.Need-returns-2
 returns-2 c =
-    let r = records.made (opt patternForm ▹ opt word ▹ big 2) (opt patternForm ▹ opt word ▹ countForm) (λ p. (p .0, (p .1 .0, blank (p .1 .1)))) {g = λ p. Container (width (p .1 .1))} (records.after (opt patternForm) (opt word ▹ big 2) (opt word ▹ countForm) (λ q. (q .0, blank (q .1))) (records.after (opt word) (big 2) countForm blank records.counts)) (c .before .take-stagger .ensures) (λ p e. ap Container (records.width-blank (p .1 .1) ∙ ap (λ g. g .nodes) e)) in
-    laws.chosen (kinds (c .before .before .before .before .before .args .n) countForm) (splitNode _ _) 6 (c .before .before .before .take-byte .ensures .reads) (c .before .before .match .keys5) r (λ x e. e)
+    let at-take-stagger = c .before in
+    let at-match = at-take-stagger .before in
+    let at-take-byte = at-match .before in
+    let start = at-take-byte .before .before in
+    let r = records.made (opt patternForm ▹ opt word ▹ big 2) (opt patternForm ▹ opt word ▹ countForm) (λ p. (p .0, (p .1 .0, blank (p .1 .1)))) {g = λ p. Container (width (p .1 .1))} (records.after (opt patternForm) (opt word ▹ big 2) (opt word ▹ countForm) (λ q. (q .0, blank (q .1))) (records.after (opt word) (big 2) countForm blank records.counts)) (at-take-stagger .take-stagger .ensures) (λ p e. ap Container (records.width-blank (p .1 .1) ∙ ap (λ g. g .nodes) e)) in
+    laws.chosen (kinds (start .args .n) countForm) (splitNode _ _) 6 (at-take-byte .take-byte .ensures .reads) (at-match .match .keys5) r (λ x e. e)
 
--- src/lib.rt:75:14
 take-path-requires : tie.Need-take-path-requires
 take-path-requires c κs = search needs
 
--- src/lib.rt:76:14
 take-morph-requires : tie.Need-take-morph-requires
 take-morph-requires c κs = search needs
 
--- src/lib.rt:77:14
 take-draw-requires : tie.Need-take-draw-requires
 take-draw-requires c κs = search needs
 
--- src/lib.rt:78:15
 take-color-requires : tie.Need-take-color-requires
 take-color-requires c κs = search needs
 
--- src/lib.rt:79:15
 take-waveform-requires : tie.Need-take-waveform-requires
 take-waveform-requires c κs = search needs
 
--- src/lib.rt:80:15
 take-preset-requires : tie.Need-take-preset-requires
 take-preset-requires c κs = search needs
 
--- src/lib.rt:81:15
 take-span-requires : tie.Need-take-span-requires
 take-span-requires c κs = search needs
 
--- src/lib.rt:53:17
 take-field-requires : tie.Need-take-field-requires
 take-field-requires c κs = search needs
 
--- src/lib.rt:55:36
 cast-t27 : tie.Need-cast-t27
 cast-t27 c = search needs
 
--- src/lib.rt:54:13
 returns-3 : tie.Need-returns-3
 returns-3 c =
-    let b = c .before .before .before .before .take-byte .ensures in
-    let m = c .before .before .before .match .rest in
-    let r = records.made (big 2) countForm blank {g = λ ns. Container (width ns)} records.counts (c .before .take-field .ensures .reads) (λ a e. ap Container (records.width-blank a ∙ e)) in
-    ⊎-elim (λ h. laws.chosen (kinds (c .before .before .before .before .before .before .args .n) countForm) (splitNode _ _) 3 (b .reads) h r (λ x e. e)) (λ h. laws.chosen (kinds (c .before .before .before .before .before .before .args .n) countForm) (splitNode _ _) 4 (b .reads) h r (λ x e. e)) (records.three-or-four _ (c .before .before .if1 .taken) (m .0 .0 .0 .0 .0 .0 .0 .0 .0 .0 .0 .1) (m .0 .0 .0 .0 .0 .0 .0 .0 .0 .0 .1) (m .0 .0 .0 .0 .0 .0 .0 .0 .0 .1))
+    let at-take-field = c .before in
+    let at-if1 = at-take-field .before in
+    let at-match = at-if1 .before in
+    let at-take-byte = at-match .before in
+    let start = at-take-byte .before .before in
+    let b = at-take-byte .take-byte .ensures in
+    let m = at-match .match .rest in
+    let r = records.made (big 2) countForm blank {g = λ ns. Container (width ns)} records.counts (at-take-field .take-field .ensures .reads) (λ a e. ap Container (records.width-blank a ∙ e)) in
+    ⊎-elim (λ h. laws.chosen (kinds (start .args .n) countForm) (splitNode _ _) 3 (b .reads) h r (λ x e. e)) (λ h. laws.chosen (kinds (start .args .n) countForm) (splitNode _ _) 4 (b .reads) h r (λ x e. e)) (records.three-or-four _ (at-if1 .if1 .taken) (m .0 .0 .0 .0 .0 .0 .0 .0 .0 .0 .0 .1) (m .0 .0 .0 .0 .0 .0 .0 .0 .0 .0 .1) (m .0 .0 .0 .0 .0 .0 .0 .0 .0 .1))
 
--- src/lib.rt:82:14
 take-at-requires : tie.Need-take-at-requires
 take-at-requires c κs = search needs
 
--- src/lib.rt:42:1
 returns-4 : tie.Need-returns-4
-returns-4 c = laws.chosen (kinds (c .before .before .before .before .args .n) countForm) (splitNode _ _) 0 (c .before .before .take-byte .ensures .reads) (c .before .match .keys1) (c .take-tween .ensures) (λ x e. refl)
+returns-4 c =
+    let at-match = c .before in
+    let at-take-byte = at-match .before in
+    let start = at-take-byte .before .before in
+    laws.chosen (kinds (start .args .n) countForm) (splitNode _ _) 0 (at-take-byte .take-byte .ensures .reads) (at-match .match .keys1) (c .take-tween .ensures) (λ x e. refl)
 
--- src/lib.rt:42:1
 returns-5 : tie.Need-returns-5
-returns-5 c = laws.chosen (kinds (c .before .before .before .before .args .n) countForm) (splitNode _ _) 1 (c .before .before .take-byte .ensures .reads) (c .before .match .keys2) (c .take-spring .ensures) (λ x e. refl)
+returns-5 c =
+    let at-match = c .before in
+    let at-take-byte = at-match .before in
+    let start = at-take-byte .before .before in
+    laws.chosen (kinds (start .args .n) countForm) (splitNode _ _) 1 (at-take-byte .take-byte .ensures .reads) (at-match .match .keys2) (c .take-spring .ensures) (λ x e. refl)
 
--- src/lib.rt:42:1
 returns-6 : tie.Need-returns-6
-returns-6 c = laws.chosen (kinds (c .before .before .before .before .args .n) countForm) (splitNode _ _) 2 (c .before .before .take-byte .ensures .reads) (c .before .match .keys3) (c .take-keyframes .ensures) (λ x e. refl)
+returns-6 c =
+    let at-match = c .before in
+    let at-take-byte = at-match .before in
+    let start = at-take-byte .before .before in
+    laws.chosen (kinds (start .args .n) countForm) (splitNode _ _) 2 (at-take-byte .take-byte .ensures .reads) (at-match .match .keys3) (c .take-keyframes .ensures) (λ x e. refl)
 
--- src/lib.rt:42:1
 returns-7 : tie.Need-returns-7
-returns-7 c = laws.chosen (kinds (c .before .before .before .before .args .n) countForm) (splitNode _ _) 7 (c .before .before .take-byte .ensures .reads) (c .before .match .keys6) (c .take-path .ensures) (λ x e. refl)
+returns-7 c =
+    let at-match = c .before in
+    let at-take-byte = at-match .before in
+    let start = at-take-byte .before .before in
+    laws.chosen (kinds (start .args .n) countForm) (splitNode _ _) 7 (at-take-byte .take-byte .ensures .reads) (at-match .match .keys6) (c .take-path .ensures) (λ x e. refl)
 
--- src/lib.rt:42:1
 returns-8 : tie.Need-returns-8
-returns-8 c = laws.chosen (kinds (c .before .before .before .before .args .n) countForm) (splitNode _ _) 8 (c .before .before .take-byte .ensures .reads) (c .before .match .keys7) (c .take-morph .ensures) (λ x e. refl)
+returns-8 c =
+    let at-match = c .before in
+    let at-take-byte = at-match .before in
+    let start = at-take-byte .before .before in
+    laws.chosen (kinds (start .args .n) countForm) (splitNode _ _) 8 (at-take-byte .take-byte .ensures .reads) (at-match .match .keys7) (c .take-morph .ensures) (λ x e. refl)
 
--- src/lib.rt:42:1
 returns-9 : tie.Need-returns-9
-returns-9 c = laws.chosen (kinds (c .before .before .before .before .args .n) countForm) (splitNode _ _) 9 (c .before .before .take-byte .ensures .reads) (c .before .match .keys8) (c .take-draw .ensures) (λ x e. refl)
+returns-9 c =
+    let at-match = c .before in
+    let at-take-byte = at-match .before in
+    let start = at-take-byte .before .before in
+    laws.chosen (kinds (start .args .n) countForm) (splitNode _ _) 9 (at-take-byte .take-byte .ensures .reads) (at-match .match .keys8) (c .take-draw .ensures) (λ x e. refl)
 
--- src/lib.rt:42:1
 returns-10 : tie.Need-returns-10
-returns-10 c = laws.chosen (kinds (c .before .before .before .before .args .n) countForm) (splitNode _ _) 10 (c .before .before .take-byte .ensures .reads) (c .before .match .keys9) (c .take-color .ensures) (λ x e. refl)
+returns-10 c =
+    let at-match = c .before in
+    let at-take-byte = at-match .before in
+    let start = at-take-byte .before .before in
+    laws.chosen (kinds (start .args .n) countForm) (splitNode _ _) 10 (at-take-byte .take-byte .ensures .reads) (at-match .match .keys9) (c .take-color .ensures) (λ x e. refl)
 
--- src/lib.rt:42:1
 returns-11 : tie.Need-returns-11
-returns-11 c = laws.chosen (kinds (c .before .before .before .before .args .n) countForm) (splitNode _ _) 11 (c .before .before .take-byte .ensures .reads) (c .before .match .keys10) (c .take-waveform .ensures) (λ x e. refl)
+returns-11 c =
+    let at-match = c .before in
+    let at-take-byte = at-match .before in
+    let start = at-take-byte .before .before in
+    laws.chosen (kinds (start .args .n) countForm) (splitNode _ _) 11 (at-take-byte .take-byte .ensures .reads) (at-match .match .keys10) (c .take-waveform .ensures) (λ x e. refl)
 
--- src/lib.rt:42:1
 returns-12 : tie.Need-returns-12
-returns-12 c = laws.chosen (kinds (c .before .before .before .before .args .n) countForm) (splitNode _ _) 12 (c .before .before .take-byte .ensures .reads) (c .before .match .keys11) (c .take-preset .ensures) (λ x e. refl)
+returns-12 c =
+    let at-match = c .before in
+    let at-take-byte = at-match .before in
+    let start = at-take-byte .before .before in
+    laws.chosen (kinds (start .args .n) countForm) (splitNode _ _) 12 (at-take-byte .take-byte .ensures .reads) (at-match .match .keys11) (c .take-preset .ensures) (λ x e. refl)
 
--- src/lib.rt:42:1
 returns-13 : tie.Need-returns-13
-returns-13 c = laws.chosen (kinds (c .before .before .before .before .args .n) countForm) (splitNode _ _) 13 (c .before .before .take-byte .ensures .reads) (c .before .match .keys12) (c .take-span .ensures) (λ x e. refl)
+returns-13 c =
+    let at-match = c .before in
+    let at-take-byte = at-match .before in
+    let start = at-take-byte .before .before in
+    laws.chosen (kinds (start .args .n) countForm) (splitNode _ _) 13 (at-take-byte .take-byte .ensures .reads) (at-match .match .keys12) (c .take-span .ensures) (λ x e. refl)
 
--- src/lib.rt:42:1
 returns-14 : tie.Need-returns-14
 returns-14 c =
-    let b = c .before .before .before .take-byte .ensures in
-    let m = c .before .before .match .rest in
-    laws.chosen (kinds (c .before .before .before .before .before .args .n) countForm) (splitNode _ _) 14 (b .reads) (records.only-at _ (c .before .if1 .left) (b .small) (m .0 .0 .0 .0 .0 .0 .0 .0 .1) (m .0 .0 .0 .0 .0 .0 .0 .1) (m .0 .0 .0 .0 .0 .0 .1) (m .0 .0 .0 .0 .0 .1) (m .0 .0 .0 .0 .1) (m .0 .0 .0 .1) (m .0 .0 .1) (m .0 .1) (m .1)) (c .take-at .ensures) (λ x e. refl)
+    let at-if1 = c .before in
+    let at-match = at-if1 .before in
+    let at-take-byte = at-match .before in
+    let start = at-take-byte .before .before in
+    let b = at-take-byte .take-byte .ensures in
+    let m = at-match .match .rest in
+    laws.chosen (kinds (start .args .n) countForm) (splitNode _ _) 14 (b .reads) (records.only-at _ (at-if1 .if1 .left) (b .small) (m .0 .0 .0 .0 .0 .0 .0 .0 .1) (m .0 .0 .0 .0 .0 .0 .0 .1) (m .0 .0 .0 .0 .0 .0 .1) (m .0 .0 .0 .0 .0 .1) (m .0 .0 .0 .0 .1) (m .0 .0 .0 .1) (m .0 .0 .1) (m .0 .1) (m .1)) (c .take-at .ensures) (λ x e. refl)
 
 pub take-record-spec : {M : Type 1} → statement M
 take-record-spec =

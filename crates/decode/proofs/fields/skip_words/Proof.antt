@@ -1,3 +1,4 @@
+-- `decode::fields::skip_words` meets its contract: the loop keeps that what is read from here on is read from the start. Assumes nothing.
 use Prim.Native.Nat.{_-_, _≤_}
 use native.Mathlib.Omega.{arith}
 use borrow.Author.Needs.{needs}
@@ -5,7 +6,6 @@ use Rattle.sheet.specs.Sheet.{word}
 use Rattle.decode.proofs.ReadLaws as laws
 use Rattle.decode.proofs.fields.skip_words.Statement.{statement}
 use Rattle.decode.proofs.fields.skip_words.Tie as tie
-use Rattle.decode.proofs.fields.skip_words.Reads as reads
 
 abbrev Inv-loop : tie.InvT-loop
 Inv-loop s at n k₀ a₀ k a = (k ≤ n) × laws.Walk word s at n a k
@@ -13,27 +13,21 @@ Inv-loop s at n k₀ a₀ k a = (k ≤ n) × laws.Walk word s at n a k
 abbrev μ-loop : tie.MeasureT-loop
 μ-loop s at n k₀ a₀ k a = n - k
 
--- src/fields.rt:132:5
 loop-holds : tie.Need-loop-holds Inv-loop μ-loop
 loop-holds c = (search needs, laws.walk-start word _ _ _)
 
--- src/fields.rt:133:13
 take-field-requires : tie.Need-take-field-requires Inv-loop μ-loop
 take-field-requires c κs = search needs
 
--- src/fields.rt:135:9
 add-k : tie.Need-add-k Inv-loop μ-loop
 add-k c = omega arith
 
--- src/fields.rt:132:5
 loop-less : tie.Need-loop-less Inv-loop μ-loop
 loop-less c = omega arith
 
--- src/fields.rt:132:5
 loop-again : tie.Need-loop-again Inv-loop μ-loop
 loop-again c = (omega arith, laws.walk-next word _ _ _ _ _ _ (c .before .loop-test .taken) (c .take-field .ensures .reads) (c .before .before .loop .inv .1))
 
--- src/fields.rt:127:1
 returns : tie.Need-returns Inv-loop μ-loop
 returns c = laws.walk-done word _ _ _ _ _ (c .loop-test .left) (c .before .loop .inv .1)
 

@@ -1,28 +1,23 @@
-use Rattle.decode.proofs.ReadLaws as laws
-use native.Mathlib.Omega.{arith}
+-- `decode::fields::take_byte` meets its contract: the byte is there and below n, is n or more, or the bytes have ended. Assumes nothing.
 use mathlib.Core.Logic.{⊎-elim}
+use native.Mathlib.Omega.{arith}
 use borrow.Author.Needs.{needs}
+use Rattle.decode.proofs.ReadLaws as laws
 use Rattle.decode.proofs.fields.take_byte.Statement.{statement}
 use Rattle.decode.proofs.fields.take_byte.Tie as tie
-use Rattle.decode.proofs.fields.take_byte.Reads as reads
 
--- src/fields.rt:49:17
 shared-slice-read-b : tie.Need-shared-slice-read-b
 shared-slice-read-b c = search needs
 
--- src/fields.rt:51:43
 add-t10 : tie.Need-add-t10
 add-t10 c = search needs
 
--- src/fields.rt:51:13
 returns : tie.Need-returns
 returns c = record { reads = laws.byte-got _ _ _ (omega arith) (c .if2 .taken); small = c .if2 .taken }
 
--- src/fields.rt:56:15
 lost-requires : tie.Need-lost-requires
 lost-requires c κs = search needs
 
--- src/fields.rt:44:1
 returns-2 : tie.Need-returns-2
 returns-2 c = record {
   reads = ⊎-elim (λ w. laws.byte-over _ _ _ (c .lost .ensures) (w .2 .left)) (λ w. laws.byte-end _ _ _ (c .lost .ensures) (w .left)) (c .before .if1 .came);

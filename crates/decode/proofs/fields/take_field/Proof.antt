@@ -1,12 +1,13 @@
-use Rattle.decode.proofs.ReadLaws as laws
+-- `decode::fields::take_field` meets its contract: the loop keeps that k bytes are read and make v. Assumes nothing.
 use Prim.Native.Nat.{_+_, _-_, _<_, _^_, _≤_}
+use mathlib.Core.Option.{some}
+use mathlib.Core.Path.{_≡_}
 use native.Mathlib.Nat.{add-zero}
 use native.Mathlib.Omega.{arith}
-use Rattle.codec.specs.Codec.{big}
 use lib.ListN.{drop, getD, length}
 use borrow.Author.Needs.{needs}
-use mathlib.Core.Path.{_≡_}
-use mathlib.Core.Option.{some}
+use Rattle.codec.specs.Codec.{big}
+use Rattle.decode.proofs.ReadLaws as laws
 use Rattle.decode.proofs.fields.take_field.Statement.{statement}
 use Rattle.decode.proofs.fields.take_field.Tie as tie
 
@@ -16,75 +17,71 @@ Inv-loop s at width v₀ k₀ v k = (k ≤ width) × (at + k ≤ length s) × (v
 abbrev μ-loop : tie.MeasureT-loop
 μ-loop s at width v₀ k₀ v k = width - k
 
--- src/fields.rt:68:19
 lost-requires : tie.Need-lost-requires Inv-loop μ-loop
 lost-requires c κs = search needs
 
--- src/fields.rt:66:9
 returns : tie.Need-returns Inv-loop μ-loop
 returns c = laws.big-lost _ _ (c .before .before .before .args .width) (c .before .if1 .taken) (c .lost .ensures)
 
--- src/fields.rt:73:5
 loop-holds : tie.Need-loop-holds Inv-loop μ-loop
 loop-holds c = (omega arith, omega (arith, c .if1 .left), omega arith, rw add-zero)
 
--- src/fields.rt:74:23
 add-if2 : tie.Need-add-if2 Inv-loop μ-loop
 add-if2 c = search needs
 
--- src/fields.rt:77:23
 lost-requires-2 : tie.Need-lost-requires-2 Inv-loop μ-loop
 lost-requires-2 c κs = search needs
 
--- src/fields.rt:75:13
 returns-2 : tie.Need-returns-2 Inv-loop μ-loop
-returns-2 c = laws.big-short _ _ _ _ _ (c .before .if2 .taken) (c .before .before .before .loop .inv .3) (c .before .before .loop-test .taken) (c .lost2 .ensures)
+returns-2 c =
+    let at-if2 = c .before in
+    let at-loop-test = at-if2 .before in
+    let at-loop = at-loop-test .before in
+    laws.big-short _ _ _ _ _ (at-if2 .if2 .taken) (at-loop .loop .inv .3) (at-loop-test .loop-test .taken) (c .lost2 .ensures)
 
--- src/fields.rt:80:13
 mul-v : tie.Need-mul-v Inv-loop μ-loop
 mul-v c = let l = c .before .before .loop in omega (arith, laws.room (l .k) (l .v) 0 (omega arith) (l .inv .2) (omega arith))
 
--- src/fields.rt:80:25
 add-v : tie.Need-add-v Inv-loop μ-loop
 add-v c = search needs
 
--- src/fields.rt:80:23
 shared-slice-read-v : tie.Need-shared-slice-read-v Inv-loop μ-loop
 shared-slice-read-v c = search needs
 
--- src/fields.rt:80:23
 cast-v : tie.Need-cast-v Inv-loop μ-loop
-cast-v c = omega (arith, c .shared-slice-known2 .given (c .before .before .before .before .before .before .args .at + c .before .before .before .loop .k))
+cast-v c =
+    let at-loop = c .before .before .before in
+    let start = at-loop .before .before .before in
+    omega (arith, c .shared-slice-known2 .given (start .args .at + at-loop .loop .k))
 
--- src/fields.rt:80:13
 add-v-2 : tie.Need-add-v-2 Inv-loop μ-loop
 add-v-2 c =
-    let l = c .before .before .before .loop in
-    let i = c .before .before .before .before .before .before .args .at + l .k in
-    let b : getD (c .before .before .before .before .before .before .args .s .now) i 0 < 256 = omega (arith, c .shared-slice-known2 .given i) in
+    let at-loop = c .before .before .before in
+    let start = at-loop .before .before .before in
+    let l = at-loop .loop in
+    let i = start .args .at + l .k in
+    let b : getD (start .args .s .now) i 0 < 256 = omega (arith, c .shared-slice-known2 .given i) in
     omega (arith, laws.room (l .k) (l .v) _ (omega arith) (l .inv .2) b)
 
--- src/fields.rt:81:9
 add-k : tie.Need-add-k Inv-loop μ-loop
 add-k c = search needs
 
--- src/fields.rt:73:5
 loop-less : tie.Need-loop-less Inv-loop μ-loop
 loop-less c = search needs
 
--- src/fields.rt:73:5
 loop-again : tie.Need-loop-again Inv-loop μ-loop
 loop-again c =
-    let l = c .before .before .before .loop in
-    let i = c .before .before .before .before .before .before .args .at + l .k in
-    let b : getD (c .before .before .before .before .before .before .args .s .now) i 0 < 256 = omega (arith, c .shared-slice-known2 .given i) in
-    (omega arith, omega (arith, c .before .if2 .left), laws.grow _ _ _ (l .inv .2) b, laws.big-next _ _ _ _ (c .before .if2 .left) b (l .inv .3))
+    let at-if2 = c .before in
+    let at-loop = at-if2 .before .before in
+    let start = at-loop .before .before .before in
+    let l = at-loop .loop in
+    let i = start .args .at + l .k in
+    let b : getD (start .args .s .now) i 0 < 256 = omega (arith, c .shared-slice-known2 .given i) in
+    (omega arith, omega (arith, at-if2 .if2 .left), laws.grow _ _ _ (l .inv .2) b, laws.big-next _ _ _ _ (at-if2 .if2 .left) b (l .inv .3))
 
--- src/fields.rt:83:26
 add-t6 : tie.Need-add-t6 Inv-loop μ-loop
 add-t6 c = search needs
 
--- src/fields.rt:61:1
 returns-3 : tie.Need-returns-3 Inv-loop μ-loop
 returns-3 c = laws.big-got _ _ _ _ _ (omega arith) (c .before .loop .inv .3) (c .before .loop .inv .1) (c .before .loop .inv .2)
 

@@ -1,15 +1,13 @@
-use Rattle.decode.proofs.ReadLaws as laws
+-- `decode::fields::take_flag` meets its contract: a byte below 2, seen as a truth value. Assumes nothing.
 use lib.Dec.{eqb}
 use borrow.Author.Needs.{needs}
+use Rattle.decode.proofs.ReadLaws as laws
 use Rattle.decode.proofs.fields.take_flag.Statement.{statement}
 use Rattle.decode.proofs.fields.take_flag.Tie as tie
-use Rattle.decode.proofs.fields.take_flag.Reads as reads
 
--- src/fields.rt:89:9
 take-byte-requires : tie.Need-take-byte-requires
 take-byte-requires c κs = search needs
 
--- src/fields.rt:86:1
 returns : tie.Need-returns
 returns c = laws.through _ _ (laws.mapped (λ b. eqb b 1) (c .before .take-byte .ensures .reads))
 

@@ -1,20 +1,17 @@
+-- `decode::fields::take_float` meets its contract: a word, seen as an f32. Assumes nothing.
 use mathlib.Core.Path.{ap, sym, _∙_}
+use borrow.Author.Needs.{needs}
 use Rattle.number.specs.Number.{f32}
 use Rattle.decode.proofs.ReadLaws as laws
-use borrow.Author.Needs.{needs}
 use Rattle.decode.proofs.fields.take_float.Statement.{statement}
 use Rattle.decode.proofs.fields.take_float.Tie as tie
-use Rattle.decode.proofs.fields.take_float.Reads as reads
 
--- src/fields.rt:100:9
 take-field-requires : tie.Need-take-field-requires
 take-field-requires c κs = search needs
 
--- src/fields.rt:102:12
 f32-of-bits-requires : tie.Need-f32-of-bits-requires
 f32-of-bits-requires c κs = search needs
 
--- src/fields.rt:97:1
 returns : tie.Need-returns
 returns c = laws.seen (c .before .take-field .ensures .reads) (λ a e. ap f32 e ∙ sym (c .f32-of-bits .ensures))
 

@@ -1,19 +1,17 @@
-use Rattle.sheet.specs.Sheet.{ofAt, toAt}
-use Rattle.decode.proofs.ReadLaws as laws
-use Rattle.decode.proofs.ReadLaws.{_&_}
+-- `decode::nodes::take_at` meets its contract: one field after the other. Assumes nothing.
 use borrow.Author.Needs.{needs}
+use Rattle.sheet.specs.Sheet.{ofAt, toAt}
+use Rattle.decode.proofs.ReadLaws.{_&_}
+use Rattle.decode.proofs.ReadLaws as laws
 use Rattle.decode.proofs.nodes.take_at.Statement.{statement}
 use Rattle.decode.proofs.nodes.take_at.Tie as tie
 
--- src/nodes.rt:439:9
 take-float-requires : tie.Need-take-float-requires
 take-float-requires c κs = search needs
 
--- src/nodes.rt:440:9
 take-flag-requires : tie.Need-take-flag-requires
 take-flag-requires c κs = search needs
 
--- src/nodes.rt:436:1
 returns : tie.Need-returns
 returns c =
     laws.through toAt ofAt (laws.seen (c .before .take-float .ensures & c .take-flag .ensures)

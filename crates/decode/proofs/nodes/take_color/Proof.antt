@@ -1,40 +1,48 @@
-use Rattle.sheet.specs.Sheet.{ofColor, toColor}
-use Rattle.decode.proofs.ReadLaws as laws
-use Rattle.decode.proofs.ReadLaws.{_&_}
+-- `decode::nodes::take_color` meets its contract: one field after the other. Assumes nothing.
 use borrow.Author.Needs.{needs}
+use Rattle.sheet.specs.Sheet.{ofColor, toColor}
+use Rattle.decode.proofs.ReadLaws.{_&_}
+use Rattle.decode.proofs.ReadLaws as laws
 use Rattle.decode.proofs.nodes.take_color.Statement.{statement}
 use Rattle.decode.proofs.nodes.take_color.Tie as tie
-use Rattle.decode.proofs.nodes.take_color.Reads as reads
 
--- src/nodes.rt:358:9
 take-span-requires : tie.Need-take-span-requires
 take-span-requires c κs = search needs
 
--- src/nodes.rt:359:9
 take-span-requires-2 : tie.Need-take-span-requires-2
 take-span-requires-2 c κs = search needs
 
--- src/nodes.rt:360:9
 take-span-requires-3 : tie.Need-take-span-requires-3
 take-span-requires-3 c κs = search needs
 
--- src/nodes.rt:361:9
 take-float-requires : tie.Need-take-float-requires
 take-float-requires c κs = search needs
 
--- src/nodes.rt:362:9
 take-byte-requires : tie.Need-take-byte-requires
 take-byte-requires c κs = search needs
 
--- src/nodes.rt:363:9
 take-opt-easing-requires : tie.Need-take-opt-easing-requires
 take-opt-easing-requires c κs = search needs
 
--- src/nodes.rt:355:1
 returns : tie.Need-returns
 returns c =
-    laws.through toColor ofColor (laws.seen (c .before .before .before .before .before .before .before .before .take-span .ensures & c .before .before .before .before .before .before .before .take-span2 .ensures & c .before .before .before .before .before .before .take-span3 .ensures & c .before .before .before .before .before .take-float .ensures & c .before .before .before .before .take-byte .ensures .reads & c .before .before .before .take-opt-easing .ensures)
-    (λ p e i. record { target = e i .0; from = e i .1 .0; to = e i .1 .1 .0; duration = e i .1 .1 .1 .0; space = e i .1 .1 .1 .1 .0; easing = e i .1 .1 .1 .1 .1 }))
+    let at-take-opt-easing = c .before .before .before in
+    let at-take-byte = at-take-opt-easing .before in
+    let at-take-float = at-take-byte .before in
+    let at-take-span3 = at-take-float .before in
+    let at-take-span2 = at-take-span3 .before in
+    let at-take-span = at-take-span2 .before in
+    laws.through toColor ofColor (laws.seen (at-take-span .take-span .ensures & at-take-span2 .take-span2 .ensures
+    & at-take-span3 .take-span3 .ensures & at-take-float .take-float .ensures & at-take-byte .take-byte .ensures .reads
+    & at-take-opt-easing .take-opt-easing .ensures)
+    (λ p e i. record {
+      target = e i .0;
+      from = e i .1 .0;
+      to = e i .1 .1 .0;
+      duration = e i .1 .1 .1 .0;
+      space = e i .1 .1 .1 .1 .0;
+      easing = e i .1 .1 .1 .1 .1;
+    }))
 
 pub take-color-spec : {M : Type 1} → statement M
 take-color-spec =

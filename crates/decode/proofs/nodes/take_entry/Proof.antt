@@ -1,23 +1,20 @@
-use Rattle.sheet.specs.Sheet.{ofEntry, toEntry}
-use Rattle.decode.proofs.ReadLaws as laws
-use Rattle.decode.proofs.ReadLaws.{_&_}
+-- `decode::nodes::take_entry` meets its contract: one field after the other. Assumes nothing.
 use borrow.Author.Needs.{needs}
+use Rattle.sheet.specs.Sheet.{ofEntry, toEntry}
+use Rattle.decode.proofs.ReadLaws.{_&_}
+use Rattle.decode.proofs.ReadLaws as laws
 use Rattle.decode.proofs.nodes.take_entry.Statement.{statement}
 use Rattle.decode.proofs.nodes.take_entry.Tie as tie
 
--- src/nodes.rt:108:9
 take-time-requires : tie.Need-take-time-requires
 take-time-requires c κs = search needs
 
--- src/nodes.rt:109:9
 take-value-requires : tie.Need-take-value-requires
 take-value-requires c κs = search needs
 
--- src/nodes.rt:110:9
 take-opt-easing-requires : tie.Need-take-opt-easing-requires
 take-opt-easing-requires c κs = search needs
 
--- src/nodes.rt:105:1
 returns : tie.Need-returns
 returns c =
     laws.through toEntry ofEntry (laws.seen (c .before .before .take-time .ensures & c .before .take-value .ensures & c .take-opt-easing .ensures)

@@ -1,25 +1,24 @@
-use Rattle.decode.proofs.ReadLaws as laws
-use Rattle.decode.proofs.ReadLaws.{_&_}
+-- `decode::nodes::take_group` meets its contract: one field after the other. Assumes nothing.
 use borrow.Author.Needs.{needs}
+use Rattle.decode.proofs.ReadLaws.{_&_}
+use Rattle.decode.proofs.ReadLaws as laws
 use Rattle.decode.proofs.nodes.take_group.Statement.{statement}
 use Rattle.decode.proofs.nodes.take_group.Tie as tie
-use Rattle.decode.proofs.nodes.take_group.Reads as reads
 
--- src/nodes.rt:251:9
 take-byte-requires : tie.Need-take-byte-requires
 take-byte-requires c κs = search needs
 
--- src/nodes.rt:252:9
 take-field-requires : tie.Need-take-field-requires
 take-field-requires c κs = search needs
 
--- src/nodes.rt:256:20
 cast-t5 : tie.Need-cast-t5
 cast-t5 c = search needs
 
--- src/nodes.rt:248:1
 returns : tie.Need-returns
-returns c = laws.seen (c .before .before .take-byte .ensures .reads & c .before .take-field .ensures .reads) (λ p e i. record { mode = e i .0; nodes = e i .1 })
+returns c = laws.seen (c .before .before .take-byte .ensures .reads & c .before .take-field .ensures .reads) (λ p e i. record {
+  mode = e i .0;
+  nodes = e i .1;
+})
 
 pub take-group-spec : {M : Type 1} → statement M
 take-group-spec = tie.close (tie.spec take-byte-requires take-field-requires cast-t5 returns)

@@ -1,30 +1,29 @@
-use Rattle.decode.proofs.ReadLaws as laws
-use Rattle.decode.proofs.ReadLaws.{_&_}
+-- `decode::nodes::take_stagger` meets its contract: one field after the other. Assumes nothing.
 use borrow.Author.Needs.{needs}
+use Rattle.decode.proofs.ReadLaws.{_&_}
+use Rattle.decode.proofs.ReadLaws as laws
 use Rattle.decode.proofs.nodes.take_stagger.Statement.{statement}
 use Rattle.decode.proofs.nodes.take_stagger.Tie as tie
-use Rattle.decode.proofs.nodes.take_stagger.Reads as reads
 
--- src/nodes.rt:266:9
 take-opt-pattern-requires : tie.Need-take-opt-pattern-requires
 take-opt-pattern-requires c κs = search needs
 
--- src/nodes.rt:267:9
 take-opt-float-requires : tie.Need-take-opt-float-requires
 take-opt-float-requires c κs = search needs
 
--- src/nodes.rt:268:9
 take-field-requires : tie.Need-take-field-requires
 take-field-requires c κs = search needs
 
--- src/nodes.rt:275:20
 cast-t8 : tie.Need-cast-t8
 cast-t8 c = search needs
 
--- src/nodes.rt:263:1
 returns : tie.Need-returns
 returns c =
-    laws.seen (c .before .before .before .take-opt-pattern .ensures & c .before .before .take-opt-float .ensures & c .before .take-field .ensures .reads)
+    let at-take-field = c .before in
+    let at-take-opt-float = at-take-field .before in
+    let at-take-opt-pattern = at-take-opt-float .before in
+    laws.seen (at-take-opt-pattern .take-opt-pattern .ensures & at-take-opt-float .take-opt-float .ensures
+    & at-take-field .take-field .ensures .reads)
     (λ p e i. record { pattern = e i .0; delay = e i .1 .0; nodes = e i .1 .1 })
 
 pub take-stagger-spec : {M : Type 1} → statement M

@@ -1,24 +1,21 @@
-use Rattle.sheet.specs.Sheet.{dampingForm}
+-- `decode::optional::take_opt_damping` meets its contract: a byte 0, or 1 and the value. Assumes nothing.
 use mathlib.Core.Path.{refl}
-use Rattle.ast.specs.declared.OptDamping.the-variants.{Present}
-use Rattle.decode.proofs.ReadLaws as laws
 use borrow.Author.Needs.{needs}
+use Rattle.ast.specs.declared.OptDamping.the-variants.{Present}
+use Rattle.sheet.specs.Sheet.{dampingForm}
+use Rattle.decode.proofs.ReadLaws as laws
 use Rattle.decode.proofs.optional.take_opt_damping.Statement.{statement}
 use Rattle.decode.proofs.optional.take_opt_damping.Tie as tie
 
--- src/optional.rt:204:9
 take-byte-requires : tie.Need-take-byte-requires
 take-byte-requires c κs = search needs
 
--- src/optional.rt:206:9
 returns : tie.Need-returns
 returns c = laws.absent dampingForm (c .before .before .take-byte .ensures) (c .if1 .taken) refl
 
--- src/optional.rt:211:9
 take-damping-requires : tie.Need-take-damping-requires
 take-damping-requires c κs = search needs
 
--- src/optional.rt:201:1
 returns-2 : tie.Need-returns-2
 returns-2 c = laws.present dampingForm (c .before .before .before .take-byte .ensures) (c .before .if1 .left) (c .take-damping .ensures) (λ a e i. Present (e i))
 

@@ -1,24 +1,21 @@
-use Rattle.sheet.specs.Sheet.{flag}
+-- `decode::optional::take_opt_flag` meets its contract: a byte 0, or 1 and the value. Assumes nothing.
 use mathlib.Core.Path.{refl}
-use Rattle.ast.specs.declared.OptBool.the-variants.{Present}
-use Rattle.decode.proofs.ReadLaws as laws
 use borrow.Author.Needs.{needs}
+use Rattle.ast.specs.declared.OptBool.the-variants.{Present}
+use Rattle.sheet.specs.Sheet.{flag}
+use Rattle.decode.proofs.ReadLaws as laws
 use Rattle.decode.proofs.optional.take_opt_flag.Statement.{statement}
 use Rattle.decode.proofs.optional.take_opt_flag.Tie as tie
 
--- src/optional.rt:114:9
 take-byte-requires : tie.Need-take-byte-requires
 take-byte-requires c κs = search needs
 
--- src/optional.rt:116:9
 returns : tie.Need-returns
 returns c = laws.absent flag (c .before .before .take-byte .ensures) (c .if1 .taken) refl
 
--- src/optional.rt:121:9
 take-flag-requires : tie.Need-take-flag-requires
 take-flag-requires c κs = search needs
 
--- src/optional.rt:111:1
 returns-2 : tie.Need-returns-2
 returns-2 c = laws.present flag (c .before .before .before .take-byte .ensures) (c .before .if1 .left) (c .take-flag .ensures) (λ a e i. Present (e i))
 

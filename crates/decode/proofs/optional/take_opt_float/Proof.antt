@@ -1,24 +1,21 @@
+-- `decode::optional::take_opt_float` meets its contract: a byte 0, or 1 and the value. Assumes nothing.
 use mathlib.Core.Path.{refl}
-use Rattle.sheet.specs.Sheet.{word}
-use Rattle.ast.specs.declared.OptF32.the-variants.{Present}
-use Rattle.decode.proofs.ReadLaws as laws
 use borrow.Author.Needs.{needs}
+use Rattle.ast.specs.declared.OptF32.the-variants.{Present}
+use Rattle.sheet.specs.Sheet.{word}
+use Rattle.decode.proofs.ReadLaws as laws
 use Rattle.decode.proofs.optional.take_opt_float.Statement.{statement}
 use Rattle.decode.proofs.optional.take_opt_float.Tie as tie
 
--- src/optional.rt:80:9
 take-byte-requires : tie.Need-take-byte-requires
 take-byte-requires c κs = search needs
 
--- src/optional.rt:82:9
 returns : tie.Need-returns
 returns c = laws.absent word (c .before .before .take-byte .ensures) (c .if1 .taken) refl
 
--- src/optional.rt:87:9
 take-float-requires : tie.Need-take-float-requires
 take-float-requires c κs = search needs
 
--- src/optional.rt:77:1
 returns-2 : tie.Need-returns-2
 returns-2 c = laws.present word (c .before .before .before .take-byte .ensures) (c .before .if1 .left) (c .take-float .ensures) (λ a e i. Present (e i))
 

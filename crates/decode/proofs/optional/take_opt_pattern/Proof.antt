@@ -1,24 +1,21 @@
-use Rattle.sheet.specs.Sheet.{patternForm}
+-- `decode::optional::take_opt_pattern` meets its contract: a byte 0, or 1 and the value. Assumes nothing.
 use mathlib.Core.Path.{refl}
-use Rattle.ast.specs.declared.OptPattern.the-variants.{Present}
-use Rattle.decode.proofs.ReadLaws as laws
 use borrow.Author.Needs.{needs}
+use Rattle.ast.specs.declared.OptPattern.the-variants.{Present}
+use Rattle.sheet.specs.Sheet.{patternForm}
+use Rattle.decode.proofs.ReadLaws as laws
 use Rattle.decode.proofs.optional.take_opt_pattern.Statement.{statement}
 use Rattle.decode.proofs.optional.take_opt_pattern.Tie as tie
 
--- src/optional.rt:222:9
 take-byte-requires : tie.Need-take-byte-requires
 take-byte-requires c κs = search needs
 
--- src/optional.rt:224:9
 returns : tie.Need-returns
 returns c = laws.absent patternForm (c .before .before .take-byte .ensures) (c .if1 .taken) refl
 
--- src/optional.rt:229:9
 take-pattern-requires : tie.Need-take-pattern-requires
 take-pattern-requires c κs = search needs
 
--- src/optional.rt:219:1
 returns-2 : tie.Need-returns-2
 returns-2 c = laws.present patternForm (c .before .before .before .take-byte .ensures) (c .before .if1 .left) (c .take-pattern .ensures) (λ a e i. Present (e i))
 

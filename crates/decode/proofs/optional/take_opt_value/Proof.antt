@@ -1,24 +1,21 @@
+-- `decode::optional::take_opt_value` meets its contract: a byte 0, or 1 and the value. Assumes nothing.
 use mathlib.Core.Path.{refl}
-use Rattle.sheet.specs.Sheet.{valueForm}
-use Rattle.ast.specs.declared.OptValue.the-variants.{Present}
-use Rattle.decode.proofs.ReadLaws as laws
 use borrow.Author.Needs.{needs}
+use Rattle.ast.specs.declared.OptValue.the-variants.{Present}
+use Rattle.sheet.specs.Sheet.{valueForm}
+use Rattle.decode.proofs.ReadLaws as laws
 use Rattle.decode.proofs.optional.take_opt_value.Statement.{statement}
 use Rattle.decode.proofs.optional.take_opt_value.Tie as tie
 
--- src/optional.rt:150:9
 take-byte-requires : tie.Need-take-byte-requires
 take-byte-requires c κs = search needs
 
--- src/optional.rt:152:9
 returns : tie.Need-returns
 returns c = laws.absent valueForm (c .before .before .take-byte .ensures) (c .if1 .taken) refl
 
--- src/optional.rt:157:9
 take-value-requires : tie.Need-take-value-requires
 take-value-requires c κs = search needs
 
--- src/optional.rt:147:1
 returns-2 : tie.Need-returns-2
 returns-2 c = laws.present valueForm (c .before .before .before .take-byte .ensures) (c .before .if1 .left) (c .take-value .ensures) (λ a e i. Present (e i))
 

@@ -1,25 +1,21 @@
+-- `decode::optional::take_opt_word` meets its contract: a byte 0, or 1 and the value. Assumes nothing.
 use mathlib.Core.Path.{refl}
-use Rattle.sheet.specs.Sheet.{word}
-use Rattle.ast.specs.declared.OptU32.the-variants.{Present}
-use Rattle.decode.proofs.ReadLaws as laws
 use borrow.Author.Needs.{needs}
+use Rattle.ast.specs.declared.OptU32.the-variants.{Present}
+use Rattle.sheet.specs.Sheet.{word}
+use Rattle.decode.proofs.ReadLaws as laws
 use Rattle.decode.proofs.optional.take_opt_word.Statement.{statement}
 use Rattle.decode.proofs.optional.take_opt_word.Tie as tie
-use Rattle.decode.proofs.optional.take_opt_word.Reads as reads
 
--- src/optional.rt:97:9
 take-byte-requires : tie.Need-take-byte-requires
 take-byte-requires c κs = search needs
 
--- src/optional.rt:99:9
 returns : tie.Need-returns
 returns c = laws.absent word (c .before .before .take-byte .ensures) (c .if1 .taken) refl
 
--- src/optional.rt:104:9
 take-field-requires : tie.Need-take-field-requires
 take-field-requires c κs = search needs
 
--- src/optional.rt:94:1
 returns-2 : tie.Need-returns-2
 returns-2 c = laws.present word (c .before .before .before .take-byte .ensures) (c .before .if1 .left) (c .take-field .ensures .reads) (λ a e i. Present (e i))
 

@@ -1,43 +1,35 @@
-use native.Mathlib.Omega.{arith}
-use Rattle.sheet.specs.Sheet.{loops, splitLoop}
+-- `decode::values::take_loop` meets its contract: one case a position. Assumes nothing.
 use mathlib.Core.Path.{refl}
-use Rattle.decode.specs.Reads.{same}
-use Rattle.ast.specs.declared.LoopSpec.the-variants as loop
-use Rattle.decode.proofs.ReadLaws as laws
+use native.Mathlib.Omega.{arith}
 use borrow.Author.Needs.{needs}
+use Rattle.ast.specs.declared.LoopSpec.the-variants as loop
+use Rattle.decode.specs.Reads.{same}
+use Rattle.sheet.specs.Sheet.{loops, splitLoop}
+use Rattle.decode.proofs.ReadLaws as laws
 use Rattle.decode.proofs.values.take_loop.Statement.{statement}
 use Rattle.decode.proofs.values.take_loop.Tie as tie
-use Rattle.decode.proofs.values.take_loop.Reads as reads
 
--- src/values.rt:136:9
 take-byte-requires : tie.Need-take-byte-requires
 take-byte-requires c κs = search needs
 
--- src/values.rt:145:17
 take-field-requires : tie.Need-take-field-requires
 take-field-requires c κs = search needs
 
--- src/values.rt:160:17
 take-field-requires-2 : tie.Need-take-field-requires-2
 take-field-requires-2 c κs = search needs
 
--- src/values.rt:133:1
 returns : tie.Need-returns
 returns c = laws.chosen loops splitLoop 0 {f = same} (c .before .take-byte .ensures .reads) (c .match .keys1) (laws.nothing _ _) (λ x e. refl)
 
--- src/values.rt:133:1
 returns-2 : tie.Need-returns-2
 returns-2 c = laws.chosen loops splitLoop 1 (c .before .before .take-byte .ensures .reads) (c .before .match .keys2) (c .take-field .ensures .reads) (λ x e i. loop.Times (e i))
 
--- src/values.rt:133:1
 returns-3 : tie.Need-returns-3
 returns-3 c = laws.chosen loops splitLoop 2 {f = same} (c .before .take-byte .ensures .reads) (c .match .keys3) (laws.nothing _ _) (λ x e. refl)
 
--- src/values.rt:133:1
 returns-4 : tie.Need-returns-4
 returns-4 c = laws.chosen loops splitLoop 3 {f = same} (c .before .take-byte .ensures .reads) (c .match .keys4) (laws.nothing _ _) (λ x e. refl)
 
--- src/values.rt:133:1
 returns-5 : tie.Need-returns-5
 returns-5 c =
     laws.chosen loops splitLoop 4 (c .before .before .take-byte .ensures .reads) (omega (arith, c .before .before .take-byte .ensures .small, c .before .match .rest)) (c .take-field2 .ensures .reads)

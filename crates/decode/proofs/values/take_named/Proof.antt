@@ -1,19 +1,17 @@
-use Rattle.ast.specs.declared.EasingSpec.the-variants as easing
-use Rattle.decode.proofs.ReadLaws as laws
-use Rattle.decode.proofs.ReadLaws.{_&_}
+-- `decode::values::take_named` meets its contract: one field after the other. Assumes nothing.
 use borrow.Author.Needs.{needs}
+use Rattle.ast.specs.declared.EasingSpec.the-variants as easing
+use Rattle.decode.proofs.ReadLaws.{_&_}
+use Rattle.decode.proofs.ReadLaws as laws
 use Rattle.decode.proofs.values.take_named.Statement.{statement}
 use Rattle.decode.proofs.values.take_named.Tie as tie
 
--- src/values.rt:74:9
 take-flag-requires : tie.Need-take-flag-requires
 take-flag-requires c κs = search needs
 
--- src/values.rt:75:9
 take-span-requires : tie.Need-take-span-requires
 take-span-requires c κs = search needs
 
--- src/values.rt:71:1
 returns : tie.Need-returns
 returns c = laws.seen (c .before .before .take-flag .ensures & c .before .take-span .ensures) (λ p e i. easing.Named (e i .0) (e i .1))
 
