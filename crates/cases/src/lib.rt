@@ -35,7 +35,8 @@ pub fn unhex(s: &[u8], from: usize, out: &mut [u8]) -> usize
     k
 }
 
-fn digit(b: u8) -> u8
+// What a digit writes; any byte has a value.
+pub fn digit(b: u8) -> u8
     ensures { λ r. ⌜ r < 16 ⌝ }
 {
     if b >= b'A' {
