@@ -1,9 +1,9 @@
--- `sheet_cases::find` meets its contract: the place found lies between the start and the end. Assumes nothing.
+-- `cases::find` meets its contract: the place stays between the start and the end. Assumes nothing.
 use Prim.Native.Nat.{_-_, _≤_}
 use lib.ListN.{length}
 use borrow.Author.Needs.{needs}
-use Rattle.sheet_cases.proofs.find.Statement.{statement}
-use Rattle.sheet_cases.proofs.find.Tie as tie
+use Rattle.cases.proofs.find.Statement.{statement}
+use Rattle.cases.proofs.find.Tie as tie
 
 abbrev Inv-loop : tie.InvT-loop
 Inv-loop s from b i₀ i = (from ≤ i) × (i ≤ length s)

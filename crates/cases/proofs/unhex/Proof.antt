@@ -1,17 +1,17 @@
--- `sheet_cases::unhex` meets its contract: `k` stays within the buffer. Assumes nothing.
+-- `cases::unhex` meets its contract: what is written stays in the buffer. Assumes nothing.
 use Prim.Native.Nat.{_+_, _-_, _≤_}
 use mathlib.Core.Path.{_≡_}
 use native.Mathlib.Omega.{arith}
 use lib.ListN.{length-set, length}
 use borrow.Author.Needs.{needs}
-use Rattle.sheet_cases.proofs.unhex.Statement.{statement}
-use Rattle.sheet_cases.proofs.unhex.Tie as tie
+use Rattle.cases.proofs.unhex.Statement.{statement}
+use Rattle.cases.proofs.unhex.Tie as tie
 
 abbrev Inv-loop : tie.InvT-loop
-Inv-loop s out₀ i₀ k₀ out i k = (length out ≡ length out₀) × (k ≤ length out) × (i ≤ length s + 1)
+Inv-loop s from out₀ i₀ k₀ out i k = (length out ≡ length out₀) × (k ≤ length out) × (i ≤ length s + 1)
 
 abbrev μ-loop : tie.MeasureT-loop
-μ-loop s out₀ i₀ k₀ out i k = length out - k
+μ-loop s from out₀ i₀ k₀ out i k = length out - k
 
 loop-holds : tie.Need-loop-holds Inv-loop μ-loop
 loop-holds c = search needs
