@@ -1,28 +1,31 @@
 -- Laws of a line: its length, its check byte, and where it is written. Assumes nothing.
 use Prim.Native.Nat.{ℕ, _+_, _*_, _-_, _/_, _%_, _≤_, _<_}
-use mathlib.Core.Bool.{Bool, true, false}
+use mathlib.Core.Bool.{Bool, true, false, cond}
 use mathlib.Core.List.{List, [], _∷_, _++_, append-assoc}
+use mathlib.Core.Option.{Option, none, some}
 use mathlib.Core.Path.{_≡_, refl, sym, _∙_, ap}
 use native.Mathlib.Omega.{arith}
 use native.Mathlib.Nat.{zero-add, sub-zero}
 use native.Mathlib.Numerals.{add-one}
-use lib.Dec.{leb}
-use lib.ListN.{length, getD, drop, drop-of-length-le, length-append}
+use lib.Dec.{ltb, leb}
+use lib.ListN.{length, getD, drop, getElem?, drop-of-length-le, length-append}
 use lib.Seq.{sets, sets-eq, drop-cons, take-all}
 use borrow.Author.Tests.{leb-true, leb-false, le-leb, lt-leb, le-ltb, lt-ltb}
 use Rattle.error.specs.declared.Refusal.{Refusal}
 use Rattle.error.specs.declared.Refusal.the-variants.{OutputTooShort}
+use Rattle.error.specs.declared.LineAnswer.{LineAnswer}
 use Rattle.error.specs.declared.LineAnswer.the-variants.{Accepted, Refused}
 use Rattle.text.specs.Write.{Puts}
 use Rattle.codec.specs.Codec.{big}
-use Rattle.sheet.specs.Opening.{opening}
+use Rattle.sheet.specs.Records.{allRecords}
+use Rattle.sheet.specs.Opening.{Opened, opened, shut, opening}
 use Rattle.records.specs.declared.RecordAt.{RecordAt}
 use Rattle.records.specs.Record.{bytesAt, Located}
 use Rattle.opening.specs.declared.Opening.the-variants.{Open, Shut}
 use Rattle.opening.specs.Means.{answerOf}
 use Rattle.opening.proofs.OpenLaws.{Tree, the-tree, the-refusal}
 use Rattle.line.specs.Line.{digit, hex, total, checkByte, line}
-use Rattle.line.specs.Lining.{placed, ofRecord, lining}
+use Rattle.line.specs.Lining.{placed, ofRecord, ofOpened, lining}
 
 -- ---- the check byte
 
@@ -33,10 +36,6 @@ total-at s i h = rw (add-one, drop-cons s i 0)
 pub total-end : (s : List ℕ) (i : ℕ) → length s ≤ i → total (drop i s) ≡ 0
 unfolding total
 total-end s i h = rw (drop-of-length-le s h)
-
--- one more byte in a sum modulo 256
-pub wrapped : (t b rest : ℕ) → ((t + b) % 256 + rest) % 256 ≡ (t + (b + rest)) % 256
-wrapped t b rest = omega arith
 
 -- what with the sum gives zero is the check byte
 pub check-is : (r : List ℕ) (c : ℕ) → c < 256 → (c + total r % 256) % 256 ≡ 0 → c ≡ checkByte r
@@ -114,3 +113,26 @@ module _ (t s : List ℕ) (i : ℕ) (out : List ℕ) where
   pub found : {a : RecordAt} → Open ≡ answerOf (opening t s) → Located (length t) s i a → lining t s i out ≡ ofRecord i out (bytesAt a s)
   unfolding lining
   found e l = let o = the-tree t s e in rw (o .opens, ← l .is (o .nodes) (o .decodes))
+
+-- a line that is given fits the output
+pub given-fits : (t s : List ℕ) (i : ℕ) (out : List ℕ) {n : ℕ} {after : List ℕ} → lining t s i out ≡ (Accepted n, after) → n ≤ length after
+unfolding lining
+given-fits t s i out {n} {after} e = opens (opening t s) e
+  where
+    no : {r : Refusal} {p : ℕ} → Prim.Path (LineAnswer × List ℕ) (Refused r p, out) (Accepted n, after) → n ≤ length after
+    no q = let z : _≡_ {A = ℕ} 0 1 = cc (ap (λ (a : LineAnswer × List ℕ). a .0) q) in absurd (omega arith)
+
+    room : (l : List ℕ) (b : Bool) → cond {A = LineAnswer × List ℕ} b (Refused OutputTooShort i, out) (Accepted (length l), l ++ drop (length l) out) ≡ (Accepted n, after) → n ≤ length after
+    room l true q = no q
+    room l false q =
+        let h : Accepted (length l) ≡ Accepted n = ap (λ (a : LineAnswer × List ℕ). a .0) q in
+        let k : length l ≡ n = cc in
+        omega (arith, k, ap (λ (a : LineAnswer × List ℕ). length (a .1)) q, length-append l (drop (length l) out))
+
+    record-of : (o : Option (List ℕ)) → ofRecord i out o ≡ (Accepted n, after) → n ≤ length after
+    record-of none q = no q
+    record-of (some r) q = room (line r) (ltb (length out) (length (line r))) q
+
+    opens : (o : Opened) → ofOpened (length t) i out o ≡ (Accepted n, after) → n ≤ length after
+    opens (shut r p) q = no q
+    opens (opened ns) q = record-of (getElem? (allRecords (length t) ns) i) q

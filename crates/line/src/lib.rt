@@ -14,14 +14,14 @@ use records::RecordAt;
 
 // ---- the check byte
 
-// The sum of some bytes, modulo 256.
-fn total(bytes: &[u8]) -> u8
-    ensures { λ r. ⌜ r ≡ total (now (bytes .entry)) % 256 ⌝ }
+// The sum of a part's bytes, modulo 256.
+fn total(part: &[u8]) -> u8
+    ensures { λ r. ⌜ r ≡ total (now (part .entry)) % 256 ⌝ }
 {
     let mut sum: u8 = 0;
     let mut i = 0;
-    while i < bytes.len() {
-        sum = std::num::wrapping_add_u8(sum, bytes[i]);
+    while i < part.len() {
+        sum = std::num::wrapping_add_u8(sum, part[i]);
         i += 1;
     }
     sum

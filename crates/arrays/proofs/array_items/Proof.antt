@@ -26,67 +26,52 @@ Inv-loop text sheet₀ out m₀ at₀ n₀ sheet m at n = Items text sheet₀ sh
 abbrev μ-loop : tie.MeasureT-loop
 μ-loop text sheet₀ out m₀ at₀ n₀ sheet m at n = length text - m .at
 
--- src/lib.rt:33:5
 loop-holds : tie.Need-loop-holds Inv-loop μ-loop
 loop-holds c = items-start (c .before .before .args .text .now) (c .before .before .args .sheet .now) (c .before .before .args .c) (c .before .before .args .out) (c .before .before .pre .0)
 
--- src/lib.rt:34:12
 ends-requires : tie.Need-ends-requires Inv-loop μ-loop
 ends-requires c κs = search needs
 
--- src/lib.rt:35:13
 same-length : tie.Need-same-length Inv-loop μ-loop
 same-length c = writes-keeps (c .before .before .loop .inv .writes)
 
--- src/lib.rt:35:13
 returns : tie.Need-returns Inv-loop μ-loop
 returns c = items-end (c .before .before .before .before .before .args .text .now) (c .before .before .before .before .before .args .sheet .now) (c .before .before .loop .sheet) (c .before .before .before .before .before .args .c) (c .before .before .loop .m) (c .before .before .before .before .before .args .out) (c .before .before .loop .at) (c .before .before .loop .n) (c .before .before .loop .inv) (sym (c .before .ends .ensures (c .before .before .before .before .before .args .text .now) (c .before .before .loop .inv .listed .ready)) ∙ c .if1 .taken)
 
--- src/lib.rt:37:15
 parse-float-requires : tie.Need-parse-float-requires Inv-loop μ-loop
 parse-float-requires c κs = c .before .before .loop .inv .listed .ready
 
--- src/lib.rt:38:32
 enum-known-r : tie.Need-enum-known-r Inv-loop μ-loop
 enum-known-r c = search needs
 
--- src/lib.rt:38:41
 same-length-2 : tie.Need-same-length-2 Inv-loop μ-loop
 same-length-2 c = writes-keeps (c .before .before .before .before .before .before .loop .inv .writes)
 
--- src/lib.rt:38:41
 returns-2 : tie.Need-returns-2 Inv-loop μ-loop
 returns-2 c = items-refused (c .before .before .before .before .before .before .before .before .before .args .text .now) (c .before .before .before .before .before .before .before .before .before .args .sheet .now) (c .before .before .before .before .before .before .loop .sheet) (c .before .before .before .before .before .before .before .before .before .args .c) (c .before .before .before .before .before .before .loop .m) (c .before .before .before .before .before .before .before .before .before .args .out) (c .before .before .before .before .before .before .loop .at) (c .before .before .before .before .before .before .loop .n) (c .before .before .before .before .before .before .loop .inv) _ _ (sym (c .before .before .before .before .before .ends .ensures (c .before .before .before .before .before .before .before .before .before .args .text .now) (c .before .before .before .before .before .before .loop .inv .listed .ready)) ∙ c .before .before .before .before .if1 .left) (rw (c .before .r .given .1) at (c .before .before .before .parse-float .ensures))
 
--- src/lib.rt:39:27
 enum-known-x : tie.Need-enum-known-x Inv-loop μ-loop
 enum-known-x c = search needs
 
--- src/lib.rt:40:17
 put-float-requires : tie.Need-put-float-requires Inv-loop μ-loop
 put-float-requires c κs =
     let t = rw (c .before .before .x .given .1) at (c .before .before .before .before .parse-float .ensures) in
     (omega (arith, c .before .before .before .before .before .before .before .loop .inv .paid, c .before .before .before .before .before .before .before .loop .inv .listed .ready .high, c .before .before .before .before .before .before .before .before .before .before .pre .1 .short, c .before .before .before .before .before .before .before .before .before .before .pre .1 .low), t .1)
 
--- src/lib.rt:41:17
 add-n : tie.Need-add-n Inv-loop μ-loop
 add-n c = omega (arith, c .before .before .before .before .before .before .before .before .before .before .loop .inv .count, c .before .before .before .before .before .before .before .before .before .before .loop .inv .paid, few (c .before .before .before .before .before .before .before .before .before .before .loop .inv .xs) (c .before .before .before .before .before .before .before .before .before .before .loop .inv .writes), c .before .before .before .before .before .before .before .before .before .before .loop .inv .listed .ready .high, c .before .before .before .before .before .before .before .before .before .before .before .before .before .pre .1 .short, c .before .before .before .before .before .before .before .before .before .before .before .before .before .pre .1 .low)
 
--- src/lib.rt:42:21
 eat-requires : tie.Need-eat-requires Inv-loop μ-loop
 eat-requires c κs = let t = rw (c .before .before .before .before .before .x .given .1) at (c .before .before .before .before .before .before .before .parse-float .ensures) in (t .0 .ready, lit< tt)
 
--- src/lib.rt:45:21
 same-length-3 : tie.Need-same-length-3 Inv-loop μ-loop
 same-length-3 c = writes-keeps (c .before .before .before .before .before .before .put-float .ensures) ∙ writes-keeps (c .before .before .before .before .before .before .before .before .before .before .before .before .before .before .loop .inv .writes)
 
--- src/lib.rt:45:21
 returns-3 : tie.Need-returns-3 Inv-loop μ-loop
 returns-3 c =
     let t = rw (c .before .before .before .before .before .before .before .before .before .x .given .1) at (c .before .before .before .before .before .before .before .before .before .before .before .parse-float .ensures) in
     items-last (c .before .before .before .before .before .before .before .before .before .before .before .before .before .before .before .before .before .args .text .now) (c .before .before .before .before .before .before .before .before .before .before .before .before .before .before .before .before .before .args .sheet .now) (c .before .before .before .before .before .before .before .before .before .before .before .before .before .before .loop .sheet) (c .before .before .before .before .before .before .before .before .before .before .before .before .before .before .before .before .before .args .c) (c .before .before .before .before .before .before .before .before .before .before .before .before .before .before .loop .m) (c .before .before .before .before .before .before .before .before .before .before .before .before .before .before .before .before .before .args .out) (c .before .before .before .before .before .before .before .before .before .before .before .before .before .before .loop .at) (c .before .before .before .before .before .before .before .before .before .before .before .before .before .before .loop .n) (c .before .before .before .before .before .before .before .before .before .before .before .before .before .before .loop .inv) (sym (c .before .before .before .before .before .before .before .before .before .before .before .before .before .ends .ensures (c .before .before .before .before .before .before .before .before .before .before .before .before .before .before .before .before .before .args .text .now) (c .before .before .before .before .before .before .before .before .before .before .before .before .before .before .loop .inv .listed .ready)) ∙ c .before .before .before .before .before .before .before .before .before .before .before .before .if1 .left) _ (c .before .before .before .eat .result .next) _ (t .0) (c .before .before .before .before .before .before .put-float .last .0) (c .before .before .before .before .before .before .put-float .result) (c .before .before .before .before .before .before .put-float .ensures) (rw (not-true (c .before .before .before .eat .result .taken) (c .if2 .taken)) at (c .before .before .before .eat .ensures))
 
--- src/lib.rt:33:5
 loop-less : tie.Need-loop-less Inv-loop μ-loop
 loop-less c =
     let t = rw (c .before .before .before .before .before .before .before .before .before .x .given .1) at (c .before .before .before .before .before .before .before .before .before .before .before .parse-float .ensures) in
@@ -94,7 +79,6 @@ loop-less c =
     let a = items-moves (c .before .before .before .before .before .before .before .before .before .before .before .before .before .before .before .before .before .args .text .now) (c .before .before .before .before .before .before .before .before .before .before .before .before .before .before .before .before .before .args .sheet .now) (c .before .before .before .before .before .before .before .before .before .before .before .before .before .before .loop .sheet) (c .before .before .before .before .before .before .before .before .before .before .before .before .before .before .before .before .before .args .c) (c .before .before .before .before .before .before .before .before .before .before .before .before .before .before .loop .m) (c .before .before .before .before .before .before .before .before .before .before .before .before .before .before .before .before .before .args .out) (c .before .before .before .before .before .before .before .before .before .before .before .before .before .before .loop .at) (c .before .before .before .before .before .before .before .before .before .before .before .before .before .before .loop .n) (c .before .before .before .before .before .before .before .before .before .before .before .before .before .before .loop .inv) (sym (c .before .before .before .before .before .before .before .before .before .before .before .before .before .ends .ensures (c .before .before .before .before .before .before .before .before .before .before .before .before .before .before .before .before .before .args .text .now) (c .before .before .before .before .before .before .before .before .before .before .before .before .before .before .loop .inv .listed .ready)) ∙ c .before .before .before .before .before .before .before .before .before .before .before .before .if1 .left) _ (c .before .before .before .eat .result .next) _ (t .0) (c .before .before .before .before .before .before .put-float .last .0) (c .before .before .before .before .before .before .put-float .result) (c .before .before .before .before .before .before .put-float .ensures) z in
     omega (arith, z .ready .high)
 
--- src/lib.rt:33:5
 loop-again : tie.Need-loop-again Inv-loop μ-loop
 loop-again c =
     let t = rw (c .before .before .before .before .before .before .before .before .before .x .given .1) at (c .before .before .before .before .before .before .before .before .before .before .before .parse-float .ensures) in

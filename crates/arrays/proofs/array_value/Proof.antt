@@ -11,47 +11,36 @@ use Rattle.cursor.proofs.leave_group.Reads as leave-group-reads
 use Rattle.encode.proofs.patch_count.Reads as patch-count-reads
 use Rattle.encode.proofs.put_byte.Reads as put-byte-reads
 
--- src/lib.rt:57:9
 put-byte-requires : tie.Need-put-byte-requires
 put-byte-requires c κs = search needs
 
--- src/lib.rt:58:39
 add-array-items : tie.Need-add-array-items
 add-array-items c = search needs
 
--- src/lib.rt:58:11
 array-items-requires : tie.Need-array-items-requires
 array-items-requires c κs = (c .before .before .before .before .before .before .before .pre .0, record { short = c .before .before .before .before .before .before .before .pre .1 .short; low = omega (arith, c .before .before .before .put-byte .ensures .place, c .before .before .before .before .before .before .before .pre .1 .low) })
 
--- src/lib.rt:59:28
 enum-known-r : tie.Need-enum-known-r
 enum-known-r c = search needs
 
--- src/lib.rt:60:23
 enum-known-n : tie.Need-enum-known-n
 enum-known-n c = search needs
 
--- src/lib.rt:61:13
 patch-count-requires : tie.Need-patch-count-requires
 patch-count-requires c κs = search needs
 
--- src/lib.rt:62:32
 leave-group-requires : tie.Need-leave-group-requires
 leave-group-requires c κs = (rw (c .before .before .before .before .before .n .given .1) at (c .before .before .before .before .before .before .before .before .before .array-items .ensures)) .0 .took .ready
 
--- src/lib.rt:53:1
 same-length : tie.Need-same-length
 same-length c = search needs
 
--- src/lib.rt:53:1
 returns : tie.Need-returns
 returns c = array-refused (c .before .before .before .before .before .before .before .before .before .before .before .before .before .args .text .now) (c .before .before .before .before .before .before .before .before .before .before .before .before .before .args .c) _ _ (rw (c .before .r .given .1) at (c .before .before .before .before .before .array-items .ensures))
 
--- src/lib.rt:53:1
 same-length-2 : tie.Need-same-length-2
 same-length-2 c = search needs
 
--- src/lib.rt:53:1
 returns-2 : tie.Need-returns-2
 returns-2 c =
     let w = rw (c .before .before .before .before .before .before .n .given .1) at (c .before .before .before .before .before .before .before .before .before .before .array-items .ensures) in

@@ -11,55 +11,42 @@ use Rattle.cursor.proofs.mark.Reads as mark-reads
 use Rattle.cursor.proofs.parse_float.Reads as parse-float-reads
 use Rattle.encode.proofs.put_scalar.Reads as put-scalar-reads
 
--- src/lib.rt:72:11
 mark-requires : tie.Need-mark-requires
 mark-requires c κs = search needs
 
--- src/lib.rt:73:22
 enum-known-m : tie.Need-enum-known-m
 enum-known-m c = search needs
 
--- src/lib.rt:73:28
 array-value-requires : tie.Need-array-value-requires
 array-value-requires c κs = ((rw (c .before .before .m .given .1) at (c .before .before .before .before .mark .ensures)) .ready, c .before .before .before .before .before .before .before .pre .1)
 
--- src/lib.rt:74:39
 enum-told : tie.Need-enum-told
 enum-told c = search needs
 
--- src/lib.rt:74:39
 parse-float-requires : tie.Need-parse-float-requires
 parse-float-requires c κs = search needs
 
--- src/lib.rt:75:32
 enum-known-r : tie.Need-enum-known-r
 enum-known-r c = search needs
 
--- src/lib.rt:76:27
 enum-known-x : tie.Need-enum-known-x
 enum-known-x c = search needs
 
--- src/lib.rt:76:50
 put-scalar-requires : tie.Need-put-scalar-requires
 put-scalar-requires c κs = let t = rw (c .before .before .x .given .1) at (c .before .before .before .before .parse-float .ensures) in (omega (arith, c .before .before .before .before .before .before .before .before .before .before .pre .1 .low), t .1)
 
--- src/lib.rt:68:1
 same-length : tie.Need-same-length
 same-length c = search needs
 
--- src/lib.rt:68:1
 returns : tie.Need-returns
 returns c = value-behind (c .before .before .before .before .before .before .before .before .before .before .args .text .now) (c .before .before .before .before .before .before .before .before .before .before .args .sheet .now) (c .before .before .array-value .last .1 .0) (c .before .before .before .before .before .before .before .before .before .before .args .c) _ (c .before .before .before .before .before .before .before .before .before .before .args .out) (c .before .before .array-value .result) (rw (c .before .before .before .before .before .m .given .1) at (c .before .before .before .before .before .before .before .mark .ensures)) (c .before .before .array-value .ensures)
 
--- src/lib.rt:68:1
 returns-2 : tie.Need-returns-2
 returns-2 c = scalar-refused (c .before .before .before .before .before .before .before .before .before .args .text .now) (c .before .before .before .before .before .before .before .before .before .args .c) (mark-unseen (c .before .before .before .before .before .before .before .before .before .args .text .now) (c .before .before .before .before .before .before .before .before .before .args .c) 91 _ (rw (c .before .before .before .before .enum-told .given .1) at (c .before .before .before .before .before .before .mark .ensures))) _ _ (rw (c .before .r .given .1) at (c .before .before .before .parse-float .ensures))
 
--- src/lib.rt:68:1
 same-length-2 : tie.Need-same-length-2
 same-length-2 c = search needs
 
--- src/lib.rt:68:1
 returns-3 : tie.Need-returns-3
 returns-3 c = let t = rw (c .before .before .before .before .before .x .given .1) at (c .before .before .before .before .before .before .before .parse-float .ensures) in scalar-went (c .before .before .before .before .before .before .before .before .before .before .before .before .before .args .text .now) (c .before .before .before .before .before .before .before .before .before .before .before .before .before .args .c) (mark-unseen (c .before .before .before .before .before .before .before .before .before .before .before .before .before .args .text .now) (c .before .before .before .before .before .before .before .before .before .before .before .before .before .args .c) 91 _ (rw (c .before .before .before .before .before .before .before .before .enum-told .given .1) at (c .before .before .before .before .before .before .before .before .before .before .mark .ensures))) (c .before .before .before .before .before .before .before .before .before .before .before .before .before .args .sheet .now) (c .before .before .put-scalar .last .0) (c .before .before .before .before .before .before .before .before .before .before .before .before .before .args .out) (c .before .before .put-scalar .result) _ _ (t .0) (c .before .before .put-scalar .ensures)
 

@@ -8,11 +8,9 @@ use Rattle.cursor.proofs.advance.Reads as reads
 use Rattle.cursor.proofs.advance.Lts as lts
 use Rattle.cursor.proofs.start.Reads as start-reads
 
--- src/lib.rt:105:5
 start-requires : tie.Need-start-requires
 start-requires c κs = next-high (c .before .before .args .text .now) (c .before .before .args .c) (c .before .before .pre)
 
--- src/lib.rt:99:1
 returns : tie.Need-returns
 returns c = record { rest = c .before .before .before .pre .head .rest ∙ ap (tokensFrom (c .before .before .before .args .text .now)) (sym (c .start .ensures .1)); at = c .start .ensures .1; left = c .start .ensures .2; ready = c .start .ensures .0 }
 

@@ -8,39 +8,30 @@ use Rattle.cursor.proofs.both.Lts as lts
 use Rattle.cursor.proofs.advance.Reads as advance-reads
 use Rattle.cursor.proofs.sees.Reads as sees-reads
 
--- src/lib.rt:183:8
 sees-requires : tie.Need-sees-requires
 sees-requires c κs = search needs
 
--- src/lib.rt:184:13
 advance-requires : tie.Need-advance-requires
 advance-requires c κs = search needs
 
--- src/lib.rt:186:12
 sees-requires-2 : tie.Need-sees-requires-2
 sees-requires-2 c κs = search needs
 
--- src/lib.rt:187:32
 add-if3 : tie.Need-add-if3
 add-if3 c = search needs
 
--- src/lib.rt:188:37
 advance-requires-2 : tie.Need-advance-requires-2
 advance-requires-2 c κs = search needs
 
--- src/lib.rt:188:17
 returns : tie.Need-returns
 returns c = took-both (c .before .before .before .before .before .before .before .before .before .before .before .before .args .text .now) (c .before .before .before .before .before .before .before .before .before .before .before .before .args .c) (c .before .before .before .before .before .before .before .advance .result) (c .advance2 .result) (c .before .before .before .before .before .before .before .before .before .before .before .before .pre .0) (c .before .before .before .before .before .before .before .advance .ensures) (c .advance2 .ensures) (c .before .before .before .before .before .before .before .before .before .before .before .before .args .a) (c .before .before .before .before .before .before .before .before .before .before .before .before .args .b) (c .before .before .before .before .before .before .before .before .before .before .before .before .pre .1) (sym (c .before .before .before .before .before .before .before .before .before .sees .ensures (c .before .before .before .before .before .before .before .before .before .before .before .before .args .text .now) (c .before .before .before .before .before .before .before .before .before .before .before .before .pre .0)) ∙ c .before .before .before .before .before .before .before .before .if1 .taken) (sym (c .before .before .before .before .before .sees2 .ensures (c .before .before .before .before .before .before .before .before .before .before .before .before .args .text .now) (c .before .before .before .before .before .before .before .advance .ensures .ready)) ∙ c .before .before .before .before .if2 .taken) (c .before .if3 .taken)
 
--- src/lib.rt:178:1
 returns-2 : tie.Need-returns-2
 returns-2 c = both-missing (c .before .before .before .before .before .before .before .before .before .before .before .args .text .now) (c .before .before .before .before .before .before .before .before .before .before .before .args .c) (c .before .before .before .before .before .before .before .before .before .before .before .pre .0) (c .before .before .before .before .before .before .before .before .before .before .before .args .a) (c .before .before .before .before .before .before .before .before .before .before .before .args .b) (pair-apart (c .before .before .before .before .before .before .before .before .before .before .before .args .text .now) (c .before .before .before .before .before .before .before .before .before .before .before .args .c) (c .before .before .before .before .before .before .advance .result) (c .before .before .before .before .before .before .before .before .before .before .before .pre .0) (c .before .before .before .before .before .before .advance .ensures) (c .before .before .before .before .before .before .before .before .before .before .before .args .a) (c .before .before .before .before .before .before .before .before .before .before .before .args .b) (c .if3 .left))
 
--- src/lib.rt:178:1
 returns-3 : tie.Need-returns-3
 returns-3 c = both-missing (c .before .before .before .before .before .before .before .before .args .text .now) (c .before .before .before .before .before .before .before .before .args .c) (c .before .before .before .before .before .before .before .before .pre .0) (c .before .before .before .before .before .before .before .before .args .a) (c .before .before .before .before .before .before .before .before .args .b) (pair-second (c .before .before .before .before .before .before .before .before .args .text .now) (c .before .before .before .before .before .before .before .before .args .c) (c .before .before .before .advance .result) (c .before .before .before .advance .ensures) (c .before .before .before .before .before .before .before .before .args .a) (c .before .before .before .before .before .before .before .before .args .b) (sym (c .before .sees2 .ensures (c .before .before .before .before .before .before .before .before .args .text .now) (c .before .before .before .advance .ensures .ready)) ∙ c .if2 .left))
 
--- src/lib.rt:178:1
 returns-4 : tie.Need-returns-4
 returns-4 c = both-missing (c .before .before .before .before .args .text .now) (c .before .before .before .before .args .c) (c .before .before .before .before .pre .0) (c .before .before .before .before .args .a) (c .before .before .before .before .args .b) (pair-first (c .before .before .before .before .args .text .now) (c .before .before .before .before .args .c) (c .before .before .before .before .args .a) (c .before .before .before .before .args .b) (sym (c .before .sees .ensures (c .before .before .before .before .args .text .now) (c .before .before .before .before .pre .0)) ∙ c .if1 .left))
 

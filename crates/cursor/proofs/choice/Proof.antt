@@ -12,46 +12,36 @@ use Rattle.cursor.proofs.word.Reads as word-reads
 use Rattle.text.proofs.find.Reads as find-reads
 use Rattle.text.proofs.part.Reads as part-reads
 
--- src/lib.rt:287:11
 word-requires : tie.Need-word-requires
 word-requires c κs = search needs
 
--- src/lib.rt:288:27
 enum-known-p : tie.Need-enum-known-p
 enum-known-p c = search needs
 
--- src/lib.rt:289:22
 enum-known-w : tie.Need-enum-known-w
 enum-known-w c = search needs
 
--- src/lib.rt:289:55
 part-requires : tie.Need-part-requires
 part-requires c κs = search needs
 
--- src/lib.rt:289:37
 find-requires : tie.Need-find-requires
 find-requires c κs = search needs
 
--- src/lib.rt:290:29
 enum-known-i : tie.Need-enum-known-i
 enum-known-i c = search needs
 
--- src/lib.rt:292:21
 enum-told : tie.Need-enum-told
 enum-told c = search needs
 
--- src/lib.rt:283:1
 returns : tie.Need-returns
 returns c = let e = rw (c .before .p .given .1) at (c .before .before .before .word .ensures) in rw e
 
--- src/lib.rt:283:1
 returns-2 : tie.Need-returns-2
 returns-2 c =
     let t = rw (c .before .before .before .before .before .before .w .given .1) at (c .before .before .before .before .before .before .before .before .word .ensures) in
     let f : find _ 0 _ ≡ some _ = sym (c .before .before .before .find .ensures ∙ ap (find _ 0) (c .before .before .before .before .part .ensures)) ∙ ap placeOf (c .before .i .given .1) in
     record { is = rw (t .0 .is, f); low = t .0 .low; ready = t .0 .ready }
 
--- src/lib.rt:283:1
 returns-3 : tie.Need-returns-3
 returns-3 c =
     let t = rw (c .before .before .before .before .before .before .w .given .1) at (c .before .before .before .before .before .before .before .before .word .ensures) in

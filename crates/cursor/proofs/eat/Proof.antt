@@ -11,19 +11,15 @@ use Rattle.cursor.proofs.eat.Lts as lts
 use Rattle.cursor.proofs.advance.Reads as advance-reads
 use Rattle.cursor.proofs.sees.Reads as sees-reads
 
--- src/lib.rt:200:8
 sees-requires : tie.Need-sees-requires
 sees-requires c κs = search needs
 
--- src/lib.rt:201:13
 advance-requires : tie.Need-advance-requires
 advance-requires c κs = search needs
 
--- src/lib.rt:202:9
 returns : tie.Need-returns
 returns c = fewer (took-eaten (c .before .before .before .before .args .text .now) (c .before .before .before .before .args .c) (c .advance .result) (c .before .before .before .before .pre .0) (c .advance .ensures) (c .before .before .before .before .args .b) (c .before .before .before .before .pre .1) (sym (c .before .before .sees .ensures (c .before .before .before .before .args .text .now) (c .before .before .before .before .pre .0)) ∙ c .before .if1 .taken))
 
--- src/lib.rt:196:1
 returns-2 : tie.Need-returns-2
 returns-2 c = stays (c .before .before .before .args .text .now) (c .before .before .before .args .c) (c .before .before .before .pre .0) (eatByte (c .before .before .before .args .b)) false (rw (sym (c .before .sees .ensures (c .before .before .before .args .text .now) (c .before .before .before .pre .0)) ∙ c .if1 .left))
 

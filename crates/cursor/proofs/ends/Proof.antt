@@ -10,11 +10,9 @@ use Rattle.cursor.proofs.ends.Reads as reads
 use Rattle.cursor.proofs.ends.Lts as lts
 use Rattle.cursor.proofs.is_end.Reads as is-end-reads
 
--- src/lib.rt:147:5
 is-end-requires : tie.Need-is-end-requires
 is-end-requires c κs = search needs
 
--- src/lib.rt:142:1
 returns : tie.Need-returns
 returns c s r = c .is-end .ensures (drop (c .before .before .args .c .head .start) s) ∙ ap (λ (k : Kind). isEnd k) (sym (head-kind s (c .before .before .args .c) r))
 

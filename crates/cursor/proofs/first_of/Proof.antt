@@ -4,19 +4,15 @@ use Rattle.cursor.proofs.first_of.Tie as tie
 use Rattle.cursor.proofs.first_of.Reads as reads
 use Rattle.cursor.proofs.first_of.Lts as lts
 
--- src/lib.rt:371:26
 enum-told : tie.Need-enum-told
 enum-told c = search needs
 
--- src/lib.rt:372:18
 enum-known-left : tie.Need-enum-known-left
 enum-known-left c = search needs
 
--- src/lib.rt:367:1
 returns : tie.Need-returns
 returns c = rw (c .enum-told .given .1)
 
--- src/lib.rt:367:1
 returns-2 : tie.Need-returns-2
 returns-2 c = rw (c .before .left .given .1)
 

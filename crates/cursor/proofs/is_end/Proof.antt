@@ -5,43 +5,33 @@ use Rattle.cursor.proofs.is_end.Reads as reads
 use Rattle.cursor.proofs.is_end.Lts as lts
 use Rattle.text.proofs.has.Reads as has-reads
 
--- src/lib.rt:134:19
 enum-known-k : tie.Need-enum-known-k
 enum-known-k c = search needs
 
--- src/lib.rt:134:35
 slice-aggregate-has : tie.Need-slice-aggregate-has
 slice-aggregate-has c = search needs
 
--- src/lib.rt:134:25
 has-requires : tie.Need-has-requires
 has-requires c κs = search needs
 
--- src/lib.rt:135:25
 enum-told : tie.Need-enum-told
 enum-told c = search needs
 
--- src/lib.rt:136:24
 enum-told-2 : tie.Need-enum-told-2
 enum-told-2 c = search needs
 
--- src/lib.rt:137:27
 enum-told-3 : tie.Need-enum-told-3
 enum-told-3 c = search needs
 
--- src/lib.rt:130:1
 returns : tie.Need-returns
 returns c t = rw (c .before .before .before .k .given .1) (c .has .ensures)
 
--- src/lib.rt:130:1
 returns-2 : tie.Need-returns-2
 returns-2 c t = rw (c .enum-told .given .1)
 
--- src/lib.rt:130:1
 returns-3 : tie.Need-returns-3
 returns-3 c t = rw (c .enum-told2 .given .1)
 
--- src/lib.rt:130:1
 returns-4 : tie.Need-returns-4
 returns-4 c t = rw (c .enum-told3 .given .1)
 

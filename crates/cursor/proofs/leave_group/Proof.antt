@@ -10,27 +10,21 @@ use Rattle.cursor.proofs.ends.Reads as ends-reads
 use Rattle.cursor.proofs.first_of.Reads as first-of-reads
 use Rattle.cursor.proofs.past_group.Reads as past-group-reads
 
--- src/lib.rt:381:8
 ends-requires : tie.Need-ends-requires
 ends-requires c κs = search needs
 
--- src/lib.rt:382:9
 advance-requires : tie.Need-advance-requires
 advance-requires c κs = search needs
 
--- src/lib.rt:382:9
 returns : tie.Need-returns
 returns c = leave-end (c .before .before .before .before .args .text .now) (c .before .before .before .before .args .c) (c .advance .result) (c .before .before .before .before .pre) (c .advance .ensures) (sym (c .before .before .ends .ensures (c .before .before .before .before .args .text .now) (c .before .before .before .before .pre)) ∙ c .before .if1 .taken)
 
--- src/lib.rt:386:9
 first-of-requires : tie.Need-first-of-requires
 first-of-requires c κs = search needs
 
--- src/lib.rt:387:9
 past-group-requires : tie.Need-past-group-requires
 past-group-requires c κs = search needs
 
--- src/lib.rt:377:1
 returns-2 : tie.Need-returns-2
 returns-2 c = leave-left (c .before .before .before .before .before .before .before .args .text .now) (c .before .before .before .before .before .before .before .args .c) (c .before .past-group .result) _ (c .before .before .before .before .before .before .before .pre) (c .before .past-group .ensures) (sym (c .before .before .before .before .before .ends .ensures (c .before .before .before .before .before .before .before .args .text .now) (c .before .before .before .before .before .before .before .pre)) ∙ c .before .before .before .before .if1 .left) refl refl (c .before .before .first-of .ensures)
 

@@ -4,35 +4,27 @@ use Rattle.cursor.proofs.number_of.Tie as tie
 use Rattle.cursor.proofs.number_of.Reads as reads
 use Rattle.cursor.proofs.number_of.Lts as lts
 
--- src/lib.rt:253:18
 enum-known-k : tie.Need-enum-known-k
 enum-known-k c = search needs
 
--- src/lib.rt:254:25
 enum-told : tie.Need-enum-told
 enum-told c = search needs
 
--- src/lib.rt:255:25
 enum-told-2 : tie.Need-enum-told-2
 enum-told-2 c = search needs
 
--- src/lib.rt:256:27
 enum-told-3 : tie.Need-enum-told-3
 enum-told-3 c = search needs
 
--- src/lib.rt:249:1
 returns : tie.Need-returns
 returns c = search needs
 
--- src/lib.rt:249:1
 returns-2 : tie.Need-returns-2
 returns-2 c t = rw (c .enum-told .given .1)
 
--- src/lib.rt:249:1
 returns-3 : tie.Need-returns-3
 returns-3 c t = rw (c .enum-told2 .given .1)
 
--- src/lib.rt:249:1
 returns-4 : tie.Need-returns-4
 returns-4 c t = rw (c .enum-told3 .given .1)
 

@@ -13,28 +13,22 @@ use Rattle.cursor.proofs.parse_float.Lts as lts
 use Rattle.cursor.proofs.number.Reads as number-reads
 use Rattle.number.proofs.decimal.Reads as decimal-reads
 
--- src/lib.rt:286:11
 number-requires : tie.Need-number-requires
 number-requires c κs = search needs
 
--- src/lib.rt:287:29
 enum-known-p : tie.Need-enum-known-p
 enum-known-p c = search needs
 
--- src/lib.rt:288:24
 enum-known-negative : tie.Need-enum-known-negative
 enum-known-negative c = search needs
 
--- src/lib.rt:289:13
 decimal-requires : tie.Need-decimal-requires
 decimal-requires c κs = (rw (c .before .negative .given .1) at (c .before .before .before .number .ensures)) .small .places
 
--- src/lib.rt:282:1
 returns : tie.Need-returns
 unfolding parseFloat
 returns c = let n = rw (c .before .p .given .1) at (c .before .before .before .number .ensures) in rw (n .0, n .1)
 
--- src/lib.rt:282:1
 returns-2 : tie.Need-returns-2
 unfolding parseFloat nearest
 returns-2 c =

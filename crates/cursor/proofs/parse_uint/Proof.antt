@@ -12,19 +12,15 @@ use Rattle.cursor.proofs.parse_uint.Lts as lts
 use Rattle.cursor.proofs.number.Reads as number-reads
 use Rattle.number.proofs.whole.Reads as whole-reads
 
--- src/lib.rt:299:11
 number-requires : tie.Need-number-requires
 number-requires c κs = search needs
 
--- src/lib.rt:300:29
 enum-known-p : tie.Need-enum-known-p
 enum-known-p c = search needs
 
--- src/lib.rt:301:24
 enum-known-negative : tie.Need-enum-known-negative
 enum-known-negative c = search needs
 
--- src/lib.rt:304:17
 returns : tie.Need-returns
 unfolding parseUint
 returns c =
@@ -32,24 +28,19 @@ returns c =
     let e = whole-missing (c .before .before .before .before .before .before .before .args .text .now) (c .before .before .before .before .before .before .before .args .c) _ _ _ n Missing (c .before .if1 .taken) in
     rw (e, head-place (c .before .before .before .before .before .before .before .args .text .now) (c .before .before .before .before .before .before .before .args .c) (c .before .before .before .before .before .before .before .pre))
 
--- src/lib.rt:306:19
 whole-requires : tie.Need-whole-requires
 whole-requires c κs = search needs
 
--- src/lib.rt:307:34
 enum-known-v : tie.Need-enum-known-v
 enum-known-v c = search needs
 
--- src/lib.rt:309:25
 enum-told : tie.Need-enum-told
 enum-told c = search needs
 
--- src/lib.rt:295:1
 returns-2 : tie.Need-returns-2
 unfolding parseUint
 returns-2 c = let n = rw (c .before .p .given .1) at (c .before .before .before .number .ensures) in rw (n .0, n .1)
 
--- src/lib.rt:295:1
 returns-3 : tie.Need-returns-3
 unfolding parseUint
 returns-3 c =
@@ -58,7 +49,6 @@ returns-3 c =
     let v = rw (c .before .v .given .1) at (c .before .before .before .whole .ensures (written (c .before .before .before .before .before .before .negative .given .0 .1 .0)) refl) in
     record { is = rw (t .is, sym v); low = t .low; ready = t .ready }
 
--- src/lib.rt:295:1
 returns-4 : tie.Need-returns-4
 unfolding parseUint
 returns-4 c =

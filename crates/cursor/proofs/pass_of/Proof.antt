@@ -10,82 +10,64 @@ use Rattle.cursor.proofs.pass_of.Reads as reads
 use Rattle.cursor.proofs.pass_of.Lts as lts
 use Rattle.text.proofs.has.Reads as has-reads
 
--- src/lib.rt:325:19
 enum-known-k : tie.Need-enum-known-k
 enum-known-k c = search needs
 
--- src/lib.rt:327:17
 returns : tie.Need-returns
 unfolding weigh
 returns c t = rw (c .before .before .k .given .1, c .if1 .taken)
 
--- src/lib.rt:329:26
 slice-aggregate-has : tie.Need-slice-aggregate-has
 slice-aggregate-has c = search needs
 
--- src/lib.rt:329:16
 has-requires : tie.Need-has-requires
 has-requires c κs = search needs
 
--- src/lib.rt:331:21
 returns-2 : tie.Need-returns-2
 unfolding weigh
 returns-2 c t = rw (c .before .before .before .before .before .before .k .given .1, ne-eqb _ _ (c .before .before .before .before .if1 .left), sym (c .before .before .has .ensures) ∙ c .before .if2 .taken, c .if3 .taken)
 
--- src/lib.rt:333:38
 sub-t12 : tie.Need-sub-t12
 sub-t12 c = search needs
 
--- src/lib.rt:333:17
 returns-3 : tie.Need-returns-3
 unfolding weigh
 returns-3 c t = rw (c .before .before .before .before .before .before .k .given .1, ne-eqb _ _ (c .before .before .before .before .if1 .left), sym (c .before .before .has .ensures) ∙ c .before .if2 .taken, closing-some _ (c .if3 .left))
 
--- src/lib.rt:335:26
 slice-aggregate-has-2 : tie.Need-slice-aggregate-has-2
 slice-aggregate-has-2 c = search needs
 
--- src/lib.rt:335:16
 has-requires-2 : tie.Need-has-requires-2
 has-requires-2 c κs = search needs
 
--- src/lib.rt:336:38
 add-t16 : tie.Need-add-t16
 add-t16 c = search needs
 
--- src/lib.rt:336:17
 returns-4 : tie.Need-returns-4
 unfolding weigh
 returns-4 c t = rw (c .before .before .before .before .before .before .before .before .k .given .1, ne-eqb _ _ (c .before .before .before .before .before .before .if1 .left), sym (c .before .before .before .before .has .ensures) ∙ c .before .before .before .if2 .left, sym (c .before .has2 .ensures) ∙ c .if4 .taken, add-one)
 
--- src/lib.rt:340:25
 enum-told : tie.Need-enum-told
 enum-told c = search needs
 
--- src/lib.rt:341:24
 enum-told-2 : tie.Need-enum-told-2
 enum-told-2 c = search needs
 
--- src/lib.rt:342:27
 enum-told-3 : tie.Need-enum-told-3
 enum-told-3 c = search needs
 
--- src/lib.rt:320:1
 returns-5 : tie.Need-returns-5
 unfolding weigh
 returns-5 c t = rw (c .before .before .before .before .before .before .before .before .k .given .1, ne-eqb _ _ (c .before .before .before .before .before .before .if1 .left), sym (c .before .before .before .before .has .ensures) ∙ c .before .before .before .if2 .left, sym (c .before .has2 .ensures) ∙ c .if4 .left)
 
--- src/lib.rt:320:1
 returns-6 : tie.Need-returns-6
 unfolding weigh
 returns-6 c t = rw (c .enum-told .given .1)
 
--- src/lib.rt:320:1
 returns-7 : tie.Need-returns-7
 unfolding weigh
 returns-7 c t = rw (c .enum-told2 .given .1)
 
--- src/lib.rt:320:1
 returns-8 : tie.Need-returns-8
 unfolding weigh
 returns-8 c t = rw (c .enum-told3 .given .1)

@@ -20,47 +20,36 @@ Inv-loop text m₀ d₀ m d = Leaving text m₀ m d
 abbrev μ-loop : tie.MeasureT-loop
 μ-loop text m₀ d₀ m d = length text - m .at
 
--- src/lib.rt:353:5
 loop-holds : tie.Need-loop-holds Inv-loop μ-loop
 loop-holds c = leaving-start (c .before .args .text .now) (c .before .args .c) (c .before .pre)
 
--- src/lib.rt:356:15
 pass-of-requires : tie.Need-pass-of-requires Inv-loop μ-loop
 pass-of-requires c κs = omega (arith, c .before .loop .inv .deep, c .before .loop .inv .ready .high)
 
--- src/lib.rt:357:31
 enum-told : tie.Need-enum-told Inv-loop μ-loop
 enum-told c = search needs
 
--- src/lib.rt:357:31
 returns : tie.Need-returns Inv-loop μ-loop
 returns c = leaving-halts (c .before .before .before .before .before .before .args .text .now) (c .before .before .before .before .before .before .args .c) (c .before .before .before .before .loop .m) (c .before .before .before .before .loop .d) (c .before .before .before .before .loop .inv) (ap (λ (k : Kind). weigh k (c .before .before .before .before .loop .d)) (head-kind (c .before .before .before .before .before .before .args .text .now) (c .before .before .before .before .loop .m) (c .before .before .before .before .loop .inv .ready)) ∙ sym (c .before .before .pass-of .ensures _) ∙ ap passOf (c .enum-told .given .1))
 
--- src/lib.rt:358:32
 enum-told-2 : tie.Need-enum-told-2 Inv-loop μ-loop
 enum-told-2 c = search needs
 
--- src/lib.rt:358:32
 advance-requires : tie.Need-advance-requires Inv-loop μ-loop
 advance-requires c κs = c .before .before .before .before .loop .inv .ready
 
--- src/lib.rt:358:32
 returns-2 : tie.Need-returns-2 Inv-loop μ-loop
 returns-2 c = leaving-closes (c .before .before .before .before .before .before .before .args .text .now) (c .before .before .before .before .before .before .before .args .c) (c .before .before .before .before .before .loop .m) (c .before .before .before .before .before .loop .d) (c .before .before .before .before .before .loop .inv) (c .advance .result) (c .advance .ensures) (ap (λ (k : Kind). weigh k (c .before .before .before .before .before .loop .d)) (head-kind (c .before .before .before .before .before .before .before .args .text .now) (c .before .before .before .before .before .loop .m) (c .before .before .before .before .before .loop .inv .ready)) ∙ sym (c .before .before .before .pass-of .ensures _) ∙ ap passOf (c .before .enum-told2 .given .1))
 
--- src/lib.rt:359:27
 enum-known-e : tie.Need-enum-known-e Inv-loop μ-loop
 enum-known-e c = search needs
 
--- src/lib.rt:361:17
 advance-requires-2 : tie.Need-advance-requires-2 Inv-loop μ-loop
 advance-requires-2 c κs = c .before .before .before .before .before .loop .inv .ready
 
--- src/lib.rt:353:5
 loop-less : tie.Need-loop-less Inv-loop μ-loop
 loop-less c = let a = leaving-moves (c .before .before .before .before .before .before .before .before .args .text .now) (c .before .before .before .before .before .before .before .before .args .c) (c .before .before .before .before .before .before .loop .m) (c .before .before .before .before .before .before .loop .d) (c .before .before .before .before .before .before .loop .inv) (c .advance2 .result) (c .advance2 .ensures) _ (ap (λ (k : Kind). weigh k (c .before .before .before .before .before .before .loop .d)) (head-kind (c .before .before .before .before .before .before .before .before .args .text .now) (c .before .before .before .before .before .before .loop .m) (c .before .before .before .before .before .before .loop .inv .ready)) ∙ sym (c .before .before .before .before .pass-of .ensures _) ∙ ap passOf (c .before .before .e .given .1)) in omega (arith, c .advance2 .ensures .ready .high)
 
--- src/lib.rt:353:5
 loop-again : tie.Need-loop-again Inv-loop μ-loop
 loop-again c = leaving-goes (c .before .before .before .before .before .before .before .before .args .text .now) (c .before .before .before .before .before .before .before .before .args .c) (c .before .before .before .before .before .before .loop .m) (c .before .before .before .before .before .before .loop .d) (c .before .before .before .before .before .before .loop .inv) (c .advance2 .result) (c .advance2 .ensures) _ (ap (λ (k : Kind). weigh k (c .before .before .before .before .before .before .loop .d)) (head-kind (c .before .before .before .before .before .before .before .before .args .text .now) (c .before .before .before .before .before .before .loop .m) (c .before .before .before .before .before .before .loop .inv .ready)) ∙ sym (c .before .before .before .before .pass-of .ensures _) ∙ ap passOf (c .before .before .e .given .1))
 

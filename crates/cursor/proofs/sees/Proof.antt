@@ -9,11 +9,9 @@ use Rattle.cursor.proofs.sees.Reads as reads
 use Rattle.cursor.proofs.sees.Lts as lts
 use Rattle.cursor.proofs.is_mark.Reads as is-mark-reads
 
--- src/lib.rt:127:5
 is-mark-requires : tie.Need-is-mark-requires
 is-mark-requires c κs = search needs
 
--- src/lib.rt:122:1
 returns : tie.Need-returns
 returns c s r = c .is-mark .ensures (drop (c .before .before .args .c .head .start) s) ∙ ap (λ (k : Kind). isMark k (c .before .before .args .b)) (sym (head-kind s (c .before .before .args .c) r))
 

@@ -10,43 +10,33 @@ use Rattle.cursor.proofs.sees_name.Lts as lts
 use Rattle.text.proofs.part.Reads as part-reads
 use Rattle.token.proofs.is_keyword.Reads as is-keyword-reads
 
--- src/lib.rt:171:19
 enum-known-k : tie.Need-enum-known-k
 enum-known-k c = search needs
 
--- src/lib.rt:171:44
 part-requires : tie.Need-part-requires
 part-requires c κs = search needs
 
--- src/lib.rt:171:26
 is-keyword-requires : tie.Need-is-keyword-requires
 is-keyword-requires c κs = search needs
 
--- src/lib.rt:172:25
 enum-told : tie.Need-enum-told
 enum-told c = search needs
 
--- src/lib.rt:173:24
 enum-told-2 : tie.Need-enum-told-2
 enum-told-2 c = search needs
 
--- src/lib.rt:174:27
 enum-told-3 : tie.Need-enum-told-3
 enum-told-3 c = search needs
 
--- src/lib.rt:165:1
 returns : tie.Need-returns
 returns c r = ap not (c .is-keyword .ensures ∙ ap isKeyword (c .before .part .ensures)) ∙ (rw (r .head .kind, c .before .before .before .k .given .1) (some-unless (isKeyword _) _))
 
--- src/lib.rt:165:1
 returns-2 : tie.Need-returns-2
 returns-2 c r = rw (r .head .kind, c .enum-told .given .1)
 
--- src/lib.rt:165:1
 returns-3 : tie.Need-returns-3
 returns-3 c r = rw (r .head .kind, c .enum-told2 .given .1)
 
--- src/lib.rt:165:1
 returns-4 : tie.Need-returns-4
 returns-4 c r = rw (r .head .kind, c .enum-told3 .given .1)
 

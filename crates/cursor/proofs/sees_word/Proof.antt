@@ -7,43 +7,33 @@ use Rattle.cursor.proofs.sees_word.Lts as lts
 use Rattle.text.proofs.is_word.Reads as is-word-reads
 use Rattle.text.proofs.part.Reads as part-reads
 
--- src/lib.rt:157:19
 enum-known-k : tie.Need-enum-known-k
 enum-known-k c = search needs
 
--- src/lib.rt:157:39
 part-requires : tie.Need-part-requires
 part-requires c κs = search needs
 
--- src/lib.rt:157:25
 is-word-requires : tie.Need-is-word-requires
 is-word-requires c κs = search needs
 
--- src/lib.rt:158:25
 enum-told : tie.Need-enum-told
 enum-told c = search needs
 
--- src/lib.rt:159:24
 enum-told-2 : tie.Need-enum-told-2
 enum-told-2 c = search needs
 
--- src/lib.rt:160:27
 enum-told-3 : tie.Need-enum-told-3
 enum-told-3 c = search needs
 
--- src/lib.rt:151:1
 returns : tie.Need-returns
 returns c r = c .is-word .ensures ∙ (rw (r .head .kind, c .before .before .before .k .given .1, c .before .part .ensures))
 
--- src/lib.rt:151:1
 returns-2 : tie.Need-returns-2
 returns-2 c r = rw (r .head .kind, c .enum-told .given .1)
 
--- src/lib.rt:151:1
 returns-3 : tie.Need-returns-3
 returns-3 c r = rw (r .head .kind, c .enum-told2 .given .1)
 
--- src/lib.rt:151:1
 returns-4 : tie.Need-returns-4
 returns-4 c r = rw (r .head .kind, c .enum-told3 .given .1)
 

@@ -7,43 +7,33 @@ use Rattle.cursor.proofs.string.Reads as reads
 use Rattle.cursor.proofs.string.Lts as lts
 use Rattle.cursor.proofs.advance.Reads as advance-reads
 
--- src/lib.rt:219:21
 enum-known-k : tie.Need-enum-known-k
 enum-known-k c = search needs
 
--- src/lib.rt:221:24
 add-t8 : tie.Need-add-t8
 add-t8 c = let a = string-in (c .before .before .before .before .before .args .text .now) (c .before .before .before .before .before .args .c) _ (c .before .before .before .before .before .pre) (c .before .k .given .1) in omega arith
 
--- src/lib.rt:224:13
 advance-requires : tie.Need-advance-requires
 advance-requires c κs = search needs
 
--- src/lib.rt:226:25
 enum-told : tie.Need-enum-told
 enum-told c = search needs
 
--- src/lib.rt:227:25
 enum-told-2 : tie.Need-enum-told-2
 enum-told-2 c = search needs
 
--- src/lib.rt:228:24
 enum-told-3 : tie.Need-enum-told-3
 enum-told-3 c = search needs
 
--- src/lib.rt:211:1
 returns : tie.Need-returns
 returns c = (took-string (c .before .before .before .before .before .before .args .text .now) (c .before .before .before .before .before .before .args .c) (c .advance .result) (c .before .before .before .before .before .before .pre) (c .advance .ensures) _ (c .before .before .k .given .1), string-in (c .before .before .before .before .before .before .args .text .now) (c .before .before .before .before .before .before .args .c) _ (c .before .before .before .before .before .before .pre) (c .before .before .k .given .1))
 
--- src/lib.rt:211:1
 returns-2 : tie.Need-returns-2
 returns-2 c = no-string (c .before .before .before .before .args .text .now) (c .before .before .before .before .args .c) (c .before .before .before .before .pre) (rw (c .before .before .before .before .pre .head .kind, c .enum-told .given .1))
 
--- src/lib.rt:211:1
 returns-3 : tie.Need-returns-3
 returns-3 c = no-string (c .before .before .before .before .args .text .now) (c .before .before .before .before .args .c) (c .before .before .before .before .pre) (rw (c .before .before .before .before .pre .head .kind, c .enum-told2 .given .1))
 
--- src/lib.rt:211:1
 returns-4 : tie.Need-returns-4
 returns-4 c = no-string (c .before .before .before .before .args .text .now) (c .before .before .before .before .args .c) (c .before .before .before .before .pre) (rw (c .before .before .before .before .pre .head .kind, c .enum-told3 .given .1))
 

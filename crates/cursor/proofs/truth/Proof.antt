@@ -8,39 +8,30 @@ use Rattle.cursor.proofs.truth.Lts as lts
 use Rattle.cursor.proofs.advance.Reads as advance-reads
 use Rattle.cursor.proofs.sees_word.Reads as sees-word-reads
 
--- src/lib.rt:237:27
 slice-aggregate-sees-word : tie.Need-slice-aggregate-sees-word
 slice-aggregate-sees-word c = search needs
 
--- src/lib.rt:237:8
 sees-word-requires : tie.Need-sees-word-requires
 sees-word-requires c κs = search needs
 
--- src/lib.rt:238:36
 advance-requires : tie.Need-advance-requires
 advance-requires c κs = search needs
 
--- src/lib.rt:238:9
 returns : tie.Need-returns
 returns c = took-true (c .before .before .before .before .before .args .text .now) (c .before .before .before .before .before .args .c) (c .advance .result) (c .before .before .before .before .before .pre) (c .advance .ensures) (sym (c .before .before .sees-word .ensures (c .before .before .before .before .before .pre)) ∙ c .before .if1 .taken)
 
--- src/lib.rt:240:27
 slice-aggregate-sees-word-2 : tie.Need-slice-aggregate-sees-word-2
 slice-aggregate-sees-word-2 c = search needs
 
--- src/lib.rt:240:8
 sees-word-requires-2 : tie.Need-sees-word-requires-2
 sees-word-requires-2 c κs = search needs
 
--- src/lib.rt:241:37
 advance-requires-2 : tie.Need-advance-requires-2
 advance-requires-2 c κs = search needs
 
--- src/lib.rt:241:9
 returns-2 : tie.Need-returns-2
 returns-2 c = took-false (c .before .before .before .before .before .before .before .before .args .text .now) (c .before .before .before .before .before .before .before .before .args .c) (c .advance2 .result) (c .before .before .before .before .before .before .before .before .pre) (c .advance2 .ensures) (sym (c .before .before .before .before .before .sees-word .ensures (c .before .before .before .before .before .before .before .before .pre)) ∙ c .before .before .before .before .if1 .left) (sym (c .before .before .sees-word2 .ensures (c .before .before .before .before .before .before .before .before .pre)) ∙ c .before .if2 .taken)
 
--- src/lib.rt:233:1
 returns-3 : tie.Need-returns-3
 returns-3 c = no-truth (c .before .before .before .before .before .before .before .before .args .text .now) (c .before .before .before .before .before .before .before .before .args .c) (c .before .before .before .before .before .before .before .before .pre) (sym (c .before .before .before .before .before .sees-word .ensures (c .before .before .before .before .before .before .before .before .pre)) ∙ c .before .before .before .before .if1 .left) (sym (c .before .before .sees-word2 .ensures (c .before .before .before .before .before .before .before .before .pre)) ∙ c .before .if2 .left)
 

@@ -10,51 +10,39 @@ use Rattle.cursor.proofs.advance.Reads as advance-reads
 use Rattle.text.proofs.part.Reads as part-reads
 use Rattle.token.proofs.is_keyword.Reads as is-keyword-reads
 
--- src/lib.rt:233:19
 enum-known-k : tie.Need-enum-known-k
 enum-known-k c = search needs
 
--- src/lib.rt:234:34
 part-requires : tie.Need-part-requires
 part-requires c κs = search needs
 
--- src/lib.rt:234:16
 is-keyword-requires : tie.Need-is-keyword-requires
 is-keyword-requires c κs = search needs
 
--- src/lib.rt:235:17
 returns : tie.Need-returns
 returns c = no-word (c .before .before .before .before .before .before .before .before .args .text .now) (c .before .before .before .before .before .before .before .before .args .c) (c .before .before .before .before .before .before .before .before .pre) (rw (c .before .before .before .before .before .before .before .before .pre .head .kind, c .before .before .before .before .k .given .1, sym (c .before .is-keyword .ensures ∙ ap isKeyword (c .before .before .part .ensures)) ∙ c .if1 .taken))
 
--- src/lib.rt:237:48
 advance-requires : tie.Need-advance-requires
 advance-requires c κs = search needs
 
--- src/lib.rt:239:25
 enum-told : tie.Need-enum-told
 enum-told c = search needs
 
--- src/lib.rt:240:24
 enum-told-2 : tie.Need-enum-told-2
 enum-told-2 c = search needs
 
--- src/lib.rt:241:27
 enum-told-3 : tie.Need-enum-told-3
 enum-told-3 c = search needs
 
--- src/lib.rt:225:1
 returns-2 : tie.Need-returns-2
 returns-2 c = (took-word (c .before .before .before .before .before .before .before .before .before .args .text .now) (c .before .before .before .before .before .before .before .before .before .args .c) (c .advance .result) (c .before .before .before .before .before .before .before .before .before .pre) (c .advance .ensures) _ (c .before .before .before .before .before .k .given .1) (sym (c .before .before .is-keyword .ensures ∙ ap isKeyword (c .before .before .before .part .ensures)) ∙ c .before .if1 .left), name-in (c .before .before .before .before .before .before .before .before .before .args .text .now) (c .before .before .before .before .before .before .before .before .before .args .c) _ (c .before .before .before .before .before .before .before .before .before .pre) (c .before .before .before .before .before .k .given .1))
 
--- src/lib.rt:225:1
 returns-3 : tie.Need-returns-3
 returns-3 c = no-word (c .before .before .before .before .args .text .now) (c .before .before .before .before .args .c) (c .before .before .before .before .pre) (rw (c .before .before .before .before .pre .head .kind, c .enum-told .given .1))
 
--- src/lib.rt:225:1
 returns-4 : tie.Need-returns-4
 returns-4 c = no-word (c .before .before .before .before .args .text .now) (c .before .before .before .before .args .c) (c .before .before .before .before .pre) (rw (c .before .before .before .before .pre .head .kind, c .enum-told2 .given .1))
 
--- src/lib.rt:225:1
 returns-5 : tie.Need-returns-5
 returns-5 c = no-word (c .before .before .before .before .args .text .now) (c .before .before .before .before .args .c) (c .before .before .before .before .pre) (rw (c .before .before .before .before .pre .head .kind, c .enum-told3 .given .1))
 

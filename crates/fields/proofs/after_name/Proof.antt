@@ -13,46 +13,36 @@ use Rattle.cursor.proofs.mark.Reads as mark-reads
 use Rattle.text.proofs.find.Reads as find-reads
 use Rattle.text.proofs.part.Reads as part-reads
 
--- src/lib.rt:76:11
 mark-requires : tie.Need-mark-requires
 mark-requires c κs = search needs
 
--- src/lib.rt:77:27
 enum-known-p : tie.Need-enum-known-p
 enum-known-p c = search needs
 
--- src/lib.rt:78:22
 enum-known-m : tie.Need-enum-known-m
 enum-known-m c = search needs
 
--- src/lib.rt:78:51
 part-requires : tie.Need-part-requires
 part-requires c κs = search needs
 
--- src/lib.rt:78:34
 find-requires : tie.Need-find-requires
 find-requires c κs = search needs
 
--- src/lib.rt:79:29
 enum-known-i : tie.Need-enum-known-i
 enum-known-i c = search needs
 
--- src/lib.rt:81:21
 enum-told : tie.Need-enum-told
 enum-told c = search needs
 
--- src/lib.rt:72:1
 returns : tie.Need-returns
 returns c t e = let h = rw (c .before .p .given .1) at (c .before .before .before .mark .ensures) in rw h
 
--- src/lib.rt:72:1
 returns-2 : tie.Need-returns-2
 returns-2 c t e =
     let m = rw (c .before .before .before .before .before .before .m .given .1) at (c .before .before .before .before .before .before .before .before .mark .ensures) in
     let f = row-found t _ _ (looked-up t _ _ _ _ e (c .before .before .before .before .part .ensures) (c .before .before .before .find .ensures) ∙ ap placeOf (c .before .i .given .1)) in
     record { row = f .row; is = f .is; took = record { is = rw (m .is, f .under); low = m .low; ready = m .ready } }
 
--- src/lib.rt:72:1
 returns-3 : tie.Need-returns-3
 returns-3 c t e =
     let m = rw (c .before .before .before .before .before .before .m .given .1) at (c .before .before .before .before .before .before .before .before .mark .ensures) in

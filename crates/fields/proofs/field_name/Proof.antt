@@ -10,27 +10,21 @@ use Rattle.cursor.proofs.advance.Reads as advance-reads
 use Rattle.cursor.proofs.sees_word.Reads as sees-word-reads
 use Rattle.cursor.proofs.word.Reads as word-reads
 
--- src/lib.rt:60:35
 slice-aggregate-sees-word : tie.Need-slice-aggregate-sees-word
 slice-aggregate-sees-word c = search needs
 
--- src/lib.rt:60:8
 sees-word-requires : tie.Need-sees-word-requires
 sees-word-requires c κs = search needs
 
--- src/lib.rt:66:35
 advance-requires : tie.Need-advance-requires
 advance-requires c κs = search needs
 
--- src/lib.rt:66:9
 returns : tie.Need-returns
 returns c = took-loop (c .before .before .before .before .before .before .args .text .now) (c .before .before .before .before .before .before .args .c) (c .advance .result) (c .before .before .before .before .before .before .pre) (c .advance .ensures) (sym (c .before .before .before .sees-word .ensures (c .before .before .before .before .before .before .pre)) ∙ c .before .before .if1 .taken)
 
--- src/lib.rt:68:5
 word-requires : tie.Need-word-requires
 word-requires c κs = search needs
 
--- src/lib.rt:56:1
 returns-2 : tie.Need-returns-2
 returns-2 c = named (c .before .before .before .before .before .args .text .now) (c .before .before .before .before .before .args .c) (c .word .result) (sym (c .before .before .sees-word .ensures (c .before .before .before .before .before .pre)) ∙ c .before .if1 .left) (c .word .ensures)
 

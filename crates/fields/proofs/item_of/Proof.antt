@@ -8,61 +8,48 @@ use Rattle.fields.proofs.item_of.Reads as reads
 use Rattle.fields.proofs.item_of.Lts as lts
 use Rattle.text.proofs.has.Reads as has-reads
 
--- src/lib.rt:37:19
 enum-known-k : tie.Need-enum-known-k
 enum-known-k c = search needs
 
--- src/lib.rt:38:26
 slice-aggregate-has : tie.Need-slice-aggregate-has
 slice-aggregate-has c = search needs
 
--- src/lib.rt:38:16
 has-requires : tie.Need-has-requires
 has-requires c κs = search needs
 
--- src/lib.rt:39:17
 returns : tie.Need-returns
 unfolding itemOf
 returns c t = rw (c .before .before .before .before .k .given .1, sym (c .before .has .ensures) ∙ c .if1 .taken)
 
--- src/lib.rt:42:17
 returns-2 : tie.Need-returns-2
 unfolding itemOf
 returns-2 c t = rw (c .before .before .before .before .before .k .given .1, sym (c .before .before .has .ensures) ∙ c .before .if1 .left, c .if2 .taken)
 
--- src/lib.rt:45:17
 returns-3 : tie.Need-returns-3
 unfolding itemOf
 returns-3 c t = rw (c .before .before .before .before .before .before .k .given .1, sym (c .before .before .before .has .ensures) ∙ c .before .before .if1 .left, ne-eqb _ _ (c .before .if2 .left), c .if3 .taken)
 
--- src/lib.rt:49:25
 enum-told : tie.Need-enum-told
 enum-told c = search needs
 
--- src/lib.rt:50:24
 enum-told-2 : tie.Need-enum-told-2
 enum-told-2 c = search needs
 
--- src/lib.rt:51:27
 enum-told-3 : tie.Need-enum-told-3
 enum-told-3 c = search needs
 
--- src/lib.rt:33:1
 returns-4 : tie.Need-returns-4
 unfolding itemOf
 returns-4 c t = rw (c .before .before .before .before .before .before .k .given .1, sym (c .before .before .before .has .ensures) ∙ c .before .before .if1 .left, ne-eqb _ _ (c .before .if2 .left), ne-eqb _ _ (c .if3 .left))
 
--- src/lib.rt:33:1
 returns-5 : tie.Need-returns-5
 unfolding itemOf
 returns-5 c t = rw (c .enum-told .given .1)
 
--- src/lib.rt:33:1
 returns-6 : tie.Need-returns-6
 unfolding itemOf
 returns-6 c t = rw (c .enum-told2 .given .1)
 
--- src/lib.rt:33:1
 returns-7 : tie.Need-returns-7
 unfolding itemOf
 returns-7 c t = rw (c .enum-told3 .given .1)

@@ -12,35 +12,27 @@ use Rattle.cursor.proofs.ends.Reads as ends-reads
 use Rattle.cursor.proofs.word.Reads as word-reads
 use Rattle.fields.proofs.after_name.Reads as after-name-reads
 
--- src/lib.rt:124:8
 ends-requires : tie.Need-ends-requires
 ends-requires c κs = search needs
 
--- src/lib.rt:125:9
 returns : tie.Need-returns
 returns c t e = (refl, pairs-end (c .before .before .before .before .args .text .now) t (c .before .before .before .before .args .c) (c .before .before .before .before .pre) (sym (c .before .ends .ensures (c .before .before .before .before .args .text .now) (c .before .before .before .before .pre)) ∙ c .if1 .taken))
 
--- src/lib.rt:127:11
 word-requires : tie.Need-word-requires
 word-requires c κs = search needs
 
--- src/lib.rt:128:27
 enum-known-p : tie.Need-enum-known-p
 enum-known-p c = search needs
 
--- src/lib.rt:129:22
 enum-known-name : tie.Need-enum-known-name
 enum-known-name c = search needs
 
--- src/lib.rt:129:34
 after-name-requires : tie.Need-after-name-requires
 after-name-requires c κs = (rw (c .before .name .given .1) at (c .before .before .before .word .ensures)) .0 .ready
 
--- src/lib.rt:120:1
 returns-2 : tie.Need-returns-2
 returns-2 c t e = pairs-refused (c .before .before .before .before .before .before .before .before .args .text .now) t (c .before .before .before .before .before .before .before .before .args .c) (c .before .before .before .before .before .before .before .before .pre) _ _ (sym (c .before .before .before .before .before .ends .ensures (c .before .before .before .before .before .before .before .before .args .text .now) (c .before .before .before .before .before .before .before .before .pre)) ∙ c .before .before .before .before .if1 .left) (head-missing (c .before .before .before .before .before .before .before .before .args .text .now) pairName (c .before .before .before .before .before .before .before .before .args .c) t _ _ (no-plain (c .before .before .before .before .before .before .before .before .args .text .now) (c .before .before .before .before .before .before .before .before .args .c) _ _ (rw (c .before .p .given .1) at (c .before .before .before .word .ensures))))
 
--- src/lib.rt:120:1
 returns-3 : tie.Need-returns-3
 returns-3 c t e = paired (c .before .before .before .before .before .before .before .before .before .args .text .now) t (c .before .before .before .before .before .before .before .before .before .args .c) (c .before .before .before .before .before .before .before .before .before .pre) (sym (c .before .before .before .before .before .before .ends .ensures (c .before .before .before .before .before .before .before .before .before .args .text .now) (c .before .before .before .before .before .before .before .before .before .pre)) ∙ c .before .before .before .before .before .if1 .left) (c .after-name .result) (started (c .before .before .before .before .before .before .before .before .before .args .text .now) pairName (c .before .before .before .before .before .before .before .before .before .args .c) _ _ t (c .after-name .result) (took-plain (c .before .before .before .before .before .before .before .before .before .args .text .now) (c .before .before .before .before .before .before .before .before .before .args .c) _ _ _ ((rw (c .before .before .name .given .1) at (c .before .before .before .before .word .ensures)) .0)) (c .after-name .ensures t e))
 

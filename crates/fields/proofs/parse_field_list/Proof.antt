@@ -33,59 +33,45 @@ Inv-loop text rows m₀ m = Passed text m₀ m
 abbrev μ-loop : tie.MeasureT-loop
 μ-loop text rows m₀ m = length text - m .at
 
--- src/lib.rt:105:5
 loop-holds : tie.Need-loop-holds Inv-loop μ-loop
 loop-holds c = passed-start (c .before .before .args .text .now) (c .before .before .args .c) (c .before .before .pre)
 
--- src/lib.rt:108:15
 item-of-requires : tie.Need-item-of-requires Inv-loop μ-loop
 item-of-requires c κs = search needs
 
--- src/lib.rt:109:28
 enum-told : tie.Need-enum-told Inv-loop μ-loop
 enum-told c = search needs
 
--- src/lib.rt:109:28
 returns : tie.Need-returns Inv-loop μ-loop
 returns c t e = (c .before .before .before .before .loop .inv .ready, c .before .before .before .before .loop .inv .low, λ fs. c .before .before .before .before .loop .inv .goes t fs _ (gives-halts (c .before .before .before .before .before .before .before .args .text .now) t (c .before .before .before .before .loop .m) (c .before .before .before .before .loop .inv .ready) (item (c .before .before .before .before .before .before .before .args .text .now) (c .before .before .before .before .loop .m) (c .before .before .before .before .loop .inv .ready) _ _ (c .before .before .item-of .ensures) (c .enum-told .given .1)) fs))
 
--- src/lib.rt:110:52
 enum-told-2 : tie.Need-enum-told-2 Inv-loop μ-loop
 enum-told-2 c = search needs
 
--- src/lib.rt:110:52
 advance-requires : tie.Need-advance-requires Inv-loop μ-loop
 advance-requires c κs = c .before .before .before .before .loop .inv .ready
 
--- src/lib.rt:110:29
 returns-2 : tie.Need-returns-2 Inv-loop μ-loop
 returns-2 c t e = (c .advance .ensures .ready, (let a = moved-low (c .before .before .before .before .before .before .before .before .args .text .now) (c .before .before .before .before .before .loop .m) (c .advance .result) (c .before .before .before .before .before .loop .inv .ready) (c .advance .ensures) in omega (arith, c .before .before .before .before .before .loop .inv .low)), λ fs. c .before .before .before .before .before .loop .inv .goes t fs _ (gives-closes (c .before .before .before .before .before .before .before .before .args .text .now) t (c .before .before .before .before .before .loop .m) (c .before .before .before .before .before .loop .inv .ready) (c .advance .result) (c .advance .ensures) (item (c .before .before .before .before .before .before .before .before .args .text .now) (c .before .before .before .before .before .loop .m) (c .before .before .before .before .before .loop .inv .ready) _ _ (c .before .before .before .item-of .ensures) (c .before .enum-told2 .given .1)) fs))
 
--- src/lib.rt:112:17
 enum-told-3 : tie.Need-enum-told-3 Inv-loop μ-loop
 enum-told-3 c = search needs
 
--- src/lib.rt:112:17
 advance-requires-2 : tie.Need-advance-requires-2 Inv-loop μ-loop
 advance-requires-2 c κs = c .before .before .before .before .loop .inv .ready
 
--- src/lib.rt:105:5
 loop-less : tie.Need-loop-less Inv-loop μ-loop
 loop-less c = let a = passes-moves (c .before .before .before .before .before .before .before .before .args .text .now) [] (c .before .before .before .before .before .loop .m) (c .before .before .before .before .before .loop .inv .ready) (c .advance2 .result) (c .advance2 .ensures) (item (c .before .before .before .before .before .before .before .before .args .text .now) (c .before .before .before .before .before .loop .m) (c .before .before .before .before .before .loop .inv .ready) _ _ (c .before .before .before .item-of .ensures) (c .before .enum-told3 .given .1)) in omega (arith, c .advance2 .ensures .ready .high)
 
--- src/lib.rt:105:5
 loop-again : tie.Need-loop-again Inv-loop μ-loop
 loop-again c = passed-on (c .before .before .before .before .before .before .before .before .args .text .now) (c .before .before .before .before .before .before .before .before .args .c) (c .before .before .before .before .before .loop .m) (c .advance2 .result) (c .before .before .before .before .before .loop .inv) (c .advance2 .ensures) (item (c .before .before .before .before .before .before .before .before .args .text .now) (c .before .before .before .before .before .loop .m) (c .before .before .before .before .before .loop .inv .ready) _ _ (c .before .before .before .item-of .ensures) (c .before .enum-told3 .given .1))
 
--- src/lib.rt:114:29
 enum-told-4 : tie.Need-enum-told-4 Inv-loop μ-loop
 enum-told-4 c = search needs
 
--- src/lib.rt:114:29
 start-field-requires : tie.Need-start-field-requires Inv-loop μ-loop
 start-field-requires c κs = c .before .before .before .before .loop .inv .ready
 
--- src/lib.rt:114:29
 returns-3 : tie.Need-returns-3 Inv-loop μ-loop
 returns-3 c t e = passed-field (c .before .before .before .before .before .before .before .before .args .text .now) t (c .before .before .before .before .before .before .before .before .args .c) (c .before .before .before .before .before .loop .m) (c .before .before .before .before .before .loop .inv) (item (c .before .before .before .before .before .before .before .before .args .text .now) (c .before .before .before .before .before .loop .m) (c .before .before .before .before .before .loop .inv .ready) _ _ (c .before .before .before .item-of .ensures) (c .before .enum-told4 .given .1)) (c .start-field .result) (c .start-field .ensures t e)
 

@@ -9,27 +9,21 @@ use Rattle.fields.proofs.start_field.Lts as lts
 use Rattle.fields.proofs.after_name.Reads as after-name-reads
 use Rattle.fields.proofs.field_name.Reads as field-name-reads
 
--- src/lib.rt:93:11
 field-name-requires : tie.Need-field-name-requires
 field-name-requires c κs = search needs
 
--- src/lib.rt:94:27
 enum-known-p : tie.Need-enum-known-p
 enum-known-p c = search needs
 
--- src/lib.rt:95:22
 enum-known-name : tie.Need-enum-known-name
 enum-known-name c = search needs
 
--- src/lib.rt:95:34
 after-name-requires : tie.Need-after-name-requires
 after-name-requires c κs = (rw (c .before .name .given .1) at (c .before .before .before .field-name .ensures)) .ready
 
--- src/lib.rt:89:1
 returns : tie.Need-returns
 returns c t e = head-missing (c .before .before .before .before .before .before .args .text .now) fieldName (c .before .before .before .before .before .before .args .c) t _ _ (rw (c .before .p .given .1) at (c .before .before .before .field-name .ensures))
 
--- src/lib.rt:89:1
 returns-2 : tie.Need-returns-2
 returns-2 c t e = started (c .before .before .before .before .before .before .before .args .text .now) fieldName (c .before .before .before .before .before .before .before .args .c) _ _ t (c .after-name .result) (rw (c .before .before .name .given .1) at (c .before .before .before .before .field-name .ensures)) (c .after-name .ensures t e)
 

@@ -22,7 +22,10 @@ same-length c = search needs
 
 returns : tie.Need-returns
 unfolding hex
-returns c = rw (c .before .before .before .before .before .before .before .before .digit .ensures, c .before .before .before .digit2 .ensures) at (puts-then (c .before .before .before .before .before .before .before .put .ensures) (c .before .before .put2 .ensures))
+returns c =
+    let at-low = c .before .before in
+    let at-high = at-low .before .before .before .before .before in
+    rw (at-high .before .digit .ensures, at-low .before .digit2 .ensures) at (puts-then (at-high .put .ensures) (at-low .put2 .ensures))
 
 pub put-byte-spec : {M : Type 1} → statement M
 put-byte-spec =

@@ -33,7 +33,14 @@ loop-less : tie.Need-loop-less Inv-loop μ-loop
 loop-less c = search needs
 
 loop-again : tie.Need-loop-again Inv-loop μ-loop
-loop-again c = (c .before .before .put-byte .kept .0 ∙ c .before .before .before .before .before .before .loop .inv .0, λ after e p. c .before .before .before .before .before .before .loop .inv .1 after e (rw (hex-at (c .before .before .before .before .before .before .before .before .before .args .bytes .now) (c .before .before .before .before .before .before .loop .i) (c .before .before .before .before .before .loop-test .taken)) (puts-then (c .before .before .put-byte .ensures) p)))
+loop-again c =
+    let at-put = c .before .before in
+    let in-loop = at-put .before .before .before in
+    let at-loop = in-loop .before in
+    let start = at-loop .before .before .before in (
+      at-put .put-byte .kept .0 ∙ at-loop .loop .inv .0,
+      λ after e p. at-loop .loop .inv .1 after e (rw (hex-at (start .args .bytes .now) (at-loop .loop .i) (in-loop .loop-test .taken)) (puts-then (at-put .put-byte .ensures) p)),
+    )
 
 same-length : tie.Need-same-length Inv-loop μ-loop
 same-length c = c .before .loop .inv .0

@@ -33,7 +33,14 @@ same-length : tie.Need-same-length
 same-length c = search needs
 
 returns : tie.Need-returns
-returns c = rw (line-parts (c .before .before .before .before .before .before .before .before .before .before .before .before .before .before .before .before .before .before .before .before .before .before .before .args .bytes .now), ← c .before .before .before .before .before .before .before .check-byte .ensures) (puts-then (c .before .before .before .before .before .before .before .before .before .before .before .before .before .before .before .before .before .before .before .put-byte .ensures) (puts-then (c .before .before .before .before .before .before .before .before .before .before .before .before .before .before .before .put-byte2 .ensures) (puts-then (c .before .before .before .before .before .before .before .before .before .before .before .put-bytes .ensures) (puts-then (c .before .before .before .before .before .before .put-byte3 .ensures) (c .before .before .put .ensures)))))
+returns c =
+    let at-check = c .before .before .before .before .before .before in
+    let at-body = at-check .before .before .before .before .before in
+    let at-low = at-body .before .before .before .before in
+    let at-high = at-low .before .before .before .before in
+    let start = at-high .before .before .before .before in
+    rw (line-parts (start .args .bytes .now), ← at-check .before .check-byte .ensures)
+    (puts-then (at-high .put-byte .ensures) (puts-then (at-low .put-byte2 .ensures) (puts-then (at-body .put-bytes .ensures) (puts-then (at-check .put-byte3 .ensures) (c .before .before .put .ensures)))))
 
 pub put-line-spec : {M : Type 1} → statement M
 put-line-spec =

@@ -10,10 +10,10 @@ use Rattle.line.proofs.total.Statement.{statement}
 use Rattle.line.proofs.total.Tie as tie
 
 abbrev Inv-loop : tie.InvT-loop
-Inv-loop bytes sum₀ i₀ sum i = (sum < 256) × ((sum + total (drop i bytes)) % 256 ≡ total bytes % 256)
+Inv-loop part sum₀ i₀ sum i = (sum < 256) × ((sum + total (drop i part)) % 256 ≡ total part % 256)
 
 abbrev μ-loop : tie.MeasureT-loop
-μ-loop bytes sum₀ i₀ sum i = length bytes - i
+μ-loop part sum₀ i₀ sum i = length part - i
 
 loop-holds : tie.Need-loop-holds Inv-loop μ-loop
 loop-holds c = search needs
@@ -31,10 +31,13 @@ loop-less : tie.Need-loop-less Inv-loop μ-loop
 loop-less c = search needs
 
 loop-again : tie.Need-loop-again Inv-loop μ-loop
-loop-again c = (search needs, omega (arith, c .before .before .before .loop .inv .1, c .wrapping-add-u8 .ensures, total-at (c .before .before .before .before .before .args .bytes .now) (c .before .before .before .loop .i) (c .before .before .loop-test .taken)))
+loop-again c =
+    let at-loop = c .before .before .before in
+    let start = at-loop .before .before in
+    (search needs, omega (arith, at-loop .loop .inv .1, c .wrapping-add-u8 .ensures, total-at (start .args .part .now) (at-loop .loop .i) (omega arith)))
 
 returns : tie.Need-returns Inv-loop μ-loop
-returns c = omega (arith, c .before .loop .inv, total-end (c .before .before .before .args .bytes .now) (c .before .loop .i) (c .loop-test .left))
+returns c = omega (arith, c .before .loop .inv, total-end (c .before .before .before .args .part .now) (c .before .loop .i) (c .loop-test .left))
 
 pub total-spec : {M : Type 1} → statement M
 total-spec =

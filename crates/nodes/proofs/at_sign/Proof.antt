@@ -7,19 +7,15 @@ use Rattle.nodes.proofs.at_sign.Reads as reads
 use Rattle.nodes.proofs.at_sign.Lts as lts
 use Rattle.cursor.proofs.eat.Reads as eat-reads
 
--- src/lib.rt:55:9
 eat-requires : tie.Need-eat-requires
 eat-requires c κs = search needs
 
--- src/lib.rt:58:9
 returns : tie.Need-returns
 returns c = plus-sign _ _ _ (rw (c .if1 .taken) at (c .before .before .eat .ensures))
 
--- src/lib.rt:64:9
 eat-requires-2 : tie.Need-eat-requires-2
 eat-requires-2 c κs = search needs
 
--- src/lib.rt:51:1
 returns-2 : tie.Need-returns-2
 returns-2 c = other-sign _ _ _ (rw (c .before .before .if1 .left) at (c .before .before .before .before .eat .ensures)) _ _ (c .before .eat2 .ensures)
 

@@ -18,55 +18,42 @@ use Rattle.nodes.proofs.at_sign.Reads as at-sign-reads
 use Rattle.nodes.proofs.turned.Reads as turned-reads
 use Rattle.number.proofs.decimal.Reads as decimal-reads
 
--- src/lib.rt:87:9
 at-sign-requires : tie.Need-at-sign-requires
 at-sign-requires c κs = search needs
 
--- src/lib.rt:89:11
 number-requires : tie.Need-number-requires
 number-requires c κs = search needs
 
--- src/lib.rt:90:29
 enum-known-p : tie.Need-enum-known-p
 enum-known-p c = search needs
 
--- src/lib.rt:91:24
 enum-known-negative : tie.Need-enum-known-negative
 enum-known-negative c = search needs
 
--- src/lib.rt:92:17
 eat-requires : tie.Need-eat-requires
 eat-requires c κs = ((rw (c .before .negative .given .1) at (c .before .before .before .number .ensures)) .ready, omega arith)
 
--- src/lib.rt:93:41
 turned-requires : tie.Need-turned-requires
 turned-requires c κs = search needs
 
--- src/lib.rt:93:17
 decimal-requires : tie.Need-decimal-requires
 decimal-requires c κs = (rw (c .before .before .before .negative .given .1) at (c .before .before .before .before .before .number .ensures)) .small .places
 
--- src/lib.rt:94:17
 put-byte-requires : tie.Need-put-byte-requires
 put-byte-requires c κs = omega (arith, c .before .before .before .before .before .before .before .before .before .before .before .before .pre .1 .low)
 
--- src/lib.rt:95:17
 put-float-requires : tie.Need-put-float-requires
 put-float-requires c κs = (omega (arith, c .before .before .before .before .before .before .before .before .before .before .before .before .before .before .before .before .pre .1 .low, c .before .before .before .put-byte .ensures .place), rw (c .before .before .before .before .before .decimal .ensures) (round-number _ _ _))
 
--- src/lib.rt:96:17
 put-flag-requires : tie.Need-put-flag-requires
 put-flag-requires c κs = omega (arith, c .before .before .before .before .before .before .before .before .before .before .before .before .before .before .before .before .before .before .before .before .pre .1 .low, c .before .before .before .before .before .before .before .put-byte .ensures .place, c .before .before .before .put-float .ensures .place, length-word (bits (c .before .before .before .before .before .before .before .before .before .decimal .result)))
 
--- src/lib.rt:83:1
 returns : tie.Need-returns
 returns c = no-value _ _ _ _ _ (c .before .before .before .before .before .at-sign .ensures) _ (rw (c .before .p .given .1) at (c .before .before .before .number .ensures))
 
--- src/lib.rt:83:1
 same-length : tie.Need-same-length
 same-length c = search needs
 
--- src/lib.rt:83:1
 returns-2 : tie.Need-returns-2
 unfolding nearest
 returns-2 c = at-went _ _ _ _ _ (c .before .before .before .before .before .before .before .before .before .before .before .before .before .before .before .before .before .before .before .before .before .at-sign .ensures) _ _ _ _ _ (rw (c .before .before .before .before .before .before .before .before .before .before .before .before .before .before .before .before .before .negative .given .1) at (c .before .before .before .before .before .before .before .before .before .before .before .before .before .before .before .before .before .before .before .number .ensures)) (c .before .before .before .before .before .before .before .before .before .before .before .before .before .before .before .eat .ensures) (c .before .before .before .before .before .before .before .before .before .before .before .put-byte .ensures) (rw (c .before .before .before .before .before .before .before .before .before .before .before .before .before .decimal .ensures, c .before .before .before .before .before .before .before .before .before .before .before .before .before .before .turned .ensures) at (c .before .before .before .before .before .before .before .put-float .ensures)) (c .before .before .before .put-flag .ensures)

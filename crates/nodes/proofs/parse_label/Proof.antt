@@ -12,51 +12,39 @@ use Rattle.cursor.proofs.string.Reads as string-reads
 use Rattle.encode.proofs.put_byte.Reads as put-byte-reads
 use Rattle.encode.proofs.put_span.Reads as put-span-reads
 
--- src/lib.rt:30:11
 string-requires : tie.Need-string-requires
 string-requires c κs = search needs
 
--- src/lib.rt:31:27
 enum-known-p : tie.Need-enum-known-p
 enum-known-p c = search needs
 
--- src/lib.rt:32:22
 enum-known-s : tie.Need-enum-known-s
 enum-known-s c = search needs
 
--- src/lib.rt:32:37
 mark-requires : tie.Need-mark-requires
 mark-requires c κs = ((rw (c .before .s .given .1) at (c .before .before .before .string .ensures)) .0 .ready, omega arith)
 
--- src/lib.rt:33:31
 enum-known-p-2 : tie.Need-enum-known-p-2
 enum-known-p-2 c = search needs
 
--- src/lib.rt:34:26
 enum-known-n : tie.Need-enum-known-n
 enum-known-n c = search needs
 
--- src/lib.rt:35:21
 put-byte-requires : tie.Need-put-byte-requires
 put-byte-requires c κs = search needs
 
--- src/lib.rt:36:30
 put-span-requires : tie.Need-put-span-requires
 put-span-requires c κs = search needs
 
--- src/lib.rt:26:1
 returns : tie.Need-returns
 returns c = no-string (c .before .before .before .before .before .before .args .text .now) (c .before .before .before .before .before .before .args .c) _ (rw (c .before .p .given .1) at (c .before .before .before .string .ensures))
 
--- src/lib.rt:26:1
 returns-2 : tie.Need-returns-2
 returns-2 c = no-semicolon _ _ _ _ ((rw (c .before .before .before .before .before .s .given .1) at (c .before .before .before .before .before .before .before .string .ensures)) .0) _ (rw (c .before .p2 .given .1) at (c .before .before .before .mark .ensures))
 
--- src/lib.rt:26:1
 same-length : tie.Need-same-length
 same-length c = search needs
 
--- src/lib.rt:26:1
 returns-3 : tie.Need-returns-3
 returns-3 c = label-went _ _ _ _ ((rw (c .before .before .before .before .before .before .before .before .before .before .before .before .before .s .given .1) at (c .before .before .before .before .before .before .before .before .before .before .before .before .before .before .before .string .ensures)) .0) _ (rw (c .before .before .before .before .before .before .before .before .before .n .given .1) at (c .before .before .before .before .before .before .before .before .before .before .before .mark .ensures)) (c .before .before .before .before .before .before .put-byte .ensures) (c .before .before .put-span .ensures (length (c .before .before .before .before .before .before .before .before .before .before .before .before .before .before .before .before .before .before .args .text .now)))
 

@@ -15,42 +15,33 @@ use Rattle.text.proofs.part.Reads as part-reads
 use Rattle.values.proofs.curve.Reads as curve-reads
 use Rattle.values.proofs.named_easing.Reads as named-easing-reads
 
--- src/lib.rt:437:22
 slice-aggregate-find : tie.Need-slice-aggregate-find
 slice-aggregate-find c = search needs
 
--- src/lib.rt:437:31
 part-requires : tie.Need-part-requires
 part-requires c κs = search needs
 
--- src/lib.rt:437:11
 find-requires : tie.Need-find-requires
 find-requires c κs = search needs
 
--- src/lib.rt:438:33
 enum-told : tie.Need-enum-told
 enum-told c = search needs
 
--- src/lib.rt:438:33
 named-easing-requires : tie.Need-named-easing-requires
 named-easing-requires c κs = search needs
 
--- src/lib.rt:439:25
 enum-known-i : tie.Need-enum-known-i
 enum-known-i c = search needs
 
--- src/lib.rt:439:31
 curve-requires : tie.Need-curve-requires
 curve-requires c κs = search needs
 
--- src/lib.rt:433:1
 returns : tie.Need-returns
 unfolding curves entries
 returns c =
     let u = under-none curves _ (looked-up (wordsOf curves) _ _ _ (c .before .before .before .before .part .ensures) (c .before .before .before .find .ensures) ∙ ap placeOf (c .before .enum-told .given .1)) in
     no-curve (c .before .before .before .before .before .before .before .args .text .now) (c .before .before .before .before .before .before .before .args .c) _ (c .named-easing .result) u (c .named-easing .ensures)
 
--- src/lib.rt:433:1
 returns-2 : tie.Need-returns-2
 unfolding curves entries
 returns-2 c =

@@ -10,45 +10,35 @@ use Rattle.cursor.proofs.leave_group.Reads as leave-group-reads
 use Rattle.cursor.proofs.mark.Reads as mark-reads
 use Rattle.values.proofs.four_floats.Reads as four-floats-reads
 
--- src/lib.rt:134:11
 mark-requires : tie.Need-mark-requires
 mark-requires c κs = search needs
 
--- src/lib.rt:135:27
 enum-known-p : tie.Need-enum-known-p
 enum-known-p c = search needs
 
--- src/lib.rt:136:22
 enum-known-m : tie.Need-enum-known-m
 enum-known-m c = search needs
 
--- src/lib.rt:136:34
 four-floats-requires : tie.Need-four-floats-requires
 four-floats-requires c κs = (rw (c .before .m .given .1) at (c .before .before .before .mark .ensures)) .ready
 
--- src/lib.rt:137:33
 enum-known-r : tie.Need-enum-known-r
 enum-known-r c = search needs
 
--- src/lib.rt:138:28
 enum-known-e : tie.Need-enum-known-e
 enum-known-e c = search needs
 
--- src/lib.rt:138:55
 leave-group-requires : tie.Need-leave-group-requires
 leave-group-requires c κs = ((rw (c .before .e .given .1) at (c .before .before .before .four-floats .ensures)) .0) .ready
 
--- src/lib.rt:130:1
 returns : tie.Need-returns
 unfolding bezierCurve
 returns c = inside-missing (c .before .before .before .before .before .args .text .now) 40 fourFloats (c .before .before .before .before .before .args .c) _ (rw (c .before .p .given .1) at (c .before .before .before .mark .ensures))
 
--- src/lib.rt:130:1
 returns-2 : tie.Need-returns-2
 unfolding bezierCurve
 returns-2 c = inside-refused (c .before .before .before .before .before .before .before .before .before .args .text .now) 40 fourFloats (c .before .before .before .before .before .before .before .before .before .args .c) _ (rw (c .before .before .before .before .before .m .given .1) at (c .before .before .before .before .before .before .before .mark .ensures)) _ _ (rw (c .before .r .given .1) at (c .before .before .before .four-floats .ensures))
 
--- src/lib.rt:130:1
 returns-3 : tie.Need-returns-3
 unfolding bezierCurve
 returns-3 c = (inside-took (c .before .before .before .before .before .before .before .before .before .before .args .text .now) 40 fourFloats (c .before .before .before .before .before .before .before .before .before .before .args .c) _ (rw (c .before .before .before .before .before .before .m .given .1) at (c .before .before .before .before .before .before .before .before .mark .ensures)) _ _ _ ((rw (c .before .before .e .given .1) at (c .before .before .before .before .four-floats .ensures)) .0) (c .leave-group .ensures), (rw (c .before .before .e .given .1) at (c .before .before .before .before .four-floats .ensures)) .1)

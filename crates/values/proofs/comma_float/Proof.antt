@@ -9,28 +9,22 @@ use Rattle.values.proofs.comma_float.Lts as lts
 use Rattle.cursor.proofs.mark.Reads as mark-reads
 use Rattle.cursor.proofs.parse_float.Reads as parse-float-reads
 
--- src/lib.rt:70:11
 mark-requires : tie.Need-mark-requires
 mark-requires c κs = search needs
 
--- src/lib.rt:71:27
 enum-known-p : tie.Need-enum-known-p
 enum-known-p c = search needs
 
--- src/lib.rt:72:22
 enum-known-m : tie.Need-enum-known-m
 enum-known-m c = search needs
 
--- src/lib.rt:72:28
 parse-float-requires : tie.Need-parse-float-requires
 parse-float-requires c κs = (rw (c .before .m .given .1) at (c .before .before .before .mark .ensures)) .ready
 
--- src/lib.rt:66:1
 returns : tie.Need-returns
 unfolding commaFloat
 returns c = let h = rw (c .before .p .given .1) at (c .before .before .before .mark .ensures) in rw h
 
--- src/lib.rt:66:1
 returns-2 : tie.Need-returns-2
 unfolding commaFloat
 returns-2 c = float-behind (c .before .before .before .before .before .before .args .text .now) 44 parseFloat (c .before .before .before .before .before .before .args .c) _ (c .parse-float .result) (rw (c .before .before .m .given .1) at (c .before .before .before .before .mark .ensures)) (c .parse-float .ensures)

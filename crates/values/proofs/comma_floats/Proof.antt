@@ -9,28 +9,22 @@ use Rattle.values.proofs.comma_floats.Lts as lts
 use Rattle.cursor.proofs.mark.Reads as mark-reads
 use Rattle.values.proofs.two_floats.Reads as two-floats-reads
 
--- src/lib.rt:109:11
 mark-requires : tie.Need-mark-requires
 mark-requires c κs = search needs
 
--- src/lib.rt:110:27
 enum-known-p : tie.Need-enum-known-p
 enum-known-p c = search needs
 
--- src/lib.rt:111:22
 enum-known-m : tie.Need-enum-known-m
 enum-known-m c = search needs
 
--- src/lib.rt:111:28
 two-floats-requires : tie.Need-two-floats-requires
 two-floats-requires c κs = (rw (c .before .m .given .1) at (c .before .before .before .mark .ensures)) .ready
 
--- src/lib.rt:105:1
 returns : tie.Need-returns
 unfolding commaFloats
 returns c = let h = rw (c .before .p .given .1) at (c .before .before .before .mark .ensures) in rw h
 
--- src/lib.rt:105:1
 returns-2 : tie.Need-returns-2
 unfolding commaFloats
 returns-2 c = pair-behind (c .before .before .before .before .before .before .args .text .now) 44 twoFloats (c .before .before .before .before .before .before .args .c) _ (c .two-floats .result) (rw (c .before .before .m .given .1) at (c .before .before .before .before .mark .ensures)) (c .two-floats .ensures)

@@ -13,47 +13,37 @@ use Rattle.values.proofs.slow_mo_curve.Reads as slow-mo-curve-reads
 use Rattle.values.proofs.steps_curve.Reads as steps-curve-reads
 use Rattle.values.proofs.wiggle_curve.Reads as wiggle-curve-reads
 
--- src/lib.rt:424:14
 bezier-curve-requires : tie.Need-bezier-curve-requires
 bezier-curve-requires c κs = search needs
 
--- src/lib.rt:425:14
 steps-curve-requires : tie.Need-steps-curve-requires
 steps-curve-requires c κs = search needs
 
--- src/lib.rt:426:14
 wiggle-curve-requires : tie.Need-wiggle-curve-requires
 wiggle-curve-requires c κs = search needs
 
--- src/lib.rt:427:14
 rough-curve-requires : tie.Need-rough-curve-requires
 rough-curve-requires c κs = search needs
 
--- src/lib.rt:428:14
 slow-mo-curve-requires : tie.Need-slow-mo-curve-requires
 slow-mo-curve-requires c κs = search needs
 
--- src/lib.rt:419:1
 returns : tie.Need-returns
 unfolding curves
 returns c row e = rw (← elem-at curves (c .before .before .before .args .i) 0 row _ (c .before .match .keys1) refl e) (c .bezier-curve .ensures)
 
--- src/lib.rt:419:1
 returns-2 : tie.Need-returns-2
 unfolding curves
 returns-2 c row e = rw (← elem-at curves (c .before .before .before .args .i) 1 row _ (c .before .match .keys2) refl e) (c .steps-curve .ensures)
 
--- src/lib.rt:419:1
 returns-3 : tie.Need-returns-3
 unfolding curves
 returns-3 c row e = rw (← elem-at curves (c .before .before .before .args .i) 2 row _ (c .before .match .keys3) refl e) (c .wiggle-curve .ensures)
 
--- src/lib.rt:419:1
 returns-4 : tie.Need-returns-4
 unfolding curves
 returns-4 c row e = rw (← elem-at curves (c .before .before .before .args .i) 3 row _ (c .before .match .keys4) refl e) (c .rough-curve .ensures)
 
--- src/lib.rt:419:1
 returns-5 : tie.Need-returns-5
 unfolding curves
 returns-5 c row e = let h = elem-lt curves (c .before .before .before .args .i) row e in rw (← elem-at curves (c .before .before .before .args .i) 4 row _ (omega (arith, c .before .match .rest)) refl e) (c .slow-mo-curve .ensures)

@@ -9,36 +9,28 @@ use Rattle.values.proofs.four_floats.Lts as lts
 use Rattle.values.proofs.comma_floats.Reads as comma-floats-reads
 use Rattle.values.proofs.two_floats.Reads as two-floats-reads
 
--- src/lib.rt:120:11
 two-floats-requires : tie.Need-two-floats-requires
 two-floats-requires c κs = search needs
 
--- src/lib.rt:121:27
 enum-known-r : tie.Need-enum-known-r
 enum-known-r c = search needs
 
--- src/lib.rt:122:22
 enum-known-x1 : tie.Need-enum-known-x1
 enum-known-x1 c = search needs
 
--- src/lib.rt:122:42
 comma-floats-requires : tie.Need-comma-floats-requires
 comma-floats-requires c κs = (rw (c .before .x1 .given .1) at (c .before .before .before .two-floats .ensures)) .took .ready
 
--- src/lib.rt:123:31
 enum-known-r-2 : tie.Need-enum-known-r-2
 enum-known-r-2 c = search needs
 
--- src/lib.rt:124:26
 enum-known-x2 : tie.Need-enum-known-x2
 enum-known-x2 c = search needs
 
--- src/lib.rt:116:1
 returns : tie.Need-returns
 unfolding fourFloats
 returns c = let h = rw (c .before .r .given .1) at (c .before .before .before .two-floats .ensures) in rw h
 
--- src/lib.rt:116:1
 returns-2 : tie.Need-returns-2
 unfolding fourFloats
 returns-2 c =
@@ -46,7 +38,6 @@ returns-2 c =
     let h = rw (c .before .r2 .given .1) at (c .before .before .before .comma-floats .ensures) in
     rw (t .is, h)
 
--- src/lib.rt:116:1
 returns-3 : tie.Need-returns-3
 unfolding fourFloats
 returns-3 c =

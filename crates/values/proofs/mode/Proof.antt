@@ -12,30 +12,24 @@ use Rattle.values.proofs.mode.Lts as lts
 use Rattle.values.proofs.ping_pong_mode.Reads as ping-pong-mode-reads
 use Rattle.values.proofs.times_mode.Reads as times-mode-reads
 
--- src/lib.rt:494:14
 ping-pong-mode-requires : tie.Need-ping-pong-mode-requires
 ping-pong-mode-requires c κs = search needs
 
--- src/lib.rt:495:14
 times-mode-requires : tie.Need-times-mode-requires
 times-mode-requires c κs = search needs
 
--- src/lib.rt:487:1
 returns : tie.Need-returns
 unfolding loopModes
 returns c row e = rw (← elem-at loopModes _ 0 row _ (c .match .keys1) refl e) (stays (c .before .before .args .text .now) (c .before .before .args .c) (c .before .before .pre) _ _ refl)
 
--- src/lib.rt:487:1
 returns-2 : tie.Need-returns-2
 unfolding loopModes
 returns-2 c row e = rw (← elem-at loopModes _ 1 row _ (c .match .keys2) refl e) (stays (c .before .before .args .text .now) (c .before .before .args .c) (c .before .before .pre) _ _ refl)
 
--- src/lib.rt:487:1
 returns-3 : tie.Need-returns-3
 unfolding loopModes
 returns-3 c row e = rw (← elem-at loopModes _ 2 row _ (c .before .match .keys3) refl e) (c .ping-pong-mode .ensures)
 
--- src/lib.rt:487:1
 returns-4 : tie.Need-returns-4
 unfolding loopModes
 returns-4 c row e = let h = elem-lt loopModes (c .before .before .before .args .i) row e in rw (← elem-at loopModes (c .before .before .before .args .i) 3 row _ (omega (arith, c .before .match .rest)) refl e) (mode-some (c .before .before .before .args .text .now) (c .before .before .before .args .c) _ (c .times-mode .result) (c .times-mode .ensures))

@@ -16,55 +16,42 @@ use Rattle.cursor.proofs.word.Reads as word-reads
 use Rattle.text.proofs.is_word.Reads as is-word-reads
 use Rattle.text.proofs.part.Reads as part-reads
 
--- src/lib.rt:406:23
 part-requires : tie.Need-part-requires
 part-requires c κs = search needs
 
--- src/lib.rt:406:64
 slice-aggregate-is-word : tie.Need-slice-aggregate-is-word
 slice-aggregate-is-word c = search needs
 
--- src/lib.rt:406:9
 is-word-requires : tie.Need-is-word-requires
 is-word-requires c κs = search needs
 
--- src/lib.rt:407:9
 returns : tie.Need-returns
 returns c = (stays (c .before .before .before .before .before .args .text .now) (c .before .before .before .before .before .args .c) (c .before .before .before .before .before .pre .0) _ _ (plain-name (c .before .before .before .before .before .args .text .now) (c .before .before .before .before .before .args .c) (c .before .before .before .before .before .args .name) (c .before .before .before .before .before .pre .1) (inl (tested _ _ _ _ (c .before .before .before .part .ensures) (c .before .is-word .ensures) ∙ not-true _ (c .if1 .taken)))), tt)
 
--- src/lib.rt:409:11
 both-requires : tie.Need-both-requires
 both-requires c κs = search needs
 
--- src/lib.rt:410:48
 enum-told : tie.Need-enum-told
 enum-told c = search needs
 
--- src/lib.rt:411:22
 enum-known-m : tie.Need-enum-known-m
 enum-known-m c = search needs
 
--- src/lib.rt:411:34
 word-requires : tie.Need-word-requires
 word-requires c κs = (rw (c .before .m .given .1) at (c .before .before .before .both .ensures)) .ready
 
--- src/lib.rt:412:31
 enum-known-p : tie.Need-enum-known-p
 enum-known-p c = search needs
 
--- src/lib.rt:413:26
 enum-known-variant : tie.Need-enum-known-variant
 enum-known-variant c = search needs
 
--- src/lib.rt:402:1
 returns-2 : tie.Need-returns-2
 returns-2 c = (stays (c .before .before .before .before .before .before .before .before .args .text .now) (c .before .before .before .before .before .before .before .before .args .c) (c .before .before .before .before .before .before .before .before .pre .0) _ _ (plain-name (c .before .before .before .before .before .before .before .before .args .text .now) (c .before .before .before .before .before .before .before .before .args .c) (c .before .before .before .before .before .before .before .before .args .name) (c .before .before .before .before .before .before .before .before .pre .1) (inr (pair-missing (c .before .before .before .before .before .before .before .before .args .text .now) (c .before .before .before .before .before .before .before .before .args .c) 58 58 _ (rw (c .enum-told .given .1) at (c .before .before .both .ensures))))), tt)
 
--- src/lib.rt:402:1
 returns-3 : tie.Need-returns-3
 returns-3 c = variant-refused (c .before .before .before .before .before .before .before .before .before .before .before .before .before .args .text .now) (c .before .before .before .before .before .before .before .before .before .before .before .before .before .args .c) (c .before .before .before .before .before .before .before .before .before .before .before .before .before .args .name) (c .before .before .before .before .before .before .before .before .before .before .before .before .before .pre .1) (tested _ _ _ _ (c .before .before .before .before .before .before .before .before .before .before .before .part .ensures) (c .before .before .before .before .before .before .before .before .before .is-word .ensures) ∙ not-false _ (c .before .before .before .before .before .before .before .before .if1 .left)) _ _ (rw (c .before .before .before .before .before .m .given .1) at (c .before .before .before .before .before .before .before .both .ensures)) (rw (c .before .p .given .1) at (c .before .before .before .word .ensures))
 
--- src/lib.rt:402:1
 returns-4 : tie.Need-returns-4
 returns-4 c =
     let w = rw (c .before .variant .given .1) at (c .before .before .before .word .ensures) in

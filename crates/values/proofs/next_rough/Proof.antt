@@ -9,15 +9,12 @@ use Rattle.values.proofs.next_rough.Reads as reads
 use Rattle.values.proofs.next_rough.Lts as lts
 use Rattle.fields.proofs.next_pair.Reads as next-pair-reads
 
--- src/lib.rt:194:32
 slice-aggregate-next-pair : tie.Need-slice-aggregate-next-pair
 slice-aggregate-next-pair c = search needs
 
--- src/lib.rt:194:5
 next-pair-requires : tie.Need-next-pair-requires
 next-pair-requires c κs = search needs
 
--- src/lib.rt:190:1
 returns : tie.Need-returns
 unfolding roughFields entries
 returns c = c .next-pair .ensures roughFields refl

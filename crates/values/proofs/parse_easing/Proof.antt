@@ -11,37 +11,29 @@ use Rattle.cursor.proofs.sees.Reads as sees-reads
 use Rattle.cursor.proofs.word.Reads as word-reads
 use Rattle.values.proofs.after_word.Reads as after-word-reads
 
--- src/lib.rt:447:8
 sees-requires : tie.Need-sees-requires
 sees-requires c κs = search needs
 
--- src/lib.rt:449:9
 returns : tie.Need-returns
 unfolding parseEasing
 returns c = rw (sym (c .before .before .sees .ensures (c .before .before .before .before .args .text .now) (c .before .before .before .before .pre)) ∙ c .before .if1 .taken, c .before .before .before .before .pre .head .place)
 
--- src/lib.rt:451:11
 word-requires : tie.Need-word-requires
 word-requires c κs = search needs
 
--- src/lib.rt:452:27
 enum-known-p : tie.Need-enum-known-p
 enum-known-p c = search needs
 
--- src/lib.rt:453:22
 enum-known-name : tie.Need-enum-known-name
 enum-known-name c = search needs
 
--- src/lib.rt:453:34
 after-word-requires : tie.Need-after-word-requires
 after-word-requires c κs = let w = rw (c .before .name .given .1) at (c .before .before .before .word .ensures) in (w .0 .ready, w .1)
 
--- src/lib.rt:443:1
 returns-2 : tie.Need-returns-2
 unfolding parseEasing
 returns-2 c = let h = rw (c .before .p .given .1) at (c .before .before .before .word .ensures) in rw (sym (c .before .before .before .before .before .sees .ensures (c .before .before .before .before .before .before .before .args .text .now) (c .before .before .before .before .before .before .before .pre)) ∙ c .before .before .before .before .if1 .left, h)
 
--- src/lib.rt:443:1
 returns-3 : tie.Need-returns-3
 returns-3 c = let w = rw (c .before .before .name .given .1) at (c .before .before .before .before .word .ensures) in easing-behind (c .before .before .before .before .before .before .before .before .args .text .now) (c .before .before .before .before .before .before .before .before .args .c) _ _ (c .after-word .result) (sym (c .before .before .before .before .before .before .sees .ensures (c .before .before .before .before .before .before .before .before .args .text .now) (c .before .before .before .before .before .before .before .before .pre)) ∙ c .before .before .before .before .before .if1 .left) (w .0) (c .after-word .ensures)
 

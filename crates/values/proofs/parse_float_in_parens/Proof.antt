@@ -10,45 +10,35 @@ use Rattle.cursor.proofs.leave_group.Reads as leave-group-reads
 use Rattle.cursor.proofs.mark.Reads as mark-reads
 use Rattle.cursor.proofs.parse_float.Reads as parse-float-reads
 
--- src/lib.rt:43:11
 mark-requires : tie.Need-mark-requires
 mark-requires c κs = search needs
 
--- src/lib.rt:44:27
 enum-known-p : tie.Need-enum-known-p
 enum-known-p c = search needs
 
--- src/lib.rt:45:22
 enum-known-m : tie.Need-enum-known-m
 enum-known-m c = search needs
 
--- src/lib.rt:45:34
 parse-float-requires : tie.Need-parse-float-requires
 parse-float-requires c κs = (rw (c .before .m .given .1) at (c .before .before .before .mark .ensures)) .ready
 
--- src/lib.rt:46:32
 enum-known-r : tie.Need-enum-known-r
 enum-known-r c = search needs
 
--- src/lib.rt:47:27
 enum-known-x : tie.Need-enum-known-x
 enum-known-x c = search needs
 
--- src/lib.rt:47:53
 leave-group-requires : tie.Need-leave-group-requires
 leave-group-requires c κs = ((rw (c .before .x .given .1) at (c .before .before .before .parse-float .ensures)) .0) .ready
 
--- src/lib.rt:39:1
 returns : tie.Need-returns
 unfolding parseFloatInParens
 returns c = inside-missing (c .before .before .before .before .before .args .text .now) 40 parseFloat (c .before .before .before .before .before .args .c) _ (rw (c .before .p .given .1) at (c .before .before .before .mark .ensures))
 
--- src/lib.rt:39:1
 returns-2 : tie.Need-returns-2
 unfolding parseFloatInParens
 returns-2 c = inside-refused (c .before .before .before .before .before .before .before .before .before .args .text .now) 40 parseFloat (c .before .before .before .before .before .before .before .before .before .args .c) _ (rw (c .before .before .before .before .before .m .given .1) at (c .before .before .before .before .before .before .before .mark .ensures)) _ _ (rw (c .before .r .given .1) at (c .before .before .before .parse-float .ensures))
 
--- src/lib.rt:39:1
 returns-3 : tie.Need-returns-3
 unfolding parseFloatInParens
 returns-3 c = (inside-took (c .before .before .before .before .before .before .before .before .before .before .args .text .now) 40 parseFloat (c .before .before .before .before .before .before .before .before .before .before .args .c) _ (rw (c .before .before .before .before .before .before .m .given .1) at (c .before .before .before .before .before .before .before .before .mark .ensures)) _ _ _ ((rw (c .before .before .x .given .1) at (c .before .before .before .before .parse-float .ensures)) .0) (c .leave-group .ensures), (rw (c .before .before .x .given .1) at (c .before .before .before .before .parse-float .ensures)) .1)

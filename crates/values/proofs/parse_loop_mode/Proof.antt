@@ -16,48 +16,37 @@ use Rattle.text.proofs.find.Reads as find-reads
 use Rattle.text.proofs.part.Reads as part-reads
 use Rattle.values.proofs.mode.Reads as mode-reads
 
--- src/lib.rt:503:11
 word-requires : tie.Need-word-requires
 word-requires c κs = search needs
 
--- src/lib.rt:504:27
 enum-known-p : tie.Need-enum-known-p
 enum-known-p c = search needs
 
--- src/lib.rt:505:22
 enum-known-name : tie.Need-enum-known-name
 enum-known-name c = search needs
 
--- src/lib.rt:506:13
 slice-aggregate-find : tie.Need-slice-aggregate-find
 slice-aggregate-find c = search needs
 
--- src/lib.rt:507:13
 part-requires : tie.Need-part-requires
 part-requires c κs = search needs
 
--- src/lib.rt:505:40
 find-requires : tie.Need-find-requires
 find-requires c κs = search needs
 
--- src/lib.rt:509:29
 enum-known-i : tie.Need-enum-known-i
 enum-known-i c = search needs
 
--- src/lib.rt:509:35
 mode-requires : tie.Need-mode-requires
 mode-requires c κs = (rw (c .before .before .before .before .before .before .before .name .given .1) at (c .before .before .before .before .before .before .before .before .before .word .ensures)) .0 .ready
 
--- src/lib.rt:511:21
 enum-told : tie.Need-enum-told
 enum-told c = search needs
 
--- src/lib.rt:499:1
 returns : tie.Need-returns
 unfolding parseLoopMode
 returns c = let h = rw (c .before .p .given .1) at (c .before .before .before .word .ensures) in rw h
 
--- src/lib.rt:499:1
 returns-2 : tie.Need-returns-2
 unfolding loopModes entries
 returns-2 c =
@@ -65,7 +54,6 @@ returns-2 c =
     let u = under-found loopModes _ _ (looked-up (wordsOf loopModes) _ _ _ (c .before .before .before .before .before .part .ensures) (c .before .before .before .before .find .ensures) ∙ ap placeOf (c .before .before .i .given .1)) in
     mode-found (c .before .before .before .before .before .before .before .before .before .before .before .before .args .text .now) (c .before .before .before .before .before .before .before .before .before .before .before .before .args .c) _ _ _ (u .row .1) (c .mode .result) (w .0) (u .under) (c .mode .ensures (u .row) (u .is))
 
--- src/lib.rt:499:1
 returns-3 : tie.Need-returns-3
 unfolding parseLoopMode loopModes entries
 returns-3 c =

@@ -11,45 +11,35 @@ use Rattle.cursor.proofs.leave_group.Reads as leave-group-reads
 use Rattle.cursor.proofs.mark.Reads as mark-reads
 use Rattle.values.proofs.two_floats.Reads as two-floats-reads
 
--- src/lib.rt:93:11
 mark-requires : tie.Need-mark-requires
 mark-requires c κs = search needs
 
--- src/lib.rt:94:27
 enum-known-p : tie.Need-enum-known-p
 enum-known-p c = search needs
 
--- src/lib.rt:95:22
 enum-known-m : tie.Need-enum-known-m
 enum-known-m c = search needs
 
--- src/lib.rt:95:34
 two-floats-requires : tie.Need-two-floats-requires
 two-floats-requires c κs = (rw (c .before .m .given .1) at (c .before .before .before .mark .ensures)) .ready
 
--- src/lib.rt:96:31
 enum-known-r : tie.Need-enum-known-r
 enum-known-r c = search needs
 
--- src/lib.rt:97:26
 enum-known-a : tie.Need-enum-known-a
 enum-known-a c = search needs
 
--- src/lib.rt:97:57
 leave-group-requires : tie.Need-leave-group-requires
 leave-group-requires c κs = ((rw (c .before .a .given .1) at (c .before .before .before .two-floats .ensures)) .took) .ready
 
--- src/lib.rt:89:1
 returns : tie.Need-returns
 unfolding parseTwoFloatsInParens
 returns c = inside-missing (c .before .before .before .before .before .args .text .now) 40 twoFloats (c .before .before .before .before .before .args .c) _ (rw (c .before .p .given .1) at (c .before .before .before .mark .ensures))
 
--- src/lib.rt:89:1
 returns-2 : tie.Need-returns-2
 unfolding parseTwoFloatsInParens
 returns-2 c = inside-refused (c .before .before .before .before .before .before .before .before .before .args .text .now) 40 twoFloats (c .before .before .before .before .before .before .before .before .before .args .c) _ (rw (c .before .before .before .before .before .m .given .1) at (c .before .before .before .before .before .before .before .mark .ensures)) _ _ (rw (c .before .r .given .1) at (c .before .before .before .two-floats .ensures))
 
--- src/lib.rt:89:1
 returns-3 : tie.Need-returns-3
 unfolding parseTwoFloatsInParens
 returns-3 c = record { took = inside-took (c .before .before .before .before .before .before .before .before .before .before .args .text .now) 40 twoFloats (c .before .before .before .before .before .before .before .before .before .before .args .c) _ (rw (c .before .before .before .before .before .before .m .given .1) at (c .before .before .before .before .before .before .before .before .mark .ensures)) _ _ _ ((rw (c .before .before .a .given .1) at (c .before .before .before .before .two-floats .ensures)) .took) (c .leave-group .ensures); first = (rw (c .before .before .a .given .1) at (c .before .before .before .before .two-floats .ensures)) .first; second = (rw (c .before .before .a .given .1) at (c .before .before .before .before .two-floats .ensures)) .second }

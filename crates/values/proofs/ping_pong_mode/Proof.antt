@@ -12,35 +12,28 @@ use Rattle.values.proofs.ping_pong_mode.Lts as lts
 use Rattle.cursor.proofs.sees.Reads as sees-reads
 use Rattle.values.proofs.uint_in_parens.Reads as uint-in-parens-reads
 
--- src/lib.rt:477:9
 sees-requires : tie.Need-sees-requires
 sees-requires c κs = search needs
 
--- src/lib.rt:478:9
 returns : tie.Need-returns
 unfolding pingPongMode
 returns c = stays (c .before .before .before .args .text .now) (c .before .before .before .args .c) (c .before .before .before .pre) _ _ (rw (sym (c .before .sees .ensures (c .before .before .before .args .text .now) (c .before .before .before .pre)) ∙ not-true _ (c .if1 .taken)))
 
--- src/lib.rt:480:11
 uint-in-parens-requires : tie.Need-uint-in-parens-requires
 uint-in-parens-requires c κs = search needs
 
--- src/lib.rt:481:27
 enum-known-r : tie.Need-enum-known-r
 enum-known-r c = search needs
 
--- src/lib.rt:482:22
 enum-known-n : tie.Need-enum-known-n
 enum-known-n c = search needs
 
--- src/lib.rt:473:1
 returns-2 : tie.Need-returns-2
 unfolding pingPongMode
 returns-2 c =
     let h = rw (c .before .r .given .1) at (c .before .before .before .uint-in-parens .ensures) in
     rw (sym (c .before .before .before .before .before .sees .ensures (c .before .before .before .before .before .before .before .args .text .now) (c .before .before .before .before .before .before .before .pre)) ∙ not-false _ (c .before .before .before .before .if1 .left), h)
 
--- src/lib.rt:473:1
 returns-3 : tie.Need-returns-3
 unfolding pingPongMode
 returns-3 c =

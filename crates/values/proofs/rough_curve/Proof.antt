@@ -19,53 +19,41 @@ use Rattle.values.proofs.float_or.Reads as float-or-reads
 use Rattle.values.proofs.rough_fields.Reads as rough-fields-reads
 use Rattle.values.proofs.word_or.Reads as word-or-reads
 
--- src/lib.rt:334:11
 mark-requires : tie.Need-mark-requires
 mark-requires c κs = search needs
 
--- src/lib.rt:335:27
 enum-known-p : tie.Need-enum-known-p
 enum-known-p c = search needs
 
--- src/lib.rt:336:22
 enum-known-m : tie.Need-enum-known-m
 enum-known-m c = search needs
 
--- src/lib.rt:336:34
 rough-fields-requires : tie.Need-rough-fields-requires
 rough-fields-requires c κs = (rw (c .before .m .given .1) at (c .before .before .before .mark .ensures)) .ready
 
--- src/lib.rt:337:32
 enum-known-r : tie.Need-enum-known-r
 enum-known-r c = search needs
 
--- src/lib.rt:338:27
 enum-known-f : tie.Need-enum-known-f
 enum-known-f c = search needs
 
--- src/lib.rt:339:21
 leave-group-requires : tie.Need-leave-group-requires
 leave-group-requires c κs = (rw (c .before .f .given .1) at (c .before .before .before .rough-fields .ensures)) .1 .ready
 
--- src/lib.rt:342:21
 float-or-requires : tie.Need-float-or-requires
 float-or-requires c κs = search needs
 
--- src/lib.rt:343:21
 word-or-requires : tie.Need-word-or-requires
 word-or-requires c κs = search needs
 
--- src/lib.rt:330:1
 returns : tie.Need-returns
 unfolding roughCurve
 returns c = let h = inside-missing (c .before .before .before .before .before .args .text .now) 40 (pairs roughFields) (c .before .before .before .before .before .args .c) _ (rw (c .before .p .given .1) at (c .before .before .before .mark .ensures)) in rw h
 
--- src/lib.rt:330:1
 returns-2 : tie.Need-returns-2
 unfolding roughCurve
 returns-2 c = let h = inside-refused (c .before .before .before .before .before .before .before .before .before .args .text .now) 40 (pairs roughFields) (c .before .before .before .before .before .before .before .before .before .args .c) _ (rw (c .before .before .before .before .before .m .given .1) at (c .before .before .before .before .before .before .before .mark .ensures)) _ _ (rw (c .before .r .given .1) at (c .before .before .before .rough-fields .ensures)) in rw h
 
--- src/lib.rt:330:1
 returns-3 : tie.Need-returns-3
 unfolding roughCurve
 returns-3 c =

@@ -12,48 +12,38 @@ use Rattle.values.proofs.rough_field.Lts as lts
 use Rattle.cursor.proofs.parse_float.Reads as parse-float-reads
 use Rattle.cursor.proofs.parse_uint.Reads as parse-uint-reads
 
--- src/lib.rt:166:22
 parse-float-requires : tie.Need-parse-float-requires
 parse-float-requires c κs = search needs
 
--- src/lib.rt:167:32
 enum-known-r : tie.Need-enum-known-r
 enum-known-r c = search needs
 
--- src/lib.rt:168:27
 enum-known-x : tie.Need-enum-known-x
 enum-known-x c = search needs
 
--- src/lib.rt:166:9
 returns : tie.Need-returns
 unfolding roughFields
 returns c row e = refused-row (c .before .before .before .before .before .before .args .text .now) (c .before .before .before .before .before .before .args .c) _ row _ _ (row-at roughFields (c .before .before .before .before .before .before .args .i) 0 row _ (c .before .before .before .before .if1 .taken) refl e) (no-number (c .before .before .before .before .before .before .args .text .now) (c .before .before .before .before .before .before .args .c) _ _ (rw (c .before .r .given .1) at (c .before .before .before .parse-float .ensures)))
 
--- src/lib.rt:166:9
 returns-2 : tie.Need-returns-2
 unfolding roughFields
 returns-2 c row e =
     let t = rw (c .before .x .given .1) at (c .before .before .before .parse-float .ensures) in
     by-row RoughHeld (c .before .before .before .before .before .before .args .text .now) (c .before .before .before .before .before .before .args .c) _ (c .before .before .before .before .before .before .args .f) _ _ row _ (row-at roughFields (c .before .before .before .before .before .before .args .i) 0 row _ (c .before .before .before .before .if1 .taken) refl e) (took-number (c .before .before .before .before .before .before .args .text .now) (c .before .before .before .before .before .before .args .c) _ _ (t .0)) (rough-strength (c .before .before .before .before .before .before .args .f) _ (t .1))
 
--- src/lib.rt:177:11
 parse-uint-requires : tie.Need-parse-uint-requires
 parse-uint-requires c κs = search needs
 
--- src/lib.rt:178:27
 enum-known-r-2 : tie.Need-enum-known-r-2
 enum-known-r-2 c = search needs
 
--- src/lib.rt:179:22
 enum-known-n : tie.Need-enum-known-n
 enum-known-n c = search needs
 
--- src/lib.rt:159:1
 returns-3 : tie.Need-returns-3
 unfolding roughFields
 returns-3 c row e = refused-row (c .before .before .before .before .before .before .args .text .now) (c .before .before .before .before .before .before .args .c) _ row _ _ (second-row _ _ row (c .before .before .before .before .before .before .args .i) (c .before .before .before .before .if1 .left) e) (no-count (c .before .before .before .before .before .before .args .text .now) (c .before .before .before .before .before .before .args .c) _ _ (rw (c .before .r2 .given .1) at (c .before .before .before .parse-uint .ensures)))
 
--- src/lib.rt:159:1
 returns-4 : tie.Need-returns-4
 unfolding roughFields
 returns-4 c row e =

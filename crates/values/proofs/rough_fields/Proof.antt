@@ -26,49 +26,39 @@ Inv-loop text m₀ f₀ m f = (fs : Fields) × Listed (listStep (onePair roughFi
 abbrev μ-loop : tie.MeasureT-loop
 μ-loop text m₀ f₀ m f = length text - m .at
 
--- src/lib.rt:206:5
 loop-holds : tie.Need-loop-holds Inv-loop μ-loop
 loop-holds c = ([], listed-start (listStep (onePair roughFields)) (c .before .args .text .now) (c .before .args .c) [] (c .before .pre), rough-none)
 
--- src/lib.rt:207:15
 next-rough-requires : tie.Need-next-rough-requires Inv-loop μ-loop
 next-rough-requires c κs = c .loop .inv .1 .ready
 
--- src/lib.rt:208:32
 enum-known-r : tie.Need-enum-known-r Inv-loop μ-loop
 enum-known-r c = search needs
 
--- src/lib.rt:208:41
 returns : tie.Need-returns Inv-loop μ-loop
 unfolding pairs
 returns c =
     let n = rw (c .before .r .given .1) at (c .before .before .before .next-rough .ensures) in
     listed-gives (listStep (onePair roughFields)) (c .before .before .before .before .before .before .args .text .now) (c .before .before .before .before .before .before .args .c) (c .before .before .before .before .loop .m) [] (c .before .before .before .before .loop .inv .0) (c .before .before .before .before .loop .inv .1) _ (n (c .before .before .before .before .loop .inv .0))
 
--- src/lib.rt:209:29
 enum-known-e : tie.Need-enum-known-e Inv-loop μ-loop
 enum-known-e c = search needs
 
--- src/lib.rt:209:35
 returns-2 : tie.Need-returns-2 Inv-loop μ-loop
 unfolding pairs
 returns-2 c =
     let n = rw (c .before .e .given .1) at (c .before .before .before .next-rough .ensures) in
     (c .before .before .before .before .loop .inv .0, listed-done (listStep (onePair roughFields)) (c .before .before .before .before .before .before .args .text .now) (c .before .before .before .before .before .before .args .c) (c .before .before .before .before .loop .m) [] (c .before .before .before .before .loop .inv .0) (c .before .before .before .before .loop .inv .1) _ (rw (n .0) (c .before .before .before .before .loop .inv .1 .ready)) (rw (n .0) (omega arith)) (rw (n .0) (n .1 (c .before .before .before .before .loop .inv .0))), c .before .before .before .before .loop .inv .2)
 
--- src/lib.rt:210:30
 enum-known-i : tie.Need-enum-known-i Inv-loop μ-loop
 enum-known-i c = search needs
 
--- src/lib.rt:210:45
 rough-field-requires : tie.Need-rough-field-requires Inv-loop μ-loop
 rough-field-requires c κs = (rw (c .before .i .given .1) at (c .before .before .before .next-rough .ensures)) .ready
 
--- src/lib.rt:211:36
 enum-known-r-2 : tie.Need-enum-known-r-2 Inv-loop μ-loop
 enum-known-r-2 c = search needs
 
--- src/lib.rt:211:45
 returns-3 : tie.Need-returns-3 Inv-loop μ-loop
 unfolding pairs
 returns-3 c =
@@ -76,18 +66,15 @@ returns-3 c =
     let h = rw (c .before .r2 .given .1) at (c .before .before .before .rough-field .ensures) in
     pair-refused (c .before .before .before .before .before .before .before .before .before .before .args .text .now) roughFields (c .before .before .before .before .before .before .before .before .before .before .args .c) (c .before .before .before .before .before .before .before .before .loop .m) _ [] (c .before .before .before .before .before .before .before .before .loop .inv .0) (c .before .before .before .before .before .before .before .before .loop .inv .1) _ n _ _ (h (n .row) (n .is))
 
--- src/lib.rt:212:31
 enum-known-g : tie.Need-enum-known-g Inv-loop μ-loop
 enum-known-g c = search needs
 
--- src/lib.rt:213:25
 eat-requires : tie.Need-eat-requires Inv-loop μ-loop
 eat-requires c κs =
     let n = rw (c .before .before .before .before .before .i .given .1) at (c .before .before .before .before .before .before .before .next-rough .ensures) in
     let h = rw (c .before .g .given .1) at (c .before .before .before .rough-field .ensures) in
     (h (n .row) (n .is) .1 .ready, lit< tt)
 
--- src/lib.rt:216:25
 returns-4 : tie.Need-returns-4 Inv-loop μ-loop
 unfolding pairs
 returns-4 c =
@@ -96,7 +83,6 @@ returns-4 c =
     let z = rw (not-true (c .before .before .before .eat .result .taken) (c .if1 .taken)) at (c .before .before .before .eat .ensures) in
     (_, pair-last (c .before .before .before .before .before .before .before .before .before .before .before .before .before .before .args .text .now) roughFields (c .before .before .before .before .before .before .before .before .before .before .before .before .before .before .args .c) (c .before .before .before .before .before .before .before .before .before .before .before .before .loop .m) _ [] (c .before .before .before .before .before .before .before .before .before .before .before .before .loop .inv .0) (c .before .before .before .before .before .before .before .before .before .before .before .before .loop .inv .1) _ n _ (c .before .before .before .eat .result .next) (h .0) (h .1) z, h .2 (c .before .before .before .before .before .before .before .before .before .before .before .before .loop .inv .0) (c .before .before .before .before .before .before .before .before .before .before .before .before .loop .inv .2))
 
--- src/lib.rt:206:5
 loop-less : tie.Need-loop-less Inv-loop μ-loop
 loop-less c =
     let n = rw (c .before .before .before .before .before .before .before .before .before .i .given .1) at (c .before .before .before .before .before .before .before .before .before .before .before .next-rough .ensures) in
@@ -105,7 +91,6 @@ loop-less c =
     let a = pair-moves (c .before .before .before .before .before .before .before .before .before .before .before .before .before .before .args .text .now) roughFields (c .before .before .before .before .before .before .before .before .before .before .before .before .before .before .args .c) (c .before .before .before .before .before .before .before .before .before .before .before .before .loop .m) _ [] (c .before .before .before .before .before .before .before .before .before .before .before .before .loop .inv .0) (c .before .before .before .before .before .before .before .before .before .before .before .before .loop .inv .1) _ n _ (c .before .before .before .eat .result .next) (h .0) (h .1) z in
     omega (arith, z .ready .high)
 
--- src/lib.rt:206:5
 loop-again : tie.Need-loop-again Inv-loop μ-loop
 loop-again c =
     let n = rw (c .before .before .before .before .before .before .before .before .before .i .given .1) at (c .before .before .before .before .before .before .before .before .before .before .before .next-rough .ensures) in

@@ -18,53 +18,41 @@ use Rattle.cursor.proofs.mark.Reads as mark-reads
 use Rattle.values.proofs.float_or.Reads as float-or-reads
 use Rattle.values.proofs.slow_mo_fields.Reads as slow-mo-fields-reads
 
--- src/lib.rt:355:11
 mark-requires : tie.Need-mark-requires
 mark-requires c κs = search needs
 
--- src/lib.rt:356:27
 enum-known-p : tie.Need-enum-known-p
 enum-known-p c = search needs
 
--- src/lib.rt:357:22
 enum-known-m : tie.Need-enum-known-m
 enum-known-m c = search needs
 
--- src/lib.rt:357:34
 slow-mo-fields-requires : tie.Need-slow-mo-fields-requires
 slow-mo-fields-requires c κs = (rw (c .before .m .given .1) at (c .before .before .before .mark .ensures)) .ready
 
--- src/lib.rt:358:33
 enum-known-r : tie.Need-enum-known-r
 enum-known-r c = search needs
 
--- src/lib.rt:359:28
 enum-known-f : tie.Need-enum-known-f
 enum-known-f c = search needs
 
--- src/lib.rt:360:21
 leave-group-requires : tie.Need-leave-group-requires
 leave-group-requires c κs = (rw (c .before .f .given .1) at (c .before .before .before .slow-mo-fields .ensures)) .1 .ready
 
--- src/lib.rt:363:21
 float-or-requires : tie.Need-float-or-requires
 float-or-requires c κs = search needs
 
--- src/lib.rt:364:21
 float-or-requires-2 : tie.Need-float-or-requires-2
 float-or-requires-2 c κs = search needs
 
--- src/lib.rt:351:1
 returns : tie.Need-returns
 unfolding slowMoCurve
 returns c = let h = inside-missing (c .before .before .before .before .before .args .text .now) 40 (pairs slowMoFields) (c .before .before .before .before .before .args .c) _ (rw (c .before .p .given .1) at (c .before .before .before .mark .ensures)) in rw h
 
--- src/lib.rt:351:1
 returns-2 : tie.Need-returns-2
 unfolding slowMoCurve
 returns-2 c = let h = inside-refused (c .before .before .before .before .before .before .before .before .before .args .text .now) 40 (pairs slowMoFields) (c .before .before .before .before .before .before .before .before .before .args .c) _ (rw (c .before .before .before .before .before .m .given .1) at (c .before .before .before .before .before .before .before .mark .ensures)) _ _ (rw (c .before .r .given .1) at (c .before .before .before .slow-mo-fields .ensures)) in rw h
 
--- src/lib.rt:351:1
 returns-3 : tie.Need-returns-3
 unfolding slowMoCurve
 returns-3 c =

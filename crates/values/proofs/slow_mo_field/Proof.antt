@@ -11,48 +11,38 @@ use Rattle.values.proofs.slow_mo_field.Reads as reads
 use Rattle.values.proofs.slow_mo_field.Lts as lts
 use Rattle.cursor.proofs.parse_float.Reads as parse-float-reads
 
--- src/lib.rt:250:22
 parse-float-requires : tie.Need-parse-float-requires
 parse-float-requires c κs = search needs
 
--- src/lib.rt:251:32
 enum-known-r : tie.Need-enum-known-r
 enum-known-r c = search needs
 
--- src/lib.rt:252:27
 enum-known-x : tie.Need-enum-known-x
 enum-known-x c = search needs
 
--- src/lib.rt:250:9
 returns : tie.Need-returns
 unfolding slowMoFields
 returns c row e = refused-row (c .before .before .before .before .before .before .args .text .now) (c .before .before .before .before .before .before .args .c) _ row _ _ (row-at slowMoFields (c .before .before .before .before .before .before .args .i) 0 row _ (c .before .before .before .before .if1 .taken) refl e) (no-number (c .before .before .before .before .before .before .args .text .now) (c .before .before .before .before .before .before .args .c) _ _ (rw (c .before .r .given .1) at (c .before .before .before .parse-float .ensures)))
 
--- src/lib.rt:250:9
 returns-2 : tie.Need-returns-2
 unfolding slowMoFields
 returns-2 c row e =
     let t = rw (c .before .x .given .1) at (c .before .before .before .parse-float .ensures) in
     by-row SlowMoHeld (c .before .before .before .before .before .before .args .text .now) (c .before .before .before .before .before .before .args .c) _ (c .before .before .before .before .before .before .args .f) _ _ row _ (row-at slowMoFields (c .before .before .before .before .before .before .args .i) 0 row _ (c .before .before .before .before .if1 .taken) refl e) (took-number (c .before .before .before .before .before .before .args .text .now) (c .before .before .before .before .before .before .args .c) _ _ (t .0)) (slow-ratio (c .before .before .before .before .before .before .args .f) _ (t .1))
 
--- src/lib.rt:261:11
 parse-float-requires-2 : tie.Need-parse-float-requires-2
 parse-float-requires-2 c κs = search needs
 
--- src/lib.rt:262:28
 enum-known-r-2 : tie.Need-enum-known-r-2
 enum-known-r-2 c = search needs
 
--- src/lib.rt:263:23
 enum-known-n : tie.Need-enum-known-n
 enum-known-n c = search needs
 
--- src/lib.rt:243:1
 returns-3 : tie.Need-returns-3
 unfolding slowMoFields
 returns-3 c row e = refused-row (c .before .before .before .before .before .before .args .text .now) (c .before .before .before .before .before .before .args .c) _ row _ _ (second-row _ _ row (c .before .before .before .before .before .before .args .i) (c .before .before .before .before .if1 .left) e) (no-number (c .before .before .before .before .before .before .args .text .now) (c .before .before .before .before .before .before .args .c) _ _ (rw (c .before .r2 .given .1) at (c .before .before .before .parse-float2 .ensures)))
 
--- src/lib.rt:243:1
 returns-4 : tie.Need-returns-4
 unfolding slowMoFields
 returns-4 c row e =

@@ -10,36 +10,28 @@ use Rattle.values.proofs.two_floats.Lts as lts
 use Rattle.cursor.proofs.parse_float.Reads as parse-float-reads
 use Rattle.values.proofs.comma_float.Reads as comma-float-reads
 
--- src/lib.rt:80:11
 parse-float-requires : tie.Need-parse-float-requires
 parse-float-requires c κs = search needs
 
--- src/lib.rt:81:28
 enum-known-r : tie.Need-enum-known-r
 enum-known-r c = search needs
 
--- src/lib.rt:82:23
 enum-known-a : tie.Need-enum-known-a
 enum-known-a c = search needs
 
--- src/lib.rt:82:38
 comma-float-requires : tie.Need-comma-float-requires
 comma-float-requires c κs = (rw (c .before .a .given .1) at (c .before .before .before .parse-float .ensures)) .0 .ready
 
--- src/lib.rt:83:32
 enum-known-r-2 : tie.Need-enum-known-r-2
 enum-known-r-2 c = search needs
 
--- src/lib.rt:84:27
 enum-known-b : tie.Need-enum-known-b
 enum-known-b c = search needs
 
--- src/lib.rt:76:1
 returns : tie.Need-returns
 unfolding twoFloats
 returns c = let h = rw (c .before .r .given .1) at (c .before .before .before .parse-float .ensures) in rw h
 
--- src/lib.rt:76:1
 returns-2 : tie.Need-returns-2
 unfolding twoFloats
 returns-2 c =
@@ -47,7 +39,6 @@ returns-2 c =
     let h = rw (c .before .r2 .given .1) at (c .before .before .before .comma-float .ensures) in
     rw (t .is, h)
 
--- src/lib.rt:76:1
 returns-3 : tie.Need-returns-3
 unfolding twoFloats
 returns-3 c =

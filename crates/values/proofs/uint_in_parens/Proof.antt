@@ -10,45 +10,35 @@ use Rattle.cursor.proofs.leave_group.Reads as leave-group-reads
 use Rattle.cursor.proofs.mark.Reads as mark-reads
 use Rattle.cursor.proofs.parse_uint.Reads as parse-uint-reads
 
--- src/lib.rt:56:11
 mark-requires : tie.Need-mark-requires
 mark-requires c κs = search needs
 
--- src/lib.rt:57:27
 enum-known-p : tie.Need-enum-known-p
 enum-known-p c = search needs
 
--- src/lib.rt:58:22
 enum-known-m : tie.Need-enum-known-m
 enum-known-m c = search needs
 
--- src/lib.rt:58:34
 parse-uint-requires : tie.Need-parse-uint-requires
 parse-uint-requires c κs = (rw (c .before .m .given .1) at (c .before .before .before .mark .ensures)) .ready
 
--- src/lib.rt:59:31
 enum-known-r : tie.Need-enum-known-r
 enum-known-r c = search needs
 
--- src/lib.rt:60:26
 enum-known-v : tie.Need-enum-known-v
 enum-known-v c = search needs
 
--- src/lib.rt:60:51
 leave-group-requires : tie.Need-leave-group-requires
 leave-group-requires c κs = (rw (c .before .v .given .1) at (c .before .before .before .parse-uint .ensures)) .ready
 
--- src/lib.rt:52:1
 returns : tie.Need-returns
 unfolding parseUintInParens
 returns c = inside-missing (c .before .before .before .before .before .args .text .now) 40 parseUint (c .before .before .before .before .before .args .c) _ (rw (c .before .p .given .1) at (c .before .before .before .mark .ensures))
 
--- src/lib.rt:52:1
 returns-2 : tie.Need-returns-2
 unfolding parseUintInParens
 returns-2 c = inside-refused (c .before .before .before .before .before .before .before .before .before .args .text .now) 40 parseUint (c .before .before .before .before .before .before .before .before .before .args .c) _ (rw (c .before .before .before .before .before .m .given .1) at (c .before .before .before .before .before .before .before .mark .ensures)) _ _ (rw (c .before .r .given .1) at (c .before .before .before .parse-uint .ensures))
 
--- src/lib.rt:52:1
 returns-3 : tie.Need-returns-3
 unfolding parseUintInParens
 returns-3 c = inside-took (c .before .before .before .before .before .before .before .before .before .before .args .text .now) 40 parseUint (c .before .before .before .before .before .before .before .before .before .before .args .c) _ (rw (c .before .before .before .before .before .before .m .given .1) at (c .before .before .before .before .before .before .before .before .mark .ensures)) _ _ _ (rw (c .before .before .v .given .1) at (c .before .before .before .before .parse-uint .ensures)) (c .leave-group .ensures)

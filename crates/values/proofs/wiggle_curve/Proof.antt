@@ -7,24 +7,19 @@ use Rattle.values.proofs.wiggle_curve.Reads as reads
 use Rattle.values.proofs.wiggle_curve.Lts as lts
 use Rattle.values.proofs.uint_in_parens.Reads as uint-in-parens-reads
 
--- src/lib.rt:393:11
 uint-in-parens-requires : tie.Need-uint-in-parens-requires
 uint-in-parens-requires c κs = search needs
 
--- src/lib.rt:394:27
 enum-known-r : tie.Need-enum-known-r
 enum-known-r c = search needs
 
--- src/lib.rt:395:22
 enum-known-n : tie.Need-enum-known-n
 enum-known-n c = search needs
 
--- src/lib.rt:389:1
 returns : tie.Need-returns
 unfolding wiggleCurve
 returns c = let h = rw (c .before .r .given .1) at (c .before .before .before .uint-in-parens .ensures) in rw h
 
--- src/lib.rt:389:1
 returns-2 : tie.Need-returns-2
 unfolding wiggleCurve
 returns-2 c = let t = rw (c .before .n .given .1) at (c .before .before .before .uint-in-parens .ensures) in (record { is = rw (t .is); low = t .low; ready = t .ready }, tt)
