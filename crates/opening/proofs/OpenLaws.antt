@@ -1,5 +1,4 @@
 -- The first foreign byte, and the first refusal. Assumes nothing.
--- ---- the first foreign byte
 use Prim.Native.Nat.{ℕ, suc, _+_, _≤_, _<_}
 use mathlib.Core.Bool.{Bool, true, false, cond}
 use mathlib.Core.List.{List}
@@ -19,6 +18,8 @@ use Rattle.sheet.specs.Sheet.{Forest, decode}
 use Rattle.sheet.specs.Opening.{foreignFrom, Opened, opened, shut, decoded, unlessForeign, opening}
 use Rattle.opening.specs.Means.{answerOf}
 use Rattle.opening.specs.declared.Opening.the-variants.{Open, Shut}
+
+-- ---- the first foreign byte
 
 module _ (t : List ℕ) (i : ℕ) where
   next : i < length t → {b : Bool} → isForeign (getD t i 0) ≡ b → foreignFrom i (drop i t) ≡ elim b [ true ↦ some i | false ↦ foreignFrom (suc i) (drop (suc i) t) ]

@@ -1,5 +1,4 @@
 -- From a sheet's head to the verdict. Assumes nothing.
--- the nodes of a sheet stand behind its head
 use Prim.Native.Nat.{ℕ}
 use mathlib.Core.List.{List, [], append-nil}
 use mathlib.Core.Option.{some}
@@ -25,6 +24,7 @@ use Rattle.validate.specs.Walks.{NodesWalk}
 use Rattle.validate.specs.declared.nodes.Walk.the-variants as walk
 use Rattle.validate.proofs.FrameLaws.{none≢some}
 
+-- the nodes of a sheet stand behind its head
 head : (n : ℕ) (s : List ℕ) (ns : Forest) {c m : ℕ} → decode n s ≡ some ns → Reads (big 2) same s 0 c m → Stands (forest n (inner n 16) c) s m ns
 unfolding encode
 head n s ns e r = go r all

@@ -1,5 +1,4 @@
 -- A record of each kind: its kind, then its fields. Assumes nothing.
--- the same bytes under another view, where what stands there is known too
 use Prim.Native.Nat.{ℕ, _≤_, _<_}
 use mathlib.Core.List.{List}
 use mathlib.Core.Option.{Option, none}
@@ -28,6 +27,7 @@ use Rattle.validate.specs.Means.{faultOf, Stands, StaggerTells}
 use Rattle.validate.specs.Walks.{recordView, LeafKind, ContainerKind}
 use Rattle.validate.specs.declared.faults.Fault.{Fault}
 
+-- the same bytes under another view, where what stands there is known too
 pub known : {A X Y : Type 0} {c : Form A} {f : A → X} {g : A → Y} {s : List ℕ} {at m : ℕ} {v : X} {w : Y}
     → Reads c f s at v m → ((a : A) → Stands c s at a → f a ≡ v → w ≡ g a) → Reads c g s at w m
 known (got a e q h l) k = got a e (sym (k a (record { within = le-trans h l; rest = _; reads = e }) q)) h l

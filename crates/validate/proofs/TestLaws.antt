@@ -1,5 +1,4 @@
 -- The tests, over what the code holds: each agrees with its definition through the view. Assumes nothing.
--- ---- numbers
 use Prim.Native.Nat.{ℕ}
 use mathlib.Core.Bool.{Bool, true, false, not, _&&_, _||_}
 use mathlib.Core.List.{List}
@@ -27,6 +26,8 @@ use Rattle.ast.specs.declared.OptRange.the-variants as optRange
 use Rattle.ast.specs.declared.OptEasing.the-variants as optEasing
 use Rattle.validate.specs.Rules.{nought, one, negative, notPositive, outsideUnit, given, unknownEasing, mismatched, timeOf, emptyGrid}
 use Rattle.validate.specs.Means.{Tells}
+
+-- ---- numbers
 
 literals : (ofBits binary32 0 ≡ nought) × (ofBits binary32 1065353216 ≡ one)
 unfolding f32

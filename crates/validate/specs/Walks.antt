@@ -1,6 +1,4 @@
 -- What the answers of the walk over nodes mean. Contracts cite these. Assumes nothing.
--- ---- a record
--- the first fault of a node's own fields
 use Prim.Native.Nat.{ℕ, _+_, _-_, _≤_, _<_}
 use mathlib.Core.List.{List}
 use mathlib.Core.Option.{Option, none, some}
@@ -22,6 +20,9 @@ use Rattle.validate.specs.declared.kinds.RecordCheck.{RecordCheck}
 use Rattle.validate.specs.declared.nodes.Walk.{Walk}
 use Rattle.validate.specs.declared.nodes.Walk.the-variants.{Refused, Passed}
 
+-- ---- a record
+
+-- the first fault of a node's own fields
 abbrev pub recordFault : List ℕ → Node → Option Refusal
 recordFault t (single l) = validateLeaf colors t l
 recordFault t (holding k ns) = validateContainer k
