@@ -1,3 +1,4 @@
+-- `arrays::array_items` meets its contract. Assumes nothing.
 use Rattle.arrays.proofs.ArrayLaws.{few, items-last, items-more, items-moves}
 use borrow.Author.Tests.{not-false, not-true}
 use lib.Dec.{lit<}
@@ -13,12 +14,6 @@ use Rattle.grammar.specs.Rule.{text}
 use Rattle.encode.proofs.OverLaws.{writes-keeps}
 use Rattle.arrays.proofs.array_items.Statement.{statement}
 use Rattle.arrays.proofs.array_items.Tie as tie
-use Rattle.arrays.proofs.array_items.Reads as reads
-use Rattle.arrays.proofs.array_items.Lts as lts
-use Rattle.cursor.proofs.eat.Reads as eat-reads
-use Rattle.cursor.proofs.ends.Reads as ends-reads
-use Rattle.cursor.proofs.parse_float.Reads as parse-float-reads
-use Rattle.encode.proofs.put_float.Reads as put-float-reads
 
 abbrev Inv-loop : tie.InvT-loop
 Inv-loop text sheet₀ out m₀ at₀ n₀ sheet m at n = Items text sheet₀ sheet m₀ m out at n

@@ -1,15 +1,10 @@
+-- `arrays::array_value` meets its contract. Assumes nothing.
 use native.Mathlib.Omega.{arith}
 use Rattle.arrays.proofs.ArrayLaws.{array-refused, array-went}
 use Rattle.text.specs.Bytes.{at}
 use borrow.Author.Needs.{needs}
 use Rattle.arrays.proofs.array_value.Statement.{statement}
 use Rattle.arrays.proofs.array_value.Tie as tie
-use Rattle.arrays.proofs.array_value.Reads as reads
-use Rattle.arrays.proofs.array_value.Lts as lts
-use Rattle.arrays.proofs.array_items.Reads as array-items-reads
-use Rattle.cursor.proofs.leave_group.Reads as leave-group-reads
-use Rattle.encode.proofs.patch_count.Reads as patch-count-reads
-use Rattle.encode.proofs.put_byte.Reads as put-byte-reads
 
 put-byte-requires : tie.Need-put-byte-requires
 put-byte-requires c κs = search needs

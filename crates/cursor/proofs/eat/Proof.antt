@@ -1,3 +1,4 @@
+-- `cursor::eat` meets its contract. Assumes nothing.
 use Rattle.cursor.proofs.CursorLaws.{took-eaten}
 use Rattle.grammar.specs.Rule.{eatByte}
 use mathlib.Core.Bool.{false}
@@ -6,10 +7,6 @@ use mathlib.Core.Path.{sym, _∙_}
 use borrow.Author.Needs.{needs}
 use Rattle.cursor.proofs.eat.Statement.{statement}
 use Rattle.cursor.proofs.eat.Tie as tie
-use Rattle.cursor.proofs.eat.Reads as reads
-use Rattle.cursor.proofs.eat.Lts as lts
-use Rattle.cursor.proofs.advance.Reads as advance-reads
-use Rattle.cursor.proofs.sees.Reads as sees-reads
 
 sees-requires : tie.Need-sees-requires
 sees-requires c κs = search needs

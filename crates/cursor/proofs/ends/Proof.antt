@@ -1,3 +1,4 @@
+-- `cursor::ends` meets its contract. Assumes nothing.
 use mathlib.Core.Path.{ap, sym, _∙_}
 use lib.ListN.{drop}
 use Rattle.cursor.proofs.CursorLaws.{head-kind}
@@ -6,9 +7,6 @@ use Rattle.grammar.specs.Rule.{isEnd}
 use borrow.Author.Needs.{needs}
 use Rattle.cursor.proofs.ends.Statement.{statement}
 use Rattle.cursor.proofs.ends.Tie as tie
-use Rattle.cursor.proofs.ends.Reads as reads
-use Rattle.cursor.proofs.ends.Lts as lts
-use Rattle.cursor.proofs.is_end.Reads as is-end-reads
 
 is-end-requires : tie.Need-is-end-requires
 is-end-requires c κs = search needs

@@ -1,8 +1,7 @@
+-- `cursor::first_of` meets its contract. Assumes nothing.
 use borrow.Author.Needs.{needs}
 use Rattle.cursor.proofs.first_of.Statement.{statement}
 use Rattle.cursor.proofs.first_of.Tie as tie
-use Rattle.cursor.proofs.first_of.Reads as reads
-use Rattle.cursor.proofs.first_of.Lts as lts
 
 enum-told : tie.Need-enum-told
 enum-told c = search needs

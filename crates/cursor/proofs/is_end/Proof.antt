@@ -1,9 +1,7 @@
+-- `cursor::is_end` meets its contract. Assumes nothing.
 use borrow.Author.Needs.{needs}
 use Rattle.cursor.proofs.is_end.Statement.{statement}
 use Rattle.cursor.proofs.is_end.Tie as tie
-use Rattle.cursor.proofs.is_end.Reads as reads
-use Rattle.cursor.proofs.is_end.Lts as lts
-use Rattle.text.proofs.has.Reads as has-reads
 
 enum-known-k : tie.Need-enum-known-k
 enum-known-k c = search needs

@@ -1,8 +1,7 @@
+-- `cursor::is_mark` meets its contract. Assumes nothing.
 use borrow.Author.Needs.{needs}
 use Rattle.cursor.proofs.is_mark.Statement.{statement}
 use Rattle.cursor.proofs.is_mark.Tie as tie
-use Rattle.cursor.proofs.is_mark.Reads as reads
-use Rattle.cursor.proofs.is_mark.Lts as lts
 
 enum-known-k : tie.Need-enum-known-k
 enum-known-k c = search needs

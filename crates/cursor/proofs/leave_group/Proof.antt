@@ -1,14 +1,9 @@
+-- `cursor::leave_group` meets its contract. Assumes nothing.
 use Rattle.cursor.proofs.CursorLaws.{leave-end, leave-left}
 use mathlib.Core.Path.{refl, sym, _∙_}
 use borrow.Author.Needs.{needs}
 use Rattle.cursor.proofs.leave_group.Statement.{statement}
 use Rattle.cursor.proofs.leave_group.Tie as tie
-use Rattle.cursor.proofs.leave_group.Reads as reads
-use Rattle.cursor.proofs.leave_group.Lts as lts
-use Rattle.cursor.proofs.advance.Reads as advance-reads
-use Rattle.cursor.proofs.ends.Reads as ends-reads
-use Rattle.cursor.proofs.first_of.Reads as first-of-reads
-use Rattle.cursor.proofs.past_group.Reads as past-group-reads
 
 ends-requires : tie.Need-ends-requires
 ends-requires c κs = search needs

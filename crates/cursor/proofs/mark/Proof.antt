@@ -1,13 +1,10 @@
+-- `cursor::mark` meets its contract. Assumes nothing.
 use Rattle.cursor.proofs.CursorLaws.{took-mark}
 use Rattle.cursor.proofs.CursorLaws.{mark-missing}
 use mathlib.Core.Path.{sym, _∙_}
 use borrow.Author.Needs.{needs}
 use Rattle.cursor.proofs.mark.Statement.{statement}
 use Rattle.cursor.proofs.mark.Tie as tie
-use Rattle.cursor.proofs.mark.Reads as reads
-use Rattle.cursor.proofs.mark.Lts as lts
-use Rattle.cursor.proofs.advance.Reads as advance-reads
-use Rattle.cursor.proofs.sees.Reads as sees-reads
 
 sees-requires : tie.Need-sees-requires
 sees-requires c κs = search needs

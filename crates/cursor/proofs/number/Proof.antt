@@ -1,13 +1,9 @@
+-- `cursor::number` meets its contract. Assumes nothing.
 use Rattle.cursor.proofs.CursorLaws.{head-place, minus-number, no-minus, no-number, plus-number, small-number}
 use mathlib.Core.Path.{sym, _∙_}
 use borrow.Author.Needs.{needs}
 use Rattle.cursor.proofs.number.Statement.{statement}
 use Rattle.cursor.proofs.number.Tie as tie
-use Rattle.cursor.proofs.number.Reads as reads
-use Rattle.cursor.proofs.number.Lts as lts
-use Rattle.cursor.proofs.advance.Reads as advance-reads
-use Rattle.cursor.proofs.number_of.Reads as number-of-reads
-use Rattle.cursor.proofs.sees.Reads as sees-reads
 
 sees-requires : tie.Need-sees-requires
 sees-requires c κs = search needs

@@ -1,8 +1,7 @@
+-- `cursor::number_of` meets its contract. Assumes nothing.
 use borrow.Author.Needs.{needs}
 use Rattle.cursor.proofs.number_of.Statement.{statement}
 use Rattle.cursor.proofs.number_of.Tie as tie
-use Rattle.cursor.proofs.number_of.Reads as reads
-use Rattle.cursor.proofs.number_of.Lts as lts
 
 enum-known-k : tie.Need-enum-known-k
 enum-known-k c = search needs

@@ -1,3 +1,4 @@
+-- `cursor::parse_float` meets its contract. Assumes nothing.
 use Rattle.text.specs.Bytes.{at}
 use Rattle.error.specs.declared.Refusal.the-variants.{Malformed}
 use Rattle.cursor.proofs.CursorLaws.{took-number}
@@ -8,10 +9,6 @@ use mathlib.Core.Path.{_∙_}
 use borrow.Author.Needs.{needs}
 use Rattle.cursor.proofs.parse_float.Statement.{statement}
 use Rattle.cursor.proofs.parse_float.Tie as tie
-use Rattle.cursor.proofs.parse_float.Reads as reads
-use Rattle.cursor.proofs.parse_float.Lts as lts
-use Rattle.cursor.proofs.number.Reads as number-reads
-use Rattle.number.proofs.decimal.Reads as decimal-reads
 
 number-requires : tie.Need-number-requires
 number-requires c κs = search needs

@@ -1,3 +1,4 @@
+-- `cursor::parse_uint` meets its contract. Assumes nothing.
 use Rattle.text.specs.Bytes.{at}
 use Rattle.token.specs.Means.{written}
 use Rattle.error.specs.declared.Refusal.the-variants.{Missing, Malformed}
@@ -7,10 +8,6 @@ use mathlib.Core.Path.{refl, sym}
 use borrow.Author.Needs.{needs}
 use Rattle.cursor.proofs.parse_uint.Statement.{statement}
 use Rattle.cursor.proofs.parse_uint.Tie as tie
-use Rattle.cursor.proofs.parse_uint.Reads as reads
-use Rattle.cursor.proofs.parse_uint.Lts as lts
-use Rattle.cursor.proofs.number.Reads as number-reads
-use Rattle.number.proofs.whole.Reads as whole-reads
 
 number-requires : tie.Need-number-requires
 number-requires c κs = search needs

@@ -1,3 +1,4 @@
+-- `cursor::pass_of` meets its contract. Assumes nothing.
 use native.Mathlib.Numerals.{add-one}
 use Rattle.cursor.proofs.CursorLaws.{closing-some}
 use borrow.Author.Tests.{ne-eqb}
@@ -6,9 +7,6 @@ use Rattle.grammar.specs.Rule.{weigh}
 use borrow.Author.Needs.{needs}
 use Rattle.cursor.proofs.pass_of.Statement.{statement}
 use Rattle.cursor.proofs.pass_of.Tie as tie
-use Rattle.cursor.proofs.pass_of.Reads as reads
-use Rattle.cursor.proofs.pass_of.Lts as lts
-use Rattle.text.proofs.has.Reads as has-reads
 
 enum-known-k : tie.Need-enum-known-k
 enum-known-k c = search needs

@@ -1,3 +1,4 @@
+-- `cursor::past_group` meets its contract. Assumes nothing.
 use Prim.Native.Nat.{_-_}
 use Rattle.token.specs.Token.{Kind}
 use Rattle.cursor.proofs.CursorLaws.{Leaving, head-kind, leaving-closes, leaving-goes, leaving-halts, leaving-moves, leaving-start}
@@ -9,10 +10,6 @@ use Rattle.cursor.specs.Means.{passOf}
 use Rattle.grammar.specs.Rule.{text, weigh}
 use Rattle.cursor.proofs.past_group.Statement.{statement}
 use Rattle.cursor.proofs.past_group.Tie as tie
-use Rattle.cursor.proofs.past_group.Reads as reads
-use Rattle.cursor.proofs.past_group.Lts as lts
-use Rattle.cursor.proofs.advance.Reads as advance-reads
-use Rattle.cursor.proofs.pass_of.Reads as pass-of-reads
 
 abbrev Inv-loop : tie.InvT-loop
 Inv-loop text m₀ d₀ m d = Leaving text m₀ m d

@@ -1,3 +1,4 @@
+-- `cursor::sees` meets its contract. Assumes nothing.
 use mathlib.Core.Path.{ap, sym, _∙_}
 use lib.ListN.{drop}
 use Rattle.cursor.proofs.CursorLaws.{head-kind}
@@ -5,9 +6,6 @@ use Rattle.token.specs.Token.{Kind, isMark}
 use borrow.Author.Needs.{needs}
 use Rattle.cursor.proofs.sees.Statement.{statement}
 use Rattle.cursor.proofs.sees.Tie as tie
-use Rattle.cursor.proofs.sees.Reads as reads
-use Rattle.cursor.proofs.sees.Lts as lts
-use Rattle.cursor.proofs.is_mark.Reads as is-mark-reads
 
 is-mark-requires : tie.Need-is-mark-requires
 is-mark-requires c κs = search needs

@@ -1,3 +1,4 @@
+-- `cursor::sees_name` meets its contract. Assumes nothing.
 use Rattle.cursor.proofs.CursorLaws.{some-unless}
 use mathlib.Core.Path.{ap, _∙_}
 use Rattle.token.specs.Names.{isKeyword}
@@ -5,10 +6,6 @@ use mathlib.Core.Bool.{not}
 use borrow.Author.Needs.{needs}
 use Rattle.cursor.proofs.sees_name.Statement.{statement}
 use Rattle.cursor.proofs.sees_name.Tie as tie
-use Rattle.cursor.proofs.sees_name.Reads as reads
-use Rattle.cursor.proofs.sees_name.Lts as lts
-use Rattle.text.proofs.part.Reads as part-reads
-use Rattle.token.proofs.is_keyword.Reads as is-keyword-reads
 
 enum-known-k : tie.Need-enum-known-k
 enum-known-k c = search needs

@@ -1,11 +1,8 @@
+-- `cursor::sees_word` meets its contract. Assumes nothing.
 use mathlib.Core.Path.{_∙_}
 use borrow.Author.Needs.{needs}
 use Rattle.cursor.proofs.sees_word.Statement.{statement}
 use Rattle.cursor.proofs.sees_word.Tie as tie
-use Rattle.cursor.proofs.sees_word.Reads as reads
-use Rattle.cursor.proofs.sees_word.Lts as lts
-use Rattle.text.proofs.is_word.Reads as is-word-reads
-use Rattle.text.proofs.part.Reads as part-reads
 
 enum-known-k : tie.Need-enum-known-k
 enum-known-k c = search needs

@@ -1,11 +1,9 @@
+-- `cursor::string` meets its contract. Assumes nothing.
 use native.Mathlib.Omega.{arith}
 use Rattle.cursor.proofs.CursorLaws.{no-string, string-in, took-string}
 use borrow.Author.Needs.{needs}
 use Rattle.cursor.proofs.string.Statement.{statement}
 use Rattle.cursor.proofs.string.Tie as tie
-use Rattle.cursor.proofs.string.Reads as reads
-use Rattle.cursor.proofs.string.Lts as lts
-use Rattle.cursor.proofs.advance.Reads as advance-reads
 
 enum-known-k : tie.Need-enum-known-k
 enum-known-k c = search needs

@@ -1,12 +1,9 @@
+-- `cursor::truth` meets its contract. Assumes nothing.
 use Rattle.cursor.proofs.CursorLaws.{no-truth, took-false, took-true}
 use mathlib.Core.Path.{sym, _∙_}
 use borrow.Author.Needs.{needs}
 use Rattle.cursor.proofs.truth.Statement.{statement}
 use Rattle.cursor.proofs.truth.Tie as tie
-use Rattle.cursor.proofs.truth.Reads as reads
-use Rattle.cursor.proofs.truth.Lts as lts
-use Rattle.cursor.proofs.advance.Reads as advance-reads
-use Rattle.cursor.proofs.sees_word.Reads as sees-word-reads
 
 slice-aggregate-sees-word : tie.Need-slice-aggregate-sees-word
 slice-aggregate-sees-word c = search needs

@@ -1,14 +1,10 @@
+-- `cursor::word` meets its contract. Assumes nothing.
 use mathlib.Core.Path.{ap, sym, _∙_}
 use Rattle.token.specs.Names.{isKeyword}
 use Rattle.cursor.proofs.CursorLaws.{name-in, no-word, took-word}
 use borrow.Author.Needs.{needs}
 use Rattle.cursor.proofs.word.Statement.{statement}
 use Rattle.cursor.proofs.word.Tie as tie
-use Rattle.cursor.proofs.word.Reads as reads
-use Rattle.cursor.proofs.word.Lts as lts
-use Rattle.cursor.proofs.advance.Reads as advance-reads
-use Rattle.text.proofs.part.Reads as part-reads
-use Rattle.token.proofs.is_keyword.Reads as is-keyword-reads
 
 enum-known-k : tie.Need-enum-known-k
 enum-known-k c = search needs

@@ -1,3 +1,4 @@
+-- `fields::after_name` meets its contract. Assumes nothing.
 use Rattle.fields.proofs.FieldLaws.{looked-up}
 use mathlib.Core.Path.{ap, sym, _∙_}
 use Rattle.text.specs.Bytes.{at}
@@ -7,11 +8,6 @@ use Rattle.cursor.proofs.CursorLaws.{took}
 use borrow.Author.Needs.{needs}
 use Rattle.fields.proofs.after_name.Statement.{statement}
 use Rattle.fields.proofs.after_name.Tie as tie
-use Rattle.fields.proofs.after_name.Reads as reads
-use Rattle.fields.proofs.after_name.Lts as lts
-use Rattle.cursor.proofs.mark.Reads as mark-reads
-use Rattle.text.proofs.find.Reads as find-reads
-use Rattle.text.proofs.part.Reads as part-reads
 
 mark-requires : tie.Need-mark-requires
 mark-requires c κs = search needs

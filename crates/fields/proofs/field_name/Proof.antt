@@ -1,14 +1,10 @@
+-- `fields::field_name` meets its contract. Assumes nothing.
 use Rattle.fields.proofs.FieldLaws.{named}
 use mathlib.Core.Path.{sym, _∙_}
 use Rattle.fields.proofs.FieldLaws.{took-loop}
 use borrow.Author.Needs.{needs}
 use Rattle.fields.proofs.field_name.Statement.{statement}
 use Rattle.fields.proofs.field_name.Tie as tie
-use Rattle.fields.proofs.field_name.Reads as reads
-use Rattle.fields.proofs.field_name.Lts as lts
-use Rattle.cursor.proofs.advance.Reads as advance-reads
-use Rattle.cursor.proofs.sees_word.Reads as sees-word-reads
-use Rattle.cursor.proofs.word.Reads as word-reads
 
 slice-aggregate-sees-word : tie.Need-slice-aggregate-sees-word
 slice-aggregate-sees-word c = search needs

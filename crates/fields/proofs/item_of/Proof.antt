@@ -1,12 +1,10 @@
+-- `fields::item_of` meets its contract. Assumes nothing.
 use Rattle.grammar.specs.Fields.{itemOf}
 use borrow.Author.Tests.{ne-eqb}
 use mathlib.Core.Path.{sym, _∙_}
 use borrow.Author.Needs.{needs}
 use Rattle.fields.proofs.item_of.Statement.{statement}
 use Rattle.fields.proofs.item_of.Tie as tie
-use Rattle.fields.proofs.item_of.Reads as reads
-use Rattle.fields.proofs.item_of.Lts as lts
-use Rattle.text.proofs.has.Reads as has-reads
 
 enum-known-k : tie.Need-enum-known-k
 enum-known-k c = search needs

@@ -1,3 +1,4 @@
+-- `fields::next_pair` meets its contract. Assumes nothing.
 use Rattle.fields.proofs.FieldLaws.{pairs-refused}
 use Rattle.text.specs.Bytes.{at}
 use Rattle.fields.proofs.FieldLaws.{head-missing, no-plain, paired, pairs-end, started, took-plain}
@@ -6,11 +7,6 @@ use mathlib.Core.Path.{refl, sym, _∙_}
 use borrow.Author.Needs.{needs}
 use Rattle.fields.proofs.next_pair.Statement.{statement}
 use Rattle.fields.proofs.next_pair.Tie as tie
-use Rattle.fields.proofs.next_pair.Reads as reads
-use Rattle.fields.proofs.next_pair.Lts as lts
-use Rattle.cursor.proofs.ends.Reads as ends-reads
-use Rattle.cursor.proofs.word.Reads as word-reads
-use Rattle.fields.proofs.after_name.Reads as after-name-reads
 
 ends-requires : tie.Need-ends-requires
 ends-requires c κs = search needs

@@ -1,3 +1,4 @@
+-- `fields::parse_field_list` meets its contract. Assumes nothing.
 use Rattle.cursor.specs.declared.Cursor.{Cursor}
 use mathlib.Core.List.{[]}
 use Rattle.fields.specs.declared.Item.{Item}
@@ -17,11 +18,6 @@ use borrow.Author.Needs.{needs}
 use Rattle.token.specs.Token.{Kind, kind}
 use Rattle.fields.proofs.parse_field_list.Statement.{statement}
 use Rattle.fields.proofs.parse_field_list.Tie as tie
-use Rattle.fields.proofs.parse_field_list.Reads as reads
-use Rattle.fields.proofs.parse_field_list.Lts as lts
-use Rattle.cursor.proofs.advance.Reads as advance-reads
-use Rattle.fields.proofs.item_of.Reads as item-of-reads
-use Rattle.fields.proofs.start_field.Reads as start-field-reads
 
 -- what the head of m is to the list
 item : (s : List ℕ) (m : Cursor) (r : Ready s m) (x y : Item) → ((t : List ℕ) → itemIs x ≡ itemOf (kindOf t (m .head .tok))) → x ≡ y → itemOf (kind (tokens s m)) ≡ itemIs y

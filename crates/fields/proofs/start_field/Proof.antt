@@ -1,13 +1,10 @@
+-- `fields::start_field` meets its contract. Assumes nothing.
 use Rattle.text.specs.Bytes.{at}
 use Rattle.grammar.specs.Fields.{fieldName}
 use Rattle.fields.proofs.FieldLaws.{head-missing, started}
 use borrow.Author.Needs.{needs}
 use Rattle.fields.proofs.start_field.Statement.{statement}
 use Rattle.fields.proofs.start_field.Tie as tie
-use Rattle.fields.proofs.start_field.Reads as reads
-use Rattle.fields.proofs.start_field.Lts as lts
-use Rattle.fields.proofs.after_name.Reads as after-name-reads
-use Rattle.fields.proofs.field_name.Reads as field-name-reads
 
 field-name-requires : tie.Need-field-name-requires
 field-name-requires c κs = search needs

@@ -1,11 +1,9 @@
+-- `nodes::at_sign` meets its contract. Assumes nothing.
 use Rattle.text.specs.Bytes.{at}
 use Rattle.nodes.proofs.NodeLaws.{other-sign, plus-sign}
 use borrow.Author.Needs.{needs}
 use Rattle.nodes.proofs.at_sign.Statement.{statement}
 use Rattle.nodes.proofs.at_sign.Tie as tie
-use Rattle.nodes.proofs.at_sign.Reads as reads
-use Rattle.nodes.proofs.at_sign.Lts as lts
-use Rattle.cursor.proofs.eat.Reads as eat-reads
 
 eat-requires : tie.Need-eat-requires
 eat-requires c κs = search needs

@@ -1,3 +1,4 @@
+-- `nodes::parse_at` meets its contract. Assumes nothing.
 use native.Mathlib.Omega.{arith}
 use Rattle.text.specs.Bytes.{at}
 use Rattle.nodes.proofs.NodeLaws.{at-went, no-value}
@@ -7,16 +8,6 @@ use Rattle.number.proofs.Floats.{round-number}
 use borrow.Author.Needs.{needs}
 use Rattle.nodes.proofs.parse_at.Statement.{statement}
 use Rattle.nodes.proofs.parse_at.Tie as tie
-use Rattle.nodes.proofs.parse_at.Reads as reads
-use Rattle.nodes.proofs.parse_at.Lts as lts
-use Rattle.cursor.proofs.eat.Reads as eat-reads
-use Rattle.cursor.proofs.number.Reads as number-reads
-use Rattle.encode.proofs.put_byte.Reads as put-byte-reads
-use Rattle.encode.proofs.put_flag.Reads as put-flag-reads
-use Rattle.encode.proofs.put_float.Reads as put-float-reads
-use Rattle.nodes.proofs.at_sign.Reads as at-sign-reads
-use Rattle.nodes.proofs.turned.Reads as turned-reads
-use Rattle.number.proofs.decimal.Reads as decimal-reads
 
 at-sign-requires : tie.Need-at-sign-requires
 at-sign-requires c κs = search needs

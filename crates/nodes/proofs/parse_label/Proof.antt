@@ -1,3 +1,4 @@
+-- `nodes::parse_label` meets its contract. Assumes nothing.
 use native.Mathlib.Omega.{arith}
 use Rattle.text.specs.Bytes.{at}
 use Rattle.nodes.proofs.NodeLaws.{label-went, no-semicolon, no-string}
@@ -5,12 +6,6 @@ use lib.ListN.{length}
 use borrow.Author.Needs.{needs}
 use Rattle.nodes.proofs.parse_label.Statement.{statement}
 use Rattle.nodes.proofs.parse_label.Tie as tie
-use Rattle.nodes.proofs.parse_label.Reads as reads
-use Rattle.nodes.proofs.parse_label.Lts as lts
-use Rattle.cursor.proofs.mark.Reads as mark-reads
-use Rattle.cursor.proofs.string.Reads as string-reads
-use Rattle.encode.proofs.put_byte.Reads as put-byte-reads
-use Rattle.encode.proofs.put_span.Reads as put-span-reads
 
 string-requires : tie.Need-string-requires
 string-requires c κs = search needs

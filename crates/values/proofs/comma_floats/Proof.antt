@@ -1,13 +1,10 @@
+-- `values::comma_floats` meets its contract. Assumes nothing.
 use Rattle.text.specs.Bytes.{at}
 use Rattle.grammar.specs.Values.{commaFloats, twoFloats}
 use Rattle.values.proofs.ValueLaws.{pair-behind}
 use borrow.Author.Needs.{needs}
 use Rattle.values.proofs.comma_floats.Statement.{statement}
 use Rattle.values.proofs.comma_floats.Tie as tie
-use Rattle.values.proofs.comma_floats.Reads as reads
-use Rattle.values.proofs.comma_floats.Lts as lts
-use Rattle.cursor.proofs.mark.Reads as mark-reads
-use Rattle.values.proofs.two_floats.Reads as two-floats-reads
 
 mark-requires : tie.Need-mark-requires
 mark-requires c κs = search needs

@@ -1,3 +1,4 @@
+-- `values::curve` meets its contract. Assumes nothing.
 use native.Mathlib.Omega.{arith}
 use Rattle.grammar.specs.Values.{curves}
 use Rattle.values.proofs.RowLaws.{elem-at, elem-lt}
@@ -5,13 +6,6 @@ use mathlib.Core.Path.{refl}
 use borrow.Author.Needs.{needs}
 use Rattle.values.proofs.curve.Statement.{statement}
 use Rattle.values.proofs.curve.Tie as tie
-use Rattle.values.proofs.curve.Reads as reads
-use Rattle.values.proofs.curve.Lts as lts
-use Rattle.values.proofs.bezier_curve.Reads as bezier-curve-reads
-use Rattle.values.proofs.rough_curve.Reads as rough-curve-reads
-use Rattle.values.proofs.slow_mo_curve.Reads as slow-mo-curve-reads
-use Rattle.values.proofs.steps_curve.Reads as steps-curve-reads
-use Rattle.values.proofs.wiggle_curve.Reads as wiggle-curve-reads
 
 bezier-curve-requires : tie.Need-bezier-curve-requires
 bezier-curve-requires c κs = search needs

@@ -1,13 +1,10 @@
+-- `values::four_floats` meets its contract. Assumes nothing.
 use native.Mathlib.Omega.{arith}
 use Rattle.text.specs.Bytes.{at}
 use Rattle.grammar.specs.Values.{fourFloats}
 use borrow.Author.Needs.{needs}
 use Rattle.values.proofs.four_floats.Statement.{statement}
 use Rattle.values.proofs.four_floats.Tie as tie
-use Rattle.values.proofs.four_floats.Reads as reads
-use Rattle.values.proofs.four_floats.Lts as lts
-use Rattle.values.proofs.comma_floats.Reads as comma-floats-reads
-use Rattle.values.proofs.two_floats.Reads as two-floats-reads
 
 two-floats-requires : tie.Need-two-floats-requires
 two-floats-requires c κs = search needs

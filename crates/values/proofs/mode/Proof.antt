@@ -1,3 +1,4 @@
+-- `values::mode` meets its contract. Assumes nothing.
 use native.Mathlib.Omega.{arith}
 use Rattle.values.proofs.RowLaws.{elem-at, elem-lt}
 use Rattle.grammar.specs.Values.{loopModes}
@@ -7,10 +8,6 @@ use Rattle.cursor.proofs.CursorLaws.{stays}
 use borrow.Author.Needs.{needs}
 use Rattle.values.proofs.mode.Statement.{statement}
 use Rattle.values.proofs.mode.Tie as tie
-use Rattle.values.proofs.mode.Reads as reads
-use Rattle.values.proofs.mode.Lts as lts
-use Rattle.values.proofs.ping_pong_mode.Reads as ping-pong-mode-reads
-use Rattle.values.proofs.times_mode.Reads as times-mode-reads
 
 ping-pong-mode-requires : tie.Need-ping-pong-mode-requires
 ping-pong-mode-requires c κs = search needs

@@ -1,3 +1,4 @@
+-- `values::named_easing` meets its contract. Assumes nothing.
 use mathlib.Core.Logic.{inl, inr}
 use Rattle.text.specs.Bytes.{at}
 use borrow.Author.Tests.{not-false}
@@ -9,12 +10,6 @@ use Rattle.cursor.proofs.CursorLaws.{stays}
 use borrow.Author.Needs.{needs}
 use Rattle.values.proofs.named_easing.Statement.{statement}
 use Rattle.values.proofs.named_easing.Tie as tie
-use Rattle.values.proofs.named_easing.Reads as reads
-use Rattle.values.proofs.named_easing.Lts as lts
-use Rattle.cursor.proofs.both.Reads as both-reads
-use Rattle.cursor.proofs.word.Reads as word-reads
-use Rattle.text.proofs.is_word.Reads as is-word-reads
-use Rattle.text.proofs.part.Reads as part-reads
 
 part-requires : tie.Need-part-requires
 part-requires c κs = search needs

@@ -1,3 +1,4 @@
+-- `values::next_rough` meets its contract. Assumes nothing.
 use Rattle.text.specs.Words.{entries}
 use Rattle.text.specs.Words.{entries}
 use mathlib.Core.Path.{refl}
@@ -5,9 +6,6 @@ use Rattle.grammar.specs.Values.{roughFields}
 use borrow.Author.Needs.{needs}
 use Rattle.values.proofs.next_rough.Statement.{statement}
 use Rattle.values.proofs.next_rough.Tie as tie
-use Rattle.values.proofs.next_rough.Reads as reads
-use Rattle.values.proofs.next_rough.Lts as lts
-use Rattle.fields.proofs.next_pair.Reads as next-pair-reads
 
 slice-aggregate-next-pair : tie.Need-slice-aggregate-next-pair
 slice-aggregate-next-pair c = search needs

@@ -1,3 +1,4 @@
+-- `values::parse_easing` meets its contract. Assumes nothing.
 use Rattle.text.specs.Bytes.{at}
 use Rattle.values.proofs.EasingLaws.{easing-behind}
 use Rattle.grammar.specs.Values.{parseEasing}
@@ -5,11 +6,6 @@ use mathlib.Core.Path.{sym, _∙_}
 use borrow.Author.Needs.{needs}
 use Rattle.values.proofs.parse_easing.Statement.{statement}
 use Rattle.values.proofs.parse_easing.Tie as tie
-use Rattle.values.proofs.parse_easing.Reads as reads
-use Rattle.values.proofs.parse_easing.Lts as lts
-use Rattle.cursor.proofs.sees.Reads as sees-reads
-use Rattle.cursor.proofs.word.Reads as word-reads
-use Rattle.values.proofs.after_word.Reads as after-word-reads
 
 sees-requires : tie.Need-sees-requires
 sees-requires c κs = search needs

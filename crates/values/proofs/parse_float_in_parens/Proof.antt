@@ -1,14 +1,10 @@
+-- `values::parse_float_in_parens` meets its contract. Assumes nothing.
 use Rattle.text.specs.Bytes.{at}
 use Rattle.values.proofs.ValueLaws.{inside-missing, inside-refused, inside-took}
 use Rattle.grammar.specs.Values.{parseFloat, parseFloatInParens}
 use borrow.Author.Needs.{needs}
 use Rattle.values.proofs.parse_float_in_parens.Statement.{statement}
 use Rattle.values.proofs.parse_float_in_parens.Tie as tie
-use Rattle.values.proofs.parse_float_in_parens.Reads as reads
-use Rattle.values.proofs.parse_float_in_parens.Lts as lts
-use Rattle.cursor.proofs.leave_group.Reads as leave-group-reads
-use Rattle.cursor.proofs.mark.Reads as mark-reads
-use Rattle.cursor.proofs.parse_float.Reads as parse-float-reads
 
 mark-requires : tie.Need-mark-requires
 mark-requires c κs = search needs

@@ -1,3 +1,4 @@
+-- `values::parse_loop_mode` meets its contract. Assumes nothing.
 use Rattle.text.specs.Words.{entries}
 use mathlib.Core.Path.{ap, _∙_}
 use Rattle.text.specs.Bytes.{at}
@@ -9,12 +10,6 @@ use Rattle.text.specs.Means.{placeOf}
 use borrow.Author.Needs.{needs}
 use Rattle.values.proofs.parse_loop_mode.Statement.{statement}
 use Rattle.values.proofs.parse_loop_mode.Tie as tie
-use Rattle.values.proofs.parse_loop_mode.Reads as reads
-use Rattle.values.proofs.parse_loop_mode.Lts as lts
-use Rattle.cursor.proofs.word.Reads as word-reads
-use Rattle.text.proofs.find.Reads as find-reads
-use Rattle.text.proofs.part.Reads as part-reads
-use Rattle.values.proofs.mode.Reads as mode-reads
 
 word-requires : tie.Need-word-requires
 word-requires c κs = search needs

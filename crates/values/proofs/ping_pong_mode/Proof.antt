@@ -1,3 +1,4 @@
+-- `values::ping_pong_mode` meets its contract. Assumes nothing.
 use native.Mathlib.Omega.{arith}
 use Rattle.text.specs.Bytes.{at}
 use borrow.Author.Tests.{not-false, not-true}
@@ -7,10 +8,6 @@ use mathlib.Core.Path.{sym, _∙_}
 use borrow.Author.Needs.{needs}
 use Rattle.values.proofs.ping_pong_mode.Statement.{statement}
 use Rattle.values.proofs.ping_pong_mode.Tie as tie
-use Rattle.values.proofs.ping_pong_mode.Reads as reads
-use Rattle.values.proofs.ping_pong_mode.Lts as lts
-use Rattle.cursor.proofs.sees.Reads as sees-reads
-use Rattle.values.proofs.uint_in_parens.Reads as uint-in-parens-reads
 
 sees-requires : tie.Need-sees-requires
 sees-requires c κs = search needs

@@ -1,3 +1,4 @@
+-- `values::rough_curve` meets its contract. Assumes nothing.
 use lib.Ieee.{ofBits, binary32}
 use mathlib.Core.Option.{Option}
 use Rattle.values.proofs.CurveLaws.{a-half, float-or, plain-half, plain-or, word-or}
@@ -11,13 +12,6 @@ use Prim.Native.Nat.{ℕ}
 use borrow.Author.Needs.{needs}
 use Rattle.values.proofs.rough_curve.Statement.{statement}
 use Rattle.values.proofs.rough_curve.Tie as tie
-use Rattle.values.proofs.rough_curve.Reads as reads
-use Rattle.values.proofs.rough_curve.Lts as lts
-use Rattle.cursor.proofs.leave_group.Reads as leave-group-reads
-use Rattle.cursor.proofs.mark.Reads as mark-reads
-use Rattle.values.proofs.float_or.Reads as float-or-reads
-use Rattle.values.proofs.rough_fields.Reads as rough-fields-reads
-use Rattle.values.proofs.word_or.Reads as word-or-reads
 
 mark-requires : tie.Need-mark-requires
 mark-requires c κs = search needs

@@ -1,3 +1,4 @@
+-- `values::rough_field` meets its contract. Assumes nothing.
 use Rattle.values.specs.Means.{RoughHeld}
 use Rattle.text.specs.Bytes.{at}
 use Rattle.values.proofs.RowLaws.{by-row, no-count, no-number, refused-row, row-at, second-row, took-count, took-number}
@@ -7,10 +8,6 @@ use Rattle.grammar.specs.Values.{roughFields}
 use borrow.Author.Needs.{needs}
 use Rattle.values.proofs.rough_field.Statement.{statement}
 use Rattle.values.proofs.rough_field.Tie as tie
-use Rattle.values.proofs.rough_field.Reads as reads
-use Rattle.values.proofs.rough_field.Lts as lts
-use Rattle.cursor.proofs.parse_float.Reads as parse-float-reads
-use Rattle.cursor.proofs.parse_uint.Reads as parse-uint-reads
 
 parse-float-requires : tie.Need-parse-float-requires
 parse-float-requires c κs = search needs

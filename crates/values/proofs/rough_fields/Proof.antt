@@ -1,3 +1,4 @@
+-- `values::rough_fields` meets its contract. Assumes nothing.
 use mathlib.Core.List.{[]}
 use lib.Dec.{lit<}
 use borrow.Author.Needs.{needs}
@@ -14,11 +15,6 @@ use Rattle.values.proofs.CurveLaws.{rough-none}
 use Rattle.grammar.specs.Values.{roughFields}
 use Rattle.values.proofs.rough_fields.Statement.{statement}
 use Rattle.values.proofs.rough_fields.Tie as tie
-use Rattle.values.proofs.rough_fields.Reads as reads
-use Rattle.values.proofs.rough_fields.Lts as lts
-use Rattle.cursor.proofs.eat.Reads as eat-reads
-use Rattle.values.proofs.next_rough.Reads as next-rough-reads
-use Rattle.values.proofs.rough_field.Reads as rough-field-reads
 
 abbrev Inv-loop : tie.InvT-loop
 Inv-loop text m₀ f₀ m f = (fs : Fields) × Listed (listStep (onePair roughFields)) text m₀ m [] fs × RoughHeld f fs

@@ -1,3 +1,4 @@
+-- `values::slow_mo_curve` meets its contract. Assumes nothing.
 use lib.Ieee.{ofBits, binary32}
 use mathlib.Core.Option.{Option}
 use mathlib.Core.Path.{ap, _∙_}
@@ -11,12 +12,6 @@ use Prim.Native.Nat.{ℕ}
 use borrow.Author.Needs.{needs}
 use Rattle.values.proofs.slow_mo_curve.Statement.{statement}
 use Rattle.values.proofs.slow_mo_curve.Tie as tie
-use Rattle.values.proofs.slow_mo_curve.Reads as reads
-use Rattle.values.proofs.slow_mo_curve.Lts as lts
-use Rattle.cursor.proofs.leave_group.Reads as leave-group-reads
-use Rattle.cursor.proofs.mark.Reads as mark-reads
-use Rattle.values.proofs.float_or.Reads as float-or-reads
-use Rattle.values.proofs.slow_mo_fields.Reads as slow-mo-fields-reads
 
 mark-requires : tie.Need-mark-requires
 mark-requires c κs = search needs

@@ -1,3 +1,4 @@
+-- `values::slow_mo_field` meets its contract. Assumes nothing.
 use Rattle.values.specs.Means.{SlowMoHeld}
 use Rattle.text.specs.Bytes.{at}
 use Rattle.values.proofs.RowLaws.{by-row, no-number, refused-row, row-at, second-row, took-number}
@@ -7,9 +8,6 @@ use Rattle.grammar.specs.Values.{slowMoFields}
 use borrow.Author.Needs.{needs}
 use Rattle.values.proofs.slow_mo_field.Statement.{statement}
 use Rattle.values.proofs.slow_mo_field.Tie as tie
-use Rattle.values.proofs.slow_mo_field.Reads as reads
-use Rattle.values.proofs.slow_mo_field.Lts as lts
-use Rattle.cursor.proofs.parse_float.Reads as parse-float-reads
 
 parse-float-requires : tie.Need-parse-float-requires
 parse-float-requires c κs = search needs

@@ -1,3 +1,4 @@
+-- `values::slow_mo_fields` meets its contract. Assumes nothing.
 use mathlib.Core.List.{[]}
 use lib.Dec.{lit<}
 use borrow.Author.Needs.{needs}
@@ -14,11 +15,6 @@ use Rattle.values.proofs.CurveLaws.{slow-none}
 use Rattle.grammar.specs.Values.{slowMoFields}
 use Rattle.values.proofs.slow_mo_fields.Statement.{statement}
 use Rattle.values.proofs.slow_mo_fields.Tie as tie
-use Rattle.values.proofs.slow_mo_fields.Reads as reads
-use Rattle.values.proofs.slow_mo_fields.Lts as lts
-use Rattle.cursor.proofs.eat.Reads as eat-reads
-use Rattle.values.proofs.next_slow_mo.Reads as next-slow-mo-reads
-use Rattle.values.proofs.slow_mo_field.Reads as slow-mo-field-reads
 
 abbrev Inv-loop : tie.InvT-loop
 Inv-loop text m₀ f₀ m f = (fs : Fields) × Listed (listStep (onePair slowMoFields)) text m₀ m [] fs × SlowMoHeld f fs

@@ -1,11 +1,9 @@
+-- `values::steps_curve` meets its contract. Assumes nothing.
 use Rattle.text.specs.Bytes.{at}
 use Rattle.grammar.specs.Values.{stepsCurve}
 use borrow.Author.Needs.{needs}
 use Rattle.values.proofs.steps_curve.Statement.{statement}
 use Rattle.values.proofs.steps_curve.Tie as tie
-use Rattle.values.proofs.steps_curve.Reads as reads
-use Rattle.values.proofs.steps_curve.Lts as lts
-use Rattle.values.proofs.uint_in_parens.Reads as uint-in-parens-reads
 
 uint-in-parens-requires : tie.Need-uint-in-parens-requires
 uint-in-parens-requires c κs = search needs

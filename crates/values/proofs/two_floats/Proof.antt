@@ -1,3 +1,4 @@
+-- `values::two_floats` meets its contract. Assumes nothing.
 use native.Mathlib.Omega.{arith}
 use Rattle.text.specs.Bytes.{at}
 use Rattle.cursor.proofs.CursorLaws.{took}
@@ -5,10 +6,6 @@ use Rattle.grammar.specs.Values.{twoFloats}
 use borrow.Author.Needs.{needs}
 use Rattle.values.proofs.two_floats.Statement.{statement}
 use Rattle.values.proofs.two_floats.Tie as tie
-use Rattle.values.proofs.two_floats.Reads as reads
-use Rattle.values.proofs.two_floats.Lts as lts
-use Rattle.cursor.proofs.parse_float.Reads as parse-float-reads
-use Rattle.values.proofs.comma_float.Reads as comma-float-reads
 
 parse-float-requires : tie.Need-parse-float-requires
 parse-float-requires c κs = search needs

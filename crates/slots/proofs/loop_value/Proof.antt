@@ -1,0 +1,30 @@
+-- `slots::loop_value` meets its contract. Assumes nothing.
+use Rattle.grammar.specs.Values.{parseLoopMode}
+use Rattle.grammar.specs.Fields.{aLoopMode}
+use Rattle.text.specs.Bytes.{at}
+use Rattle.slots.proofs.SortLaws.{given, not-given}
+use Rattle.grammar.specs.Values.{loopMode}
+use borrow.Author.Needs.{needs}
+use Rattle.slots.proofs.loop_value.Statement.{statement}
+use Rattle.slots.proofs.loop_value.Tie as tie
+
+parse-loop-mode-requires : tie.Need-parse-loop-mode-requires
+parse-loop-mode-requires c κs = search needs
+
+enum-known-r : tie.Need-enum-known-r
+enum-known-r c = search needs
+
+enum-known-x : tie.Need-enum-known-x
+enum-known-x c = search needs
+
+returns : tie.Need-returns
+unfolding loopMode
+returns c = not-given aLoopMode (c .before .before .before .before .before .args .text .now) (c .before .before .before .before .before .args .c) parseLoopMode (rw (c .before .r .given .1) at (c .before .before .before .parse-loop-mode .ensures))
+
+returns-2 : tie.Need-returns-2
+unfolding loopMode
+returns-2 c = (given aLoopMode (c .before .before .before .before .before .args .text .now) (c .before .before .before .before .before .args .c) parseLoopMode (rw (c .before .x .given .1) at (c .before .before .before .parse-loop-mode .ensures)), tt)
+
+pub loop-value-spec : {M : Type 1} → statement M
+loop-value-spec =
+    tie.close (tie.spec parse-loop-mode-requires enum-known-r enum-known-x returns returns-2)
