@@ -1,1 +1,4 @@
 pub mod SortLaws
+pub mod HeldLaws
+pub mod GatherLaws
+pub mod KeptLaws
