@@ -1,0 +1,1 @@
+-- The items of a track. Assumes nothing.

@@ -1,0 +1,57 @@
+use borrow.Author.Needs.{needs}
+use Rattle.keyframes.proofs.key_mark.Statement.{statement}
+use Rattle.keyframes.proofs.key_mark.Tie as tie
+use Rattle.keyframes.proofs.key_mark.Reads as reads
+use Rattle.keyframes.proofs.key_mark.Lts as lts
+use Rattle.cursor.proofs.mark.Reads as mark-reads
+use Rattle.keyframes.proofs.parse_keyframe_time.Reads as parse-keyframe-time-reads
+
+-- src/lib.rt:129:11
+parse-keyframe-time-requires : tie.Need-parse-keyframe-time-requires
+parse-keyframe-time-requires c κs = search needs
+
+-- src/lib.rt:130:27
+enum-known-r : tie.Need-enum-known-r
+enum-known-r c = search needs
+
+-- src/lib.rt:131:22
+enum-known-t : tie.Need-enum-known-t
+enum-known-t c = search needs
+
+-- src/lib.rt:131:37
+mark-requires : tie.Need-mark-requires
+mark-requires c κs = ?
+
+-- src/lib.rt:132:31
+enum-known-p : tie.Need-enum-known-p
+enum-known-p c = search needs
+
+-- src/lib.rt:133:26
+enum-known-n : tie.Need-enum-known-n
+enum-known-n c = search needs
+
+-- src/lib.rt:125:1
+returns : tie.Need-returns
+returns c = ?
+
+-- src/lib.rt:125:1
+returns-2 : tie.Need-returns-2
+returns-2 c = ?
+
+-- src/lib.rt:125:1
+returns-3 : tie.Need-returns-3
+returns-3 c = ?
+
+pub key-mark-spec : {M : Type 1} → statement M
+key-mark-spec =
+    tie.close
+    (tie.spec
+    parse-keyframe-time-requires
+    enum-known-r
+    enum-known-t
+    mark-requires
+    enum-known-p
+    enum-known-n
+    returns
+    returns-2
+    returns-3)

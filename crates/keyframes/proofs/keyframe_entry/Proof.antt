@@ -1,0 +1,104 @@
+use borrow.Author.Needs.{needs}
+use Rattle.keyframes.proofs.keyframe_entry.Statement.{statement}
+use Rattle.keyframes.proofs.keyframe_entry.Tie as tie
+use Rattle.keyframes.proofs.keyframe_entry.Reads as reads
+use Rattle.keyframes.proofs.keyframe_entry.Lts as lts
+use Rattle.arrays.proofs.parse_value.Reads as parse-value-reads
+use Rattle.keyframes.proofs.key_mark.Reads as key-mark-reads
+use Rattle.keyframes.proofs.keyframe_easing.Reads as keyframe-easing-reads
+use Rattle.keyframes.proofs.put_entry.Reads as put-entry-reads
+
+-- src/lib.rt:168:11
+key-mark-requires : tie.Need-key-mark-requires
+key-mark-requires c κs = search needs
+
+-- src/lib.rt:169:27
+enum-known-r : tie.Need-enum-known-r
+enum-known-r c = search needs
+
+-- src/lib.rt:170:22
+enum-known-time : tie.Need-enum-known-time
+enum-known-time c = search needs
+
+-- src/lib.rt:170:76
+add-parse-value : tie.Need-add-parse-value
+add-parse-value c = search needs
+
+-- src/lib.rt:170:40
+parse-value-requires : tie.Need-parse-value-requires
+parse-value-requires c κs = ?
+
+-- src/lib.rt:171:32
+enum-known-r-2 : tie.Need-enum-known-r-2
+enum-known-r-2 c = search needs
+
+-- src/lib.rt:172:27
+enum-known-end : tie.Need-enum-known-end
+enum-known-end c = search needs
+
+-- src/lib.rt:172:44
+keyframe-easing-requires : tie.Need-keyframe-easing-requires
+keyframe-easing-requires c κs = ?
+
+-- src/lib.rt:173:35
+enum-known-r-3 : tie.Need-enum-known-r-3
+enum-known-r-3 c = search needs
+
+-- src/lib.rt:174:30
+enum-known-easing : tie.Need-enum-known-easing
+enum-known-easing c = search needs
+
+-- src/lib.rt:175:21
+put-entry-requires : tie.Need-put-entry-requires
+put-entry-requires c κs = ?
+
+-- src/lib.rt:164:1
+returns : tie.Need-returns
+returns c = ?
+
+-- src/lib.rt:164:1
+same-length : tie.Need-same-length
+same-length c = search needs
+
+-- src/lib.rt:164:1
+returns-2 : tie.Need-returns-2
+returns-2 c = ?
+
+-- src/lib.rt:164:1
+same-length-2 : tie.Need-same-length-2
+same-length-2 c = search needs
+
+-- src/lib.rt:164:1
+returns-3 : tie.Need-returns-3
+returns-3 c = ?
+
+-- src/lib.rt:164:1
+same-length-3 : tie.Need-same-length-3
+same-length-3 c = search needs
+
+-- src/lib.rt:164:1
+returns-4 : tie.Need-returns-4
+returns-4 c = ?
+
+pub keyframe-entry-spec : {M : Type 1} → statement M
+keyframe-entry-spec =
+    tie.close
+    (tie.spec
+    key-mark-requires
+    enum-known-r
+    enum-known-time
+    add-parse-value
+    parse-value-requires
+    enum-known-r-2
+    enum-known-end
+    keyframe-easing-requires
+    enum-known-r-3
+    enum-known-easing
+    put-entry-requires
+    returns
+    same-length
+    returns-2
+    same-length-2
+    returns-3
+    same-length-3
+    returns-4)

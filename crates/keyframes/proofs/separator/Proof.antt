@@ -1,0 +1,30 @@
+use borrow.Author.Needs.{needs}
+use Rattle.keyframes.proofs.separator.Statement.{statement}
+use Rattle.keyframes.proofs.separator.Tie as tie
+use Rattle.keyframes.proofs.separator.Reads as reads
+use Rattle.keyframes.proofs.separator.Lts as lts
+use Rattle.cursor.proofs.eat.Reads as eat-reads
+use Rattle.cursor.proofs.sees.Reads as sees-reads
+
+-- src/lib.rt:190:8
+sees-requires : tie.Need-sees-requires
+sees-requires c κs = search needs
+
+-- src/lib.rt:191:9
+eat-requires : tie.Need-eat-requires
+eat-requires c κs = search needs
+
+-- src/lib.rt:191:9
+returns : tie.Need-returns
+returns c = ?
+
+-- src/lib.rt:193:5
+eat-requires-2 : tie.Need-eat-requires-2
+eat-requires-2 c κs = search needs
+
+-- src/lib.rt:186:1
+returns-2 : tie.Need-returns-2
+returns-2 c = ?
+
+pub separator-spec : {M : Type 1} → statement M
+separator-spec = tie.close (tie.spec sees-requires eat-requires returns eat-requires-2 returns-2)

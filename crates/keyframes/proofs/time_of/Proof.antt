@@ -1,0 +1,26 @@
+use borrow.Author.Needs.{needs}
+use Rattle.keyframes.proofs.time_of.Statement.{statement}
+use Rattle.keyframes.proofs.time_of.Tie as tie
+use Rattle.keyframes.proofs.time_of.Reads as reads
+use Rattle.keyframes.proofs.time_of.Lts as lts
+use Rattle.number.proofs.decimal.Reads as decimal-reads
+use Rattle.number.proofs.percent.Reads as percent-reads
+
+-- src/lib.rt:99:38
+percent-requires : tie.Need-percent-requires
+percent-requires c κs = search needs
+
+-- src/lib.rt:99:9
+returns : tie.Need-returns
+returns c = ?
+
+-- src/lib.rt:101:27
+decimal-requires : tie.Need-decimal-requires
+decimal-requires c κs = search needs
+
+-- src/lib.rt:94:1
+returns-2 : tie.Need-returns-2
+returns-2 c = ?
+
+pub time-of-spec : {M : Type 1} → statement M
+time-of-spec = tie.close (tie.spec percent-requires returns decimal-requires returns-2)
