@@ -1,3 +1,6 @@
+use native.Mathlib.Omega.{arith}
+use Rattle.text.specs.Bytes.{at}
+use Rattle.keyframes.proofs.TimeLaws.{no-colon, no-key, took-key}
 use borrow.Author.Needs.{needs}
 use Rattle.keyframes.proofs.key_mark.Statement.{statement}
 use Rattle.keyframes.proofs.key_mark.Tie as tie
@@ -20,7 +23,7 @@ enum-known-t c = search needs
 
 -- src/lib.rt:131:37
 mark-requires : tie.Need-mark-requires
-mark-requires c κs = ?
+mark-requires c κs = ((rw (c .before .t .given .1) at (c .before .before .before .parse-keyframe-time .ensures)) .took .ready, omega arith)
 
 -- src/lib.rt:132:31
 enum-known-p : tie.Need-enum-known-p
@@ -32,15 +35,15 @@ enum-known-n c = search needs
 
 -- src/lib.rt:125:1
 returns : tie.Need-returns
-returns c = ?
+returns c = no-key (c .before .before .before .before .before .args .text .now) (c .before .before .before .before .before .args .c) _ _ (rw (c .before .r .given .1) at (c .before .before .before .parse-keyframe-time .ensures))
 
 -- src/lib.rt:125:1
 returns-2 : tie.Need-returns-2
-returns-2 c = ?
+returns-2 c = no-colon _ _ _ _ (rw (c .before .before .before .before .before .t .given .1) at (c .before .before .before .before .before .before .before .parse-keyframe-time .ensures)) _ (rw (c .before .p .given .1) at (c .before .before .before .mark .ensures))
 
 -- src/lib.rt:125:1
 returns-3 : tie.Need-returns-3
-returns-3 c = ?
+returns-3 c = took-key _ _ _ _ (rw (c .before .before .before .before .before .t .given .1) at (c .before .before .before .before .before .before .before .parse-keyframe-time .ensures)) _ (rw (c .before .n .given .1) at (c .before .before .before .mark .ensures))
 
 pub key-mark-spec : {M : Type 1} → statement M
 key-mark-spec =

@@ -1,3 +1,7 @@
+use native.Mathlib.Omega.{arith}
+use Rattle.text.specs.Bytes.{at}
+use Rattle.keyframes.proofs.TimeLaws.{frame-no-easing, frame-no-key, frame-no-value, frame-went}
+use mathlib.Core.Path.{refl}
 use borrow.Author.Needs.{needs}
 use Rattle.keyframes.proofs.keyframe_entry.Statement.{statement}
 use Rattle.keyframes.proofs.keyframe_entry.Tie as tie
@@ -26,7 +30,7 @@ add-parse-value c = search needs
 
 -- src/lib.rt:170:40
 parse-value-requires : tie.Need-parse-value-requires
-parse-value-requires c κs = ?
+parse-value-requires c κs = ((rw (c .before .before .time .given .1) at (c .before .before .before .before .key-mark .ensures)) .took .ready, record { short = c .before .before .before .before .before .before .before .pre .1 .short; low = omega (arith, c .before .before .before .before .before .before .before .pre .1 .low) })
 
 -- src/lib.rt:171:32
 enum-known-r-2 : tie.Need-enum-known-r-2
@@ -38,7 +42,7 @@ enum-known-end c = search needs
 
 -- src/lib.rt:172:44
 keyframe-easing-requires : tie.Need-keyframe-easing-requires
-keyframe-easing-requires c κs = ?
+keyframe-easing-requires c κs = (rw (c .before .end .given .1) at (c .before .before .before .before .before .parse-value .ensures)) .took .ready
 
 -- src/lib.rt:173:35
 enum-known-r-3 : tie.Need-enum-known-r-3
@@ -50,11 +54,15 @@ enum-known-easing c = search needs
 
 -- src/lib.rt:175:21
 put-entry-requires : tie.Need-put-entry-requires
-put-entry-requires c κs = ?
+put-entry-requires c κs =
+    let t = rw (c .before .before .before .before .before .before .before .before .before .before .before .before .before .time .given .1) at (c .before .before .before .before .before .before .before .before .before .before .before .before .before .before .before .key-mark .ensures) in
+    let w = rw (c .before .before .before .before .before .before .end .given .1) at (c .before .before .before .before .before .before .before .before .before .before .parse-value .ensures) in
+    let e = rw (c .before .before .easing .given .1) at (c .before .before .before .before .keyframe-easing .ensures) in
+    (omega (arith, c .before .before .before .before .before .before .before .before .before .before .before .before .before .before .before .before .before .before .pre .1 .low), omega (arith, c .before .before .before .before .before .before .before .before .before .before .before .before .before .before .before .before .before .before .pre .1 .low, c .before .before .before .before .before .before .before .before .before .before .before .before .before .before .before .before .before .before .pre .1 .short, w .paid, w .took .ready .high), t .stores .plain, e .1)
 
 -- src/lib.rt:164:1
 returns : tie.Need-returns
-returns c = ?
+returns c = frame-no-key (c .before .before .before .before .before .before .args .text .now) (c .before .before .before .before .before .before .args .c) _ _ (rw (c .before .r .given .1) at (c .before .before .before .key-mark .ensures))
 
 -- src/lib.rt:164:1
 same-length : tie.Need-same-length
@@ -62,7 +70,7 @@ same-length c = search needs
 
 -- src/lib.rt:164:1
 returns-2 : tie.Need-returns-2
-returns-2 c = ?
+returns-2 c = frame-no-value _ _ _ _ (rw (c .before .before .before .before .before .before .before .before .time .given .1) at (c .before .before .before .before .before .before .before .before .before .before .key-mark .ensures)) _ _ (rw (c .before .r2 .given .1) at (c .before .before .before .before .before .parse-value .ensures))
 
 -- src/lib.rt:164:1
 same-length-2 : tie.Need-same-length-2
@@ -70,7 +78,7 @@ same-length-2 c = search needs
 
 -- src/lib.rt:164:1
 returns-3 : tie.Need-returns-3
-returns-3 c = ?
+returns-3 c = frame-no-easing _ _ _ _ (rw (c .before .before .before .before .before .before .before .before .before .before .before .before .time .given .1) at (c .before .before .before .before .before .before .before .before .before .before .before .before .before .before .key-mark .ensures)) _ _ _ _ _ (rw (c .before .before .before .before .before .end .given .1) at (c .before .before .before .before .before .before .before .before .before .parse-value .ensures)) _ _ (rw (c .before .r3 .given .1) at (c .before .before .before .keyframe-easing .ensures))
 
 -- src/lib.rt:164:1
 same-length-3 : tie.Need-same-length-3
@@ -78,7 +86,11 @@ same-length-3 c = search needs
 
 -- src/lib.rt:164:1
 returns-4 : tie.Need-returns-4
-returns-4 c = ?
+returns-4 c =
+    let t = rw (c .before .before .before .before .before .before .before .before .before .before .before .before .before .before .before .before .time .given .1) at (c .before .before .before .before .before .before .before .before .before .before .before .before .before .before .before .before .before .before .key-mark .ensures) in
+    let w = rw (c .before .before .before .before .before .before .before .before .before .end .given .1) at (c .before .before .before .before .before .before .before .before .before .before .before .before .before .parse-value .ensures) in
+    let e = rw (c .before .before .before .before .before .easing .given .1) at (c .before .before .before .before .before .before .before .keyframe-easing .ensures) in
+    frame-went (c .before .before .before .before .before .before .before .before .before .before .before .before .before .before .before .before .before .before .before .before .before .args .text .now) (c .before .before .before .before .before .before .before .before .before .before .before .before .before .before .before .before .before .before .before .before .before .args .c) _ _ t (c .before .before .before .before .before .before .before .before .before .before .before .before .before .before .before .before .before .before .before .before .before .args .sheet .now) _ _ _ _ w (c .before .before .before .before .before .before .before .before .before .before .before .before .before .before .before .before .before .before .before .before .before .args .out) refl _ _ refl (e .0) _ _ (c .before .before .put-entry .ensures)
 
 pub keyframe-entry-spec : {M : Type 1} → statement M
 keyframe-entry-spec =

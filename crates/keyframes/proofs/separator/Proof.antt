@@ -1,3 +1,5 @@
+use Rattle.keyframes.proofs.TrackLaws.{by-comma, by-semicolon}
+use mathlib.Core.Path.{sym, _∙_}
 use borrow.Author.Needs.{needs}
 use Rattle.keyframes.proofs.separator.Statement.{statement}
 use Rattle.keyframes.proofs.separator.Tie as tie
@@ -16,7 +18,7 @@ eat-requires c κs = search needs
 
 -- src/lib.rt:191:9
 returns : tie.Need-returns
-returns c = ?
+returns c = by-comma (c .before .before .before .before .args .text .now) (c .before .before .before .before .args .c) _ _ (sym (c .before .before .sees .ensures (c .before .before .before .before .args .text .now) (c .before .before .before .before .pre)) ∙ c .before .if1 .taken) (c .eat .ensures)
 
 -- src/lib.rt:193:5
 eat-requires-2 : tie.Need-eat-requires-2
@@ -24,7 +26,7 @@ eat-requires-2 c κs = search needs
 
 -- src/lib.rt:186:1
 returns-2 : tie.Need-returns-2
-returns-2 c = ?
+returns-2 c = by-semicolon (c .before .before .before .before .args .text .now) (c .before .before .before .before .args .c) _ _ (sym (c .before .before .sees .ensures (c .before .before .before .before .args .text .now) (c .before .before .before .before .pre)) ∙ c .before .if1 .left) (c .eat2 .ensures)
 
 pub separator-spec : {M : Type 1} → statement M
 separator-spec = tie.close (tie.spec sees-requires eat-requires returns eat-requires-2 returns-2)

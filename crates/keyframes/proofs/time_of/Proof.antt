@@ -1,3 +1,4 @@
+use Rattle.keyframes.proofs.TimeLaws.{stores-percent, stores-seconds}
 use borrow.Author.Needs.{needs}
 use Rattle.keyframes.proofs.time_of.Statement.{statement}
 use Rattle.keyframes.proofs.time_of.Tie as tie
@@ -12,7 +13,7 @@ percent-requires c κs = search needs
 
 -- src/lib.rt:99:9
 returns : tie.Need-returns
-returns c = ?
+returns c = stores-percent (c .before .before .args .percent) (c .before .before .args .negative) (c .before .before .args .n) _ (c .before .if1 .taken) (c .percent .ensures)
 
 -- src/lib.rt:101:27
 decimal-requires : tie.Need-decimal-requires
@@ -20,7 +21,7 @@ decimal-requires c κs = search needs
 
 -- src/lib.rt:94:1
 returns-2 : tie.Need-returns-2
-returns-2 c = ?
+returns-2 c = stores-seconds (c .before .before .args .percent) (c .before .before .args .negative) (c .before .before .args .n) _ (c .before .if1 .left) (c .decimal .ensures)
 
 pub time-of-spec : {M : Type 1} → statement M
 time-of-spec = tie.close (tie.spec percent-requires returns decimal-requires returns-2)
