@@ -1,34 +1,34 @@
 -- A key's time, and a frame. Assumes nothing.
-use Prim.Native.Nat.{ℕ, _+_, _*_, _-_, _^_, _≤_}
-use mathlib.Core.Bool.{Bool, true, false, _&&_, cond}
+use Prim.Native.Nat.{ℕ, _+_, _^_}
+use mathlib.Core.Bool.{Bool, true, false, _&&_}
 use mathlib.Core.List.{List, [], _∷_, _++_, append-nil, append-assoc}
-use mathlib.Core.Option.{Option, none, some}
-use mathlib.Core.Path.{_≡_, refl, sym, ap, _∙_, subst}
+use mathlib.Core.Option.{none, some}
+use mathlib.Core.Path.{_≡_, refl, sym, _∙_}
 use native.Mathlib.Omega.{arith}
 use lib.ListN.{length}
 use lib.Ieee.{Float, binary32, round}
-use Rattle.number.specs.Number.{Written, nearest, bits}
+use Rattle.number.specs.Number.{nearest}
 use Rattle.number.specs.Number as Number
 use Rattle.number.specs.Time.{Key, storedTime}
 use Rattle.number.proofs.Floats.{round-number, percent-number}
 use Rattle.codec.specs.Codec.{opt}
-use Rattle.ast.specs.Tree.{KeyframeEntry, EasingSpec, ValueExpr}
+use Rattle.ast.specs.Tree.{KeyframeEntry, EasingSpec}
 use Rattle.ast.specs.declared.KeyframeTime.{KeyframeTime}
 use Rattle.ast.specs.declared.KeyframeTime.the-variants as time
 use Rattle.sheet.specs.Sheet.{timeForm, valueForm, easingForm}
-use Rattle.encode.specs.Of.{optEasingOf, PlainEasing, PlainOptEasing, easingOf}
+use Rattle.encode.specs.Of.{optEasingOf}
 use Rattle.encode.specs.Writes.{Writes}
 use Rattle.encode.proofs.OverLaws.{writes-none, writes-then, writes-fill}
 use Rattle.encode.proofs.EnumLaws.{length-time, easing-most, opt-most}
 use Rattle.error.specs.declared.Refusal.{Refusal}
 use Rattle.error.specs.declared.Refusal.the-variants.{Missing, Malformed}
 use Rattle.token.specs.Token.{place}
-use Rattle.token.specs.Means.{Small, written}
+use Rattle.token.specs.Means.{written}
 use Rattle.token.specs.declared.Number as numbers
 use Rattle.grammar.specs.Rule.{Rule, Out, got, refused, after, give, seesNumber, seesName, absent, theByte, eatByte, _>>_}
 use Rattle.grammar.specs.Values.{parseEasing, parseValue}
 use Rattle.grammar.specs.Grammar.{stored, parseKeyframeTime, keyframeEntry}
-use Rattle.cursor.specs.Means.{Ready, notes, tokens, run, Took, Numbers}
+use Rattle.cursor.specs.Means.{Ready, tokens, run, Took, Numbers}
 use Rattle.cursor.specs.declared.Cursor.{Cursor}
 use Rattle.cursor.proofs.CursorLaws.{took-number, stays, head-place}
 use Rattle.arrays.specs.Means.{Went}

@@ -1,42 +1,40 @@
 -- The items of a track. Assumes nothing.
-use Prim.Native.Nat.{ℕ, _+_, _*_, _-_, _^_, _≤_, _<_}
-use mathlib.Core.Bool.{Bool, true, false, _&&_, cond}
-use mathlib.Core.List.{List, [], _∷_, _++_, append-nil, append-assoc}
-use mathlib.Core.Option.{Option, none, some}
-use mathlib.Core.Path.{_≡_, refl, sym, ap, _∙_, subst}
+use Prim.Native.Nat.{ℕ, _+_, _*_, _-_, _≤_}
+use mathlib.Core.Bool.{Bool, true, false}
+use mathlib.Core.List.{List, [], _∷_, _++_, append-nil}
+use mathlib.Core.Option.{none, some}
+use mathlib.Core.Path.{_≡_, refl, sym, _∙_}
 use native.Mathlib.Omega.{arith}
 use lib.ListN.{length, length-append}
 use Rattle.number.specs.Time.{Key}
 use Rattle.text.specs.Bytes.{bytes}
-use Rattle.codec.specs.Codec.{eachOut, big, opt}
-use Rattle.ast.specs.Tree.{KeyframeEntry, KeyframeTime, LoopSpec, mapFrames, keyframes}
+use Rattle.codec.specs.Codec.{big, opt}
+use Rattle.ast.specs.Tree.{KeyframeEntry, mapFrames, keyframes}
 use Rattle.ast.specs.declared.Span.{Span}
 use Rattle.ast.specs.declared.LoopSpec as loops
 use Rattle.ast.specs.declared.OptLoop.the-variants as optLoop
-use Rattle.sheet.specs.Sheet.{entryForm, loopForm, spanForm, keyframesForm}
+use Rattle.sheet.specs.Sheet.{entryForm, loopForm, spanForm}
 use Rattle.encode.specs.Of.{spanOf, loopOf, optLoopOf}
 use Rattle.encode.specs.Writes.{Writes}
 use Rattle.encode.proofs.OverLaws.{writes-none, writes-then, writes-counted}
 use Rattle.encode.proofs.FieldLaws.{each-append, length-span}
-use Rattle.encode.proofs.EnumLaws.{loop-most, opt-most, length-time}
+use Rattle.encode.proofs.EnumLaws.{loop-most, opt-most}
 use Rattle.error.specs.declared.Refusal.{Refusal}
 use Rattle.error.specs.declared.Refusal.the-variants.{Missing}
-use Rattle.token.specs.Token.{isMark, kind}
-use Rattle.grammar.specs.Rule.{Rule, Out, got, refused, after, give, Next, more, done, goOn, skip, seesByte, seesBytes, ends, theByte, eatByte, word, leave, repeat, _>>_}
+use Rattle.grammar.specs.Rule.{Rule, refused, Next, more, done, goOn, seesByte, seesBytes, ends, theByte, eatByte, word, leave, repeat}
 use Rattle.grammar.specs.Values.{ident, parseLoopMode}
 use Rattle.grammar.specs.Grammar.{stored, keyframeEntry, Track, trackLoop, trackFrame, trackStep, parseKeyframes}
-use Rattle.cursor.specs.Means.{Ready, notes, tokens, run, Took, Follows, spelled}
+use Rattle.cursor.specs.Means.{Ready, tokens, run, Took, Follows, spelled}
 use Rattle.cursor.specs.declared.Cursor.{Cursor}
-use Rattle.cursor.proofs.CursorLaws.{took, stays, moved-low}
-use Rattle.fields.specs.Means.{Gives}
+use Rattle.cursor.proofs.CursorLaws.{took, moved-low}
 use Rattle.fields.proofs.FieldLaws.{by-step}
-use Rattle.fields.proofs.ListLaws.{Listed, listed-start, listed-gives, listed-done}
+use Rattle.fields.proofs.ListLaws.{Listed, listed-start, listed-gives}
 use Rattle.values.proofs.EasingLaws.{spelled-length}
 use Rattle.arrays.specs.Means.{Went}
 use Rattle.nodes.specs.Means.{leafBytes, LeafMeans}
 use Rattle.nodes.specs.declared.NodeRead.{NodeRead}
 use Rattle.nodes.specs.declared.NodeRead.the-variants as node
-use Rattle.keyframes.specs.Means.{Inner, framesBytes, separator, trackOf, Stepped, Standing, StepMeans, TrackWent, trackBehind, trackBytes, BlockWent, BlockMeans}
+use Rattle.keyframes.specs.Means.{Inner, framesBytes, separator, trackOf, Stepped, Standing, StepMeans, TrackWent, trackBehind, BlockWent, BlockMeans}
 use Rattle.keyframes.specs.declared.Track as tracks
 use Rattle.keyframes.specs.declared.TrackNext.{TrackNext}
 use Rattle.keyframes.specs.declared.TrackNext.the-variants as turn
@@ -76,29 +74,17 @@ module _ (s b : List ℕ) (t : tracks.Track) (m : Cursor) (f : Follows s (t .nex
 
 -- ---- a frame
 
-module _ (s b a : List ℕ) (t : tracks.Track) where
+module _ (s : List ℕ) (t : tracks.Track) where
   pub frame-refused : (r : Refusal) (q : ℕ) → run s (t .next) keyframeEntry ≡ refused r q → (fs : List (KeyframeEntry Key)) → run s (t .next) (trackFrame (trackOf fs t)) ≡ refused r q
   unfolding trackFrame
   frame-refused r q h fs = rw h
 
-  module _ (m u : Cursor) (q : ℕ) (w : Went 1 s b a (t .next) m (t .end) q keyframeEntry (λ f. framesBytes (length s) (f ∷ []))) (x : Bool) (z : Took 0 s m u separator x) where
-    pub frame-more : x ≡ true → Stepped 1 s b a t (record { frames = t .frames + 1; end = q; «loop_mode» = t .«loop_mode»; next = u }) trackFrame more
+  module _ (b a : List ℕ) (m u : Cursor) (q : ℕ) (w : Went 1 s b a (t .next) m (t .end) q keyframeEntry (λ f. framesBytes (length s) (f ∷ []))) (x : Bool) (z : Took 0 s m u separator x) where
+    pub frame-step : (e : ℕ) → e ≤ 1 → (y : Bool) → x ≡ y → Stepped e s b a t (record { frames = t .frames + 1; end = q; «loop_mode» = t .«loop_mode»; next = u }) trackFrame (goOn y)
     unfolding trackFrame
-    frame-more e = record {
+    frame-step e l y g = record {
       added = w .value ∷ [];
-      is = λ fs. rw (w .took .is, z .is, e);
-      low = omega (arith, w .took .low, z .low);
-      ready = z .ready;
-      count = refl;
-      writes = w .writes;
-      paid = omega (arith, w .paid, w .took .low, z .low);
-    }
-
-    pub frame-last : x ≡ false → Stepped 0 s b a t (record { frames = t .frames + 1; end = q; «loop_mode» = t .«loop_mode»; next = u }) trackFrame done
-    unfolding trackFrame
-    frame-last e = record {
-      added = w .value ∷ [];
-      is = λ fs. rw (w .took .is, z .is, e);
+      is = λ fs. rw (w .took .is, z .is, g);
       low = omega (arith, w .took .low, z .low);
       ready = z .ready;
       count = refl;
@@ -227,11 +213,11 @@ pub no-target : (s : List ℕ) (c : Cursor) (q : ℕ) → run s c word ≡ refus
 unfolding parseKeyframes ident
 no-target s c q h = rw h
 
-module _ (s : List ℕ) (c m : Cursor) (x : Span) (t : Took 1 s c m word (x .start, spelled s x)) where
-  pub no-brace : (q : ℕ) → run s m (theByte 123) ≡ refused Missing q → run s c parseKeyframes ≡ refused Missing q
-  unfolding parseKeyframes ident
-  no-brace q h = rw (t .is, h)
+pub no-brace : (s : List ℕ) (c m : Cursor) (x : ℕ) (w : List ℕ) → Took 1 s c m word (x, w) → (q : ℕ) → run s m (theByte 123) ≡ refused Missing q → run s c parseKeyframes ≡ refused Missing q
+unfolding parseKeyframes ident
+no-brace s c m x w t q h = rw (t .is, h)
 
+module _ (s : List ℕ) (c m : Cursor) (x : Span) (t : Took 1 s c m word (x .start, spelled s x)) where
   module _ (n : Cursor) (o : Took 1 s m n (theByte 123) tt) where
     pub no-track : (r : Refusal) (q : ℕ) → run s n trackBehind ≡ refused r q → run s c parseKeyframes ≡ refused r q
     unfolding parseKeyframes ident

@@ -8,16 +8,12 @@ use lib.ListN.{length}
 use Rattle.number.specs.Number.{Written}
 use Rattle.number.specs.Time.{Key}
 use Rattle.codec.specs.Codec.{eachOut, big, opt}
-use Rattle.ast.specs.Tree as tree
 use Rattle.ast.specs.Tree.{KeyframeEntry, EasingSpec, mapFrames}
 use Rattle.ast.specs.declared.KeyframeTime.{KeyframeTime}
-use Rattle.ast.specs.declared.OptEasing.{OptEasing}
 use Rattle.sheet.specs.Sheet.{timeForm, easingForm, loopForm, entryForm}
 use Rattle.encode.specs.Of.{keyTimeOf, PlainTime, optEasingOf, PlainOptEasing, optLoopOf}
 use Rattle.encode.specs.Writes.{Writes}
-use Rattle.error.specs.declared.Refusal.{Refusal}
 use Rattle.token.specs.Means.{written}
-use Rattle.token.specs.declared.Number.{Number}
 use Rattle.grammar.specs.Rule.{Rule, got, refused, give, if, sees, seesName, skip, eat, the, leave, repeat, Next, more, done, _>>=_, _>>_}
 use Rattle.grammar.specs.Values.{parseEasing}
 use Rattle.grammar.specs.Grammar.{stored, parseKeyframeTime, keyframeEntry, trackStep, Track}

@@ -4,7 +4,7 @@
 ghost use mathlib.Core.Path.{_≡_};
 ghost use mathlib.Core.Bool.{_&&_};
 ghost use mathlib.Core.List.{List};
-ghost use Prim.Native.Nat.{ℕ, _≤_, _<_, _^_};
+ghost use Prim.Native.Nat.{ℕ, _<_, _^_};
 ghost use Rattle.token.specs.Means.{Small, written};
 ghost use Rattle.encode.specs.Of.{PlainTime, PlainOptEasing};
 ghost use Rattle.grammar.specs.Grammar.{parseKeyframeTime, trackLoop, trackFrame, trackStep, parseKeyframes};
@@ -13,7 +13,6 @@ ghost use Rattle.nodes.specs.Means.{LeafMeans};
 ghost use Rattle.keyframes.specs.Means.{Narrow, Inner, percentSign, keyOf, Stores, TimeMeans, keyMark, EasingMeans, Framed, FrameMeans, separator, StepMeans, Standing, TrackMeans, BlockMeans};
 use arrays::ValueRead;
 use ast::KeyframeTime;
-use ast::LoopSpec;
 use ast::OptEasing;
 use ast::OptLoop;
 use cursor::Cursor;
@@ -80,7 +79,7 @@ fn percent_sign(text: &[u8], c: Cursor, point: bool) -> Eaten
     cursor::eat(text, c, 37)
 }
 
-// A percent with an `s` is refused.
+// Whether both hold: a percent with an `s` is refused.
 fn all(a: bool, b: bool) -> bool
     ensures { λ r. ⌜ r ≡ (a && b) ⌝ }
 {
@@ -230,16 +229,16 @@ fn track_frame(text: &[u8], sheet: &mut [u8], t: Track) -> TrackNext
         ValueRead::Is(end, m) => {
             let ate = separator(text, m);
             let next = ate.next;
-            let u = Track {
+            let longer = Track {
                 frames: t.frames + 1,
                 end,
                 loop_mode,
                 next,
             };
             if ate.taken {
-                return TrackNext::More(u);
+                return TrackNext::More(longer);
             }
-            TrackNext::Done(u)
+            TrackNext::Done(longer)
         }
     }
 }

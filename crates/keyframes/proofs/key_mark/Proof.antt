@@ -1,47 +1,34 @@
+-- `keyframes::key_mark` meets its contract. Assumes nothing.
 use native.Mathlib.Omega.{arith}
-use Rattle.text.specs.Bytes.{at}
 use Rattle.keyframes.proofs.TimeLaws.{no-colon, no-key, took-key}
 use borrow.Author.Needs.{needs}
 use Rattle.keyframes.proofs.key_mark.Statement.{statement}
 use Rattle.keyframes.proofs.key_mark.Tie as tie
-use Rattle.keyframes.proofs.key_mark.Reads as reads
-use Rattle.keyframes.proofs.key_mark.Lts as lts
-use Rattle.cursor.proofs.mark.Reads as mark-reads
-use Rattle.keyframes.proofs.parse_keyframe_time.Reads as parse-keyframe-time-reads
 
--- src/lib.rt:129:11
 parse-keyframe-time-requires : tie.Need-parse-keyframe-time-requires
 parse-keyframe-time-requires c κs = search needs
 
--- src/lib.rt:130:27
 enum-known-r : tie.Need-enum-known-r
 enum-known-r c = search needs
 
--- src/lib.rt:131:22
 enum-known-t : tie.Need-enum-known-t
 enum-known-t c = search needs
 
--- src/lib.rt:131:37
 mark-requires : tie.Need-mark-requires
 mark-requires c κs = ((rw (c .before .t .given .1) at (c .before .before .before .parse-keyframe-time .ensures)) .took .ready, omega arith)
 
--- src/lib.rt:132:31
 enum-known-p : tie.Need-enum-known-p
 enum-known-p c = search needs
 
--- src/lib.rt:133:26
 enum-known-n : tie.Need-enum-known-n
 enum-known-n c = search needs
 
--- src/lib.rt:125:1
 returns : tie.Need-returns
 returns c = no-key (c .before .before .before .before .before .args .text .now) (c .before .before .before .before .before .args .c) _ _ (rw (c .before .r .given .1) at (c .before .before .before .parse-keyframe-time .ensures))
 
--- src/lib.rt:125:1
 returns-2 : tie.Need-returns-2
 returns-2 c = no-colon _ _ _ _ (rw (c .before .before .before .before .before .t .given .1) at (c .before .before .before .before .before .before .before .parse-keyframe-time .ensures)) _ (rw (c .before .p .given .1) at (c .before .before .before .mark .ensures))
 
--- src/lib.rt:125:1
 returns-3 : tie.Need-returns-3
 returns-3 c = took-key _ _ _ _ (rw (c .before .before .before .before .before .t .given .1) at (c .before .before .before .before .before .before .before .parse-keyframe-time .ensures)) _ (rw (c .before .n .given .1) at (c .before .before .before .mark .ensures))
 

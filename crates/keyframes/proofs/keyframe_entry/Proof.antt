@@ -1,58 +1,41 @@
+-- `keyframes::keyframe_entry` meets its contract. Assumes nothing.
 use native.Mathlib.Omega.{arith}
-use Rattle.text.specs.Bytes.{at}
 use Rattle.keyframes.proofs.TimeLaws.{frame-no-easing, frame-no-key, frame-no-value, frame-went}
 use mathlib.Core.Path.{refl}
 use borrow.Author.Needs.{needs}
 use Rattle.keyframes.proofs.keyframe_entry.Statement.{statement}
 use Rattle.keyframes.proofs.keyframe_entry.Tie as tie
-use Rattle.keyframes.proofs.keyframe_entry.Reads as reads
-use Rattle.keyframes.proofs.keyframe_entry.Lts as lts
-use Rattle.arrays.proofs.parse_value.Reads as parse-value-reads
-use Rattle.keyframes.proofs.key_mark.Reads as key-mark-reads
-use Rattle.keyframes.proofs.keyframe_easing.Reads as keyframe-easing-reads
-use Rattle.keyframes.proofs.put_entry.Reads as put-entry-reads
 
--- src/lib.rt:168:11
 key-mark-requires : tie.Need-key-mark-requires
 key-mark-requires c κs = search needs
 
--- src/lib.rt:169:27
 enum-known-r : tie.Need-enum-known-r
 enum-known-r c = search needs
 
--- src/lib.rt:170:22
 enum-known-time : tie.Need-enum-known-time
 enum-known-time c = search needs
 
--- src/lib.rt:170:76
 add-parse-value : tie.Need-add-parse-value
 add-parse-value c = search needs
 
--- src/lib.rt:170:40
 parse-value-requires : tie.Need-parse-value-requires
 parse-value-requires c κs = ((rw (c .before .before .time .given .1) at (c .before .before .before .before .key-mark .ensures)) .took .ready, record { short = c .before .before .before .before .before .before .before .pre .1 .short; low = omega (arith, c .before .before .before .before .before .before .before .pre .1 .low) })
 
--- src/lib.rt:171:32
 enum-known-r-2 : tie.Need-enum-known-r-2
 enum-known-r-2 c = search needs
 
--- src/lib.rt:172:27
 enum-known-end : tie.Need-enum-known-end
 enum-known-end c = search needs
 
--- src/lib.rt:172:44
 keyframe-easing-requires : tie.Need-keyframe-easing-requires
 keyframe-easing-requires c κs = (rw (c .before .end .given .1) at (c .before .before .before .before .before .parse-value .ensures)) .took .ready
 
--- src/lib.rt:173:35
 enum-known-r-3 : tie.Need-enum-known-r-3
 enum-known-r-3 c = search needs
 
--- src/lib.rt:174:30
 enum-known-easing : tie.Need-enum-known-easing
 enum-known-easing c = search needs
 
--- src/lib.rt:175:21
 put-entry-requires : tie.Need-put-entry-requires
 put-entry-requires c κs =
     let t = rw (c .before .before .before .before .before .before .before .before .before .before .before .before .before .time .given .1) at (c .before .before .before .before .before .before .before .before .before .before .before .before .before .before .before .key-mark .ensures) in
@@ -60,31 +43,24 @@ put-entry-requires c κs =
     let e = rw (c .before .before .easing .given .1) at (c .before .before .before .before .keyframe-easing .ensures) in
     (omega (arith, c .before .before .before .before .before .before .before .before .before .before .before .before .before .before .before .before .before .before .pre .1 .low), omega (arith, c .before .before .before .before .before .before .before .before .before .before .before .before .before .before .before .before .before .before .pre .1 .low, c .before .before .before .before .before .before .before .before .before .before .before .before .before .before .before .before .before .before .pre .1 .short, w .paid, w .took .ready .high), t .stores .plain, e .1)
 
--- src/lib.rt:164:1
 returns : tie.Need-returns
 returns c = frame-no-key (c .before .before .before .before .before .before .args .text .now) (c .before .before .before .before .before .before .args .c) _ _ (rw (c .before .r .given .1) at (c .before .before .before .key-mark .ensures))
 
--- src/lib.rt:164:1
 same-length : tie.Need-same-length
 same-length c = search needs
 
--- src/lib.rt:164:1
 returns-2 : tie.Need-returns-2
 returns-2 c = frame-no-value _ _ _ _ (rw (c .before .before .before .before .before .before .before .before .time .given .1) at (c .before .before .before .before .before .before .before .before .before .before .key-mark .ensures)) _ _ (rw (c .before .r2 .given .1) at (c .before .before .before .before .before .parse-value .ensures))
 
--- src/lib.rt:164:1
 same-length-2 : tie.Need-same-length-2
 same-length-2 c = search needs
 
--- src/lib.rt:164:1
 returns-3 : tie.Need-returns-3
 returns-3 c = frame-no-easing _ _ _ _ (rw (c .before .before .before .before .before .before .before .before .before .before .before .before .time .given .1) at (c .before .before .before .before .before .before .before .before .before .before .before .before .before .before .key-mark .ensures)) _ _ _ _ _ (rw (c .before .before .before .before .before .end .given .1) at (c .before .before .before .before .before .before .before .before .before .parse-value .ensures)) _ _ (rw (c .before .r3 .given .1) at (c .before .before .before .keyframe-easing .ensures))
 
--- src/lib.rt:164:1
 same-length-3 : tie.Need-same-length-3
 same-length-3 c = search needs
 
--- src/lib.rt:164:1
 returns-4 : tie.Need-returns-4
 returns-4 c =
     let t = rw (c .before .before .before .before .before .before .before .before .before .before .before .before .before .before .before .before .time .given .1) at (c .before .before .before .before .before .before .before .before .before .before .before .before .before .before .before .before .before .before .key-mark .ensures) in

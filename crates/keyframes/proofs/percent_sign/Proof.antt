@@ -1,20 +1,15 @@
+-- `keyframes::percent_sign` meets its contract. Assumes nothing.
 use Rattle.keyframes.proofs.TimeLaws.{a-sign, no-sign}
 use borrow.Author.Needs.{needs}
 use Rattle.keyframes.proofs.percent_sign.Statement.{statement}
 use Rattle.keyframes.proofs.percent_sign.Tie as tie
-use Rattle.keyframes.proofs.percent_sign.Reads as reads
-use Rattle.keyframes.proofs.percent_sign.Lts as lts
-use Rattle.cursor.proofs.eat.Reads as eat-reads
 
--- src/lib.rt:75:9
 returns : tie.Need-returns
 returns c = no-sign (c .before .before .args .text .now) (c .before .before .args .c) (c .before .before .pre) (c .before .before .args .point) (c .if1 .taken)
 
--- src/lib.rt:80:5
 eat-requires : tie.Need-eat-requires
 eat-requires c κs = search needs
 
--- src/lib.rt:70:1
 returns-2 : tie.Need-returns-2
 returns-2 c = a-sign (c .before .before .before .args .text .now) (c .before .before .before .args .c) _ (c .before .before .before .args .point) _ (c .before .if1 .left) (c .eat .ensures)
 

@@ -1,30 +1,22 @@
+-- `keyframes::separator` meets its contract. Assumes nothing.
 use Rattle.keyframes.proofs.TrackLaws.{by-comma, by-semicolon}
 use mathlib.Core.Path.{sym, _∙_}
 use borrow.Author.Needs.{needs}
 use Rattle.keyframes.proofs.separator.Statement.{statement}
 use Rattle.keyframes.proofs.separator.Tie as tie
-use Rattle.keyframes.proofs.separator.Reads as reads
-use Rattle.keyframes.proofs.separator.Lts as lts
-use Rattle.cursor.proofs.eat.Reads as eat-reads
-use Rattle.cursor.proofs.sees.Reads as sees-reads
 
--- src/lib.rt:190:8
 sees-requires : tie.Need-sees-requires
 sees-requires c κs = search needs
 
--- src/lib.rt:191:9
 eat-requires : tie.Need-eat-requires
 eat-requires c κs = search needs
 
--- src/lib.rt:191:9
 returns : tie.Need-returns
 returns c = by-comma (c .before .before .before .before .args .text .now) (c .before .before .before .before .args .c) _ _ (sym (c .before .before .sees .ensures (c .before .before .before .before .args .text .now) (c .before .before .before .before .pre)) ∙ c .before .if1 .taken) (c .eat .ensures)
 
--- src/lib.rt:193:5
 eat-requires-2 : tie.Need-eat-requires-2
 eat-requires-2 c κs = search needs
 
--- src/lib.rt:186:1
 returns-2 : tie.Need-returns-2
 returns-2 c = by-semicolon (c .before .before .before .before .args .text .now) (c .before .before .before .before .args .c) _ _ (sym (c .before .before .sees .ensures (c .before .before .before .before .args .text .now) (c .before .before .before .before .pre)) ∙ c .before .if1 .left) (c .eat2 .ensures)
 

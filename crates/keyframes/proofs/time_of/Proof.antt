@@ -1,25 +1,18 @@
+-- `keyframes::time_of` meets its contract. Assumes nothing.
 use Rattle.keyframes.proofs.TimeLaws.{stores-percent, stores-seconds}
 use borrow.Author.Needs.{needs}
 use Rattle.keyframes.proofs.time_of.Statement.{statement}
 use Rattle.keyframes.proofs.time_of.Tie as tie
-use Rattle.keyframes.proofs.time_of.Reads as reads
-use Rattle.keyframes.proofs.time_of.Lts as lts
-use Rattle.number.proofs.decimal.Reads as decimal-reads
-use Rattle.number.proofs.percent.Reads as percent-reads
 
--- src/lib.rt:99:38
 percent-requires : tie.Need-percent-requires
 percent-requires c κs = search needs
 
--- src/lib.rt:99:9
 returns : tie.Need-returns
 returns c = stores-percent (c .before .before .args .percent) (c .before .before .args .negative) (c .before .before .args .n) _ (c .before .if1 .taken) (c .percent .ensures)
 
--- src/lib.rt:101:27
 decimal-requires : tie.Need-decimal-requires
 decimal-requires c κs = search needs
 
--- src/lib.rt:94:1
 returns-2 : tie.Need-returns-2
 returns-2 c = stores-seconds (c .before .before .args .percent) (c .before .before .args .negative) (c .before .before .args .n) _ (c .before .if1 .left) (c .decimal .ensures)
 

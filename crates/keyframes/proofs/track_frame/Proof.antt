@@ -1,54 +1,43 @@
+-- `keyframes::track_frame` meets its contract. Assumes nothing.
+use mathlib.Core.Bool.{false, true}
+use native.Mathlib.Omega.{arith}
+use Rattle.keyframes.proofs.TrackLaws.{frame-refused, frame-step}
 use borrow.Author.Needs.{needs}
 use Rattle.keyframes.proofs.track_frame.Statement.{statement}
 use Rattle.keyframes.proofs.track_frame.Tie as tie
-use Rattle.keyframes.proofs.track_frame.Reads as reads
-use Rattle.keyframes.proofs.track_frame.Lts as lts
-use Rattle.keyframes.proofs.keyframe_entry.Reads as keyframe-entry-reads
-use Rattle.keyframes.proofs.separator.Reads as separator-reads
 
--- src/lib.rt:228:11
 keyframe-entry-requires : tie.Need-keyframe-entry-requires
 keyframe-entry-requires c κs = search needs
 
--- src/lib.rt:229:28
 enum-known-r : tie.Need-enum-known-r
 enum-known-r c = search needs
 
--- src/lib.rt:230:23
 enum-known-end : tie.Need-enum-known-end
 enum-known-end c = search needs
 
--- src/lib.rt:231:17
 separator-requires : tie.Need-separator-requires
-separator-requires c κs = ?
+separator-requires c κs = (rw (c .before .end .given .1) at (c .before .before .before .before .before .keyframe-entry .ensures)) .took .ready
 
--- src/lib.rt:234:25
 add-t17 : tie.Need-add-t17
-add-t17 c = ?
+add-t17 c = omega (arith, c .before .before .before .before .before .before .before .before .before .before .before .before .before .pre .few, c .before .before .before .before .before .before .before .before .before .before .before .before .before .pre .inner .low)
 
--- src/lib.rt:240:17
 same-length : tie.Need-same-length
 same-length c = search needs
 
--- src/lib.rt:240:17
 returns : tie.Need-returns
-returns c = ?
+returns c = frame-step (c .before .before .before .before .before .before .before .before .before .before .before .before .before .before .args .text .now) (c .before .before .before .before .before .before .before .before .before .before .before .before .before .before .args .t) (c .before .before .before .before .before .before .before .before .before .before .before .before .before .before .args .sheet .now) _ _ _ _ (rw (c .before .before .before .before .before .end .given .1) at (c .before .before .before .before .before .before .before .before .before .keyframe-entry .ensures)) _ (c .before .before .before .separator .ensures) 1 (omega arith) true (c .if1 .taken)
 
--- src/lib.rt:222:1
 same-length-2 : tie.Need-same-length-2
 same-length-2 c = search needs
 
--- src/lib.rt:222:1
 returns-2 : tie.Need-returns-2
-returns-2 c = ?
+returns-2 c = frame-refused (c .before .before .before .before .before .before .before .before .before .before .args .text .now) (c .before .before .before .before .before .before .before .before .before .before .args .t) _ _ (rw (c .before .r .given .1) at (c .before .before .before .before .before .keyframe-entry .ensures))
 
--- src/lib.rt:222:1
 same-length-3 : tie.Need-same-length-3
 same-length-3 c = search needs
 
--- src/lib.rt:222:1
 returns-3 : tie.Need-returns-3
-returns-3 c = ?
+returns-3 c = frame-step (c .before .before .before .before .before .before .before .before .before .before .before .before .before .before .args .text .now) (c .before .before .before .before .before .before .before .before .before .before .before .before .before .before .args .t) (c .before .before .before .before .before .before .before .before .before .before .before .before .before .before .args .sheet .now) _ _ _ _ (rw (c .before .before .before .before .before .end .given .1) at (c .before .before .before .before .before .before .before .before .before .keyframe-entry .ensures)) _ (c .before .before .before .separator .ensures) 0 (omega arith) false (c .if1 .left)
 
 pub track-frame-spec : {M : Type 1} → statement M
 track-frame-spec =

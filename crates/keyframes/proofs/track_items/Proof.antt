@@ -1,58 +1,52 @@
+-- `keyframes::track_items` meets its contract. Assumes nothing.
+use mathlib.Core.Path.{_∙_}
+use Rattle.encode.proofs.OverLaws.{writes-keeps}
+use Rattle.keyframes.proofs.TrackLaws.{Tracked, tracked-start, tracked-standing, tracked-refused, tracked-more, tracked-last}
+use lib.ListN.{length}
+use Prim.Native.Nat.{_-_}
+use borrow.Author.Needs.{needs}
+use native.Mathlib.Omega.{arith}
 use Rattle.keyframes.proofs.track_items.Statement.{statement}
 use Rattle.keyframes.proofs.track_items.Tie as tie
-use Rattle.keyframes.proofs.track_items.Reads as reads
-use Rattle.keyframes.proofs.track_items.Lts as lts
-use Rattle.keyframes.proofs.track_step.Reads as track-step-reads
 
 abbrev Inv-loop : tie.InvT-loop
-Inv-loop text sheet₀ out t₀ sheet t = ?
+Inv-loop text sheet₀ out t₀ sheet t = Tracked text sheet₀ sheet (t₀ .next) out t
 
 abbrev μ-loop : tie.MeasureT-loop
-μ-loop text sheet₀ out t₀ sheet t = ?
+μ-loop text sheet₀ out t₀ sheet t = length text - t .next .at
 
--- src/lib.rt:273:5
 loop-holds : tie.Need-loop-holds Inv-loop μ-loop
-loop-holds c = ?
+loop-holds c = tracked-start (c .before .before .args .text .now) (c .before .before .args .sheet .now) (c .before .before .args .c) (c .before .before .args .out) (c .before .before .pre .0)
 
--- src/lib.rt:274:15
 track-step-requires : tie.Need-track-step-requires Inv-loop μ-loop
-track-step-requires c κs = ?
+track-step-requires c κs = tracked-standing (c .before .before .before .before .args .text .now) (c .before .before .before .before .args .sheet .now) (c .before .loop .sheet) (c .before .before .before .before .args .c) (c .before .before .before .before .args .out) (c .before .loop .t) (c .before .loop .inv) (c .before .before .before .before .pre .1)
 
--- src/lib.rt:275:32
 enum-known-r : tie.Need-enum-known-r Inv-loop μ-loop
-enum-known-r c = ?
+enum-known-r c = search needs
 
--- src/lib.rt:275:41
 same-length : tie.Need-same-length Inv-loop μ-loop
-same-length c = ?
+same-length c = c .before .before .before .before .before .track-step .kept .1 .0 ∙ writes-keeps (c .before .before .before .before .before .before .before .loop .inv .writes)
 
--- src/lib.rt:275:41
 returns : tie.Need-returns Inv-loop μ-loop
-returns c = ?
+returns c = tracked-refused (c .before .before .before .before .before .before .before .before .before .before .args .text .now) (c .before .before .before .before .before .before .before .before .before .before .args .sheet .now) (c .before .before .before .before .before .before .before .loop .sheet) (c .before .before .before .before .before .before .before .before .before .before .args .c) (c .before .before .before .before .before .before .before .before .before .before .args .out) (c .before .before .before .before .before .before .before .loop .t) (c .before .before .before .before .before .before .before .loop .inv) _ _ (rw (c .before .r .given .1) at (c .before .before .before .before .before .track-step .ensures))
 
--- src/lib.rt:276:29
 enum-known-u : tie.Need-enum-known-u Inv-loop μ-loop
-enum-known-u c = ?
+enum-known-u c = search needs
 
--- src/lib.rt:276:35
 same-length-2 : tie.Need-same-length-2 Inv-loop μ-loop
-same-length-2 c = ?
+same-length-2 c = c .before .before .before .before .before .track-step .kept .1 .0 ∙ writes-keeps (c .before .before .before .before .before .before .before .loop .inv .writes)
 
--- src/lib.rt:276:35
 returns-2 : tie.Need-returns-2 Inv-loop μ-loop
-returns-2 c = ?
+returns-2 c = tracked-last (c .before .before .before .before .before .before .before .before .before .before .args .text .now) (c .before .before .before .before .before .before .before .before .before .before .args .sheet .now) (c .before .before .before .before .before .before .before .loop .sheet) (c .before .before .before .before .before .before .before .before .before .before .args .c) (c .before .before .before .before .before .before .before .before .before .before .args .out) (c .before .before .before .before .before .before .before .loop .t) (c .before .before .before .before .before .before .before .loop .inv) _ _ (rw (c .before .u .given .1) at (c .before .before .before .before .before .track-step .ensures))
 
--- src/lib.rt:277:29
 enum-known-u-2 : tie.Need-enum-known-u-2 Inv-loop μ-loop
-enum-known-u-2 c = ?
+enum-known-u-2 c = search needs
 
--- src/lib.rt:273:5
 loop-less : tie.Need-loop-less Inv-loop μ-loop
-loop-less c = ?
+loop-less c = let z = rw (c .before .u2 .given .1) at (c .before .before .before .before .before .track-step .ensures) in omega (arith, z .low, z .ready .high)
 
--- src/lib.rt:273:5
 loop-again : tie.Need-loop-again Inv-loop μ-loop
-loop-again c = ?
+loop-again c = tracked-more (c .before .before .before .before .before .before .before .before .before .before .args .text .now) (c .before .before .before .before .before .before .before .before .before .before .args .sheet .now) (c .before .before .before .before .before .before .before .loop .sheet) (c .before .before .before .before .before .before .before .before .before .before .args .c) (c .before .before .before .before .before .before .before .before .before .before .args .out) (c .before .before .before .before .before .before .before .loop .t) (c .before .before .before .before .before .before .before .loop .inv) _ _ (rw (c .before .u2 .given .1) at (c .before .before .before .before .before .track-step .ensures))
 
 pub track-items-spec : {M : Type 1} → statement M
 track-items-spec =

@@ -1,56 +1,42 @@
+-- `keyframes::track_value` meets its contract. Assumes nothing.
+use native.Mathlib.Omega.{arith}
+use Rattle.keyframes.proofs.TrackLaws.{block-refused, block-went}
 use borrow.Author.Needs.{needs}
 use Rattle.keyframes.proofs.track_value.Statement.{statement}
 use Rattle.keyframes.proofs.track_value.Tie as tie
-use Rattle.keyframes.proofs.track_value.Reads as reads
-use Rattle.keyframes.proofs.track_value.Lts as lts
-use Rattle.cursor.proofs.leave_group.Reads as leave-group-reads
-use Rattle.encode.proofs.patch_count.Reads as patch-count-reads
-use Rattle.encode.proofs.put_opt_loop.Reads as put-opt-loop-reads
-use Rattle.keyframes.proofs.track_items.Reads as track-items-reads
 
--- src/lib.rt:289:39
 add-track-items : tie.Need-add-track-items
 add-track-items c = search needs
 
--- src/lib.rt:289:11
 track-items-requires : tie.Need-track-items-requires
 track-items-requires c κs = search needs
 
--- src/lib.rt:290:28
 enum-known-r : tie.Need-enum-known-r
 enum-known-r c = search needs
 
--- src/lib.rt:291:23
 enum-known-t : tie.Need-enum-known-t
 enum-known-t c = search needs
 
--- src/lib.rt:294:13
 patch-count-requires : tie.Need-patch-count-requires
 patch-count-requires c κs = search needs
 
--- src/lib.rt:295:17
 put-opt-loop-requires : tie.Need-put-opt-loop-requires
-put-opt-loop-requires c κs = ?
+put-opt-loop-requires c κs = let w = rw (c .before .before .before .before .before .before .before .t .given .1) at (c .before .before .before .before .before .before .before .before .before .before .before .track-items .ensures) in omega (arith, w .paid, w .took .ready .high, c .before .before .before .before .before .before .before .before .before .before .before .before .before .before .before .pre .1 .low, c .before .before .before .before .before .before .before .before .before .before .before .before .before .before .before .pre .1 .short)
 
--- src/lib.rt:296:31
 leave-group-requires : tie.Need-leave-group-requires
-leave-group-requires c κs = ?
+leave-group-requires c κs = (rw (c .before .before .before .before .before .before .before .before .before .before .t .given .1) at (c .before .before .before .before .before .before .before .before .before .before .before .before .before .before .track-items .ensures)) .took .ready
 
--- src/lib.rt:285:1
 same-length : tie.Need-same-length
 same-length c = search needs
 
--- src/lib.rt:285:1
 returns : tie.Need-returns
-returns c = ?
+returns c = block-refused (c .before .before .before .before .before .before .before .before .before .args .text .now) (c .before .before .before .before .before .before .before .before .before .args .c) _ _ (rw (c .before .r .given .1) at (c .before .before .before .before .before .track-items .ensures))
 
--- src/lib.rt:285:1
 same-length-2 : tie.Need-same-length-2
 same-length-2 c = search needs
 
--- src/lib.rt:285:1
 returns-2 : tie.Need-returns-2
-returns-2 c = ?
+returns-2 c = block-went (c .before .before .before .before .before .before .before .before .before .before .before .before .before .before .before .before .before .before .before .args .text .now) (c .before .before .before .before .before .before .before .before .before .before .before .before .before .before .before .before .before .before .before .args .sheet .now) _ _ _ (c .before .before .before .before .before .before .before .before .before .before .before .before .before .before .before .before .before .before .before .args .c) _ (c .before .before .before .before .before .before .before .before .before .before .before .before .before .before .before .before .before .before .before .args .out) _ _ _ (rw (c .before .before .before .before .before .before .before .before .before .before .before .t .given .1) at (c .before .before .before .before .before .before .before .before .before .before .before .before .before .before .before .track-items .ensures)) (c .before .before .before .before .before .before .before .patch-count .ensures) (c .before .before .before .put-opt-loop .ensures) (c .leave-group .ensures)
 
 pub track-value-spec : {M : Type 1} → statement M
 track-value-spec =
