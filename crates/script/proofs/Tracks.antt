@@ -1,0 +1,1 @@
+-- Tracks. Assumes nothing.
