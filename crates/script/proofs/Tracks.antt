@@ -1,30 +1,28 @@
 -- Demand 3's facts on keyframe times, for every track of a tree. Assumes nothing.
-use Prim.Native.Nat.{ℕ, zero, suc, _+_, _≤_}
+use Prim.Native.Nat.{ℕ, zero, suc}
 use mathlib.Core.Bool.{Bool, true, false, cond}
-use mathlib.Core.List.{List, [], _∷_, _++_, map, map-append}
+use mathlib.Core.List.{List, [], _∷_, map, map-append}
 use mathlib.Core.Option.{Option, none, some, Option·some-injective}
-use mathlib.Core.Path.{_≡_, refl, sym, ap, _∙_, subst}
-use mathlib.Core.Logic.{_≢_, inl, inr}
+use mathlib.Core.Path.{_≡_, refl, sym, ap, _∙_}
+use mathlib.Core.Logic.{inl, inr}
 use native.Mathlib.Omega.{arith}
-use lib.ListN.{length, getElem?}
-use lib.Ieee.{Float}
+use lib.ListN.{getElem?}
 use Rattle.number.specs.Number.{f32, bits}
-use Rattle.number.specs.Time.{Key, storedTime, duplicates, FairPercent, AtMost, Within, Far, Equal, Close, Each, Pairs}
+use Rattle.number.specs.Time.{Key, storedTime, duplicates}
 use Rattle.number.proofs.Floats.{f32-bits, stored-fits}
 use Rattle.number.proofs.Times.{stored-within}
 use Rattle.number.proofs.Tracks.{never, always}
 use Rattle.ast.specs.Tree.{KeyframeTime, percent, seconds, KeyframeEntry, KeyframeSpec, Leaf, keyframes, Nodes, leaf, box, mapFrames, mapLeaf, mapTimes, preorder}
 use Rattle.grammar.specs.Grammar.{stored}
 use Rattle.presets.specs.Colors.{colors}
-use Rattle.validate.specs.Rules.{timeOf, validateNodes}
+use Rattle.validate.specs.Rules.{timeOf}
 use Rattle.validate.specs.Checking.{answerOf, judged}
 use Rattle.validate.proofs.FrameLaws.{stamps, none≢some}
 use Rattle.error.specs.declared.Refusal.{Refusal}
 use Rattle.error.specs.declared.Refusal.the-variants.{DuplicateTime}
-use Rattle.error.specs.declared.CheckAnswer.{CheckAnswer}
 use Rattle.error.specs.declared.CheckAnswer.the-variants.{Accepted, Refused}
-use Rattle.script.specs.Claim.{times, StoredWithin, TrackClaim}
-use Rattle.script.proofs.Faults.{track-clear, track-near, clear, Located, locate}
+use Rattle.script.specs.Claim.{times, TrackClaim}
+use Rattle.script.proofs.Faults.{track-clear, track-near, clear, locate}
 
 -- ---- the stored times of a track
 
