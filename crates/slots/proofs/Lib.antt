@@ -2,3 +2,4 @@ pub mod SortLaws
 pub mod HeldLaws
 pub mod GatherLaws
 pub mod KeptLaws
+pub mod TimedLaws

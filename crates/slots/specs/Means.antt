@@ -47,6 +47,9 @@ use Rattle.slots.specs.declared.Others.{Others}
 use Rattle.slots.specs.declared.Ended.{Ended}
 use Rattle.slots.specs.declared.Ended.the-variants as ended
 use Rattle.slots.specs.declared.Gathered.{Gathered}
+use Rattle.slots.specs.declared.Timed.{Timed}
+use Rattle.slots.specs.declared.Timed.the-variants as timed
+use Rattle.error.specs.declared.Refusal.the-variants.{MissingDuration}
 
 -- ---- the sorts of values
 
@@ -266,3 +269,12 @@ truthIn (kept.Whole n) = optBool.Absent
 truthIn (kept.Case k) = optBool.Absent
 truthIn (kept.Truth b) = optBool.Present b
 truthIn (kept.Ever b) = optBool.Absent
+
+-- ---- a duration, which must be there
+
+-- the duration in the slot i, or why there is none
+abbrev pub TimedMeans : Gathered → ℕ → Timed → Type 0
+TimedMeans g i (timed.Is x e) = (g .end ≡ ended.Is e) × (floatIn (keptAt (g .slots) i) ≡ optFloat.Present x)
+TimedMeans g i (timed.Refused r q) =
+    (g .end ≡ ended.Refused r q)
+    ⊎ ((e : Cursor) × (g .end ≡ ended.Is e) × (floatIn (keptAt (g .slots) i) ≡ optFloat.Absent) × (r ≡ MissingDuration) × (q ≡ e .head .start))

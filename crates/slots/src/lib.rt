@@ -10,7 +10,7 @@ ghost use Rattle.text.specs.Words.{table};
 ghost use Rattle.grammar.specs.Rule.{choiceIn};
 ghost use Rattle.grammar.specs.Fields.{Table, Fields};
 ghost use Rattle.cursor.specs.Means.{Ready};
-ghost use Rattle.slots.specs.Means.{noSlots, ContentMeans, CaseContentMeans, everOf, keptOver, slotWith, besides, othersWith, Laid, Layout, Held, ListMeans, PairsMeans, noOthers, keptAt, floatIn, wholeIn, caseIn, truthIn};
+ghost use Rattle.slots.specs.Means.{noSlots, ContentMeans, CaseContentMeans, everOf, keptOver, slotWith, besides, othersWith, Laid, Layout, Held, ListMeans, PairsMeans, noOthers, keptAt, floatIn, wholeIn, caseIn, truthIn, TimedMeans};
 use ast::DampingMode;
 use ast::EasingSpec;
 use ast::LoopSpec;
@@ -609,4 +609,31 @@ pub fn ever_at(slots: [Slot; 10], i: usize) -> bool
     let slot = slots[i];
     let x = slot.kept;
     ever_of(x)
+}
+
+// ---- a duration, which must be there
+
+// The duration and the cursor behind the fields.
+pub enum Timed {
+    Is(f32, Cursor),
+    Refused(Refusal, usize),
+}
+
+// The duration among fields that were read, in the slot i.
+pub fn duration_in(g: Gathered, i: usize) -> Timed
+    requires { ⌜ i < 10 ⌝ }
+    ensures { λ r. ⌜ TimedMeans g i r ⌝ }
+{
+    let slots = g.slots;
+    let end = g.end;
+    match end {
+        Ended::Refused(r, p) => Timed::Refused(r, p),
+        Ended::Is(e) => match float_at(slots, i) {
+            OptF32::Present(x) => Timed::Is(x, e),
+            OptF32::Absent => {
+                let head = e.head;
+                Timed::Refused(Refusal::MissingDuration, head.start)
+            }
+        },
+    }
 }

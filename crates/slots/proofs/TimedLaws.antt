@@ -1,33 +1,29 @@
 -- A list of fields with a duration, which must be there. Assumes nothing.
-use Prim.Native.Nat.{ℕ, _≤_}
-use Prim.Native.String.{String}
+-- the fields of a list, and the duration among them
+use Prim.Native.Nat.{ℕ}
 use mathlib.Core.List.{List, []}
-use mathlib.Core.Logic.{_⊎_, inl, inr}
+use mathlib.Core.Logic.{inl, inr}
 use mathlib.Core.Option.{Option, none, some}
-use mathlib.Core.Path.{_≡_, refl, sym, subst, _∙_, ap}
+use mathlib.Core.Path.{_≡_, sym, subst, _∙_, ap}
 use native.Mathlib.Omega.{arith}
 use lib.ListN.{getD, getElem?}
 use lib.Ieee.{Float}
 use Rattle.number.specs.Number.{bits}
-use Rattle.ast.specs.declared.OptF32.{OptF32}
-use Rattle.ast.specs.declared.OptF32.the-variants as optFloat
 use Rattle.encode.specs.Of.{Plain, optFloatOf, PlainOptFloat}
 use Rattle.error.specs.declared.Refusal.{Refusal}
 use Rattle.error.specs.declared.Refusal.the-variants.{MissingDuration}
-use Rattle.grammar.specs.Rule.{Rule, Out, got, refused, after, need, _>>=_}
+use Rattle.token.specs.Token.{Token}
+use Rattle.grammar.specs.Rule.{Rule, Notes, Out, got, refused, after, need, _>>=_}
 use Rattle.grammar.specs.Fields.{Table, Fields, Content, numberOf, parseFieldList}
-use Rattle.cursor.specs.Means.{run, Took, notes, tokens}
+use Rattle.cursor.specs.Means.{run, Took}
 use Rattle.cursor.specs.declared.Cursor.{Cursor}
-use Rattle.slots.specs.Means.{sortRank, Held, Said, ListMeans, EndMeans, keptAt, floatIn}
+use Rattle.slots.specs.Means.{TimedMeans, sortRank, Held, Said, ListMeans, EndMeans, keptAt}
 use Rattle.slots.specs.declared.Gathered.{Gathered}
 use Rattle.slots.specs.declared.Ended.{Ended}
 use Rattle.slots.specs.declared.Ended.the-variants as ended
 use Rattle.slots.proofs.KeptLaws.{float-held, float-plain}
-use Rattle.heads.proofs.NameLaws.{refused≢got}
-use Rattle.nodes.specs.Means.{TimedMeans}
-use Rattle.nodes.specs.declared.Timed.the-variants as timed
+use Rattle.slots.specs.declared.Timed.the-variants as timed
 
--- the fields of a list, and the duration among them
 pub record TimedAt (s : List ℕ) (lo : ℕ) (sorts : List ℕ) (c e : Cursor) (t : Table) (g : Gathered) (x : Float) : Type 0 where
   pub fields : Fields
   pub took : Took 0 s c e (parseFieldList t []) fields
@@ -65,6 +61,9 @@ module _ (s : List ℕ) (lo : ℕ) (sorts : List ℕ) (c : Cursor) (t : Table) (
       let d = said (m .0) h in
       let z : numberOf "duration" (h .0) ≡ none = sym (float-held "duration" (h .0) (keptAt (g .slots) i) d) ∙ ap optFloatOf (m .2) in
       rw (h .1 .is, z, h .1 .ready .head .place, m .3, m .4)
+
+refused≢got : {A B : Type 0} {r : Refusal} {q : ℕ} {a : A} {l : Notes} {ts : List Token} → Prim.Path (Out A) (refused r q) (got a l ts) → B
+refused≢got e = absurd (let z : _≡_ {A = ℕ} 0 1 = cc in omega arith)
 
 -- the same refusal of another rule
 refused-too : {A B : Type 0} (r a : Refusal) (p q : ℕ) → Prim.Path (Out A) (refused r p) (refused a q) → Prim.Path (Out B) (refused r p) (refused a q)
