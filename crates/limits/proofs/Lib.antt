@@ -1,3 +1,4 @@
 pub mod PlaceLaws
 pub mod RunLaws
 pub mod TakeLaws
+pub mod ListLaws
