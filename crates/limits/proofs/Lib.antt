@@ -2,3 +2,4 @@ pub mod PlaceLaws
 pub mod RunLaws
 pub mod TakeLaws
 pub mod ListLaws
+pub mod SizeLaws
