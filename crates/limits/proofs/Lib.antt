@@ -3,3 +3,4 @@ pub mod RunLaws
 pub mod TakeLaws
 pub mod ListLaws
 pub mod SizeLaws
+pub mod ValueLaws

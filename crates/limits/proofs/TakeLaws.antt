@@ -176,6 +176,20 @@ word-of {s = s} {q = q} {start = start} x = record {
   behind = name-last x;
 }
 
+-- where a name stands next
+pub next-name : (s : List ℕ) (m : ℕ) → m ≤ length s → (w : List ℕ) → kind (tokensFrom s m) ≡ name w → (m ≤ place (tokensFrom s m)) × (isName (getD s m 0) ≡ false → m < place (tokensFrom s m))
+next-name s m h w e = go (front s m h)
+  where
+    by : (start : ℕ) (k : Kind) (n : ℕ) → Stands s m start k n → k ≡ name w → (m ≤ place (tokensFrom s m)) × (isName (getD s m 0) ≡ false → m < place (tokensFrom s m))
+    by start (name v) n x f = let y = word-of x in (omega (arith, y .low, y .place), λ z. omega (arith, y .apart z, y .place))
+    by start (number v) n x f = absurd (let z : _≡_ {A = ℕ} 0 1 = cc in omega arith)
+    by start (quoted v) n x f = absurd (let z : _≡_ {A = ℕ} 0 1 = cc in omega arith)
+    by start (mark b) n x f = absurd (let z : _≡_ {A = ℕ} 0 1 = cc in omega arith)
+
+    go : Front s m → (m ≤ place (tokensFrom s m)) × (isName (getD s m 0) ≡ false → m < place (tokensFrom s m))
+    go (over b f) = let g : mark 0 ≡ name w = sym (ap kind f) ∙ e in absurd (let z : _≡_ {A = ℕ} 0 1 = cc in omega arith)
+    go (next start k n x) = by start k n x (sym (ap kind (x .is)) ∙ e)
+
 pub a-word : {s : List ℕ} {q : ℕ} → q ≤ length s → Runs s word q (Word s q)
 a-word {s = s} {q = q} h = record { run = λ l. by-front s q (λ ts. word l ts) (Word s q) h (λ b f. tt) (λ start k n x. go l start k n x) }
   where
