@@ -4,3 +4,4 @@ pub mod TakeLaws
 pub mod ListLaws
 pub mod SizeLaws
 pub mod ValueLaws
+pub mod FieldLaws

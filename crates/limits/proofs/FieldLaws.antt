@@ -1,0 +1,141 @@
+-- Lists of fields: what their contents are, and what text they take. Assumes nothing.
+use Prim.Native.Nat.{ℕ, zero, suc, _+_, _-_, _*_, _^_, _≤_, _<_}
+use Prim.Native.String.{String}
+use mathlib.Core.Bool.{Bool, true, false, cond}
+use mathlib.Core.List.{List, [], _∷_, _++_}
+use mathlib.Core.Option.{Option, none, some, Option·some-injective}
+use mathlib.Core.Path.{_≡_, refl, sym, ap, _∙_, subst}
+use native.Mathlib.Omega.{arith}
+use lib.Dec.{eqb}
+use lib.ListN.{length}
+use Rattle.text.specs.Bytes.{bytes, same, oneOf}
+use Rattle.text.specs.Words.{orElse}
+use Rattle.text.proofs.WordLaws.{same-eq}
+use Rattle.codec.specs.Codec.{Form, opt, below}
+use Rattle.codec.proofs.Laws.{Small, All, Law, optL, belowL}
+use Rattle.encode.proofs.FieldLaws.{small}
+use Rattle.ast.specs.Tree.{ValueExpr}
+use Rattle.sheet.specs.Sheet.{valueForm}
+use Rattle.sheet.proofs.Laws.{wordL, valueL, easingL, loopL, dampingL}
+use Rattle.token.specs.Token.{Kind, name, number, quoted, mark, tokensFrom, kind, isMark}
+use Rattle.error.specs.declared.Refusal.the-variants.{UnknownKeyword}
+use Rattle.grammar.specs.Rule.{Rule, Next, more, done, give, seesWord, skip}
+use Rattle.grammar.specs.Fields.{Content, Entry, Fields, Table, rowOf, fieldHead, fieldValue, entry, pairName, onePair, pairs, Item, halts, closes, passes, starts, itemOf, fieldName, oneField, byItem, fieldsStep, parseFieldList, last, called, numberOf, easingOf, loopModeOf, valueOf, dampingOf, rangeOf}
+use Rattle.limits.proofs.RunLaws.{Outcome, Runs, gives, then, and, weaken, tests, needs, Onto, repeats}
+use Rattle.limits.proofs.TakeLaws.{a-word, the-mark, skips, skips-word}
+use Rattle.limits.proofs.ListLaws.{lists}
+
+-- ---- what is there
+
+abbrev pub On : {A : Type 0} → (A → Type 0) → Option A → Type 0
+On P none = Unit {0}
+On P (some a) = P a
+
+pub on-map : {A : Type 0} (P Q : A → Type 0) → ((a : A) → P a → Q a) → (o : Option A) → On P o → On Q o
+on-map P Q f none h = tt
+on-map P Q f (some a) h = f a h
+
+pub on-is : {A : Type 0} (P : A → Type 0) (o : Option A) (a : A) → o ≡ some a → On P o → P a
+on-is P o a e h = subst (On P) e h
+
+pub on-ok : {A : Type 0} {c : Form A} (l : Law c) (o : Option A) → On (l .ok) o → optL l .ok o
+on-ok l none h = tt
+on-ok l (some a) h = h
+
+-- ---- contents
+
+-- what the number of a field is below: the number of cases, where it is the position of one
+unfoldable pub limit : List ℕ → ℕ
+limit w =
+    cond (same w (bytes "preset")) 5
+    (cond (same w (bytes "integrator")) 2
+    (cond (same w (bytes "origin")) 9
+    (cond (same w (bytes "space")) 3 4294967296)))
+
+-- the content c of a field named w, in a text of n bytes; an array is found under a long name alone
+pub record Fair (n : ℕ) (w : List ℕ) (c : Content) : Type 0 where
+  pub long : 3 ≤ length w
+  pub number : On (λ x. x < limit w) (c .number)
+  pub easing : On (easingL n .ok) (c .easing)
+  pub loopMode : On (loopL .ok) (c .loopMode)
+  pub value : On (λ v. valueL .ok v × (8 ≤ length w)) (c .value)
+  pub damping : On (dampingL .ok) (c .damping)
+  pub range : On (λ p. Small 4 (p .0) × Small 4 (p .1)) (c .range)
+
+-- what a content takes of the text, 3 for each byte: an array of more than a number counts with its elements
+abbrev pub weight : Content → ℕ
+weight c = 3 + (length (opt valueForm .write (c .value)) - 6)
+
+abbrev pub price : Entry → ℕ
+price e = 3 * length (e .0) + 3 + weight (e .1)
+
+abbrev pub total : Fields → ℕ
+total [] = 0
+total (e ∷ es) = price e + total es
+
+abbrev pub AllFair : ℕ → Fields → Type 0
+AllFair n fs = All (λ e. Fair n (e .0) (e .1)) fs
+
+-- ---- tables
+
+module _ (s : List ℕ) where
+  pub record Held (w : List ℕ) (q : ℕ) (c : Content) (m : ℕ) : Type 0 where
+    pub fair : Fair (length s) w c
+    pub paid : weight c + 3 * q ≤ 3 * m
+
+  abbrev pub Row : String × Rule Content → Type 0
+  Row f = (q : ℕ) → q ≤ length s → Runs s (f .1) q (Held (bytes (f .0)) q)
+
+  row-in : (t : Table) (w : List ℕ) (f : String × Rule Content) → All Row t → rowOf t w ≡ some f → (w ≡ bytes (f .0)) × Row f
+  unfolding rowOf
+  row-in [] w f h e = absurd (let z : _≡_ {A = ℕ} 0 1 = cc in omega arith)
+  row-in (g ∷ t) w f h e = go (same w (bytes (g .0))) refl e (λ x. row-in t w f (h .1) x)
+    where
+      go : (b : Bool) → same w (bytes (g .0)) ≡ b → elim b as (λ x. Option (String × Rule Content)) [ true ↦ some g | false ↦ rowOf t w ] ≡ some f → (rowOf t w ≡ some f → (w ≡ bytes (f .0)) × Row f) → (w ≡ bytes (f .0)) × Row f
+      go true q x ih = subst (λ (y : String × Rule Content). (w ≡ bytes (y .0)) × Row y) (Option·some-injective g f x) (same-eq w (bytes (g .0)) q, h .0)
+      go false q x ih = ih x
+
+  -- a field's name, which takes as many bytes as it has
+  abbrev Names : Rule (List ℕ) → Type 0
+  Names p = (q : ℕ) → q ≤ length s → Runs s p q (λ w m. q + length w ≤ m)
+
+  pair-name : Names pairName
+  unfolding pairName
+  pair-name q h = then (a-word h) (λ w m g x. gives g (omega (arith, x .low, x .end)))
+
+  field-name : Names fieldName
+  unfolding fieldName
+  field-name q h = tests (seesWord "loop") (λ e. and {f = give (bytes "loop")} (skips-word h (bytes "loop") e) (λ m g u x. gives g x)) (λ e. pair-name q h)
+
+  entry-runs : (p : Rule (List ℕ)) (t : Table) → Names p → All Row t → (q : ℕ) → q ≤ length s → Runs s (entry p t) q (λ e m. Fair (length s) (e .0) (e .1) × (price e + 3 * q ≤ 3 * m))
+  unfolding entry fieldHead fieldValue
+  entry-runs p t names rows q h =
+      then (head q h) (λ f m g x. then (x .1 m g) (λ c n i y. gives i (y .fair, omega (arith, x .0, y .paid))))
+    where
+      Head : ℕ → String × Rule Content → ℕ → Type 0
+      Head q f m = (q + length (bytes (f .0)) < m) × Row f
+
+      head : (q : ℕ) → q ≤ length s → Runs s (fieldHead p t) q (Head q)
+      head q h = then (names q h) (λ w m g x. and (the-mark g 58 refl) (λ n i u y. weaken (needs UnknownKeyword (rowOf t w) i) (λ f o z. let r = row-in t w f rows (z .1) in (let e = ap length (r .0) in let k = z .0 in omega arith, r .1))))
+
+  -- the fields fs, which were gs at q
+  pub record Listed (gs : Fields) (q : ℕ) (fs : Fields) (m : ℕ) : Type 0 where
+    pub fair : AllFair (length s) fs
+    pub low : q ≤ m
+    pub paid : total fs + 3 * q ≤ 3 * m + total gs
+
+  start : (fs : Fields) (q : ℕ) → AllFair (length s) fs → Listed fs q fs q
+  start fs q h = record { fair = h; low = omega arith; paid = omega arith }
+
+  later : (gs : Fields) (q : ℕ) (fs : Fields) (m n : ℕ) → m ≤ n → Listed gs q fs m → Listed gs q fs n
+  later gs q fs m n h i = record { fair = i .fair; low = omega (arith, i .low); paid = omega (arith, i .paid) }
+
+  one-more : (gs : Fields) (q : ℕ) (fs : Fields) (m n : ℕ) (e : Entry) → Listed gs q fs m → Fair (length s) (e .0) (e .1) → price e + 3 * m ≤ 3 * n → Listed gs q (e ∷ fs) n
+  one-more gs q fs m n e i f p = record { fair = (f, i .fair); low = omega (arith, i .low, p); paid = omega (arith, i .paid, p) }
+
+  pub pairs-run : (t : Table) → All Row t → (q : ℕ) → q ≤ length s → Runs s (pairs t) q (Listed [] q)
+  unfolding pairs onePair
+  pairs-run t rows q h =
+      lists (Listed [] q) (Listed [] q) (λ fs m i. i) (λ fs m n l i. later [] q fs m n (omega arith) i) (onePair t)
+      (λ fs m g i. then (entry-runs pairName t pair-name rows m g) (λ e n f x. gives f (one-more [] q fs m n e i (x .0) (x .1))))
+      h (start [] q tt)
