@@ -139,3 +139,50 @@ module _ (s : List ℕ) where
       lists (Listed [] q) (Listed [] q) (λ fs m i. i) (λ fs m n l i. later [] q fs m n (omega arith) i) (onePair t)
       (λ fs m g i. then (entry-runs pairName t pair-name rows m g) (λ e n f x. gives f (one-more [] q fs m n e i (x .0) (x .1))))
       h (start [] q tt)
+
+  -- ---- parse_field_list
+
+  -- an item that does not halt is not the text's end
+  goes : (k : Kind) (x : Item) → itemOf k ≡ x → (x ≡ halts → ⊥) → isMark k 0 ≡ false
+  unfolding itemOf oneOf
+  goes (name w) x e n = refl
+  goes (number w) x e n = refl
+  goes (quoted w) x e n = refl
+  goes (mark b) x e n = go (eqb b 0) refl
+    where
+      go : (y : Bool) → eqb b 0 ≡ y → y ≡ false
+      go true f = absurd (n (sym e ∙ (rw f)))
+      go false f = refl
+
+  not-closes : closes ≡ halts → ⊥
+  not-closes e = let z : _≡_ {A = ℕ} 0 1 = cc in omega arith
+
+  not-passes : passes ≡ halts → ⊥
+  not-passes e = let z : _≡_ {A = ℕ} 0 1 = cc in omega arith
+
+  module _ (t : Table) (rows : All Row t) (gs : Fields) (q : ℕ) where
+    step-runs : (fs : Fields) (m : ℕ) → m ≤ length s → Listed gs q fs m → Runs s (fieldsStep t fs) m (Onto (Listed gs q) (Listed gs q))
+    unfolding fieldsStep oneField
+    step-runs fs m g i = record { run = λ l. by (itemOf (kind (tokensFrom s m))) refl .run l }
+      where
+        by : (x : Item) → itemOf (kind (tokensFrom s m)) ≡ x → Runs s (byItem x t fs) m (Onto (Listed gs q) (Listed gs q))
+        by halts e = gives g i
+        by closes e = and {f = give (done fs)} (skips g (goes (kind (tokensFrom s m)) closes e not-closes)) (λ n f u x. gives f (later gs q fs m n (omega (arith, x .on)) i))
+        by passes e = and {f = give (more fs)} (skips g (goes (kind (tokensFrom s m)) passes e not-passes)) (λ n f u x. gives f (later gs q fs m n (omega (arith, x .on)) i))
+        by starts e = then (entry-runs fieldName t field-name rows m g) (λ e n f x. gives f (one-more gs q fs m n e i (x .0) (x .1)))
+
+    pub fields-run : q ≤ length s → AllFair (length s) gs → Runs s (parseFieldList t gs) q (Listed gs q)
+    unfolding parseFieldList
+    fields-run h f = repeats (Listed gs q) (Listed gs q) (λ fs m i. i) (fieldsStep t) step-runs h (start gs q f)
+
+-- ---- what a list says
+
+module _ (n : ℕ) where
+  last-in : {A : Type 0} (f : Entry → Option A) (P : A → Type 0) → ((e : Entry) → Fair n (e .0) (e .1) → On P (f e)) → (fs : Fields) → AllFair n fs → On P (last f fs)
+  unfolding last
+  last-in f P k [] h = tt
+  last-in f P k (e ∷ fs) h = go (f e) (k e (h .0)) (last-in f P k fs (h .1))
+    where
+      go : (o : Option _) → On P o → On P (last f fs) → On P (orElse o (last f fs))
+      go none x y = y
+      go (some a) x y = x
