@@ -186,3 +186,61 @@ module _ (n : ℕ) where
       go : (o : Option _) → On P o → On P (last f fs) → On P (orElse o (last f fs))
       go none x y = y
       go (some a) x y = x
+
+  module _ (fs : Fields) (h : AllFair n fs) where
+    pub number-in : (w : String) (k : ℕ) → limit (bytes w) ≡ k → On (λ x. x < k) (numberOf w fs)
+    number-in w k l = last-in (called w (λ c. c .number)) (λ x. x < k) (λ e f. go e f (same (e .0) (bytes w)) refl) fs h
+      where
+        go : (e : Entry) → Fair n (e .0) (e .1) → (b : Bool) → same (e .0) (bytes w) ≡ b → On (λ x. x < k) (cond b (e .1 .number) none)
+        go e f true q = let z : limit (e .0) ≡ k = ap limit (same-eq (e .0) (bytes w) q) ∙ l in on-map (λ x. x < limit (e .0)) (λ x. x < k) (λ x y. omega arith) (e .1 .number) (f .number)
+        go e f false q = tt
+
+    pub word-in : (w : String) → limit (bytes w) ≡ 4294967296 → On (Small 4) (numberOf w fs)
+    word-in w l = on-map (λ x. x < 4294967296) (Small 4) (λ x y. small 4 x y) (numberOf w fs) (number-in w 4294967296 l)
+
+    pub easing-in : On (easingL n .ok) (easingOf fs)
+    easing-in = last-in (λ e. e .1 .easing) (easingL n .ok) (λ e f. f .easing) fs h
+
+    pub loop-in : On (loopL .ok) (loopModeOf fs)
+    loop-in = last-in (λ e. e .1 .loopMode) (loopL .ok) (λ e f. f .loopMode) fs h
+
+    pub value-in : On (valueL .ok) (valueOf fs)
+    value-in = last-in (λ e. e .1 .value) (valueL .ok) (λ e f. on-map (λ v. valueL .ok v × (8 ≤ length (e .0))) (valueL .ok) (λ v x. x .0) (e .1 .value) (f .value)) fs h
+
+    pub damping-in : On (dampingL .ok) (dampingOf fs)
+    damping-in = last-in (λ e. e .1 .damping) (dampingL .ok) (λ e f. f .damping) fs h
+
+    pub range-in : On (λ p. Small 4 (p .0) × Small 4 (p .1)) (rangeOf fs)
+    range-in = last-in (λ e. e .1 .range) (λ p. Small 4 (p .0) × Small 4 (p .1)) (λ e f. f .range) fs h
+
+  -- ---- what text a list takes at least
+
+  -- what an entry that is selected takes, the list takes
+  total-last : {A : Type 0} (f : Entry → Option A) (cost : A → ℕ) → ((e : Entry) (a : A) → Fair n (e .0) (e .1) → f e ≡ some a → cost a ≤ price e) → (fs : Fields) → AllFair n fs → (a : A) → last f fs ≡ some a → cost a ≤ total fs
+  unfolding last
+  total-last f cost k [] h a e = absurd (let z : _≡_ {A = ℕ} 0 1 = cc in omega arith)
+  total-last {A = A} f cost k (x ∷ fs) h a e = go (f x) refl e (λ g. total-last f cost k fs (h .1) a g)
+    where
+      go : (o : Option A) → f x ≡ o → orElse o (last f fs) ≡ some a → (last f fs ≡ some a → cost a ≤ total fs) → cost a ≤ price x + total fs
+      go none q g ih = let z = ih g in omega arith
+      go (some b) q g ih = let z = k x a (h .0) (q ∙ g) in omega arith
+
+  module _ (fs : Fields) (h : AllFair n fs) where
+    pub total-number : (w : String) (d : ℕ) → numberOf w fs ≡ some d → 3 * length (bytes w) + 6 ≤ total fs
+    total-number w d e = total-last (called w (λ c. c .number)) (λ x. 3 * length (bytes w) + 6) (λ x a f g. go x a (same (x .0) (bytes w)) refl g) fs h d e
+      where
+        go : (x : Entry) (a : ℕ) (b : Bool) → same (x .0) (bytes w) ≡ b → cond {A = Option ℕ} b (x .1 .number) none ≡ some a → 3 * length (bytes w) + 6 ≤ price x
+        go x a true q g = let z = ap length (same-eq (x .0) (bytes w) q) in omega arith
+        go x a false q g = absurd (let z : _≡_ {A = ℕ} 0 1 = cc in omega arith)
+
+    pub total-value : (v : ValueExpr) → valueOf fs ≡ some v → 25 + length (valueForm .write v) ≤ total fs
+    total-value v e = total-last (λ x. x .1 .value) (λ a. 25 + length (valueForm .write a)) (λ x a f g. go x a g (f .value)) fs h v e
+      where
+        go : (x : Entry) (a : ValueExpr) → x .1 .value ≡ some a → On (λ b. valueL .ok b × (8 ≤ length (x .0))) (x .1 .value) → 25 + length (valueForm .write a) ≤ price x
+        go x a g f =
+            let l = on-is (λ b. valueL .ok b × (8 ≤ length (x .0))) (x .1 .value) a g f .1 in
+            let z = ap (λ (o : Option ValueExpr). length (opt valueForm .write o)) g in
+            omega arith
+
+  pub total-some : (e : Entry) (fs : Fields) → AllFair n (e ∷ fs) → 15 ≤ total (e ∷ fs)
+  total-some e fs h = omega (arith, h .0 .long)
