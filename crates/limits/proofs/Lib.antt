@@ -5,3 +5,4 @@ pub mod ListLaws
 pub mod SizeLaws
 pub mod ValueLaws
 pub mod FieldLaws
+pub mod CurveLaws

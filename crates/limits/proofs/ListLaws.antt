@@ -8,7 +8,7 @@ use mathlib.Core.Path.{_≡_, refl, sym, ap, _∙_, subst}
 use native.Mathlib.Omega.{arith}
 use lib.ListN.{length}
 use Rattle.text.specs.Bytes.{bytes, same}
-use Rattle.text.specs.Words.{find, under}
+use Rattle.text.specs.Words.{find, under, default}
 use Rattle.text.proofs.WordLaws.{same-eq}
 use Rattle.codec.proofs.Laws.{All}
 use Rattle.error.specs.declared.Refusal.{Refusal}
@@ -65,3 +65,11 @@ pub by-word : {A : Type 0} {s : List ℕ} {q : ℕ} {Q : A → ℕ → Type 0} (
     → All (λ f. w ≡ bytes (f .0) → Runs s (f .1) q Q) t → Runs s (need r (under t w) >>= λ p. p) q Q
 by-word {s = s} {q = q} {Q = Q} r t w h x =
     then (needs r (under t w) h) (λ p m g e. subst (λ (n : ℕ). Runs s p n Q) (sym (e .0)) (under-row (λ p. Runs s p q Q) t w p x (e .1)))
+
+pub by-word-or : {A : Type 0} {s : List ℕ} {q : ℕ} {Q : A → ℕ → Type 0} (t : List (String × Rule A)) (w : List ℕ) (p : Rule A)
+    → All (λ f. w ≡ bytes (f .0) → Runs s (f .1) q Q) t → Runs s p q Q → Runs s (default (under t w) p) q Q
+by-word-or {A = A} {s = s} {q = q} {Q = Q} t w p x y = go (under t w) refl
+  where
+    go : (o : Option (Rule A)) → under t w ≡ o → Runs s (default o p) q Q
+    go none e = y
+    go (some r) e = under-row (λ r. Runs s r q Q) t w r x e

@@ -12,7 +12,7 @@ use lib.Ieee.Fits.{round-fits}
 use borrow.Author.Tests.{ltb-false, le-leb}
 use Rattle.text.specs.Bytes.{isName, bytes}
 use Rattle.number.specs.Number.{Written, nearest, whole, bits}
-use Rattle.number.proofs.Floats.{nearest-fits}
+use Rattle.number.proofs.Floats.{nearest-fits, bits-lt}
 use Rattle.codec.specs.Codec.{eachOut}
 use Rattle.codec.proofs.Laws.{Small, All}
 use Rattle.encode.proofs.FieldLaws.{small, small-bits, length-word}
@@ -30,8 +30,8 @@ use Rattle.limits.proofs.ListLaws.{lists}
 
 -- ---- small numbers
 
-f32-small : (b : Bool) (w : Written) → Small 4 (bits (nearest b w))
-f32-small b w = small-bits (nearest b w) (nearest-fits b w)
+f32-below : (b : Bool) (w : Written) → bits (nearest b w) < 4294967296
+f32-below b w = bits-lt (nearest b w) (nearest-fits b w)
 
 pub f32Of-small : (n d : ℕ) → Small 4 (f32Of n d)
 unfolding f32Of
@@ -55,7 +55,7 @@ is-true e = subst T (sym e) tt
 module _ (s : List ℕ) (short : length s ≤ 16384) where
   -- ---- names and strings as spans
 
-  span-fits : (a b : ℕ) → a + b ≤ length s → spanL (length s) .ok (record { start = a; size = b })
+  pub span-fits : (a b : ℕ) → a + b ≤ length s → spanL (length s) .ok (record { start = a; size = b })
   span-fits a b h = ((small 2 a (omega (arith, short)), small 2 b (omega (arith, short))), is-true (le-leb (a + b) (length s) h))
 
   pub record Named (q : ℕ) (x : Span) (m : ℕ) : Type 0 where
@@ -86,12 +86,12 @@ module _ (s : List ℕ) (short : length s ≤ 16384) where
 
   -- a number in 4 bytes, from q to m
   pub record Four (q n m : ℕ) : Type 0 where
-    pub ok : Small 4 n
+    pub ok : n < 4294967296
     pub is : Number s q m
 
   pub float-runs : (q : ℕ) → q ≤ length s → Runs s parseFloat q (Four q)
   unfolding parseFloat
-  float-runs q h = then (a-number h Malformed) (λ w m g x. gives g (record { ok = f32-small (w .0) (w .1); is = x }))
+  float-runs q h = then (a-number h Malformed) (λ w m g x. gives g (record { ok = f32-below (w .0) (w .1); is = x }))
 
   pub uint-runs : (q : ℕ) → q ≤ length s → Runs s parseUint q (λ n m. (n < 4294967296) × (q < m))
   unfolding parseUint
@@ -99,7 +99,7 @@ module _ (s : List ℕ) (short : length s ≤ 16384) where
 
   pub float-in-parens : (q : ℕ) → q ≤ length s → Runs s parseFloatInParens q (λ n m. Small 4 n × (q < m))
   unfolding parseFloatInParens
-  float-in-parens q h = weaken (in-group parseFloat Four h 40 refl float-runs) (λ n m x. (x .inner .ok, omega (arith, x .low, x .inner .is .on, x .left .low)))
+  float-in-parens q h = weaken (in-group parseFloat Four h 40 refl float-runs) (λ n m x. (small 4 n (x .inner .ok), omega (arith, x .low, x .inner .is .on, x .left .low)))
 
   pub uint-in-parens : (q : ℕ) → q ≤ length s → Runs s parseUintInParens q (λ n m. (n < 4294967296) × (q < m))
   unfolding parseUintInParens
@@ -107,14 +107,14 @@ module _ (s : List ℕ) (short : length s ≤ 16384) where
 
   pub comma-float : (q : ℕ) → q ≤ length s → Runs s commaFloat q (λ n m. Small 4 n × (q < m))
   unfolding commaFloat
-  comma-float q h = and (the-mark h 44 refl) (λ m g u x. weaken (float-runs m g) (λ n o y. (y .ok, omega (arith, x, y .is .on))))
+  comma-float q h = and (the-mark h 44 refl) (λ m g u x. weaken (float-runs m g) (λ n o y. (small 4 n (y .ok), omega (arith, x, y .is .on))))
 
   abbrev pub Two : ℕ → ℕ × ℕ → ℕ → Type 0
   Two q p m = (Small 4 (p .0) × Small 4 (p .1)) × (q < m)
 
   pub two-floats : (q : ℕ) → q ≤ length s → Runs s twoFloats q (Two q)
   unfolding twoFloats
-  two-floats q h = then (float-runs q h) (λ a m g x. then (comma-float m g) (λ b n f y. gives f ((x .ok, y .0), omega (arith, x .is .on, y .1))))
+  two-floats q h = then (float-runs q h) (λ a m g x. then (comma-float m g) (λ b n f y. gives f ((small 4 a (x .ok), y .0), omega (arith, x .is .on, y .1))))
 
   pub two-in-parens : (q : ℕ) → q ≤ length s → Runs s parseTwoFloatsInParens q (Two q)
   unfolding parseTwoFloatsInParens
@@ -122,7 +122,7 @@ module _ (s : List ℕ) (short : length s ≤ 16384) where
 
   -- ---- arrays
 
-  all-more : {A : Type 0} (P : A → Type 0) (xs : List A) (x : A) → All P xs → P x → All P (xs ++ x ∷ [])
+  pub all-more : {A : Type 0} (P : A → Type 0) (xs : List A) (x : A) → All P xs → P x → All P (xs ++ x ∷ [])
   all-more P [] x h p = (p, tt)
   all-more P (y ∷ xs) x h p = (h .0, all-more P xs x (h .1) p)
 
@@ -139,7 +139,7 @@ module _ (s : List ℕ) (short : length s ≤ 16384) where
       (λ xs m i. record { ok = i .ok; low = i .low; paid = omega (arith, i .paid) })
       (λ xs m n l i. record { ok = i .ok; low = omega (arith, i .low); paid = omega (arith, i .paid) })
       arrayItem
-      (λ xs m g i. then (float-runs m g) (λ x n f y. gives f (record { ok = all-more (Small 4) xs x (i .ok) (y .ok); low = omega (arith, i .low, y .is .on); paid = rw (length-append xs (x ∷ [])) (omega (arith, i .paid, y .is .on)) })))
+      (λ xs m g i. then (float-runs m g) (λ x n f y. gives f (record { ok = all-more (Small 4) xs x (i .ok) (small 4 x (y .ok)); low = omega (arith, i .low, y .is .on); paid = rw (length-append xs (x ∷ [])) (omega (arith, i .paid, y .is .on)) })))
       h (record { ok = tt; low = omega arith; paid = omega arith })
 
   words-length : (xs : List ℕ) → length (eachOut (word .write) xs) ≡ 4 * length xs
@@ -161,7 +161,7 @@ module _ (s : List ℕ) (short : length s ≤ 16384) where
   value-runs q h =
       tests (sees "[") (λ e. then (in-group arrayItems (λ i. Items i 1) h 91 refl items-run) (λ xs m g x. gives g (arrayed xs m g x)))
       (λ e. then (float-runs q h) (λ x m g y. gives g (record {
-        ok = y .ok;
+        ok = small 4 x (y .ok);
         on = y .is .on;
         paid = omega (arith, y .is .on, length-word x);
         before = λ w f. let z = next-name s m g w f .1 (y .is .behind) in omega (arith, y .is .on, length-word x);
