@@ -96,3 +96,105 @@ module _ (s : List ℕ) (short : length s ≤ 16384) where
         default-in (Small 4) (numberOf "strength" fs) (f32Of 1 2) (word-in (length s) fs (i .fair) "strength" refl) (f32Of-small 1 2),
         default-in (Small 4) (numberOf "points" fs) 8 (word-in (length s) fs (i .fair) "points" refl) refl,
       ), omega (arith, x .low, i .low, x .left .low)))
+
+  slow-runs : (q : ℕ) → q ≤ length s → Runs s slowMoCurve q (Curve q)
+  unfolding slowMoCurve slowMoFields limit same
+  slow-runs q h =
+      then (in-group (pairs slowMoFields) (Listed s []) h 40 refl (pairs-run s slowMoFields (number-row "linear_ratio" (omega arith) refl, (number-row "power" (omega arith) refl, tt))))
+      (λ fs m g x. let i = x .inner in gives g ((
+        default-in (Small 4) (numberOf "linear_ratio" fs) (f32Of 7 10) (word-in (length s) fs (i .fair) "linear_ratio" refl) (f32Of-small 7 10),
+        default-in (Small 4) (numberOf "power" fs) (f32Of 2 1) (word-in (length s) fs (i .fair) "power" refl) (f32Of-small 2 1),
+      ), omega (arith, x .low, i .low, x .left .low)))
+
+  steps-curve-runs : (q : ℕ) → q ≤ length s → Runs s stepsCurve q (Curve q)
+  unfolding stepsCurve
+  steps-curve-runs q h = then (uint-in-parens s short q h) (λ n m g x. gives g (small 4 n (x .0), x .1))
+
+  wiggle-runs : (q : ℕ) → q ≤ length s → Runs s wiggleCurve q (Curve q)
+  unfolding wiggleCurve
+  wiggle-runs q h = then (uint-in-parens s short q h) (λ n m g x. gives g (small 4 n (x .0), x .1))
+
+  -- an easing from q to m: a lone name is 3 bytes over
+  pub record Eased (q : ℕ) (e : EasingSpec) (m : ℕ) : Type 0 where
+    pub ok : easingL (length s) .ok e
+    pub on : q < m
+    pub paid : length (easingForm (length s) .write e) + 3 * place (tokensFrom s q) ≤ 3 * m + 3
+
+  -- behind the name w at the place p, i is the place of what follows
+  module _ (q i : ℕ) (w : ℕ × List ℕ) (x : Word s q w i) (h : i ≤ length s) where
+    curved : (p : Rule EasingSpec) (v : String) → 5 ≤ length (bytes v) → Runs s p i (Curve i) → w .1 ≡ bytes v → Runs s p i (Eased q)
+    curved p v l r e =
+        weaken r (λ c m y. let z = ap length e in record {
+          ok = y .0;
+          on = omega (arith, x .low, x .end, y .1);
+          paid = omega (arith, easing-most (length s) c .most, x .place, x .end, y .1);
+        })
+
+    named-runs : Runs s (namedEasing w) i (Eased q)
+    unfolding namedEasing variantEasing
+    named-runs =
+        tests (λ ts. same (w .1) (bytes "Easing") && seesTwo ":" ":" ts)
+        (λ e. and (two-marks h 58 58 refl refl) (λ m g u y. then (ident-runs s short m g) (λ t n f z. gives f (record {
+          ok = (omega arith, z .ok);
+          on = omega (arith, x .low, x .end, y, z .on);
+          paid = omega (arith, x .place, x .end, y, z .on);
+        }))))
+        (λ e. gives h (record {
+          ok = (omega arith, span-fits s short (w .0) (length (w .1)) (omega (arith, x .end)));
+          on = omega (arith, x .low, x .end, x .some);
+          paid = omega (arith, x .place, x .end, x .some);
+        }))
+
+    curve-or-runs : Runs s (curveOr w) i (Eased q)
+    unfolding curveOr curves
+    curve-or-runs =
+        by-word-or curves (w .1) (namedEasing w)
+        (curved bezierCurve "cubic_bezier" (omega arith) (bezier-runs i h),
+          (curved stepsCurve "steps" (omega arith) (steps-curve-runs i h),
+            (curved wiggleCurve "wiggle" (omega arith) (wiggle-runs i h),
+              (curved roughCurve "rough" (omega arith) (rough-runs i h), (curved slowMoCurve "slowmo" (omega arith) (slow-runs i h), tt)))))
+        named-runs
+
+  pub easing-runs : (q : ℕ) → q ≤ length s → Runs s parseEasing q (Eased q)
+  unfolding parseEasing
+  easing-runs q h = tests (sees "(") (λ e. refuses) (λ e. then (a-word h) (λ w m g x. curve-or-runs q m w x g))
+
+  -- ---- loop modes
+
+  pub record Looped (q : ℕ) (m : LoopSpec) (n : ℕ) : Type 0 where
+    pub ok : loopL .ok m
+    pub on : q < n
+
+  times-runs : (q : ℕ) → q ≤ length s → Runs s timesMode q (λ m n. loopL .ok m × (q ≤ n))
+  unfolding timesMode
+  times-runs q h = then (uint-in-parens s short q h) (λ k m g x. gives g (small 4 k (x .0), omega (arith, x .1)))
+
+  ping-pong-runs : (q : ℕ) → q ≤ length s → Runs s pingPongMode q (λ m n. loopL .ok m × (q ≤ n))
+  unfolding pingPongMode
+  ping-pong-runs q h = tests (sees "(") (λ e. then (uint-in-parens s short q h) (λ k m g x. gives g (small 4 k (x .0), omega (arith, x .1)))) (λ e. gives h (tt, omega arith))
+
+  pub loop-runs : (q : ℕ) → q ≤ length s → Runs s parseLoopMode q (Looped q)
+  unfolding parseLoopMode loopModes
+  loop-runs q h =
+      then (a-word h) (λ w m g x. weaken
+        (by-word {Q = λ l n. loopL .ok l × (m ≤ n)} Malformed loopModes (w .1) g
+          ((λ e. gives g (tt, omega arith)), ((λ e. gives g (tt, omega arith)), ((λ e. ping-pong-runs m g), ((λ e. times-runs m g), tt)))))
+        (λ l n y. record { ok = y .0; on = omega (arith, x .low, x .end, x .some, y .1) }))
+
+  -- ---- the other fields
+
+  pub easing-row : (w : String) → 3 ≤ length (bytes w) → Row s (w, easing)
+  unfolding easing
+  easing-row w l q h = then (easing-runs q h) (λ e m g x. gives g (record { fair = record { long = l; number = tt; easing = x .ok; loopMode = tt; value = tt; damping = tt; range = tt }; paid = omega (arith, x .on) }))
+
+  pub loop-row : (w : String) → 3 ≤ length (bytes w) → Row s (w, loopMode)
+  unfolding loopMode
+  loop-row w l q h = then (loop-runs q h) (λ e m g x. gives g (record { fair = record { long = l; number = tt; easing = tt; loopMode = x .ok; value = tt; damping = tt; range = tt }; paid = omega (arith, x .on) }))
+
+  pub flag-row : (w : String) → 3 ≤ length (bytes w) → Row s (w, flag)
+  unfolding flag
+  flag-row w l q h = then (truth-runs s short q h) (λ b m g x. gives g (record { fair = record { long = l; number = tt; easing = tt; loopMode = tt; value = tt; damping = tt; range = tt }; paid = omega (arith, x) }))
+
+  pub value-row : (w : String) → 8 ≤ length (bytes w) → Row s (w, value)
+  unfolding value
+  value-row w l q h = then (value-runs s short q h) (λ v m g x. gives g (record { fair = record { long = omega arith; number = tt; easing = tt; loopMode = tt; value = (x .ok, l); damping = tt; range = tt }; paid = omega (arith, x .on, x .paid) }))
