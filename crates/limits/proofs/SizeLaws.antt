@@ -1,5 +1,6 @@
 -- How many bytes the forms of the sheet write at most. Assumes nothing.
 use Prim.Native.Nat.{ℕ, zero, suc, _+_, _≤_, _<_}
+use mathlib.Core.Bool.{Bool}
 use mathlib.Core.List.{List, [], _∷_, _++_}
 use mathlib.Core.Option.{Option, none, some}
 use mathlib.Core.Path.{_≡_, refl}
@@ -8,6 +9,18 @@ use lib.ListN.{length, length-append}
 use Rattle.codec.specs.Codec.{Form, _▹_, opt, big, eachOut}
 use Rattle.encode.proofs.FieldLaws.{length-big, length-word}
 use Rattle.ast.specs.Tree.{
+  Span,
+  TweenSpec,
+  SpringSpec,
+  KeyframeEntry,
+  KeyframeSpec,
+  PathSpec,
+  MorphSpec,
+  DrawSpec,
+  ColorSpec,
+  WaveformSpec,
+  PresetCall,
+  AtSpec,
   ValueExpr,
   scalar,
   array,
@@ -37,15 +50,15 @@ use Rattle.ast.specs.Tree.{
   centerOut,
   edgesIn,
 }
-use Rattle.sheet.specs.Sheet.{word, valueForm, easingForm, loopForm, dampingForm, timeForm, patternForm}
+use Rattle.sheet.specs.Sheet.{word, flag, spanForm, entryForm, tweenForm, springForm, keyframesForm, pathForm, morphForm, drawForm, colorForm, waveformForm, presetForm, atForm, valueForm, easingForm, loopForm, dampingForm, timeForm, patternForm}
 
 -- these are at most k bytes
 pub record Most (x : List ℕ) (k : ℕ) : Type 0 where
   pub most : length x ≤ k
 
 -- as many as they are
-pub all : {x : List ℕ} → Most x (length x)
-all {x = x} = record { most = omega arith }
+pub all : (x : List ℕ) → Most x (length x)
+all x = record { most = omega arith }
 
 infixr 20 _⊕_
 pub _⊕_ : {x y : List ℕ} {j k : ℕ} → Most x j → Most y k → Most (x ++ y) (j + k)
@@ -87,3 +100,27 @@ pattern-most (grid a b c) = record { most = omega arith }
 pattern-most (random a b c) = record { most = omega arith }
 pattern-most centerOut = record { most = omega arith }
 pattern-most edgesIn = record { most = omega arith }
+
+-- ---- structs
+
+module _ (n : ℕ) where
+  pub span-most : (s : Span) → Most (spanForm n .write s) 4
+  span-most s = record { most = omega arith }
+
+  pub opt-word : (o : Option ℕ) → Most (opt word .write o) 5
+  opt-word o = opt-most word 4 word-most o
+
+  pub opt-easing : (o : Option EasingSpec) → Most (opt (easingForm n) .write o) 18
+  opt-easing o = opt-most (easingForm n) 17 (easing-most n) o
+
+  pub opt-loop : (o : Option LoopSpec) → Most (opt loopForm .write o) 6
+  opt-loop o = opt-most loopForm 5 loop-most o
+
+  pub flag-most : (b : Bool) → Most (flag .write b) 1
+  flag-most b = record { most = omega arith }
+
+  pub tween-size : (x : TweenSpec) → length (tweenForm n .write x) ≤ 53 + length (valueForm .write (x .from)) + length (valueForm .write (x .to))
+  tween-size x = omega (arith, sum .most)
+    where
+      sum : Most (tweenForm n .write x) (4 + (length (valueForm .write (x .from)) + (length (valueForm .write (x .to)) + 49)))
+      sum = span-most (x .target) ⊕ all (valueForm .write (x .from)) ⊕ all (valueForm .write (x .to)) ⊕ word-most (x .duration) ⊕ opt-easing (x .easing) ⊕ opt-word (x .delay) ⊕ opt-word (x .timeScale) ⊕ opt-loop (x .loopMode) ⊕ opt-word (x .snap) ⊕ opt-word (x .round) ⊕ flag-most (x .reverse)
