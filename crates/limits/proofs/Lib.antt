@@ -6,3 +6,4 @@ pub mod SizeLaws
 pub mod ValueLaws
 pub mod FieldLaws
 pub mod CurveLaws
+pub mod LeafLaws
