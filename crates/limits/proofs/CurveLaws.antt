@@ -15,8 +15,9 @@ use Rattle.ast.specs.Tree.{EasingSpec, named, cubicBezier, steps, wiggle, rough
 use Rattle.sheet.specs.Sheet.{easingForm}
 use Rattle.sheet.proofs.Laws.{spanL, easingL, loopL}
 use Rattle.token.specs.Token.{tokensFrom, place}
+use Rattle.error.specs.declared.Refusal.{Refusal}
 use Rattle.error.specs.declared.Refusal.the-variants.{Malformed}
-use Rattle.grammar.specs.Rule.{Rule, give, sees, seesTwo}
+use Rattle.grammar.specs.Rule.{Rule, give, _>>=_, choice, sees, seesTwo}
 use Rattle.grammar.specs.Fields.{Content, Table, aNumber, numberOf, pairs}
 use Rattle.grammar.specs.Values.{
   number,
@@ -48,7 +49,7 @@ use Rattle.grammar.specs.Values.{
 }
 use Rattle.limits.proofs.RunLaws.{Runs, gives, refuses, then, and, weaken, tests}
 use Rattle.limits.proofs.TakeLaws.{Word, a-word, the-mark, two-marks, Inside, in-group}
-use Rattle.limits.proofs.ListLaws.{by-word, by-word-or}
+use Rattle.limits.proofs.ListLaws.{a-choice, by-word, by-word-or}
 use Rattle.limits.proofs.SizeLaws.{easing-most}
 use Rattle.limits.proofs.FieldLaws.{On, limit, Fair, AllFair, Held, Row, Listed, pairs-run, word-in}
 use Rattle.limits.proofs.ValueLaws.{f32Of-small, span-fits, Named, ident-runs, truth-runs, Four, float-runs, uint-runs, uint-in-parens, Two, two-floats, Valued, value-runs}
@@ -198,3 +199,8 @@ module _ (s : List ℕ) (short : length s ≤ 16384) where
   pub value-row : (w : String) → 8 ≤ length (bytes w) → Row s (w, value)
   unfolding value
   value-row w l q h = then (value-runs s short q h) (λ v m g x. gives g (record { fair = record { long = omega arith; number = tt; easing = tt; loopMode = tt; value = (x .ok, l); damping = tt; range = tt }; paid = omega (arith, x .on, x .paid) }))
+
+  -- ---- the position of a word
+
+  pub case-row : (w : String) (r : Refusal) (ns : List String) → 3 ≤ length (bytes w) → length (words ns) ≤ limit (bytes w) → Row s (w, (choice r ns >>= λ k. give (aNumber k)))
+  case-row w r ns l g q h = then (a-choice h r (words ns)) (λ k m f x. gives f (number-held (bytes w) q k m l (omega (arith, x .0)) (x .1)))

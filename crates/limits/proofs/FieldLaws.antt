@@ -12,7 +12,7 @@ use Rattle.text.specs.Bytes.{bytes, same, oneOf}
 use Rattle.text.specs.Words.{orElse}
 use Rattle.text.proofs.WordLaws.{same-eq}
 use Rattle.codec.specs.Codec.{Form, opt, below}
-use Rattle.codec.proofs.Laws.{Small, All, Law, optL, belowL}
+use Rattle.codec.proofs.Laws.{Small, All, Law, _&_, optL, belowL}
 use Rattle.encode.proofs.FieldLaws.{small}
 use Rattle.ast.specs.Tree.{ValueExpr}
 use Rattle.sheet.specs.Sheet.{valueForm}
@@ -198,20 +198,28 @@ module _ (n : ℕ) where
     pub word-in : (w : String) → limit (bytes w) ≡ 4294967296 → On (Small 4) (numberOf w fs)
     word-in w l = on-map (λ x. x < 4294967296) (Small 4) (λ x y. small 4 x y) (numberOf w fs) (number-in w 4294967296 l)
 
-    pub easing-in : On (easingL n .ok) (easingOf fs)
-    easing-in = last-in (λ e. e .1 .easing) (easingL n .ok) (λ e f. f .easing) fs h
+    pub word-opt : (w : String) → limit (bytes w) ≡ 4294967296 → optL wordL .ok (numberOf w fs)
+    word-opt w l = on-ok wordL (numberOf w fs) (word-in w l)
 
-    pub loop-in : On (loopL .ok) (loopModeOf fs)
-    loop-in = last-in (λ e. e .1 .loopMode) (loopL .ok) (λ e f. f .loopMode) fs h
+    pub case-opt : (w : String) (k : ℕ) → limit (bytes w) ≡ k → optL (belowL k) .ok (numberOf w fs)
+    case-opt w k l = on-ok (belowL k) (numberOf w fs) (number-in w k l)
 
-    pub value-in : On (valueL .ok) (valueOf fs)
-    value-in = last-in (λ e. e .1 .value) (valueL .ok) (λ e f. on-map (λ v. valueL .ok v × (8 ≤ length (e .0))) (valueL .ok) (λ v x. x .0) (e .1 .value) (f .value)) fs h
+    pub easing-opt : optL (easingL n) .ok (easingOf fs)
+    easing-opt = on-ok (easingL n) (easingOf fs) (last-in (λ e. e .1 .easing) (easingL n .ok) (λ e f. f .easing) fs h)
 
-    pub damping-in : On (dampingL .ok) (dampingOf fs)
-    damping-in = last-in (λ e. e .1 .damping) (dampingL .ok) (λ e f. f .damping) fs h
+    pub loop-opt : optL loopL .ok (loopModeOf fs)
+    loop-opt = on-ok loopL (loopModeOf fs) (last-in (λ e. e .1 .loopMode) (loopL .ok) (λ e f. f .loopMode) fs h)
 
-    pub range-in : On (λ p. Small 4 (p .0) × Small 4 (p .1)) (rangeOf fs)
-    range-in = last-in (λ e. e .1 .range) (λ p. Small 4 (p .0) × Small 4 (p .1)) (λ e f. f .range) fs h
+    pub value-opt : optL valueL .ok (valueOf fs)
+    value-opt =
+        on-ok valueL (valueOf fs)
+        (last-in (λ e. e .1 .value) (valueL .ok) (λ e f. on-map (λ v. valueL .ok v × (8 ≤ length (e .0))) (valueL .ok) (λ v x. x .0) (e .1 .value) (f .value)) fs h)
+
+    pub damping-opt : optL dampingL .ok (dampingOf fs)
+    damping-opt = on-ok dampingL (dampingOf fs) (last-in (λ e. e .1 .damping) (dampingL .ok) (λ e f. f .damping) fs h)
+
+    pub range-opt : optL (wordL & wordL) .ok (rangeOf fs)
+    range-opt = on-ok (wordL & wordL) (rangeOf fs) (last-in (λ e. e .1 .range) (λ p. Small 4 (p .0) × Small 4 (p .1)) (λ e f. f .range) fs h)
 
   -- ---- what text a list takes at least
 

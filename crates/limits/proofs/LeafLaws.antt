@@ -22,9 +22,9 @@ use Rattle.limits.proofs.RunLaws.{Runs, gives, then, and, weaken, tests
 use Rattle.limits.proofs.TakeLaws.{the-mark, two-marks}
 use Rattle.limits.proofs.ListLaws.{a-choice}
 use Rattle.limits.proofs.SizeLaws.{tween-size}
-use Rattle.limits.proofs.FieldLaws.{On, on-is, on-ok, limit, Row, Listed, fields-run, number-in, word-in, easing-in, loop-in, value-in, damping-in, range-in, total-number, total-value, total-some}
+use Rattle.limits.proofs.FieldLaws.{On, on-is, on-ok, limit, Row, Listed, fields-run, number-in, word-in, word-opt, case-opt, easing-opt, loop-opt, value-opt, damping-opt, range-opt, total-number, total-value, total-some}
 use Rattle.limits.proofs.ValueLaws.{ident-runs, string-runs, value-runs}
-use Rattle.limits.proofs.CurveLaws.{number-row, count-row, easing-row, loop-row, flag-row, value-row}
+use Rattle.limits.proofs.CurveLaws.{number-row, count-row, easing-row, loop-row, flag-row, value-row, case-row}
 
 pub flag-ok : (b : Bool) → flagL .ok b
 flag-ok true = omega arith
@@ -68,10 +68,5 @@ module _ (s : List ℕ) (short : length s ≤ 16384) {inner : Form Forest} (b : 
       let n = length s in
       let f = x6 .fair in
       gives g7 (tween-leafed _ q m7
-        (x1 .ok, (x3 .ok, (x5 .ok, (on-is (Small 4) (numberOf "duration" fs) d (x7 .1) (word-in n fs f "duration" refl),
-          (on-ok (easingL n) (easingOf fs) (easing-in n fs f),
-            (on-ok wordL (numberOf "delay" fs) (word-in n fs f "delay" refl),
-              (on-ok wordL (numberOf "time_scale" fs) (word-in n fs f "time_scale" refl),
-                (on-ok loopL (loopModeOf fs) (loop-in n fs f),
-                  (on-ok wordL (numberOf "snap" fs) (word-in n fs f "snap" refl), (on-ok wordL (numberOf "round" fs) (word-in n fs f "round" refl), flag-ok (ever "reverse" fs)))))))))))
+        (x1 .ok, (x3 .ok, (x5 .ok, (on-is (Small 4) (numberOf "duration" fs) d (x7 .1) (word-in n fs f "duration" refl), (easing-opt n fs f, (word-opt n fs f "delay" refl, (word-opt n fs f "time_scale" refl, (loop-opt n fs f, (word-opt n fs f "snap" refl, (word-opt n fs f "round" refl, flag-ok (ever "reverse" fs)))))))))))
         (omega (arith, total-number n fs f "duration" d (x7 .1), x1 .apart e, x2, x3 .paid, x4, x5 .paid, x6 .paid, x7 .0))))))))))
