@@ -51,7 +51,7 @@ use Rattle.limits.proofs.RunLaws.{Runs, gives, refuses, then, and, weak
 use Rattle.limits.proofs.TakeLaws.{Word, a-word, the-mark, two-marks, Inside, in-group}
 use Rattle.limits.proofs.ListLaws.{a-choice, by-word, by-word-or}
 use Rattle.limits.proofs.SizeLaws.{easing-most}
-use Rattle.limits.proofs.FieldLaws.{On, limit, Fair, AllFair, Held, Row, Listed, pairs-run, word-in}
+use Rattle.limits.proofs.FieldLaws.{limit, default-in, Fair, AllFair, Held, Row, Listed, pairs-run, word-in}
 use Rattle.limits.proofs.ValueLaws.{f32Of-small, span-fits, Named, ident-runs, truth-runs, Four, float-runs, uint-runs, uint-in-parens, Two, two-floats, Valued, value-runs}
 
 module _ (s : List ℕ) (short : length s ≤ 16384) where
@@ -69,10 +69,6 @@ module _ (s : List ℕ) (short : length s ≤ 16384) where
   count-row w l e q h = then (uint-runs s short q h) (λ n m g x. gives g (number-held (bytes w) q n m l (omega (arith, x .0)) (x .1)))
 
   -- ---- easings
-
-  default-in : (P : ℕ → Type 0) (o : Option ℕ) (d : ℕ) → On P o → P d → P (default o d)
-  default-in P none d h p = p
-  default-in P (some a) d h p = h
 
   abbrev pub Curve : ℕ → EasingSpec → ℕ → Type 0
   Curve q e m = easingL (length s) .ok e × (q < m)

@@ -9,7 +9,7 @@ use native.Mathlib.Omega.{arith}
 use lib.Dec.{eqb}
 use lib.ListN.{length}
 use Rattle.text.specs.Bytes.{bytes, same, oneOf}
-use Rattle.text.specs.Words.{orElse}
+use Rattle.text.specs.Words.{orElse, default}
 use Rattle.text.proofs.WordLaws.{same-eq}
 use Rattle.codec.specs.Codec.{Form, opt, below}
 use Rattle.codec.proofs.Laws.{Small, All, Law, _&_, optL, belowL}
@@ -41,6 +41,10 @@ on-is P o a e h = subst (On P) e h
 pub on-ok : {A : Type 0} {c : Form A} (l : Law c) (o : Option A) → On (l .ok) o → optL l .ok o
 on-ok l none h = tt
 on-ok l (some a) h = h
+
+pub default-in : (P : ℕ → Type 0) (o : Option ℕ) (d : ℕ) → On P o → P d → P (default o d)
+default-in P none d h p = p
+default-in P (some a) d h p = h
 
 -- ---- contents
 

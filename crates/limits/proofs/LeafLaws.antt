@@ -8,22 +8,24 @@ use mathlib.Core.Path.{_≡_, refl, sym, ap, _∙_, subst}
 use native.Mathlib.Omega.{arith}
 use lib.ListN.{length, getD}
 use Rattle.text.specs.Bytes.{bytes, same, isName}
+use Rattle.text.specs.Words.{words}
 use Rattle.codec.specs.Codec.{Form, opt}
-use Rattle.codec.proofs.Laws.{Small, All, Law}
+use Rattle.codec.proofs.Laws.{Small, All, Law, optL}
+use Rattle.encode.proofs.FieldLaws.{small}
 use Rattle.number.specs.Time.{Key}
-use Rattle.ast.specs.Tree.{Span, ValueExpr, DampingMode, criticallyDamped, overdamped, underdamped, TweenSpec, SpringSpec, Leaf, single, mapLeaf}
+use Rattle.ast.specs.Tree.{Span, ValueExpr, DampingMode, criticallyDamped, overdamped, underdamped, TweenSpec, SpringSpec, PathSpec, MorphSpec, DrawSpec, ColorSpec, Leaf, single, mapLeaf}
 use Rattle.sheet.specs.Sheet.{Forest, valueForm, nodeForm, springForm, waveformForm, presetForm}
-use Rattle.sheet.proofs.Laws.{wordL, flagL, easingL, loopL, valueL, dampingL, tweenL, nodeL}
+use Rattle.sheet.proofs.Laws.{wordL, flagL, easingL, loopL, valueL, dampingL, tweenL, pathL, morphL, drawL, colorL, nodeL}
 use Rattle.error.specs.declared.Refusal.the-variants.{MissingDuration, Malformed, UnknownSpringPreset}
 use Rattle.grammar.specs.Rule.{Rule}
 use Rattle.grammar.specs.Fields.{Fields, aDamping, numberOf, truthOf, easingOf, loopModeOf, valueOf, dampingOf, rangeOf, ever, last}
-use Rattle.grammar.specs.Grammar.{stored, tweenFields, parseTween, springFields, parseSpringPreset, springPreset, integrator, critical, over, under, parseSpring}
+use Rattle.grammar.specs.Grammar.{stored, tweenFields, parseTween, springFields, parseSpringPreset, springPreset, integrator, critical, over, under, parseSpring, offset, pathFields, parsePath, morphFields, parseMorph, drawFields, parseDraw, space, colorFields, parseColor}
 use Rattle.limits.proofs.RunLaws.{Runs, gives, then, and, weaken, tests, needs}
 use Rattle.limits.proofs.TakeLaws.{the-mark, two-marks}
 use Rattle.limits.proofs.ListLaws.{a-choice}
-use Rattle.limits.proofs.SizeLaws.{Most, all, _⊕_, span-most, tween-size, spring-size}
-use Rattle.limits.proofs.FieldLaws.{On, on-is, on-ok, limit, AllFair, total, Held, Row, Listed, fields-run, number-in, word-in, word-opt, case-opt, easing-opt, loop-opt, value-opt, damping-opt, range-opt, total-number, total-value, total-some}
-use Rattle.limits.proofs.ValueLaws.{ident-runs, string-runs, float-in-parens, two-in-parens, value-runs}
+use Rattle.limits.proofs.SizeLaws.{Most, all, _⊕_, span-most, tween-size, spring-size, path-size, morph-size, draw-size, color-size}
+use Rattle.limits.proofs.FieldLaws.{on-is, default-in, limit, AllFair, total, Held, Row, Listed, fields-run, number-in, word-in, word-opt, case-opt, easing-opt, loop-opt, value-opt, damping-opt, range-opt, total-number, total-value, total-some}
+use Rattle.limits.proofs.ValueLaws.{ident-runs, string-runs, float-runs, float-in-parens, two-in-parens, value-runs}
 use Rattle.limits.proofs.CurveLaws.{number-row, count-row, easing-row, loop-row, flag-row, value-row, case-row}
 
 pub flag-ok : (b : Bool) → flagL .ok b
@@ -133,3 +135,105 @@ module _ (s : List ℕ) (short : length s ≤ 16384) {inner : Form Forest} (b : 
         ok = (x1 .ok, (x3 .ok, (x5 .ok, (case-opt n fs f "preset" 5 refl, (word-opt n fs f "stiffness" refl, (word-opt n fs f "damping" refl, (word-opt n fs f "mass" refl, (value-opt n fs f, (word-opt n fs f "epsilon" refl, (case-opt n fs f "integrator" 2 refl, damping-opt n fs f))))))))));
         paid = omega (arith, spring-total t v w fs f, x1 .apart e, x2, x3 .paid, x4, x5 .paid, x6 .paid);
       })))))))
+
+  -- ---- path, morph, draw, color: their duration pays
+
+  offset-row : Row s ("offset", offset)
+  unfolding offset
+  offset-row q h =
+      then (float-runs s short q h) (λ a m g x.
+      and (two-marks g 46 46 refl refl) (λ n f u y.
+      then (float-runs s short n f) (λ c o i z.
+      gives i (record { fair = record { long = omega arith; number = tt; easing = tt; loopMode = tt; value = tt; damping = tt; range = (small 4 a (x .ok), small 4 c (z .ok)) }; paid = omega (arith, x .is .on, y, z .is .on) }))))
+
+  path-rows : All (Row s) pathFields
+  unfolding pathFields limit same
+  path-rows =
+      (number-row s short "duration" (omega arith) refl,
+        (easing-row s short "easing" (omega arith), (flag-row s short "auto_rotate" (omega arith), (offset-row, (loop-row s short "loop" (omega arith), tt)))))
+
+  path-leafed : (x : PathSpec) (q m : ℕ) → pathL (length s) .ok x → 50 + 3 * q ≤ 3 * m + 12 → Leafed 4 q (Leaf.path x) m
+  path-leafed x q m o p = record { ok = o; paid = omega (arith, path-size (length s) x) }
+
+  opt-flag-ok : (o : Option Bool) → optL flagL .ok o
+  opt-flag-ok none = tt
+  opt-flag-ok (some v) = flag-ok v
+
+  pub path-runs : LeafRule 4 parsePath
+  unfolding parsePath limit same
+  path-runs q h e =
+      then (ident-runs s short q h) (λ t m1 g1 x1.
+      and (a-choice g1 Malformed (words ("along" ∷ []))) (λ m2 g2 u x2.
+      then (string-runs s short m2 g2) (λ v m3 g3 x3.
+      then (fields-run s pathFields path-rows [] m3 g3 tt) (λ fs m4 g4 x4.
+      then (needs MissingDuration (numberOf "duration" fs) g4) (λ d m5 g5 x5.
+      let n = length s in
+      let f = x4 .fair in
+      gives g5 (path-leafed _ q m5
+        (x1 .ok, (x3 .0, (on-is (Small 4) (numberOf "duration" fs) d (x5 .1) (word-in n fs f "duration" refl), (easing-opt n fs f, (opt-flag-ok (truthOf "auto_rotate" fs), (range-opt n fs f, loop-opt n fs f))))))
+        (omega (arith, total-number n fs f "duration" d (x5 .1), x1 .on, x2 .1, x3 .1, x4 .paid, x5 .0))))))))
+
+  morph-rows : All (Row s) morphFields
+  unfolding morphFields limit same
+  morph-rows = (count-row s short "samples" (omega arith) refl, (number-row s short "duration" (omega arith) refl, (easing-row s short "easing" (omega arith), tt)))
+
+  morph-leafed : (x : MorphSpec) (q m : ℕ) → morphL (length s) .ok x → 37 + 3 * q ≤ 3 * m + 15 → Leafed 5 q (Leaf.morph x) m
+  morph-leafed x q m o p = record { ok = o; paid = omega (arith, morph-size (length s) x) }
+
+  pub morph-runs : LeafRule 5 parseMorph
+  unfolding parseMorph limit same
+  morph-runs q h e =
+      then (string-runs s short q h) (λ v m1 g1 x1.
+      and (two-marks g1 61 62 refl refl) (λ m2 g2 u x2.
+      then (string-runs s short m2 g2) (λ w m3 g3 x3.
+      then (fields-run s morphFields morph-rows [] m3 g3 tt) (λ fs m4 g4 x4.
+      then (needs MissingDuration (numberOf "duration" fs) g4) (λ d m5 g5 x5.
+      let n = length s in
+      let f = x4 .fair in
+      gives g5 (morph-leafed _ q m5
+        (x1 .0, (x3 .0, (default-in (Small 4) (numberOf "samples" fs) 32 (word-in n fs f "samples" refl) refl, (on-is (Small 4) (numberOf "duration" fs) d (x5 .1) (word-in n fs f "duration" refl), easing-opt n fs f))))
+        (omega (arith, total-number n fs f "duration" d (x5 .1), x1 .1, x2, x3 .1, x4 .paid, x5 .0))))))))
+
+  draw-rows : All (Row s) drawFields
+  unfolding drawFields limit same
+  draw-rows = (number-row s short "duration" (omega arith) refl, (easing-row s short "easing" (omega arith), tt))
+
+  draw-leafed : (x : DrawSpec) (q m : ℕ) → drawL (length s) .ok x → 29 + 3 * q ≤ 3 * m + 12 → Leafed 4 q (Leaf.draw x) m
+  draw-leafed x q m o p = record { ok = o; paid = omega (arith, draw-size (length s) x) }
+
+  pub draw-runs : LeafRule 4 parseDraw
+  unfolding parseDraw limit same
+  draw-runs q h e =
+      then (string-runs s short q h) (λ v m1 g1 x1.
+      then (fields-run s drawFields draw-rows [] m1 g1 tt) (λ fs m2 g2 x2.
+      then (needs MissingDuration (numberOf "duration" fs) g2) (λ d m3 g3 x3.
+      let n = length s in
+      let f = x2 .fair in
+      gives g3 (draw-leafed _ q m3
+        (x1 .0, (on-is (Small 4) (numberOf "duration" fs) d (x3 .1) (word-in n fs f "duration" refl), easing-opt n fs f))
+        (omega (arith, total-number n fs f "duration" d (x3 .1), x1 .1, x2 .paid, x3 .0))))))
+
+  color-rows : All (Row s) colorFields
+  unfolding colorFields space limit same
+  color-rows =
+      (number-row s short "duration" (omega arith) refl,
+        (case-row s short "space" Malformed ("linear" ∷ "lab" ∷ "oklch" ∷ []) (omega arith) (omega arith), (easing-row s short "easing" (omega arith), tt)))
+
+  color-leafed : (x : ColorSpec) (q m : ℕ) → colorL (length s) .ok x → 38 + 3 * q ≤ 3 * m + 15 → Leafed 5 q (Leaf.color x) m
+  color-leafed x q m o p = record { ok = o; paid = omega (arith, color-size (length s) x) }
+
+  pub color-runs : LeafRule 5 parseColor
+  unfolding parseColor limit same
+  color-runs q h e =
+      then (ident-runs s short q h) (λ t m1 g1 x1.
+      and (the-mark g1 58 refl) (λ m2 g2 u x2.
+      then (string-runs s short m2 g2) (λ v m3 g3 x3.
+      and (two-marks g3 61 62 refl refl) (λ m4 g4 u x4.
+      then (string-runs s short m4 g4) (λ w m5 g5 x5.
+      then (fields-run s colorFields color-rows [] m5 g5 tt) (λ fs m6 g6 x6.
+      then (needs MissingDuration (numberOf "duration" fs) g6) (λ d m7 g7 x7.
+      let n = length s in
+      let f = x6 .fair in
+      gives g7 (color-leafed _ q m7
+        (x1 .ok, (x3 .0, (x5 .0, (on-is (Small 4) (numberOf "duration" fs) d (x7 .1) (word-in n fs f "duration" refl), (default-in (λ k. k < 3) (numberOf "space" fs) 0 (number-in n fs f "space" 3 refl) (omega arith), easing-opt n fs f)))))
+        (omega (arith, total-number n fs f "duration" d (x7 .1), x1 .on, x2, x3 .1, x4, x5 .1, x6 .paid, x7 .0))))))))))
