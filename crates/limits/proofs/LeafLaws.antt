@@ -12,19 +12,20 @@ use Rattle.text.specs.Words.{words}
 use Rattle.codec.specs.Codec.{Form, opt}
 use Rattle.codec.proofs.Laws.{Small, All, Law, optL}
 use Rattle.encode.proofs.FieldLaws.{small}
+use Rattle.number.proofs.Floats.{nearest-fits, bits-lt}
 use Rattle.number.specs.Time.{Key}
-use Rattle.ast.specs.Tree.{Span, ValueExpr, DampingMode, criticallyDamped, overdamped, underdamped, TweenSpec, SpringSpec, PathSpec, MorphSpec, DrawSpec, ColorSpec, Leaf, single, mapLeaf}
+use Rattle.ast.specs.Tree.{Span, ValueExpr, DampingMode, criticallyDamped, overdamped, underdamped, TweenSpec, SpringSpec, PathSpec, MorphSpec, DrawSpec, ColorSpec, WaveformSpec, PresetCall, Leaf, single, mapLeaf}
 use Rattle.sheet.specs.Sheet.{Forest, valueForm, nodeForm, springForm, waveformForm, presetForm}
 use Rattle.sheet.proofs.Laws.{wordL, flagL, easingL, loopL, valueL, dampingL, tweenL, pathL, morphL, drawL, colorL, nodeL}
 use Rattle.error.specs.declared.Refusal.the-variants.{MissingDuration, Malformed, UnknownSpringPreset}
-use Rattle.grammar.specs.Rule.{Rule}
-use Rattle.grammar.specs.Fields.{Fields, aDamping, numberOf, truthOf, easingOf, loopModeOf, valueOf, dampingOf, rangeOf, ever, last}
-use Rattle.grammar.specs.Grammar.{stored, tweenFields, parseTween, springFields, parseSpringPreset, springPreset, integrator, critical, over, under, parseSpring, offset, pathFields, parsePath, morphFields, parseMorph, drawFields, parseDraw, space, colorFields, parseColor}
-use Rattle.limits.proofs.RunLaws.{Runs, gives, then, and, weaken, tests, needs}
-use Rattle.limits.proofs.TakeLaws.{the-mark, two-marks}
+use Rattle.grammar.specs.Rule.{Rule, _>>_, give, if, sees, skip, inside}
+use Rattle.grammar.specs.Fields.{Fields, aDamping, pairs, parseFieldList, numberOf, truthOf, easingOf, loopModeOf, valueOf, dampingOf, rangeOf, ever, last}
+use Rattle.grammar.specs.Grammar.{stored, tweenFields, parseTween, springFields, parseSpringPreset, springPreset, integrator, critical, over, under, parseSpring, offset, pathFields, parsePath, morphFields, parseMorph, drawFields, parseDraw, space, colorFields, parseColor, waveformKind, waveformFields, parseWaveform, parsePresetCall, parseLabel, atSign, parseAt}
+use Rattle.limits.proofs.RunLaws.{Runs, gives, then, and, weaken, tests, conds, needs}
+use Rattle.limits.proofs.TakeLaws.{the-mark, two-marks, skips-mark, Eaten, eats, a-number, in-group}
 use Rattle.limits.proofs.ListLaws.{a-choice}
-use Rattle.limits.proofs.SizeLaws.{Most, all, _⊕_, span-most, tween-size, spring-size, path-size, morph-size, draw-size, color-size}
-use Rattle.limits.proofs.FieldLaws.{on-is, default-in, limit, AllFair, total, Held, Row, Listed, fields-run, number-in, word-in, word-opt, case-opt, easing-opt, loop-opt, value-opt, damping-opt, range-opt, total-number, total-value, total-some}
+use Rattle.limits.proofs.SizeLaws.{Most, all, _⊕_, span-most, tween-size, spring-size, path-size, morph-size, draw-size, color-size, waveform-size, preset-size}
+use Rattle.limits.proofs.FieldLaws.{on-is, default-in, limit, AllFair, total, Held, Row, Listed, pairs-run, fields-run, number-in, word-in, word-opt, case-opt, easing-opt, loop-opt, value-opt, damping-opt, range-opt, total-number, total-value, total-some}
 use Rattle.limits.proofs.ValueLaws.{ident-runs, string-runs, float-runs, float-in-parens, two-in-parens, value-runs}
 use Rattle.limits.proofs.CurveLaws.{number-row, count-row, easing-row, loop-row, flag-row, value-row, case-row}
 
@@ -237,3 +238,102 @@ module _ (s : List ℕ) (short : length s ≤ 16384) {inner : Form Forest} (b : 
       gives g7 (color-leafed _ q m7
         (x1 .ok, (x3 .0, (x5 .0, (on-is (Small 4) (numberOf "duration" fs) d (x7 .1) (word-in n fs f "duration" refl), (default-in (λ k. k < 3) (numberOf "space" fs) 0 (number-in n fs f "space" 3 refl) (omega arith), easing-opt n fs f)))))
         (omega (arith, total-number n fs f "duration" d (x7 .1), x1 .on, x2, x3 .1, x4, x5 .1, x6 .paid, x7 .0))))))))))
+
+  -- ---- waveform
+
+  waveform-rows : All (Row s) waveformFields
+  unfolding waveformFields limit same
+  waveform-rows =
+      (number-row s short "frequency" (omega arith) refl,
+        (number-row s short "amplitude" (omega arith) refl,
+          (number-row s short "phase" (omega arith) refl,
+            (number-row s short "duty_cycle" (omega arith) refl,
+              (count-row s short "seed" (omega arith) refl, (number-row s short "smoothness" (omega arith) refl, (number-row s short "duration" (omega arith) refl, tt)))))))
+
+  abbrev waveformOf : ℕ → Fields → WaveformSpec
+  waveformOf k fs = record {
+    kind = k;
+    frequency = numberOf "frequency" fs;
+    amplitude = numberOf "amplitude" fs;
+    phase = numberOf "phase" fs;
+    dutyCycle = numberOf "duty_cycle" fs;
+    seed = numberOf "seed" fs;
+    smoothness = numberOf "smoothness" fs;
+    duration = numberOf "duration" fs;
+  }
+
+  waveform-total : (k : ℕ) (fs : Fields) → AllFair (length s) fs → length (waveformForm .write (waveformOf k fs)) ≤ 24 + total fs
+  unfolding last
+  waveform-total k [] f = omega arith
+  waveform-total k (e ∷ fs) f = omega (arith, waveform-size (length s) (waveformOf k (e ∷ fs)), total-some (length s) e fs f)
+
+  pub waveform-runs : LeafRule 8 parseWaveform
+  unfolding parseWaveform waveformKind limit same
+  waveform-runs q h e =
+      then (a-choice h Malformed (words ("sine" ∷ "sawtooth" ∷ "square" ∷ "triangle" ∷ "noise" ∷ []))) (λ k m1 g1 x1.
+      then (fields-run s waveformFields waveform-rows [] m1 g1 tt) (λ fs m2 g2 x2.
+      let n = length s in
+      let f = x2 .fair in
+      gives g2 (record {
+        ok = (x1 .0, (word-opt n fs f "frequency" refl, (word-opt n fs f "amplitude" refl, (word-opt n fs f "phase" refl, (word-opt n fs f "duty_cycle" refl, (word-opt n fs f "seed" refl, (word-opt n fs f "smoothness" refl, word-opt n fs f "duration" refl)))))));
+        paid = omega (arith, waveform-total k fs f, x1 .1, x2 .paid);
+      })))
+
+  -- ---- preset, label, at
+
+  abbrev presetOf : Span → Fields → PresetCall
+  presetOf t fs = record { name = t; duration = numberOf "duration" fs; easing = easingOf fs }
+
+  preset-total : (t : Span) (fs : Fields) → AllFair (length s) fs → length (presetForm (length s) .write (presetOf t fs)) ≤ 18 + total fs
+  unfolding last
+  preset-total t [] f = omega arith
+  preset-total t (e ∷ fs) f = omega (arith, preset-size (length s) (presetOf t (e ∷ fs)), total-some (length s) e fs f)
+
+  -- the fields in parentheses, and those behind a `,`
+  in-parens : (q : ℕ) → q ≤ length s → Runs s (if (sees "(") (inside "(" (pairs drawFields)) (give [])) q (Listed s [] q)
+  in-parens q h =
+      tests (sees "(")
+      (λ e. weaken (in-group (pairs drawFields) (Listed s []) h 40 refl (pairs-run s drawFields draw-rows)) (λ fs m x. record { fair = x .inner .fair; low = omega (arith, x .low, x .inner .low, x .left .low); paid = omega (arith, x .low, x .inner .paid, x .left .low) }))
+      (λ e. gives h (record { fair = tt; low = omega arith; paid = omega arith }))
+
+  behind-comma : (fs : Fields) → AllFair (length s) fs → (q : ℕ) → q ≤ length s → Runs s (if (sees ",") (skip >> parseFieldList drawFields fs) (give fs)) q (Listed s fs q)
+  behind-comma fs f q h =
+      tests (sees ",")
+      (λ e. and {f = parseFieldList drawFields fs} (skips-mark h 44 refl e) (λ m g u x. weaken (fields-run s drawFields draw-rows fs m g f) (λ gs n y. record { fair = y .fair; low = omega (arith, x .on, y .low); paid = omega (arith, x .on, y .paid) })))
+      (λ e. gives h (record { fair = f; low = omega arith; paid = omega arith }))
+
+  pub preset-runs : LeafRule 6 parsePresetCall
+  unfolding parsePresetCall limit same
+  preset-runs q h e =
+      then (ident-runs s short q h) (λ t m1 g1 x1.
+      then (in-parens m1 g1) (λ fs m2 g2 x2.
+      then (behind-comma fs (x2 .fair) m2 g2) (λ gs m3 g3 x3.
+      let n = length s in
+      let f = x3 .fair in
+      gives g3 (record {
+        ok = (x1 .ok, (word-opt n gs f "duration" refl, easing-opt n gs f));
+        paid = omega (arith, preset-total t gs f, x1 .on, x2 .paid, x3 .paid);
+      }))))
+
+  pub label-runs : LeafRule 5 parseLabel
+  unfolding parseLabel
+  label-runs q h e = then (string-runs s short q h) (λ t m g x. and (the-mark g 59 refl) (λ n f u y. gives f (record { ok = x .0; paid = omega (arith, x .1, y) })))
+
+  eaten : (q : ℕ) (c : Bool) (m : ℕ) → Eaten q c m → q ≤ m
+  eaten q true m x = omega arith
+  eaten q false m x = omega arith
+
+  sign-runs : (q : ℕ) → q ≤ length s → Runs s atSign q (λ v m. q ≤ m)
+  unfolding atSign
+  sign-runs q h =
+      then (eats h 43 refl) (λ c m g x.
+      then (conds {Q = λ d n. m ≤ n} c (λ e. gives g (omega arith)) (λ e. weaken (eats g 45 refl) (λ d n y. eaten m d n y))) (λ d n f y.
+      gives f (omega (arith, eaten q c m x))))
+
+  pub at-runs : LeafRule 2 parseAt
+  unfolding parseAt
+  at-runs q h e =
+      then (sign-runs q h) (λ v m g x.
+      then (a-number g Malformed) (λ w n f y.
+      and (eats f 59 refl) (λ o i c z.
+      gives i (record { ok = (small 4 _ (bits-lt _ (nearest-fits _ _)), flag-ok (v .0)); paid = omega (arith, y .on, eaten n c o z) }))))
