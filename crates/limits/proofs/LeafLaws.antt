@@ -22,7 +22,7 @@ use Rattle.grammar.specs.Rule.{Rule, _>>_, give, if, sees, skip, inside}
 use Rattle.grammar.specs.Fields.{Fields, aDamping, pairs, parseFieldList, numberOf, truthOf, easingOf, loopModeOf, valueOf, dampingOf, rangeOf, ever, last}
 use Rattle.grammar.specs.Grammar.{stored, tweenFields, parseTween, springFields, parseSpringPreset, springPreset, integrator, critical, over, under, parseSpring, offset, pathFields, parsePath, morphFields, parseMorph, drawFields, parseDraw, space, colorFields, parseColor, waveformKind, waveformFields, parseWaveform, parsePresetCall, parseLabel, atSign, parseAt}
 use Rattle.limits.proofs.RunLaws.{Runs, gives, then, and, weaken, tests, conds, needs}
-use Rattle.limits.proofs.TakeLaws.{the-mark, two-marks, skips-mark, Eaten, eats, a-number, in-group}
+use Rattle.limits.proofs.TakeLaws.{the-mark, two-marks, skips-mark, eats, eaten, a-number, in-group}
 use Rattle.limits.proofs.ListLaws.{a-choice}
 use Rattle.limits.proofs.SizeLaws.{Most, all, _⊕_, span-most, tween-size, spring-size, path-size, morph-size, draw-size, color-size, waveform-size, preset-size}
 use Rattle.limits.proofs.FieldLaws.{on-is, default-in, limit, AllFair, total, Held, Row, Listed, pairs-run, fields-run, number-in, word-in, word-opt, case-opt, easing-opt, loop-opt, value-opt, damping-opt, range-opt, total-number, total-value, total-some}
@@ -318,10 +318,6 @@ module _ (s : List ℕ) (short : length s ≤ 16384) {inner : Form Forest} (b : 
   pub label-runs : LeafRule 5 parseLabel
   unfolding parseLabel
   label-runs q h e = then (string-runs s short q h) (λ t m g x. and (the-mark g 59 refl) (λ n f u y. gives f (record { ok = x .0; paid = omega (arith, x .1, y) })))
-
-  eaten : (q : ℕ) (c : Bool) (m : ℕ) → Eaten q c m → q ≤ m
-  eaten q true m x = omega arith
-  eaten q false m x = omega arith
 
   sign-runs : (q : ℕ) → q ≤ length s → Runs s atSign q (λ v m. q ≤ m)
   unfolding atSign

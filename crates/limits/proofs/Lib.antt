@@ -7,3 +7,4 @@ pub mod ValueLaws
 pub mod FieldLaws
 pub mod CurveLaws
 pub mod LeafLaws
+pub mod FrameLaws

@@ -144,6 +144,10 @@ abbrev pub Eaten : ℕ → Bool → ℕ → Type 0
 Eaten q true m = q < m
 Eaten q false m = m ≡ q
 
+pub eaten : (q : ℕ) (c : Bool) (m : ℕ) → Eaten q c m → q ≤ m
+eaten q true m x = omega arith
+eaten q false m x = omega arith
+
 pub eats : {s : List ℕ} {q : ℕ} → q ≤ length s → (b : ℕ) → eqb b 0 ≡ false → Runs s (eatByte b) q (Eaten q)
 eats h b e = tests (seesByte b) (λ f. and {f = give true} (skips-mark h b e f) (λ m i u x. gives i (x .on))) (λ f. gives h refl)
 
