@@ -174,7 +174,7 @@ module _ (s : List ℕ) (short : length s ≤ 16384) where
   unfolding parseLoopMode loopModes
   loop-runs q h =
       then (a-word h) (λ w m g x. weaken
-        (by-word {Q = λ l n. loopL .ok l × (m ≤ n)} Malformed loopModes (w .1) g
+        (by-word {Q = λ l n. loopL .ok l × (m ≤ n)} Malformed loopModes (w .1) (λ p. p) g
           ((λ e. gives g (tt, omega arith)), ((λ e. gives g (tt, omega arith)), ((λ e. ping-pong-runs m g), ((λ e. times-runs m g), tt)))))
         (λ l n y. record { ok = y .0; on = omega (arith, x .low, x .end, x .some, y .1) }))
 

@@ -8,3 +8,4 @@ pub mod FieldLaws
 pub mod CurveLaws
 pub mod LeafLaws
 pub mod FrameLaws
+pub mod HeadLaws

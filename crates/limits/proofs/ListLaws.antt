@@ -52,7 +52,7 @@ a-choice h r ns =
 
 -- ---- a rule by its word
 
-under-row : {A : Type 0} (P : A → Type 0) (t : List (String × A)) (w : List ℕ) (a : A) → All (λ f. w ≡ bytes (f .0) → P (f .1)) t → under t w ≡ some a → P a
+pub under-row : {A : Type 0} (P : A → Type 0) (t : List (String × A)) (w : List ℕ) (a : A) → All (λ f. w ≡ bytes (f .0) → P (f .1)) t → under t w ≡ some a → P a
 unfolding under
 under-row P [] w a h e = none≢some e
 under-row {A = A} P (f ∷ t) w a h e = go (same w (bytes (f .0))) refl e (λ x. under-row P t w a (h .1) x)
@@ -61,10 +61,11 @@ under-row {A = A} P (f ∷ t) w a h e = go (same w (bytes (f .0))) refl e (λ x.
     go true q x ih = subst P (Option·some-injective (f .1) a x) (h .0 (same-eq w (bytes (f .0)) q))
     go false q x ih = ih x
 
-pub by-word : {A : Type 0} {s : List ℕ} {q : ℕ} {Q : A → ℕ → Type 0} (r : Refusal) (t : List (String × Rule A)) (w : List ℕ) → q ≤ length s
-    → All (λ f. w ≡ bytes (f .0) → Runs s (f .1) q Q) t → Runs s (need r (under t w) >>= λ p. p) q Q
-by-word {s = s} {q = q} {Q = Q} r t w h x =
-    then (needs r (under t w) h) (λ p m g e. subst (λ (n : ℕ). Runs s p n Q) (sym (e .0)) (under-row (λ p. Runs s p q Q) t w p x (e .1)))
+-- f goes on with the rule that is found
+pub by-word : {A B : Type 0} {s : List ℕ} {q : ℕ} {Q : B → ℕ → Type 0} (r : Refusal) (t : List (String × A)) (w : List ℕ) (f : A → Rule B) → q ≤ length s
+    → All (λ g. w ≡ bytes (g .0) → Runs s (f (g .1)) q Q) t → Runs s (need r (under t w) >>= f) q Q
+by-word {s = s} {q = q} {Q = Q} r t w f h x =
+    then (needs r (under t w) h) (λ p m g e. subst (λ (n : ℕ). Runs s (f p) n Q) (sym (e .0)) (under-row (λ p. Runs s (f p) q Q) t w p x (e .1)))
 
 pub by-word-or : {A : Type 0} {s : List ℕ} {q : ℕ} {Q : A → ℕ → Type 0} (t : List (String × Rule A)) (w : List ℕ) (p : Rule A)
     → All (λ f. w ≡ bytes (f .0) → Runs s (f .1) q Q) t → Runs s p q Q → Runs s (default (under t w) p) q Q
