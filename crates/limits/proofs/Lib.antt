@@ -9,3 +9,4 @@ pub mod CurveLaws
 pub mod LeafLaws
 pub mod FrameLaws
 pub mod HeadLaws
+pub mod NodeLaws
