@@ -67,3 +67,90 @@ module _ (n : ℕ) (inner : Form Forest) where
       let e = bytes-more rest x in
       let f = length-append (nodeForm n inner .write (holding c ns)) (forest n inner (width rest) .write rest) in
       length-append (nodeForm n inner .write (holding c ns)) (forest n inner (width (append rest (push x Nodes.none))) .write (append rest (push x Nodes.none))) ∙ omega arith
+
+-- ---- a node
+
+module _ (s : List ℕ) (short : length s ≤ 16384) {inner : Form Forest} (b : Law inner) where
+  -- the nodes of a block from q to m
+  pub record Blocked (q : ℕ) (ns : Nodes Key) (m : ℕ) : Type 0 where
+    pub ok : b .ok (mapTimes stored ns)
+    pub paid : length (inner .write (mapTimes stored ns)) + 1 + 3 * q ≤ 3 * m
+
+  -- a node from q to m, with 2 bytes to spare for the count of the nodes beside it
+  pub record Noded (q : ℕ) (x : MotionNode Key) (m : ℕ) : Type 0 where
+    pub ok : nodeL (length s) b .ok (node x)
+    pub paid : length (nodeForm (length s) inner .write (node x)) + 2 + 3 * q ≤ 3 * m
+
+  module _ (p : Rule (Nodes Key)) (blocks : (q : ℕ) → q ≤ length s → Runs s p q (Blocked q)) where
+    -- behind the keyword w, i is the place of what follows
+    module _ (q i : ℕ) (w : ℕ × List ℕ) (x : Word s q w i) (h : i ≤ length s) where
+      leaf-by : (r : Rule (Leaf Key)) (v : String) (k : ℕ) → length (bytes v) ≡ k → LeafRule s short b k r → w .1 ≡ bytes v → Runs s (nodeBy p (aLeaf r)) i (Noded q)
+      leaf-by r v k l y e = then (y i h (x .behind)) (λ a m g z. let f = ap length e in gives g (record { ok = z .ok; paid = omega (arith, z .paid, x .low, x .end) }))
+
+      box-by : (r : Rule Container) (v : String) (k : ℕ) → length (bytes v) ≡ k → HeadRule s short k r → w .1 ≡ bytes v → Runs s (nodeBy p (aContainer r)) i (Noded q)
+      box-by r v k l y e =
+          then (y i h) (λ c m1 g1 x1.
+          then (blocks m1 g1) (λ ns m2 g2 x2.
+          let f = ap length e in
+          gives g2 (record { ok = head-ok (length s) b c (mapTimes stored ns) (x1 .ok) (x2 .ok); paid = omega (arith, head-size (length s) inner c (mapTimes stored ns), x .low, x .end, x1 .paid, x2 .paid) })))
+
+      all-leaves : All (λ f. w .1 ≡ bytes (f .0) → Runs s (nodeBy p (aLeaf (f .1))) i (Noded q)) leaves
+      unfolding leaves
+      all-leaves =
+          (leaf-by _ "tween" 5 refl (tween-runs s short b),
+            (leaf-by _ "spring" 6 refl (spring-runs s short b),
+              (leaf-by _ "keyframes" 9 refl (keyframes-runs s short b),
+                (leaf-by _ "path" 4 refl (path-runs s short b),
+                  (leaf-by _ "morph" 5 refl (morph-runs s short b),
+                    (leaf-by _ "draw" 4 refl (draw-runs s short b),
+                      (leaf-by _ "color" 5 refl (color-runs s short b),
+                        (leaf-by _ "waveform" 8 refl (waveform-runs s short b),
+                          (leaf-by _ "preset" 6 refl (preset-runs s short b), (leaf-by _ "label" 5 refl (label-runs s short b), (leaf-by _ "at" 2 refl (at-runs s short b), tt)))))))))))
+
+      all-containers : All (λ f. w .1 ≡ bytes (f .0) → Runs s (nodeBy p (aContainer (f .1))) i (Noded q)) containers
+      unfolding containers
+      all-containers =
+          (box-by _ "sequence" 8 refl (sequence-runs s short),
+            (box-by _ "parallel" 8 refl (parallel-runs s short), (box-by _ "group" 5 refl (group-runs s short), (box-by _ "stagger" 7 refl (stagger-runs s short), tt))))
+
+      begins : Runs s (nodeBy p (beginning (w .1))) i (Noded q)
+      unfolding beginning
+      begins = go (under leaves (w .1)) (under containers (w .1)) refl refl
+        where
+          go : (o : Option (Rule (Leaf Key))) (c : Option (Rule Container)) → under leaves (w .1) ≡ o → under containers (w .1) ≡ c → Runs s (nodeBy p (orContainer o c)) i (Noded q)
+          go (some r) c e f = under-row (λ r. Runs s (nodeBy p (aLeaf r)) i (Noded q)) leaves (w .1) r all-leaves e
+          go none (some r) e f = under-row (λ r. Runs s (nodeBy p (aContainer r)) i (Noded q)) containers (w .1) r all-containers f
+          go none none e f = refuses
+
+    node-runs : (q : ℕ) → q ≤ length s → Runs s (parseNode p) q (Noded q)
+    unfolding parseNode
+    node-runs q h = then (a-word h) (λ w m g x. begins q m w x g)
+
+    -- ---- nodes beside each other
+
+    -- nodes that begin at q
+    pub record Several (q : ℕ) (ns : Nodes Key) (m : ℕ) : Type 0 where
+      pub ok : OkNodes (length s) b (mapTimes stored ns)
+      pub count : width (mapTimes stored ns) + q ≤ m
+      pub paid : recordBytes (length s) inner (mapTimes stored ns) + 2 * width (mapTimes stored ns) + 3 * q ≤ 3 * m
+
+    several-more : (q : ℕ) (ns : Nodes Key) (m : ℕ) (x : MotionNode Key) (k : ℕ) → Several q ns m → Noded m x k → Several q (append ns (push x Nodes.none)) k
+    several-more q ns m x k y z =
+        let e = map-more ns x in
+        let c = width-more (mapTimes stored ns) (node x) in
+        record {
+          ok = rw e (ok-more (length s) b (mapTimes stored ns) (node x) (y .ok) (z .ok));
+          count = rw (e, c) (omega (arith, y .count, z .paid));
+          paid = rw (e, bytes-more, c) (omega (arith, y .paid, z .paid));
+        }
+
+    step-runs : (q : ℕ) (ns : Nodes Key) (m : ℕ) → m ≤ length s → Several q ns m → Runs s (nodesStep p ns) m (Onto (Several q) (Several q))
+    unfolding nodesStep oneNode
+    step-runs q ns m g y =
+        tests ends (λ e. gives g y)
+        (λ e. tests (sees ";")
+          (λ f. and {f = give (more ns)} (skips-mark g 59 refl f) (λ k h u z. gives h (record { ok = y .ok; count = omega (arith, y .count, z .on); paid = omega (arith, y .paid, z .on) })))
+          (λ f. then (node-runs m g) (λ x k h z. gives h (several-more q ns m x k y z))))
+
+    pub nodes-run : (q : ℕ) → q ≤ length s → Runs s (repeat (nodesStep p) Nodes.none) q (Several q)
+    nodes-run q h = repeats (Several q) (Several q) (λ ns m y. y) (nodesStep p) (step-runs q) h (record { ok = tt; count = omega arith; paid = omega arith })
