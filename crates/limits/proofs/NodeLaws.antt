@@ -17,9 +17,10 @@ use Rattle.ast.specs.Tree.{Leaf, Container, Nodes, leaf, box, MotionNode, singl
 use Rattle.sheet.specs.Sheet as sheets
 use Rattle.sheet.specs.Sheet.{Forest, Node, nodeForm, forest}
 use Rattle.sheet.proofs.Laws.{nodeL, OkNodes, innerL}
-use Rattle.grammar.specs.Rule.{Rule, give, _>>=_, _>>_, skip, ends, sees, repeat, Next, more, done}
+use Rattle.error.specs.declared.Refusal.the-variants.{Missing, TooManyNested}
+use Rattle.grammar.specs.Rule.{Rule, give, refuse, _>>=_, _>>_, skip, ends, sees, repeat, Next, more, done}
 use Rattle.grammar.specs.Grammar.{stored, leaves, containers, Begins, aLeaf, aContainer, unknown, orContainer, beginning, nodeBy, parseNode, oneNode, nodesStep, block, animatoInput}
-use Rattle.limits.proofs.RunLaws.{Runs, gives, refuses, then, and, weaken, tests, Onto, repeats}
+use Rattle.limits.proofs.RunLaws.{Runs, gives, refuses, then, and, weaken-in, tests, Onto, repeats}
 use Rattle.limits.proofs.TakeLaws.{Word, a-word, skips-mark, Inside, in-group}
 use Rattle.limits.proofs.ListLaws.{under-row}
 use Rattle.limits.proofs.LeafLaws.{Leafed, LeafRule, tween-runs, spring-runs, path-runs, morph-runs, draw-runs, color-runs, waveform-runs, preset-runs, label-runs, at-runs}
@@ -154,3 +155,23 @@ module _ (s : List ℕ) (short : length s ≤ 16384) {inner : Form Forest} (b : 
 
     pub nodes-run : (q : ℕ) → q ≤ length s → Runs s (repeat (nodesStep p) Nodes.none) q (Several q)
     nodes-run q h = repeats (Several q) (Several q) (λ ns m y. y) (nodesStep p) (step-runs q) h (record { ok = tt; count = omega arith; paid = omega arith })
+
+-- ---- blocks
+
+module _ (s : List ℕ) (short : length s ≤ 16384) where
+  -- nodes with their count
+  pub sized-ok : (d : ℕ) (ns : Forest) → width ns ≤ length s → OkNodes (length s) (innerL (length s) d) ns → innerL (length s) (suc d) .ok ns
+  sized-ok d ns h o = (small 2 (width ns) (omega (arith, short)), o)
+
+  pub sized-length : (d : ℕ) (ns : Forest) → length (sheets.inner (length s) (suc d) .write ns) ≡ 2 + recordBytes (length s) (sheets.inner (length s) d) ns
+  sized-length d ns = length-append (big 2 .write (width ns)) (forest (length s) (sheets.inner (length s) d) (width ns) .write ns) ∙ (let e = length-big 2 (width ns) in omega arith)
+
+  pub block-runs : (d : ℕ) (q : ℕ) → q ≤ length s → Runs s (block d) q (Blocked s short (innerL (length s) d) q)
+  unfolding block
+  block-runs zero q h = record { run = λ l. tests {Q = Blocked s short (innerL (length s) 0) q} (sees "{") {p = refuse TooManyNested} {r = refuse Missing} (λ e. refuses) (λ e. refuses) .run l }
+  block-runs (suc d) q h = record { run = λ l. weaken-in {Q = Blocked s short (innerL (length s) (suc d)) q}
+    (in-group (repeat (nodesStep (block d)) Nodes.none) (Several s short (innerL (length s) d) (block d) (block-runs d)) h 123 refl (nodes-run s short (innerL (length s) d) (block d) (block-runs d)))
+    (λ ns m g x. record {
+      ok = sized-ok d (mapTimes stored ns) (omega (arith, x .inner .count, x .left .low)) (x .inner .ok);
+      paid = rw (sized-length d (mapTimes stored ns)) (omega (arith, x .low, x .inner .paid, x .left .low));
+    }) .run l }

@@ -49,12 +49,15 @@ pub and : {A B : Type 0} {s : List ℕ} {p : Rule A} {f : Rule B} {q : ℕ} {R :
     → Runs s p q R → ((m : ℕ) → m ≤ length s → (a : A) → R a m → Runs s f m Q) → Runs s (p >> f) q Q
 and {s = s} {p = p} {f = f} {q = q} {R = R} {Q = Q} x k = record { run = λ l. goes-on s (λ a. f) R Q (λ a m h r. k m h a r) (p l (tokensFrom s q)) (x .run l) }
 
-weaker : {A : Type 0} (s : List ℕ) (R Q : A → ℕ → Type 0) → ((a : A) (m : ℕ) → R a m → Q a m) → (o : Out A) → Outcome s o R → Outcome s o Q
-weaker s R Q k (got a l ts) e = record { at = e .at; is = e .is; high = e .high; post = k a (e .at) (e .post) }
+weaker : {A : Type 0} (s : List ℕ) (R Q : A → ℕ → Type 0) → ((a : A) (m : ℕ) → m ≤ length s → R a m → Q a m) → (o : Out A) → Outcome s o R → Outcome s o Q
+weaker s R Q k (got a l ts) e = record { at = e .at; is = e .is; high = e .high; post = k a (e .at) (e .high) (e .post) }
 weaker s R Q k (refused r p) e = tt
 
+pub weaken-in : {A : Type 0} {s : List ℕ} {p : Rule A} {q : ℕ} {R Q : A → ℕ → Type 0} → Runs s p q R → ((a : A) (m : ℕ) → m ≤ length s → R a m → Q a m) → Runs s p q Q
+weaken-in {s = s} {p = p} {q = q} {R = R} {Q = Q} x k = record { run = λ l. weaker s R Q k (p l (tokensFrom s q)) (x .run l) }
+
 pub weaken : {A : Type 0} {s : List ℕ} {p : Rule A} {q : ℕ} {R Q : A → ℕ → Type 0} → Runs s p q R → ((a : A) (m : ℕ) → R a m → Q a m) → Runs s p q Q
-weaken {s = s} {p = p} {q = q} {R = R} {Q = Q} x k = record { run = λ l. weaker s R Q k (p l (tokensFrom s q)) (x .run l) }
+weaken x k = weaken-in x (λ a m h r. k a m r)
 
 -- ---- tests
 
