@@ -10,3 +10,4 @@ pub mod LeafLaws
 pub mod FrameLaws
 pub mod HeadLaws
 pub mod NodeLaws
+pub mod Limits

@@ -175,3 +175,9 @@ module _ (s : List ℕ) (short : length s ≤ 16384) where
       ok = sized-ok d (mapTimes stored ns) (omega (arith, x .inner .count, x .left .low)) (x .inner .ok);
       paid = rw (sized-length d (mapTimes stored ns)) (omega (arith, x .low, x .inner .paid, x .left .low));
     }) .run l }
+
+  -- all the nodes of a text: each pays 2 bytes more than its records have, and one node's 2 are enough for the head
+  pub top-small : (d : ℕ) (ns : Forest) (m : ℕ) → m ≤ length s → recordBytes (length s) (sheets.inner (length s) d) ns + 2 * width ns + 3 * 0 ≤ 3 * m → length (sheets.inner (length s) (suc d) .write ns) ≤ 49152
+  top-small d Nodes.none m h p = omega arith
+  top-small d (leaf l rest) m h p = omega (arith, short, sized-length d (leaf l rest))
+  top-small d (box c ns rest) m h p = omega (arith, short, sized-length d (box c ns rest))
