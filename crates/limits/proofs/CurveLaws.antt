@@ -1,24 +1,23 @@
 -- Easings, loop modes, and the rules for what a field holds. Assumes nothing.
-use Prim.Native.Nat.{ℕ, zero, suc, _+_, _-_, _*_, _^_, _≤_, _<_}
+use Prim.Native.Nat.{ℕ, _+_, _-_, _*_, _≤_, _<_}
 use Prim.Native.String.{String}
-use mathlib.Core.Bool.{Bool, true, false, _&&_}
-use mathlib.Core.List.{List, [], _∷_}
-use mathlib.Core.Option.{Option, none, some}
-use mathlib.Core.Path.{_≡_, refl, sym, ap, _∙_, subst}
+use mathlib.Core.Bool.{_&&_}
+use mathlib.Core.List.{List, []}
+use mathlib.Core.Path.{_≡_, refl, ap}
 use native.Mathlib.Omega.{arith}
 use lib.ListN.{length}
 use Rattle.text.specs.Bytes.{bytes, same}
-use Rattle.text.specs.Words.{default, words}
-use Rattle.codec.proofs.Laws.{Small, All}
+use Rattle.text.specs.Words.{words}
+use Rattle.codec.proofs.Laws.{Small}
 use Rattle.encode.proofs.FieldLaws.{small}
-use Rattle.ast.specs.Tree.{EasingSpec, named, cubicBezier, steps, wiggle, rough, slowMo, LoopSpec, once, times, forever, pingPong, pingPongTimes}
+use Rattle.ast.specs.Tree.{EasingSpec, LoopSpec}
 use Rattle.sheet.specs.Sheet.{easingForm}
-use Rattle.sheet.proofs.Laws.{spanL, easingL, loopL}
+use Rattle.sheet.proofs.Laws.{easingL, loopL}
 use Rattle.token.specs.Token.{tokensFrom, place}
 use Rattle.error.specs.declared.Refusal.{Refusal}
 use Rattle.error.specs.declared.Refusal.the-variants.{Malformed}
 use Rattle.grammar.specs.Rule.{Rule, give, _>>=_, choice, sees, seesTwo}
-use Rattle.grammar.specs.Fields.{Content, Table, aNumber, numberOf, pairs}
+use Rattle.grammar.specs.Fields.{aNumber, numberOf, pairs}
 use Rattle.grammar.specs.Values.{
   number,
   count,
@@ -28,7 +27,6 @@ use Rattle.grammar.specs.Values.{
   loopMode,
   f32Of,
   commaFloats,
-  twoFloats,
   fourFloats,
   bezierCurve,
   roughFields,
@@ -48,11 +46,11 @@ use Rattle.grammar.specs.Values.{
   parseLoopMode,
 }
 use Rattle.limits.proofs.RunLaws.{Runs, gives, refuses, then, and, weaken, tests}
-use Rattle.limits.proofs.TakeLaws.{Word, a-word, the-mark, two-marks, Inside, in-group}
+use Rattle.limits.proofs.TakeLaws.{Word, a-word, the-mark, two-marks, in-group}
 use Rattle.limits.proofs.ListLaws.{a-choice, by-word, by-word-or}
 use Rattle.limits.proofs.SizeLaws.{easing-most}
-use Rattle.limits.proofs.FieldLaws.{limit, default-in, Fair, AllFair, Held, Row, Listed, pairs-run, word-in}
-use Rattle.limits.proofs.ValueLaws.{f32Of-small, span-fits, Named, ident-runs, truth-runs, Four, float-runs, uint-runs, uint-in-parens, Two, two-floats, Valued, value-runs}
+use Rattle.limits.proofs.FieldLaws.{limit, default-in, Held, Row, Listed, pairs-run, word-in}
+use Rattle.limits.proofs.ValueLaws.{f32Of-small, span-fits, ident-runs, truth-runs, float-runs, uint-runs, uint-in-parens, Two, two-floats, value-runs}
 
 module _ (s : List ℕ) (short : length s ≤ 16384) where
   -- ---- numbers as fields
@@ -89,19 +87,25 @@ module _ (s : List ℕ) (short : length s ≤ 16384) where
   unfolding roughCurve roughFields limit same
   rough-runs q h =
       then (in-group (pairs roughFields) (Listed s []) h 40 refl (pairs-run s roughFields (number-row "strength" (omega arith) refl, (count-row "points" (omega arith) refl, tt))))
-      (λ fs m g x. let i = x .inner in gives g ((
-        default-in (Small 4) (numberOf "strength" fs) (f32Of 1 2) (word-in (length s) fs (i .fair) "strength" refl) (f32Of-small 1 2),
-        default-in (Small 4) (numberOf "points" fs) 8 (word-in (length s) fs (i .fair) "points" refl) refl,
-      ), omega (arith, x .low, i .low, x .left .low)))
+      (λ fs m g x. let i = x .inner in gives g (
+        (
+          default-in (Small 4) (numberOf "strength" fs) (f32Of 1 2) (word-in (length s) fs (i .fair) "strength" refl) (f32Of-small 1 2),
+          default-in (Small 4) (numberOf "points" fs) 8 (word-in (length s) fs (i .fair) "points" refl) refl,
+        ),
+        omega (arith, x .low, i .low, x .left .low),
+      ))
 
   slow-runs : (q : ℕ) → q ≤ length s → Runs s slowMoCurve q (Curve q)
   unfolding slowMoCurve slowMoFields limit same
   slow-runs q h =
       then (in-group (pairs slowMoFields) (Listed s []) h 40 refl (pairs-run s slowMoFields (number-row "linear_ratio" (omega arith) refl, (number-row "power" (omega arith) refl, tt))))
-      (λ fs m g x. let i = x .inner in gives g ((
-        default-in (Small 4) (numberOf "linear_ratio" fs) (f32Of 7 10) (word-in (length s) fs (i .fair) "linear_ratio" refl) (f32Of-small 7 10),
-        default-in (Small 4) (numberOf "power" fs) (f32Of 2 1) (word-in (length s) fs (i .fair) "power" refl) (f32Of-small 2 1),
-      ), omega (arith, x .low, i .low, x .left .low)))
+      (λ fs m g x. let i = x .inner in gives g (
+        (
+          default-in (Small 4) (numberOf "linear_ratio" fs) (f32Of 7 10) (word-in (length s) fs (i .fair) "linear_ratio" refl) (f32Of-small 7 10),
+          default-in (Small 4) (numberOf "power" fs) (f32Of 2 1) (word-in (length s) fs (i .fair) "power" refl) (f32Of-small 2 1),
+        ),
+        omega (arith, x .low, i .low, x .left .low),
+      ))
 
   steps-curve-runs : (q : ℕ) → q ≤ length s → Runs s stepsCurve q (Curve q)
   unfolding stepsCurve
@@ -145,11 +149,16 @@ module _ (s : List ℕ) (short : length s ≤ 16384) where
     curve-or-runs : Runs s (curveOr w) i (Eased q)
     unfolding curveOr curves
     curve-or-runs =
-        by-word-or curves (w .1) (namedEasing w)
-        (curved bezierCurve "cubic_bezier" (omega arith) (bezier-runs i h),
-          (curved stepsCurve "steps" (omega arith) (steps-curve-runs i h),
-            (curved wiggleCurve "wiggle" (omega arith) (wiggle-runs i h),
-              (curved roughCurve "rough" (omega arith) (rough-runs i h), (curved slowMoCurve "slowmo" (omega arith) (slow-runs i h), tt)))))
+        by-word-or curves (w .1) (namedEasing w) (
+          curved bezierCurve "cubic_bezier" (omega arith) (bezier-runs i h),
+          (
+            curved stepsCurve "steps" (omega arith) (steps-curve-runs i h),
+            (
+              curved wiggleCurve "wiggle" (omega arith) (wiggle-runs i h),
+              (curved roughCurve "rough" (omega arith) (rough-runs i h), (curved slowMoCurve "slowmo" (omega arith) (slow-runs i h), tt)),
+            ),
+          ),
+        )
         named-runs
 
   pub easing-runs : (q : ℕ) → q ≤ length s → Runs s parseEasing q (Eased q)
@@ -174,9 +183,9 @@ module _ (s : List ℕ) (short : length s ≤ 16384) where
   unfolding parseLoopMode loopModes
   loop-runs q h =
       then (a-word h) (λ w m g x. weaken
-        (by-word {Q = λ l n. loopL .ok l × (m ≤ n)} Malformed loopModes (w .1) (λ p. p) g
-          ((λ e. gives g (tt, omega arith)), ((λ e. gives g (tt, omega arith)), ((λ e. ping-pong-runs m g), ((λ e. times-runs m g), tt)))))
-        (λ l n y. record { ok = y .0; on = omega (arith, x .low, x .end, x .some, y .1) }))
+      (by-word {Q = λ l n. loopL .ok l × (m ≤ n)} Malformed loopModes (w .1) (λ p. p) g
+      ((λ e. gives g (tt, omega arith)), ((λ e. gives g (tt, omega arith)), ((λ e. ping-pong-runs m g), ((λ e. times-runs m g), tt)))))
+      (λ l n y. record { ok = y .0; on = omega (arith, x .low, x .end, x .some, y .1) }))
 
   -- ---- the other fields
 

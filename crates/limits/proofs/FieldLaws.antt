@@ -1,8 +1,8 @@
 -- Lists of fields: what their contents are, and what text they take. Assumes nothing.
-use Prim.Native.Nat.{ℕ, zero, suc, _+_, _-_, _*_, _^_, _≤_, _<_}
+use Prim.Native.Nat.{ℕ, _+_, _-_, _*_, _≤_, _<_}
 use Prim.Native.String.{String}
 use mathlib.Core.Bool.{Bool, true, false, cond}
-use mathlib.Core.List.{List, [], _∷_, _++_}
+use mathlib.Core.List.{List, [], _∷_}
 use mathlib.Core.Option.{Option, none, some, Option·some-injective}
 use mathlib.Core.Path.{_≡_, refl, sym, ap, _∙_, subst}
 use native.Mathlib.Omega.{arith}
@@ -11,7 +11,7 @@ use lib.ListN.{length}
 use Rattle.text.specs.Bytes.{bytes, same, oneOf}
 use Rattle.text.specs.Words.{orElse, default}
 use Rattle.text.proofs.WordLaws.{same-eq}
-use Rattle.codec.specs.Codec.{Form, opt, below}
+use Rattle.codec.specs.Codec.{Form, opt}
 use Rattle.codec.proofs.Laws.{Small, All, Law, _&_, optL, belowL}
 use Rattle.encode.proofs.FieldLaws.{small}
 use Rattle.ast.specs.Tree.{ValueExpr}
@@ -19,9 +19,9 @@ use Rattle.sheet.specs.Sheet.{valueForm}
 use Rattle.sheet.proofs.Laws.{wordL, valueL, easingL, loopL, dampingL}
 use Rattle.token.specs.Token.{Kind, name, number, quoted, mark, tokensFrom, kind, isMark}
 use Rattle.error.specs.declared.Refusal.the-variants.{UnknownKeyword}
-use Rattle.grammar.specs.Rule.{Rule, Next, more, done, give, seesWord, skip}
+use Rattle.grammar.specs.Rule.{Rule, more, done, give, seesWord}
 use Rattle.grammar.specs.Fields.{Content, Entry, Fields, Table, rowOf, fieldHead, fieldValue, entry, pairName, onePair, pairs, Item, halts, closes, passes, starts, itemOf, fieldName, oneField, byItem, fieldsStep, parseFieldList, last, called, numberOf, easingOf, loopModeOf, valueOf, dampingOf, rangeOf}
-use Rattle.limits.proofs.RunLaws.{Outcome, Runs, gives, then, and, weaken, tests, needs, Onto, repeats}
+use Rattle.limits.proofs.RunLaws.{Runs, gives, then, and, weaken, tests, needs, Onto, repeats}
 use Rattle.limits.proofs.TakeLaws.{a-word, the-mark, skips, skips-word}
 use Rattle.limits.proofs.ListLaws.{lists}
 

@@ -1,9 +1,9 @@
 -- A track of keyframes fits the sheet, and the text pays for its frames. Assumes nothing.
-use Prim.Native.Nat.{ℕ, zero, suc, _+_, _-_, _*_, _≤_, _<_}
+use Prim.Native.Nat.{ℕ, _+_, _-_, _*_, _≤_, _<_}
 use mathlib.Core.Bool.{Bool, true, false, _&&_, cond}
 use mathlib.Core.List.{List, [], _∷_, _++_}
 use mathlib.Core.Option.{Option, none, some}
-use mathlib.Core.Path.{_≡_, refl, sym, ap, _∙_, subst}
+use mathlib.Core.Path.{_≡_, refl, ap}
 use native.Mathlib.Omega.{arith}
 use lib.ListN.{length, length-append}
 use Rattle.text.specs.Bytes.{bytes}
@@ -14,21 +14,21 @@ use Rattle.number.proofs.Floats.{bits-lt, stored-fits}
 use Rattle.codec.specs.Codec.{Form, opt, eachOut}
 use Rattle.codec.proofs.Laws.{Small, All, Law, optL}
 use Rattle.encode.proofs.FieldLaws.{small, each-more}
-use Rattle.ast.specs.Tree.{ValueExpr, EasingSpec, KeyframeTime, percent, seconds, KeyframeEntry, KeyframeSpec, LoopSpec, Leaf, mapFrames}
+use Rattle.ast.specs.Tree.{ValueExpr, EasingSpec, KeyframeTime, percent, seconds, KeyframeEntry, KeyframeSpec, Leaf, mapFrames}
 use Rattle.sheet.specs.Sheet.{Forest, valueForm, easingForm, entryForm}
 use Rattle.sheet.proofs.Laws.{timeL, valueL, entryL, easingL, loopL, keyframesL}
 use Rattle.token.specs.Token.{Kind, name, number, quoted, mark, tokensFrom, kind}
 use Rattle.token.specs.Names.{nameOf}
 use Rattle.error.specs.declared.Refusal.the-variants.{Malformed}
-use Rattle.grammar.specs.Rule.{Rule, give, _>>=_, _>>_, if, sees, seesName, seesWord, ends, skip, the, eat, goOn, repeat, Next, more, done}
-use Rattle.grammar.specs.Values.{parseEasing, parseLoopMode}
+use Rattle.grammar.specs.Rule.{give, _>>=_, _>>_, if, sees, seesName, seesWord, ends, skip, the, eat, goOn, repeat, more}
+use Rattle.grammar.specs.Values.{parseLoopMode}
 use Rattle.grammar.specs.Grammar.{stored, parseKeyframeTime, keyframeEntry, Track, trackLoop, trackFrame, trackStep, parseKeyframes}
 use Rattle.limits.proofs.RunLaws.{Runs, gives, refuses, then, and, weaken, tests, conds, Onto, repeats}
-use Rattle.limits.proofs.TakeLaws.{a-number, the-mark, skips-mark, skips-word, Eaten, eats, eaten, Inside, in-group}
+use Rattle.limits.proofs.TakeLaws.{a-number, the-mark, skips-mark, skips-word, Eaten, eats, eaten, in-group}
 use Rattle.limits.proofs.SizeLaws.{entry-size, keyframes-size}
 use Rattle.limits.proofs.FieldLaws.{On, on-ok}
-use Rattle.limits.proofs.ValueLaws.{all-more, Valued, value-runs, ident-runs}
-use Rattle.limits.proofs.CurveLaws.{Eased, easing-runs, Looped, loop-runs}
+use Rattle.limits.proofs.ValueLaws.{all-more, value-runs, ident-runs}
+use Rattle.limits.proofs.CurveLaws.{easing-runs, loop-runs}
 use Rattle.limits.proofs.LeafLaws.{Leafed, LeafRule}
 
 -- ---- a key
@@ -84,9 +84,9 @@ module _ (s : List ℕ) (short : length s ≤ 16384) where
       and (the-mark g1 58 refl) (λ m2 g2 u x2.
       then (value-runs s short m2 g2) (λ v m3 g3 x3.
       then (tests seesName
-        (λ e. let (w, f) = seen-name (kind (tokensFrom s m3)) e in
-          then (easing-runs s short m3 g3) (λ c n g y. gives {Q = Opt v m2} g (y .ok, omega (arith, x3 .on, y .on), omega (arith, y .paid, x3 .before w f))))
-        (λ e. gives {Q = Opt v m2} g3 (tt, x3 .on, omega (arith, x3 .paid)))) (λ o m4 g4 x4.
+      (λ e. let (w, f) = seen-name (kind (tokensFrom s m3)) e in
+      then (easing-runs s short m3 g3) (λ c n g y. gives {Q = Opt v m2} g (y .ok, omega (arith, x3 .on, y .on), omega (arith, y .paid, x3 .before w f))))
+      (λ e. gives {Q = Opt v m2} g3 (tt, x3 .on, omega (arith, x3 .paid)))) (λ o m4 g4 x4.
       gives g4 (framed _ q m4 (x3 .ok) (x4 .0) (omega (arith, x1, x2, x4 .1)) (omega (arith, x1, x2, x4 .2)))))))
     where
       -- an easing or none, behind a value v from i on
@@ -165,5 +165,5 @@ module _ (s : List ℕ) (short : length s ≤ 16384) where
         then (ident-runs s short q h) (λ t m1 g1 x1.
         then (in-group (repeat trackStep ([], none)) (λ i. Tracked 2 i) g1 123 refl track-runs) (λ x m2 g2 x2.
         gives g2 (track-leafed _ q m2
-          (x1 .ok, ((small 2 (length (mapFrames stored (x .0))) (omega (arith, x2 .inner .count, x2 .left .low, short)), x2 .inner .ok), on-ok loopL (x .1) (x2 .inner .loopMode)))
-          (omega (arith, x1 .on, x2 .low, x2 .inner .paid, x2 .left .low)))))
+        (x1 .ok, ((small 2 (length (mapFrames stored (x .0))) (omega (arith, x2 .inner .count, x2 .left .low, short)), x2 .inner .ok), on-ok loopL (x .1) (x2 .inner .loopMode)))
+        (omega (arith, x1 .on, x2 .low, x2 .inner .paid, x2 .left .low)))))

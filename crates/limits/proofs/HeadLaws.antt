@@ -1,23 +1,22 @@
 -- What stands between a container's keyword and its block fits the sheet. Assumes nothing.
-use Prim.Native.Nat.{ℕ, zero, suc, _+_, _-_, _*_, _≤_, _<_}
+use Prim.Native.Nat.{ℕ, _+_, _-_, _*_, _≤_, _<_}
 use mathlib.Core.Bool.{Bool, true, false}
 use mathlib.Core.List.{List, [], _∷_, _++_}
-use mathlib.Core.Option.{Option, none, some}
-use mathlib.Core.Path.{_≡_, refl, sym, ap, _∙_, subst}
+use mathlib.Core.Path.{refl}
 use native.Mathlib.Omega.{arith}
 use lib.ListN.{length}
-use Rattle.text.specs.Bytes.{bytes, same}
+use Rattle.text.specs.Bytes.{same}
 use Rattle.text.specs.Words.{words, default}
 use Rattle.codec.specs.Codec.{Form, opt}
 use Rattle.codec.proofs.Laws.{Small, All, Law, optL}
 use Rattle.encode.proofs.FieldLaws.{small}
-use Rattle.ast.specs.Tree.{StaggerPatternSpec, grid, random, centerOut, edgesIn, Container, sequence, parallel, group, stagger, holding}
+use Rattle.ast.specs.Tree.{StaggerPatternSpec, grid, Container, sequence, parallel, group, stagger, holding}
 use Rattle.sheet.specs.Sheet.{Forest, word, nodeForm, patternForm}
 use Rattle.sheet.proofs.Laws.{wordL, patternL, nodeL}
 use Rattle.error.specs.declared.Refusal.the-variants.{Malformed, UnknownKeyword, StaggerGridIncomplete}
-use Rattle.grammar.specs.Rule.{Rule, give, need, _>>=_, _>>_, the, eat, sees, goOn, Next, more, done, repeat}
+use Rattle.grammar.specs.Rule.{Rule, give, need, _>>=_, _>>_, eat, sees, goOn}
 use Rattle.grammar.specs.Fields.{numberOf, pairs}
-use Rattle.grammar.specs.Values.{parseFloat, f32Of}
+use Rattle.grammar.specs.Values.{f32Of}
 use Rattle.grammar.specs.Grammar.{
   parseSequence,
   parseParallel,
@@ -36,8 +35,8 @@ use Rattle.grammar.specs.Grammar.{
   openingStep,
   parseStagger,
 }
-use Rattle.limits.proofs.RunLaws.{Runs, gives, refuses, then, and, weaken, tests, needs, Onto, repeats}
-use Rattle.limits.proofs.TakeLaws.{a-word, the-mark, Eaten, eats, eaten, Inside, in-group}
+use Rattle.limits.proofs.RunLaws.{Runs, gives, then, and, weaken, tests, needs, Onto, repeats}
+use Rattle.limits.proofs.TakeLaws.{a-word, the-mark, eats, eaten, in-group}
 use Rattle.limits.proofs.ListLaws.{a-choice, by-word}
 use Rattle.limits.proofs.SizeLaws.{Most, all, _⊕_, opt-most, opt-word, pattern-most}
 use Rattle.limits.proofs.FieldLaws.{On, on-is, on-ok, default-in, limit, Row, Listed, pairs-run, number-in, word-in}
@@ -103,10 +102,13 @@ module _ (s : List ℕ) (short : length s ≤ 16384) where
 
   grid-rows : All (Row s) gridFields
   unfolding gridFields origin parseGridOrigin limit same
-  grid-rows =
-      (count-row s short "cols" (omega arith) refl,
-        (count-row s short "rows" (omega arith) refl,
-          (case-row s short "origin" Malformed ("top_left" ∷ "top_right" ∷ "bottom_left" ∷ "bottom_right" ∷ "center" ∷ "top" ∷ "bottom" ∷ "left" ∷ "right" ∷ []) (omega arith) (omega arith), tt)))
+  grid-rows = (
+    count-row s short "cols" (omega arith) refl,
+    (
+      count-row s short "rows" (omega arith) refl,
+      (case-row s short "origin" Malformed ("top_left" ∷ "top_right" ∷ "bottom_left" ∷ "bottom_right" ∷ "center" ∷ "top" ∷ "bottom" ∷ "left" ∷ "right" ∷ []) (omega arith) (omega arith), tt),
+    ),
+  )
 
   -- the rule in the parentheses of `grid`
   abbrev gridInside : Rule StaggerPatternSpec
@@ -125,8 +127,10 @@ module _ (s : List ℕ) (short : length s ≤ 16384) where
       let n = length s in
       let f = x1 .fair in
       gives g3 (
-        (on-is (Small 4) (numberOf "cols" fs) c (x2 .1) (word-in n fs f "cols" refl),
-          (on-is (Small 4) (numberOf "rows" fs) r (x3 .1) (word-in n fs f "rows" refl), default-in (λ o. o < 9) (numberOf "origin" fs) 4 (number-in n fs f "origin" 9 refl) (omega arith))),
+        (
+          on-is (Small 4) (numberOf "cols" fs) c (x2 .1) (word-in n fs f "cols" refl),
+          (on-is (Small 4) (numberOf "rows" fs) r (x3 .1) (word-in n fs f "rows" refl), default-in (λ o. o < 9) (numberOf "origin" fs) 4 (number-in n fs f "origin" 9 refl) (omega arith)),
+        ),
         omega (arith, x1 .low, x2 .0, x3 .0),
       ))))
 
@@ -145,8 +149,10 @@ module _ (s : List ℕ) (short : length s ≤ 16384) where
       let n = length s in
       let f = x .inner .fair in
       gives g (
-        (default-in (Small 4) (numberOf "seed" fs) 0 (word-in n fs f "seed" refl) refl,
-          (default-in (Small 4) (numberOf "min" fs) (f32Of 0 1) (word-in n fs f "min" refl) (f32Of-small 0 1), default-in (Small 4) (numberOf "max" fs) (f32Of 1 10) (word-in n fs f "max" refl) (f32Of-small 1 10))),
+        (
+          default-in (Small 4) (numberOf "seed" fs) 0 (word-in n fs f "seed" refl) refl,
+          (default-in (Small 4) (numberOf "min" fs) (f32Of 0 1) (word-in n fs f "min" refl) (f32Of-small 0 1), default-in (Small 4) (numberOf "max" fs) (f32Of 1 10) (word-in n fs f "max" refl) (f32Of-small 1 10)),
+        ),
         omega (arith, x .low, x .inner .low, x .left .low),
       ))
 
@@ -154,8 +160,8 @@ module _ (s : List ℕ) (short : length s ≤ 16384) where
   unfolding parseStaggerPattern patterns
   pattern-runs q h =
       then (a-word h) (λ w m g x. weaken
-        (by-word {Q = Patterned m} Malformed patterns (w .1) (λ p. p) g ((λ e. grid-runs m g), ((λ e. random-runs m g), ((λ e. gives g (tt, omega arith)), ((λ e. gives g (tt, omega arith)), tt)))))
-        (λ p n y. (y .0, omega (arith, x .low, x .end, y .1))))
+      (by-word {Q = Patterned m} Malformed patterns (w .1) (λ p. p) g ((λ e. grid-runs m g), ((λ e. random-runs m g), ((λ e. gives g (tt, omega arith)), ((λ e. gives g (tt, omega arith)), tt)))))
+      (λ p n y. (y .0, omega (arith, x .low, x .end, y .1))))
 
   -- the pattern and the delay so far
   record Opened (q : ℕ) (x : Opening) (m : ℕ) : Type 0 where
@@ -175,11 +181,15 @@ module _ (s : List ℕ) (short : length s ≤ 16384) where
     unfolding openingField openingFields
     field-runs x m h o =
         then (a-word h) (λ w m1 g1 x1.
-        by-word UnknownKeyword (openingFields x) (w .1) (λ p. p >>= λ y. eat "," >>= λ c. give (goOn c y)) g1
-        ((λ e. then (and (the-mark g1 58 refl) (λ m2 g2 u x2. then (pattern-runs m2 g2) (λ p m3 g3 x3.
-            gives {Q = Opened q} g3 (record { pattern = x3 .0; delay = o .delay; low = omega (arith, o .low, x1 .low, x1 .end, x2, x3 .1) })))) (λ y n g z. rest-runs y n z g)),
-          ((λ e. then (and (the-mark g1 58 refl) (λ m2 g2 u x2. then (float-runs s short m2 g2) (λ d m3 g3 x3.
-            gives {Q = Opened q} g3 (record { pattern = o .pattern; delay = small 4 d (x3 .ok); low = omega (arith, o .low, x1 .low, x1 .end, x2, x3 .is .on) })))) (λ y n g z. rest-runs y n z g)), tt)))
+        by-word UnknownKeyword (openingFields x) (w .1) (λ p. p >>= λ y. eat "," >>= λ c. give (goOn c y)) g1 (
+          (λ e. then (and (the-mark g1 58 refl) (λ m2 g2 u x2. then (pattern-runs m2 g2) (λ p m3 g3 x3.
+              gives {Q = Opened q} g3 (record { pattern = x3 .0; delay = o .delay; low = omega (arith, o .low, x1 .low, x1 .end, x2, x3 .1) })))) (λ y n g z. rest-runs y n z g)),
+          (
+            (λ e. then (and (the-mark g1 58 refl) (λ m2 g2 u x2. then (float-runs s short m2 g2) (λ d m3 g3 x3.
+                gives {Q = Opened q} g3 (record { pattern = o .pattern; delay = small 4 d (x3 .ok); low = omega (arith, o .low, x1 .low, x1 .end, x2, x3 .is .on) })))) (λ y n g z. rest-runs y n z g)),
+            tt,
+          ),
+        ))
 
   pub stagger-runs : HeadRule 7 parseStagger
   unfolding parseStagger openingStep

@@ -1,10 +1,9 @@
 -- Each rule for a node that holds no others gives one that fits the sheet, and whose record the text pays for. Assumes nothing.
-use Prim.Native.Nat.{ℕ, zero, suc, _+_, _-_, _*_, _≤_, _<_}
-use Prim.Native.String.{String}
-use mathlib.Core.Bool.{Bool, true, false, cond}
+use Prim.Native.Nat.{ℕ, _+_, _-_, _*_, _≤_, _<_}
+use mathlib.Core.Bool.{Bool, true, false}
 use mathlib.Core.List.{List, [], _∷_}
 use mathlib.Core.Option.{Option, none, some}
-use mathlib.Core.Path.{_≡_, refl, sym, ap, _∙_, subst}
+use mathlib.Core.Path.{_≡_, refl, ap}
 use native.Mathlib.Omega.{arith}
 use lib.ListN.{length, getD}
 use Rattle.text.specs.Bytes.{bytes, same, isName}
@@ -16,10 +15,10 @@ use Rattle.number.proofs.Floats.{nearest-fits, bits-lt}
 use Rattle.number.specs.Time.{Key}
 use Rattle.ast.specs.Tree.{Span, ValueExpr, DampingMode, criticallyDamped, overdamped, underdamped, TweenSpec, SpringSpec, PathSpec, MorphSpec, DrawSpec, ColorSpec, WaveformSpec, PresetCall, Leaf, single, mapLeaf}
 use Rattle.sheet.specs.Sheet.{Forest, valueForm, nodeForm, springForm, waveformForm, presetForm}
-use Rattle.sheet.proofs.Laws.{wordL, flagL, easingL, loopL, valueL, dampingL, tweenL, pathL, morphL, drawL, colorL, nodeL}
+use Rattle.sheet.proofs.Laws.{flagL, dampingL, tweenL, pathL, morphL, drawL, colorL, nodeL}
 use Rattle.error.specs.declared.Refusal.the-variants.{MissingDuration, Malformed, UnknownSpringPreset}
 use Rattle.grammar.specs.Rule.{Rule, _>>_, give, if, sees, skip, inside}
-use Rattle.grammar.specs.Fields.{Fields, aDamping, pairs, parseFieldList, numberOf, truthOf, easingOf, loopModeOf, valueOf, dampingOf, rangeOf, ever, last}
+use Rattle.grammar.specs.Fields.{Fields, aDamping, pairs, parseFieldList, numberOf, truthOf, easingOf, valueOf, dampingOf, ever, last}
 use Rattle.grammar.specs.Grammar.{stored, tweenFields, parseTween, springFields, parseSpringPreset, springPreset, integrator, critical, over, under, parseSpring, offset, pathFields, parsePath, morphFields, parseMorph, drawFields, parseDraw, space, colorFields, parseColor, waveformKind, waveformFields, parseWaveform, parsePresetCall, parseLabel, atSign, parseAt}
 use Rattle.limits.proofs.RunLaws.{Runs, gives, then, and, weaken, tests, conds, needs}
 use Rattle.limits.proofs.TakeLaws.{the-mark, two-marks, skips-mark, eats, eaten, a-number, in-group}
@@ -47,13 +46,22 @@ module _ (s : List ℕ) (short : length s ≤ 16384) {inner : Form Forest} (b : 
 
   tween-rows : All (Row s) tweenFields
   unfolding tweenFields limit same
-  tween-rows =
-      (number-row s short "duration" (omega arith) refl,
-        (easing-row s short "easing" (omega arith),
-          (number-row s short "delay" (omega arith) refl,
-            (number-row s short "time_scale" (omega arith) refl,
-              (loop-row s short "loop" (omega arith),
-                (number-row s short "snap" (omega arith) refl, (count-row s short "round" (omega arith) refl, (flag-row s short "reverse" (omega arith), tt))))))))
+  tween-rows = (
+    number-row s short "duration" (omega arith) refl,
+    (
+      easing-row s short "easing" (omega arith),
+      (
+        number-row s short "delay" (omega arith) refl,
+        (
+          number-row s short "time_scale" (omega arith) refl,
+          (
+            loop-row s short "loop" (omega arith),
+            (number-row s short "snap" (omega arith) refl, (count-row s short "round" (omega arith) refl, (flag-row s short "reverse" (omega arith), tt))),
+          ),
+        ),
+      ),
+    ),
+  )
 
   tween-leafed : (x : TweenSpec) (q m : ℕ) → tweenL (length s) .ok x → 56 + length (valueForm .write (x .from)) + length (valueForm .write (x .to)) + 3 * q ≤ 3 * m + 15 → Leafed 5 q (Leaf.tween x) m
   tween-leafed x q m o p = record { ok = o; paid = omega (arith, tween-size (length s) x) }
@@ -71,8 +79,8 @@ module _ (s : List ℕ) (short : length s ≤ 16384) {inner : Form Forest} (b : 
       let n = length s in
       let f = x6 .fair in
       gives g7 (tween-leafed _ q m7
-        (x1 .ok, (x3 .ok, (x5 .ok, (on-is (Small 4) (numberOf "duration" fs) d (x7 .1) (word-in n fs f "duration" refl), (easing-opt n fs f, (word-opt n fs f "delay" refl, (word-opt n fs f "time_scale" refl, (loop-opt n fs f, (word-opt n fs f "snap" refl, (word-opt n fs f "round" refl, flag-ok (ever "reverse" fs)))))))))))
-        (omega (arith, total-number n fs f "duration" d (x7 .1), x1 .apart e, x2, x3 .paid, x4, x5 .paid, x6 .paid, x7 .0))))))))))
+      (x1 .ok, (x3 .ok, (x5 .ok, (on-is (Small 4) (numberOf "duration" fs) d (x7 .1) (word-in n fs f "duration" refl), (easing-opt n fs f, (word-opt n fs f "delay" refl, (word-opt n fs f "time_scale" refl, (loop-opt n fs f, (word-opt n fs f "snap" refl, (word-opt n fs f "round" refl, flag-ok (ever "reverse" fs)))))))))))
+      (omega (arith, total-number n fs f "duration" d (x7 .1), x1 .apart e, x2, x3 .paid, x4, x5 .paid, x6 .paid, x7 .0))))))))))
 
   -- ---- spring
 
@@ -81,17 +89,34 @@ module _ (s : List ℕ) (short : length s ≤ 16384) {inner : Form Forest} (b : 
 
   spring-rows : All (Row s) springFields
   unfolding springFields springPreset parseSpringPreset integrator critical over under limit same
-  spring-rows =
-      (case-row s short "preset" UnknownSpringPreset ("gentle" ∷ "wobbly" ∷ "stiff" ∷ "slow" ∷ "snappy" ∷ []) (omega arith) (omega arith),
-        (number-row s short "stiffness" (omega arith) refl,
-          (number-row s short "damping" (omega arith) refl,
-            (number-row s short "mass" (omega arith) refl,
-              (value-row s short "velocity" (omega arith),
-                (number-row s short "epsilon" (omega arith) refl,
-                  (case-row s short "integrator" Malformed ("semi_implicit_euler" ∷ "rk4" ∷ []) (omega arith) (omega arith),
-                    ((λ q h. then (float-in-parens s short q h) (λ x m g y. gives g (damping-held (bytes "critically_damped") q m (criticallyDamped x) (omega arith) (y .0) (y .1)))),
-                      ((λ q h. then (two-in-parens s short q h) (λ p m g y. gives g (damping-held (bytes "overdamped") q m (overdamped (p .0) (p .1)) (omega arith) (y .0) (y .1)))),
-                        ((λ q h. then (two-in-parens s short q h) (λ p m g y. gives g (damping-held (bytes "underdamped") q m (underdamped (p .0) (p .1)) (omega arith) (y .0) (y .1)))), tt))))))))))
+  spring-rows = (
+    case-row s short "preset" UnknownSpringPreset ("gentle" ∷ "wobbly" ∷ "stiff" ∷ "slow" ∷ "snappy" ∷ []) (omega arith) (omega arith),
+    (
+      number-row s short "stiffness" (omega arith) refl,
+      (
+        number-row s short "damping" (omega arith) refl,
+        (
+          number-row s short "mass" (omega arith) refl,
+          (
+            value-row s short "velocity" (omega arith),
+            (
+              number-row s short "epsilon" (omega arith) refl,
+              (
+                case-row s short "integrator" Malformed ("semi_implicit_euler" ∷ "rk4" ∷ []) (omega arith) (omega arith),
+                (
+                  (λ q h. then (float-in-parens s short q h) (λ x m g y. gives g (damping-held (bytes "critically_damped") q m (criticallyDamped x) (omega arith) (y .0) (y .1)))),
+                  (
+                    (λ q h. then (two-in-parens s short q h) (λ p m g y. gives g (damping-held (bytes "overdamped") q m (overdamped (p .0) (p .1)) (omega arith) (y .0) (y .1)))),
+                    ((λ q h. then (two-in-parens s short q h) (λ p m g y. gives g (damping-held (bytes "underdamped") q m (underdamped (p .0) (p .1)) (omega arith) (y .0) (y .1)))), tt),
+                  ),
+                ),
+              ),
+            ),
+          ),
+        ),
+      ),
+    ),
+  )
 
   abbrev springOf : Span → ValueExpr → ValueExpr → Fields → SpringSpec
   springOf t v w fs = record {
@@ -149,9 +174,10 @@ module _ (s : List ℕ) (short : length s ≤ 16384) {inner : Form Forest} (b : 
 
   path-rows : All (Row s) pathFields
   unfolding pathFields limit same
-  path-rows =
-      (number-row s short "duration" (omega arith) refl,
-        (easing-row s short "easing" (omega arith), (flag-row s short "auto_rotate" (omega arith), (offset-row, (loop-row s short "loop" (omega arith), tt)))))
+  path-rows = (
+    number-row s short "duration" (omega arith) refl,
+    (easing-row s short "easing" (omega arith), (flag-row s short "auto_rotate" (omega arith), (offset-row, (loop-row s short "loop" (omega arith), tt)))),
+  )
 
   path-leafed : (x : PathSpec) (q m : ℕ) → pathL (length s) .ok x → 50 + 3 * q ≤ 3 * m + 12 → Leafed 4 q (Leaf.path x) m
   path-leafed x q m o p = record { ok = o; paid = omega (arith, path-size (length s) x) }
@@ -171,8 +197,8 @@ module _ (s : List ℕ) (short : length s ≤ 16384) {inner : Form Forest} (b : 
       let n = length s in
       let f = x4 .fair in
       gives g5 (path-leafed _ q m5
-        (x1 .ok, (x3 .0, (on-is (Small 4) (numberOf "duration" fs) d (x5 .1) (word-in n fs f "duration" refl), (easing-opt n fs f, (opt-flag-ok (truthOf "auto_rotate" fs), (range-opt n fs f, loop-opt n fs f))))))
-        (omega (arith, total-number n fs f "duration" d (x5 .1), x1 .on, x2 .1, x3 .1, x4 .paid, x5 .0))))))))
+      (x1 .ok, (x3 .0, (on-is (Small 4) (numberOf "duration" fs) d (x5 .1) (word-in n fs f "duration" refl), (easing-opt n fs f, (opt-flag-ok (truthOf "auto_rotate" fs), (range-opt n fs f, loop-opt n fs f))))))
+      (omega (arith, total-number n fs f "duration" d (x5 .1), x1 .on, x2 .1, x3 .1, x4 .paid, x5 .0))))))))
 
   morph-rows : All (Row s) morphFields
   unfolding morphFields limit same
@@ -192,8 +218,8 @@ module _ (s : List ℕ) (short : length s ≤ 16384) {inner : Form Forest} (b : 
       let n = length s in
       let f = x4 .fair in
       gives g5 (morph-leafed _ q m5
-        (x1 .0, (x3 .0, (default-in (Small 4) (numberOf "samples" fs) 32 (word-in n fs f "samples" refl) refl, (on-is (Small 4) (numberOf "duration" fs) d (x5 .1) (word-in n fs f "duration" refl), easing-opt n fs f))))
-        (omega (arith, total-number n fs f "duration" d (x5 .1), x1 .1, x2, x3 .1, x4 .paid, x5 .0))))))))
+      (x1 .0, (x3 .0, (default-in (Small 4) (numberOf "samples" fs) 32 (word-in n fs f "samples" refl) refl, (on-is (Small 4) (numberOf "duration" fs) d (x5 .1) (word-in n fs f "duration" refl), easing-opt n fs f))))
+      (omega (arith, total-number n fs f "duration" d (x5 .1), x1 .1, x2, x3 .1, x4 .paid, x5 .0))))))))
 
   draw-rows : All (Row s) drawFields
   unfolding drawFields limit same
@@ -211,14 +237,15 @@ module _ (s : List ℕ) (short : length s ≤ 16384) {inner : Form Forest} (b : 
       let n = length s in
       let f = x2 .fair in
       gives g3 (draw-leafed _ q m3
-        (x1 .0, (on-is (Small 4) (numberOf "duration" fs) d (x3 .1) (word-in n fs f "duration" refl), easing-opt n fs f))
-        (omega (arith, total-number n fs f "duration" d (x3 .1), x1 .1, x2 .paid, x3 .0))))))
+      (x1 .0, (on-is (Small 4) (numberOf "duration" fs) d (x3 .1) (word-in n fs f "duration" refl), easing-opt n fs f))
+      (omega (arith, total-number n fs f "duration" d (x3 .1), x1 .1, x2 .paid, x3 .0))))))
 
   color-rows : All (Row s) colorFields
   unfolding colorFields space limit same
-  color-rows =
-      (number-row s short "duration" (omega arith) refl,
-        (case-row s short "space" Malformed ("linear" ∷ "lab" ∷ "oklch" ∷ []) (omega arith) (omega arith), (easing-row s short "easing" (omega arith), tt)))
+  color-rows = (
+    number-row s short "duration" (omega arith) refl,
+    (case-row s short "space" Malformed ("linear" ∷ "lab" ∷ "oklch" ∷ []) (omega arith) (omega arith), (easing-row s short "easing" (omega arith), tt)),
+  )
 
   color-leafed : (x : ColorSpec) (q m : ℕ) → colorL (length s) .ok x → 38 + 3 * q ≤ 3 * m + 15 → Leafed 5 q (Leaf.color x) m
   color-leafed x q m o p = record { ok = o; paid = omega (arith, color-size (length s) x) }
@@ -236,19 +263,26 @@ module _ (s : List ℕ) (short : length s ≤ 16384) {inner : Form Forest} (b : 
       let n = length s in
       let f = x6 .fair in
       gives g7 (color-leafed _ q m7
-        (x1 .ok, (x3 .0, (x5 .0, (on-is (Small 4) (numberOf "duration" fs) d (x7 .1) (word-in n fs f "duration" refl), (default-in (λ k. k < 3) (numberOf "space" fs) 0 (number-in n fs f "space" 3 refl) (omega arith), easing-opt n fs f)))))
-        (omega (arith, total-number n fs f "duration" d (x7 .1), x1 .on, x2, x3 .1, x4, x5 .1, x6 .paid, x7 .0))))))))))
+      (x1 .ok, (x3 .0, (x5 .0, (on-is (Small 4) (numberOf "duration" fs) d (x7 .1) (word-in n fs f "duration" refl), (default-in (λ k. k < 3) (numberOf "space" fs) 0 (number-in n fs f "space" 3 refl) (omega arith), easing-opt n fs f)))))
+      (omega (arith, total-number n fs f "duration" d (x7 .1), x1 .on, x2, x3 .1, x4, x5 .1, x6 .paid, x7 .0))))))))))
 
   -- ---- waveform
 
   waveform-rows : All (Row s) waveformFields
   unfolding waveformFields limit same
-  waveform-rows =
-      (number-row s short "frequency" (omega arith) refl,
-        (number-row s short "amplitude" (omega arith) refl,
-          (number-row s short "phase" (omega arith) refl,
-            (number-row s short "duty_cycle" (omega arith) refl,
-              (count-row s short "seed" (omega arith) refl, (number-row s short "smoothness" (omega arith) refl, (number-row s short "duration" (omega arith) refl, tt)))))))
+  waveform-rows = (
+    number-row s short "frequency" (omega arith) refl,
+    (
+      number-row s short "amplitude" (omega arith) refl,
+      (
+        number-row s short "phase" (omega arith) refl,
+        (
+          number-row s short "duty_cycle" (omega arith) refl,
+          (count-row s short "seed" (omega arith) refl, (number-row s short "smoothness" (omega arith) refl, (number-row s short "duration" (omega arith) refl, tt))),
+        ),
+      ),
+    ),
+  )
 
   abbrev waveformOf : ℕ → Fields → WaveformSpec
   waveformOf k fs = record {

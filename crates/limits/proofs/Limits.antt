@@ -1,17 +1,17 @@
 -- What the grammar's tree of a text is to the sheet, for every text that has one: what demand 3 needs of reading. Assumes nothing.
-use Prim.Native.Nat.{ℕ, zero, suc, _+_, _*_, _≤_, _<_}
-use mathlib.Core.Bool.{Bool, true, false}
+use Prim.Native.Nat.{ℕ, suc, _≤_, _<_}
+use mathlib.Core.Bool.{false}
 use mathlib.Core.List.{List, [], _∷_}
 use mathlib.Core.Option.{Option, none, some}
-use mathlib.Core.Path.{_≡_, refl, sym, ap, _∙_, subst}
+use mathlib.Core.Path.{_≡_, refl, ap, _∙_, subst}
 use native.Mathlib.Omega.{arith}
 use lib.ListN.{length, getD}
 use Rattle.text.specs.Bytes.{isForeign}
 use Rattle.number.specs.Time.{Key}
-use Rattle.token.specs.Token.{Token, tokensFrom}
+use Rattle.token.specs.Token.{Token}
 use Rattle.token.specs.Split.{Split, unlexed, tokens, split}
 use Rattle.token.proofs.StreamLaws.{split-reads, clean}
-use Rattle.ast.specs.Tree.{Nodes, leaf, box, width, mapTimes}
+use Rattle.ast.specs.Tree.{Nodes, mapTimes}
 use Rattle.sheet.specs.Sheet.{encode}
 use Rattle.sheet.specs.Opening.{foreignFrom}
 use Rattle.sheet.proofs.Laws.{Fits, innerL}

@@ -1,10 +1,10 @@
 -- Lists of items, words and rows. Assumes nothing.
-use Prim.Native.Nat.{ℕ, zero, suc, _+_, _≤_, _<_}
+use Prim.Native.Nat.{ℕ, suc, _+_, _≤_, _<_}
 use Prim.Native.String.{String}
 use mathlib.Core.Bool.{Bool, true, false}
 use mathlib.Core.List.{List, [], _∷_}
 use mathlib.Core.Option.{Option, none, some, Option·some-injective}
-use mathlib.Core.Path.{_≡_, refl, sym, ap, _∙_, subst}
+use mathlib.Core.Path.{_≡_, refl, sym, subst}
 use native.Mathlib.Omega.{arith}
 use lib.ListN.{length}
 use Rattle.text.specs.Bytes.{bytes, same}
@@ -12,10 +12,9 @@ use Rattle.text.specs.Words.{find, under, default}
 use Rattle.text.proofs.WordLaws.{same-eq}
 use Rattle.codec.proofs.Laws.{All}
 use Rattle.error.specs.declared.Refusal.{Refusal}
-use Rattle.token.specs.Token.{tokensFrom, kind}
-use Rattle.grammar.specs.Rule.{Rule, Next, give, _>>=_, need, choiceIn, eatByte, goOn, ends, list, listStep}
+use Rattle.grammar.specs.Rule.{Rule, give, _>>=_, need, choiceIn, goOn, ends, list, listStep}
 use Rattle.limits.proofs.RunLaws.{Runs, gives, then, weaken, tests, needs, Onto, repeats}
-use Rattle.limits.proofs.TakeLaws.{Word, a-word, Eaten, eats}
+use Rattle.limits.proofs.TakeLaws.{a-word, Eaten, eats}
 
 none≢some : {A B : Type 0} {a : A} → Prim.Path (Option A) none (some a) → B
 none≢some e = absurd (let z : _≡_ {A = ℕ} 0 1 = cc in omega arith)

@@ -1,31 +1,30 @@
 -- Nodes and blocks, by the number of containers that may still nest. Assumes nothing.
-use Prim.Native.Nat.{ℕ, zero, suc, _+_, _-_, _*_, _≤_, _<_}
+use Prim.Native.Nat.{ℕ, zero, suc, _+_, _-_, _*_, _≤_}
 use Prim.Native.String.{String}
-use mathlib.Core.Bool.{Bool, true, false}
-use mathlib.Core.List.{List, [], _∷_, _++_}
+use mathlib.Core.List.{List, []}
 use mathlib.Core.Option.{Option, none, some}
-use mathlib.Core.Path.{_≡_, refl, sym, ap, _∙_, subst}
+use mathlib.Core.Path.{_≡_, refl, ap, _∙_}
 use native.Mathlib.Omega.{arith}
-use lib.ListN.{length, getD, length-append}
+use lib.ListN.{length, length-append}
 use Rattle.text.specs.Bytes.{bytes}
 use Rattle.text.specs.Words.{under}
 use Rattle.number.specs.Time.{Key}
 use Rattle.codec.specs.Codec.{Form, big}
-use Rattle.codec.proofs.Laws.{Small, All, Law}
+use Rattle.codec.proofs.Laws.{All, Law}
 use Rattle.encode.proofs.FieldLaws.{small, length-big}
-use Rattle.ast.specs.Tree.{Leaf, Container, Nodes, leaf, box, MotionNode, single, holding, push, append, width, mapLeaf, mapTimes, KeyframeTime}
+use Rattle.ast.specs.Tree.{Leaf, Container, Nodes, leaf, box, MotionNode, single, holding, push, append, width, mapLeaf, mapTimes}
 use Rattle.sheet.specs.Sheet as sheets
 use Rattle.sheet.specs.Sheet.{Forest, Node, nodeForm, forest}
 use Rattle.sheet.proofs.Laws.{nodeL, OkNodes, innerL}
 use Rattle.error.specs.declared.Refusal.the-variants.{Missing, TooManyNested}
-use Rattle.grammar.specs.Rule.{Rule, give, refuse, _>>=_, _>>_, skip, ends, sees, repeat, Next, more, done}
-use Rattle.grammar.specs.Grammar.{stored, leaves, containers, Begins, aLeaf, aContainer, unknown, orContainer, beginning, nodeBy, parseNode, oneNode, nodesStep, block, animatoInput}
+use Rattle.grammar.specs.Rule.{Rule, give, refuse, ends, sees, repeat, more}
+use Rattle.grammar.specs.Grammar.{stored, leaves, containers, aLeaf, aContainer, orContainer, beginning, nodeBy, parseNode, oneNode, nodesStep, block}
 use Rattle.limits.proofs.RunLaws.{Runs, gives, refuses, then, and, weaken-in, tests, Onto, repeats}
-use Rattle.limits.proofs.TakeLaws.{Word, a-word, skips-mark, Inside, in-group}
+use Rattle.limits.proofs.TakeLaws.{Word, a-word, skips-mark, in-group}
 use Rattle.limits.proofs.ListLaws.{under-row}
-use Rattle.limits.proofs.LeafLaws.{Leafed, LeafRule, tween-runs, spring-runs, path-runs, morph-runs, draw-runs, color-runs, waveform-runs, preset-runs, label-runs, at-runs}
+use Rattle.limits.proofs.LeafLaws.{LeafRule, tween-runs, spring-runs, path-runs, morph-runs, draw-runs, color-runs, waveform-runs, preset-runs, label-runs, at-runs}
 use Rattle.limits.proofs.FrameLaws.{keyframes-runs}
-use Rattle.limits.proofs.HeadLaws.{head-ok, head-size, Headed, HeadRule, sequence-runs, parallel-runs, group-runs, stagger-runs}
+use Rattle.limits.proofs.HeadLaws.{head-ok, head-size, HeadRule, sequence-runs, parallel-runs, group-runs, stagger-runs}
 
 -- ---- one node more
 
@@ -97,22 +96,38 @@ module _ (s : List ℕ) (short : length s ≤ 16384) {inner : Form Forest} (b : 
 
       all-leaves : All (λ f. w .1 ≡ bytes (f .0) → Runs s (nodeBy p (aLeaf (f .1))) i (Noded q)) leaves
       unfolding leaves
-      all-leaves =
-          (leaf-by _ "tween" 5 refl (tween-runs s short b),
-            (leaf-by _ "spring" 6 refl (spring-runs s short b),
-              (leaf-by _ "keyframes" 9 refl (keyframes-runs s short b),
-                (leaf-by _ "path" 4 refl (path-runs s short b),
-                  (leaf-by _ "morph" 5 refl (morph-runs s short b),
-                    (leaf-by _ "draw" 4 refl (draw-runs s short b),
-                      (leaf-by _ "color" 5 refl (color-runs s short b),
-                        (leaf-by _ "waveform" 8 refl (waveform-runs s short b),
-                          (leaf-by _ "preset" 6 refl (preset-runs s short b), (leaf-by _ "label" 5 refl (label-runs s short b), (leaf-by _ "at" 2 refl (at-runs s short b), tt)))))))))))
+      all-leaves = (
+        leaf-by _ "tween" 5 refl (tween-runs s short b),
+        (
+          leaf-by _ "spring" 6 refl (spring-runs s short b),
+          (
+            leaf-by _ "keyframes" 9 refl (keyframes-runs s short b),
+            (
+              leaf-by _ "path" 4 refl (path-runs s short b),
+              (
+                leaf-by _ "morph" 5 refl (morph-runs s short b),
+                (
+                  leaf-by _ "draw" 4 refl (draw-runs s short b),
+                  (
+                    leaf-by _ "color" 5 refl (color-runs s short b),
+                    (
+                      leaf-by _ "waveform" 8 refl (waveform-runs s short b),
+                      (leaf-by _ "preset" 6 refl (preset-runs s short b), (leaf-by _ "label" 5 refl (label-runs s short b), (leaf-by _ "at" 2 refl (at-runs s short b), tt))),
+                    ),
+                  ),
+                ),
+              ),
+            ),
+          ),
+        ),
+      )
 
       all-containers : All (λ f. w .1 ≡ bytes (f .0) → Runs s (nodeBy p (aContainer (f .1))) i (Noded q)) containers
       unfolding containers
-      all-containers =
-          (box-by _ "sequence" 8 refl (sequence-runs s short),
-            (box-by _ "parallel" 8 refl (parallel-runs s short), (box-by _ "group" 5 refl (group-runs s short), (box-by _ "stagger" 7 refl (stagger-runs s short), tt))))
+      all-containers = (
+        box-by _ "sequence" 8 refl (sequence-runs s short),
+        (box-by _ "parallel" 8 refl (parallel-runs s short), (box-by _ "group" 5 refl (group-runs s short), (box-by _ "stagger" 7 refl (stagger-runs s short), tt))),
+      )
 
       begins : Runs s (nodeBy p (beginning (w .1))) i (Noded q)
       unfolding beginning
@@ -150,8 +165,8 @@ module _ (s : List ℕ) (short : length s ≤ 16384) {inner : Form Forest} (b : 
     step-runs q ns m g y =
         tests ends (λ e. gives g y)
         (λ e. tests (sees ";")
-          (λ f. and {f = give (more ns)} (skips-mark g 59 refl f) (λ k h u z. gives h (record { ok = y .ok; count = omega (arith, y .count, z .on); paid = omega (arith, y .paid, z .on) })))
-          (λ f. then (node-runs m g) (λ x k h z. gives h (several-more q ns m x k y z))))
+        (λ f. and {f = give (more ns)} (skips-mark g 59 refl f) (λ k h u z. gives h (record { ok = y .ok; count = omega (arith, y .count, z .on); paid = omega (arith, y .paid, z .on) })))
+        (λ f. then (node-runs m g) (λ x k h z. gives h (several-more q ns m x k y z))))
 
     pub nodes-run : (q : ℕ) → q ≤ length s → Runs s (repeat (nodesStep p) Nodes.none) q (Several q)
     nodes-run q h = repeats (Several q) (Several q) (λ ns m y. y) (nodesStep p) (step-runs q) h (record { ok = tt; count = omega arith; paid = omega arith })
@@ -169,12 +184,14 @@ module _ (s : List ℕ) (short : length s ≤ 16384) where
   pub block-runs : (d : ℕ) (q : ℕ) → q ≤ length s → Runs s (block d) q (Blocked s short (innerL (length s) d) q)
   unfolding block
   block-runs zero q h = record { run = λ l. tests {Q = Blocked s short (innerL (length s) 0) q} (sees "{") {p = refuse TooManyNested} {r = refuse Missing} (λ e. refuses) (λ e. refuses) .run l }
-  block-runs (suc d) q h = record { run = λ l. weaken-in {Q = Blocked s short (innerL (length s) (suc d)) q}
-    (in-group (repeat (nodesStep (block d)) Nodes.none) (Several s short (innerL (length s) d) (block d) (block-runs d)) h 123 refl (nodes-run s short (innerL (length s) d) (block d) (block-runs d)))
-    (λ ns m g x. record {
-      ok = sized-ok d (mapTimes stored ns) (omega (arith, x .inner .count, x .left .low)) (x .inner .ok);
-      paid = rw (sized-length d (mapTimes stored ns)) (omega (arith, x .low, x .inner .paid, x .left .low));
-    }) .run l }
+  block-runs (suc d) q h = record {
+    run = λ l. weaken-in {Q = Blocked s short (innerL (length s) (suc d)) q}
+        (in-group (repeat (nodesStep (block d)) Nodes.none) (Several s short (innerL (length s) d) (block d) (block-runs d)) h 123 refl (nodes-run s short (innerL (length s) d) (block d) (block-runs d)))
+        (λ ns m g x. record {
+          ok = sized-ok d (mapTimes stored ns) (omega (arith, x .inner .count, x .left .low)) (x .inner .ok);
+          paid = rw (sized-length d (mapTimes stored ns)) (omega (arith, x .low, x .inner .paid, x .left .low));
+        }) .run l;
+  }
 
   -- all the nodes of a text: each pays 2 bytes more than its records have, and one node's 2 are enough for the head
   pub top-small : (d : ℕ) (ns : Forest) (m : ℕ) → m ≤ length s → recordBytes (length s) (sheets.inner (length s) d) ns + 2 * width ns + 3 * 0 ≤ 3 * m → length (sheets.inner (length s) (suc d) .write ns) ≤ 49152

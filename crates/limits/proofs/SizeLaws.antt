@@ -1,9 +1,8 @@
 -- How many bytes the forms of the sheet write at most. Assumes nothing.
-use Prim.Native.Nat.{ℕ, zero, suc, _+_, _≤_, _<_}
+use Prim.Native.Nat.{ℕ, suc, _+_, _≤_}
 use mathlib.Core.Bool.{Bool}
-use mathlib.Core.List.{List, [], _∷_, _++_}
+use mathlib.Core.List.{List, _++_}
 use mathlib.Core.Option.{Option, none, some}
-use mathlib.Core.Path.{_≡_, refl}
 use native.Mathlib.Omega.{arith}
 use lib.ListN.{length, length-append}
 use Rattle.codec.specs.Codec.{Form, _▹_, opt, below, big, eachOut}
@@ -20,10 +19,6 @@ use Rattle.ast.specs.Tree.{
   ColorSpec,
   WaveformSpec,
   PresetCall,
-  AtSpec,
-  ValueExpr,
-  scalar,
-  array,
   EasingSpec,
   named,
   cubicBezier,
@@ -50,7 +45,7 @@ use Rattle.ast.specs.Tree.{
   centerOut,
   edgesIn,
 }
-use Rattle.sheet.specs.Sheet.{word, flag, spanForm, entryForm, tweenForm, springForm, keyframesForm, pathForm, morphForm, drawForm, colorForm, waveformForm, presetForm, atForm, valueForm, easingForm, loopForm, dampingForm, timeForm, patternForm}
+use Rattle.sheet.specs.Sheet.{word, flag, spanForm, entryForm, tweenForm, springForm, keyframesForm, pathForm, morphForm, drawForm, colorForm, waveformForm, presetForm, valueForm, easingForm, loopForm, dampingForm, timeForm, patternForm}
 
 -- these are at most k bytes
 pub record Most (x : List ℕ) (k : ℕ) : Type 0 where

@@ -1,27 +1,25 @@
 -- Rules that take tokens: how far each moves. Assumes nothing.
 use Prim.Native.Nat.{ℕ, zero, suc, _+_, _-_, _≤_, _<_}
-use mathlib.Core.Bool.{Bool, true, false, _&&_, _||_, cond}
+use mathlib.Core.Bool.{Bool, true, false, _&&_, cond}
 use mathlib.Core.List.{List, [], _∷_}
-use mathlib.Core.Option.{Option, none, some}
+use mathlib.Core.Option.{some}
 use mathlib.Core.Path.{_≡_, refl, sym, ap, _∙_, subst}
 use native.Mathlib.Omega.{arith}
 use lib.Dec.{eqb}
 use lib.ListN.{length, getD}
 use borrow.Author.Tests.{eqb-true, eqb-false}
-use Rattle.text.specs.Bytes.{isName, same, oneOf, among}
+use Rattle.text.specs.Bytes.{isName, oneOf, among}
 use Rattle.text.proofs.WordLaws.{same-eq}
 use Rattle.number.specs.Number.{Written}
 use Rattle.token.specs.Token.{Kind, name, number, quoted, mark, Token, token, tokensFrom, place, kind, isMark, rest}
-use Rattle.token.specs.Names.{isKeyword, unless, nameOf, wordOf, quoteOf}
+use Rattle.token.specs.Names.{isKeyword, unless, wordOf}
 use Rattle.error.specs.declared.Refusal.{Refusal}
 use Rattle.grammar.specs.Rule.{
   Notes,
   Out,
   got,
-  refused,
   Rule,
   give,
-  _>>=_,
   _>>_,
   seesByte,
   seesPair,
@@ -50,7 +48,6 @@ use Rattle.grammar.specs.Rule.{
   closes,
   goes,
   closing,
-  weighMark,
   weigh,
   depth,
   passed,
@@ -105,8 +102,10 @@ skipped x e = record { on = omega (arith, x .low, x .whole .some); rest = rw (x 
 
 -- any token but the end
 pub skips : {s : List ℕ} {q : ℕ} → q ≤ length s → isMark (kind (tokensFrom s q)) 0 ≡ false → Runs s skip q (λ u m. Skipped s q m)
-skips {s = s} {q = q} h e = record { run = λ l. by-front s q (λ ts. skip l ts) (λ u m. Skipped s q m) h (λ b f. never (sym e ∙ (rw f)))
-  (λ start k n x. let z = sym (rw (x .is)) ∙ e in past s q (tt {0}) l (λ u m. Skipped s q m) start k n x z (skipped x z)) }
+skips {s = s} {q = q} h e = record {
+  run = λ l. by-front s q (λ ts. skip l ts) (λ u m. Skipped s q m) h (λ b f. never (sym e ∙ (rw f)))
+      (λ start k n x. let z = sym (rw (x .is)) ∙ e in past s q (tt {0}) l (λ u m. Skipped s q m) start k n x z (skipped x z));
+}
 
 pub skips-mark : {s : List ℕ} {q : ℕ} → q ≤ length s → (b : ℕ) → eqb b 0 ≡ false → seesByte b (tokensFrom s q) ≡ true → Runs s skip q (λ u m. Skipped s q m)
 skips-mark {s = s} {q = q} h b e f = skips h (no-mark (kind (tokensFrom s q)) b e f)

@@ -1,11 +1,11 @@
 -- Names, strings, numbers and values: they fit the sheet, and what text each takes. Assumes nothing.
-use Prim.Native.Nat.{ℕ, zero, suc, _+_, _-_, _*_, _^_, _≤_, _<_}
-use mathlib.Core.Bool.{Bool, true, false, _||_, cond}
+use Prim.Native.Nat.{ℕ, _+_, _-_, _*_, _≤_, _<_}
+use mathlib.Core.Bool.{Bool, true, false, cond}
 use mathlib.Core.List.{List, [], _∷_, _++_}
 use mathlib.Core.Option.{Option, none, some, Option·some-injective}
-use mathlib.Core.Path.{_≡_, refl, sym, ap, _∙_, subst}
+use mathlib.Core.Path.{_≡_, refl, sym, _∙_, subst}
 use native.Mathlib.Omega.{arith}
-use lib.Dec.{T, ltb, leb, eqb}
+use lib.Dec.{T, ltb}
 use lib.ListN.{length, getD, length-append}
 use lib.Ieee.{binary32, round}
 use lib.Ieee.Fits.{round-fits}
@@ -16,16 +16,15 @@ use Rattle.number.proofs.Floats.{nearest-fits, bits-lt}
 use Rattle.codec.specs.Codec.{eachOut}
 use Rattle.codec.proofs.Laws.{Small, All}
 use Rattle.encode.proofs.FieldLaws.{small, small-bits, length-word}
-use Rattle.ast.specs.Tree.{Span, ValueExpr, scalar, array}
+use Rattle.ast.specs.Tree.{Span, ValueExpr, array}
 use Rattle.sheet.specs.Sheet.{word, valueForm}
 use Rattle.sheet.proofs.Laws.{spanL, valueL}
-use Rattle.token.specs.Token.{Kind, name, mark, token, tokensFrom, place, kind, isMark}
+use Rattle.token.specs.Token.{name, tokensFrom, place, kind, isMark}
 use Rattle.error.specs.declared.Refusal.the-variants.{Missing, Malformed}
-use Rattle.grammar.specs.Rule.{sees, seesWord, skip, give}
+use Rattle.grammar.specs.Rule.{sees, seesWord, give}
 use Rattle.grammar.specs.Values.{ident, string, truth, parseFloat, parseUint, parseFloatInParens, commaFloat, twoFloats, parseTwoFloatsInParens, parseUintInParens, arrayItem, arrayItems, parseValue, f32Of}
-use Rattle.limits.proofs.PlaceLaws.{Stands, Front, over, next, front}
 use Rattle.limits.proofs.RunLaws.{Runs, gives, refuses, then, and, weaken, tests, needs}
-use Rattle.limits.proofs.TakeLaws.{Word, a-word, Text, a-text, Number, a-number, a-whole, Left, Inside, in-group, the-mark, skips-word, next-name}
+use Rattle.limits.proofs.TakeLaws.{a-word, a-text, Number, a-number, a-whole, Inside, in-group, the-mark, skips-word, next-name}
 use Rattle.limits.proofs.ListLaws.{lists}
 
 -- ---- small numbers
