@@ -22,7 +22,7 @@ use Rattle.grammar.specs.Fields.{Fields, aDamping, pairs, parseFieldList, numbe
 use Rattle.grammar.specs.Grammar.{stored, tweenFields, parseTween, springFields, parseSpringPreset, springPreset, integrator, critical, over, under, parseSpring, offset, pathFields, parsePath, morphFields, parseMorph, drawFields, parseDraw, space, colorFields, parseColor, waveformKind, waveformFields, parseWaveform, parsePresetCall, parseLabel, atSign, parseAt}
 use Rattle.limits.proofs.RunLaws.{Runs, gives, then, and, weaken, tests, conds, needs}
 use Rattle.limits.proofs.TakeLaws.{the-mark, two-marks, skips-mark, eats, eaten, a-number, in-group}
-use Rattle.limits.proofs.ListLaws.{a-choice}
+use Rattle.limits.proofs.ListLaws.{_also_, a-choice}
 use Rattle.limits.proofs.SizeLaws.{Most, all, _⊕_, span-most, tween-size, spring-size, path-size, morph-size, draw-size, color-size, waveform-size, preset-size}
 use Rattle.limits.proofs.FieldLaws.{on-is, default-in, limit, AllFair, total, Held, Row, Listed, pairs-run, fields-run, number-in, word-in, word-opt, case-opt, easing-opt, loop-opt, value-opt, damping-opt, range-opt, total-number, total-value, total-some}
 use Rattle.limits.proofs.ValueLaws.{ident-runs, string-runs, float-runs, float-in-parens, two-in-parens, value-runs}
@@ -46,22 +46,16 @@ module _ (s : List ℕ) (short : length s ≤ 16384) {inner : Form Forest} (b : 
 
   tween-rows : All (Row s) tweenFields
   unfolding tweenFields limit same
-  tween-rows = (
-    number-row s short "duration" (omega arith) refl,
-    (
-      easing-row s short "easing" (omega arith),
-      (
-        number-row s short "delay" (omega arith) refl,
-        (
-          number-row s short "time_scale" (omega arith) refl,
-          (
-            loop-row s short "loop" (omega arith),
-            (number-row s short "snap" (omega arith) refl, (count-row s short "round" (omega arith) refl, (flag-row s short "reverse" (omega arith), tt))),
-          ),
-        ),
-      ),
-    ),
-  )
+  tween-rows =
+      number-row s short "duration" (omega arith) refl
+      also easing-row s short "easing" (omega arith)
+      also number-row s short "delay" (omega arith) refl
+      also number-row s short "time_scale" (omega arith) refl
+      also loop-row s short "loop" (omega arith)
+      also number-row s short "snap" (omega arith) refl
+      also count-row s short "round" (omega arith) refl
+      also flag-row s short "reverse" (omega arith)
+      also tt
 
   tween-leafed : (x : TweenSpec) (q m : ℕ) → tweenL (length s) .ok x → 56 + length (valueForm .write (x .from)) + length (valueForm .write (x .to)) + 3 * q ≤ 3 * m + 15 → Leafed 5 q (Leaf.tween x) m
   tween-leafed x q m o p = record { ok = o; paid = omega (arith, tween-size (length s) x) }

@@ -16,8 +16,13 @@ use Rattle.grammar.specs.Rule.{Rule, give, _>>=_, need, choiceIn, goOn, ends, l
 use Rattle.limits.proofs.RunLaws.{Runs, gives, then, weaken, tests, needs, Onto, repeats}
 use Rattle.limits.proofs.TakeLaws.{a-word, Eaten, eats}
 
-none≢some : {A B : Type 0} {a : A} → Prim.Path (Option A) none (some a) → B
+pub none≢some : {A B : Type 0} {a : A} → Prim.Path (Option A) none (some a) → B
 none≢some e = absurd (let z : _≡_ {A = ℕ} 0 1 = cc in omega arith)
+
+-- one fact and those that follow
+infixr 3 _also_
+abbrev pub _also_ : {X Y : Type 0} → X → Y → X × Y
+x also y = (x, y)
 
 -- ---- items with a `,` between them: I holds before an item, J behind one
 

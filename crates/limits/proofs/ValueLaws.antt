@@ -25,7 +25,7 @@ use Rattle.grammar.specs.Rule.{sees, seesWord, give}
 use Rattle.grammar.specs.Values.{ident, string, truth, parseFloat, parseUint, parseFloatInParens, commaFloat, twoFloats, parseTwoFloatsInParens, parseUintInParens, arrayItem, arrayItems, parseValue, f32Of}
 use Rattle.limits.proofs.RunLaws.{Runs, gives, refuses, then, and, weaken, tests, needs}
 use Rattle.limits.proofs.TakeLaws.{a-word, a-text, Number, a-number, a-whole, Inside, in-group, the-mark, skips-word, next-name}
-use Rattle.limits.proofs.ListLaws.{lists}
+use Rattle.limits.proofs.ListLaws.{none≢some, lists}
 
 -- ---- small numbers
 
@@ -35,9 +35,6 @@ f32-below b w = bits-lt (nearest b w) (nearest-fits b w)
 pub f32Of-small : (n d : ℕ) → Small 4 (f32Of n d)
 unfolding f32Of
 f32Of-small n d = small-bits (round binary32 false n d) (round-fits binary32 false n d)
-
-none≢some : {A B : Type 0} {a : A} → Prim.Path (Option A) none (some a) → B
-none≢some e = absurd (let z : _≡_ {A = ℕ} 0 1 = cc in omega arith)
 
 whole-below : (b : Bool) (w : Written) (n : ℕ) → whole b w ≡ some n → n < 4294967296
 unfolding whole
