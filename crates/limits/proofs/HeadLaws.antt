@@ -37,7 +37,7 @@ use Rattle.grammar.specs.Grammar.{
 }
 use Rattle.limits.proofs.RunLaws.{Runs, gives, then, and, weaken, tests, needs, Onto, repeats}
 use Rattle.limits.proofs.TakeLaws.{a-word, the-mark, eats, eaten, in-group}
-use Rattle.limits.proofs.ListLaws.{a-choice, by-word}
+use Rattle.limits.proofs.ListLaws.{_also_, a-choice, by-word}
 use Rattle.limits.proofs.SizeLaws.{Most, all, _⊕_, opt-most, opt-word, pattern-most}
 use Rattle.limits.proofs.FieldLaws.{On, on-is, on-ok, default-in, limit, Row, Listed, pairs-run, number-in, word-in}
 use Rattle.limits.proofs.ValueLaws.{f32Of-small, float-runs}
@@ -102,13 +102,11 @@ module _ (s : List ℕ) (short : length s ≤ 16384) where
 
   grid-rows : All (Row s) gridFields
   unfolding gridFields origin parseGridOrigin limit same
-  grid-rows = (
-    count-row s short "cols" (omega arith) refl,
-    (
-      count-row s short "rows" (omega arith) refl,
-      (case-row s short "origin" Malformed ("top_left" ∷ "top_right" ∷ "bottom_left" ∷ "bottom_right" ∷ "center" ∷ "top" ∷ "bottom" ∷ "left" ∷ "right" ∷ []) (omega arith) (omega arith), tt),
-    ),
-  )
+  grid-rows =
+      count-row s short "cols" (omega arith) refl
+      also count-row s short "rows" (omega arith) refl
+      also case-row s short "origin" Malformed ("top_left" ∷ "top_right" ∷ "bottom_left" ∷ "bottom_right" ∷ "center" ∷ "top" ∷ "bottom" ∷ "left" ∷ "right" ∷ []) (omega arith) (omega arith)
+      also tt
 
   -- the rule in the parentheses of `grid`
   abbrev gridInside : Rule StaggerPatternSpec
@@ -140,7 +138,11 @@ module _ (s : List ℕ) (short : length s ≤ 16384) where
 
   random-rows : All (Row s) randomFields
   unfolding randomFields limit same
-  random-rows = (count-row s short "seed" (omega arith) refl, (number-row s short "min" (omega arith) refl, (number-row s short "max" (omega arith) refl, tt)))
+  random-rows =
+      count-row s short "seed" (omega arith) refl
+      also number-row s short "min" (omega arith) refl
+      also number-row s short "max" (omega arith) refl
+      also tt
 
   random-runs : (q : ℕ) → q ≤ length s → Runs s randomPattern q (Patterned q)
   unfolding randomPattern limit same

@@ -83,34 +83,18 @@ module _ (s : List ℕ) (short : length s ≤ 16384) {inner : Form Forest} (b : 
 
   spring-rows : All (Row s) springFields
   unfolding springFields springPreset parseSpringPreset integrator critical over under limit same
-  spring-rows = (
-    case-row s short "preset" UnknownSpringPreset ("gentle" ∷ "wobbly" ∷ "stiff" ∷ "slow" ∷ "snappy" ∷ []) (omega arith) (omega arith),
-    (
-      number-row s short "stiffness" (omega arith) refl,
-      (
-        number-row s short "damping" (omega arith) refl,
-        (
-          number-row s short "mass" (omega arith) refl,
-          (
-            value-row s short "velocity" (omega arith),
-            (
-              number-row s short "epsilon" (omega arith) refl,
-              (
-                case-row s short "integrator" Malformed ("semi_implicit_euler" ∷ "rk4" ∷ []) (omega arith) (omega arith),
-                (
-                  (λ q h. then (float-in-parens s short q h) (λ x m g y. gives g (damping-held (bytes "critically_damped") q m (criticallyDamped x) (omega arith) (y .0) (y .1)))),
-                  (
-                    (λ q h. then (two-in-parens s short q h) (λ p m g y. gives g (damping-held (bytes "overdamped") q m (overdamped (p .0) (p .1)) (omega arith) (y .0) (y .1)))),
-                    ((λ q h. then (two-in-parens s short q h) (λ p m g y. gives g (damping-held (bytes "underdamped") q m (underdamped (p .0) (p .1)) (omega arith) (y .0) (y .1)))), tt),
-                  ),
-                ),
-              ),
-            ),
-          ),
-        ),
-      ),
-    ),
-  )
+  spring-rows =
+      case-row s short "preset" UnknownSpringPreset ("gentle" ∷ "wobbly" ∷ "stiff" ∷ "slow" ∷ "snappy" ∷ []) (omega arith) (omega arith)
+      also number-row s short "stiffness" (omega arith) refl
+      also number-row s short "damping" (omega arith) refl
+      also number-row s short "mass" (omega arith) refl
+      also value-row s short "velocity" (omega arith)
+      also number-row s short "epsilon" (omega arith) refl
+      also case-row s short "integrator" Malformed ("semi_implicit_euler" ∷ "rk4" ∷ []) (omega arith) (omega arith)
+      also (λ q h. then (float-in-parens s short q h) (λ x m g y. gives g (damping-held (bytes "critically_damped") q m (criticallyDamped x) (omega arith) (y .0) (y .1))))
+      also (λ q h. then (two-in-parens s short q h) (λ p m g y. gives g (damping-held (bytes "overdamped") q m (overdamped (p .0) (p .1)) (omega arith) (y .0) (y .1))))
+      also (λ q h. then (two-in-parens s short q h) (λ p m g y. gives g (damping-held (bytes "underdamped") q m (underdamped (p .0) (p .1)) (omega arith) (y .0) (y .1))))
+      also tt
 
   abbrev springOf : Span → ValueExpr → ValueExpr → Fields → SpringSpec
   springOf t v w fs = record {
@@ -168,10 +152,13 @@ module _ (s : List ℕ) (short : length s ≤ 16384) {inner : Form Forest} (b : 
 
   path-rows : All (Row s) pathFields
   unfolding pathFields limit same
-  path-rows = (
-    number-row s short "duration" (omega arith) refl,
-    (easing-row s short "easing" (omega arith), (flag-row s short "auto_rotate" (omega arith), (offset-row, (loop-row s short "loop" (omega arith), tt)))),
-  )
+  path-rows =
+      number-row s short "duration" (omega arith) refl
+      also easing-row s short "easing" (omega arith)
+      also flag-row s short "auto_rotate" (omega arith)
+      also offset-row
+      also loop-row s short "loop" (omega arith)
+      also tt
 
   path-leafed : (x : PathSpec) (q m : ℕ) → pathL (length s) .ok x → 50 + 3 * q ≤ 3 * m + 12 → Leafed 4 q (Leaf.path x) m
   path-leafed x q m o p = record { ok = o; paid = omega (arith, path-size (length s) x) }
@@ -196,7 +183,11 @@ module _ (s : List ℕ) (short : length s ≤ 16384) {inner : Form Forest} (b : 
 
   morph-rows : All (Row s) morphFields
   unfolding morphFields limit same
-  morph-rows = (count-row s short "samples" (omega arith) refl, (number-row s short "duration" (omega arith) refl, (easing-row s short "easing" (omega arith), tt)))
+  morph-rows =
+      count-row s short "samples" (omega arith) refl
+      also number-row s short "duration" (omega arith) refl
+      also easing-row s short "easing" (omega arith)
+      also tt
 
   morph-leafed : (x : MorphSpec) (q m : ℕ) → morphL (length s) .ok x → 37 + 3 * q ≤ 3 * m + 15 → Leafed 5 q (Leaf.morph x) m
   morph-leafed x q m o p = record { ok = o; paid = omega (arith, morph-size (length s) x) }
@@ -217,7 +208,10 @@ module _ (s : List ℕ) (short : length s ≤ 16384) {inner : Form Forest} (b : 
 
   draw-rows : All (Row s) drawFields
   unfolding drawFields limit same
-  draw-rows = (number-row s short "duration" (omega arith) refl, (easing-row s short "easing" (omega arith), tt))
+  draw-rows =
+      number-row s short "duration" (omega arith) refl
+      also easing-row s short "easing" (omega arith)
+      also tt
 
   draw-leafed : (x : DrawSpec) (q m : ℕ) → drawL (length s) .ok x → 29 + 3 * q ≤ 3 * m + 12 → Leafed 4 q (Leaf.draw x) m
   draw-leafed x q m o p = record { ok = o; paid = omega (arith, draw-size (length s) x) }
@@ -236,10 +230,11 @@ module _ (s : List ℕ) (short : length s ≤ 16384) {inner : Form Forest} (b : 
 
   color-rows : All (Row s) colorFields
   unfolding colorFields space limit same
-  color-rows = (
-    number-row s short "duration" (omega arith) refl,
-    (case-row s short "space" Malformed ("linear" ∷ "lab" ∷ "oklch" ∷ []) (omega arith) (omega arith), (easing-row s short "easing" (omega arith), tt)),
-  )
+  color-rows =
+      number-row s short "duration" (omega arith) refl
+      also case-row s short "space" Malformed ("linear" ∷ "lab" ∷ "oklch" ∷ []) (omega arith) (omega arith)
+      also easing-row s short "easing" (omega arith)
+      also tt
 
   color-leafed : (x : ColorSpec) (q m : ℕ) → colorL (length s) .ok x → 38 + 3 * q ≤ 3 * m + 15 → Leafed 5 q (Leaf.color x) m
   color-leafed x q m o p = record { ok = o; paid = omega (arith, color-size (length s) x) }
@@ -264,19 +259,15 @@ module _ (s : List ℕ) (short : length s ≤ 16384) {inner : Form Forest} (b : 
 
   waveform-rows : All (Row s) waveformFields
   unfolding waveformFields limit same
-  waveform-rows = (
-    number-row s short "frequency" (omega arith) refl,
-    (
-      number-row s short "amplitude" (omega arith) refl,
-      (
-        number-row s short "phase" (omega arith) refl,
-        (
-          number-row s short "duty_cycle" (omega arith) refl,
-          (count-row s short "seed" (omega arith) refl, (number-row s short "smoothness" (omega arith) refl, (number-row s short "duration" (omega arith) refl, tt))),
-        ),
-      ),
-    ),
-  )
+  waveform-rows =
+      number-row s short "frequency" (omega arith) refl
+      also number-row s short "amplitude" (omega arith) refl
+      also number-row s short "phase" (omega arith) refl
+      also number-row s short "duty_cycle" (omega arith) refl
+      also count-row s short "seed" (omega arith) refl
+      also number-row s short "smoothness" (omega arith) refl
+      also number-row s short "duration" (omega arith) refl
+      also tt
 
   abbrev waveformOf : ℕ → Fields → WaveformSpec
   waveformOf k fs = record {

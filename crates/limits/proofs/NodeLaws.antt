@@ -21,7 +21,7 @@ use Rattle.grammar.specs.Rule.{Rule, give, refuse, ends, sees, repeat, more}
 use Rattle.grammar.specs.Grammar.{stored, leaves, containers, aLeaf, aContainer, orContainer, beginning, nodeBy, parseNode, oneNode, nodesStep, block}
 use Rattle.limits.proofs.RunLaws.{Runs, gives, refuses, then, and, weaken-in, tests, Onto, repeats}
 use Rattle.limits.proofs.TakeLaws.{Word, a-word, skips-mark, in-group}
-use Rattle.limits.proofs.ListLaws.{under-row}
+use Rattle.limits.proofs.ListLaws.{_also_, under-row}
 use Rattle.limits.proofs.LeafLaws.{LeafRule, tween-runs, spring-runs, path-runs, morph-runs, draw-runs, color-runs, waveform-runs, preset-runs, label-runs, at-runs}
 use Rattle.limits.proofs.FrameLaws.{keyframes-runs}
 use Rattle.limits.proofs.HeadLaws.{head-ok, head-size, HeadRule, sequence-runs, parallel-runs, group-runs, stagger-runs}
@@ -96,38 +96,28 @@ module _ (s : List ℕ) (short : length s ≤ 16384) {inner : Form Forest} (b : 
 
       all-leaves : All (λ f. w .1 ≡ bytes (f .0) → Runs s (nodeBy p (aLeaf (f .1))) i (Noded q)) leaves
       unfolding leaves
-      all-leaves = (
-        leaf-by _ "tween" 5 refl (tween-runs s short b),
-        (
-          leaf-by _ "spring" 6 refl (spring-runs s short b),
-          (
-            leaf-by _ "keyframes" 9 refl (keyframes-runs s short b),
-            (
-              leaf-by _ "path" 4 refl (path-runs s short b),
-              (
-                leaf-by _ "morph" 5 refl (morph-runs s short b),
-                (
-                  leaf-by _ "draw" 4 refl (draw-runs s short b),
-                  (
-                    leaf-by _ "color" 5 refl (color-runs s short b),
-                    (
-                      leaf-by _ "waveform" 8 refl (waveform-runs s short b),
-                      (leaf-by _ "preset" 6 refl (preset-runs s short b), (leaf-by _ "label" 5 refl (label-runs s short b), (leaf-by _ "at" 2 refl (at-runs s short b), tt))),
-                    ),
-                  ),
-                ),
-              ),
-            ),
-          ),
-        ),
-      )
+      all-leaves =
+          leaf-by _ "tween" 5 refl (tween-runs s short b)
+          also leaf-by _ "spring" 6 refl (spring-runs s short b)
+          also leaf-by _ "keyframes" 9 refl (keyframes-runs s short b)
+          also leaf-by _ "path" 4 refl (path-runs s short b)
+          also leaf-by _ "morph" 5 refl (morph-runs s short b)
+          also leaf-by _ "draw" 4 refl (draw-runs s short b)
+          also leaf-by _ "color" 5 refl (color-runs s short b)
+          also leaf-by _ "waveform" 8 refl (waveform-runs s short b)
+          also leaf-by _ "preset" 6 refl (preset-runs s short b)
+          also leaf-by _ "label" 5 refl (label-runs s short b)
+          also leaf-by _ "at" 2 refl (at-runs s short b)
+          also tt
 
       all-containers : All (λ f. w .1 ≡ bytes (f .0) → Runs s (nodeBy p (aContainer (f .1))) i (Noded q)) containers
       unfolding containers
-      all-containers = (
-        box-by _ "sequence" 8 refl (sequence-runs s short),
-        (box-by _ "parallel" 8 refl (parallel-runs s short), (box-by _ "group" 5 refl (group-runs s short), (box-by _ "stagger" 7 refl (stagger-runs s short), tt))),
-      )
+      all-containers =
+          box-by _ "sequence" 8 refl (sequence-runs s short)
+          also box-by _ "parallel" 8 refl (parallel-runs s short)
+          also box-by _ "group" 5 refl (group-runs s short)
+          also box-by _ "stagger" 7 refl (stagger-runs s short)
+          also tt
 
       begins : Runs s (nodeBy p (beginning (w .1))) i (Noded q)
       unfolding beginning
