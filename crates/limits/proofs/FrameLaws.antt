@@ -25,6 +25,7 @@ use Rattle.grammar.specs.Values.{parseLoopMode}
 use Rattle.grammar.specs.Grammar.{stored, parseKeyframeTime, keyframeEntry, Track, trackLoop, trackFrame, trackStep, parseKeyframes}
 use Rattle.limits.proofs.RunLaws.{Runs, gives, refuses, then, and, weaken, tests, conds, Onto, repeats}
 use Rattle.limits.proofs.TakeLaws.{a-number, the-mark, skips-mark, skips-word, Eaten, eats, eaten, in-group}
+use Rattle.limits.proofs.ListLaws.{_also_}
 use Rattle.limits.proofs.SizeLaws.{entry-size, keyframes-size}
 use Rattle.limits.proofs.FieldLaws.{On, on-ok}
 use Rattle.limits.proofs.ValueLaws.{all-more, value-runs, ident-runs}
@@ -165,5 +166,5 @@ module _ (s : List ℕ) (short : length s ≤ 16384) where
         then (ident-runs s short q h) (λ t m1 g1 x1.
         then (in-group (repeat trackStep ([], none)) (λ i. Tracked 2 i) g1 123 refl track-runs) (λ x m2 g2 x2.
         gives g2 (track-leafed _ q m2
-        (x1 .ok, ((small 2 (length (mapFrames stored (x .0))) (omega (arith, x2 .inner .count, x2 .left .low, short)), x2 .inner .ok), on-ok loopL (x .1) (x2 .inner .loopMode)))
+        (x1 .ok also (small 2 (length (mapFrames stored (x .0))) (omega (arith, x2 .inner .count, x2 .left .low, short)), x2 .inner .ok) also on-ok loopL (x .1) (x2 .inner .loopMode))
         (omega (arith, x1 .on, x2 .low, x2 .inner .paid, x2 .left .low)))))

@@ -73,7 +73,17 @@ module _ (s : List ℕ) (short : length s ≤ 16384) {inner : Form Forest} (b : 
       let n = length s in
       let f = x6 .fair in
       gives g7 (tween-leafed _ q m7
-      (x1 .ok, (x3 .ok, (x5 .ok, (on-is (Small 4) (numberOf "duration" fs) d (x7 .1) (word-in n fs f "duration" refl), (easing-opt n fs f, (word-opt n fs f "delay" refl, (word-opt n fs f "time_scale" refl, (loop-opt n fs f, (word-opt n fs f "snap" refl, (word-opt n fs f "round" refl, flag-ok (ever "reverse" fs)))))))))))
+      (x1 .ok
+      also x3 .ok
+      also x5 .ok
+      also on-is (Small 4) (numberOf "duration" fs) d (x7 .1) (word-in n fs f "duration" refl)
+      also easing-opt n fs f
+      also word-opt n fs f "delay" refl
+      also word-opt n fs f "time_scale" refl
+      also loop-opt n fs f
+      also word-opt n fs f "snap" refl
+      also word-opt n fs f "round" refl
+      also flag-ok (ever "reverse" fs))
       (omega (arith, total-number n fs f "duration" d (x7 .1), x1 .apart e, x2, x3 .paid, x4, x5 .paid, x6 .paid, x7 .0))))))))))
 
   -- ---- spring
@@ -136,7 +146,17 @@ module _ (s : List ℕ) (short : length s ≤ 16384) {inner : Form Forest} (b : 
       let n = length s in
       let f = x6 .fair in
       gives g6 (record {
-        ok = (x1 .ok, (x3 .ok, (x5 .ok, (case-opt n fs f "preset" 5 refl, (word-opt n fs f "stiffness" refl, (word-opt n fs f "damping" refl, (word-opt n fs f "mass" refl, (value-opt n fs f, (word-opt n fs f "epsilon" refl, (case-opt n fs f "integrator" 2 refl, damping-opt n fs f))))))))));
+        ok = x1 .ok
+            also x3 .ok
+            also x5 .ok
+            also case-opt n fs f "preset" 5 refl
+            also word-opt n fs f "stiffness" refl
+            also word-opt n fs f "damping" refl
+            also word-opt n fs f "mass" refl
+            also value-opt n fs f
+            also word-opt n fs f "epsilon" refl
+            also case-opt n fs f "integrator" 2 refl
+            also damping-opt n fs f;
         paid = omega (arith, spring-total t v w fs f, x1 .apart e, x2, x3 .paid, x4, x5 .paid, x6 .paid);
       })))))))
 
@@ -178,7 +198,13 @@ module _ (s : List ℕ) (short : length s ≤ 16384) {inner : Form Forest} (b : 
       let n = length s in
       let f = x4 .fair in
       gives g5 (path-leafed _ q m5
-      (x1 .ok, (x3 .0, (on-is (Small 4) (numberOf "duration" fs) d (x5 .1) (word-in n fs f "duration" refl), (easing-opt n fs f, (opt-flag-ok (truthOf "auto_rotate" fs), (range-opt n fs f, loop-opt n fs f))))))
+      (x1 .ok
+      also x3 .0
+      also on-is (Small 4) (numberOf "duration" fs) d (x5 .1) (word-in n fs f "duration" refl)
+      also easing-opt n fs f
+      also opt-flag-ok (truthOf "auto_rotate" fs)
+      also range-opt n fs f
+      also loop-opt n fs f)
       (omega (arith, total-number n fs f "duration" d (x5 .1), x1 .on, x2 .1, x3 .1, x4 .paid, x5 .0))))))))
 
   morph-rows : All (Row s) morphFields
@@ -203,7 +229,7 @@ module _ (s : List ℕ) (short : length s ≤ 16384) {inner : Form Forest} (b : 
       let n = length s in
       let f = x4 .fair in
       gives g5 (morph-leafed _ q m5
-      (x1 .0, (x3 .0, (default-in (Small 4) (numberOf "samples" fs) 32 (word-in n fs f "samples" refl) refl, (on-is (Small 4) (numberOf "duration" fs) d (x5 .1) (word-in n fs f "duration" refl), easing-opt n fs f))))
+      (x1 .0 also x3 .0 also default-in (Small 4) (numberOf "samples" fs) 32 (word-in n fs f "samples" refl) refl also on-is (Small 4) (numberOf "duration" fs) d (x5 .1) (word-in n fs f "duration" refl) also easing-opt n fs f)
       (omega (arith, total-number n fs f "duration" d (x5 .1), x1 .1, x2, x3 .1, x4 .paid, x5 .0))))))))
 
   draw-rows : All (Row s) drawFields
@@ -225,7 +251,7 @@ module _ (s : List ℕ) (short : length s ≤ 16384) {inner : Form Forest} (b : 
       let n = length s in
       let f = x2 .fair in
       gives g3 (draw-leafed _ q m3
-      (x1 .0, (on-is (Small 4) (numberOf "duration" fs) d (x3 .1) (word-in n fs f "duration" refl), easing-opt n fs f))
+      (x1 .0 also on-is (Small 4) (numberOf "duration" fs) d (x3 .1) (word-in n fs f "duration" refl) also easing-opt n fs f)
       (omega (arith, total-number n fs f "duration" d (x3 .1), x1 .1, x2 .paid, x3 .0))))))
 
   color-rows : All (Row s) colorFields
@@ -252,7 +278,12 @@ module _ (s : List ℕ) (short : length s ≤ 16384) {inner : Form Forest} (b : 
       let n = length s in
       let f = x6 .fair in
       gives g7 (color-leafed _ q m7
-      (x1 .ok, (x3 .0, (x5 .0, (on-is (Small 4) (numberOf "duration" fs) d (x7 .1) (word-in n fs f "duration" refl), (default-in (λ k. k < 3) (numberOf "space" fs) 0 (number-in n fs f "space" 3 refl) (omega arith), easing-opt n fs f)))))
+      (x1 .ok
+      also x3 .0
+      also x5 .0
+      also on-is (Small 4) (numberOf "duration" fs) d (x7 .1) (word-in n fs f "duration" refl)
+      also default-in (λ k. k < 3) (numberOf "space" fs) 0 (number-in n fs f "space" 3 refl) (omega arith)
+      also easing-opt n fs f)
       (omega (arith, total-number n fs f "duration" d (x7 .1), x1 .on, x2, x3 .1, x4, x5 .1, x6 .paid, x7 .0))))))))))
 
   -- ---- waveform
@@ -294,7 +325,14 @@ module _ (s : List ℕ) (short : length s ≤ 16384) {inner : Form Forest} (b : 
       let n = length s in
       let f = x2 .fair in
       gives g2 (record {
-        ok = (x1 .0, (word-opt n fs f "frequency" refl, (word-opt n fs f "amplitude" refl, (word-opt n fs f "phase" refl, (word-opt n fs f "duty_cycle" refl, (word-opt n fs f "seed" refl, (word-opt n fs f "smoothness" refl, word-opt n fs f "duration" refl)))))));
+        ok = x1 .0
+            also word-opt n fs f "frequency" refl
+            also word-opt n fs f "amplitude" refl
+            also word-opt n fs f "phase" refl
+            also word-opt n fs f "duty_cycle" refl
+            also word-opt n fs f "seed" refl
+            also word-opt n fs f "smoothness" refl
+            also word-opt n fs f "duration" refl;
         paid = omega (arith, waveform-total k fs f, x1 .1, x2 .paid);
       })))
 
@@ -330,7 +368,7 @@ module _ (s : List ℕ) (short : length s ≤ 16384) {inner : Form Forest} (b : 
       let n = length s in
       let f = x3 .fair in
       gives g3 (record {
-        ok = (x1 .ok, (word-opt n gs f "duration" refl, easing-opt n gs f));
+        ok = x1 .ok also word-opt n gs f "duration" refl also easing-opt n gs f;
         paid = omega (arith, preset-total t gs f, x1 .on, x2 .paid, x3 .paid);
       }))))
 
