@@ -35,7 +35,7 @@ pub on-map : {A : Type 0} (P Q : A → Type 0) → ((a : A) → P a → Q a) →
 on-map P Q f none h = tt
 on-map P Q f (some a) h = f a h
 
-pub on-is : {A : Type 0} (P : A → Type 0) (o : Option A) (a : A) → o ≡ some a → On P o → P a
+on-is : {A : Type 0} (P : A → Type 0) (o : Option A) (a : A) → o ≡ some a → On P o → P a
 on-is P o a e h = subst (On P) e h
 
 pub on-ok : {A : Type 0} {c : Form A} (l : Law c) (o : Option A) → On (l .ok) o → optL l .ok o
@@ -201,6 +201,9 @@ module _ (n : ℕ) where
 
     pub word-in : (w : String) → limit (bytes w) ≡ 4294967296 → On (Small 4) (numberOf w fs)
     word-in w l = on-map (λ x. x < 4294967296) (Small 4) (λ x y. small 4 x y) (numberOf w fs) (number-in w 4294967296 l)
+
+    pub word-is : (w : String) → limit (bytes w) ≡ 4294967296 → (d : ℕ) → numberOf w fs ≡ some d → Small 4 d
+    word-is w l d e = on-is (Small 4) (numberOf w fs) d e (word-in w l)
 
     pub word-opt : (w : String) → limit (bytes w) ≡ 4294967296 → optL wordL .ok (numberOf w fs)
     word-opt w l = on-ok wordL (numberOf w fs) (word-in w l)

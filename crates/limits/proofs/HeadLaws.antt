@@ -39,7 +39,7 @@ use Rattle.limits.proofs.RunLaws.{Runs, gives, then, and, weaken, tests
 use Rattle.limits.proofs.TakeLaws.{a-word, the-mark, eats, eaten, in-group}
 use Rattle.limits.proofs.ListLaws.{_also_, a-choice, by-word}
 use Rattle.limits.proofs.SizeLaws.{Most, all, _⊕_, opt-most, opt-word, pattern-most}
-use Rattle.limits.proofs.FieldLaws.{On, on-is, on-ok, default-in, limit, Row, Listed, pairs-run, number-in, word-in}
+use Rattle.limits.proofs.FieldLaws.{On, on-ok, default-in, limit, Row, Listed, pairs-run, number-in, word-in, word-is}
 use Rattle.limits.proofs.ValueLaws.{f32Of-small, float-runs}
 use Rattle.limits.proofs.CurveLaws.{number-row, count-row, case-row}
 
@@ -126,8 +126,8 @@ module _ (s : List ℕ) (short : length s ≤ 16384) where
       let f = x1 .fair in
       gives g3 (
         (
-          on-is (Small 4) (numberOf "cols" fs) c (x2 .1) (word-in n fs f "cols" refl),
-          (on-is (Small 4) (numberOf "rows" fs) r (x3 .1) (word-in n fs f "rows" refl), default-in (λ o. o < 9) (numberOf "origin" fs) 4 (number-in n fs f "origin" 9 refl) (omega arith)),
+          word-is n fs f "cols" refl c (x2 .1),
+          (word-is n fs f "rows" refl r (x3 .1), default-in (λ o. o < 9) (numberOf "origin" fs) 4 (number-in n fs f "origin" 9 refl) (omega arith)),
         ),
         omega (arith, x1 .low, x2 .0, x3 .0),
       ))))
