@@ -8,7 +8,6 @@ use native.Mathlib.Omega.{arith}
 use lib.ListN.{length}
 use Rattle.text.specs.Bytes.{bytes, same}
 use Rattle.text.specs.Words.{words}
-use Rattle.codec.proofs.Laws.{Small}
 use Rattle.encode.proofs.FieldLaws.{small}
 use Rattle.ast.specs.Tree.{EasingSpec, LoopSpec}
 use Rattle.sheet.specs.Sheet.{easingForm}
@@ -17,7 +16,7 @@ use Rattle.token.specs.Token.{tokensFrom, place}
 use Rattle.error.specs.declared.Refusal.{Refusal}
 use Rattle.error.specs.declared.Refusal.the-variants.{Malformed}
 use Rattle.grammar.specs.Rule.{Rule, give, _>>=_, choice, sees, seesTwo}
-use Rattle.grammar.specs.Fields.{aNumber, numberOf, pairs}
+use Rattle.grammar.specs.Fields.{aNumber, pairs}
 use Rattle.grammar.specs.Values.{
   number,
   count,
@@ -47,9 +46,9 @@ use Rattle.grammar.specs.Values.{
 }
 use Rattle.limits.proofs.RunLaws.{Runs, gives, refuses, then, and, weaken, tests}
 use Rattle.limits.proofs.TakeLaws.{Word, a-word, the-mark, two-marks, in-group}
-use Rattle.limits.proofs.ListLaws.{a-choice, by-word, by-word-or}
+use Rattle.limits.proofs.ListLaws.{_also_, a-choice, by-word, by-word-or}
 use Rattle.limits.proofs.SizeLaws.{easing-most}
-use Rattle.limits.proofs.FieldLaws.{limit, default-in, Held, Row, Listed, pairs-run, word-in}
+use Rattle.limits.proofs.FieldLaws.{limit, Held, Row, Listed, pairs-run, word-or}
 use Rattle.limits.proofs.ValueLaws.{f32Of-small, span-fits, ident-runs, truth-runs, float-runs, uint-runs, uint-in-parens, Two, two-floats, value-runs}
 
 module _ (s : List ℕ) (short : length s ≤ 16384) where
@@ -68,7 +67,8 @@ module _ (s : List ℕ) (short : length s ≤ 16384) where
 
   -- ---- easings
 
-  abbrev pub Curve : ℕ → EasingSpec → ℕ → Type 0
+  -- a curve from q to m
+  abbrev Curve : ℕ → EasingSpec → ℕ → Type 0
   Curve q e m = easingL (length s) .ok e × (q < m)
 
   comma-floats : (q : ℕ) → q ≤ length s → Runs s commaFloats q (Two s short q)
@@ -86,11 +86,11 @@ module _ (s : List ℕ) (short : length s ≤ 16384) where
   rough-runs : (q : ℕ) → q ≤ length s → Runs s roughCurve q (Curve q)
   unfolding roughCurve roughFields limit same
   rough-runs q h =
-      then (in-group (pairs roughFields) (Listed s []) h 40 refl (pairs-run s roughFields (number-row "strength" (omega arith) refl, (count-row "points" (omega arith) refl, tt))))
+      then (in-group (pairs roughFields) (Listed s []) h 40 refl (pairs-run s roughFields (number-row "strength" (omega arith) refl also count-row "points" (omega arith) refl also tt)))
       (λ fs m g x. let i = x .inner in gives g (
         (
-          default-in (Small 4) (numberOf "strength" fs) (f32Of 1 2) (word-in (length s) fs (i .fair) "strength" refl) (f32Of-small 1 2),
-          default-in (Small 4) (numberOf "points" fs) 8 (word-in (length s) fs (i .fair) "points" refl) refl,
+          word-or (length s) fs (i .fair) "strength" refl (f32Of 1 2) (f32Of-small 1 2),
+          word-or (length s) fs (i .fair) "points" refl 8 refl,
         ),
         omega (arith, x .low, i .low, x .left .low),
       ))
@@ -98,11 +98,11 @@ module _ (s : List ℕ) (short : length s ≤ 16384) where
   slow-runs : (q : ℕ) → q ≤ length s → Runs s slowMoCurve q (Curve q)
   unfolding slowMoCurve slowMoFields limit same
   slow-runs q h =
-      then (in-group (pairs slowMoFields) (Listed s []) h 40 refl (pairs-run s slowMoFields (number-row "linear_ratio" (omega arith) refl, (number-row "power" (omega arith) refl, tt))))
+      then (in-group (pairs slowMoFields) (Listed s []) h 40 refl (pairs-run s slowMoFields (number-row "linear_ratio" (omega arith) refl also number-row "power" (omega arith) refl also tt)))
       (λ fs m g x. let i = x .inner in gives g (
         (
-          default-in (Small 4) (numberOf "linear_ratio" fs) (f32Of 7 10) (word-in (length s) fs (i .fair) "linear_ratio" refl) (f32Of-small 7 10),
-          default-in (Small 4) (numberOf "power" fs) (f32Of 2 1) (word-in (length s) fs (i .fair) "power" refl) (f32Of-small 2 1),
+          word-or (length s) fs (i .fair) "linear_ratio" refl (f32Of 7 10) (f32Of-small 7 10),
+          word-or (length s) fs (i .fair) "power" refl (f32Of 2 1) (f32Of-small 2 1),
         ),
         omega (arith, x .low, i .low, x .left .low),
       ))
@@ -121,7 +121,7 @@ module _ (s : List ℕ) (short : length s ≤ 16384) where
     pub on : q < m
     pub paid : length (easingForm (length s) .write e) + 3 * place (tokensFrom s q) ≤ 3 * m + 3
 
-  -- behind the name w at the place p, i is the place of what follows
+  -- behind the name w, i is the place of what follows
   module _ (q i : ℕ) (w : ℕ × List ℕ) (x : Word s q w i) (h : i ≤ length s) where
     curved : (p : Rule EasingSpec) (v : String) → 5 ≤ length (bytes v) → Runs s p i (Curve i) → w .1 ≡ bytes v → Runs s p i (Eased q)
     curved p v l r e =
@@ -149,16 +149,13 @@ module _ (s : List ℕ) (short : length s ≤ 16384) where
     curve-or-runs : Runs s (curveOr w) i (Eased q)
     unfolding curveOr curves
     curve-or-runs =
-        by-word-or curves (w .1) (namedEasing w) (
-          curved bezierCurve "cubic_bezier" (omega arith) (bezier-runs i h),
-          (
-            curved stepsCurve "steps" (omega arith) (steps-curve-runs i h),
-            (
-              curved wiggleCurve "wiggle" (omega arith) (wiggle-runs i h),
-              (curved roughCurve "rough" (omega arith) (rough-runs i h), (curved slowMoCurve "slowmo" (omega arith) (slow-runs i h), tt)),
-            ),
-          ),
-        )
+        by-word-or curves (w .1) (namedEasing w)
+        (curved bezierCurve "cubic_bezier" (omega arith) (bezier-runs i h)
+        also curved stepsCurve "steps" (omega arith) (steps-curve-runs i h)
+        also curved wiggleCurve "wiggle" (omega arith) (wiggle-runs i h)
+        also curved roughCurve "rough" (omega arith) (rough-runs i h)
+        also curved slowMoCurve "slowmo" (omega arith) (slow-runs i h)
+        also tt)
         named-runs
 
   pub easing-runs : (q : ℕ) → q ≤ length s → Runs s parseEasing q (Eased q)
@@ -184,7 +181,7 @@ module _ (s : List ℕ) (short : length s ≤ 16384) where
   loop-runs q h =
       then (a-word h) (λ w m g x. weaken
       (by-word {Q = λ l n. loopL .ok l × (m ≤ n)} Malformed loopModes (w .1) (λ p. p) g
-      ((λ e. gives g (tt, omega arith)), ((λ e. gives g (tt, omega arith)), ((λ e. ping-pong-runs m g), ((λ e. times-runs m g), tt)))))
+      ((λ e. gives g (tt, omega arith)) also (λ e. gives g (tt, omega arith)) also (λ e. ping-pong-runs m g) also (λ e. times-runs m g) also tt))
       (λ l n y. record { ok = y .0; on = omega (arith, x .low, x .end, x .some, y .1) }))
 
   -- ---- the other fields

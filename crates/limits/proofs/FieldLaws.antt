@@ -31,7 +31,7 @@ abbrev pub On : {A : Type 0} → (A → Type 0) → Option A → Type 0
 On P none = Unit {0}
 On P (some a) = P a
 
-pub on-map : {A : Type 0} (P Q : A → Type 0) → ((a : A) → P a → Q a) → (o : Option A) → On P o → On Q o
+on-map : {A : Type 0} (P Q : A → Type 0) → ((a : A) → P a → Q a) → (o : Option A) → On P o → On Q o
 on-map P Q f none h = tt
 on-map P Q f (some a) h = f a h
 
@@ -42,7 +42,7 @@ pub on-ok : {A : Type 0} {c : Form A} (l : Law c) (o : Option A) → On (l .ok) 
 on-ok l none h = tt
 on-ok l (some a) h = h
 
-pub default-in : (P : ℕ → Type 0) (o : Option ℕ) (d : ℕ) → On P o → P d → P (default o d)
+default-in : (P : ℕ → Type 0) (o : Option ℕ) (d : ℕ) → On P o → P d → P (default o d)
 default-in P none d h p = p
 default-in P (some a) d h p = h
 
@@ -192,18 +192,24 @@ module _ (n : ℕ) where
       go (some a) x y = x
 
   module _ (fs : Fields) (h : AllFair n fs) where
-    pub number-in : (w : String) (k : ℕ) → limit (bytes w) ≡ k → On (λ x. x < k) (numberOf w fs)
+    number-in : (w : String) (k : ℕ) → limit (bytes w) ≡ k → On (λ x. x < k) (numberOf w fs)
     number-in w k l = last-in (called w (λ c. c .number)) (λ x. x < k) (λ e f. go e f (same (e .0) (bytes w)) refl) fs h
       where
         go : (e : Entry) → Fair n (e .0) (e .1) → (b : Bool) → same (e .0) (bytes w) ≡ b → On (λ x. x < k) (cond b (e .1 .number) none)
         go e f true q = let z : limit (e .0) ≡ k = ap limit (same-eq (e .0) (bytes w) q) ∙ l in on-map (λ x. x < limit (e .0)) (λ x. x < k) (λ x y. omega arith) (e .1 .number) (f .number)
         go e f false q = tt
 
-    pub word-in : (w : String) → limit (bytes w) ≡ 4294967296 → On (Small 4) (numberOf w fs)
+    word-in : (w : String) → limit (bytes w) ≡ 4294967296 → On (Small 4) (numberOf w fs)
     word-in w l = on-map (λ x. x < 4294967296) (Small 4) (λ x y. small 4 x y) (numberOf w fs) (number-in w 4294967296 l)
 
     pub word-is : (w : String) → limit (bytes w) ≡ 4294967296 → (d : ℕ) → numberOf w fs ≡ some d → Small 4 d
     word-is w l d e = on-is (Small 4) (numberOf w fs) d e (word-in w l)
+
+    pub case-or : (w : String) (k : ℕ) → limit (bytes w) ≡ k → (d : ℕ) → d < k → default (numberOf w fs) d < k
+    case-or w k l d h = default-in (λ x. x < k) (numberOf w fs) d (number-in w k l) h
+
+    pub word-or : (w : String) → limit (bytes w) ≡ 4294967296 → (d : ℕ) → Small 4 d → Small 4 (default (numberOf w fs) d)
+    word-or w l d h = default-in (Small 4) (numberOf w fs) d (word-in w l) h
 
     pub word-opt : (w : String) → limit (bytes w) ≡ 4294967296 → optL wordL .ok (numberOf w fs)
     word-opt w l = on-ok wordL (numberOf w fs) (word-in w l)

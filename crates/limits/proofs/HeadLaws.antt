@@ -39,7 +39,7 @@ use Rattle.limits.proofs.RunLaws.{Runs, gives, then, and, weaken, tests
 use Rattle.limits.proofs.TakeLaws.{a-word, the-mark, eats, eaten, in-group}
 use Rattle.limits.proofs.ListLaws.{_also_, a-choice, by-word}
 use Rattle.limits.proofs.SizeLaws.{Most, all, _⊕_, opt-most, opt-word, pattern-most}
-use Rattle.limits.proofs.FieldLaws.{On, on-ok, default-in, limit, Row, Listed, pairs-run, number-in, word-in, word-is}
+use Rattle.limits.proofs.FieldLaws.{On, on-ok, limit, Row, Listed, pairs-run, word-is, word-or, case-or}
 use Rattle.limits.proofs.ValueLaws.{f32Of-small, float-runs}
 use Rattle.limits.proofs.CurveLaws.{number-row, count-row, case-row}
 
@@ -127,7 +127,7 @@ module _ (s : List ℕ) (short : length s ≤ 16384) where
       gives g3 (
         (
           word-is n fs f "cols" refl c (x2 .1),
-          (word-is n fs f "rows" refl r (x3 .1), default-in (λ o. o < 9) (numberOf "origin" fs) 4 (number-in n fs f "origin" 9 refl) (omega arith)),
+          (word-is n fs f "rows" refl r (x3 .1), case-or n fs f "origin" 9 refl 4 (omega arith)),
         ),
         omega (arith, x1 .low, x2 .0, x3 .0),
       ))))
@@ -152,8 +152,8 @@ module _ (s : List ℕ) (short : length s ≤ 16384) where
       let f = x .inner .fair in
       gives g (
         (
-          default-in (Small 4) (numberOf "seed" fs) 0 (word-in n fs f "seed" refl) refl,
-          (default-in (Small 4) (numberOf "min" fs) (f32Of 0 1) (word-in n fs f "min" refl) (f32Of-small 0 1), default-in (Small 4) (numberOf "max" fs) (f32Of 1 10) (word-in n fs f "max" refl) (f32Of-small 1 10)),
+          word-or n fs f "seed" refl 0 refl,
+          (word-or n fs f "min" refl (f32Of 0 1) (f32Of-small 0 1), word-or n fs f "max" refl (f32Of 1 10) (f32Of-small 1 10)),
         ),
         omega (arith, x .low, x .inner .low, x .left .low),
       ))
@@ -162,7 +162,7 @@ module _ (s : List ℕ) (short : length s ≤ 16384) where
   unfolding parseStaggerPattern patterns
   pattern-runs q h =
       then (a-word h) (λ w m g x. weaken
-      (by-word {Q = Patterned m} Malformed patterns (w .1) (λ p. p) g ((λ e. grid-runs m g), ((λ e. random-runs m g), ((λ e. gives g (tt, omega arith)), ((λ e. gives g (tt, omega arith)), tt)))))
+      (by-word {Q = Patterned m} Malformed patterns (w .1) (λ p. p) g ((λ e. grid-runs m g) also (λ e. random-runs m g) also (λ e. gives g (tt, omega arith)) also (λ e. gives g (tt, omega arith)) also tt))
       (λ p n y. (y .0, omega (arith, x .low, x .end, y .1))))
 
   -- the pattern and the delay so far
@@ -183,15 +183,12 @@ module _ (s : List ℕ) (short : length s ≤ 16384) where
     unfolding openingField openingFields
     field-runs x m h o =
         then (a-word h) (λ w m1 g1 x1.
-        by-word UnknownKeyword (openingFields x) (w .1) (λ p. p >>= λ y. eat "," >>= λ c. give (goOn c y)) g1 (
-          (λ e. then (and (the-mark g1 58 refl) (λ m2 g2 u x2. then (pattern-runs m2 g2) (λ p m3 g3 x3.
-              gives {Q = Opened q} g3 (record { pattern = x3 .0; delay = o .delay; low = omega (arith, o .low, x1 .low, x1 .end, x2, x3 .1) })))) (λ y n g z. rest-runs y n z g)),
-          (
-            (λ e. then (and (the-mark g1 58 refl) (λ m2 g2 u x2. then (float-runs s short m2 g2) (λ d m3 g3 x3.
-                gives {Q = Opened q} g3 (record { pattern = o .pattern; delay = small 4 d (x3 .ok); low = omega (arith, o .low, x1 .low, x1 .end, x2, x3 .is .on) })))) (λ y n g z. rest-runs y n z g)),
-            tt,
-          ),
-        ))
+        by-word UnknownKeyword (openingFields x) (w .1) (λ p. p >>= λ y. eat "," >>= λ c. give (goOn c y)) g1
+        ((λ e. then (and (the-mark g1 58 refl) (λ m2 g2 u x2. then (pattern-runs m2 g2) (λ p m3 g3 x3.
+        gives {Q = Opened q} g3 (record { pattern = x3 .0; delay = o .delay; low = omega (arith, o .low, x1 .low, x1 .end, x2, x3 .1) })))) (λ y n g z. rest-runs y n z g))
+        also (λ e. then (and (the-mark g1 58 refl) (λ m2 g2 u x2. then (float-runs s short m2 g2) (λ d m3 g3 x3.
+        gives {Q = Opened q} g3 (record { pattern = o .pattern; delay = small 4 d (x3 .ok); low = omega (arith, o .low, x1 .low, x1 .end, x2, x3 .is .on) })))) (λ y n g z. rest-runs y n z g))
+        also tt))
 
   pub stagger-runs : HeadRule 7 parseStagger
   unfolding parseStagger openingStep

@@ -9,7 +9,7 @@ use lib.ListN.{length, getD}
 use Rattle.text.specs.Bytes.{bytes, same, isName}
 use Rattle.text.specs.Words.{words}
 use Rattle.codec.specs.Codec.{Form, opt}
-use Rattle.codec.proofs.Laws.{Small, All, Law, optL}
+use Rattle.codec.proofs.Laws.{All, Law, optL}
 use Rattle.encode.proofs.FieldLaws.{small}
 use Rattle.number.proofs.Floats.{nearest-fits, bits-lt}
 use Rattle.number.specs.Time.{Key}
@@ -24,11 +24,11 @@ use Rattle.limits.proofs.RunLaws.{Runs, gives, then, and, weaken, tests
 use Rattle.limits.proofs.TakeLaws.{the-mark, two-marks, skips-mark, eats, eaten, a-number, in-group}
 use Rattle.limits.proofs.ListLaws.{_also_, a-choice}
 use Rattle.limits.proofs.SizeLaws.{Most, all, _⊕_, span-most, tween-size, spring-size, path-size, morph-size, draw-size, color-size, waveform-size, preset-size}
-use Rattle.limits.proofs.FieldLaws.{default-in, limit, AllFair, total, Held, Row, Listed, pairs-run, fields-run, number-in, word-in, word-is, word-opt, case-opt, easing-opt, loop-opt, value-opt, damping-opt, range-opt, total-number, total-value, total-some}
+use Rattle.limits.proofs.FieldLaws.{limit, AllFair, total, Held, Row, Listed, pairs-run, fields-run, word-is, word-or, case-or, word-opt, case-opt, easing-opt, loop-opt, value-opt, damping-opt, range-opt, total-number, total-value, total-some}
 use Rattle.limits.proofs.ValueLaws.{ident-runs, string-runs, float-runs, float-in-parens, two-in-parens, value-runs}
 use Rattle.limits.proofs.CurveLaws.{number-row, count-row, easing-row, loop-row, flag-row, value-row, case-row}
 
-pub flag-ok : (b : Bool) → flagL .ok b
+flag-ok : (b : Bool) → flagL .ok b
 flag-ok true = omega arith
 flag-ok false = omega arith
 
@@ -229,7 +229,7 @@ module _ (s : List ℕ) (short : length s ≤ 16384) {inner : Form Forest} (b : 
       let n = length s in
       let f = x4 .fair in
       gives g5 (morph-leafed _ q m5
-      (x1 .0 also x3 .0 also default-in (Small 4) (numberOf "samples" fs) 32 (word-in n fs f "samples" refl) refl also word-is n fs f "duration" refl d (x5 .1) also easing-opt n fs f)
+      (x1 .0 also x3 .0 also word-or n fs f "samples" refl 32 refl also word-is n fs f "duration" refl d (x5 .1) also easing-opt n fs f)
       (omega (arith, total-number n fs f "duration" d (x5 .1), x1 .1, x2, x3 .1, x4 .paid, x5 .0))))))))
 
   draw-rows : All (Row s) drawFields
@@ -282,7 +282,7 @@ module _ (s : List ℕ) (short : length s ≤ 16384) {inner : Form Forest} (b : 
       also x3 .0
       also x5 .0
       also word-is n fs f "duration" refl d (x7 .1)
-      also default-in (λ k. k < 3) (numberOf "space" fs) 0 (number-in n fs f "space" 3 refl) (omega arith)
+      also case-or n fs f "space" 3 refl 0 (omega arith)
       also easing-opt n fs f)
       (omega (arith, total-number n fs f "duration" d (x7 .1), x1 .on, x2, x3 .1, x4, x5 .1, x6 .paid, x7 .0))))))))))
 

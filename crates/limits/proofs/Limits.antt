@@ -6,6 +6,7 @@ use mathlib.Core.Option.{Option, none, some}
 use mathlib.Core.Path.{_≡_, refl, ap, _∙_, subst}
 use native.Mathlib.Omega.{arith}
 use lib.ListN.{length, getD}
+use borrow.Author.Tests.{le-ltb}
 use Rattle.text.specs.Bytes.{isForeign}
 use Rattle.number.specs.Time.{Key}
 use Rattle.token.specs.Token.{Token}
@@ -13,8 +14,8 @@ use Rattle.token.specs.Split.{Split, unlexed, tokens, split}
 use Rattle.token.proofs.StreamLaws.{split-reads, clean}
 use Rattle.ast.specs.Tree.{Nodes, mapTimes}
 use Rattle.sheet.specs.Sheet.{encode}
-use Rattle.sheet.specs.Opening.{foreignFrom}
-use Rattle.sheet.proofs.Laws.{Fits, innerL}
+use Rattle.sheet.specs.Opening.{foreignFrom, opened, opening}
+use Rattle.sheet.proofs.Laws.{Fits, innerL, decodes}
 use Rattle.grammar.specs.Rule.{Notes, Out, got, refused}
 use Rattle.grammar.specs.Grammar.{stored, block, animatoInput}
 use Rattle.parser.specs.Reading.{Parsed, tree, wrong, unlessLeft, finished, parsed, parse}
@@ -74,11 +75,19 @@ module _ (t : List ℕ) (ns : Nodes Key) (short : length t ≤ 16384) (e : parse
       (ap (animatoInput (record { leftover = none; bound = suc (length t) })) (split-reads t (p .ts) (p .splits)) ∙ p .gives)
       (nodes-run t short (innerL (length t) 16) (block 16) (block-runs t short 16) 0 (omega arith) .run (record { leftover = none; bound = suc (length t) }))
 
-  pub parses-fits : Fits (length t) (mapTimes stored ns)
-  unfolding Fits
-  parses-fits = sized-ok t short 16 (mapTimes stored ns) (omega (arith, whole .high, whole .post .count)) (whole .post .ok)
+-- the counts, numbers, positions, spans and the nesting are within the sheet's limits
+pub parses-fits : (t : List ℕ) (ns : Nodes Key) → length t ≤ 16384 → parse t ≡ tree ns → Fits (length t) (mapTimes stored ns)
+unfolding Fits
+parses-fits t ns short e = let w = whole t ns short e in sized-ok t short 16 (mapTimes stored ns) (omega (arith, w .high, w .post .count)) (w .post .ok)
 
-  -- 3 bytes of the sheet for each byte of the text
-  pub parses-small : length (encode (length t) (mapTimes stored ns)) ≤ 49152
-  unfolding encode
-  parses-small = top-small t short 16 (mapTimes stored ns) (whole .at) (whole .high) (whole .post .paid)
+-- at most 3 bytes of the sheet for each byte that a text may have
+pub parses-small : (t : List ℕ) (ns : Nodes Key) → length t ≤ 16384 → parse t ≡ tree ns → length (encode (length t) (mapTimes stored ns)) ≤ 49152
+unfolding encode
+parses-small t ns short e = let w = whole t ns short e in top-small t short 16 (mapTimes stored ns) (w .at) (w .high) (w .post .paid)
+
+-- so checking and lining, given that text and its sheet, open it: none of 1, 2 and 20 is due
+pub parses-opens : (t : List ℕ) (ns : Nodes Key) → length t ≤ 16384 → parse t ≡ tree ns → opening t (encode (length t) (mapTimes stored ns)) ≡ opened (mapTimes stored ns)
+unfolding opening
+parses-opens t ns short e =
+    let d = decodes (length t) (mapTimes stored ns) (parses-fits t ns short e) (omega (arith, parses-small t ns short e)) in
+    rw (le-ltb 16384 (length t) short, parses-clean t ns e, d)

@@ -168,7 +168,7 @@ module _ (s : List ℕ) (short : length s ≤ 16384) where
   pub sized-ok : (d : ℕ) (ns : Forest) → width ns ≤ length s → OkNodes (length s) (innerL (length s) d) ns → innerL (length s) (suc d) .ok ns
   sized-ok d ns h o = (small 2 (width ns) (omega (arith, short)), o)
 
-  pub sized-length : (d : ℕ) (ns : Forest) → length (sheets.inner (length s) (suc d) .write ns) ≡ 2 + recordBytes (length s) (sheets.inner (length s) d) ns
+  sized-length : (d : ℕ) (ns : Forest) → length (sheets.inner (length s) (suc d) .write ns) ≡ 2 + recordBytes (length s) (sheets.inner (length s) d) ns
   sized-length d ns = length-append (big 2 .write (width ns)) (forest (length s) (sheets.inner (length s) d) (width ns) .write ns) ∙ (let e = length-big 2 (width ns) in omega arith)
 
   pub block-runs : (d : ℕ) (q : ℕ) → q ≤ length s → Runs s (block d) q (Blocked s short (innerL (length s) d) q)

@@ -63,7 +63,7 @@ pub opt-most : {A : Type 0} (c : Form A) (k : ℕ) → ((a : A) → Most (c .wri
 opt-most c k h none = record { most = omega arith }
 opt-most c k h (some a) = record { most = omega (arith, h a .most) }
 
-pub word-most : (n : ℕ) → Most (word .write n) 4
+word-most : (n : ℕ) → Most (word .write n) 4
 word-most n = record { most = omega (arith, length-word n) }
 
 pub easing-most : (n : ℕ) (e : EasingSpec) → Most (easingForm n .write e) 17
@@ -74,19 +74,19 @@ easing-most n (wiggle k) = record { most = omega arith }
 easing-most n (rough a b) = record { most = omega arith }
 easing-most n (slowMo a b) = record { most = omega arith }
 
-pub loop-most : (m : LoopSpec) → Most (loopForm .write m) 5
+loop-most : (m : LoopSpec) → Most (loopForm .write m) 5
 loop-most once = record { most = omega arith }
 loop-most (times k) = record { most = omega arith }
 loop-most forever = record { most = omega arith }
 loop-most pingPong = record { most = omega arith }
 loop-most (pingPongTimes k) = record { most = omega arith }
 
-pub damping-most : (d : DampingMode) → Most (dampingForm .write d) 9
+damping-most : (d : DampingMode) → Most (dampingForm .write d) 9
 damping-most (criticallyDamped a) = record { most = omega arith }
 damping-most (overdamped a b) = record { most = omega arith }
 damping-most (underdamped a b) = record { most = omega arith }
 
-pub time-most : (t : KeyframeTime) → Most (timeForm .write t) 5
+time-most : (t : KeyframeTime) → Most (timeForm .write t) 5
 time-most (percent x) = record { most = omega arith }
 time-most (seconds x) = record { most = omega arith }
 
@@ -105,13 +105,13 @@ module _ (n : ℕ) where
   pub opt-word : (o : Option ℕ) → Most (opt word .write o) 5
   opt-word o = opt-most word 4 word-most o
 
-  pub opt-easing : (o : Option EasingSpec) → Most (opt (easingForm n) .write o) 18
+  opt-easing : (o : Option EasingSpec) → Most (opt (easingForm n) .write o) 18
   opt-easing o = opt-most (easingForm n) 17 (easing-most n) o
 
-  pub opt-loop : (o : Option LoopSpec) → Most (opt loopForm .write o) 6
+  opt-loop : (o : Option LoopSpec) → Most (opt loopForm .write o) 6
   opt-loop o = opt-most loopForm 5 loop-most o
 
-  pub flag-most : (b : Bool) → Most (flag .write b) 1
+  flag-most : (b : Bool) → Most (flag .write b) 1
   flag-most b = record { most = omega arith }
 
   pub tween-size : (x : TweenSpec) → length (tweenForm n .write x) ≤ 53 + length (valueForm .write (x .from)) + length (valueForm .write (x .to))

@@ -326,7 +326,7 @@ at-end (number w) e = never e
 at-end (quoted w) e = never e
 at-end (mark b) e = rw e
 
-pub not-end : (k : Kind) → isEnd k ≡ false → isMark k 0 ≡ false
+not-end : (k : Kind) → isEnd k ≡ false → isMark k 0 ≡ false
 not-end k e = go (isMark k 0) refl
   where
     go : (b : Bool) → isMark k 0 ≡ b → b ≡ false

@@ -128,7 +128,7 @@ module _ (s : List ℕ) (short : length s ≤ 16384) where
     pub low : q ≤ m
     pub paid : q + 2 * length xs ≤ m + k
 
-  pub items-run : (q : ℕ) → q ≤ length s → Runs s arrayItems q (Items q 1)
+  items-run : (q : ℕ) → q ≤ length s → Runs s arrayItems q (Items q 1)
   unfolding arrayItems arrayItem
   items-run q h =
       lists (Items q 0) (Items q 1)
