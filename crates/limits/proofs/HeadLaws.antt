@@ -1,0 +1,197 @@
+-- What stands between a container's keyword and its block fits the sheet. Assumes nothing.
+use Prim.Native.Nat.{ℕ, _+_, _-_, _*_, _≤_, _<_}
+use mathlib.Core.Bool.{Bool, true, false}
+use mathlib.Core.List.{List, [], _∷_, _++_}
+use mathlib.Core.Path.{refl}
+use native.Mathlib.Omega.{arith}
+use lib.ListN.{length}
+use Rattle.text.specs.Bytes.{same}
+use Rattle.text.specs.Words.{words, default}
+use Rattle.codec.specs.Codec.{Form, opt}
+use Rattle.codec.proofs.Laws.{Small, All, Law, optL}
+use Rattle.encode.proofs.FieldLaws.{small}
+use Rattle.ast.specs.Tree.{StaggerPatternSpec, grid, Container, sequence, parallel, group, stagger, holding}
+use Rattle.sheet.specs.Sheet.{Forest, word, nodeForm, patternForm}
+use Rattle.sheet.proofs.Laws.{wordL, patternL, nodeL}
+use Rattle.error.specs.declared.Refusal.the-variants.{Malformed, UnknownKeyword, StaggerGridIncomplete}
+use Rattle.grammar.specs.Rule.{Rule, give, need, _>>=_, _>>_, eat, sees, goOn}
+use Rattle.grammar.specs.Fields.{numberOf, pairs}
+use Rattle.grammar.specs.Values.{f32Of}
+use Rattle.grammar.specs.Grammar.{
+  parseSequence,
+  parseParallel,
+  parseGroup,
+  parseGridOrigin,
+  origin,
+  gridFields,
+  gridPattern,
+  randomFields,
+  randomPattern,
+  patterns,
+  parseStaggerPattern,
+  Opening,
+  openingFields,
+  openingField,
+  openingStep,
+  parseStagger,
+}
+use Rattle.limits.proofs.RunLaws.{Runs, gives, then, and, weaken, tests, needs, Onto, repeats}
+use Rattle.limits.proofs.TakeLaws.{a-word, the-mark, eats, eaten, in-group}
+use Rattle.limits.proofs.ListLaws.{_also_, a-choice, by-word}
+use Rattle.limits.proofs.SizeLaws.{Most, all, _⊕_, opt-most, opt-word, pattern-most}
+use Rattle.limits.proofs.FieldLaws.{On, on-ok, limit, Row, Listed, pairs-run, word-is, word-or, case-or}
+use Rattle.limits.proofs.ValueLaws.{f32Of-small, float-runs}
+use Rattle.limits.proofs.CurveLaws.{number-row, count-row, case-row}
+
+-- ---- a container without its nodes
+
+abbrev pub HeadOk : Container → Type 0
+HeadOk sequence = Unit {0}
+HeadOk parallel = Unit {0}
+HeadOk (group mode) = mode < 2
+HeadOk (stagger p d) = optL patternL .ok p × optL wordL .ok d
+
+-- how many bytes of its record stand before the nodes at most
+abbrev pub headSize : Container → ℕ
+headSize sequence = 1
+headSize parallel = 1
+headSize (group mode) = 2
+headSize (stagger p d) = 20
+
+pub head-ok : (n : ℕ) {inner : Form Forest} (b : Law inner) (c : Container) (ns : Forest) → HeadOk c → b .ok ns → nodeL n b .ok (holding c ns)
+head-ok n b sequence ns h o = o
+head-ok n b parallel ns h o = o
+head-ok n b (group mode) ns h o = (h, o)
+head-ok n b (stagger p d) ns h o = (h .0, (h .1, o))
+
+pub head-size : (n : ℕ) (inner : Form Forest) (c : Container) (ns : Forest) → length (nodeForm n inner .write (holding c ns)) ≤ headSize c + length (inner .write ns)
+head-size n inner sequence ns = omega arith
+head-size n inner parallel ns = omega arith
+head-size n inner (group mode) ns = omega arith
+head-size n inner (stagger p d) ns = omega (arith, sum .most)
+  where
+    sum : Most (opt patternForm .write p ++ (opt word .write d ++ inner .write ns)) (14 + (5 + length (inner .write ns)))
+    sum = opt-most patternForm 13 pattern-most p ⊕ opt-word n d ⊕ all (inner .write ns)
+
+module _ (s : List ℕ) (short : length s ≤ 16384) where
+  -- a head from q to m, behind its keyword of k bytes; with 1 byte to spare
+  pub record Headed (k q : ℕ) (c : Container) (m : ℕ) : Type 0 where
+    pub ok : HeadOk c
+    pub paid : headSize c + 1 + 3 * q ≤ 3 * m + 3 * k
+
+  abbrev pub HeadRule : ℕ → Rule Container → Type 0
+  HeadRule k p = (q : ℕ) → q ≤ length s → Runs s p q (Headed k q)
+
+  pub sequence-runs : HeadRule 8 parseSequence
+  unfolding parseSequence
+  sequence-runs q h = gives h (record { ok = tt; paid = omega arith })
+
+  pub parallel-runs : HeadRule 8 parseParallel
+  unfolding parseParallel
+  parallel-runs q h = gives h (record { ok = tt; paid = omega arith })
+
+  pub group-runs : HeadRule 5 parseGroup
+  unfolding parseGroup
+  group-runs q h = then (a-choice h Malformed (words ("sequence" ∷ "parallel" ∷ []))) (λ k m g x. gives g (record { ok = x .0; paid = omega (arith, x .1) }))
+
+  -- ---- stagger
+
+  -- a pattern from q to m
+  abbrev Patterned : ℕ → StaggerPatternSpec → ℕ → Type 0
+  Patterned q p m = patternL .ok p × (q ≤ m)
+
+  grid-rows : All (Row s) gridFields
+  unfolding gridFields origin parseGridOrigin limit same
+  grid-rows =
+      count-row s short "cols" (omega arith) refl
+      also count-row s short "rows" (omega arith) refl
+      also case-row s short "origin" Malformed ("top_left" ∷ "top_right" ∷ "bottom_left" ∷ "bottom_right" ∷ "center" ∷ "top" ∷ "bottom" ∷ "left" ∷ "right" ∷ []) (omega arith) (omega arith)
+      also tt
+
+  -- the rule in the parentheses of `grid`
+  abbrev gridInside : Rule StaggerPatternSpec
+  gridInside = do
+    fs ← pairs gridFields
+    cols ← need StaggerGridIncomplete (numberOf "cols" fs)
+    rows ← need StaggerGridIncomplete (numberOf "rows" fs)
+    give (grid cols rows (default (numberOf "origin" fs) 4))
+
+  grid-inside : (q : ℕ) → q ≤ length s → Runs s gridInside q (Patterned q)
+  unfolding limit same
+  grid-inside q h =
+      then (pairs-run s gridFields grid-rows q h) (λ fs m1 g1 x1.
+      then (needs StaggerGridIncomplete (numberOf "cols" fs) g1) (λ c m2 g2 x2.
+      then (needs StaggerGridIncomplete (numberOf "rows" fs) g2) (λ r m3 g3 x3.
+      let n = length s in
+      let f = x1 .fair in
+      gives g3 (
+        (
+          word-is n fs f "cols" refl c (x2 .1),
+          (word-is n fs f "rows" refl r (x3 .1), case-or n fs f "origin" 9 refl 4 (omega arith)),
+        ),
+        omega (arith, x1 .low, x2 .0, x3 .0),
+      ))))
+
+  grid-runs : (q : ℕ) → q ≤ length s → Runs s gridPattern q (Patterned q)
+  unfolding gridPattern
+  grid-runs q h = weaken (in-group gridInside Patterned h 40 refl grid-inside) (λ p m x. (x .inner .0, omega (arith, x .low, x .inner .1, x .left .low)))
+
+  random-rows : All (Row s) randomFields
+  unfolding randomFields limit same
+  random-rows =
+      count-row s short "seed" (omega arith) refl
+      also number-row s short "min" (omega arith) refl
+      also number-row s short "max" (omega arith) refl
+      also tt
+
+  random-runs : (q : ℕ) → q ≤ length s → Runs s randomPattern q (Patterned q)
+  unfolding randomPattern limit same
+  random-runs q h =
+      then (in-group (pairs randomFields) (Listed s []) h 40 refl (pairs-run s randomFields random-rows)) (λ fs m g x.
+      let n = length s in
+      let f = x .inner .fair in
+      gives g (
+        (
+          word-or n fs f "seed" refl 0 refl,
+          (word-or n fs f "min" refl (f32Of 0 1) (f32Of-small 0 1), word-or n fs f "max" refl (f32Of 1 10) (f32Of-small 1 10)),
+        ),
+        omega (arith, x .low, x .inner .low, x .left .low),
+      ))
+
+  pattern-runs : (q : ℕ) → q ≤ length s → Runs s parseStaggerPattern q (Patterned q)
+  unfolding parseStaggerPattern patterns
+  pattern-runs q h =
+      then (a-word h) (λ w m g x. weaken
+      (by-word {Q = Patterned m} Malformed patterns (w .1) (λ p. p) g ((λ e. grid-runs m g) also (λ e. random-runs m g) also (λ e. gives g (tt, omega arith)) also (λ e. gives g (tt, omega arith)) also tt))
+      (λ p n y. (y .0, omega (arith, x .low, x .end, y .1))))
+
+  -- the pattern and the delay so far
+  record Opened (q : ℕ) (x : Opening) (m : ℕ) : Type 0 where
+    pattern : On (patternL .ok) (x .0)
+    delay : On (Small 4) (x .1)
+    low : q ≤ m
+
+  module _ (q : ℕ) where
+    rest-runs : (x : Opening) (m : ℕ) → Opened q x m → m ≤ length s → Runs s (eat "," >>= λ c. give (goOn c x)) m (Onto (Opened q) (Opened q))
+    rest-runs x m o h = then (eats h 44 refl) (λ c n g y. on c n g (record { pattern = o .pattern; delay = o .delay; low = omega (arith, o .low, eaten m c n y) }))
+      where
+        on : (c : Bool) (n : ℕ) → n ≤ length s → Opened q x n → Runs s (give (goOn c x)) n (Onto (Opened q) (Opened q))
+        on true n g z = gives g z
+        on false n g z = gives g z
+
+    field-runs : (x : Opening) (m : ℕ) → m ≤ length s → Opened q x m → Runs s (openingField x) m (Onto (Opened q) (Opened q))
+    unfolding openingField openingFields
+    field-runs x m h o =
+        then (a-word h) (λ w m1 g1 x1.
+        by-word UnknownKeyword (openingFields x) (w .1) (λ p. p >>= λ y. eat "," >>= λ c. give (goOn c y)) g1
+        ((λ e. then (and (the-mark g1 58 refl) (λ m2 g2 u x2. then (pattern-runs m2 g2) (λ p m3 g3 x3.
+        gives {Q = Opened q} g3 (record { pattern = x3 .0; delay = o .delay; low = omega (arith, o .low, x1 .low, x1 .end, x2, x3 .1) })))) (λ y n g z. rest-runs y n z g))
+        also (λ e. then (and (the-mark g1 58 refl) (λ m2 g2 u x2. then (float-runs s short m2 g2) (λ d m3 g3 x3.
+        gives {Q = Opened q} g3 (record { pattern = o .pattern; delay = small 4 d (x3 .ok); low = omega (arith, o .low, x1 .low, x1 .end, x2, x3 .is .on) })))) (λ y n g z. rest-runs y n z g))
+        also tt))
+
+  pub stagger-runs : HeadRule 7 parseStagger
+  unfolding parseStagger openingStep
+  stagger-runs q h =
+      then (repeats (Opened q) (Opened q) (λ x m o. o) openingStep (λ x m g o. tests (sees "{") (λ e. gives g o) (λ e. field-runs q x m g o)) h (record { pattern = tt; delay = tt; low = omega arith }))
+      (λ x m g o. gives g (record { ok = (on-ok patternL (x .0) (o .pattern), on-ok wordL (x .1) (o .delay)); paid = omega (arith, o .low) }))

@@ -1,0 +1,392 @@
+-- Each rule for a node that holds no others gives one that fits the sheet, and whose record the text pays for. Assumes nothing.
+use Prim.Native.Nat.{ℕ, _+_, _-_, _*_, _≤_, _<_}
+use mathlib.Core.Bool.{Bool, true, false}
+use mathlib.Core.List.{List, [], _∷_}
+use mathlib.Core.Option.{Option, none, some}
+use mathlib.Core.Path.{_≡_, refl, ap}
+use native.Mathlib.Omega.{arith}
+use lib.ListN.{length, getD}
+use Rattle.text.specs.Bytes.{bytes, same, isName}
+use Rattle.text.specs.Words.{words}
+use Rattle.codec.specs.Codec.{Form, opt}
+use Rattle.codec.proofs.Laws.{All, Law, optL}
+use Rattle.encode.proofs.FieldLaws.{small}
+use Rattle.number.proofs.Floats.{nearest-fits, bits-lt}
+use Rattle.number.specs.Time.{Key}
+use Rattle.ast.specs.Tree.{Span, ValueExpr, DampingMode, criticallyDamped, overdamped, underdamped, TweenSpec, SpringSpec, PathSpec, MorphSpec, DrawSpec, ColorSpec, WaveformSpec, PresetCall, Leaf, single, mapLeaf}
+use Rattle.sheet.specs.Sheet.{Forest, valueForm, nodeForm, springForm, waveformForm, presetForm}
+use Rattle.sheet.proofs.Laws.{flagL, dampingL, tweenL, pathL, morphL, drawL, colorL, nodeL}
+use Rattle.error.specs.declared.Refusal.the-variants.{MissingDuration, Malformed, UnknownSpringPreset}
+use Rattle.grammar.specs.Rule.{Rule, _>>_, give, if, sees, skip, inside}
+use Rattle.grammar.specs.Fields.{Fields, aDamping, pairs, parseFieldList, numberOf, truthOf, easingOf, valueOf, dampingOf, ever, last}
+use Rattle.grammar.specs.Grammar.{stored, tweenFields, parseTween, springFields, parseSpringPreset, springPreset, integrator, critical, over, under, parseSpring, offset, pathFields, parsePath, morphFields, parseMorph, drawFields, parseDraw, space, colorFields, parseColor, waveformKind, waveformFields, parseWaveform, parsePresetCall, parseLabel, atSign, parseAt}
+use Rattle.limits.proofs.RunLaws.{Runs, gives, then, and, weaken, tests, conds, needs}
+use Rattle.limits.proofs.TakeLaws.{the-mark, two-marks, skips-mark, eats, eaten, a-number, in-group}
+use Rattle.limits.proofs.ListLaws.{_also_, a-choice}
+use Rattle.limits.proofs.SizeLaws.{Most, all, _⊕_, span-most, tween-size, spring-size, path-size, morph-size, draw-size, color-size, waveform-size, preset-size}
+use Rattle.limits.proofs.FieldLaws.{limit, AllFair, total, Held, Row, Listed, pairs-run, fields-run, word-is, word-or, case-or, word-opt, case-opt, easing-opt, loop-opt, value-opt, damping-opt, range-opt, total-number, total-value, total-some}
+use Rattle.limits.proofs.ValueLaws.{ident-runs, string-runs, float-runs, float-in-parens, two-in-parens, value-runs}
+use Rattle.limits.proofs.CurveLaws.{number-row, count-row, easing-row, loop-row, flag-row, value-row, case-row}
+
+flag-ok : (b : Bool) → flagL .ok b
+flag-ok true = omega arith
+flag-ok false = omega arith
+
+-- `b` is the law of the form of the nodes in a container
+module _ (s : List ℕ) (short : length s ≤ 16384) {inner : Form Forest} (b : Law inner) where
+  -- a leaf from q to m, behind its keyword of k bytes; with 2 bytes to spare
+  pub record Leafed (k q : ℕ) (l : Leaf Key) (m : ℕ) : Type 0 where
+    pub ok : nodeL (length s) b .ok (single (mapLeaf stored l))
+    pub paid : length (nodeForm (length s) inner .write (single (mapLeaf stored l))) + 2 + 3 * q ≤ 3 * m + 3 * k
+
+  abbrev pub LeafRule : ℕ → Rule (Leaf Key) → Type 0
+  LeafRule k p = (q : ℕ) → q ≤ length s → isName (getD s q 0) ≡ false → Runs s p q (Leafed k q)
+
+  -- ---- tween
+
+  tween-rows : All (Row s) tweenFields
+  unfolding tweenFields limit same
+  tween-rows =
+      number-row s short "duration" (omega arith) refl
+      also easing-row s short "easing" (omega arith)
+      also number-row s short "delay" (omega arith) refl
+      also number-row s short "time_scale" (omega arith) refl
+      also loop-row s short "loop" (omega arith)
+      also number-row s short "snap" (omega arith) refl
+      also count-row s short "round" (omega arith) refl
+      also flag-row s short "reverse" (omega arith)
+      also tt
+
+  tween-leafed : (x : TweenSpec) (q m : ℕ) → tweenL (length s) .ok x → 56 + length (valueForm .write (x .from)) + length (valueForm .write (x .to)) + 3 * q ≤ 3 * m + 15 → Leafed 5 q (Leaf.tween x) m
+  tween-leafed x q m o p = record { ok = o; paid = omega (arith, tween-size (length s) x) }
+
+  pub tween-runs : LeafRule 5 parseTween
+  unfolding parseTween limit same
+  tween-runs q h e =
+      then (ident-runs s short q h) (λ t m1 g1 x1.
+      and (the-mark g1 58 refl) (λ m2 g2 u x2.
+      then (value-runs s short m2 g2) (λ v m3 g3 x3.
+      and (two-marks g3 61 62 refl refl) (λ m4 g4 u x4.
+      then (value-runs s short m4 g4) (λ w m5 g5 x5.
+      then (fields-run s tweenFields tween-rows [] m5 g5 tt) (λ fs m6 g6 x6.
+      then (needs MissingDuration (numberOf "duration" fs) g6) (λ d m7 g7 x7.
+      let n = length s in
+      let f = x6 .fair in
+      gives g7 (tween-leafed _ q m7
+      (x1 .ok
+      also x3 .ok
+      also x5 .ok
+      also word-is n fs f "duration" refl d (x7 .1)
+      also easing-opt n fs f
+      also word-opt n fs f "delay" refl
+      also word-opt n fs f "time_scale" refl
+      also loop-opt n fs f
+      also word-opt n fs f "snap" refl
+      also word-opt n fs f "round" refl
+      also flag-ok (ever "reverse" fs))
+      (omega (arith, total-number n fs f "duration" d (x7 .1), x1 .apart e, x2, x3 .paid, x4, x5 .paid, x6 .paid, x7 .0))))))))))
+
+  -- ---- spring
+
+  damping-held : (w : List ℕ) (q m : ℕ) (d : DampingMode) → 3 ≤ length w → dampingL .ok d → q < m → Held s w q (aDamping d) m
+  damping-held w q m d l h g = record { fair = record { long = l; number = tt; easing = tt; loopMode = tt; value = tt; damping = h; range = tt }; paid = omega arith }
+
+  spring-rows : All (Row s) springFields
+  unfolding springFields springPreset parseSpringPreset integrator critical over under limit same
+  spring-rows =
+      case-row s short "preset" UnknownSpringPreset ("gentle" ∷ "wobbly" ∷ "stiff" ∷ "slow" ∷ "snappy" ∷ []) (omega arith) (omega arith)
+      also number-row s short "stiffness" (omega arith) refl
+      also number-row s short "damping" (omega arith) refl
+      also number-row s short "mass" (omega arith) refl
+      also value-row s short "velocity" (omega arith)
+      also number-row s short "epsilon" (omega arith) refl
+      also case-row s short "integrator" Malformed ("semi_implicit_euler" ∷ "rk4" ∷ []) (omega arith) (omega arith)
+      also (λ q h. then (float-in-parens s short q h) (λ x m g y. gives g (damping-held (bytes "critically_damped") q m (criticallyDamped x) (omega arith) (y .0) (y .1))))
+      also (λ q h. then (two-in-parens s short q h) (λ p m g y. gives g (damping-held (bytes "overdamped") q m (overdamped (p .0) (p .1)) (omega arith) (y .0) (y .1))))
+      also (λ q h. then (two-in-parens s short q h) (λ p m g y. gives g (damping-held (bytes "underdamped") q m (underdamped (p .0) (p .1)) (omega arith) (y .0) (y .1))))
+      also tt
+
+  abbrev springOf : Span → ValueExpr → ValueExpr → Fields → SpringSpec
+  springOf t v w fs = record {
+    target = t;
+    from = v;
+    to = w;
+    preset = numberOf "preset" fs;
+    stiffness = numberOf "stiffness" fs;
+    damping = numberOf "damping" fs;
+    mass = numberOf "mass" fs;
+    velocity = valueOf fs;
+    epsilon = numberOf "epsilon" fs;
+    integrator = numberOf "integrator" fs;
+    dampingMode = dampingOf fs;
+  }
+
+  -- a spring without fields is short; with some, these pay
+  spring-total : (t : Span) (v w : ValueExpr) (fs : Fields) → AllFair (length s) fs → length (springForm (length s) .write (springOf t v w fs)) ≤ 26 + length (valueForm .write v) + length (valueForm .write w) + total fs
+  unfolding last
+  spring-total t v w [] f = omega (arith, bare .most)
+    where
+      bare : Most (springForm (length s) .write (springOf t v w [])) (4 + (length (valueForm .write v) + (length (valueForm .write w) + 8)))
+      bare = span-most (length s) t ⊕ all (valueForm .write v) ⊕ all (valueForm .write w) ⊕ all (0 ∷ 0 ∷ 0 ∷ 0 ∷ 0 ∷ 0 ∷ 0 ∷ 0 ∷ [])
+  spring-total t v w (e ∷ fs) f = go (valueOf (e ∷ fs)) refl
+    where
+      go : (o : Option ValueExpr) → valueOf (e ∷ fs) ≡ o → length (springForm (length s) .write (springOf t v w (e ∷ fs))) ≤ 26 + length (valueForm .write v) + length (valueForm .write w) + total (e ∷ fs)
+      go none q = let z = ap (λ (o : Option ValueExpr). length (opt valueForm .write o)) q in omega (arith, spring-size (length s) (springOf t v w (e ∷ fs)), total-some (length s) e fs f)
+      go (some a) q = let z = ap (λ (o : Option ValueExpr). length (opt valueForm .write o)) q in omega (arith, spring-size (length s) (springOf t v w (e ∷ fs)), total-value (length s) (e ∷ fs) f a q)
+
+  pub spring-runs : LeafRule 6 parseSpring
+  unfolding parseSpring limit same
+  spring-runs q h e =
+      then (ident-runs s short q h) (λ t m1 g1 x1.
+      and (the-mark g1 58 refl) (λ m2 g2 u x2.
+      then (value-runs s short m2 g2) (λ v m3 g3 x3.
+      and (two-marks g3 61 62 refl refl) (λ m4 g4 u x4.
+      then (value-runs s short m4 g4) (λ w m5 g5 x5.
+      then (fields-run s springFields spring-rows [] m5 g5 tt) (λ fs m6 g6 x6.
+      let n = length s in
+      let f = x6 .fair in
+      gives g6 (record {
+        ok = x1 .ok
+            also x3 .ok
+            also x5 .ok
+            also case-opt n fs f "preset" 5 refl
+            also word-opt n fs f "stiffness" refl
+            also word-opt n fs f "damping" refl
+            also word-opt n fs f "mass" refl
+            also value-opt n fs f
+            also word-opt n fs f "epsilon" refl
+            also case-opt n fs f "integrator" 2 refl
+            also damping-opt n fs f;
+        paid = omega (arith, spring-total t v w fs f, x1 .apart e, x2, x3 .paid, x4, x5 .paid, x6 .paid);
+      })))))))
+
+  -- ---- path, morph, draw, color: their duration pays
+
+  offset-row : Row s ("offset", offset)
+  unfolding offset
+  offset-row q h =
+      then (float-runs s short q h) (λ a m g x.
+      and (two-marks g 46 46 refl refl) (λ n f u y.
+      then (float-runs s short n f) (λ c o i z.
+      gives i (record { fair = record { long = omega arith; number = tt; easing = tt; loopMode = tt; value = tt; damping = tt; range = (small 4 a (x .ok), small 4 c (z .ok)) }; paid = omega (arith, x .is .on, y, z .is .on) }))))
+
+  path-rows : All (Row s) pathFields
+  unfolding pathFields limit same
+  path-rows =
+      number-row s short "duration" (omega arith) refl
+      also easing-row s short "easing" (omega arith)
+      also flag-row s short "auto_rotate" (omega arith)
+      also offset-row
+      also loop-row s short "loop" (omega arith)
+      also tt
+
+  path-leafed : (x : PathSpec) (q m : ℕ) → pathL (length s) .ok x → 50 + 3 * q ≤ 3 * m + 12 → Leafed 4 q (Leaf.path x) m
+  path-leafed x q m o p = record { ok = o; paid = omega (arith, path-size (length s) x) }
+
+  opt-flag-ok : (o : Option Bool) → optL flagL .ok o
+  opt-flag-ok none = tt
+  opt-flag-ok (some v) = flag-ok v
+
+  pub path-runs : LeafRule 4 parsePath
+  unfolding parsePath limit same
+  path-runs q h e =
+      then (ident-runs s short q h) (λ t m1 g1 x1.
+      and (a-choice g1 Malformed (words ("along" ∷ []))) (λ m2 g2 u x2.
+      then (string-runs s short m2 g2) (λ v m3 g3 x3.
+      then (fields-run s pathFields path-rows [] m3 g3 tt) (λ fs m4 g4 x4.
+      then (needs MissingDuration (numberOf "duration" fs) g4) (λ d m5 g5 x5.
+      let n = length s in
+      let f = x4 .fair in
+      gives g5 (path-leafed _ q m5
+      (x1 .ok
+      also x3 .0
+      also word-is n fs f "duration" refl d (x5 .1)
+      also easing-opt n fs f
+      also opt-flag-ok (truthOf "auto_rotate" fs)
+      also range-opt n fs f
+      also loop-opt n fs f)
+      (omega (arith, total-number n fs f "duration" d (x5 .1), x1 .on, x2 .1, x3 .1, x4 .paid, x5 .0))))))))
+
+  morph-rows : All (Row s) morphFields
+  unfolding morphFields limit same
+  morph-rows =
+      count-row s short "samples" (omega arith) refl
+      also number-row s short "duration" (omega arith) refl
+      also easing-row s short "easing" (omega arith)
+      also tt
+
+  morph-leafed : (x : MorphSpec) (q m : ℕ) → morphL (length s) .ok x → 37 + 3 * q ≤ 3 * m + 15 → Leafed 5 q (Leaf.morph x) m
+  morph-leafed x q m o p = record { ok = o; paid = omega (arith, morph-size (length s) x) }
+
+  pub morph-runs : LeafRule 5 parseMorph
+  unfolding parseMorph limit same
+  morph-runs q h e =
+      then (string-runs s short q h) (λ v m1 g1 x1.
+      and (two-marks g1 61 62 refl refl) (λ m2 g2 u x2.
+      then (string-runs s short m2 g2) (λ w m3 g3 x3.
+      then (fields-run s morphFields morph-rows [] m3 g3 tt) (λ fs m4 g4 x4.
+      then (needs MissingDuration (numberOf "duration" fs) g4) (λ d m5 g5 x5.
+      let n = length s in
+      let f = x4 .fair in
+      gives g5 (morph-leafed _ q m5
+      (x1 .0 also x3 .0 also word-or n fs f "samples" refl 32 refl also word-is n fs f "duration" refl d (x5 .1) also easing-opt n fs f)
+      (omega (arith, total-number n fs f "duration" d (x5 .1), x1 .1, x2, x3 .1, x4 .paid, x5 .0))))))))
+
+  draw-rows : All (Row s) drawFields
+  unfolding drawFields limit same
+  draw-rows =
+      number-row s short "duration" (omega arith) refl
+      also easing-row s short "easing" (omega arith)
+      also tt
+
+  draw-leafed : (x : DrawSpec) (q m : ℕ) → drawL (length s) .ok x → 29 + 3 * q ≤ 3 * m + 12 → Leafed 4 q (Leaf.draw x) m
+  draw-leafed x q m o p = record { ok = o; paid = omega (arith, draw-size (length s) x) }
+
+  pub draw-runs : LeafRule 4 parseDraw
+  unfolding parseDraw limit same
+  draw-runs q h e =
+      then (string-runs s short q h) (λ v m1 g1 x1.
+      then (fields-run s drawFields draw-rows [] m1 g1 tt) (λ fs m2 g2 x2.
+      then (needs MissingDuration (numberOf "duration" fs) g2) (λ d m3 g3 x3.
+      let n = length s in
+      let f = x2 .fair in
+      gives g3 (draw-leafed _ q m3
+      (x1 .0 also word-is n fs f "duration" refl d (x3 .1) also easing-opt n fs f)
+      (omega (arith, total-number n fs f "duration" d (x3 .1), x1 .1, x2 .paid, x3 .0))))))
+
+  color-rows : All (Row s) colorFields
+  unfolding colorFields space limit same
+  color-rows =
+      number-row s short "duration" (omega arith) refl
+      also case-row s short "space" Malformed ("linear" ∷ "lab" ∷ "oklch" ∷ []) (omega arith) (omega arith)
+      also easing-row s short "easing" (omega arith)
+      also tt
+
+  color-leafed : (x : ColorSpec) (q m : ℕ) → colorL (length s) .ok x → 38 + 3 * q ≤ 3 * m + 15 → Leafed 5 q (Leaf.color x) m
+  color-leafed x q m o p = record { ok = o; paid = omega (arith, color-size (length s) x) }
+
+  pub color-runs : LeafRule 5 parseColor
+  unfolding parseColor limit same
+  color-runs q h e =
+      then (ident-runs s short q h) (λ t m1 g1 x1.
+      and (the-mark g1 58 refl) (λ m2 g2 u x2.
+      then (string-runs s short m2 g2) (λ v m3 g3 x3.
+      and (two-marks g3 61 62 refl refl) (λ m4 g4 u x4.
+      then (string-runs s short m4 g4) (λ w m5 g5 x5.
+      then (fields-run s colorFields color-rows [] m5 g5 tt) (λ fs m6 g6 x6.
+      then (needs MissingDuration (numberOf "duration" fs) g6) (λ d m7 g7 x7.
+      let n = length s in
+      let f = x6 .fair in
+      gives g7 (color-leafed _ q m7
+      (x1 .ok
+      also x3 .0
+      also x5 .0
+      also word-is n fs f "duration" refl d (x7 .1)
+      also case-or n fs f "space" 3 refl 0 (omega arith)
+      also easing-opt n fs f)
+      (omega (arith, total-number n fs f "duration" d (x7 .1), x1 .on, x2, x3 .1, x4, x5 .1, x6 .paid, x7 .0))))))))))
+
+  -- ---- waveform
+
+  waveform-rows : All (Row s) waveformFields
+  unfolding waveformFields limit same
+  waveform-rows =
+      number-row s short "frequency" (omega arith) refl
+      also number-row s short "amplitude" (omega arith) refl
+      also number-row s short "phase" (omega arith) refl
+      also number-row s short "duty_cycle" (omega arith) refl
+      also count-row s short "seed" (omega arith) refl
+      also number-row s short "smoothness" (omega arith) refl
+      also number-row s short "duration" (omega arith) refl
+      also tt
+
+  abbrev waveformOf : ℕ → Fields → WaveformSpec
+  waveformOf k fs = record {
+    kind = k;
+    frequency = numberOf "frequency" fs;
+    amplitude = numberOf "amplitude" fs;
+    phase = numberOf "phase" fs;
+    dutyCycle = numberOf "duty_cycle" fs;
+    seed = numberOf "seed" fs;
+    smoothness = numberOf "smoothness" fs;
+    duration = numberOf "duration" fs;
+  }
+
+  waveform-total : (k : ℕ) (fs : Fields) → AllFair (length s) fs → length (waveformForm .write (waveformOf k fs)) ≤ 24 + total fs
+  unfolding last
+  waveform-total k [] f = omega arith
+  waveform-total k (e ∷ fs) f = omega (arith, waveform-size (length s) (waveformOf k (e ∷ fs)), total-some (length s) e fs f)
+
+  pub waveform-runs : LeafRule 8 parseWaveform
+  unfolding parseWaveform waveformKind limit same
+  waveform-runs q h e =
+      then (a-choice h Malformed (words ("sine" ∷ "sawtooth" ∷ "square" ∷ "triangle" ∷ "noise" ∷ []))) (λ k m1 g1 x1.
+      then (fields-run s waveformFields waveform-rows [] m1 g1 tt) (λ fs m2 g2 x2.
+      let n = length s in
+      let f = x2 .fair in
+      gives g2 (record {
+        ok = x1 .0
+            also word-opt n fs f "frequency" refl
+            also word-opt n fs f "amplitude" refl
+            also word-opt n fs f "phase" refl
+            also word-opt n fs f "duty_cycle" refl
+            also word-opt n fs f "seed" refl
+            also word-opt n fs f "smoothness" refl
+            also word-opt n fs f "duration" refl;
+        paid = omega (arith, waveform-total k fs f, x1 .1, x2 .paid);
+      })))
+
+  -- ---- preset, label, at
+
+  abbrev presetOf : Span → Fields → PresetCall
+  presetOf t fs = record { name = t; duration = numberOf "duration" fs; easing = easingOf fs }
+
+  preset-total : (t : Span) (fs : Fields) → AllFair (length s) fs → length (presetForm (length s) .write (presetOf t fs)) ≤ 18 + total fs
+  unfolding last
+  preset-total t [] f = omega arith
+  preset-total t (e ∷ fs) f = omega (arith, preset-size (length s) (presetOf t (e ∷ fs)), total-some (length s) e fs f)
+
+  -- the fields in parentheses, and those behind a `,`
+  in-parens : (q : ℕ) → q ≤ length s → Runs s (if (sees "(") (inside "(" (pairs drawFields)) (give [])) q (Listed s [] q)
+  in-parens q h =
+      tests (sees "(")
+      (λ e. weaken (in-group (pairs drawFields) (Listed s []) h 40 refl (pairs-run s drawFields draw-rows)) (λ fs m x. record { fair = x .inner .fair; low = omega (arith, x .low, x .inner .low, x .left .low); paid = omega (arith, x .low, x .inner .paid, x .left .low) }))
+      (λ e. gives h (record { fair = tt; low = omega arith; paid = omega arith }))
+
+  behind-comma : (fs : Fields) → AllFair (length s) fs → (q : ℕ) → q ≤ length s → Runs s (if (sees ",") (skip >> parseFieldList drawFields fs) (give fs)) q (Listed s fs q)
+  behind-comma fs f q h =
+      tests (sees ",")
+      (λ e. and {f = parseFieldList drawFields fs} (skips-mark h 44 refl e) (λ m g u x. weaken (fields-run s drawFields draw-rows fs m g f) (λ gs n y. record { fair = y .fair; low = omega (arith, x .on, y .low); paid = omega (arith, x .on, y .paid) })))
+      (λ e. gives h (record { fair = f; low = omega arith; paid = omega arith }))
+
+  pub preset-runs : LeafRule 6 parsePresetCall
+  unfolding parsePresetCall limit same
+  preset-runs q h e =
+      then (ident-runs s short q h) (λ t m1 g1 x1.
+      then (in-parens m1 g1) (λ fs m2 g2 x2.
+      then (behind-comma fs (x2 .fair) m2 g2) (λ gs m3 g3 x3.
+      let n = length s in
+      let f = x3 .fair in
+      gives g3 (record {
+        ok = x1 .ok also word-opt n gs f "duration" refl also easing-opt n gs f;
+        paid = omega (arith, preset-total t gs f, x1 .on, x2 .paid, x3 .paid);
+      }))))
+
+  pub label-runs : LeafRule 5 parseLabel
+  unfolding parseLabel
+  label-runs q h e = then (string-runs s short q h) (λ t m g x. and (the-mark g 59 refl) (λ n f u y. gives f (record { ok = x .0; paid = omega (arith, x .1, y) })))
+
+  sign-runs : (q : ℕ) → q ≤ length s → Runs s atSign q (λ v m. q ≤ m)
+  unfolding atSign
+  sign-runs q h =
+      then (eats h 43 refl) (λ c m g x.
+      then (conds {Q = λ d n. m ≤ n} c (λ e. gives g (omega arith)) (λ e. weaken (eats g 45 refl) (λ d n y. eaten m d n y))) (λ d n f y.
+      gives f (omega (arith, eaten q c m x))))
+
+  pub at-runs : LeafRule 2 parseAt
+  unfolding parseAt
+  at-runs q h e =
+      then (sign-runs q h) (λ v m g x.
+      then (a-number g Malformed) (λ w n f y.
+      and (eats f 59 refl) (λ o i c z.
+      gives i (record { ok = (small 4 _ (bits-lt _ (nearest-fits _ _)), flag-ok (v .0)); paid = omega (arith, y .on, eaten n c o z) }))))

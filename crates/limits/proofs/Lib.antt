@@ -1,0 +1,13 @@
+pub mod PlaceLaws
+pub mod RunLaws
+pub mod TakeLaws
+pub mod ListLaws
+pub mod SizeLaws
+pub mod ValueLaws
+pub mod FieldLaws
+pub mod CurveLaws
+pub mod LeafLaws
+pub mod FrameLaws
+pub mod HeadLaws
+pub mod NodeLaws
+pub mod Limits

@@ -1,0 +1,1 @@
+// Laws on the grammar: what parses has no foreign byte, fits the sheet, and is small.
