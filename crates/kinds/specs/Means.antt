@@ -61,8 +61,11 @@ timedEnd t k = parseFieldList t [] >>= λ fs. need MissingDuration (numberOf "du
 abbrev pub drawSorts : List ℕ
 drawSorts = 0 ∷ 7 ∷ []
 
+abbrev pub drawLeaf : tree.Span → Fields → ℕ → Leaf Key
+drawLeaf svg fs d = Leaf.draw (record { svg = svg; duration = d; easing = easingOf fs })
+
 abbrev pub drawEnd : tree.Span → Rule (Leaf Key)
-drawEnd svg = timedEnd drawFields (λ fs d. Leaf.draw (record { svg = svg; duration = d; easing = easingOf fs }))
+drawEnd svg = timedEnd drawFields (drawLeaf svg)
 
 abbrev pub PlainDraw : DrawSpec → Type 0
 PlainDraw x = Plain (x .duration) × PlainOptEasing (x .easing)
@@ -74,9 +77,11 @@ drawOf x = Leaf.draw (record { svg = spanOf (x .svg); duration = bits (x .durati
 abbrev pub morphSorts : List ℕ
 morphSorts = 1 ∷ 0 ∷ 7 ∷ []
 
+abbrev pub morphLeaf : tree.Span → tree.Span → Fields → ℕ → Leaf Key
+morphLeaf from to fs d = Leaf.morph (record { from = from; to = to; samples = default (numberOf "samples" fs) 32; duration = d; easing = easingOf fs })
+
 abbrev pub morphEnd : tree.Span → tree.Span → Rule (Leaf Key)
-morphEnd from to =
-    timedEnd morphFields (λ fs d. Leaf.morph (record { from = from; to = to; samples = default (numberOf "samples" fs) 32; duration = d; easing = easingOf fs }))
+morphEnd from to = timedEnd morphFields (morphLeaf from to)
 
 abbrev pub PlainMorph : MorphSpec → Type 0
 PlainMorph x = Plain (x .duration) × PlainOptEasing (x .easing)
@@ -88,9 +93,11 @@ morphOf x = Leaf.morph (record { from = spanOf (x .from); to = spanOf (x .to); s
 abbrev pub colorSorts : List ℕ
 colorSorts = 0 ∷ 2 ∷ 7 ∷ []
 
+abbrev pub colorLeaf : tree.Span → tree.Span → tree.Span → Fields → ℕ → Leaf Key
+colorLeaf target from to fs d = Leaf.color (record { target = target; from = from; to = to; duration = d; space = default (numberOf "space" fs) 0; easing = easingOf fs })
+
 abbrev pub colorEnd : tree.Span → tree.Span → tree.Span → Rule (Leaf Key)
-colorEnd target from to =
-    timedEnd colorFields (λ fs d. Leaf.color (record { target = target; from = from; to = to; duration = d; space = default (numberOf "space" fs) 0; easing = easingOf fs }))
+colorEnd target from to = timedEnd colorFields (colorLeaf target from to)
 
 -- behind the `:`
 abbrev pub colorStrings : tree.Span → Rule (Leaf Key)
@@ -113,8 +120,8 @@ colorOf x = Leaf.color (record {
 abbrev pub pathSorts : List ℕ
 pathSorts = 0 ∷ 7 ∷ 5 ∷ 9 ∷ 8 ∷ []
 
-abbrev pub pathEnd : tree.Span → tree.Span → Rule (Leaf Key)
-pathEnd target svg = timedEnd pathFields (λ fs d. Leaf.path (record {
+abbrev pub pathLeaf : tree.Span → tree.Span → Fields → ℕ → Leaf Key
+pathLeaf target svg fs d = Leaf.path (record {
   target = target;
   svg = svg;
   duration = d;
@@ -122,7 +129,10 @@ pathEnd target svg = timedEnd pathFields (λ fs d. Leaf.path (record {
   autoRotate = truthOf "auto_rotate" fs;
   offset = rangeOf fs;
   loopMode = loopModeOf fs;
-}))
+})
+
+abbrev pub pathEnd : tree.Span → tree.Span → Rule (Leaf Key)
+pathEnd target svg = timedEnd pathFields (pathLeaf target svg)
 
 abbrev pub PlainPath : PathSpec → Type 0
 PlainPath x = Plain (x .duration) × PlainOptEasing (x .easing) × PlainOptRange (x .offset)

@@ -1,0 +1,4 @@
+pub mod PutLaws
+pub mod EndLaws
+pub mod Layouts
+pub mod KindLaws
