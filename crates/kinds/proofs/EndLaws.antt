@@ -1,8 +1,9 @@
 -- The end of a node: its fields are taken, and its record is written. Assumes nothing.
-use Prim.Native.Nat.{ℕ, _+_, _*_, _-_, _≤_}
+-- ---- fields with a duration
+use Prim.Native.Nat.{ℕ, _+_, _≤_}
 use mathlib.Core.List.{List, []}
 use mathlib.Core.Option.{some}
-use mathlib.Core.Path.{_≡_, refl, subst}
+use mathlib.Core.Path.{_≡_}
 use native.Mathlib.Omega.{arith}
 use lib.ListN.{length, getD, getElem?}
 use lib.Ieee.{Float}
@@ -11,11 +12,10 @@ use Rattle.number.specs.Time.{Key}
 use Rattle.ast.specs.Tree.{Leaf}
 use Rattle.error.specs.declared.Refusal.{Refusal}
 use Rattle.grammar.specs.Rule.{Rule, refused, give, _>>=_}
-use Rattle.grammar.specs.Fields.{Table, Fields, Content, parseFieldList}
+use Rattle.grammar.specs.Fields.{Table, Fields, Content}
 use Rattle.cursor.specs.Means.{run, Took}
 use Rattle.cursor.specs.declared.Cursor.{Cursor}
-use Rattle.arrays.specs.Means.{Went}
-use Rattle.nodes.specs.Means.{leafBytes, LeafMeans}
+use Rattle.nodes.specs.Means.{LeafMeans}
 use Rattle.nodes.specs.declared.NodeRead.{NodeRead}
 use Rattle.nodes.specs.declared.NodeRead.the-variants as node
 use Rattle.slots.specs.Means.{sortRank, ListMeans, TimedMeans}
@@ -23,8 +23,6 @@ use Rattle.slots.specs.declared.Gathered.{Gathered}
 use Rattle.slots.specs.declared.Timed.the-variants as timed
 use Rattle.slots.proofs.TimedLaws.{TimedAt, not-timed, timely-refused}
 use Rattle.kinds.specs.Means.{Put, EndWent, EndMeans, timedEnd}
-
--- ---- fields with a duration
 
 module _ (s : List ℕ) (lo : ℕ) (sorts : List ℕ) (c : Cursor) (t : Table) (k : Fields → ℕ → Leaf Key) where
   pub end-refused : (i : ℕ) (p : Rule Content) → getElem? t i ≡ some ("duration", p) → sortRank (getD sorts i 0) ≡ 1 → (g : Gathered) → ListMeans s lo sorts c t [] g

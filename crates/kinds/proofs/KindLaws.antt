@@ -1,4 +1,5 @@
 -- A node is what stands before its end, and its end. Assumes nothing.
+-- ---- draw
 use Prim.Native.Nat.{ℕ, _+_, _≤_}
 use mathlib.Core.List.{List, [], _∷_}
 use mathlib.Core.Path.{_≡_}
@@ -18,8 +19,6 @@ use Rattle.nodes.specs.Means.{LeafMeans}
 use Rattle.nodes.specs.declared.NodeRead.{NodeRead}
 use Rattle.kinds.specs.Means.{EndMeans, drawEnd, morphEnd, colorStrings, colorEnd, pathEnd, waveformEnd}
 use Rattle.kinds.proofs.EndLaws.{whole-node, whole-end}
-
--- ---- draw
 
 module _ (s : List ℕ) (c : Cursor) where
   pub no-svg : (q : ℕ) → run s c text ≡ refused Missing q → run s c parseDraw ≡ refused Missing q

@@ -2,3 +2,4 @@ pub mod PutLaws
 pub mod EndLaws
 pub mod Layouts
 pub mod KindLaws
+pub mod PresetLaws

@@ -1,11 +1,10 @@
 -- The most bytes of what a record holds. Assumes nothing.
-use Prim.Native.Nat.{ℕ, suc, _≤_}
-use mathlib.Core.Option.{Option, none, some}
+use Prim.Native.Nat.{ℕ, _≤_}
+use mathlib.Core.Option.{Option}
 use mathlib.Core.Bool.{Bool}
-use mathlib.Core.Path.{_≡_}
 use native.Mathlib.Omega.{arith}
 use lib.ListN.{length, length-append}
-use Rattle.codec.specs.Codec.{opt, _▹_}
+use Rattle.codec.specs.Codec.{opt}
 use Rattle.ast.specs.Tree.{EasingSpec, LoopSpec}
 use Rattle.sheet.specs.Sheet.{word, flag, easingForm, loopForm}
 use Rattle.encode.proofs.FieldLaws.{length-word, length-flag}

@@ -18,13 +18,15 @@ use Rattle.ast.specs.declared.PresetCall.{PresetCall}
 use Rattle.encode.specs.Of.{Plain, PlainOptFloat, PlainOptRange, PlainOptEasing, spanOf, optFloatOf, optWordOf, optBoolOf, optRangeOf, optEasingOf, optLoopOf}
 use Rattle.encode.specs.Writes.{Writes}
 use Rattle.error.specs.declared.Refusal.the-variants.{MissingDuration}
-use Rattle.grammar.specs.Rule.{Rule, refused, give, need, _>>=_, _>>_, if, sees, skip, both}
-use Rattle.grammar.specs.Fields.{Table, Fields, numberOf, truthOf, easingOf, loopModeOf, rangeOf, parseFieldList}
+use Rattle.grammar.specs.Rule.{Rule, refused, give, need, _>>=_, _>>_, if, sees, skip, both, inside}
+use Rattle.grammar.specs.Fields.{Table, Fields, numberOf, truthOf, easingOf, loopModeOf, rangeOf, pairs, parseFieldList}
 use Rattle.grammar.specs.Values.{string}
 use Rattle.grammar.specs.Grammar.{drawFields, morphFields, colorFields, pathFields, waveformFields}
 use Rattle.cursor.specs.Means.{run, Took}
 use Rattle.cursor.specs.declared.Cursor.{Cursor}
 use Rattle.nodes.specs.Means.{leafBytes}
+use Rattle.slots.specs.Means as slots
+use Rattle.slots.specs.declared.Gathered.{Gathered}
 use Rattle.nodes.specs.declared.NodeRead.{NodeRead}
 use Rattle.nodes.specs.declared.NodeRead.the-variants as node
 
@@ -184,9 +186,22 @@ waveformOf x = Leaf.waveform (record {
   duration = optFloatOf (x .duration);
 })
 
--- preset
+-- preset: fields in parentheses or not, and more of them behind a `,` or not
+abbrev pub presetPairs : Rule Fields
+presetPairs = if (sees "(") (inside "(" (pairs drawFields)) (give [])
+
+abbrev pub presetFields : Rule Fields
+presetFields = presetPairs >>= λ fs. if (sees ",") (skip >> parseFieldList drawFields fs) (give fs)
+
+-- what is kept of the fields that the rule p takes
+abbrev pub GatheredMeans : List ℕ → Cursor → Rule Fields → Gathered → Type 0
+GatheredMeans s c p g = slots.EndMeans s (c .at) drawSorts c drawFields p (g .slots) (g .others) (g .end)
+
 abbrev pub presetLeaf : tree.Span → Fields → Leaf Key
 presetLeaf name fs = Leaf.preset (record { name = name; duration = numberOf "duration" fs; easing = easingOf fs })
+
+abbrev pub presetEnd : tree.Span → Rule (Leaf Key)
+presetEnd name = presetFields >>= λ fs. give (presetLeaf name fs)
 
 abbrev pub PlainPreset : PresetCall → Type 0
 PlainPreset x = PlainOptFloat (x .duration) × PlainOptEasing (x .easing)

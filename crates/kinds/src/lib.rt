@@ -12,13 +12,14 @@ ghost use Rattle.cursor.specs.Means.{Ready};
 ghost use Rattle.arrays.specs.Means.{Room};
 ghost use Rattle.nodes.specs.Means.{LeafMeans};
 ghost use Rattle.slots.specs.Means.{Layout, Laid, ListMeans};
-ghost use Rattle.kinds.specs.Means.{Put, EndMeans, drawEnd, PlainDraw, drawOf, morphEnd, PlainMorph, morphOf, colorEnd, colorStrings, PlainColor, colorOf, pathEnd, PlainPath, pathOf, waveformEnd, PlainWaveform, waveformOf};
+ghost use Rattle.kinds.specs.Means.{Put, EndMeans, drawEnd, PlainDraw, drawOf, morphEnd, PlainMorph, morphOf, colorEnd, colorStrings, PlainColor, colorOf, pathEnd, PlainPath, pathOf, waveformEnd, PlainWaveform, waveformOf, GatheredMeans, presetPairs, presetFields, presetEnd, PlainPreset, presetOf};
 use ast::ColorSpec;
 use ast::DrawSpec;
 use ast::MorphSpec;
 use ast::OptCase;
 use ast::OptU32;
 use ast::PathSpec;
+use ast::PresetCall;
 use ast::Span;
 use ast::WaveformKind;
 use ast::WaveformSpec;
@@ -406,5 +407,104 @@ pub fn parse_waveform(text: &[u8], sheet: &mut [u8], c: Cursor, out: usize) -> N
     match cursor::choice(text, c, &WAVEFORMS, Refusal::Malformed) {
         CaseRead::Refused(r, p) => NodeRead::Refused(r, p),
         CaseRead::Is(i, m) => waveform_end(text, sheet, m, out, i as u8),
+    }
+}
+
+// ---- preset
+
+// The fields in parentheses, if there are any.
+fn preset_pairs(text: &[u8], c: Cursor) -> Gathered
+    requires { ⌜ Ready (now text) c × (length (now text) ≤ 16384) ⌝ }
+    ensures { λ r. ⌜ GatheredMeans (now (text .entry)) c presetPairs r ⌝ }
+{
+    let slots = slots::no_slots();
+    let others = slots::no_others();
+    if !cursor::sees(c, 40) {
+        let end = Ended::Is(c);
+        return Gathered { slots, others, end };
+    }
+    let m = cursor::advance(text, c);
+    let g = slots::pair_list(text, m, &DRAW_ROWS, &DRAW_SORTS, slots, others);
+    let read = g.end;
+    match read {
+        Ended::Refused(_, _) => g,
+        Ended::Is(e) => {
+            let kept = g.slots;
+            let beside = g.others;
+            let end = Ended::Is(cursor::leave_group(text, e));
+            Gathered {
+                slots: kept,
+                others: beside,
+                end,
+            }
+        }
+    }
+}
+
+// Those, and more of them behind a `,`.
+fn preset_fields(text: &[u8], c: Cursor) -> Gathered
+    requires { ⌜ Ready (now text) c × (length (now text) ≤ 16384) ⌝ }
+    ensures { λ r. ⌜ GatheredMeans (now (text .entry)) c presetFields r ⌝ }
+{
+    let g = preset_pairs(text, c);
+    let read = g.end;
+    match read {
+        Ended::Refused(_, _) => g,
+        Ended::Is(e) => {
+            if !cursor::sees(e, 44) {
+                return g;
+            }
+            let m = cursor::advance(text, e);
+            let slots = g.slots;
+            let others = g.others;
+            slots::field_list(text, m, &DRAW_ROWS, &DRAW_SORTS, slots, others)
+        }
+    }
+}
+
+fn put_preset(sheet: &mut [u8], out: usize, x: PresetCall) -> usize
+    requires { ⌜ (out < 2 ^ 30) × PlainPreset x ⌝ }
+    ensures { λ r. ⌜ Put (now (sheet .entry)) out (presetOf x) (now (sheet .exit)) r ⌝ }
+{
+    let name = x.name;
+    let duration = x.duration;
+    let easing = x.easing;
+    let name_at = encode::put_byte(sheet, out, 12);
+    let duration_at = encode::put_span(sheet, name_at, name);
+    let easing_at = encode::put_opt_float(sheet, duration_at, duration);
+    encode::put_opt_easing(sheet, easing_at, easing)
+}
+
+// Behind the name.
+fn preset_end(text: &[u8], sheet: &mut [u8], c: Cursor, out: usize, name: Span) -> NodeRead
+    requires { ⌜ Ready (now text) c × Room (now text) out ⌝ }
+    ensures { λ r. ⌜ EndMeans (now (text .entry)) (now (sheet .entry)) (now (sheet .exit)) c out (presetEnd (spanOf name)) r ⌝ }
+{
+    let g = preset_fields(text, c);
+    let slots = g.slots;
+    let others = g.others;
+    let end = g.end;
+    match end {
+        Ended::Refused(r, p) => NodeRead::Refused(r, p),
+        Ended::Is(e) => {
+            let duration = slots::float_at(slots, 0);
+            let easing = others.easing;
+            let call = PresetCall {
+                name,
+                duration,
+                easing,
+            };
+            NodeRead::Is(put_preset(sheet, out, call), e)
+        }
+    }
+}
+
+pub fn parse_preset_call(text: &[u8], sheet: &mut [u8], c: Cursor, out: usize) -> NodeRead
+    requires { ⌜ Ready (now text) c × Room (now text) out ⌝ }
+    ensures { λ r. ⌜ LeafMeans (now (text .entry)) (now (sheet .entry)) (now (sheet .exit)) c out parsePresetCall r ⌝ }
+{
+    match cursor::word(text, c) {
+        WordRead::Missing(p) => NodeRead::Refused(Refusal::Missing, p),
+        WordRead::Is(name, m) => preset_end(text, sheet, m, out, name),
     }
 }

@@ -1,73 +1,54 @@
-use Rattle.text.specs.Bytes.{at}
+-- `kinds::color_end` meets its contract. Assumes nothing.
 use mathlib.Core.Path.{refl}
 use Rattle.encode.specs.Of.{spanOf}
 use Rattle.kinds.specs.Means.{colorSorts, colorLeaf}
 use Rattle.slots.specs.Means.{sortRank, keptAt}
-use Rattle.grammar.specs.Values.{number, count, flag}
+use Rattle.grammar.specs.Values.{number}
 use Rattle.grammar.specs.Grammar.{colorFields, space}
-use Rattle.slots.proofs.KeptLaws.{whole-held, case-held, truth-held}
+use Rattle.slots.proofs.KeptLaws.{case-held}
 use Rattle.slots.proofs.TimedLaws.{timed-at}
 use Rattle.kinds.proofs.Layouts.{color-layout}
 use Rattle.kinds.proofs.EndLaws.{end-refused, end-went}
 use borrow.Author.Needs.{needs}
 use Rattle.kinds.proofs.color_end.Statement.{statement}
 use Rattle.kinds.proofs.color_end.Tie as tie
-use Rattle.kinds.proofs.color_end.Reads as reads
-use Rattle.kinds.proofs.color_end.Lts as lts
-use Rattle.kinds.proofs.case_or.Reads as case-or-reads
-use Rattle.kinds.proofs.fields_at.Reads as fields-at-reads
-use Rattle.kinds.proofs.put_color.Reads as put-color-reads
-use Rattle.slots.proofs.case_at.Reads as case-at-reads
-use Rattle.slots.proofs.duration_in.Reads as duration-in-reads
 
--- src/lib.rt:208:32
 slice-aggregate-fields-at : tie.Need-slice-aggregate-fields-at
 slice-aggregate-fields-at c = search needs
 
--- src/lib.rt:208:45
 slice-aggregate-fields-at-2 : tie.Need-slice-aggregate-fields-at-2
 slice-aggregate-fields-at-2 c = search needs
 
--- src/lib.rt:208:9
 fields-at-requires : tie.Need-fields-at-requires
 unfolding colorFields
 fields-at-requires c κs = (c .before .before .before .before .pre .0, c .before .before .before .before .pre .1 .short, (colorFields, color-layout))
 
--- src/lib.rt:209:11
 duration-in-requires : tie.Need-duration-in-requires
 duration-in-requires c κs = search needs
 
--- src/lib.rt:210:24
 enum-known-r : tie.Need-enum-known-r
 enum-known-r c = search needs
 
--- src/lib.rt:211:19
 enum-known-duration : tie.Need-enum-known-duration
 enum-known-duration c = search needs
 
--- src/lib.rt:215:33
 case-at-requires : tie.Need-case-at-requires
 case-at-requires c κs = search needs
 
--- src/lib.rt:215:17
 case-or-requires : tie.Need-case-or-requires
 case-or-requires c κs = search needs
 
--- src/lib.rt:224:26
 put-color-requires : tie.Need-put-color-requires
 unfolding colorFields sortRank
 put-color-requires c κs = let t = timed-at (c .before .before .before .before .before .before .before .before .before .before .before .before .before .before .args .text .now) (c .before .before .before .before .before .before .before .before .before .before .before .before .before .before .args .c .at) colorSorts (c .before .before .before .before .before .before .before .before .before .before .before .before .before .before .args .c) colorFields 0 number refl refl (c .before .before .before .before .before .before .before .before .before .fields-at .result) (c .before .before .before .before .before .before .before .before .before .fields-at .ensures colorFields color-layout) _ _ (rw (c .before .before .before .before .before .before .duration .given .1) at (c .before .before .before .before .before .before .before .before .duration-in .ensures)) in (c .before .before .before .before .before .before .before .before .before .before .before .before .before .before .pre .1 .low, (t .plain, t .held .beside .plainEasing))
 
--- src/lib.rt:196:1
 returns : tie.Need-returns
 unfolding colorFields sortRank
 returns c = end-refused (c .before .before .before .before .before .before .before .before .before .args .text .now) (c .before .before .before .before .before .before .before .before .before .args .c .at) colorSorts (c .before .before .before .before .before .before .before .before .before .args .c) colorFields (colorLeaf (spanOf (c .before .before .before .before .before .before .before .before .before .args .target)) (spanOf (c .before .before .before .before .before .before .before .before .before .args .from)) (spanOf (c .before .before .before .before .before .before .before .before .before .args .to))) 0 number refl refl (c .before .before .before .before .fields-at .result) (c .before .before .before .before .fields-at .ensures colorFields color-layout) _ _ (rw (c .before .r .given .1) at (c .before .before .before .duration-in .ensures))
 
--- src/lib.rt:196:1
 same-length : tie.Need-same-length
 same-length c = search needs
 
--- src/lib.rt:196:1
 returns-2 : tie.Need-returns-2
 unfolding colorFields sortRank
 returns-2 c = let t = timed-at (c .before .before .before .before .before .before .before .before .before .before .before .before .before .before .before .before .before .args .text .now) (c .before .before .before .before .before .before .before .before .before .before .before .before .before .before .before .before .before .args .c .at) colorSorts (c .before .before .before .before .before .before .before .before .before .before .before .before .before .before .before .before .before .args .c) colorFields 0 number refl refl (c .before .before .before .before .before .before .before .before .before .before .before .before .fields-at .result) (c .before .before .before .before .before .before .before .before .before .before .before .before .fields-at .ensures colorFields color-layout) _ _ (rw (c .before .before .before .before .before .before .before .before .before .duration .given .1) at (c .before .before .before .before .before .before .before .before .before .before .before .duration-in .ensures)) in let h = t .held in end-went (c .before .before .before .before .before .before .before .before .before .before .before .before .before .before .before .before .before .args .text .now) (c .before .before .before .before .before .before .before .before .before .before .before .before .before .before .before .before .before .args .c .at) colorSorts (c .before .before .before .before .before .before .before .before .before .before .before .before .before .before .before .before .before .args .c) colorFields (colorLeaf (spanOf (c .before .before .before .before .before .before .before .before .before .before .before .before .before .before .before .before .before .args .target)) (spanOf (c .before .before .before .before .before .before .before .before .before .before .before .before .before .before .before .before .before .args .from)) (spanOf (c .before .before .before .before .before .before .before .before .before .before .before .before .before .before .before .before .before .args .to))) _ (c .before .before .before .before .before .before .before .before .before .before .before .before .fields-at .result) _ t _ (rw (c .before .before .before .before .case-or .ensures, c .before .before .before .before .before .case-at .ensures, case-held "space" (t .fields) (keptAt (c .before .before .before .before .before .before .before .before .before .before .before .before .fields-at .result .slots) 1) (h .slots 1 ("space", space) refl), h .beside .easing)) _ _ _ _ (c .before .before .put-color .ensures)

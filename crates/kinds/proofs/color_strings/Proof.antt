@@ -1,72 +1,52 @@
+-- `kinds::color_strings` meets its contract. Assumes nothing.
 use native.Mathlib.Omega.{arith}
-use Rattle.text.specs.Bytes.{at}
 use Rattle.kinds.proofs.KindLaws.{no-color, no-color-arrow, no-color-to, strings-end}
 use borrow.Author.Needs.{needs}
 use Rattle.kinds.proofs.color_strings.Statement.{statement}
 use Rattle.kinds.proofs.color_strings.Tie as tie
-use Rattle.kinds.proofs.color_strings.Reads as reads
-use Rattle.kinds.proofs.color_strings.Lts as lts
-use Rattle.cursor.proofs.both.Reads as both-reads
-use Rattle.cursor.proofs.string.Reads as string-reads
-use Rattle.kinds.proofs.color_end.Reads as color-end-reads
 
--- src/lib.rt:234:11
 string-requires : tie.Need-string-requires
 string-requires c κs = search needs
 
--- src/lib.rt:235:27
 enum-known-p : tie.Need-enum-known-p
 enum-known-p c = search needs
 
--- src/lib.rt:236:22
 enum-known-from : tie.Need-enum-known-from
 enum-known-from c = search needs
 
--- src/lib.rt:236:40
 both-requires : tie.Need-both-requires
 both-requires c κs = (((rw (c .before .from .given .1) at (c .before .before .before .string .ensures)) .0) .ready, omega arith, omega arith)
 
--- src/lib.rt:237:31
 enum-known-p-2 : tie.Need-enum-known-p-2
 enum-known-p-2 c = search needs
 
--- src/lib.rt:238:26
 enum-known-n : tie.Need-enum-known-n
 enum-known-n c = search needs
 
--- src/lib.rt:238:38
 string-requires-2 : tie.Need-string-requires-2
 string-requires-2 c κs = (rw (c .before .n .given .1) at (c .before .before .before .both .ensures)) .ready
 
--- src/lib.rt:239:35
 enum-known-p-3 : tie.Need-enum-known-p-3
 enum-known-p-3 c = search needs
 
--- src/lib.rt:240:30
 enum-known-to : tie.Need-enum-known-to
 enum-known-to c = search needs
 
--- src/lib.rt:240:40
 color-end-requires : tie.Need-color-end-requires
 color-end-requires c κs = ((rw (c .before .before .to .given .1) at (c .before .before .before .before .string2 .ensures)) .0 .ready, c .before .before .before .before .before .before .before .before .before .before .before .before .before .before .before .pre .1)
 
--- src/lib.rt:230:1
 returns : tie.Need-returns
 returns c = no-color (c .before .before .before .before .before .before .args .text .now) (c .before .before .before .before .before .before .args .c) (c .before .before .before .before .before .before .args .target) _ (rw (c .before .p .given .1) at (c .before .before .before .string .ensures))
 
--- src/lib.rt:230:1
 returns-2 : tie.Need-returns-2
 returns-2 c = no-color-arrow (c .before .before .before .before .before .before .before .before .before .before .args .text .now) (c .before .before .before .before .before .before .before .before .before .before .args .c) _ _ ((rw (c .before .before .before .before .before .from .given .1) at (c .before .before .before .before .before .before .before .string .ensures)) .0) (c .before .before .before .before .before .before .before .before .before .before .args .target) _ (rw (c .before .p2 .given .1) at (c .before .before .before .both .ensures))
 
--- src/lib.rt:230:1
 returns-3 : tie.Need-returns-3
 returns-3 c = no-color-to (c .before .before .before .before .before .before .before .before .before .before .before .before .before .before .args .text .now) (c .before .before .before .before .before .before .before .before .before .before .before .before .before .before .args .c) _ _ ((rw (c .before .before .before .before .before .before .before .before .before .from .given .1) at (c .before .before .before .before .before .before .before .before .before .before .before .string .ensures)) .0) _ (rw (c .before .before .before .before .before .n .given .1) at (c .before .before .before .before .before .before .before .both .ensures)) (c .before .before .before .before .before .before .before .before .before .before .before .before .before .before .args .target) _ (rw (c .before .p3 .given .1) at (c .before .before .before .string2 .ensures))
 
--- src/lib.rt:230:1
 same-length : tie.Need-same-length
 same-length c = search needs
 
--- src/lib.rt:230:1
 returns-4 : tie.Need-returns-4
 returns-4 c = strings-end (c .before .before .before .before .before .before .before .before .before .before .before .before .before .before .before .before .before .before .args .text .now) (c .before .before .before .before .before .before .before .before .before .before .before .before .before .before .before .before .before .before .args .c) _ _ ((rw (c .before .before .before .before .before .before .before .before .before .before .before .before .before .from .given .1) at (c .before .before .before .before .before .before .before .before .before .before .before .before .before .before .before .string .ensures)) .0) _ (rw (c .before .before .before .before .before .before .before .before .before .n .given .1) at (c .before .before .before .before .before .before .before .before .before .before .before .both .ensures)) _ _ ((rw (c .before .before .before .before .before .to .given .1) at (c .before .before .before .before .before .before .before .string2 .ensures)) .0) _ _ _ (c .before .before .color-end .result) (c .before .before .before .before .before .before .before .before .before .before .before .before .before .before .before .before .before .before .args .target) (c .before .before .color-end .ensures)
 

@@ -1,73 +1,54 @@
-use Rattle.text.specs.Bytes.{at}
+-- `kinds::morph_end` meets its contract. Assumes nothing.
 use mathlib.Core.Path.{refl}
 use Rattle.encode.specs.Of.{spanOf}
 use Rattle.kinds.specs.Means.{morphSorts, morphLeaf}
 use Rattle.slots.specs.Means.{sortRank, keptAt}
-use Rattle.grammar.specs.Values.{number, count, flag}
-use Rattle.grammar.specs.Grammar.{morphFields, space}
-use Rattle.slots.proofs.KeptLaws.{whole-held, case-held, truth-held}
+use Rattle.grammar.specs.Values.{number, count}
+use Rattle.grammar.specs.Grammar.{morphFields}
+use Rattle.slots.proofs.KeptLaws.{whole-held}
 use Rattle.slots.proofs.TimedLaws.{timed-at}
 use Rattle.kinds.proofs.Layouts.{morph-layout}
 use Rattle.kinds.proofs.EndLaws.{end-refused, end-went}
 use borrow.Author.Needs.{needs}
 use Rattle.kinds.proofs.morph_end.Statement.{statement}
 use Rattle.kinds.proofs.morph_end.Tie as tie
-use Rattle.kinds.proofs.morph_end.Reads as reads
-use Rattle.kinds.proofs.morph_end.Lts as lts
-use Rattle.kinds.proofs.fields_at.Reads as fields-at-reads
-use Rattle.kinds.proofs.put_morph.Reads as put-morph-reads
-use Rattle.kinds.proofs.word_or.Reads as word-or-reads
-use Rattle.slots.proofs.duration_in.Reads as duration-in-reads
-use Rattle.slots.proofs.whole_at.Reads as whole-at-reads
 
--- src/lib.rt:136:32
 slice-aggregate-fields-at : tie.Need-slice-aggregate-fields-at
 slice-aggregate-fields-at c = search needs
 
--- src/lib.rt:136:45
 slice-aggregate-fields-at-2 : tie.Need-slice-aggregate-fields-at-2
 slice-aggregate-fields-at-2 c = search needs
 
--- src/lib.rt:136:9
 fields-at-requires : tie.Need-fields-at-requires
 unfolding morphFields
 fields-at-requires c κs = (c .before .before .before .before .pre .0, c .before .before .before .before .pre .1 .short, (morphFields, morph-layout))
 
--- src/lib.rt:137:11
 duration-in-requires : tie.Need-duration-in-requires
 duration-in-requires c κs = search needs
 
--- src/lib.rt:138:24
 enum-known-r : tie.Need-enum-known-r
 enum-known-r c = search needs
 
--- src/lib.rt:139:19
 enum-known-duration : tie.Need-enum-known-duration
 enum-known-duration c = search needs
 
--- src/lib.rt:143:35
 whole-at-requires : tie.Need-whole-at-requires
 whole-at-requires c κs = search needs
 
--- src/lib.rt:143:17
 word-or-requires : tie.Need-word-or-requires
 word-or-requires c κs = search needs
 
--- src/lib.rt:151:26
 put-morph-requires : tie.Need-put-morph-requires
 unfolding morphFields sortRank
 put-morph-requires c κs = let t = timed-at (c .before .before .before .before .before .before .before .before .before .before .before .before .before .before .args .text .now) (c .before .before .before .before .before .before .before .before .before .before .before .before .before .before .args .c .at) morphSorts (c .before .before .before .before .before .before .before .before .before .before .before .before .before .before .args .c) morphFields 1 number refl refl (c .before .before .before .before .before .before .before .before .before .fields-at .result) (c .before .before .before .before .before .before .before .before .before .fields-at .ensures morphFields morph-layout) _ _ (rw (c .before .before .before .before .before .before .duration .given .1) at (c .before .before .before .before .before .before .before .before .duration-in .ensures)) in (c .before .before .before .before .before .before .before .before .before .before .before .before .before .before .pre .1 .low, (t .plain, t .held .beside .plainEasing))
 
--- src/lib.rt:132:1
 returns : tie.Need-returns
 unfolding morphFields sortRank
 returns c = end-refused (c .before .before .before .before .before .before .before .before .before .args .text .now) (c .before .before .before .before .before .before .before .before .before .args .c .at) morphSorts (c .before .before .before .before .before .before .before .before .before .args .c) morphFields (morphLeaf (spanOf (c .before .before .before .before .before .before .before .before .before .args .from)) (spanOf (c .before .before .before .before .before .before .before .before .before .args .to))) 1 number refl refl (c .before .before .before .before .fields-at .result) (c .before .before .before .before .fields-at .ensures morphFields morph-layout) _ _ (rw (c .before .r .given .1) at (c .before .before .before .duration-in .ensures))
 
--- src/lib.rt:132:1
 same-length : tie.Need-same-length
 same-length c = search needs
 
--- src/lib.rt:132:1
 returns-2 : tie.Need-returns-2
 unfolding morphFields sortRank
 returns-2 c = let t = timed-at (c .before .before .before .before .before .before .before .before .before .before .before .before .before .before .before .before .before .args .text .now) (c .before .before .before .before .before .before .before .before .before .before .before .before .before .before .before .before .before .args .c .at) morphSorts (c .before .before .before .before .before .before .before .before .before .before .before .before .before .before .before .before .before .args .c) morphFields 1 number refl refl (c .before .before .before .before .before .before .before .before .before .before .before .before .fields-at .result) (c .before .before .before .before .before .before .before .before .before .before .before .before .fields-at .ensures morphFields morph-layout) _ _ (rw (c .before .before .before .before .before .before .before .before .before .duration .given .1) at (c .before .before .before .before .before .before .before .before .before .before .before .duration-in .ensures)) in let h = t .held in end-went (c .before .before .before .before .before .before .before .before .before .before .before .before .before .before .before .before .before .args .text .now) (c .before .before .before .before .before .before .before .before .before .before .before .before .before .before .before .before .before .args .c .at) morphSorts (c .before .before .before .before .before .before .before .before .before .before .before .before .before .before .before .before .before .args .c) morphFields (morphLeaf (spanOf (c .before .before .before .before .before .before .before .before .before .before .before .before .before .before .before .before .before .args .from)) (spanOf (c .before .before .before .before .before .before .before .before .before .before .before .before .before .before .before .before .before .args .to))) _ (c .before .before .before .before .before .before .before .before .before .before .before .before .fields-at .result) _ t _ (rw (c .before .before .before .before .word-or .ensures, c .before .before .before .before .before .whole-at .ensures, whole-held "samples" (t .fields) (keptAt (c .before .before .before .before .before .before .before .before .before .before .before .before .fields-at .result .slots) 0) (h .slots 0 ("samples", count) refl), h .beside .easing)) _ _ _ _ (c .before .before .put-morph .ensures)

@@ -1,5 +1,5 @@
+-- `kinds::parse_waveform` meets its contract. Assumes nothing.
 use native.Mathlib.Omega.{arith}
-use Rattle.text.specs.Bytes.{at}
 use Rattle.error.specs.declared.Refusal.the-variants.{Malformed}
 use Rattle.grammar.specs.Grammar.{waveformKind}
 use Rattle.text.specs.Words.{entries}
@@ -8,46 +8,33 @@ use Rattle.kinds.proofs.KindLaws.{no-waveform, waveform-node}
 use borrow.Author.Needs.{needs}
 use Rattle.kinds.proofs.parse_waveform.Statement.{statement}
 use Rattle.kinds.proofs.parse_waveform.Tie as tie
-use Rattle.kinds.proofs.parse_waveform.Reads as reads
-use Rattle.kinds.proofs.parse_waveform.Lts as lts
-use Rattle.cursor.proofs.choice.Reads as choice-reads
-use Rattle.kinds.proofs.waveform_end.Reads as waveform-end-reads
 
--- src/lib.rt:406:35
 slice-aggregate-choice : tie.Need-slice-aggregate-choice
 slice-aggregate-choice c = search needs
 
--- src/lib.rt:406:11
 choice-requires : tie.Need-choice-requires
 choice-requires c κs = search needs
 
--- src/lib.rt:407:27
 enum-known-r : tie.Need-enum-known-r
 enum-known-r c = search needs
 
--- src/lib.rt:408:22
 enum-known-i : tie.Need-enum-known-i
 enum-known-i c = search needs
 
--- src/lib.rt:408:65
 cast-waveform-end : tie.Need-cast-waveform-end
 unfolding entries
 cast-waveform-end c = let b = choice-below (c .before .before .before .before .before .before .before .before .args .text .now) (c .before .before .before .before .before .before .before .before .args .c) _ Malformed _ _ (rw (c .before .before .i .given .1) at (c .before .before .before .before .choice .ensures)) in omega arith
 
--- src/lib.rt:408:31
 waveform-end-requires : tie.Need-waveform-end-requires
 waveform-end-requires c κs = ((rw (c .before .before .i .given .1) at (c .before .before .before .before .choice .ensures)) .ready, c .before .before .before .before .before .before .before .before .pre .1)
 
--- src/lib.rt:402:1
 returns : tie.Need-returns
 unfolding entries waveformKind
 returns c = no-waveform (c .before .before .before .before .before .before .before .args .text .now) (c .before .before .before .before .before .before .before .args .c) _ _ (rw (c .before .r .given .1) at (c .before .before .before .choice .ensures))
 
--- src/lib.rt:402:1
 same-length : tie.Need-same-length
 same-length c = search needs
 
--- src/lib.rt:402:1
 returns-2 : tie.Need-returns-2
 unfolding entries waveformKind
 returns-2 c = waveform-node (c .before .before .before .before .before .before .before .before .before .before .before .args .text .now) (c .before .before .before .before .before .before .before .before .before .before .before .args .c) _ _ (rw (c .before .before .before .before .before .i .given .1) at (c .before .before .before .before .before .before .before .choice .ensures)) _ _ _ (c .before .before .waveform-end .result) (c .before .before .waveform-end .ensures)
