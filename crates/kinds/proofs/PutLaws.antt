@@ -4,7 +4,7 @@ use mathlib.Core.Option.{Option}
 use mathlib.Core.Bool.{Bool}
 use native.Mathlib.Omega.{arith}
 use lib.ListN.{length, length-append}
-use Rattle.codec.specs.Codec.{opt}
+use Rattle.codec.specs.Codec.{opt, _▹_}
 use Rattle.ast.specs.Tree.{EasingSpec, LoopSpec}
 use Rattle.sheet.specs.Sheet.{word, flag, easingForm, loopForm}
 use Rattle.encode.proofs.FieldLaws.{length-word, length-flag}
