@@ -8,7 +8,7 @@ use lib.ListN.{length, length-append}
 use Rattle.ast.specs.Tree as tree
 use Rattle.ast.specs.Tree.{ValueExpr}
 use Rattle.ast.specs.declared.Span.{Span}
-use Rattle.codec.specs.Codec.{opt}
+use Rattle.codec.specs.Codec.{opt, below}
 use Rattle.sheet.specs.Sheet
 use Rattle.sheet.specs.Sheet.{spanForm, valueForm}
 use Rattle.encode.specs.Of.{spanOf}
@@ -132,3 +132,6 @@ eight a b c d e f g h = rw (length-append, length-append, length-append, length-
 
 pub word-most : (o : Option ℕ) → length (opt Sheet.word .write o) ≤ 5
 word-most o = opt-most Sheet.word 4 (λ v. omega (arith, length-word v)) o
+
+pub case-most : (n : ℕ) (o : Option ℕ) → length (opt (below n) .write o) ≤ 2
+case-most n o = opt-most (below n) 1 (λ v. omega arith) o

@@ -1,14 +1,15 @@
 -- What tween and spring begin with, their fields, and what is written. Contracts cite these. Assumes nothing.
 use Prim.Native.Nat.{ℕ, _+_, _*_, _-_, _≤_}
 use mathlib.Core.List.{List, [], _∷_, _++_}
+use mathlib.Core.Option.{Option}
 use mathlib.Core.Path.{_≡_}
 use lib.Ieee.{Float}
 use lib.ListN.{length}
 use Rattle.number.specs.Number.{bits}
-use Rattle.codec.specs.Codec.{opt}
+use Rattle.codec.specs.Codec.{opt, below}
 use Rattle.ast.specs.Tree.{Span, ValueExpr}
-use Rattle.sheet.specs.Sheet.{word, flag, spanForm, valueForm, easingForm, loopForm}
-use Rattle.encode.specs.Of.{Plain, PlainOptFloat, PlainOptEasing, spanOf, optFloatOf, optWordOf, optEasingOf, optLoopOf}
+use Rattle.sheet.specs.Sheet.{word, flag, spanForm, valueForm, easingForm, loopForm, dampingForm}
+use Rattle.encode.specs.Of.{Plain, PlainOptFloat, PlainOptEasing, PlainOptDamping, spanOf, optFloatOf, optWordOf, optCaseOf, optEasingOf, optLoopOf, optDampingOf}
 use Rattle.encode.specs.Writes.{Writes}
 use Rattle.error.specs.declared.Refusal.the-variants.{Missing}
 use Rattle.grammar.specs.Rule.{Rule, refused, give, the, both, _>>=_, _>>_}
@@ -20,10 +21,12 @@ use Rattle.cursor.specs.declared.WordRead.the-variants as words
 use Rattle.arrays.specs.Means.{Went}
 use Rattle.arrays.specs.declared.ValueRead.{ValueRead}
 use Rattle.arrays.specs.declared.ValueRead.the-variants as value
-use Rattle.slots.specs.Means.{everOf, keptAt, floatIn, wholeIn}
+use Rattle.slots.specs.Means.{everOf, keptAt, floatIn, wholeIn, caseIn, PlaceSays}
 use Rattle.slots.specs.declared.Slot.{Slot}
+use Rattle.slots.specs.declared.OptPlace.{OptPlace}
 use Rattle.slots.specs.declared.Others.{Others}
 use Rattle.tweens.specs.declared.TweenFields.{TweenFields}
+use Rattle.tweens.specs.declared.SpringFields.{SpringFields}
 
 -- ---- what both begin with
 
@@ -104,3 +107,47 @@ tweenBytes n x =
     ++ (opt word .write (optFloatOf (x .snap))
     ++ (opt word .write (optWordOf (x .round))
     ++ flag .write (x .reverse)))))))
+
+-- ---- spring
+
+-- the sorts of springFields
+abbrev pub springSorts : List ℕ
+springSorts = 3 ∷ 0 ∷ 0 ∷ 0 ∷ 13 ∷ 0 ∷ 4 ∷ 10 ∷ 11 ∷ 12 ∷ []
+
+-- what the slots and the values beside them keep
+abbrev pub springFrom : List Slot → Others → SpringFields
+springFrom xs o = record {
+  preset = caseIn (keptAt xs 0);
+  stiffness = floatIn (keptAt xs 1);
+  damping = floatIn (keptAt xs 2);
+  mass = floatIn (keptAt xs 3);
+  velocity = o .velocity;
+  epsilon = floatIn (keptAt xs 5);
+  integrator = caseIn (keptAt xs 6);
+  «damping_mode» = o .damping;
+}
+
+-- a value stands at the place that is kept of one
+abbrev pub Told : List ℕ → OptPlace → Type 0
+Told s p = (v : Option ValueExpr) × (lo : ℕ) × (hi : ℕ) × PlaceSays s lo hi p v
+
+-- the velocity v is written; a text of 16,384 bytes has none of more
+pub record VelocityPut (b a : List ℕ) (at : ℕ) (v : Option ValueExpr) (q : ℕ) : Type 0 where
+  pub writes : Writes b at (opt valueForm .write v) a q
+  pub most : q ≤ at + 1 + 64 * 16384
+
+abbrev pub PlainSpring : SpringFields → Type 0
+PlainSpring x =
+    PlainOptFloat (x .stiffness) × PlainOptFloat (x .damping) × PlainOptFloat (x .mass) × PlainOptFloat (x .epsilon) × PlainOptDamping (x .«damping_mode»)
+
+-- the end of a spring's record, v being the velocity
+abbrev pub springBytes : SpringFields → Option ValueExpr → List ℕ
+springBytes x v =
+    opt (below 5) .write (optCaseOf (x .preset))
+    ++ (opt word .write (optFloatOf (x .stiffness))
+    ++ (opt word .write (optFloatOf (x .damping))
+    ++ (opt word .write (optFloatOf (x .mass))
+    ++ (opt valueForm .write v
+    ++ (opt word .write (optFloatOf (x .epsilon))
+    ++ (opt (below 2) .write (optCaseOf (x .integrator))
+    ++ opt dampingForm .write (optDampingOf (x .«damping_mode»))))))))

@@ -5,14 +5,18 @@ ghost use mathlib.Core.Path.{_≡_};
 ghost use mathlib.Core.List.{List, []};
 ghost use Prim.Native.Nat.{ℕ, _+_, _≤_, _<_, _^_};
 ghost use lib.ListN.{length};
-ghost use Rattle.grammar.specs.Grammar.{parseTween, tweenFields};
+ghost use Rattle.grammar.specs.Grammar.{parseTween, tweenFields, parseSpring, springFields};
 ghost use Rattle.encode.specs.Writes.{Writes};
 ghost use Rattle.cursor.specs.Means.{Ready};
 ghost use Rattle.arrays.specs.Means.{Room, Wide};
 ghost use Rattle.nodes.specs.Means.{LeafMeans};
-ghost use Rattle.slots.specs.Means.{ListMeans};
-ghost use Rattle.tweens.specs.Means.{TargetMeans, PairMeans, EndsMeans, tweenSorts, tweenFrom, PlainTween, tweenBytes};
+ghost use Rattle.slots.specs.Means.{ListMeans, PlaceSays};
+ghost use Rattle.ast.specs.Tree.{ValueExpr};
+ghost use mathlib.Core.Option.{Option};
+ghost use Rattle.tweens.specs.Means.{TargetMeans, PairMeans, EndsMeans, tweenSorts, tweenFrom, PlainTween, tweenBytes, springSorts, springFrom, Told, VelocityPut, PlainSpring, springBytes};
 use arrays::ValueRead;
+use ast::OptCase;
+use ast::OptDamping;
 use ast::OptEasing;
 use ast::OptF32;
 use ast::OptLoop;
@@ -22,7 +26,9 @@ use cursor::MarkRead;
 use cursor::WordRead;
 use error::Refusal;
 use nodes::NodeRead;
+use slots::Ended;
 use slots::Gathered;
+use slots::OptPlace;
 use slots::Others;
 use slots::Slot;
 use slots::Timed;
@@ -159,6 +165,111 @@ pub fn parse_tween(text: &[u8], sheet: &mut [u8], c: Cursor, out: usize) -> Node
                     let others = g.others;
                     let fields = tween_from(kept, others, duration);
                     NodeRead::Is(put_tween_fields(sheet, at, fields), e)
+                }
+            }
+        }
+    }
+}
+
+// ---- spring
+
+const SPRING_ROWS: [u8; 99] = *b"\x06preset\x09stiffness\x07damping\x04mass\x08velocity\x07epsilon\x0aintegrator\x11critically_damped\x0aoverdamped\x0bunderdamped";
+
+const SPRING_SORTS: [u8; 10] = *b"\x03\x00\x00\x00\x0d\x00\x04\x0a\x0b\x0c";
+
+// What a spring's fields say. The velocity is the cursor before it.
+pub struct SpringFields {
+    pub preset: OptCase,
+    pub stiffness: OptF32,
+    pub damping: OptF32,
+    pub mass: OptF32,
+    pub velocity: OptPlace,
+    pub epsilon: OptF32,
+    pub integrator: OptCase,
+    pub damping_mode: OptDamping,
+}
+
+fn spring_fields(text: &[u8], c: Cursor) -> Gathered
+    requires { ⌜ Ready (now text) c × (length (now text) ≤ 16384) ⌝ }
+    ensures { λ r. ⌜ ListMeans (now (text .entry)) (c .at) springSorts c springFields [] r ⌝ }
+{
+    slots::field_list(text, c, &SPRING_ROWS, &SPRING_SORTS, slots::no_slots(), slots::no_others())
+}
+
+// What is kept of the fields, in the record's order.
+fn spring_from(kept: [Slot; 10], others: Others) -> SpringFields
+    ensures { λ r. ⌜ r ≡ springFrom kept others ⌝ }
+{
+    let velocity = others.velocity;
+    let damping_mode = others.damping;
+    SpringFields {
+        preset: slots::case_at(kept, 0),
+        stiffness: slots::float_at(kept, 1),
+        damping: slots::float_at(kept, 2),
+        mass: slots::float_at(kept, 3),
+        velocity,
+        epsilon: slots::float_at(kept, 5),
+        integrator: slots::case_at(kept, 6),
+        damping_mode,
+    }
+}
+
+// Writes the velocity, read again from its cursor. A value stands there, so it is not refused.
+fn put_velocity(text: &[u8], sheet: &mut [u8], at: usize, velocity: OptPlace) -> usize
+    requires { ⌜ Wide (now text) (at + 64) × Told (now text) velocity ⌝ }
+    ensures { λ r. ⌜ ((lo hi : ℕ) (v : Option ValueExpr) → PlaceSays (now (text .entry)) lo hi velocity v → VelocityPut (now (sheet .entry)) (now (sheet .exit)) at v r) ⌝ }
+{
+    match velocity {
+        OptPlace::Absent => encode::put_byte(sheet, at, 0),
+        OptPlace::Present(c) => {
+            let value_at = encode::put_byte(sheet, at, 1);
+            match arrays::parse_value(text, sheet, c, value_at) {
+                ValueRead::Refused(_, _) => value_at,
+                ValueRead::Is(end, _) => end,
+            }
+        }
+    }
+}
+
+// Writes a spring's fields behind its values.
+fn put_spring_fields(text: &[u8], sheet: &mut [u8], at: usize, x: SpringFields) -> usize
+    requires { ⌜ (length (now text) ≤ 16384) × (at < 2 ^ 30 + 2 ^ 20) × PlainSpring x × Told (now text) (x .velocity) ⌝ }
+    ensures { λ r. ⌜ ((lo hi : ℕ) (v : Option ValueExpr) → PlaceSays (now (text .entry)) lo hi (x .velocity) v → Writes (now (sheet .entry)) at (springBytes x v) (now (sheet .exit)) r) ⌝ }
+{
+    let preset = x.preset;
+    let stiffness = x.stiffness;
+    let damping = x.damping;
+    let mass = x.mass;
+    let velocity = x.velocity;
+    let epsilon = x.epsilon;
+    let integrator = x.integrator;
+    let damping_mode = x.damping_mode;
+    let stiffness_at = encode::put_opt_case(sheet, at, preset);
+    let damping_at = encode::put_opt_float(sheet, stiffness_at, stiffness);
+    let mass_at = encode::put_opt_float(sheet, damping_at, damping);
+    let velocity_at = encode::put_opt_float(sheet, mass_at, mass);
+    let epsilon_at = put_velocity(text, sheet, velocity_at, velocity);
+    let integrator_at = encode::put_opt_float(sheet, epsilon_at, epsilon);
+    let mode_at = encode::put_opt_case(sheet, integrator_at, integrator);
+    encode::put_opt_damping(sheet, mode_at, damping_mode)
+}
+
+pub fn parse_spring(text: &[u8], sheet: &mut [u8], c: Cursor, out: usize) -> NodeRead
+    requires { ⌜ Ready (now text) c × Room (now text) out ⌝ }
+    ensures { λ r. ⌜ LeafMeans (now (text .entry)) (now (sheet .entry)) (now (sheet .exit)) c out parseSpring r ⌝ }
+{
+    match parse_ends(text, sheet, c, 1, out) {
+        ValueRead::Refused(r, p) => NodeRead::Refused(r, p),
+        ValueRead::Is(at, m) => {
+            let g = spring_fields(text, m);
+            let end = g.end;
+            match end {
+                Ended::Refused(r, p) => NodeRead::Refused(r, p),
+                Ended::Is(e) => {
+                    let kept = g.slots;
+                    let others = g.others;
+                    let fields = spring_from(kept, others);
+                    NodeRead::Is(put_spring_fields(text, sheet, at, fields), e)
                 }
             }
         }
