@@ -1,0 +1,4 @@
+pub mod EndsLaws
+pub mod TweenLaws
+pub mod PaidLaws
+pub mod SpringLaws
