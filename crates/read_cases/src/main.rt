@@ -7,7 +7,7 @@ use libc::STDOUT_FILENO;
 
 // The text has room for a byte more than the longest case, so that a longer one is still too long.
 fn main() {
-    let mut part = io::large_buffer();
+    let mut part = io::buffer();
     let mut text = [0u8; 16386];
     answer_input(&mut part, &mut text);
 }
