@@ -173,7 +173,8 @@ pub fn parse_tween(text: &[u8], sheet: &mut [u8], c: Cursor, out: usize) -> Node
 
 // ---- spring
 
-const SPRING_ROWS: [u8; 99] = *b"\x06preset\x09stiffness\x07damping\x04mass\x08velocity\x07epsilon\x0aintegrator\x11critically_damped\x0aoverdamped\x0bunderdamped";
+const SPRING_ROWS: [u8; 99] =
+    *b"\x06preset\x09stiffness\x07damping\x04mass\x08velocity\x07epsilon\x0aintegrator\x11critically_damped\x0aoverdamped\x0bunderdamped";
 
 const SPRING_SORTS: [u8; 10] = *b"\x03\x00\x00\x00\x0d\x00\x04\x0a\x0b\x0c";
 
@@ -193,7 +194,14 @@ fn spring_fields(text: &[u8], c: Cursor) -> Gathered
     requires { ⌜ Ready (now text) c × (length (now text) ≤ 16384) ⌝ }
     ensures { λ r. ⌜ ListMeans (now (text .entry)) (c .at) springSorts c springFields [] r ⌝ }
 {
-    slots::field_list(text, c, &SPRING_ROWS, &SPRING_SORTS, slots::no_slots(), slots::no_others())
+    slots::field_list(
+        text,
+        c,
+        &SPRING_ROWS,
+        &SPRING_SORTS,
+        slots::no_slots(),
+        slots::no_others(),
+    )
 }
 
 // What is kept of the fields, in the record's order.

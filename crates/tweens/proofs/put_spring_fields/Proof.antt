@@ -1,3 +1,4 @@
+-- `tweens::put_spring_fields` meets its contract. Assumes nothing.
 use native.Mathlib.Omega.{arith}
 use Rattle.tweens.proofs.EndsLaws.{case-most, word-most}
 use Rattle.encode.specs.Of.{optCaseOf, optFloatOf}
@@ -5,50 +6,34 @@ use Rattle.encode.proofs.OverLaws.{writes-then}
 use borrow.Author.Needs.{needs}
 use Rattle.tweens.proofs.put_spring_fields.Statement.{statement}
 use Rattle.tweens.proofs.put_spring_fields.Tie as tie
-use Rattle.tweens.proofs.put_spring_fields.Reads as reads
-use Rattle.tweens.proofs.put_spring_fields.Lts as lts
-use Rattle.encode.proofs.put_opt_case.Reads as put-opt-case-reads
-use Rattle.encode.proofs.put_opt_damping.Reads as put-opt-damping-reads
-use Rattle.encode.proofs.put_opt_float.Reads as put-opt-float-reads
-use Rattle.tweens.proofs.put_velocity.Reads as put-velocity-reads
 
--- src/lib.rt:247:9
 put-opt-case-requires : tie.Need-put-opt-case-requires
 put-opt-case-requires c κs = search needs
 
--- src/lib.rt:248:9
 put-opt-float-requires : tie.Need-put-opt-float-requires
 put-opt-float-requires c κs = (omega (arith, c .before .before .before .before .before .before .before .pre .1, c .before .before .before .put-opt-case .ensures 5 .place, case-most 5 (optCaseOf (c .before .before .before .before .before .before .before .args .x .preset))), c .before .before .before .before .before .before .before .pre .2 .0)
 
--- src/lib.rt:249:9
 put-opt-float-requires-2 : tie.Need-put-opt-float-requires-2
 put-opt-float-requires-2 c κs = (omega (arith, c .before .before .before .before .before .before .before .before .before .before .before .pre .1, c .before .before .before .before .before .before .before .put-opt-case .ensures 5 .place, case-most 5 (optCaseOf (c .before .before .before .before .before .before .before .before .before .before .before .args .x .preset)), c .before .before .before .put-opt-float .ensures .place, word-most (optFloatOf (c .before .before .before .before .before .before .before .before .before .before .before .args .x .stiffness))), c .before .before .before .before .before .before .before .before .before .before .before .pre .2 .1)
 
--- src/lib.rt:250:9
 put-opt-float-requires-3 : tie.Need-put-opt-float-requires-3
 put-opt-float-requires-3 c κs = (omega (arith, c .before .before .before .before .before .before .before .before .before .before .before .before .before .before .before .pre .1, c .before .before .before .before .before .before .before .before .before .before .before .put-opt-case .ensures 5 .place, case-most 5 (optCaseOf (c .before .before .before .before .before .before .before .before .before .before .before .before .before .before .before .args .x .preset)), c .before .before .before .before .before .before .before .put-opt-float .ensures .place, word-most (optFloatOf (c .before .before .before .before .before .before .before .before .before .before .before .before .before .before .before .args .x .stiffness)), c .before .before .before .put-opt-float2 .ensures .place, word-most (optFloatOf (c .before .before .before .before .before .before .before .before .before .before .before .before .before .before .before .args .x .damping))), c .before .before .before .before .before .before .before .before .before .before .before .before .before .before .before .pre .2 .2)
 
--- src/lib.rt:251:9
 put-velocity-requires : tie.Need-put-velocity-requires
 put-velocity-requires c κs = (record { short = c .before .before .before .before .before .before .before .before .before .before .before .before .before .before .before .before .before .before .before .pre .0; low = omega (arith, c .before .before .before .before .before .before .before .before .before .before .before .before .before .before .before .before .before .before .before .pre .1, c .before .before .before .before .before .before .before .before .before .before .before .before .before .before .before .put-opt-case .ensures 5 .place, case-most 5 (optCaseOf (c .before .before .before .before .before .before .before .before .before .before .before .before .before .before .before .before .before .before .before .args .x .preset)), c .before .before .before .before .before .before .before .before .before .before .before .put-opt-float .ensures .place, word-most (optFloatOf (c .before .before .before .before .before .before .before .before .before .before .before .before .before .before .before .before .before .before .before .args .x .stiffness)), c .before .before .before .before .before .before .before .put-opt-float2 .ensures .place, word-most (optFloatOf (c .before .before .before .before .before .before .before .before .before .before .before .before .before .before .before .before .before .before .before .args .x .damping)), c .before .before .before .put-opt-float3 .ensures .place, word-most (optFloatOf (c .before .before .before .before .before .before .before .before .before .before .before .before .before .before .before .before .before .before .before .args .x .mass))) }, c .before .before .before .before .before .before .before .before .before .before .before .before .before .before .before .before .before .before .before .pre .3)
 
--- src/lib.rt:252:9
 put-opt-float-requires-4 : tie.Need-put-opt-float-requires-4
 put-opt-float-requires-4 c κs = (omega (arith, c .before .before .before .before .before .before .before .before .before .before .before .before .before .before .before .before .before .before .before .before .before .before .before .pre .1, c .before .before .before .before .before .before .before .before .before .before .before .before .before .before .before .before .before .before .before .put-opt-case .ensures 5 .place, case-most 5 (optCaseOf (c .before .before .before .before .before .before .before .before .before .before .before .before .before .before .before .before .before .before .before .before .before .before .before .args .x .preset)), c .before .before .before .before .before .before .before .before .before .before .before .before .before .before .before .put-opt-float .ensures .place, word-most (optFloatOf (c .before .before .before .before .before .before .before .before .before .before .before .before .before .before .before .before .before .before .before .before .before .before .before .args .x .stiffness)), c .before .before .before .before .before .before .before .before .before .before .before .put-opt-float2 .ensures .place, word-most (optFloatOf (c .before .before .before .before .before .before .before .before .before .before .before .before .before .before .before .before .before .before .before .before .before .before .before .args .x .damping)), c .before .before .before .before .before .before .before .put-opt-float3 .ensures .place, word-most (optFloatOf (c .before .before .before .before .before .before .before .before .before .before .before .before .before .before .before .before .before .before .before .before .before .before .before .args .x .mass)), c .before .before .before .put-velocity .ensures (c .before .before .before .before .before .before .before .before .before .before .before .before .before .before .before .before .before .before .before .before .before .before .before .pre .3 .1) (c .before .before .before .before .before .before .before .before .before .before .before .before .before .before .before .before .before .before .before .before .before .before .before .pre .3 .2) (c .before .before .before .before .before .before .before .before .before .before .before .before .before .before .before .before .before .before .before .before .before .before .before .pre .3 .0) (c .before .before .before .before .before .before .before .before .before .before .before .before .before .before .before .before .before .before .before .before .before .before .before .pre .3 .3) .most), c .before .before .before .before .before .before .before .before .before .before .before .before .before .before .before .before .before .before .before .before .before .before .before .pre .2 .3)
 
--- src/lib.rt:253:9
 put-opt-case-requires-2 : tie.Need-put-opt-case-requires-2
 put-opt-case-requires-2 c κs = omega (arith, c .before .before .before .before .before .before .before .before .before .before .before .before .before .before .before .before .before .before .before .before .before .before .before .before .before .before .before .pre .1, c .before .before .before .before .before .before .before .before .before .before .before .before .before .before .before .before .before .before .before .before .before .before .before .put-opt-case .ensures 5 .place, case-most 5 (optCaseOf (c .before .before .before .before .before .before .before .before .before .before .before .before .before .before .before .before .before .before .before .before .before .before .before .before .before .before .before .args .x .preset)), c .before .before .before .before .before .before .before .before .before .before .before .before .before .before .before .before .before .before .before .put-opt-float .ensures .place, word-most (optFloatOf (c .before .before .before .before .before .before .before .before .before .before .before .before .before .before .before .before .before .before .before .before .before .before .before .before .before .before .before .args .x .stiffness)), c .before .before .before .before .before .before .before .before .before .before .before .before .before .before .before .put-opt-float2 .ensures .place, word-most (optFloatOf (c .before .before .before .before .before .before .before .before .before .before .before .before .before .before .before .before .before .before .before .before .before .before .before .before .before .before .before .args .x .damping)), c .before .before .before .before .before .before .before .before .before .before .before .put-opt-float3 .ensures .place, word-most (optFloatOf (c .before .before .before .before .before .before .before .before .before .before .before .before .before .before .before .before .before .before .before .before .before .before .before .before .before .before .before .args .x .mass)), c .before .before .before .before .before .before .before .put-velocity .ensures (c .before .before .before .before .before .before .before .before .before .before .before .before .before .before .before .before .before .before .before .before .before .before .before .before .before .before .before .pre .3 .1) (c .before .before .before .before .before .before .before .before .before .before .before .before .before .before .before .before .before .before .before .before .before .before .before .before .before .before .before .pre .3 .2) (c .before .before .before .before .before .before .before .before .before .before .before .before .before .before .before .before .before .before .before .before .before .before .before .before .before .before .before .pre .3 .0) (c .before .before .before .before .before .before .before .before .before .before .before .before .before .before .before .before .before .before .before .before .before .before .before .before .before .before .before .pre .3 .3) .most, c .before .before .before .put-opt-float4 .ensures .place, word-most (optFloatOf (c .before .before .before .before .before .before .before .before .before .before .before .before .before .before .before .before .before .before .before .before .before .before .before .before .before .before .before .args .x .epsilon)))
 
--- src/lib.rt:254:5
 put-opt-damping-requires : tie.Need-put-opt-damping-requires
 put-opt-damping-requires c κs = (omega (arith, c .before .before .before .before .before .before .before .before .before .before .before .before .before .before .before .before .before .before .before .before .before .before .before .before .before .before .before .before .before .before .before .pre .1, c .before .before .before .before .before .before .before .before .before .before .before .before .before .before .before .before .before .before .before .before .before .before .before .before .before .before .before .put-opt-case .ensures 5 .place, case-most 5 (optCaseOf (c .before .before .before .before .before .before .before .before .before .before .before .before .before .before .before .before .before .before .before .before .before .before .before .before .before .before .before .before .before .before .before .args .x .preset)), c .before .before .before .before .before .before .before .before .before .before .before .before .before .before .before .before .before .before .before .before .before .before .before .put-opt-float .ensures .place, word-most (optFloatOf (c .before .before .before .before .before .before .before .before .before .before .before .before .before .before .before .before .before .before .before .before .before .before .before .before .before .before .before .before .before .before .before .args .x .stiffness)), c .before .before .before .before .before .before .before .before .before .before .before .before .before .before .before .before .before .before .before .put-opt-float2 .ensures .place, word-most (optFloatOf (c .before .before .before .before .before .before .before .before .before .before .before .before .before .before .before .before .before .before .before .before .before .before .before .before .before .before .before .before .before .before .before .args .x .damping)), c .before .before .before .before .before .before .before .before .before .before .before .before .before .before .before .put-opt-float3 .ensures .place, word-most (optFloatOf (c .before .before .before .before .before .before .before .before .before .before .before .before .before .before .before .before .before .before .before .before .before .before .before .before .before .before .before .before .before .before .before .args .x .mass)), c .before .before .before .before .before .before .before .before .before .before .before .put-velocity .ensures (c .before .before .before .before .before .before .before .before .before .before .before .before .before .before .before .before .before .before .before .before .before .before .before .before .before .before .before .before .before .before .before .pre .3 .1) (c .before .before .before .before .before .before .before .before .before .before .before .before .before .before .before .before .before .before .before .before .before .before .before .before .before .before .before .before .before .before .before .pre .3 .2) (c .before .before .before .before .before .before .before .before .before .before .before .before .before .before .before .before .before .before .before .before .before .before .before .before .before .before .before .before .before .before .before .pre .3 .0) (c .before .before .before .before .before .before .before .before .before .before .before .before .before .before .before .before .before .before .before .before .before .before .before .before .before .before .before .before .before .before .before .pre .3 .3) .most, c .before .before .before .before .before .before .before .put-opt-float4 .ensures .place, word-most (optFloatOf (c .before .before .before .before .before .before .before .before .before .before .before .before .before .before .before .before .before .before .before .before .before .before .before .before .before .before .before .before .before .before .before .args .x .epsilon)), c .before .before .before .put-opt-case2 .ensures 2 .place, case-most 2 (optCaseOf (c .before .before .before .before .before .before .before .before .before .before .before .before .before .before .before .before .before .before .before .before .before .before .before .before .before .before .before .before .before .before .before .args .x .integrator))), c .before .before .before .before .before .before .before .before .before .before .before .before .before .before .before .before .before .before .before .before .before .before .before .before .before .before .before .before .before .before .before .pre .2 .4)
 
--- src/lib.rt:235:1
 same-length : tie.Need-same-length
 same-length c = search needs
 
--- src/lib.rt:235:1
 returns : tie.Need-returns
 returns c = λ lo hi v h. writes-then (c .before .before .before .before .before .before .before .before .before .before .before .before .before .before .before .before .before .before .before .before .before .before .before .before .before .before .before .before .before .before .put-opt-case .ensures 5) (writes-then (c .before .before .before .before .before .before .before .before .before .before .before .before .before .before .before .before .before .before .before .before .before .before .before .before .before .before .put-opt-float .ensures) (writes-then (c .before .before .before .before .before .before .before .before .before .before .before .before .before .before .before .before .before .before .before .before .before .before .put-opt-float2 .ensures) (writes-then (c .before .before .before .before .before .before .before .before .before .before .before .before .before .before .before .before .before .before .put-opt-float3 .ensures) (writes-then (c .before .before .before .before .before .before .before .before .before .before .before .before .before .before .put-velocity .ensures lo hi v h .writes) (writes-then (c .before .before .before .before .before .before .before .before .before .before .put-opt-float4 .ensures) (writes-then (c .before .before .before .before .before .before .put-opt-case2 .ensures 2) (c .before .before .put-opt-damping .ensures)))))))
 
