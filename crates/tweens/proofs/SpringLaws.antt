@@ -1,5 +1,4 @@
 -- A spring is read and written. Assumes nothing.
--- ---- the velocity
 use Prim.Native.Nat.{ℕ, _+_, _*_, _-_, _≤_}
 use mathlib.Core.List.{List, [], _∷_}
 use mathlib.Core.Option.{Option}
@@ -37,6 +36,8 @@ use Rattle.tweens.specs.Means.{Ends, theEnds, EndsWent, springSorts, spr
 use Rattle.tweens.specs.declared.SpringFields.{SpringFields}
 use Rattle.tweens.proofs.EndsLaws.{flat-run, record-written, eight, word-most, case-most}
 use Rattle.tweens.proofs.PaidLaws.{value-paid}
+
+-- ---- the velocity
 
 module _ (s : List ℕ) (at : ℕ) (lo hi : ℕ) (v : Option ValueExpr) where
   pub velocity-absent : {b a : List ℕ} {q : ℕ} → Writes b at (0 ∷ []) a q → PlaceSays s lo hi optPlace.Absent v → VelocityPut b a at v q

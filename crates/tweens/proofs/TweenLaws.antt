@@ -1,5 +1,4 @@
 -- A tween is read and written. Assumes nothing.
--- what stands behind the values
 use Prim.Native.Nat.{ℕ, _≤_}
 use mathlib.Core.List.{List, []}
 use mathlib.Core.Path.{_≡_, refl, _∙_}
@@ -52,6 +51,7 @@ tweenLeaf e fs d = Leaf.tween (record {
   reverse = ever "reverse" fs;
 })
 
+-- what stands behind the values
 abbrev tweenEnd : Ends → Rule (Leaf Key)
 tweenEnd e = parseFieldList tweenFields [] >>= λ fs. need MissingDuration (numberOf "duration" fs) >>= λ d. give (tweenLeaf e fs d)
 

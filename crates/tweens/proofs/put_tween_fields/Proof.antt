@@ -1,5 +1,4 @@
 -- `tweens::put_tween_fields` meets its contract. Assumes nothing.
--- how far each field ends at most
 use Prim.Native.Nat.{_+_, _<_, _^_}
 use native.Mathlib.Omega.{arith}
 use Rattle.number.specs.Number.{bits}
@@ -13,6 +12,7 @@ use borrow.Author.Needs.{needs}
 use Rattle.tweens.proofs.put_tween_fields.Statement.{statement}
 use Rattle.tweens.proofs.put_tween_fields.Tie as tie
 
+-- how far each field ends at most
 put-float-end : (w : tie.After-put-float) → w .put-float .result + 60 < 2 ^ 31
 put-float-end w = omega (arith, w .before .before .before .pre .0, w .put-float .ensures .place, length-word (bits (w .before .before .before .args .x .duration)))
 
