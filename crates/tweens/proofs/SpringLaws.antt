@@ -1,8 +1,8 @@
 -- A spring is read and written. Assumes nothing.
 use Prim.Native.Nat.{ℕ, _+_, _*_, _-_, _≤_}
-use mathlib.Core.List.{List, [], _∷_, _++_}
-use mathlib.Core.Option.{Option, none, some}
-use mathlib.Core.Path.{_≡_, refl, sym, ap, _∙_}
+use mathlib.Core.List.{List, [], _∷_}
+use mathlib.Core.Option.{Option}
+use mathlib.Core.Path.{_≡_, refl, sym, _∙_}
 use native.Mathlib.Omega.{arith}
 use lib.Dec.{lit≤}
 use lib.ListN.{length}
@@ -17,12 +17,11 @@ use Rattle.encode.specs.Writes.{Writes}
 use Rattle.encode.proofs.OverLaws.{writes-then}
 use Rattle.encode.proofs.EnumLaws.{opt-most, damping-most}
 use Rattle.error.specs.declared.Refusal.{Refusal}
-use Rattle.token.specs.Token.{Token}
-use Rattle.grammar.specs.Rule.{Rule, Notes, Out, got, refused, after, give, _>>=_}
+use Rattle.grammar.specs.Rule.{Rule, refused, after, give, _>>=_}
 use Rattle.grammar.specs.Fields.{Fields, numberOf, valueOf, dampingOf, parseFieldList}
 use Rattle.grammar.specs.Values.{number, value, parseValue}
 use Rattle.grammar.specs.Grammar.{parseSpring, springFields, springPreset, integrator}
-use Rattle.cursor.specs.Means.{run, Took}
+use Rattle.cursor.specs.Means.{run}
 use Rattle.cursor.specs.declared.Cursor.{Cursor}
 use Rattle.fields.specs.Means.{names}
 use Rattle.arrays.specs.Means.{Went}

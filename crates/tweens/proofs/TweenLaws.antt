@@ -1,13 +1,11 @@
 -- A tween is read and written. Assumes nothing.
-use Prim.Native.Nat.{ℕ, _+_, _*_, _-_, _≤_}
-use Prim.Native.String.{String}
-use mathlib.Core.List.{List, [], _∷_, _++_}
-use mathlib.Core.Option.{some}
-use mathlib.Core.Path.{_≡_, refl, sym, _∙_}
+use Prim.Native.Nat.{ℕ, _≤_}
+use mathlib.Core.List.{List, []}
+use mathlib.Core.Path.{_≡_, refl, _∙_}
 use native.Mathlib.Omega.{arith}
 use lib.Dec.{lit≤}
 use lib.Ieee.{Float}
-use lib.ListN.{length, length-append, getD, getElem?}
+use lib.ListN.{length}
 use Rattle.text.specs.Bytes.{same}
 use Rattle.text.specs.Words.{table}
 use Rattle.number.specs.Number.{bits}
@@ -17,16 +15,15 @@ use Rattle.ast.specs.Tree.{Leaf}
 use Rattle.sheet.specs.Sheet.{word, flag, spanForm, valueForm, easingForm, loopForm}
 use Rattle.encode.specs.Of.{optFloatOf, optWordOf, optEasingOf, optLoopOf}
 use Rattle.encode.specs.Writes.{Writes}
-use Rattle.encode.proofs.OverLaws.{writes-then}
 use Rattle.encode.proofs.FieldLaws.{length-word}
 use Rattle.encode.proofs.EnumLaws.{opt-most, easing-most, loop-most}
 use Rattle.error.specs.declared.Refusal.{Refusal}
 use Rattle.error.specs.declared.Refusal.the-variants.{MissingDuration}
 use Rattle.grammar.specs.Rule.{Rule, refused, after, give, need, _>>=_}
-use Rattle.grammar.specs.Fields.{Content, Fields, numberOf, easingOf, loopModeOf, ever, parseFieldList}
+use Rattle.grammar.specs.Fields.{Fields, numberOf, easingOf, loopModeOf, ever, parseFieldList}
 use Rattle.grammar.specs.Values.{number, count, flag as flagRule, easing, loopMode}
 use Rattle.grammar.specs.Grammar.{parseTween, tweenFields}
-use Rattle.cursor.specs.Means.{run, Took}
+use Rattle.cursor.specs.Means.{run}
 use Rattle.cursor.specs.declared.Cursor.{Cursor}
 use Rattle.fields.specs.Means.{names}
 use Rattle.arrays.specs.Means.{Went}
@@ -39,7 +36,6 @@ use Rattle.tweens.specs.Means.{Ends, theEnds, EndsWent, tweenSorts, twee
 use Rattle.tweens.specs.declared.TweenFields.{TweenFields}
 use Rattle.tweens.proofs.EndsLaws.{flat-run, record-written, eight, word-most}
 
--- what stands behind the values
 abbrev tweenLeaf : Ends → Fields → ℕ → Leaf Key
 tweenLeaf e fs d = Leaf.tween (record {
   target = e .0;
@@ -55,6 +51,7 @@ tweenLeaf e fs d = Leaf.tween (record {
   reverse = ever "reverse" fs;
 })
 
+-- what stands behind the values
 abbrev tweenEnd : Ends → Rule (Leaf Key)
 tweenEnd e = parseFieldList tweenFields [] >>= λ fs. need MissingDuration (numberOf "duration" fs) >>= λ d. give (tweenLeaf e fs d)
 

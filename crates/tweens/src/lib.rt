@@ -2,17 +2,17 @@
 // The functions are for our own crates: each requires a cursor that stands in a text of at most 16,384 bytes, and a place that leaves
 // room for every sum.
 ghost use mathlib.Core.Path.{_≡_};
-ghost use mathlib.Core.List.{List, []};
+ghost use mathlib.Core.List.{[]};
+ghost use mathlib.Core.Option.{Option};
 ghost use Prim.Native.Nat.{ℕ, _+_, _≤_, _<_, _^_};
 ghost use lib.ListN.{length};
+ghost use Rattle.ast.specs.Tree.{ValueExpr};
 ghost use Rattle.grammar.specs.Grammar.{parseTween, tweenFields, parseSpring, springFields};
 ghost use Rattle.encode.specs.Writes.{Writes};
 ghost use Rattle.cursor.specs.Means.{Ready};
 ghost use Rattle.arrays.specs.Means.{Room, Wide};
 ghost use Rattle.nodes.specs.Means.{LeafMeans};
 ghost use Rattle.slots.specs.Means.{ListMeans, PlaceSays};
-ghost use Rattle.ast.specs.Tree.{ValueExpr};
-ghost use mathlib.Core.Option.{Option};
 ghost use Rattle.tweens.specs.Means.{TargetMeans, PairMeans, EndsMeans, tweenSorts, tweenFrom, PlainTween, tweenBytes, springSorts, springFrom, Told, VelocityPut, PlainSpring, springBytes};
 use arrays::ValueRead;
 use ast::OptCase;

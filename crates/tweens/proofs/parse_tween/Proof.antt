@@ -1,5 +1,5 @@
+-- `tweens::parse_tween` meets its contract. Assumes nothing.
 use native.Mathlib.Omega.{arith}
-use Rattle.text.specs.Bytes.{at}
 use Rattle.tweens.proofs.EndsLaws.{ends-room}
 use Rattle.slots.proofs.TimedLaws.{not-timed, timed-at}
 use Rattle.grammar.specs.Values.{number}
@@ -11,47 +11,31 @@ use Rattle.tweens.specs.Means.{tweenSorts}
 use borrow.Author.Needs.{needs}
 use Rattle.tweens.proofs.parse_tween.Statement.{statement}
 use Rattle.tweens.proofs.parse_tween.Tie as tie
-use Rattle.tweens.proofs.parse_tween.Reads as reads
-use Rattle.tweens.proofs.parse_tween.Lts as lts
-use Rattle.slots.proofs.duration_in.Reads as duration-in-reads
-use Rattle.tweens.proofs.parse_ends.Reads as parse-ends-reads
-use Rattle.tweens.proofs.put_tween_fields.Reads as put-tween-fields-reads
-use Rattle.tweens.proofs.tween_fields.Reads as tween-fields-reads
-use Rattle.tweens.proofs.tween_from.Reads as tween-from-reads
 
--- src/lib.rt:143:11
 parse-ends-requires : tie.Need-parse-ends-requires
 parse-ends-requires c κs = search needs
 
--- src/lib.rt:144:28
 enum-known-r : tie.Need-enum-known-r
 enum-known-r c = search needs
 
--- src/lib.rt:145:23
 enum-known-at : tie.Need-enum-known-at
 enum-known-at c = search needs
 
--- src/lib.rt:146:17
 tween-fields-requires : tie.Need-tween-fields-requires
 tween-fields-requires c κs = ((rw (c .before .at .given .1) at (c .before .before .before .before .before .parse-ends .ensures)) .took .ready, c .before .before .before .before .before .before .before .before .before .pre .1 .short)
 
--- src/lib.rt:147:19
 duration-in-requires : tie.Need-duration-in-requires
 duration-in-requires c κs = search needs
 
--- src/lib.rt:148:32
 enum-known-r-2 : tie.Need-enum-known-r-2
 enum-known-r-2 c = search needs
 
--- src/lib.rt:149:27
 enum-known-duration : tie.Need-enum-known-duration
 enum-known-duration c = search needs
 
--- src/lib.rt:152:25
 tween-from-requires : tie.Need-tween-from-requires
 tween-from-requires c κs = search needs
 
--- src/lib.rt:153:34
 put-tween-fields-requires : tie.Need-put-tween-fields-requires
 unfolding tweenFields sortRank
 put-tween-fields-requires c κs =
@@ -60,28 +44,22 @@ put-tween-fields-requires c κs =
     let r = ends-room _ _ _ _ _ _ _ _ (c .before .before .before .before .before .before .before .before .before .before .before .before .before .before .before .before .before .before .pre .1) e in
     (omega (arith, r), rw (c .before .tween-from .ensures) (tween-plain _ _ _ _ _ _ _ e (c .before .before .before .before .before .before .before .before .tween-fields .result) _ _ t))
 
--- src/lib.rt:139:1
 same-length : tie.Need-same-length
 same-length c = search needs
 
--- src/lib.rt:139:1
 returns : tie.Need-returns
 returns c = tween-no-ends (c .before .before .before .before .before .before .before .before .before .args .text .now) (c .before .before .before .before .before .before .before .before .before .args .c) _ _ (rw (c .before .r .given .1) at (c .before .before .before .before .before .parse-ends .ensures))
 
--- src/lib.rt:139:1
 same-length-2 : tie.Need-same-length-2
 same-length-2 c = search needs
 
--- src/lib.rt:139:1
 returns-2 : tie.Need-returns-2
 unfolding tweenFields sortRank
 returns-2 c = tween-refused (c .before .before .before .before .before .before .before .before .before .before .before .before .before .before .args .text .now) _ _ (c .before .before .before .before .before .before .before .before .before .before .before .before .before .before .args .c) _ _ _ (rw (c .before .before .before .before .before .before .at .given .1) at (c .before .before .before .before .before .before .before .before .before .before .parse-ends .ensures)) _ _ (not-timed (c .before .before .before .before .before .before .before .before .before .before .before .before .before .before .args .text .now) _ tweenSorts _ tweenFields 0 number refl refl (c .before .before .before .before .tween-fields .result) (c .before .before .before .before .tween-fields .ensures) _ _ (rw (c .before .r2 .given .1) at (c .before .before .before .duration-in .ensures)))
 
--- src/lib.rt:139:1
 same-length-3 : tie.Need-same-length-3
 same-length-3 c = search needs
 
--- src/lib.rt:139:1
 returns-3 : tie.Need-returns-3
 unfolding tweenFields sortRank
 returns-3 c =

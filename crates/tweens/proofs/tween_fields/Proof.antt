@@ -1,3 +1,4 @@
+-- `tweens::tween_fields` meets its contract. Assumes nothing.
 use native.Mathlib.Omega.{arith}
 use mathlib.Core.List.{[]}
 use Rattle.text.specs.Words.{entries}
@@ -8,34 +9,23 @@ use Rattle.grammar.specs.Grammar.{tweenFields}
 use borrow.Author.Needs.{needs}
 use Rattle.tweens.proofs.tween_fields.Statement.{statement}
 use Rattle.tweens.proofs.tween_fields.Tie as tie
-use Rattle.tweens.proofs.tween_fields.Reads as reads
-use Rattle.tweens.proofs.tween_fields.Lts as lts
-use Rattle.slots.proofs.field_list.Reads as field-list-reads
-use Rattle.slots.proofs.no_others.Reads as no-others-reads
-use Rattle.slots.proofs.no_slots.Reads as no-slots-reads
 
--- src/lib.rt:97:32
 slice-aggregate-field-list : tie.Need-slice-aggregate-field-list
 slice-aggregate-field-list c = search needs
 
--- src/lib.rt:97:45
 slice-aggregate-field-list-2 : tie.Need-slice-aggregate-field-list-2
 slice-aggregate-field-list-2 c = search needs
 
--- src/lib.rt:97:59
 no-slots-requires : tie.Need-no-slots-requires
 no-slots-requires c κs = search needs
 
--- src/lib.rt:97:78
 no-others-requires : tie.Need-no-others-requires
 no-others-requires c κs = search needs
 
--- src/lib.rt:97:5
 field-list-requires : tie.Need-field-list-requires
 unfolding tweenFields entries
 field-list-requires c κs = (c .before .before .before .before .before .pre .0, c .before .before .before .before .before .pre .1, (tweenFields, tween-layout _ refl))
 
--- src/lib.rt:93:1
 returns : tie.Need-returns
 unfolding tweenFields entries
 returns c =
