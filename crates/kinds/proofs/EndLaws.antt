@@ -21,7 +21,8 @@ use Rattle.slots.specs.Means.{sortRank, ListMeans, TimedMeans}
 use Rattle.slots.specs.declared.Gathered.{Gathered}
 use Rattle.slots.specs.declared.Timed.the-variants as timed
 use Rattle.slots.proofs.TimedLaws.{TimedAt, not-timed, timely-refused}
-use Rattle.kinds.specs.Means.{Put, EndWent, EndMeans, timedEnd}
+use Rattle.kinds.specs.Means.{EndWent, EndMeans, timedEnd}
+use Rattle.write.specs.Means.{Put}
 
 -- ---- fields with a duration
 module _ (s : List ℕ) (lo : ℕ) (sorts : List ℕ) (c : Cursor) (t : Table) (k : Fields → ℕ → Leaf Key) where
