@@ -61,9 +61,14 @@ def stored():
             yield text, sheet
 
 
-cases = [(bytes.fromhex(text), bytes.fromhex(sheet)) for text, sheet in SHELF] + list(stored())
-with open("crates/line_cases/stdin", "w") as out:
-    out.writelines(f"{text.hex().upper()}\t{sheet.hex().upper()}\n" for text, sheet in cases)
-with open("crates/line_cases/stdout", "w") as out:
-    for (text, sheet), found in zip(cases + LONG, sizes(cases + LONG)):
-        out.writelines(f"{line}\n" for line in answer(text, sheet, found))
+def main():
+    cases = [(bytes.fromhex(text), bytes.fromhex(sheet)) for text, sheet in SHELF] + list(stored())
+    with open("crates/line_cases/stdin", "w") as out:
+        out.writelines(f"{text.hex().upper()}\t{sheet.hex().upper()}\n" for text, sheet in cases)
+    with open("crates/line_cases/stdout", "w") as out:
+        for (text, sheet), found in zip(cases + LONG, sizes(cases + LONG)):
+            out.writelines(f"{line}\n" for line in answer(text, sheet, found))
+
+
+if __name__ == "__main__":
+    main()
