@@ -95,24 +95,30 @@ module _ (s b b₁ : List ℕ) (c m : Cursor) (out q d : ℕ) (o : OpenBegun 1 s
   pub block-refused : (r : Refusal) (p : ℕ) → run s m (block d) ≡ refused r p → run s c (parseNode (block d)) ≡ refused r p
   block-refused r p h = o .is (block d) ∙ (rw h)
 
--- behind the `{`, d containers more being allowed inside
-module _ (s b b₁ b₂ : List ℕ) (c m e : Cursor) (out q d : ℕ) (o : OpenBegun 1 s b b₁ c m out q parseNode) (t : Took 1 s m e (theByte 123) tt) where
-  pub inside-refused : (r : Refusal) (p : ℕ) → run s e (parseNodes d) ≡ refused r p → run s c (parseNode (block (suc d))) ≡ refused r p
-  unfolding block
-  inside-refused r p h = o .is (block (suc d)) ∙ (rw (t .is, h))
+by-suc : (P : ℕ → Type 0) (d : ℕ) → 0 < d → P (suc (d - 1)) → P d
+by-suc P d z h = let e : suc (d - 1) ≡ d = omega arith in subst P e h
 
-  pub node-open : (n u : Cursor) (a : List ℕ) (end w k f : ℕ) → NodesWent s b₁ b₂ e n (q + 2) end d w k → Writes b₂ q (big 2 .write w) a f → Took 0 s n u leave tt → NodeWent s b a c u out end (suc d) (k + 1)
+-- behind the `{`
+module _ (s b b₁ : List ℕ) (c m e : Cursor) (out q d : ℕ) (o : OpenBegun 1 s b b₁ c m out q parseNode) (t : Took 1 s m e (theByte 123) tt) (z : 0 < d) where
+  pub block-reached : Reached s c out → Reached s e (q + 2)
+  block-reached h = record { short = h .short; low = omega (arith, h .low, o .small, o .low, t .low) }
+
+  pub inside-refused : (r : Refusal) (p : ℕ) → run s e (parseNodes (d - 1)) ≡ refused r p → run s c (parseNode (block d)) ≡ refused r p
   unfolding block
-  node-open n u a end w k f g p l = record {
+  inside-refused r p h = by-suc (λ (j : ℕ). run s c (parseNode (block j)) ≡ refused r p) d z (o .is (block (suc (d - 1))) ∙ (rw (t .is, h)))
+
+  pub node-open : (n u : Cursor) (b₂ a : List ℕ) (end w k f : ℕ) → NodesWent s b₁ b₂ e n (q + 2) end (d - 1) w k → Writes b₂ q (big 2 .write w) a f → Took 0 s n u leave tt → NodeWent s b a c u out end d (k + 1)
+  unfolding block
+  node-open n u b₂ a end w k f g p l = by-suc (λ (j : ℕ). NodeWent s b a c u out end j (k + 1)) d z (record {
     went = record {
       value = holding (o .value) (g .went .value);
-      took = record { is = o .is (block (suc d)) ∙ (rw (t .is, g .went .took .is, l .is)); low = omega (arith, o .low, t .low, g .went .took .low, l .low); ready = l .ready };
-      writes = rw (← holding-bytes (length s) d (o .value) (g .went .value)) (writes-then (o .writes) (writes-counted (width (g .went .value)) refl (g .went .writes) (rw (g .wide) at p)));
+      took = record { is = o .is (block (suc (d - 1))) ∙ (rw (t .is, g .went .took .is, l .is)); low = omega (arith, o .low, t .low, g .went .took .low, l .low); ready = l .ready };
+      writes = rw (← holding-bytes (length s) (d - 1) (o .value) (g .went .value)) (writes-then (o .writes) (writes-counted (width (g .went .value)) refl (g .went .writes) (rw (g .wide) at p)));
       paid = omega (arith, o .small, o .low, t .low, g .went .paid, g .went .took .low, l .low);
     };
     count = omega (arith, g .count);
     few = omega (arith, o .low, t .low, g .few, l .low);
-  }
+  })
 
 -- ---- nodes one after the other
 

@@ -75,6 +75,7 @@ fn parse_head(text: &[u8], sheet: &mut [u8], c: Cursor, out: usize, i: usize) ->
 // ---- the beginning of a node
 
 const LEAVES: [u8; 9] = *b"\x05label\x02at";
+
 const CONTAINERS: [u8; 32] = *b"\x08sequence\x08parallel\x05group\x07stagger";
 
 // What a keyword begins: a leaf or a container, with its place in the table, or nothing known.
@@ -213,7 +214,13 @@ pub fn parse_node(text: &[u8], sheet: &mut [u8], c: Cursor, out: usize, depth: u
 }
 
 // Nodes up to the group's end, `;` between them or not.
-pub fn parse_nodes(text: &[u8], sheet: &mut [u8], c: Cursor, out: usize, depth: usize) -> ParsedNodes
+pub fn parse_nodes(
+    text: &[u8],
+    sheet: &mut [u8],
+    c: Cursor,
+    out: usize,
+    depth: usize,
+) -> ParsedNodes
     requires { ⌜ Ready (now text) c × Reached (now text) c out ⌝ }
     ensures { λ r. ⌜ NodesMeans (now (text .entry)) (now (sheet .entry)) (now (sheet .exit)) c out depth r ⌝ }
 {

@@ -1,34 +1,25 @@
+-- `blocks::open_block` meets its contract. Assumes nothing.
 use native.Mathlib.Omega.{arith}
-use Rattle.text.specs.Bytes.{at}
 use Rattle.blocks.proofs.BlockLaws.{no-brace, too-deep}
 use borrow.Author.Needs.{needs}
 use Rattle.blocks.proofs.open_block.Statement.{statement}
 use Rattle.blocks.proofs.open_block.Tie as tie
-use Rattle.blocks.proofs.open_block.Reads as reads
-use Rattle.blocks.proofs.open_block.Lts as lts
-use Rattle.cursor.proofs.mark.Reads as mark-reads
 
--- src/lib.rt:151:11
 mark-requires : tie.Need-mark-requires
 mark-requires c κs = search needs
 
--- src/lib.rt:152:27
 enum-known-p : tie.Need-enum-known-p
 enum-known-p c = search needs
 
--- src/lib.rt:153:22
 enum-known-m : tie.Need-enum-known-m
 enum-known-m c = search needs
 
--- src/lib.rt:156:17
 returns : tie.Need-returns
 returns c = too-deep (c .before .before .before .before .before .before .before .args .text .now) (c .before .before .before .before .before .before .before .args .c) _ (c .before .before .before .before .before .before .before .args .depth) (c .before .before .before .before .before .before .before .pre) (rw (c .before .before .before .m .given .1) at (c .before .before .before .before .before .mark .ensures)) (c .before .if1 .taken)
 
--- src/lib.rt:147:1
 returns-2 : tie.Need-returns-2
 returns-2 c = no-brace (c .before .before .before .before .before .args .text .now) (c .before .before .before .before .before .args .c) (c .before .before .before .before .before .args .depth) _ (rw (c .before .p .given .1) at (c .before .before .before .mark .ensures))
 
--- src/lib.rt:147:1
 returns-3 : tie.Need-returns-3
 returns-3 c = (rw (c .before .before .m .given .1) at (c .before .before .before .before .mark .ensures), omega (arith, c .if1 .left))
 

@@ -1,51 +1,35 @@
-use Rattle.blocks.proofs.HeadLaws.{length-pattern}
+-- `blocks::parse_stagger` meets its contract. Assumes nothing.
+use Rattle.blocks.proofs.HeadLaws.{length-pattern, stagger-went}
 use Rattle.encode.specs.Of.{optPatternOf}
 use native.Mathlib.Omega.{arith}
-use Rattle.text.specs.Bytes.{at}
-use Rattle.blocks.proofs.HeadLaws.{stagger-went}
 use borrow.Author.Needs.{needs}
 use Rattle.blocks.proofs.parse_stagger.Statement.{statement}
 use Rattle.blocks.proofs.parse_stagger.Tie as tie
-use Rattle.blocks.proofs.parse_stagger.Reads as reads
-use Rattle.blocks.proofs.parse_stagger.Lts as lts
-use Rattle.encode.proofs.put_byte.Reads as put-byte-reads
-use Rattle.encode.proofs.put_opt_float.Reads as put-opt-float-reads
-use Rattle.encode.proofs.put_opt_pattern.Reads as put-opt-pattern-reads
-use Rattle.heads.proofs.parse_stagger.Reads as parse-stagger-reads
 
--- src/lib.rt:52:11
 parse-stagger-requires : tie.Need-parse-stagger-requires
 parse-stagger-requires c κs = search needs
 
--- src/lib.rt:53:30
 enum-known-r : tie.Need-enum-known-r
 enum-known-r c = search needs
 
--- src/lib.rt:54:25
 enum-known-pattern : tie.Need-enum-known-pattern
 enum-known-pattern c = search needs
 
--- src/lib.rt:55:17
 put-byte-requires : tie.Need-put-byte-requires
 put-byte-requires c κs = search needs
 
--- src/lib.rt:56:17
 put-opt-pattern-requires : tie.Need-put-opt-pattern-requires
 put-opt-pattern-requires c κs = (omega (arith, c .before .before .before .before .before .before .before .before .before .before .before .pre .1 .low, c .before .before .before .put-byte .ensures .place), (rw (c .before .before .before .before .before .before .pattern .given .1) at (c .before .before .before .before .before .before .before .before .parse-stagger .ensures)) .1)
 
--- src/lib.rt:57:26
 put-opt-float-requires : tie.Need-put-opt-float-requires
 put-opt-float-requires c κs = (omega (arith, c .before .before .before .before .before .before .before .before .before .before .before .before .before .before .before .pre .1 .low, c .before .before .before .before .before .before .before .put-byte .ensures .place, c .before .before .before .put-opt-pattern .ensures .place, length-pattern (optPatternOf (c .before .before .before .before .before .before .before .before .before .before .pattern .given .0 .0))), (rw (c .before .before .before .before .before .before .before .before .before .before .pattern .given .1) at (c .before .before .before .before .before .before .before .before .before .before .before .before .parse-stagger .ensures)) .2)
 
--- src/lib.rt:48:1
 returns : tie.Need-returns
 returns c = rw (c .before .r .given .1) at (c .before .before .before .parse-stagger .ensures)
 
--- src/lib.rt:48:1
 same-length : tie.Need-same-length
 same-length c = search needs
 
--- src/lib.rt:48:1
 returns-2 : tie.Need-returns-2
 returns-2 c = stagger-went _ _ ((rw (c .before .before .before .before .before .before .before .before .before .before .before .before .before .pattern .given .1) at (c .before .before .before .before .before .before .before .before .before .before .before .before .before .before .before .parse-stagger .ensures)) .0) (c .before .before .before .before .before .before .before .before .before .before .put-byte .ensures) (c .before .before .before .before .before .before .put-opt-pattern .ensures) (c .before .before .put-opt-float .ensures)
 
