@@ -53,11 +53,13 @@ width-map Nodes.none = refl
 width-map (leaf l rest) = ap suc (width-map rest)
 width-map (box k ns rest) = ap suc (width-map rest)
 
--- a container is its head, its count, and the nodes in it
+-- the nodes in a block are their count, and each of them
+pub block-bytes : (n d : ℕ) (ns : Nodes Key) → big 2 .write (width ns) ++ nodesBytes n d ns ≡ inner n (suc d) .write (mapTimes stored ns)
+block-bytes n d ns = let m = mapTimes stored ns in sym (ap (λ (w : ℕ). big 2 .write w ++ forest n (inner n d) w .write m) (width-map ns))
+
+-- a container is its head, and the nodes in its block
 holding-bytes : (n d : ℕ) (k : Container) (ns : Nodes Key) → headBytes n k ++ (big 2 .write (width ns) ++ nodesBytes n d ns) ≡ nodeBytes n (suc d) (holding k ns)
-holding-bytes n d k ns =
-    let m = mapTimes stored ns in
-    sym (head-then n (inner n (suc d)) k m ∙ ap (λ (w : ℕ). headBytes n k ++ (big 2 .write w ++ forest n (inner n d) w .write m)) (width-map ns))
+holding-bytes n d k ns = ap (λ (l : List ℕ). headBytes n k ++ l) (block-bytes n d ns) ∙ sym (head-then n (inner n (suc d)) k (mapTimes stored ns))
 
 -- one node more
 bytes-more : (n d : ℕ) (ns : Nodes Key) (x : MotionNode Key) → nodesBytes n d (append ns (push x Nodes.none)) ≡ nodesBytes n d ns ++ nodeBytes n d x
