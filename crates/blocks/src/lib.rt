@@ -18,21 +18,21 @@ use nodes::NodeRead;
 
 // ---- what stands before a container's block: its kind and its fields. The answer is the place of the count, which is left open.
 
-pub fn parse_sequence(text: &[u8], sheet: &mut [u8], c: Cursor, out: usize) -> NodeRead
+fn parse_sequence(text: &[u8], sheet: &mut [u8], c: Cursor, out: usize) -> NodeRead
     requires { ⌜ Ready (now text) c × Room (now text) out ⌝ }
     ensures { λ r. ⌜ HeadMeans (now (text .entry)) (now (sheet .entry)) (now (sheet .exit)) c out parseSequence r ⌝ }
 {
     NodeRead::Is(encode::put_byte(sheet, out, 3), c)
 }
 
-pub fn parse_parallel(text: &[u8], sheet: &mut [u8], c: Cursor, out: usize) -> NodeRead
+fn parse_parallel(text: &[u8], sheet: &mut [u8], c: Cursor, out: usize) -> NodeRead
     requires { ⌜ Ready (now text) c × Room (now text) out ⌝ }
     ensures { λ r. ⌜ HeadMeans (now (text .entry)) (now (sheet .entry)) (now (sheet .exit)) c out parseParallel r ⌝ }
 {
     NodeRead::Is(encode::put_byte(sheet, out, 4), c)
 }
 
-pub fn parse_group(text: &[u8], sheet: &mut [u8], c: Cursor, out: usize) -> NodeRead
+fn parse_group(text: &[u8], sheet: &mut [u8], c: Cursor, out: usize) -> NodeRead
     requires { ⌜ Ready (now text) c × Room (now text) out ⌝ }
     ensures { λ r. ⌜ HeadMeans (now (text .entry)) (now (sheet .entry)) (now (sheet .exit)) c out parseGroup r ⌝ }
 {
@@ -45,7 +45,7 @@ pub fn parse_group(text: &[u8], sheet: &mut [u8], c: Cursor, out: usize) -> Node
     }
 }
 
-pub fn parse_stagger(text: &[u8], sheet: &mut [u8], c: Cursor, out: usize) -> NodeRead
+fn parse_stagger(text: &[u8], sheet: &mut [u8], c: Cursor, out: usize) -> NodeRead
     requires { ⌜ Ready (now text) c × Room (now text) out ⌝ }
     ensures { λ r. ⌜ HeadMeans (now (text .entry)) (now (sheet .entry)) (now (sheet .exit)) c out parseStagger r ⌝ }
 {
@@ -127,7 +127,7 @@ fn begin_word(text: &[u8], sheet: &mut [u8], word: Span, c: Cursor, out: usize) 
 }
 
 // A leaf whole, or a container up to its block.
-pub fn begin_node(text: &[u8], sheet: &mut [u8], c: Cursor, out: usize) -> Begun
+fn begin_node(text: &[u8], sheet: &mut [u8], c: Cursor, out: usize) -> Begun
     requires { ⌜ Ready (now text) c × Room (now text) out ⌝ }
     ensures { λ r. ⌜ BegunMeans 1 (now (text .entry)) (now (sheet .entry)) (now (sheet .exit)) c out parseNode r ⌝ }
 {
