@@ -1,25 +1,19 @@
 -- The beginning of a node: its keyword, and what stands behind it. Assumes nothing.
-use Prim.Native.Nat.{ℕ, _+_, _*_, _-_, _≤_}
-use Prim.Native.String.{String}
+use Prim.Native.Nat.{ℕ}
 use mathlib.Core.List.{List}
-use mathlib.Core.Option.{some}
 use mathlib.Core.Path.{_≡_}
 use native.Mathlib.Omega.{arith}
-use lib.ListN.{length, getElem?}
 use Rattle.number.specs.Time.{Key}
-use Rattle.ast.specs.Tree.{Leaf, Container, Nodes, single, holding}
+use Rattle.ast.specs.Tree.{Leaf, Container, Nodes}
 use Rattle.error.specs.declared.Refusal.{Refusal}
 use Rattle.error.specs.declared.Refusal.the-variants.{UnknownKeyword}
-use Rattle.grammar.specs.Rule.{Out, got, refused, after, Rule, give, word}
-use Rattle.grammar.specs.Grammar.{leaves, containers, aLeaf, aContainer, unknown, beginning, parseNode}
+use Rattle.grammar.specs.Rule.{refused, Rule, word}
+use Rattle.grammar.specs.Grammar.{parseNode}
 use Rattle.cursor.specs.Means.{Ready, run, Took}
 use Rattle.cursor.specs.declared.Cursor.{Cursor}
-use Rattle.arrays.specs.Means.{Went}
-use Rattle.nodes.specs.Means.{LeafMeans, leafBytes}
-use Rattle.nodes.specs.declared.NodeRead.{NodeRead}
 use Rattle.nodes.specs.declared.NodeRead.the-variants as read
 use Rattle.leaves.specs.Means.{LeafAtMeans}
-use Rattle.blocks.specs.Means.{HeadWent, HeadAtMeans, KeywordMeans, behindWord, LeafBegun, OpenBegun, BegunMeans}
+use Rattle.blocks.specs.Means.{HeadAtMeans, KeywordMeans, behindWord, LeafBegun, OpenBegun, BegunMeans}
 use Rattle.blocks.specs.declared.Keyword.the-variants as keyword
 use Rattle.blocks.specs.declared.Begun.{Begun}
 use Rattle.blocks.specs.declared.Begun.the-variants as begun

@@ -1,33 +1,30 @@
 -- Nodes in blocks: a node from its beginning and its block, and nodes one after the other. Assumes nothing.
-use Prim.Native.Nat.{ℕ, zero, suc, _+_, _*_, _-_, _^_, _≤_, _<_}
+use Prim.Native.Nat.{ℕ, zero, suc, _+_, _*_, _-_, _≤_, _<_}
 use mathlib.Core.Bool.{true, false}
-use mathlib.Core.List.{List, [], _∷_, _++_, append-nil, append-assoc}
+use mathlib.Core.List.{List, _++_, append-nil, append-assoc}
 use mathlib.Core.Path.{_≡_, refl, sym, ap, _∙_, subst}
 use native.Mathlib.Omega.{arith}
 use lib.ListN.{length}
-use Rattle.codec.specs.Codec.{Form, big}
+use Rattle.codec.specs.Codec.{big}
 use Rattle.number.specs.Time.{Key}
 use Rattle.ast.specs.Tree.{Nodes, leaf, box, Container, MotionNode, single, holding, push, append, width, records, mapTimes}
-use Rattle.sheet.specs.Sheet.{Forest, nodeForm, forest, inner}
+use Rattle.sheet.specs.Sheet.{forest, inner}
 use Rattle.sheet.proofs.Flat.{leaf-same}
 use Rattle.encode.specs.Writes.{Writes}
 use Rattle.encode.proofs.OverLaws.{writes-none, writes-then, writes-counted}
-use Rattle.encode.proofs.FieldLaws.{length-big}
-use Rattle.token.specs.Token.{Token, place}
+use Rattle.token.specs.Token.{place}
 use Rattle.error.specs.declared.Refusal.{Refusal}
 use Rattle.error.specs.declared.Refusal.the-variants.{Missing, TooManyNested}
-use Rattle.grammar.specs.Rule.{Notes, Out, got, refused, after, Rule, give, leave, seesByte, ends, theByte, repeat, Next, more, next}
+use Rattle.grammar.specs.Rule.{Out, refused, leave, seesByte, ends, theByte}
 use Rattle.grammar.specs.Grammar.{stored, parseNode, oneNode, nodesStep, block}
-use Rattle.cursor.specs.Means.{Ready, notes, tokens, run, Took, Follows}
+use Rattle.cursor.specs.Means.{Ready, tokens, run, Took, Follows}
 use Rattle.cursor.specs.declared.Cursor.{Cursor}
 use Rattle.cursor.proofs.CursorLaws.{took-mark}
-use Rattle.fields.specs.Means.{Gives}
 use Rattle.fields.proofs.FieldLaws.{by-step}
 use Rattle.fields.proofs.ListLaws.{Listed, listed-start, listed-gives, listed-done}
-use Rattle.arrays.specs.Means.{Room, Went}
+use Rattle.arrays.specs.Means.{Room}
 use Rattle.arrays.proofs.ArrayLaws.{mark-seen, mark-unseen}
-use Rattle.nodes.specs.Means.{leafBytes}
-use Rattle.blocks.specs.Means.{headBytes, LeafBegun, OpenBegun, Reached, storedNode, nodeBytes, nodesBytes, NodeWent, parseNodes, NodesWent}
+use Rattle.blocks.specs.Means.{headBytes, LeafBegun, OpenBegun, Reached, nodeBytes, nodesBytes, NodeWent, parseNodes, NodesWent}
 use Rattle.blocks.proofs.HeadLaws.{head-then}
 
 -- ---- the `{` of a block

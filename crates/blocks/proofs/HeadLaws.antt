@@ -1,11 +1,11 @@
 -- What stands before a container's block is taken, and written up to the count. Assumes nothing.
-use Prim.Native.Nat.{ℕ, suc, _+_, _≤_}
+use Prim.Native.Nat.{ℕ, _+_, _≤_}
 use Prim.Native.String.{String}
 use mathlib.Core.List.{List, [], _∷_, _++_, append-nil, append-assoc}
 use mathlib.Core.Option.{Option, none, some}
 use mathlib.Core.Path.{_≡_, refl, sym, ap, _∙_}
 use native.Mathlib.Omega.{arith}
-use lib.ListN.{length, length-append}
+use lib.ListN.{length}
 use Rattle.codec.specs.Codec.{Form, opt}
 use Rattle.ast.specs.Tree.{Container, sequence, parallel, group, stagger, StaggerPatternSpec, grid, random, centerOut, edgesIn, holding}
 use Rattle.sheet.specs.Sheet.{Forest, word, patternForm, nodeForm}

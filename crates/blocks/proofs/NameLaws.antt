@@ -4,12 +4,12 @@ use Prim.Native.String.{String}
 use mathlib.Core.Bool.{Bool, true, false}
 use mathlib.Core.List.{List, [], _∷_}
 use mathlib.Core.Option.{Option, none, some}
-use mathlib.Core.Path.{_≡_, refl, sym, _∙_, subst}
+use mathlib.Core.Path.{_≡_, refl, _∙_, subst}
 use native.Mathlib.Omega.{arith}
 use lib.ListN.{getElem?}
 use Rattle.text.specs.Bytes.{bytes, same}
 use Rattle.text.specs.Words.{find, under}
-use Rattle.grammar.specs.Grammar.{leaves, containers, beginning, orContainer}
+use Rattle.grammar.specs.Grammar.{leaves, containers, beginning}
 use Rattle.heads.specs.Means.{namesOf}
 use Rattle.blocks.specs.Means.{KeywordMeans}
 use Rattle.blocks.specs.declared.Keyword.the-variants as keyword

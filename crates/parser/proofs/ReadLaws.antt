@@ -1,31 +1,28 @@
 -- Laws of reading: its parts, and the whole in its order. Assumes nothing.
-use Prim.Native.Nat.{ℕ, suc, _+_, _*_, _-_, _≤_, _<_}
-use mathlib.Core.Bool.{Bool, true, false, cond}
-use mathlib.Core.List.{List, [], _∷_, _++_}
-use mathlib.Core.Option.{Option, none, some}
-use mathlib.Core.Path.{_≡_, refl, sym, ap, _∙_, subst}
+use Prim.Native.Nat.{ℕ, _+_, _-_, _≤_, _<_}
+use mathlib.Core.Bool.{Bool, true, false}
+use mathlib.Core.List.{List, _++_}
+use mathlib.Core.Path.{_≡_, refl, sym, ap, _∙_}
 use native.Mathlib.Omega.{arith}
 use native.Mathlib.Nat.{zero-add, sub-zero}
 use borrow.Author.Tests.{lt-ltb, le-ltb, ltb-false}
 use lib.Dec.{ltb}
 use lib.ListN.{length, take, replicate}
 use Rattle.codec.specs.Codec.{big}
-use Rattle.number.specs.Time.{Key}
-use Rattle.token.specs.Token.{Token, tokensFrom}
 use Rattle.token.specs.Split.{Split, unlexed, tokens, split}
 use Rattle.token.specs.Means.{answerOf, splitting}
 use Rattle.token.specs.Means as lexing
 use Rattle.token.specs.declared.SplitAnswer.{SplitAnswer}
 use Rattle.token.specs.declared.SplitAnswer.the-variants as answer
 use Rattle.token.proofs.StreamLaws.{split-reads}
-use Rattle.ast.specs.Tree.{Nodes, width, records, mapTimes}
+use Rattle.ast.specs.Tree.{width, mapTimes}
 use Rattle.sheet.specs.Sheet.{encode}
 use Rattle.encode.specs.Writes.{Writes}
-use Rattle.encode.proofs.OverLaws.{writes-counted, writes-keeps}
+use Rattle.encode.proofs.OverLaws.{writes-counted}
 use Rattle.encode.proofs.ClearLaws.{written}
 use Rattle.grammar.specs.Rule.{refused}
 use Rattle.grammar.specs.Grammar.{stored, animatoInput}
-use Rattle.cursor.specs.Means.{run, Took}
+use Rattle.cursor.specs.Means.{run}
 use Rattle.cursor.specs.declared.Cursor.{Cursor}
 use Rattle.cursor.specs.declared.Left.the-variants as left
 use Rattle.blocks.specs.Means.{Reached, parseNodes, NodesWent}
@@ -35,7 +32,7 @@ use Rattle.error.specs.declared.Refusal.the-variants.{TextTooLong, ScratchTooSh
 use Rattle.error.specs.declared.ReadAnswer.{ReadAnswer}
 use Rattle.error.specs.declared.ReadAnswer.the-variants.{Accepted, Refused}
 use Rattle.parser.specs.Reading as reads
-use Rattle.parser.specs.Reading.{Parsed, tree, wrong, finished, parse, early, reading}
+use Rattle.parser.specs.Reading.{wrong, finished, parse, early, reading}
 use Rattle.parser.specs.Means.{treeOf, Encoded, TreeMeans, settled, outcome}
 
 -- ---- the grammar, from the text's start on
