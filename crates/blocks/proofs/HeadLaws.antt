@@ -1,0 +1,72 @@
+-- What stands before a container's block is taken, and written up to the count. Assumes nothing.
+use Prim.Native.Nat.{ℕ, _+_, _≤_}
+use Prim.Native.String.{String}
+use mathlib.Core.List.{List, [], _∷_, _++_, append-nil, append-assoc}
+use mathlib.Core.Option.{Option, none, some}
+use mathlib.Core.Path.{_≡_, refl, sym, ap, _∙_}
+use native.Mathlib.Omega.{arith}
+use lib.ListN.{length}
+use Rattle.codec.specs.Codec.{Form, opt}
+use Rattle.ast.specs.Tree.{Container, sequence, parallel, group, stagger, StaggerPatternSpec, grid, random, centerOut, edgesIn, holding}
+use Rattle.sheet.specs.Sheet.{Forest, word, patternForm, nodeForm}
+use Rattle.encode.specs.Writes.{Writes}
+use Rattle.encode.proofs.OverLaws.{writes-then}
+use Rattle.encode.proofs.FieldLaws.{length-word}
+use Rattle.grammar.specs.Rule.{Rule}
+use Rattle.grammar.specs.Grammar.{parseSequence, parseParallel, parseGroup, parseStagger, containers}
+use Rattle.cursor.specs.Means.{Ready, Took}
+use Rattle.cursor.specs.declared.Cursor.{Cursor}
+use Rattle.cursor.proofs.CursorLaws.{stays, fewer}
+use Rattle.nodes.specs.declared.NodeRead.{NodeRead}
+use Rattle.heads.proofs.RowLaws.{Each, by-row}
+use Rattle.blocks.specs.Means.{headBytes, HeadWent, HeadMeans, HeadAtMeans}
+
+-- a container is its head, and then the nodes in it
+pub head-then : (n : ℕ) (blk : Form Forest) (k : Container) (ns : Forest) → nodeForm n blk .write (holding k ns) ≡ headBytes n k ++ blk .write ns
+head-then n blk sequence ns = refl
+head-then n blk parallel ns = refl
+head-then n blk (group m) ns = refl
+head-then n blk (stagger p d) ns =
+    let P = opt patternForm .write p in
+    let D = opt word .write d in
+    ap (λ (l : List ℕ). 6 ∷ l) (sym (append-assoc P D (blk .write ns)) ∙ (rw append-nil))
+
+-- ---- the lengths of what a stagger has
+
+pub length-pattern : (x : Option StaggerPatternSpec) → length (opt patternForm .write x) ≤ 14
+length-pattern none = omega arith
+length-pattern (some (grid c r o)) = let e : length (opt patternForm .write (some (grid c r o))) ≡ 11 = refl in omega arith
+length-pattern (some (random s a b)) = let e : length (opt patternForm .write (some (random s a b))) ≡ 14 = refl in omega arith
+length-pattern (some centerOut) = omega arith
+length-pattern (some edgesIn) = omega arith
+
+length-delay : (x : Option ℕ) → length (opt word .write x) ≤ 5
+length-delay none = omega arith
+length-delay (some d) = let a = length-word d in omega arith
+
+-- ---- each container's
+
+module _ {s b a : List ℕ} {c : Cursor} {out q : ℕ} (r : Ready s c) where
+  pub sequence-went : Writes b out (3 ∷ []) a q → HeadWent s b a c c out q parseSequence
+  unfolding parseSequence
+  sequence-went w = record { value = sequence; took = stays s c r parseSequence sequence refl; writes = w; small = omega (arith, w .place) }
+
+  pub parallel-went : Writes b out (4 ∷ []) a q → HeadWent s b a c c out q parseParallel
+  unfolding parseParallel
+  parallel-went w = record { value = parallel; took = stays s c r parseParallel parallel refl; writes = w; small = omega (arith, w .place) }
+
+pub group-went : {s b b′ a : List ℕ} {c m : Cursor} {out f q k : ℕ} → Took 1 s c m parseGroup (group k) → Writes b out (5 ∷ []) b′ f → Writes b′ f (k ∷ []) a q → HeadWent s b a c m out q parseGroup
+group-went {k = k} t o w = record { value = group k; took = fewer t; writes = writes-then o w; small = omega (arith, o .place, w .place) }
+
+pub stagger-went : {s b b₁ b₂ a : List ℕ} {c m : Cursor} {out f g q : ℕ} (p : Option StaggerPatternSpec) (d : Option ℕ) → Took 0 s c m parseStagger (stagger p d) → Writes b out (6 ∷ []) b₁ f
+    → Writes b₁ f (opt patternForm .write p) b₂ g → Writes b₂ g (opt word .write d) a q → HeadWent s b a c m out q parseStagger
+stagger-went p d t o w z = record {
+  value = stagger p d;
+  took = t;
+  writes = rw append-nil (writes-then o (writes-then w z));
+  small = let x = length-pattern p in let y = length-delay d in omega (arith, o .place, w .place, z .place);
+}
+
+-- by the row of the table
+pub by-head : (s b a : List ℕ) (c : Cursor) (out i : ℕ) (r : NodeRead) → Each (λ (row : String × Rule Container). HeadMeans s b a c out (row .1) r) i 0 containers → HeadAtMeans s b a c out i r
+by-head s b a c out i r h row e = by-row (λ (row : String × Rule Container). HeadMeans s b a c out (row .1) r) i containers row e h

@@ -1,0 +1,4 @@
+pub mod NameLaws
+pub mod HeadLaws
+pub mod BeginLaws
+pub mod BlockLaws

@@ -1,0 +1,60 @@
+-- `blocks::keyword_of` meets its contract. Assumes nothing.
+use Rattle.blocks.proofs.NameLaws.{container-word, leaf-word, unknown-word}
+use Rattle.grammar.specs.Grammar.{containers, leaves}
+use Rattle.text.specs.Words.{entries}
+use mathlib.Core.Path.{sym}
+use borrow.Author.Needs.{needs}
+use Rattle.blocks.proofs.keyword_of.Statement.{statement}
+use Rattle.blocks.proofs.keyword_of.Tie as tie
+
+slice-aggregate-find : tie.Need-slice-aggregate-find
+slice-aggregate-find c = search needs
+
+find-requires : tie.Need-find-requires
+find-requires c κs = search needs
+
+enum-known-i : tie.Need-enum-known-i
+enum-known-i c = search needs
+
+enum-told : tie.Need-enum-told
+enum-told c = search needs
+
+slice-aggregate-find-2 : tie.Need-slice-aggregate-find-2
+slice-aggregate-find-2 c = search needs
+
+find-requires-2 : tie.Need-find-requires-2
+find-requires-2 c κs = search needs
+
+enum-known-i-2 : tie.Need-enum-known-i-2
+enum-known-i-2 c = search needs
+
+enum-told-2 : tie.Need-enum-told-2
+enum-told-2 c = search needs
+
+returns : tie.Need-returns
+unfolding leaves entries
+returns c = leaf-word (c .before .before .before .before .before .before .args .word .now) _ (sym (rw (c .before .i .given .1) at (c .before .before .before .find .ensures)))
+
+returns-2 : tie.Need-returns-2
+unfolding leaves containers entries
+returns-2 c = container-word (c .before .before .before .before .before .before .before .before .before .before .args .word .now) (sym (rw (c .before .before .before .before .before .enum-told .given .1) at (c .before .before .before .before .before .before .before .find .ensures))) _ (sym (rw (c .before .i2 .given .1) at (c .before .before .before .find2 .ensures)))
+
+returns-3 : tie.Need-returns-3
+unfolding leaves containers entries
+returns-3 c = unknown-word (c .before .before .before .before .before .before .before .before .before .args .word .now) (sym (rw (c .before .before .before .before .enum-told .given .1) at (c .before .before .before .before .before .before .find .ensures))) (sym (rw (c .enum-told2 .given .1) at (c .before .before .find2 .ensures)))
+
+pub keyword-of-spec : {M : Type 1} → statement M
+keyword-of-spec =
+    tie.close
+    (tie.spec
+    slice-aggregate-find
+    find-requires
+    enum-known-i
+    enum-told
+    slice-aggregate-find-2
+    find-requires-2
+    enum-known-i-2
+    enum-told-2
+    returns
+    returns-2
+    returns-3)

@@ -1,0 +1,28 @@
+-- `blocks::open_block` meets its contract. Assumes nothing.
+use native.Mathlib.Omega.{arith}
+use Rattle.blocks.proofs.BlockLaws.{no-brace, too-deep}
+use borrow.Author.Needs.{needs}
+use Rattle.blocks.proofs.open_block.Statement.{statement}
+use Rattle.blocks.proofs.open_block.Tie as tie
+
+mark-requires : tie.Need-mark-requires
+mark-requires c κs = search needs
+
+enum-known-p : tie.Need-enum-known-p
+enum-known-p c = search needs
+
+enum-known-m : tie.Need-enum-known-m
+enum-known-m c = search needs
+
+returns : tie.Need-returns
+returns c = too-deep (c .before .before .before .before .before .before .before .args .text .now) (c .before .before .before .before .before .before .before .args .c) _ (c .before .before .before .before .before .before .before .args .depth) (c .before .before .before .before .before .before .before .pre) (rw (c .before .before .before .m .given .1) at (c .before .before .before .before .before .mark .ensures)) (c .before .if1 .taken)
+
+returns-2 : tie.Need-returns-2
+returns-2 c = no-brace (c .before .before .before .before .before .args .text .now) (c .before .before .before .before .before .args .c) (c .before .before .before .before .before .args .depth) _ (rw (c .before .p .given .1) at (c .before .before .before .mark .ensures))
+
+returns-3 : tie.Need-returns-3
+returns-3 c = (rw (c .before .before .m .given .1) at (c .before .before .before .before .mark .ensures), omega (arith, c .if1 .left))
+
+pub open-block-spec : {M : Type 1} → statement M
+open-block-spec =
+    tie.close (tie.spec mark-requires enum-known-p enum-known-m returns returns-2 returns-3)

@@ -1,0 +1,17 @@
+-- `blocks::parse_sequence` meets its contract. Assumes nothing.
+use Rattle.blocks.proofs.HeadLaws.{sequence-went}
+use borrow.Author.Needs.{needs}
+use Rattle.blocks.proofs.parse_sequence.Statement.{statement}
+use Rattle.blocks.proofs.parse_sequence.Tie as tie
+
+put-byte-requires : tie.Need-put-byte-requires
+put-byte-requires c κs = search needs
+
+same-length : tie.Need-same-length
+same-length c = search needs
+
+returns : tie.Need-returns
+returns c = sequence-went (c .before .before .before .before .before .before .pre .0) (c .before .before .put-byte .ensures)
+
+pub parse-sequence-spec : {M : Type 1} → statement M
+parse-sequence-spec = tie.close (tie.spec put-byte-requires same-length returns)

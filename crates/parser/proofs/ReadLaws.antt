@@ -1,0 +1,146 @@
+-- Laws of reading: its parts, and the whole in its order. Assumes nothing.
+use Prim.Native.Nat.{ℕ, _+_, _-_, _≤_, _<_}
+use mathlib.Core.Bool.{Bool, true, false}
+use mathlib.Core.List.{List, _++_}
+use mathlib.Core.Path.{_≡_, refl, sym, ap, _∙_}
+use native.Mathlib.Omega.{arith}
+use native.Mathlib.Nat.{zero-add, sub-zero}
+use borrow.Author.Tests.{lt-ltb, le-ltb, ltb-false}
+use lib.Dec.{ltb}
+use lib.ListN.{length, take, replicate}
+use Rattle.codec.specs.Codec.{big}
+use Rattle.token.specs.Split.{Split, unlexed, tokens, split}
+use Rattle.token.specs.Means.{answerOf, splitting}
+use Rattle.token.specs.Means as lexing
+use Rattle.token.specs.declared.SplitAnswer.{SplitAnswer}
+use Rattle.token.specs.declared.SplitAnswer.the-variants as answer
+use Rattle.token.proofs.StreamLaws.{split-reads}
+use Rattle.ast.specs.Tree.{width, mapTimes}
+use Rattle.sheet.specs.Sheet.{encode}
+use Rattle.encode.specs.Writes.{Writes}
+use Rattle.encode.proofs.OverLaws.{writes-counted}
+use Rattle.encode.proofs.ClearLaws.{written}
+use Rattle.grammar.specs.Rule.{refused}
+use Rattle.grammar.specs.Grammar.{stored, animatoInput}
+use Rattle.cursor.specs.Means.{run}
+use Rattle.cursor.specs.declared.Cursor.{Cursor}
+use Rattle.cursor.specs.declared.Left.the-variants as left
+use Rattle.blocks.specs.Means.{Reached, parseNodes, NodesWent}
+use Rattle.blocks.proofs.BlockLaws.{block-bytes}
+use Rattle.error.specs.declared.Refusal.{Refusal}
+use Rattle.error.specs.declared.Refusal.the-variants.{TextTooLong, ScratchTooShort, Leftover, SheetTooShort}
+use Rattle.error.specs.declared.ReadAnswer.{ReadAnswer}
+use Rattle.error.specs.declared.ReadAnswer.the-variants.{Accepted, Refused}
+use Rattle.parser.specs.Reading as reads
+use Rattle.parser.specs.Reading.{wrong, finished, parse, early, reading}
+use Rattle.parser.specs.Means.{treeOf, Encoded, TreeMeans, settled, outcome}
+
+-- ---- the grammar, from the text's start on
+
+module _ (t : List ℕ) (c : Cursor) (e : c .at ≡ 0) (l : c .left ≡ left.Nothing) where
+  input-run : treeOf t ≡ finished (run t c (parseNodes 16))
+  unfolding animatoInput
+  input-run = rw (e, l)
+
+  pub input-reached : length t ≤ 16384 → Reached t c 2
+  input-reached h = record { short = h; low = omega arith }
+
+  pub input-refused : (r : Refusal) (p : ℕ) → run t c (parseNodes 16) ≡ refused r p → treeOf t ≡ wrong r p
+  input-refused r p h = input-run ∙ (rw h)
+
+  module _ (b a : List ℕ) (m : Cursor) (q w k : ℕ) (g : NodesWent t b a c m 2 q 16 w k) where
+    -- "tokens left inside a delimiter": 13, at "the first"
+    pub input-left : (p : ℕ) → m .left ≡ left.At p → treeOf t ≡ wrong Leftover p
+    input-left p h = input-run ∙ (rw (g .went .took .is, h))
+
+    pub input-done : (a′ : List ℕ) (f : ℕ) → m .left ≡ left.Nothing → Writes a 0 (big 2 .write w) a′ f → Encoded t b a′ q k
+    unfolding encode
+    input-done a′ f h o = record {
+      nodes = g .went .value;
+      is = input-run ∙ (rw (g .went .took .is, h));
+      writes = rw (← block-bytes (length t) 16 (g .went .value)) (writes-counted (width (g .went .value)) refl (g .went .writes) (rw (g .wide) at o));
+      count = g .count;
+    }
+
+-- ---- the sheet
+
+module _ (bs a : List ℕ) where
+  pub settled-refused : (r : Refusal) (p : ℕ) → a ≡ take 0 bs ++ replicate (length bs - 0) 0 → Prim.Path (ReadAnswer × List ℕ) (Refused r p, a) (settled (Refused r p) bs)
+  settled-refused r p h = rw (h, sub-zero)
+
+  pub settled-short : (n k : ℕ) → length bs < n → a ≡ take 0 bs ++ replicate (length bs - 0) 0 → Prim.Path (ReadAnswer × List ℕ) (Refused SheetTooShort 0, a) (settled (Accepted n k) bs)
+  settled-short n k l h = rw (lt-ltb (length bs) n l, h, sub-zero)
+
+  pub settled-accepted : (n k : ℕ) → n ≤ length bs → a ≡ take n bs ++ replicate (length bs - n) 0 → Prim.Path (ReadAnswer × List ℕ) (Accepted n k, a) (settled (Accepted n k) bs)
+  settled-accepted n k l h = rw (le-ltb (length bs) n l, h)
+
+-- an encoding of the tree, as far as there is room for it
+module _ (s b a bs : List ℕ) (n k : ℕ) (z : length a ≡ length b) (w : Writes b 0 bs a n) where
+  size : n ≡ length bs
+  size = w .place ∙ zero-add (length bs)
+
+  by-room : (v : Bool) → ltb (length b) (length bs) ≡ v
+      → outcome (settled (Accepted n k) a .0) (replicate (length s) 0) (settled (Accepted n k) a .1) ≡ reads.cleared s b (reads.fitting (length b) bs k)
+  by-room true e = rw (size, z, e, sub-zero)
+  by-room false e = let c : take (length bs) a ≡ bs = rw size at (written w (ltb-false (length b) (length bs) e)) in rw (size, z, e, c)
+
+-- the settled answer to the tree
+tree-settled : (t s b a : List ℕ) (x : ReadAnswer) → length a ≡ length b → TreeMeans t b a x
+    → outcome (settled x a .0) (replicate (length s) 0) (settled x a .1) ≡ reads.cleared s b (reads.written (length t) (length b) (treeOf t))
+tree-settled t s b a (Refused r p) z m = rw (m, z, sub-zero)
+tree-settled t s b a (Accepted n k) z m = let bs = encode (length t) (mapTimes stored (m .nodes)) in rw (m .is, ← m .count) (by-room s b a bs n k z (m .writes) (ltb (length b) (length bs)) refl)
+
+-- ---- the text rules
+
+-- the pass over the text, where the scratch is long enough
+module _ (t s s′ : List ℕ) (x : SplitAnswer) (l : 16384 ≤ length s) (e : lexing.outcome x s′ ≡ splitting t s) where
+  split-both : lexing.outcome x s′ ≡ lexing.outcome (answerOf (split t)) (replicate (length s) 0)
+  unfolding splitting
+  split-both = e ∙ (rw (le-ltb (length s) 64 (omega arith)))
+
+  pub split-zero : s′ ≡ replicate (length s) 0
+  split-zero = ap (λ (p : SplitAnswer × List ℕ). p .1) split-both
+
+  split-answer : x ≡ answerOf (split t)
+  split-answer = ap (λ (p : SplitAnswer × List ℕ). p .0) split-both
+
+  pub split-refused : (r : Refusal) (p : ℕ) → x ≡ answer.Refused r p → parse t ≡ wrong r p
+  unfolding parse
+  split-refused r p q = go (split t) (sym split-answer ∙ q)
+    where
+      go : (y : Split) → answerOf y ≡ answer.Refused r p → reads.parsed (length t) y ≡ wrong r p
+      go (unlexed r′ p′) q = let i : r′ ≡ r = cc in let j : p′ ≡ p = cc in rw (i, j)
+      go (tokens ts) q = absurd (let z : _≡_ {A = ℕ} 0 1 = cc in omega arith)
+
+  pub split-accepted : x ≡ answer.Accepted → parse t ≡ treeOf t
+  unfolding parse
+  split-accepted q = go (split t) refl (sym split-answer ∙ q)
+    where
+      go : (y : Split) → split t ≡ y → answerOf y ≡ answer.Accepted → reads.parsed (length t) y ≡ treeOf t
+      go (unlexed r′ p′) i q = absurd (let z : _≡_ {A = ℕ} 0 1 = cc in omega arith)
+      go (tokens ts) i q = rw (split-reads t ts i)
+
+-- ---- reading
+
+module _ (t s b : List ℕ) where
+  pub too-long : 16384 < length t → reading t s b ≡ outcome (Refused TextTooLong 0) s b
+  unfolding reading early
+  too-long h = rw (lt-ltb 16384 (length t) h)
+
+  module _ (h : length t ≤ 16384) where
+    pub too-few : length s < 16384 → reading t s b ≡ outcome (Refused ScratchTooShort 0) s b
+    unfolding reading early
+    too-few l = rw (le-ltb 16384 (length t) h, lt-ltb (length s) 16384 l)
+
+    module _ (l : 16384 ≤ length s) where
+      by-parse : reading t s b ≡ reads.cleared s b (reads.written (length t) (length b) (parse t))
+      unfolding reading early
+      by-parse = rw (le-ltb 16384 (length t) h, le-ltb (length s) 16384 l)
+
+      pub read-refused : (s′ b′ : List ℕ) (x : ReadAnswer) (r : Refusal) (p : ℕ) → s′ ≡ replicate (length s) 0 → parse t ≡ wrong r p
+          → Prim.Path (ReadAnswer × List ℕ) (x, b′) (settled (Refused r p) b) → outcome x s′ b′ ≡ reading t s b
+      read-refused s′ b′ x r p z e q = rw (z, by-parse, e, sub-zero) (ap (λ (y : ReadAnswer × List ℕ). outcome (y .0) (replicate (length s) 0) (y .1)) q)
+
+      pub read-tree : (s′ b′ a : List ℕ) (x y : ReadAnswer) → s′ ≡ replicate (length s) 0 → parse t ≡ treeOf t → length a ≡ length b → TreeMeans t b a y
+          → Prim.Path (ReadAnswer × List ℕ) (x, b′) (settled y a) → outcome x s′ b′ ≡ reading t s b
+      read-tree s′ b′ a x y z e i m q = rw (z, by-parse, e) (ap (λ (v : ReadAnswer × List ℕ). outcome (v .0) (replicate (length s) 0) (v .1)) q ∙ tree-settled t s b a y i m)

@@ -1,0 +1,91 @@
+-- `parser::read` meets its contract. Assumes nothing.
+use Rattle.parser.proofs.ReadLaws.{read-refused, read-tree, split-accepted, split-refused, split-zero, too-few, too-long}
+use mathlib.Core.Path.{sym}
+use borrow.Author.Needs.{needs}
+use Rattle.parser.proofs.read.Statement.{statement}
+use Rattle.parser.proofs.read.Tie as tie
+
+returns : tie.Need-returns
+returns c =
+    let start = c .before .before .before .before in
+    sym (too-long (start .args .text .now) (start .args .scratch .now) (start .args .sheet .now) (c .if1 .taken))
+
+returns-2 : tie.Need-returns-2
+returns-2 c =
+    let at-if1 = c .before in
+    let start = at-if1 .before .before .before .before in
+    sym (too-few (start .args .text .now) (start .args .scratch .now) (start .args .sheet .now) (at-if1 .if1 .left) (c .if2 .taken))
+
+split-requires : tie.Need-split-requires
+split-requires c κs = search needs
+
+enum-known-refusal : tie.Need-enum-known-refusal
+enum-known-refusal c = search needs
+
+settle-requires : tie.Need-settle-requires
+settle-requires c κs = search needs
+
+enum-told : tie.Need-enum-told
+enum-told c = search needs
+
+parse-input-requires : tie.Need-parse-input-requires
+parse-input-requires c κs = search needs
+
+settle-requires-2 : tie.Need-settle-requires-2
+settle-requires-2 c κs = search needs
+
+same-length : tie.Need-same-length
+same-length c = search needs
+
+same-length-2 : tie.Need-same-length-2
+same-length-2 c = search needs
+
+returns-3 : tie.Need-returns-3
+returns-3 c =
+    let at-settle = c .before .before in
+    let at-refusal = at-settle .before .before .before in
+    let at-split = at-refusal .before .before .before .before in
+    let at-if2 = at-split .before .before in
+    let at-if1 = at-if2 .before in
+    let start = at-if1 .before .before .before .before in
+    let z = split-zero (start .args .text .now) (start .args .scratch .now) (at-split .split .last .1 .0) (at-split .split .result) (at-if2 .if2 .left) (at-split .split .ensures) in
+    let e = split-refused (start .args .text .now) (start .args .scratch .now) (at-split .split .last .1 .0) (at-split .split .result) (at-if2 .if2 .left) (at-split .split .ensures) _ _ (at-refusal .refusal .given .1) in
+    read-refused (start .args .text .now) (start .args .scratch .now) (start .args .sheet .now) (at-if1 .if1 .left) (at-if2 .if2 .left) (at-split .split .last .1 .0) (at-settle .settle .last .0) (at-settle .settle .result) _ _ z e (at-settle .settle .ensures)
+
+same-length-3 : tie.Need-same-length-3
+same-length-3 c = search needs
+
+same-length-4 : tie.Need-same-length-4
+same-length-4 c = search needs
+
+returns-4 : tie.Need-returns-4
+returns-4 c =
+    let at-settle2 = c .before .before in
+    let at-parse-input = at-settle2 .before .before .before .before in
+    let at-enum-told = at-parse-input .before .before in
+    let at-split = at-enum-told .before .before .before .before in
+    let at-if2 = at-split .before .before in
+    let at-if1 = at-if2 .before in
+    let start = at-if1 .before .before .before .before in
+    let z = split-zero (start .args .text .now) (start .args .scratch .now) (at-split .split .last .1 .0) (at-split .split .result) (at-if2 .if2 .left) (at-split .split .ensures) in
+    let e = split-accepted (start .args .text .now) (start .args .scratch .now) (at-split .split .last .1 .0) (at-split .split .result) (at-if2 .if2 .left) (at-split .split .ensures) (at-enum-told .enum-told .given .1) in
+    read-tree (start .args .text .now) (start .args .scratch .now) (start .args .sheet .now) (at-if1 .if1 .left) (at-if2 .if2 .left) (at-split .split .last .1 .0) (at-settle2 .settle2 .last .0) (at-parse-input .parse-input .last .1 .0) (at-settle2 .settle2 .result) (at-parse-input .parse-input .result) z e (at-parse-input .parse-input .kept .1 .0) (at-parse-input .parse-input .ensures) (at-settle2 .settle2 .ensures)
+
+pub read-spec : {M : Type 1} → statement M
+read-spec =
+    tie.close
+    (tie.spec
+    returns
+    returns-2
+    split-requires
+    enum-known-refusal
+    settle-requires
+    enum-told
+    parse-input-requires
+    settle-requires-2
+    same-length
+    same-length-2
+    returns-3
+    same-length-3
+    same-length-4
+    returns-4)
