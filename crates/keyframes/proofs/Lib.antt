@@ -1,0 +1,2 @@
+pub mod TimeLaws
+pub mod TrackLaws

@@ -1,0 +1,47 @@
+-- `keyframes::key_mark` meets its contract. Assumes nothing.
+use native.Mathlib.Omega.{arith}
+use Rattle.keyframes.proofs.TimeLaws.{no-colon, no-key, took-key}
+use borrow.Author.Needs.{needs}
+use Rattle.keyframes.proofs.key_mark.Statement.{statement}
+use Rattle.keyframes.proofs.key_mark.Tie as tie
+
+parse-keyframe-time-requires : tie.Need-parse-keyframe-time-requires
+parse-keyframe-time-requires c κs = search needs
+
+enum-known-r : tie.Need-enum-known-r
+enum-known-r c = search needs
+
+enum-known-t : tie.Need-enum-known-t
+enum-known-t c = search needs
+
+mark-requires : tie.Need-mark-requires
+mark-requires c κs = ((rw (c .before .t .given .1) at (c .before .before .before .parse-keyframe-time .ensures)) .took .ready, omega arith)
+
+enum-known-p : tie.Need-enum-known-p
+enum-known-p c = search needs
+
+enum-known-n : tie.Need-enum-known-n
+enum-known-n c = search needs
+
+returns : tie.Need-returns
+returns c = no-key (c .before .before .before .before .before .args .text .now) (c .before .before .before .before .before .args .c) _ _ (rw (c .before .r .given .1) at (c .before .before .before .parse-keyframe-time .ensures))
+
+returns-2 : tie.Need-returns-2
+returns-2 c = no-colon _ _ _ _ (rw (c .before .before .before .before .before .t .given .1) at (c .before .before .before .before .before .before .before .parse-keyframe-time .ensures)) _ (rw (c .before .p .given .1) at (c .before .before .before .mark .ensures))
+
+returns-3 : tie.Need-returns-3
+returns-3 c = took-key _ _ _ _ (rw (c .before .before .before .before .before .t .given .1) at (c .before .before .before .before .before .before .before .parse-keyframe-time .ensures)) _ (rw (c .before .n .given .1) at (c .before .before .before .mark .ensures))
+
+pub key-mark-spec : {M : Type 1} → statement M
+key-mark-spec =
+    tie.close
+    (tie.spec
+    parse-keyframe-time-requires
+    enum-known-r
+    enum-known-t
+    mark-requires
+    enum-known-p
+    enum-known-n
+    returns
+    returns-2
+    returns-3)

@@ -1,0 +1,24 @@
+-- `keyframes::separator` meets its contract. Assumes nothing.
+use Rattle.keyframes.proofs.TrackLaws.{by-comma, by-semicolon}
+use mathlib.Core.Path.{sym, _∙_}
+use borrow.Author.Needs.{needs}
+use Rattle.keyframes.proofs.separator.Statement.{statement}
+use Rattle.keyframes.proofs.separator.Tie as tie
+
+sees-requires : tie.Need-sees-requires
+sees-requires c κs = search needs
+
+eat-requires : tie.Need-eat-requires
+eat-requires c κs = search needs
+
+returns : tie.Need-returns
+returns c = by-comma (c .before .before .before .before .args .text .now) (c .before .before .before .before .args .c) _ _ (sym (c .before .before .sees .ensures (c .before .before .before .before .args .text .now) (c .before .before .before .before .pre)) ∙ c .before .if1 .taken) (c .eat .ensures)
+
+eat-requires-2 : tie.Need-eat-requires-2
+eat-requires-2 c κs = search needs
+
+returns-2 : tie.Need-returns-2
+returns-2 c = by-semicolon (c .before .before .before .before .args .text .now) (c .before .before .before .before .args .c) _ _ (sym (c .before .before .sees .ensures (c .before .before .before .before .args .text .now) (c .before .before .before .before .pre)) ∙ c .before .if1 .left) (c .eat2 .ensures)
+
+pub separator-spec : {M : Type 1} → statement M
+separator-spec = tie.close (tie.spec sees-requires eat-requires returns eat-requires-2 returns-2)

@@ -1,0 +1,55 @@
+-- `keyframes::track_loop` meets its contract. Assumes nothing.
+use native.Mathlib.Omega.{arith}
+use Rattle.keyframes.proofs.TrackLaws.{loop-no-colon, loop-refused, loop-step}
+use borrow.Author.Needs.{needs}
+use Rattle.keyframes.proofs.track_loop.Statement.{statement}
+use Rattle.keyframes.proofs.track_loop.Tie as tie
+
+advance-requires : tie.Need-advance-requires
+advance-requires c κs = search needs
+
+mark-requires : tie.Need-mark-requires
+mark-requires c κs = search needs
+
+enum-known-p : tie.Need-enum-known-p
+enum-known-p c = search needs
+
+enum-known-m : tie.Need-enum-known-m
+enum-known-m c = search needs
+
+parse-loop-mode-requires : tie.Need-parse-loop-mode-requires
+parse-loop-mode-requires c κs = (rw (c .before .m .given .1) at (c .before .before .before .mark .ensures)) .ready
+
+enum-known-r : tie.Need-enum-known-r
+enum-known-r c = search needs
+
+enum-known-mode : tie.Need-enum-known-mode
+enum-known-mode c = search needs
+
+eat-requires : tie.Need-eat-requires
+eat-requires c κs = ((rw (c .before .mode .given .1) at (c .before .before .before .parse-loop-mode .ensures)) .ready, omega arith)
+
+returns : tie.Need-returns
+returns c b = loop-no-colon (c .before .before .before .before .before .before .before .args .text .now) b (c .before .before .before .before .before .before .before .args .t) _ (c .before .before .before .before .advance .ensures) _ (rw (c .before .p .given .1) at (c .before .before .before .mark .ensures))
+
+returns-2 : tie.Need-returns-2
+returns-2 c b = loop-refused (c .before .before .before .before .before .before .before .before .before .before .before .args .text .now) b (c .before .before .before .before .before .before .before .before .before .before .before .args .t) _ (c .before .before .before .before .before .before .before .before .advance .ensures) _ (rw (c .before .before .before .before .before .m .given .1) at (c .before .before .before .before .before .before .before .mark .ensures)) _ _ (rw (c .before .r .given .1) at (c .before .before .before .parse-loop-mode .ensures))
+
+returns-3 : tie.Need-returns-3
+returns-3 c b = loop-step (c .before .before .before .before .before .before .before .before .before .before .before .before .before .args .text .now) b (c .before .before .before .before .before .before .before .before .before .before .before .before .before .args .t) _ (c .before .before .before .before .before .before .before .before .before .before .advance .ensures) _ (rw (c .before .before .before .before .before .before .before .m .given .1) at (c .before .before .before .before .before .before .before .before .before .mark .ensures)) (c .before .before .before .before .before .before .before .before .before .before .before .before .before .pre) _ _ _ _ (rw (c .before .before .before .mode .given .1) at (c .before .before .before .before .before .parse-loop-mode .ensures)) (c .before .eat .ensures)
+
+pub track-loop-spec : {M : Type 1} → statement M
+track-loop-spec =
+    tie.close
+    (tie.spec
+    advance-requires
+    mark-requires
+    enum-known-p
+    enum-known-m
+    parse-loop-mode-requires
+    enum-known-r
+    enum-known-mode
+    eat-requires
+    returns
+    returns-2
+    returns-3)

@@ -1,0 +1,161 @@
+-- What the functions of a track answer. Contracts cite these. Assumes nothing.
+use Prim.Native.Nat.{ℕ, _+_, _*_, _-_, _^_, _≤_, _<_}
+use mathlib.Core.Bool.{Bool, true, false, cond}
+use mathlib.Core.List.{List, [], _∷_, _++_}
+use mathlib.Core.Option.{Option, none, some}
+use mathlib.Core.Path.{_≡_}
+use lib.ListN.{length}
+use Rattle.number.specs.Number.{Written}
+use Rattle.number.specs.Time.{Key}
+use Rattle.codec.specs.Codec.{eachOut, big, opt}
+use Rattle.ast.specs.Tree.{KeyframeEntry, EasingSpec, mapFrames}
+use Rattle.ast.specs.declared.KeyframeTime.{KeyframeTime}
+use Rattle.sheet.specs.Sheet.{timeForm, easingForm, loopForm, entryForm}
+use Rattle.encode.specs.Of.{keyTimeOf, PlainTime, optEasingOf, PlainOptEasing, optLoopOf}
+use Rattle.encode.specs.Writes.{Writes}
+use Rattle.token.specs.Means.{written}
+use Rattle.grammar.specs.Rule.{Rule, got, refused, give, if, sees, seesName, skip, eat, the, leave, repeat, Next, more, done, _>>=_, _>>_}
+use Rattle.grammar.specs.Values.{parseEasing}
+use Rattle.grammar.specs.Grammar.{stored, parseKeyframeTime, keyframeEntry, trackStep, Track}
+use Rattle.cursor.specs.Means.{Ready, notes, tokens, run, Took}
+use Rattle.cursor.specs.declared.Cursor.{Cursor}
+use Rattle.arrays.specs.Means.{Went}
+use Rattle.arrays.specs.declared.ValueRead.{ValueRead}
+use Rattle.arrays.specs.declared.ValueRead.the-variants as value
+use Rattle.nodes.specs.declared.NodeRead.{NodeRead}
+use Rattle.nodes.specs.declared.NodeRead.the-variants as node
+use Rattle.keyframes.specs.declared.TimeRead.{TimeRead}
+use Rattle.keyframes.specs.declared.TimeRead.the-variants as time
+use Rattle.keyframes.specs.declared.EasingIf.{EasingIf}
+use Rattle.keyframes.specs.declared.EasingIf.the-variants as easing
+use Rattle.keyframes.specs.declared.Entry.{Entry}
+use Rattle.keyframes.specs.declared.Track as tracks
+use Rattle.keyframes.specs.declared.TrackNext.{TrackNext}
+use Rattle.keyframes.specs.declared.TrackNext.the-variants as turn
+use Rattle.keyframes.specs.declared.TrackRead.{TrackRead}
+use Rattle.keyframes.specs.declared.TrackRead.the-variants as track
+
+-- a text and a place in the sheet: every value of the record then stands below 2^30, as `arrays::parse_value` asks
+pub record Narrow (s : List ℕ) (out : ℕ) : Type 0 where
+  pub short : length s ≤ 16384
+  pub low : out < 2 ^ 29
+
+-- the same for what stands inside the record, at most k bytes behind its start
+pub record Inner (k : ℕ) (s : List ℕ) (out : ℕ) : Type 0 where
+  pub short : length s ≤ 16384
+  pub low : out < 2 ^ 29 + k
+
+-- ---- a key's time
+
+-- a `%`, which does not follow a number with a point
+abbrev pub percentSign : Bool → Rule Bool
+percentSign point = cond point (give false) (eat "%")
+
+abbrev pub keyOf : Bool → Bool → Written → Key
+keyOf p negative w = record { percent = p; negative = negative; written = w }
+
+-- the time that is stored for the key k
+pub record Stores (k : Key) (t : KeyframeTime) : Type 0 where
+  pub is : keyTimeOf t ≡ stored k
+  pub plain : PlainTime t
+
+-- the rule p takes a key, whose time is t
+pub record TookTime (s : List ℕ) (c m : Cursor) (p : Rule Key) (t : KeyframeTime) : Type 0 where
+  pub key : Key
+  pub took : Took 1 s c m p key
+  pub stores : Stores key t
+
+abbrev pub TimeMeans : List ℕ → Cursor → Rule Key → TimeRead → Type 0
+TimeMeans s c p (time.Is t m) = TookTime s c m p t
+TimeMeans s c p (time.Refused r q) = run s c p ≡ refused r q
+
+-- ---- a frame
+
+-- a key and its `:`
+abbrev pub keyMark : Rule Key
+keyMark = parseKeyframeTime >>= λ k. the ":" >> give k
+
+-- an easing where a name follows
+abbrev pub easingIf : Rule (Option EasingSpec)
+easingIf = if seesName (parseEasing >>= λ e. give (some e)) (give none)
+
+abbrev pub EasingMeans : List ℕ → Cursor → EasingIf → Type 0
+EasingMeans s c (easing.Is e m) = Took 0 s c m easingIf (optEasingOf e) × PlainOptEasing e
+EasingMeans s c (easing.Refused r q) = run s c easingIf ≡ refused r q
+
+-- the bytes of frames, for a text of n bytes
+abbrev pub framesBytes : ℕ → List (KeyframeEntry Key) → List ℕ
+framesBytes n fs = eachOut (entryForm n .write) (mapFrames stored fs)
+
+-- a time is written at `out`, then an easing at `end`: b becomes a
+pub record Framed (b a : List ℕ) (out end : ℕ) (e : Entry) (q : ℕ) : Type 0 where
+  pub mid : List ℕ
+  pub behind : ℕ
+  pub time : Writes b out (timeForm .write (keyTimeOf (e .time))) mid behind
+  pub easing : (n : ℕ) → Writes mid end (opt (easingForm n) .write (optEasingOf (e .easing))) a q
+
+abbrev pub FrameMeans : List ℕ → List ℕ → List ℕ → Cursor → ℕ → ValueRead → Type 0
+FrameMeans s b a c out (value.Is q m) = Went 1 s b a c m out q keyframeEntry (λ f. framesBytes (length s) (f ∷ []))
+FrameMeans s b a c out (value.Refused r q) = run s c keyframeEntry ≡ refused r q
+
+-- ---- a track
+
+-- `,` or `;`
+abbrev pub separator : Rule Bool
+separator = if (sees ",") (skip >> give true) (eat ";")
+
+-- the track of the grammar, with some frames
+abbrev pub trackOf : List (KeyframeEntry Key) → tracks.Track → Track
+trackOf fs t = (fs, optLoopOf (t .«loop_mode»))
+
+-- the step p makes u of the track t, at least e bytes on: it adds some frames, and they are written
+pub record Stepped (e : ℕ) (s b a : List ℕ) (t u : tracks.Track) (p : Track → Rule (Next Track)) (goes : Track → Next Track) : Type 0 where
+  pub added : List (KeyframeEntry Key)
+  pub is : (fs : List (KeyframeEntry Key)) → run s (t .next) (p (trackOf fs t)) ≡ got (goes (trackOf (fs ++ added) u)) (notes s (u .next)) (tokens s (u .next))
+  pub low : t .next .at + e ≤ u .next .at
+  pub ready : Ready s (u .next)
+  pub count : u .frames ≡ t .frames + length added
+  pub writes : Writes b (t .end) (framesBytes (length s) added) a (u .end)
+  pub paid : u .end ≤ t .end + 64 * (u .next .at - t .next .at)
+
+abbrev pub StepMeans : List ℕ → List ℕ → List ℕ → tracks.Track → (Track → Rule (Next Track)) → TrackNext → Type 0
+StepMeans s b a t p (turn.More u) = Stepped 1 s b a t u p more
+StepMeans s b a t p (turn.Done u) = Stepped 0 s b a t u p done
+StepMeans s b a t p (turn.Refused r q) = (fs : List (KeyframeEntry Key)) → run s (t .next) (p (trackOf fs t)) ≡ refused r q
+
+-- what a step asks of a track
+pub record Standing (s : List ℕ) (t : tracks.Track) : Type 0 where
+  pub ready : Ready s (t .next)
+  pub inner : Inner 2097152 s (t .end)
+  pub few : t .frames ≤ t .end
+
+-- the whole track, whose frames are written from `out` on
+pub record TrackWent (s b a : List ℕ) (c : Cursor) (out : ℕ) (t : tracks.Track) : Type 0 where
+  pub frames : List (KeyframeEntry Key)
+  pub took : Took 0 s c (t .next) (repeat trackStep ([], none)) (trackOf frames t)
+  pub count : t .frames ≡ length frames
+  pub writes : Writes b out (framesBytes (length s) frames) a (t .end)
+  pub paid : t .end ≤ out + 64 * (t .next .at - c .at)
+
+abbrev pub TrackMeans : List ℕ → List ℕ → List ℕ → Cursor → ℕ → TrackRead → Type 0
+TrackMeans s b a c out (track.Is t) = TrackWent s b a c out t
+TrackMeans s b a c out (track.Refused r q) = run s c (repeat trackStep ([], none)) ≡ refused r q
+
+-- a track behind its `{`, with its `}`
+abbrev pub trackBehind : Rule Track
+trackBehind = repeat trackStep ([], none) >>= λ t. leave >> give t
+
+-- its bytes: the count, the frames, the loop mode
+abbrev pub trackBytes : ℕ → Track → List ℕ
+trackBytes n t = (big 2 .write (length (t .0)) ++ framesBytes n (t .0)) ++ opt loopForm .write (t .1)
+
+-- up to 8 bytes more than the text pays for: the count and the loop mode
+pub record BlockWent (s b a : List ℕ) (c m : Cursor) (out q : ℕ) : Type 0 where
+  pub value : Track
+  pub took : Took 0 s c m trackBehind value
+  pub writes : Writes b out (trackBytes (length s) value) a q
+  pub paid : q ≤ out + 8 + 64 * (m .at - c .at)
+
+abbrev pub BlockMeans : List ℕ → List ℕ → List ℕ → Cursor → ℕ → NodeRead → Type 0
+BlockMeans s b a c out (node.Is q m) = BlockWent s b a c m out q
+BlockMeans s b a c out (node.Refused r q) = run s c trackBehind ≡ refused r q

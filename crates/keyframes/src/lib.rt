@@ -1,0 +1,315 @@
+// parser.rs, parse_keyframes and parse_keyframe_time: a track, whose frames are written into the sheet as they are read.
+// The functions are for our own crates: each requires a cursor that stands in a text of at most 16,384 bytes, and a place that leaves
+// room for every sum.
+ghost use mathlib.Core.Path.{_≡_};
+ghost use mathlib.Core.Bool.{_&&_};
+ghost use mathlib.Core.List.{List};
+ghost use Prim.Native.Nat.{ℕ, _<_, _^_};
+ghost use Rattle.token.specs.Means.{Small, written};
+ghost use Rattle.encode.specs.Of.{PlainTime, PlainOptEasing};
+ghost use Rattle.grammar.specs.Grammar.{parseKeyframeTime, trackLoop, trackFrame, trackStep, parseKeyframes};
+ghost use Rattle.cursor.specs.Means.{Ready, Took};
+ghost use Rattle.nodes.specs.Means.{LeafMeans};
+ghost use Rattle.keyframes.specs.Means.{Narrow, Inner, percentSign, keyOf, Stores, TimeMeans, keyMark, EasingMeans, Framed, FrameMeans, separator, StepMeans, Standing, TrackMeans, BlockMeans};
+use arrays::ValueRead;
+use ast::KeyframeTime;
+use ast::OptEasing;
+use ast::OptLoop;
+use cursor::Cursor;
+use cursor::Eaten;
+use cursor::MarkRead;
+use cursor::NumberRead;
+use cursor::WordRead;
+use error::Refusal;
+use nodes::NodeRead;
+use token::Number;
+use values::EasingRead;
+use values::LoopRead;
+
+pub enum TimeRead {
+    Is(KeyframeTime, Cursor),
+    Refused(Refusal, usize),
+}
+
+pub enum EasingIf {
+    Is(OptEasing, Cursor),
+    Refused(Refusal, usize),
+}
+
+// A keyframe entry but for its value, which stands in the sheet as soon as it is read, since an array has no bound. One at a time is
+// held, by value: the stored time, an f32 in its enum, and the easing.
+pub struct Entry {
+    pub time: KeyframeTime,
+    pub easing: OptEasing,
+}
+
+// The track so far: how many frames, the place behind the last one's bytes, the loop mode, and the cursor.
+pub struct Track {
+    pub frames: usize,
+    pub end: usize,
+    pub loop_mode: OptLoop,
+    pub next: Cursor,
+}
+
+// The track behind an item, which goes on or ends.
+pub enum TrackNext {
+    More(Track),
+    Done(Track),
+    Refused(Refusal, usize),
+}
+
+pub enum TrackRead {
+    Is(Track),
+    Refused(Refusal, usize),
+}
+
+// ---- a key's time
+
+// Takes the `%` of a percent. A number with a point is none.
+fn percent_sign(text: &[u8], c: Cursor, point: bool) -> Eaten
+    requires { ⌜ Ready (now text) c ⌝ }
+    ensures { λ r. ⌜ Took 0 (now (text .entry)) c (r .next) (percentSign point) (r .taken) ⌝ }
+{
+    if point {
+        return Eaten {
+            taken: false,
+            next: c,
+        };
+    }
+    cursor::eat(text, c, 37)
+}
+
+// Whether both hold: a percent with an `s` is refused.
+fn all(a: bool, b: bool) -> bool
+    ensures { λ r. ⌜ r ≡ (a && b) ⌝ }
+{
+    if a {
+        return b;
+    }
+    false
+}
+
+// The time that is stored for a key.
+fn time_of(percent: bool, negative: bool, n: Number) -> KeyframeTime
+    requires { ⌜ Small n ⌝ }
+    ensures { λ r. ⌜ Stores (keyOf percent negative (written n)) r ⌝ }
+{
+    if percent {
+        return KeyframeTime::Percent(number::percent(negative, n.digits));
+    }
+    KeyframeTime::Seconds(number::decimal(negative, n.digits, n.places))
+}
+
+pub fn parse_keyframe_time(text: &[u8], c: Cursor) -> TimeRead
+    requires { ⌜ Ready (now text) c ⌝ }
+    ensures { λ r. ⌜ TimeMeans (now (text .entry)) c parseKeyframeTime r ⌝ }
+{
+    match cursor::number(text, c) {
+        NumberRead::Missing(p) => TimeRead::Refused(Refusal::Malformed, p),
+        NumberRead::Is(negative, n, m) => {
+            let sign = percent_sign(text, m, n.point);
+            let next = sign.next;
+            if all(sign.taken, n.suffix) {
+                let head = next.head;
+                return TimeRead::Refused(Refusal::Malformed, head.start);
+            }
+            TimeRead::Is(time_of(sign.taken, negative, n), next)
+        }
+    }
+}
+
+// ---- a frame
+
+// A key and its `:`.
+fn key_mark(text: &[u8], c: Cursor) -> TimeRead
+    requires { ⌜ Ready (now text) c ⌝ }
+    ensures { λ r. ⌜ TimeMeans (now (text .entry)) c keyMark r ⌝ }
+{
+    match parse_keyframe_time(text, c) {
+        TimeRead::Refused(r, p) => TimeRead::Refused(r, p),
+        TimeRead::Is(t, m) => match cursor::mark(text, m, 58) {
+            MarkRead::Missing(p) => TimeRead::Refused(Refusal::Missing, p),
+            MarkRead::Is(n) => TimeRead::Is(t, n),
+        },
+    }
+}
+
+// An easing where a name follows.
+fn keyframe_easing(text: &[u8], c: Cursor) -> EasingIf
+    requires { ⌜ Ready (now text) c ⌝ }
+    ensures { λ r. ⌜ EasingMeans (now (text .entry)) c r ⌝ }
+{
+    if !cursor::sees_name(text, c) {
+        return EasingIf::Is(OptEasing::Absent, c);
+    }
+    match values::parse_easing(text, c) {
+        EasingRead::Refused(r, p) => EasingIf::Refused(r, p),
+        EasingRead::Is(e, m) => EasingIf::Is(OptEasing::Present(e), m),
+    }
+}
+
+// Writes an entry around its value, which ends at `end`: the time in front of it, at `out`, and the easing behind it.
+fn put_entry(sheet: &mut [u8], out: usize, end: usize, e: Entry) -> usize
+    requires { ⌜ (out < 2 ^ 31) × (end < 2 ^ 31) × PlainTime (e .time) × PlainOptEasing (e .easing) ⌝ }
+    ensures { λ r. ⌜ Framed (now (sheet .entry)) (now (sheet .exit)) out end e r ⌝ }
+{
+    let time = e.time;
+    let easing = e.easing;
+    encode::put_time(sheet, out, time);
+    encode::put_opt_easing(sheet, end, easing)
+}
+
+// A frame, written at `out`: a time, of 5 bytes, a value and an easing.
+fn keyframe_entry(text: &[u8], sheet: &mut [u8], c: Cursor, out: usize) -> ValueRead
+    requires { ⌜ Ready (now text) c × Inner 2097152 (now text) out ⌝ }
+    ensures { λ r. ⌜ FrameMeans (now (text .entry)) (now (sheet .entry)) (now (sheet .exit)) c out r ⌝ }
+{
+    match key_mark(text, c) {
+        TimeRead::Refused(r, p) => ValueRead::Refused(r, p),
+        TimeRead::Is(time, m) => match arrays::parse_value(text, sheet, m, out + 5) {
+            ValueRead::Refused(r, p) => ValueRead::Refused(r, p),
+            ValueRead::Is(end, n) => match keyframe_easing(text, n) {
+                EasingIf::Refused(r, p) => ValueRead::Refused(r, p),
+                EasingIf::Is(easing, u) => ValueRead::Is(
+                    put_entry(sheet, out, end, Entry { time, easing }),
+                    u,
+                ),
+            },
+        },
+    }
+}
+
+// ---- a track
+
+// Takes a `,` or a `;`.
+fn separator(text: &[u8], c: Cursor) -> Eaten
+    requires { ⌜ Ready (now text) c ⌝ }
+    ensures { λ r. ⌜ Took 0 (now (text .entry)) c (r .next) separator (r .taken) ⌝ }
+{
+    if cursor::sees(c, 44) {
+        return cursor::eat(text, c, 44);
+    }
+    cursor::eat(text, c, 59)
+}
+
+// `loop: ..`, and a `,` if there is one: the last mode wins.
+fn track_loop(text: &[u8], t: Track) -> TrackNext
+    requires { ⌜ Ready (now text) (t .next) ⌝ }
+    ensures { λ r. ⌜ ((b : List ℕ) → StepMeans (now (text .entry)) b b t trackLoop r) ⌝ }
+{
+    let c = t.next;
+    let behind = cursor::advance(text, c);
+    match cursor::mark(text, behind, 58) {
+        MarkRead::Missing(p) => TrackNext::Refused(Refusal::Missing, p),
+        MarkRead::Is(m) => match values::parse_loop_mode(text, m) {
+            LoopRead::Refused(r, p) => TrackNext::Refused(r, p),
+            LoopRead::Is(mode, n) => {
+                let ate = cursor::eat(text, n, 44);
+                let next = ate.next;
+                TrackNext::More(Track {
+                    frames: t.frames,
+                    end: t.end,
+                    loop_mode: OptLoop::Present(mode),
+                    next,
+                })
+            }
+        },
+    }
+}
+
+// A frame, written behind those before it. The last of the track has no `,` or `;` behind it.
+fn track_frame(text: &[u8], sheet: &mut [u8], t: Track) -> TrackNext
+    requires { ⌜ Standing (now text) t ⌝ }
+    ensures { λ r. ⌜ StepMeans (now (text .entry)) (now (sheet .entry)) (now (sheet .exit)) t trackFrame r ⌝ }
+{
+    let c = t.next;
+    let loop_mode = t.loop_mode;
+    match keyframe_entry(text, sheet, c, t.end) {
+        ValueRead::Refused(r, p) => TrackNext::Refused(r, p),
+        ValueRead::Is(end, m) => {
+            let ate = separator(text, m);
+            let next = ate.next;
+            let longer = Track {
+                frames: t.frames + 1,
+                end,
+                loop_mode,
+                next,
+            };
+            if ate.taken {
+                return TrackNext::More(longer);
+            }
+            TrackNext::Done(longer)
+        }
+    }
+}
+
+// An item of a track: the loop mode or a frame; or its end.
+fn track_step(text: &[u8], sheet: &mut [u8], t: Track) -> TrackNext
+    requires { ⌜ Standing (now text) t ⌝ }
+    ensures { λ r. ⌜ StepMeans (now (text .entry)) (now (sheet .entry)) (now (sheet .exit)) t trackStep r ⌝ }
+{
+    let c = t.next;
+    if cursor::ends(c) {
+        return TrackNext::Done(t);
+    }
+    if cursor::sees_word(text, c, b"loop") {
+        return track_loop(text, t);
+    }
+    track_frame(text, sheet, t)
+}
+
+// The items of a track, its frames written from `out` on.
+fn track_items(text: &[u8], sheet: &mut [u8], c: Cursor, out: usize) -> TrackRead
+    requires { ⌜ Ready (now text) c × Inner 16 (now text) out ⌝ }
+    ensures { λ r. ⌜ TrackMeans (now (text .entry)) (now (sheet .entry)) (now (sheet .exit)) c out r ⌝ }
+{
+    let mut t = Track {
+        frames: 0,
+        end: out,
+        loop_mode: OptLoop::Absent,
+        next: c,
+    };
+    loop {
+        match track_step(text, sheet, t) {
+            TrackNext::Refused(r, p) => return TrackRead::Refused(r, p),
+            TrackNext::Done(u) => return TrackRead::Is(u),
+            TrackNext::More(u) => {
+                t = u;
+            }
+        }
+    }
+}
+
+// A track behind its `{`: the count of its frames, the frames, the loop mode.
+fn track_value(text: &[u8], sheet: &mut [u8], c: Cursor, out: usize) -> NodeRead
+    requires { ⌜ Ready (now text) c × Inner 8 (now text) out ⌝ }
+    ensures { λ r. ⌜ BlockMeans (now (text .entry)) (now (sheet .entry)) (now (sheet .exit)) c out r ⌝ }
+{
+    match track_items(text, sheet, c, out + 2) {
+        TrackRead::Refused(r, p) => NodeRead::Refused(r, p),
+        TrackRead::Is(t) => {
+            let mode = t.loop_mode;
+            let next = t.next;
+            encode::patch_count(sheet, out, t.frames);
+            let end = encode::put_opt_loop(sheet, t.end, mode);
+            NodeRead::Is(end, cursor::leave_group(text, next))
+        }
+    }
+}
+
+pub fn parse_keyframes(text: &[u8], sheet: &mut [u8], c: Cursor, out: usize) -> NodeRead
+    requires { ⌜ Ready (now text) c × Narrow (now text) out ⌝ }
+    ensures { λ r. ⌜ LeafMeans (now (text .entry)) (now (sheet .entry)) (now (sheet .exit)) c out parseKeyframes r ⌝ }
+{
+    match cursor::word(text, c) {
+        WordRead::Missing(p) => NodeRead::Refused(Refusal::Missing, p),
+        WordRead::Is(target, m) => match cursor::mark(text, m, 123) {
+            MarkRead::Missing(p) => NodeRead::Refused(Refusal::Missing, p),
+            MarkRead::Is(n) => {
+                let target_at = encode::put_byte(sheet, out, 2);
+                let track_at = encode::put_span(sheet, target_at, target);
+                track_value(text, sheet, n, track_at)
+            }
+        },
+    }
+}

@@ -1,0 +1,4 @@
+pub mod Faults
+pub mod Tracks
+pub mod Reading
+pub mod Whole

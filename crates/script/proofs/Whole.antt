@@ -1,0 +1,66 @@
+-- Demand 3, entire, from three laws of the grammar. Assumes nothing: the laws are parameters.
+use Prim.Native.Nat.{ℕ, _-_, _≤_}
+use mathlib.Core.List.{List, _++_}
+use mathlib.Core.Option.{none, some}
+use mathlib.Core.Path.{_≡_, refl, sym, ap, _∙_}
+use native.Mathlib.Omega.{arith}
+use borrow.Author.Tests.{le-ltb}
+use lib.ListN.{length, take, replicate}
+use lib.Seq.{take-at}
+use Rattle.number.specs.Time.{Key}
+use Rattle.ast.specs.Tree.{Nodes, KeyframeTime, mapTimes, records}
+use Rattle.sheet.specs.Sheet.{encode, decode}
+use Rattle.sheet.specs.Opening.{foreignFrom, opening}
+use Rattle.sheet.proofs.Laws.{Fits, decodes}
+use Rattle.grammar.specs.Grammar.{stored}
+use Rattle.parser.specs.Reading.{tree, parse, reading}
+use Rattle.validate.specs.Checking.{judged, checking}
+use Rattle.error.specs.declared.ReadAnswer.{ReadAnswer}
+use Rattle.error.specs.declared.ReadAnswer.the-variants as read
+use Rattle.error.specs.declared.CheckAnswer.{CheckAnswer}
+use Rattle.script.specs.Claim.{Unrefused, Agreed, Claim, Demand3}
+use Rattle.script.proofs.Reading.{sheetOf, accepts, due}
+use Rattle.script.proofs.Tracks.{tracks}
+
+-- checking a tree's own sheet
+checks : (t : List ℕ) (ns : Nodes KeyframeTime) → length t ≤ 16384 → foreignFrom 0 t ≡ none → decode (length t) (encode (length t) ns) ≡ some ns → checking t (encode (length t) ns) ≡ judged t ns
+unfolding checking opening
+checks t ns h f d = rw (le-ltb 16384 (length t) h, f, d)
+
+module _
+    (clean : (t : List ℕ) (ns : Nodes Key) → parse t ≡ tree ns → foreignFrom 0 t ≡ none)
+    (fits : (t : List ℕ) (ns : Nodes Key) → length t ≤ 16384 → parse t ≡ tree ns → Fits (length t) (mapTimes stored ns))
+    (small : (t : List ℕ) (ns : Nodes Key) → length t ≤ 16384 → parse t ≡ tree ns → length (encode (length t) (mapTimes stored ns)) ≤ 49152) where
+  back : (t : List ℕ) (ns : Nodes Key) → length t ≤ 16384 → parse t ≡ tree ns → decode (length t) (sheetOf t ns) ≡ some (mapTimes stored ns)
+  back t ns h p = decodes (length t) (mapTimes stored ns) (fits t ns h p) (let s = small t ns h p in omega arith)
+
+  -- whoever has made both calls: `left` is what reading answered and left behind, v what checking answered to the sheet up to the length that
+  -- reading gave; where reading refuses, v is anything
+  pub claim : (t scratch sheet : List ℕ) (left : ReadAnswer × List ℕ × List ℕ) (v : CheckAnswer) → left ≡ reading t scratch sheet
+      → ((n c : ℕ) → left .0 ≡ read.Accepted n c → v ≡ checking t (take n (left .2))) → Claim t (length scratch) (length sheet) (left .0) (left .2) v
+  claim t scratch sheet left v e g = record {
+    only = λ n c a. due t scratch sheet n c (ap (λ (r : ReadAnswer × List ℕ × List ℕ). r .0) (sym e) ∙ a);
+    whenever = λ ns h. agreed ns h (e ∙ accepts t scratch sheet ns h);
+  }
+    where
+      agreed : (ns : Nodes Key) → Unrefused t (length scratch) (length sheet) ns
+          → left ≡ (read.Accepted (length (sheetOf t ns)) (records ns), replicate (length scratch) 0, sheetOf t ns ++ replicate (length sheet - length (sheetOf t ns)) 0) → Agreed t (left .0) (left .2) v ns
+      agreed ns h q =
+          let bs : List ℕ = sheetOf t ns in
+          let a : left .0 ≡ read.Accepted (length bs) (records ns) = ap (λ (r : ReadAnswer × List ℕ × List ℕ). r .0) q in
+          let s : take (length bs) (left .2) ≡ bs = rw q (take-at bs (replicate (length sheet - length bs) 0) (length bs) refl) in
+          let d = back t ns (h .short) (h .parses) in
+          let w : v ≡ judged t (mapTimes stored ns) = g _ _ a ∙ (rw s (checks t (mapTimes stored ns) (h .short) (clean t ns (h .parses)) d)) in
+          record {
+            size = length bs;
+            held = mapTimes stored ns;
+            answer = a;
+            encodes = s;
+            decodes = rw s d;
+            same = refl;
+            checked = w;
+            tracks = λ i x k. rw w (tracks t ns i x k);
+          }
+
+  pub demand3 : Demand3
+  demand3 t scratch sheet v g = claim t scratch sheet (reading t scratch sheet) v refl g
