@@ -1,3 +1,2 @@
 pub mod Output
 pub mod Claim
-pub mod Table
