@@ -5,6 +5,7 @@ use mathlib.Core.List.{List, [], _∷_, _++_, append-nil, flatten}
 use mathlib.Core.Path.{_≡_, refl, sym, ap, _∙_}
 use native.Mathlib.Omega.{arith}
 use native.Mathlib.Numerals.{add-one}
+use native.Mathlib.Nat.{sub-zero}
 use lib.Dec.{ltb}
 use lib.ListN.{length, getD, take, drop, replicate, length-append, length-replicate}
 use lib.Seq.{drop-cons, take-all, length-sets}
@@ -17,8 +18,17 @@ use Rattle.text.specs.Write.{Puts}
 use Rattle.text.proofs.WriteLaws.{puts-front, puts-fits}
 use Rattle.line.specs.Lining.{lining}
 use Rattle.line.proofs.LineLaws.{given-fits}
-use Rattle.script.specs.Output.{decimalOut, accept, refusal, lines, printed, output}
-use Rattle.print.specs.Pieces.{pending, ahead, afterLine, Steps, Run}
+use Rattle.error.specs.declared.ReadAnswer.the-variants as read
+use Rattle.error.specs.declared.CheckAnswer.{CheckAnswer}
+use Rattle.error.specs.declared.CheckAnswer.the-variants as check
+use Rattle.parser.specs.Means.{outcome}
+use Rattle.parser.specs.Reading.{reading}
+use Rattle.validate.specs.Checking.{checking}
+use Rattle.verdict.specs.declared.Verdict.{Verdict}
+use Rattle.verdict.specs.declared.Verdict.the-variants.{Unread, Checked}
+use Rattle.verdict.specs.Verdict.{readOf, Answered}
+use Rattle.script.specs.Output.{decimalOut, accept, refusal, lines, whenRead, printed, output}
+use Rattle.print.specs.Pieces.{pending, judgedStage, firstStage, ahead, afterLine, Begins, Steps, Run}
 use Rattle.print.specs.declared.Stage.{Stage}
 use Rattle.print.specs.declared.Stage.the-variants.{Line, Accept, Refuse, Done}
 
@@ -107,6 +117,20 @@ module _ (t sheet out : List ℕ) where
     unfolding lines
     step-refused r p after k e = record { kept = k; fits = omega arith; piece = λ room. rw e; falls = λ h. omega arith }
 
+-- ---- the first stage
+
+module _ (t scratch sheet words left : List ℕ) where
+  checked-stage : (n c : ℕ) (v : CheckAnswer) → v ≡ checking t (take n left) → (out : List ℕ) → pending t left out (judgedStage n c v) ≡ whenRead t out (read.Accepted n c, words, left)
+  checked-stage n c check.Accepted e out = rw (← e, sub-zero)
+  checked-stage n c (check.Refused r p) e out = rw (← e)
+
+  begins : (v : Verdict) → Answered t left v → (out : List ℕ) → pending t left out (firstStage v) ≡ whenRead t out (outcome (readOf v) words left)
+  begins (Unread r p) e out = refl
+  begins (Checked n c v) e out = checked-stage n c v e out
+
+  pub the-first : (v : Verdict) → outcome (readOf v) words left ≡ reading t scratch sheet → Answered t left v → Begins t scratch sheet left (firstStage v)
+  the-first v e f out = begins v f out ∙ ap (whenRead t out) e
+
 -- ---- the whole output
 
 -- the pieces of all steps, one behind the other, are what was to be printed
@@ -117,7 +141,6 @@ pieces-whole t sheet out a (p ∷ ps) room (after, n, b, s, e, run) =
     s .piece room ∙ ap (λ (l : List ℕ). take n after ++ l) (pieces-whole t sheet after b ps (omega (arith, s .kept)) run) ∙ ap (λ (l : List ℕ). l ++ flatten ps) (sym e)
 
 -- with the program's buffers: what is printed from the stage that `begin` gives on is the program's output
-pub output-whole : (t sheet : List ℕ) (a : Stage) (ps : List (List ℕ)) → pending t sheet (replicate 65536 0) a ≡ printed t (replicate 16384 0) (replicate 49152 0) (replicate 65536 0)
-    → Run t sheet (replicate 65536 0) a ps → flatten ps ≡ output t
+pub output-whole : (t sheet : List ℕ) (a : Stage) (ps : List (List ℕ)) → Begins t (replicate 16384 0) (replicate 49152 0) sheet a → Run t sheet (replicate 65536 0) a ps → flatten ps ≡ output t
 unfolding output
-output-whole t sheet a ps e run = sym (pieces-whole t sheet (replicate 65536 0) a ps (rw length-replicate (omega arith)) run) ∙ e
+output-whole t sheet a ps e run = sym (pieces-whole t sheet (replicate 65536 0) a ps (rw length-replicate (omega arith)) run) ∙ e (replicate 65536 0)

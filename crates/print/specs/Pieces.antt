@@ -5,7 +5,11 @@ use mathlib.Core.List.{List, [], _∷_, _++_}
 use mathlib.Core.Path.{_≡_}
 use lib.Dec.{ltb}
 use lib.ListN.{length, take}
-use Rattle.script.specs.Output.{refusal, accept, lines}
+use Rattle.error.specs.declared.CheckAnswer.{CheckAnswer}
+use Rattle.error.specs.declared.CheckAnswer.the-variants as check
+use Rattle.verdict.specs.declared.Verdict.{Verdict}
+use Rattle.verdict.specs.declared.Verdict.the-variants.{Unread, Checked}
+use Rattle.script.specs.Output.{refusal, accept, lines, printed}
 use Rattle.print.specs.declared.Stage.{Stage}
 use Rattle.print.specs.declared.Stage.the-variants.{Line, Accept, Refuse, Done}
 
@@ -20,12 +24,25 @@ pending t sheet out Done = []
 abbrev pub afterLine : ℕ → ℕ → ℕ → Stage
 afterLine size n i = cond (ltb i n) (Line size n (i + 1)) (Accept n)
 
+-- the first stage, by what reading and checking answered
+abbrev pub judgedStage : ℕ → ℕ → CheckAnswer → Stage
+judgedStage size n check.Accepted = Line size n 0
+judgedStage size n (check.Refused r p) = Refuse r p
+
+abbrev pub firstStage : Verdict → Stage
+firstStage (Unread r p) = Refuse r p
+firstStage (Checked size n v) = judgedStage size n v
+
 -- how many stages may follow
 abbrev pub ahead : Stage → ℕ
 ahead (Line size n i) = n - i + 2
 ahead (Accept n) = 1
 ahead (Refuse r p) = 1
 ahead Done = 0
+
+-- from the stage a on, with the sheet `left` that reading leaves, the whole is printed, whatever output lining is lent
+abbrev pub Begins : (t scratch sheet left : List ℕ) → Stage → Type 0
+Begins t scratch sheet left a = (out : List ℕ) → pending t left out a ≡ printed t scratch sheet out
 
 -- at the stage a, a step leaves the output `after`, of which the first n bytes are the next piece, and the stage b
 pub record Steps (t sheet out : List ℕ) (a : Stage) (after : List ℕ) (n : ℕ) (b : Stage) : Type 0 where

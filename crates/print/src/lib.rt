@@ -1,13 +1,18 @@
-// What the program prints, piece by piece: lines, then `accept N`; or `refuse R at P`.
+// What the program prints, piece by piece: lines, then `accept N`; or `refuse R at P`. No contract can say what a write call writes, so `print` only
+// hands each piece to one.
 ghost use mathlib.Core.Path.{_≡_};
 ghost use Prim.Native.Nat.{_<_};
 ghost use lib.Dec.{ltb};
+ghost use Rattle.parser.specs.Reading.{reading};
 ghost use Rattle.text.specs.Write.{Puts};
 ghost use Rattle.script.specs.Output.{decimalOut, accept, refusal};
-ghost use Rattle.print.specs.Pieces.{ahead, afterLine, Steps};
+ghost use Rattle.print.specs.Pieces.{ahead, firstStage, afterLine, Begins, Steps};
 ghost use Rattle.print.specs.declared.Stage.the-variants.{Line};
+use error::CheckAnswer;
 use error::LineAnswer;
 use error::Refusal;
+use libc::STDOUT_FILENO;
+use verdict::Verdict;
 
 // What is printed next.
 pub enum Stage {
@@ -83,6 +88,36 @@ fn put_refusal(out: &mut [u8], cause: Refusal, place: usize) -> usize
 }
 
 // ---- pieces
+
+// What is printed first.
+fn first_stage(verdict: Verdict) -> Stage
+    ensures { λ r. ⌜ r ≡ firstStage verdict ⌝ }
+{
+    match verdict {
+        Verdict::Unread { refusal, place } => Stage::Refuse { refusal, place },
+        Verdict::Checked {
+            length,
+            records,
+            answer,
+        } => match answer {
+            CheckAnswer::Accepted => Stage::Line {
+                size: length,
+                records,
+                ordinal: 0,
+            },
+            CheckAnswer::Refused { refusal, place } => Stage::Refuse { refusal, place },
+        },
+    }
+}
+
+// Reads and checks a text, and gives what is printed first.
+pub fn begin(text: &[u8], scratch: &mut [u16], sheet: &mut [u8]) -> Stage
+    ensures { λ r. ⌜ now (scratch .exit) ≡ reading (now (text .entry)) (now (scratch .entry)) (now (sheet .entry)) .1 ⌝ }
+    ensures { λ r. ⌜ now (sheet .exit) ≡ reading (now (text .entry)) (now (scratch .entry)) (now (sheet .entry)) .2 ⌝ }
+    ensures { λ r. ⌜ Begins (now (text .entry)) (now (scratch .entry)) (now (sheet .entry)) (now (sheet .exit)) r ⌝ }
+{
+    first_stage(verdict::read_and_check(text, scratch, sheet))
+}
 
 // What follows a record's line.
 fn after_line(size: usize, records: usize, ordinal: usize) -> Stage
@@ -163,4 +198,22 @@ pub fn is_left(stage: Stage) -> bool
         } => true,
         Stage::Done => false,
     }
+}
+
+// Prints all that a text's bytes give, and says whether every write succeeded. The buffers are left as reading leaves them, and in the output
+// stands the last piece.
+pub fn print(text: &[u8], scratch: &mut [u16], sheet: &mut [u8], out: &mut [u8]) -> bool
+    ensures { λ r. ⌜ now (scratch .exit) ≡ reading (now (text .entry)) (now (scratch .entry)) (now (sheet .entry)) .1 ⌝ }
+    ensures { λ r. ⌜ now (sheet .exit) ≡ reading (now (text .entry)) (now (scratch .entry)) (now (sheet .entry)) .2 ⌝ }
+{
+    let mut stage = begin(text, scratch, sheet);
+    while is_left(stage) {
+        let piece = step(text, sheet, out, stage);
+        let n = piece.length;
+        if !io::write_all(STDOUT_FILENO, &out[..n]) {
+            return false;
+        }
+        stage = piece.next;
+    }
+    true
 }

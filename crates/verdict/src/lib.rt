@@ -11,9 +11,16 @@ use error::Refusal;
 // What the two calls answered.
 pub enum Verdict {
     // Reading refused, and checking was not called.
-    Unread { refusal: Refusal, place: usize },
+    Unread {
+        refusal: Refusal,
+        place: usize,
+    },
     // Reading gave the sheet's length and its count of node records, and checking this answer.
-    Checked { length: usize, records: usize, answer: CheckAnswer },
+    Checked {
+        length: usize,
+        records: usize,
+        answer: CheckAnswer,
+    },
 }
 
 // Reads a text into a sheet, and checks the sheet up to the length that reading gave.
