@@ -10,11 +10,6 @@ work=$(mktemp -d)
 trap 'rm -rf "$work"' EXIT
 . "$here/hex.sh"
 
-# many COUNT TEXT: TEXT so often.
-many() {
-    awk -v count="$1" -v text="$2" 'BEGIN { while (count--) printf "%s", text }'
-}
-
 # take COUNT HIGH: the first COUNT lines of at most HIGH characters.
 take() {
     awk -v count="$1" -v high="$2" 'length($0) <= high && taken < count { taken++; print }'

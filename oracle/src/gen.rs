@@ -1,10 +1,11 @@
 //! Makes scripts: by the grammar, damaged, at the limits, with every reserved
-//! word as a name, and short ones at chosen spots.
+//! word as a name, short ones at chosen spots, and ones for rare refusals.
 
 mod damage;
 mod grammar;
 mod limits;
 mod numbers;
+mod rare;
 mod short;
 mod words;
 
@@ -39,10 +40,12 @@ fn script(seed: u64, index: u64, kind: &str) -> Option<Vec<u8>> {
         "limits" => limits::script(random),
         "words" => words::script(index as usize, random),
         "short" => short::script(random),
+        "rare" => rare::script(random),
         _ => return None,
     })
 }
 
+/// All but `rare`, so that the stored files stay as they are.
 fn mixed(random: &mut Random) -> &'static str {
     match random.below(100) {
         0..=44 => "grammar",

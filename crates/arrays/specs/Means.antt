@@ -27,6 +27,11 @@ pub record Wide (s : List ℕ) (out : ℕ) : Type 0 where
   pub short : length s ≤ 16384
   pub low : out < 2 ^ 31
 
+-- the same for the elements of an array inside a record
+pub record Wider (s : List ℕ) (out : ℕ) : Type 0 where
+  pub short : length s ≤ 16384
+  pub low : out < 2 ^ 32
+
 -- the rule p takes a value from c to m, at least e bytes on, and its bytes are written from out to q: b becomes a.
 -- A byte of the text pays for 64 of the sheet.
 pub record Went {A : Type 0} (e : ℕ) (s b a : List ℕ) (c m : Cursor) (out q : ℕ) (p : Rule A) (bytes : A → List ℕ) : Type 0 where

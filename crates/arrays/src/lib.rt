@@ -1,10 +1,10 @@
 // parser.rs, parse_value: a number or an array of numbers, written into the sheet as it is read.
-// The functions are for our own crates: each requires a cursor that stands in a text of at most 16,384 bytes, and a place below 2^30.
+// The functions are for our own crates: each requires a cursor that stands in a text of at most 16,384 bytes, and a place below 2^31.
 ghost use mathlib.Core.Path.{_≡_};
 ghost use Prim.Native.Nat.{_≤_, _<_, _^_};
 ghost use lib.ListN.{length};
 ghost use Rattle.cursor.specs.Means.{Ready};
-ghost use Rattle.arrays.specs.Means.{Room, Wide, ItemsMeans, ArrayMeans, ValueMeans};
+ghost use Rattle.arrays.specs.Means.{Wide, Wider, ItemsMeans, ArrayMeans, ValueMeans};
 use cursor::Cursor;
 use cursor::FloatRead;
 use cursor::MarkRead;
@@ -24,7 +24,7 @@ pub enum ValueRead {
 
 // The elements of an array, written from `out` on.
 fn array_items(text: &[u8], sheet: &mut [u8], c: Cursor, out: usize) -> ItemsRead
-    requires { ⌜ Ready (now text) c × Wide (now text) out ⌝ }
+    requires { ⌜ Ready (now text) c × Wider (now text) out ⌝ }
     ensures { λ r. ⌜ ItemsMeans (now (text .entry)) (now (sheet .entry)) (now (sheet .exit)) c out r ⌝ }
 {
     let mut m = c;
@@ -51,7 +51,7 @@ fn array_items(text: &[u8], sheet: &mut [u8], c: Cursor, out: usize) -> ItemsRea
 
 // An array, behind its `[`: its case, its count, its elements.
 fn array_value(text: &[u8], sheet: &mut [u8], c: Cursor, out: usize) -> ValueRead
-    requires { ⌜ Ready (now text) c × Room (now text) out ⌝ }
+    requires { ⌜ Ready (now text) c × Wide (now text) out ⌝ }
     ensures { λ r. ⌜ ArrayMeans (now (text .entry)) (now (sheet .entry)) (now (sheet .exit)) c out r ⌝ }
 {
     let first = encode::put_byte(sheet, out, 1);
@@ -66,7 +66,7 @@ fn array_value(text: &[u8], sheet: &mut [u8], c: Cursor, out: usize) -> ValueRea
 
 // A number or an array, written at `out`.
 pub fn parse_value(text: &[u8], sheet: &mut [u8], c: Cursor, out: usize) -> ValueRead
-    requires { ⌜ Ready (now text) c × Room (now text) out ⌝ }
+    requires { ⌜ Ready (now text) c × Wide (now text) out ⌝ }
     ensures { λ r. ⌜ ValueMeans (now (text .entry)) (now (sheet .entry)) (now (sheet .exit)) c out r ⌝ }
 {
     match cursor::mark(text, c, 91) {

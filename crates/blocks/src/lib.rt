@@ -73,7 +73,8 @@ fn parse_head(text: &[u8], sheet: &mut [u8], c: Cursor, out: usize, i: usize) ->
 
 // ---- the beginning of a node
 
-const LEAVES: [u8; 9] = *b"\x05label\x02at";
+const LEAVES: [u8; 70] =
+    *b"\x05tween\x06spring\x09keyframes\x04path\x05morph\x04draw\x05color\x08waveform\x06preset\x05label\x02at";
 
 const CONTAINERS: [u8; 32] = *b"\x08sequence\x08parallel\x05group\x07stagger";
 

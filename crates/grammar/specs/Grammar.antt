@@ -412,7 +412,10 @@ parseAt = do
 -- ---- nodes
 
 unfoldable pub leaves : List (String × Rule (Leaf Key))
-leaves = ("label", parseLabel) ∷ ("at", parseAt) ∷ []
+leaves =
+    ("tween", parseTween) ∷ ("spring", parseSpring) ∷ ("keyframes", parseKeyframes) ∷ ("path", parsePath) ∷ ("morph", parseMorph)
+    ∷ ("draw", parseDraw) ∷ ("color", parseColor) ∷ ("waveform", parseWaveform) ∷ ("preset", parsePresetCall) ∷ ("label", parseLabel)
+    ∷ ("at", parseAt) ∷ []
 
 unfoldable pub containers : List (String × Rule Container)
 containers = ("sequence", parseSequence) ∷ ("parallel", parseParallel) ∷ ("group", parseGroup) ∷ ("stagger", parseStagger) ∷ []

@@ -35,15 +35,10 @@ use Rattle.keyframes.specs.declared.TrackNext.the-variants as turn
 use Rattle.keyframes.specs.declared.TrackRead.{TrackRead}
 use Rattle.keyframes.specs.declared.TrackRead.the-variants as track
 
--- a text and a place in the sheet: every value of the record then stands below 2^30, as `arrays::parse_value` asks
-pub record Narrow (s : List ℕ) (out : ℕ) : Type 0 where
-  pub short : length s ≤ 16384
-  pub low : out < 2 ^ 29
-
--- the same for what stands inside the record, at most k bytes behind its start
+-- a text, and a place inside the record, at most k bytes behind its start
 pub record Inner (k : ℕ) (s : List ℕ) (out : ℕ) : Type 0 where
   pub short : length s ≤ 16384
-  pub low : out < 2 ^ 29 + k
+  pub low : out < 2 ^ 30 + k
 
 -- ---- a key's time
 

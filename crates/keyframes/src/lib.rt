@@ -9,8 +9,9 @@ ghost use Rattle.token.specs.Means.{Small, written};
 ghost use Rattle.encode.specs.Of.{PlainTime, PlainOptEasing};
 ghost use Rattle.grammar.specs.Grammar.{parseKeyframeTime, trackLoop, trackFrame, trackStep, parseKeyframes};
 ghost use Rattle.cursor.specs.Means.{Ready, Took};
+ghost use Rattle.arrays.specs.Means.{Room};
 ghost use Rattle.nodes.specs.Means.{LeafMeans};
-ghost use Rattle.keyframes.specs.Means.{Narrow, Inner, percentSign, keyOf, Stores, TimeMeans, keyMark, EasingMeans, Framed, FrameMeans, separator, StepMeans, Standing, TrackMeans, BlockMeans};
+ghost use Rattle.keyframes.specs.Means.{Inner, percentSign, keyOf, Stores, TimeMeans, keyMark, EasingMeans, Framed, FrameMeans, separator, StepMeans, Standing, TrackMeans, BlockMeans};
 use arrays::ValueRead;
 use ast::KeyframeTime;
 use ast::OptEasing;
@@ -298,7 +299,7 @@ fn track_value(text: &[u8], sheet: &mut [u8], c: Cursor, out: usize) -> NodeRead
 }
 
 pub fn parse_keyframes(text: &[u8], sheet: &mut [u8], c: Cursor, out: usize) -> NodeRead
-    requires { ⌜ Ready (now text) c × Narrow (now text) out ⌝ }
+    requires { ⌜ Ready (now text) c × Room (now text) out ⌝ }
     ensures { λ r. ⌜ LeafMeans (now (text .entry)) (now (sheet .entry)) (now (sheet .exit)) c out parseKeyframes r ⌝ }
 {
     match cursor::word(text, c) {

@@ -1,1 +1,5 @@
 pub mod SortLaws
+pub mod HeldLaws
+pub mod GatherLaws
+pub mod KeptLaws
+pub mod TimedLaws

@@ -4,7 +4,7 @@ use super::grammar::{Grammar, Slips};
 use super::render;
 use crate::random::Random;
 
-const TOKENS: &[&str] = &[
+pub const TOKENS: &[&str] = &[
     ":", ";", ",", "=>", "=", ">", "::", "..", ".", "+", "-", "%", "(", ")", "[", "]", "{", "}",
     "()", "[]", "{}", "p", "x", "linear", "Easing", "loop", "true", "false", "_", "self", "fn",
     "try", "at", "tween", "sequence", "duration", "easing", "delay", "0", "1", "2.5", "1s", "50%",
@@ -47,7 +47,7 @@ fn damage_tokens(random: &mut Random, tokens: &mut Vec<String>) {
 }
 
 /// Puts a token before some closer.
-fn leave_over(random: &mut Random, tokens: &mut Vec<String>, token: String) {
+pub fn leave_over(random: &mut Random, tokens: &mut Vec<String>, token: String) {
     let closers: Vec<usize> = (0..tokens.len())
         .filter(|index| matches!(tokens[*index].as_str(), ")" | "]" | "}"))
         .collect();

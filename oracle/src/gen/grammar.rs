@@ -28,13 +28,15 @@ const COLORS: &[&str] = &[
 ];
 const WRONG: &[&str] = &["wrong", "Sine", "grid", "x", "linear1", "top_centre", "along"];
 
-/// The fields of the lists, each with the form of its value.
-const TWEEN: &[(&str, Form)] = &[
+/// The fields of a list, each with the form of its value.
+pub type Fields = &'static [(&'static str, Form)];
+
+pub const TWEEN: Fields = &[
     ("duration", Form::Float), ("easing", Form::Easing), ("delay", Form::Float),
     ("time_scale", Form::Float), ("loop", Form::Loop), ("snap", Form::Float),
     ("round", Form::Whole), ("reverse", Form::Truth),
 ];
-const SPRING: &[(&str, Form)] = &[
+pub const SPRING: Fields = &[
     ("preset", Form::Word(&["gentle", "wobbly", "stiff", "slow", "snappy"])),
     ("stiffness", Form::Float), ("damping", Form::Float), ("mass", Form::Float),
     ("velocity", Form::Value), ("epsilon", Form::Float),
@@ -42,37 +44,37 @@ const SPRING: &[(&str, Form)] = &[
     ("critically_damped", Form::Floats(1)), ("overdamped", Form::Floats(2)),
     ("underdamped", Form::Floats(2)),
 ];
-const PATH: &[(&str, Form)] = &[
+pub const PATH: Fields = &[
     ("duration", Form::Float), ("easing", Form::Easing), ("auto_rotate", Form::Truth),
     ("offset", Form::Range), ("loop", Form::Loop),
 ];
-const MORPH: &[(&str, Form)] =
+pub const MORPH: Fields =
     &[("samples", Form::Whole), ("duration", Form::Float), ("easing", Form::Easing)];
-const DRAW: &[(&str, Form)] = &[("duration", Form::Float), ("easing", Form::Easing)];
-const COLOR: &[(&str, Form)] = &[
+pub const DRAW: Fields = &[("duration", Form::Float), ("easing", Form::Easing)];
+pub const COLOR: Fields = &[
     ("duration", Form::Float), ("space", Form::Word(&["linear", "lab", "oklch"])),
     ("easing", Form::Easing),
 ];
-const WAVEFORM: &[(&str, Form)] = &[
+const WAVEFORM: Fields = &[
     ("frequency", Form::Float), ("amplitude", Form::Float), ("phase", Form::Float),
     ("duty_cycle", Form::Float), ("seed", Form::Whole), ("smoothness", Form::Float),
     ("duration", Form::Float),
 ];
-const ROUGH: &[(&str, Form)] = &[("strength", Form::Float), ("points", Form::Whole)];
-const SLOWMO: &[(&str, Form)] = &[("linear_ratio", Form::Float), ("power", Form::Float)];
-const GRID: &[(&str, Form)] = &[
+const ROUGH: Fields = &[("strength", Form::Float), ("points", Form::Whole)];
+const SLOWMO: Fields = &[("linear_ratio", Form::Float), ("power", Form::Float)];
+pub const GRID: Fields = &[
     ("cols", Form::Whole), ("rows", Form::Whole),
     ("origin", Form::Word(&[
         "top_left", "top_right", "bottom_left", "bottom_right", "center", "top", "bottom", "left",
         "right",
     ])),
 ];
-const RANDOM: &[(&str, Form)] =
+const RANDOM: Fields =
     &[("seed", Form::Whole), ("min", Form::Float), ("max", Form::Float)];
 
 /// What a field's value looks like.
 #[derive(Clone, Copy)]
-enum Form {
+pub enum Form {
     Float,
     Floats(usize),
     Whole,
@@ -107,6 +109,18 @@ impl<'a> Grammar<'a> {
     pub fn leaf_tokens(mut self) -> Vec<String> {
         let kind = self.random.below(11);
         self.leaf(kind, true);
+        self.out
+    }
+
+    /// Tokens of a field list and its end, with or without a `duration`.
+    pub fn list_tokens(mut self, fields: &[(&str, Form)], last: bool) -> Vec<String> {
+        self.field_list(fields, false, last);
+        self.out
+    }
+
+    /// Tokens of a name and fields in parentheses.
+    pub fn parens_tokens(mut self, name: &str, fields: &[(&str, Form)]) -> Vec<String> {
+        self.fields_in_parens(name, fields);
         self.out
     }
 

@@ -18,7 +18,7 @@ fn add(out: &mut Vec<String>, text: &str) {
 }
 
 /// 15 to 18 containers, with something inside, and at times a fault.
-fn containers(random: &mut Random) -> Vec<u8> {
+pub fn containers(random: &mut Random) -> Vec<u8> {
     let depth = random.pick(&[15, 16, 16, 16, 17, 17, 17, 18]);
     let short = random.chance(70);
     let mut out = Vec::new();

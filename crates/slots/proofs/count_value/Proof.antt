@@ -1,9 +1,9 @@
 -- `slots::count_value` meets its contract. Assumes nothing.
-use Rattle.grammar.specs.Values.{parseUint}
-use Rattle.grammar.specs.Fields.{aNumber}
-use Rattle.text.specs.Bytes.{at}
-use Rattle.grammar.specs.Values.{count}
+use mathlib.Core.Path.{refl}
+use Rattle.slots.specs.Means.{sortRank, sortRule, sortRules}
 use Rattle.slots.proofs.SortLaws.{given, not-given}
+use Rattle.grammar.specs.Values.{count, parseUint}
+use Rattle.grammar.specs.Fields.{aNumber}
 use borrow.Author.Needs.{needs}
 use Rattle.slots.proofs.count_value.Statement.{statement}
 use Rattle.slots.proofs.count_value.Tie as tie
@@ -18,12 +18,12 @@ enum-known-n : tie.Need-enum-known-n
 enum-known-n c = search needs
 
 returns : tie.Need-returns
-unfolding count
+unfolding sortRule sortRules count
 returns c = not-given aNumber (c .before .before .before .before .before .args .text .now) (c .before .before .before .before .before .args .c) parseUint (rw (c .before .r .given .1) at (c .before .before .before .parse-uint .ensures))
 
 returns-2 : tie.Need-returns-2
-unfolding count
-returns-2 c = (given aNumber (c .before .before .before .before .before .args .text .now) (c .before .before .before .before .before .args .c) parseUint (rw (c .before .n .given .1) at (c .before .before .before .parse-uint .ensures)), tt)
+unfolding sortRule sortRules sortRank count
+returns-2 c = let t = rw (c .before .n .given .1) at (c .before .before .before .parse-uint .ensures) in (_, given aNumber (c .before .before .before .before .before .args .text .now) (c .before .before .before .before .before .args .c) parseUint t, (refl, refl))
 
 pub count-value-spec : {M : Type 1} → statement M
 count-value-spec =

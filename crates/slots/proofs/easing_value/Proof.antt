@@ -1,9 +1,9 @@
 -- `slots::easing_value` meets its contract. Assumes nothing.
-use Rattle.grammar.specs.Values.{parseEasing}
-use Rattle.grammar.specs.Fields.{anEasing}
-use Rattle.text.specs.Bytes.{at}
-use Rattle.grammar.specs.Values.{easing}
+use mathlib.Core.Path.{refl}
+use Rattle.slots.specs.Means.{sortRank, sortRule, sortRules}
 use Rattle.slots.proofs.SortLaws.{given, not-given}
+use Rattle.grammar.specs.Values.{easing, parseEasing}
+use Rattle.grammar.specs.Fields.{anEasing}
 use borrow.Author.Needs.{needs}
 use Rattle.slots.proofs.easing_value.Statement.{statement}
 use Rattle.slots.proofs.easing_value.Tie as tie
@@ -18,12 +18,12 @@ enum-known-e : tie.Need-enum-known-e
 enum-known-e c = search needs
 
 returns : tie.Need-returns
-unfolding easing
+unfolding sortRule sortRules easing
 returns c = not-given anEasing (c .before .before .before .before .before .args .text .now) (c .before .before .before .before .before .args .c) parseEasing (rw (c .before .r .given .1) at (c .before .before .before .parse-easing .ensures))
 
 returns-2 : tie.Need-returns-2
-unfolding easing
-returns-2 c = let t = rw (c .before .e .given .1) at (c .before .before .before .parse-easing .ensures) in (given anEasing (c .before .before .before .before .before .args .text .now) (c .before .before .before .before .before .args .c) parseEasing (t .0), t .1)
+unfolding sortRule sortRules sortRank easing
+returns-2 c = let t = rw (c .before .e .given .1) at (c .before .before .before .parse-easing .ensures) in (_, given anEasing (c .before .before .before .before .before .args .text .now) (c .before .before .before .before .before .args .c) parseEasing (t .0), (refl, (refl, t .1)))
 
 pub easing-value-spec : {M : Type 1} → statement M
 easing-value-spec =

@@ -1,9 +1,9 @@
 -- `slots::flag_value` meets its contract. Assumes nothing.
-use Rattle.grammar.specs.Values.{truth}
-use Rattle.grammar.specs.Fields.{aTruth}
-use Rattle.text.specs.Bytes.{at}
-use Rattle.grammar.specs.Values.{flag}
+use mathlib.Core.Path.{refl}
+use Rattle.slots.specs.Means.{sortRank, sortRule, sortRules}
 use Rattle.slots.proofs.SortLaws.{given, not-given}
+use Rattle.grammar.specs.Values.{flag, truth}
+use Rattle.grammar.specs.Fields.{aTruth}
 use borrow.Author.Needs.{needs}
 use Rattle.slots.proofs.flag_value.Statement.{statement}
 use Rattle.slots.proofs.flag_value.Tie as tie
@@ -18,12 +18,12 @@ enum-known-b : tie.Need-enum-known-b
 enum-known-b c = search needs
 
 returns : tie.Need-returns
-unfolding flag
+unfolding sortRule sortRules flag
 returns c = not-given aTruth (c .before .before .before .before .before .args .text .now) (c .before .before .before .before .before .args .c) truth (rw (c .before .p .given .1) at (c .before .before .before .truth .ensures))
 
 returns-2 : tie.Need-returns-2
-unfolding flag
-returns-2 c = (given aTruth (c .before .before .before .before .before .args .text .now) (c .before .before .before .before .before .args .c) truth (rw (c .before .b .given .1) at (c .before .before .before .truth .ensures)), tt)
+unfolding sortRule sortRules sortRank flag
+returns-2 c = let t = rw (c .before .b .given .1) at (c .before .before .before .truth .ensures) in (_, given aTruth (c .before .before .before .before .before .args .text .now) (c .before .before .before .before .before .args .c) truth t, (refl, refl))
 
 pub flag-value-spec : {M : Type 1} → statement M
 flag-value-spec = tie.close (tie.spec truth-requires enum-known-p enum-known-b returns returns-2)

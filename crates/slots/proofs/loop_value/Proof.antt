@@ -1,9 +1,9 @@
 -- `slots::loop_value` meets its contract. Assumes nothing.
-use Rattle.grammar.specs.Values.{parseLoopMode}
-use Rattle.grammar.specs.Fields.{aLoopMode}
-use Rattle.text.specs.Bytes.{at}
+use mathlib.Core.Path.{refl}
+use Rattle.slots.specs.Means.{sortRank, sortRule, sortRules}
 use Rattle.slots.proofs.SortLaws.{given, not-given}
-use Rattle.grammar.specs.Values.{loopMode}
+use Rattle.grammar.specs.Values.{loopMode, parseLoopMode}
+use Rattle.grammar.specs.Fields.{aLoopMode}
 use borrow.Author.Needs.{needs}
 use Rattle.slots.proofs.loop_value.Statement.{statement}
 use Rattle.slots.proofs.loop_value.Tie as tie
@@ -18,12 +18,12 @@ enum-known-x : tie.Need-enum-known-x
 enum-known-x c = search needs
 
 returns : tie.Need-returns
-unfolding loopMode
+unfolding sortRule sortRules loopMode
 returns c = not-given aLoopMode (c .before .before .before .before .before .args .text .now) (c .before .before .before .before .before .args .c) parseLoopMode (rw (c .before .r .given .1) at (c .before .before .before .parse-loop-mode .ensures))
 
 returns-2 : tie.Need-returns-2
-unfolding loopMode
-returns-2 c = (given aLoopMode (c .before .before .before .before .before .args .text .now) (c .before .before .before .before .before .args .c) parseLoopMode (rw (c .before .x .given .1) at (c .before .before .before .parse-loop-mode .ensures)), tt)
+unfolding sortRule sortRules sortRank loopMode
+returns-2 c = let t = rw (c .before .x .given .1) at (c .before .before .before .parse-loop-mode .ensures) in (_, given aLoopMode (c .before .before .before .before .before .args .text .now) (c .before .before .before .before .before .args .c) parseLoopMode t, (refl, refl))
 
 pub loop-value-spec : {M : Type 1} → statement M
 loop-value-spec =

@@ -1,0 +1,5 @@
+pub mod PutLaws
+pub mod EndLaws
+pub mod Layouts
+pub mod KindLaws
+pub mod PresetLaws

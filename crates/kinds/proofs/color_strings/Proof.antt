@@ -1,0 +1,71 @@
+-- `kinds::color_strings` meets its contract. Assumes nothing.
+use native.Mathlib.Omega.{arith}
+use Rattle.kinds.proofs.KindLaws.{no-color, no-color-arrow, no-color-to, strings-end}
+use borrow.Author.Needs.{needs}
+use Rattle.kinds.proofs.color_strings.Statement.{statement}
+use Rattle.kinds.proofs.color_strings.Tie as tie
+
+string-requires : tie.Need-string-requires
+string-requires c κs = search needs
+
+enum-known-p : tie.Need-enum-known-p
+enum-known-p c = search needs
+
+enum-known-from : tie.Need-enum-known-from
+enum-known-from c = search needs
+
+both-requires : tie.Need-both-requires
+both-requires c κs = (((rw (c .before .from .given .1) at (c .before .before .before .string .ensures)) .0) .ready, omega arith, omega arith)
+
+enum-known-p-2 : tie.Need-enum-known-p-2
+enum-known-p-2 c = search needs
+
+enum-known-n : tie.Need-enum-known-n
+enum-known-n c = search needs
+
+string-requires-2 : tie.Need-string-requires-2
+string-requires-2 c κs = (rw (c .before .n .given .1) at (c .before .before .before .both .ensures)) .ready
+
+enum-known-p-3 : tie.Need-enum-known-p-3
+enum-known-p-3 c = search needs
+
+enum-known-to : tie.Need-enum-known-to
+enum-known-to c = search needs
+
+color-end-requires : tie.Need-color-end-requires
+color-end-requires c κs = ((rw (c .before .before .to .given .1) at (c .before .before .before .before .string2 .ensures)) .0 .ready, c .before .before .before .before .before .before .before .before .before .before .before .before .before .before .before .pre .1)
+
+returns : tie.Need-returns
+returns c = no-color (c .before .before .before .before .before .before .args .text .now) (c .before .before .before .before .before .before .args .c) (c .before .before .before .before .before .before .args .target) _ (rw (c .before .p .given .1) at (c .before .before .before .string .ensures))
+
+returns-2 : tie.Need-returns-2
+returns-2 c = no-color-arrow (c .before .before .before .before .before .before .before .before .before .before .args .text .now) (c .before .before .before .before .before .before .before .before .before .before .args .c) _ _ ((rw (c .before .before .before .before .before .from .given .1) at (c .before .before .before .before .before .before .before .string .ensures)) .0) (c .before .before .before .before .before .before .before .before .before .before .args .target) _ (rw (c .before .p2 .given .1) at (c .before .before .before .both .ensures))
+
+returns-3 : tie.Need-returns-3
+returns-3 c = no-color-to (c .before .before .before .before .before .before .before .before .before .before .before .before .before .before .args .text .now) (c .before .before .before .before .before .before .before .before .before .before .before .before .before .before .args .c) _ _ ((rw (c .before .before .before .before .before .before .before .before .before .from .given .1) at (c .before .before .before .before .before .before .before .before .before .before .before .string .ensures)) .0) _ (rw (c .before .before .before .before .before .n .given .1) at (c .before .before .before .before .before .before .before .both .ensures)) (c .before .before .before .before .before .before .before .before .before .before .before .before .before .before .args .target) _ (rw (c .before .p3 .given .1) at (c .before .before .before .string2 .ensures))
+
+same-length : tie.Need-same-length
+same-length c = search needs
+
+returns-4 : tie.Need-returns-4
+returns-4 c = strings-end (c .before .before .before .before .before .before .before .before .before .before .before .before .before .before .before .before .before .before .args .text .now) (c .before .before .before .before .before .before .before .before .before .before .before .before .before .before .before .before .before .before .args .c) _ _ ((rw (c .before .before .before .before .before .before .before .before .before .before .before .before .before .from .given .1) at (c .before .before .before .before .before .before .before .before .before .before .before .before .before .before .before .string .ensures)) .0) _ (rw (c .before .before .before .before .before .before .before .before .before .n .given .1) at (c .before .before .before .before .before .before .before .before .before .before .before .both .ensures)) _ _ ((rw (c .before .before .before .before .before .to .given .1) at (c .before .before .before .before .before .before .before .string2 .ensures)) .0) _ _ _ (c .before .before .color-end .result) (c .before .before .before .before .before .before .before .before .before .before .before .before .before .before .before .before .before .before .args .target) (c .before .before .color-end .ensures)
+
+pub color-strings-spec : {M : Type 1} → statement M
+color-strings-spec =
+    tie.close
+    (tie.spec
+    string-requires
+    enum-known-p
+    enum-known-from
+    both-requires
+    enum-known-p-2
+    enum-known-n
+    string-requires-2
+    enum-known-p-3
+    enum-known-to
+    color-end-requires
+    returns
+    returns-2
+    returns-3
+    same-length
+    returns-4)

@@ -1,0 +1,210 @@
+-- The nodes that hold a name or strings, and fields: what stands behind these, and what is written. Contracts cite these. Assumes nothing.
+use Prim.Native.Nat.{ℕ, _+_, _*_, _-_, _≤_}
+use mathlib.Core.List.{List, [], _∷_, _++_}
+use mathlib.Core.Path.{_≡_}
+use lib.ListN.{length}
+use Rattle.text.specs.Bytes.{bytes}
+use Rattle.text.specs.Words.{default}
+use Rattle.number.specs.Number.{bits}
+use Rattle.number.specs.Time.{Key}
+use Rattle.ast.specs.Tree as tree
+use Rattle.ast.specs.Tree.{Leaf}
+use Rattle.ast.specs.declared.DrawSpec.{DrawSpec}
+use Rattle.ast.specs.declared.MorphSpec.{MorphSpec}
+use Rattle.ast.specs.declared.ColorSpec.{ColorSpec}
+use Rattle.ast.specs.declared.PathSpec.{PathSpec}
+use Rattle.ast.specs.declared.WaveformSpec.{WaveformSpec}
+use Rattle.ast.specs.declared.PresetCall.{PresetCall}
+use Rattle.encode.specs.Of.{Plain, PlainOptFloat, PlainOptRange, PlainOptEasing, spanOf, optFloatOf, optWordOf, optBoolOf, optRangeOf, optEasingOf, optLoopOf}
+use Rattle.encode.specs.Writes.{Writes}
+use Rattle.error.specs.declared.Refusal.the-variants.{MissingDuration}
+use Rattle.grammar.specs.Rule.{Rule, refused, give, need, _>>=_, _>>_, if, sees, skip, both, inside}
+use Rattle.grammar.specs.Fields.{Table, Fields, numberOf, truthOf, easingOf, loopModeOf, rangeOf, pairs, parseFieldList}
+use Rattle.grammar.specs.Values.{string}
+use Rattle.grammar.specs.Grammar.{drawFields, morphFields, colorFields, pathFields, waveformFields}
+use Rattle.cursor.specs.Means.{run, Took}
+use Rattle.cursor.specs.declared.Cursor.{Cursor}
+use Rattle.nodes.specs.Means.{leafBytes}
+use Rattle.slots.specs.Means as slots
+use Rattle.slots.specs.declared.Gathered.{Gathered}
+use Rattle.nodes.specs.declared.NodeRead.{NodeRead}
+use Rattle.nodes.specs.declared.NodeRead.the-variants as node
+
+-- the names of a table as bytes, each behind its length
+abbrev pub rowsOf : Table → List ℕ
+rowsOf [] = []
+rowsOf (f ∷ fs) = length (bytes (f .0)) ∷ bytes (f .0) ++ rowsOf fs
+
+-- ---- a record is written
+
+-- the record of a leaf, of at most 64 bytes
+pub record Put (b : List ℕ) (out : ℕ) (l : Leaf Key) (a : List ℕ) (q : ℕ) : Type 0 where
+  pub writes : (n : ℕ) → Writes b out (leafBytes n l) a q
+  pub most : q ≤ out + 64
+
+-- the end of a node is taken, and the node's record written: 64 bytes are not paid for by the end
+pub record EndWent (s b a : List ℕ) (c m : Cursor) (out q : ℕ) (p : Rule (Leaf Key)) : Type 0 where
+  pub value : Leaf Key
+  pub took : Took 0 s c m p value
+  pub writes : Writes b out (leafBytes (length s) value) a q
+  pub paid : q ≤ out + 64 + 64 * (m .at - c .at)
+
+abbrev pub EndMeans : (s b a : List ℕ) → Cursor → ℕ → Rule (Leaf Key) → NodeRead → Type 0
+EndMeans s b a c out p (node.Is q m) = EndWent s b a c m out q p
+EndMeans s b a c out p (node.Refused r q) = run s c p ≡ refused r q
+
+-- ---- the end of a node: its fields
+
+-- fields with a duration, which must be there
+abbrev pub timedEnd : Table → (Fields → ℕ → Leaf Key) → Rule (Leaf Key)
+timedEnd t k = parseFieldList t [] >>= λ fs. need MissingDuration (numberOf "duration" fs) >>= λ d. give (k fs d)
+
+-- draw
+abbrev pub drawSorts : List ℕ
+drawSorts = 0 ∷ 7 ∷ []
+
+abbrev pub drawLeaf : tree.Span → Fields → ℕ → Leaf Key
+drawLeaf svg fs d = Leaf.draw (record { svg = svg; duration = d; easing = easingOf fs })
+
+abbrev pub drawEnd : tree.Span → Rule (Leaf Key)
+drawEnd svg = timedEnd drawFields (drawLeaf svg)
+
+abbrev pub PlainDraw : DrawSpec → Type 0
+PlainDraw x = Plain (x .duration) × PlainOptEasing (x .easing)
+
+abbrev pub drawOf : DrawSpec → Leaf Key
+drawOf x = Leaf.draw (record { svg = spanOf (x .svg); duration = bits (x .duration); easing = optEasingOf (x .easing) })
+
+-- morph
+abbrev pub morphSorts : List ℕ
+morphSorts = 1 ∷ 0 ∷ 7 ∷ []
+
+abbrev pub morphLeaf : tree.Span → tree.Span → Fields → ℕ → Leaf Key
+morphLeaf from to fs d = Leaf.morph (record { from = from; to = to; samples = default (numberOf "samples" fs) 32; duration = d; easing = easingOf fs })
+
+abbrev pub morphEnd : tree.Span → tree.Span → Rule (Leaf Key)
+morphEnd from to = timedEnd morphFields (morphLeaf from to)
+
+abbrev pub PlainMorph : MorphSpec → Type 0
+PlainMorph x = Plain (x .duration) × PlainOptEasing (x .easing)
+
+abbrev pub morphOf : MorphSpec → Leaf Key
+morphOf x = Leaf.morph (record { from = spanOf (x .from); to = spanOf (x .to); samples = x .samples; duration = bits (x .duration); easing = optEasingOf (x .easing) })
+
+-- color
+abbrev pub colorSorts : List ℕ
+colorSorts = 0 ∷ 2 ∷ 7 ∷ []
+
+abbrev pub colorLeaf : tree.Span → tree.Span → tree.Span → Fields → ℕ → Leaf Key
+colorLeaf target from to fs d = Leaf.color (record { target = target; from = from; to = to; duration = d; space = default (numberOf "space" fs) 0; easing = easingOf fs })
+
+abbrev pub colorEnd : tree.Span → tree.Span → tree.Span → Rule (Leaf Key)
+colorEnd target from to = timedEnd colorFields (colorLeaf target from to)
+
+-- behind the `:`
+abbrev pub colorStrings : tree.Span → Rule (Leaf Key)
+colorStrings target = string >>= λ from. both "=" ">" >> (string >>= λ to. colorEnd target from to)
+
+abbrev pub PlainColor : ColorSpec → Type 0
+PlainColor x = Plain (x .duration) × PlainOptEasing (x .easing)
+
+abbrev pub colorOf : ColorSpec → Leaf Key
+colorOf x = Leaf.color (record {
+  target = spanOf (x .target);
+  from = spanOf (x .from);
+  to = spanOf (x .to);
+  duration = bits (x .duration);
+  space = x .space;
+  easing = optEasingOf (x .easing);
+})
+
+-- path
+abbrev pub pathSorts : List ℕ
+pathSorts = 0 ∷ 7 ∷ 5 ∷ 9 ∷ 8 ∷ []
+
+abbrev pub pathLeaf : tree.Span → tree.Span → Fields → ℕ → Leaf Key
+pathLeaf target svg fs d = Leaf.path (record {
+  target = target;
+  svg = svg;
+  duration = d;
+  easing = easingOf fs;
+  autoRotate = truthOf "auto_rotate" fs;
+  offset = rangeOf fs;
+  loopMode = loopModeOf fs;
+})
+
+abbrev pub pathEnd : tree.Span → tree.Span → Rule (Leaf Key)
+pathEnd target svg = timedEnd pathFields (pathLeaf target svg)
+
+abbrev pub PlainPath : PathSpec → Type 0
+PlainPath x = Plain (x .duration) × PlainOptEasing (x .easing) × PlainOptRange (x .offset)
+
+abbrev pub pathOf : PathSpec → Leaf Key
+pathOf x = Leaf.path (record {
+  target = spanOf (x .target);
+  svg = spanOf (x .svg);
+  duration = bits (x .duration);
+  easing = optEasingOf (x .easing);
+  autoRotate = optBoolOf (x .«auto_rotate»);
+  offset = optRangeOf (x .offset);
+  loopMode = optLoopOf (x .«loop_mode»);
+})
+
+-- waveform
+abbrev pub waveformSorts : List ℕ
+waveformSorts = 0 ∷ 0 ∷ 0 ∷ 0 ∷ 1 ∷ 0 ∷ 0 ∷ []
+
+abbrev pub waveformLeaf : ℕ → Fields → Leaf Key
+waveformLeaf kind fs = Leaf.waveform (record {
+  kind = kind;
+  frequency = numberOf "frequency" fs;
+  amplitude = numberOf "amplitude" fs;
+  phase = numberOf "phase" fs;
+  dutyCycle = numberOf "duty_cycle" fs;
+  seed = numberOf "seed" fs;
+  smoothness = numberOf "smoothness" fs;
+  duration = numberOf "duration" fs;
+})
+
+abbrev pub waveformEnd : ℕ → Rule (Leaf Key)
+waveformEnd kind = parseFieldList waveformFields [] >>= λ fs. give (waveformLeaf kind fs)
+
+abbrev pub PlainWaveform : WaveformSpec → Type 0
+PlainWaveform x =
+    PlainOptFloat (x .frequency) × PlainOptFloat (x .amplitude) × PlainOptFloat (x .phase) × PlainOptFloat (x .«duty_cycle») × PlainOptFloat (x .smoothness)
+    × PlainOptFloat (x .duration)
+
+abbrev pub waveformOf : WaveformSpec → Leaf Key
+waveformOf x = Leaf.waveform (record {
+  kind = x .kind;
+  frequency = optFloatOf (x .frequency);
+  amplitude = optFloatOf (x .amplitude);
+  phase = optFloatOf (x .phase);
+  dutyCycle = optFloatOf (x .«duty_cycle»);
+  seed = optWordOf (x .seed);
+  smoothness = optFloatOf (x .smoothness);
+  duration = optFloatOf (x .duration);
+})
+
+-- preset: fields in parentheses or not, and more of them behind a `,` or not
+abbrev pub presetPairs : Rule Fields
+presetPairs = if (sees "(") (inside "(" (pairs drawFields)) (give [])
+
+abbrev pub presetFields : Rule Fields
+presetFields = presetPairs >>= λ fs. if (sees ",") (skip >> parseFieldList drawFields fs) (give fs)
+
+-- what is kept of the fields that the rule p takes
+abbrev pub GatheredMeans : List ℕ → Cursor → Rule Fields → Gathered → Type 0
+GatheredMeans s c p g = slots.EndMeans s (c .at) drawSorts c drawFields p (g .slots) (g .others) (g .end)
+
+abbrev pub presetLeaf : tree.Span → Fields → Leaf Key
+presetLeaf name fs = Leaf.preset (record { name = name; duration = numberOf "duration" fs; easing = easingOf fs })
+
+abbrev pub presetEnd : tree.Span → Rule (Leaf Key)
+presetEnd name = presetFields >>= λ fs. give (presetLeaf name fs)
+
+abbrev pub PlainPreset : PresetCall → Type 0
+PlainPreset x = PlainOptFloat (x .duration) × PlainOptEasing (x .easing)
+
+abbrev pub presetOf : PresetCall → Leaf Key
+presetOf x = Leaf.preset (record { name = spanOf (x .name); duration = optFloatOf (x .duration); easing = optEasingOf (x .easing) })

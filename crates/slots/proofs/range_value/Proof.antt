@@ -1,0 +1,69 @@
+-- `slots::range_value` meets its contract. Assumes nothing.
+use native.Mathlib.Omega.{arith}
+use mathlib.Core.Path.{refl}
+use Rattle.slots.specs.Means.{sortRank, sortRule, sortRules}
+use Rattle.slots.proofs.SortLaws.{no-start, no-points, no-end, range-taken}
+use borrow.Author.Needs.{needs}
+use Rattle.slots.proofs.range_value.Statement.{statement}
+use Rattle.slots.proofs.range_value.Tie as tie
+
+parse-float-requires : tie.Need-parse-float-requires
+parse-float-requires c κs = search needs
+
+enum-known-r : tie.Need-enum-known-r
+enum-known-r c = search needs
+
+enum-known-start : tie.Need-enum-known-start
+enum-known-start c = search needs
+
+both-requires : tie.Need-both-requires
+both-requires c κs = ((rw (c .before .start .given .1) at (c .before .before .before .parse-float .ensures)) .0 .ready, omega arith, omega arith)
+
+enum-known-p : tie.Need-enum-known-p
+enum-known-p c = search needs
+
+enum-known-n : tie.Need-enum-known-n
+enum-known-n c = search needs
+
+parse-float-requires-2 : tie.Need-parse-float-requires-2
+parse-float-requires-2 c κs = (rw (c .before .n .given .1) at (c .before .before .before .both .ensures)) .ready
+
+enum-known-r-2 : tie.Need-enum-known-r-2
+enum-known-r-2 c = search needs
+
+enum-known-end : tie.Need-enum-known-end
+enum-known-end c = search needs
+
+returns : tie.Need-returns
+unfolding sortRule sortRules
+returns c = no-start (c .before .before .before .before .before .args .text .now) (c .before .before .before .before .before .args .c) (rw (c .before .r .given .1) at (c .before .before .before .parse-float .ensures))
+
+returns-2 : tie.Need-returns-2
+unfolding sortRule sortRules
+returns-2 c = no-points (c .before .before .before .before .before .before .before .before .before .args .text .now) (c .before .before .before .before .before .before .before .before .before .args .c) _ _ ((rw (c .before .before .before .before .before .start .given .1) at (c .before .before .before .before .before .before .before .parse-float .ensures)) .0) (rw (c .before .p .given .1) at (c .before .before .before .both .ensures))
+
+returns-3 : tie.Need-returns-3
+unfolding sortRule sortRules
+returns-3 c = no-end (c .before .before .before .before .before .before .before .before .before .before .before .before .before .args .text .now) (c .before .before .before .before .before .before .before .before .before .before .before .before .before .args .c) _ _ ((rw (c .before .before .before .before .before .before .before .before .before .start .given .1) at (c .before .before .before .before .before .before .before .before .before .before .before .parse-float .ensures)) .0) _ (rw (c .before .before .before .before .before .n .given .1) at (c .before .before .before .before .before .before .before .both .ensures)) (rw (c .before .r2 .given .1) at (c .before .before .before .parse-float2 .ensures))
+
+returns-4 : tie.Need-returns-4
+unfolding sortRule sortRules sortRank
+returns-4 c = let t = rw (c .before .before .before .before .before .before .before .before .before .start .given .1) at (c .before .before .before .before .before .before .before .before .before .before .before .parse-float .ensures) in let u = rw (c .before .end .given .1) at (c .before .before .before .parse-float2 .ensures) in (_, range-taken (c .before .before .before .before .before .before .before .before .before .before .before .before .before .args .text .now) (c .before .before .before .before .before .before .before .before .before .before .before .before .before .args .c) _ _ (t .0) _ (rw (c .before .before .before .before .before .n .given .1) at (c .before .before .before .before .before .before .before .both .ensures)) _ _ (u .0), (refl, (refl, t .1, u .1)))
+
+pub range-value-spec : {M : Type 1} → statement M
+range-value-spec =
+    tie.close
+    (tie.spec
+    parse-float-requires
+    enum-known-r
+    enum-known-start
+    both-requires
+    enum-known-p
+    enum-known-n
+    parse-float-requires-2
+    enum-known-r-2
+    enum-known-end
+    returns
+    returns-2
+    returns-3
+    returns-4)

@@ -1,0 +1,88 @@
+-- `tweens::parse_tween` meets its contract. Assumes nothing.
+use native.Mathlib.Omega.{arith}
+use Rattle.tweens.proofs.EndsLaws.{ends-room}
+use Rattle.slots.proofs.TimedLaws.{not-timed, timed-at}
+use Rattle.grammar.specs.Values.{number}
+use mathlib.Core.Path.{refl}
+use Rattle.slots.specs.Means.{sortRank}
+use Rattle.tweens.proofs.TweenLaws.{tween-no-ends, tween-plain, tween-refused, tween-went}
+use Rattle.grammar.specs.Grammar.{tweenFields}
+use Rattle.tweens.specs.Means.{tweenSorts}
+use borrow.Author.Needs.{needs}
+use Rattle.tweens.proofs.parse_tween.Statement.{statement}
+use Rattle.tweens.proofs.parse_tween.Tie as tie
+
+parse-ends-requires : tie.Need-parse-ends-requires
+parse-ends-requires c κs = search needs
+
+enum-known-r : tie.Need-enum-known-r
+enum-known-r c = search needs
+
+enum-known-at : tie.Need-enum-known-at
+enum-known-at c = search needs
+
+tween-fields-requires : tie.Need-tween-fields-requires
+tween-fields-requires c κs = ((rw (c .before .at .given .1) at (c .before .before .before .before .before .parse-ends .ensures)) .took .ready, c .before .before .before .before .before .before .before .before .before .pre .1 .short)
+
+duration-in-requires : tie.Need-duration-in-requires
+duration-in-requires c κs = search needs
+
+enum-known-r-2 : tie.Need-enum-known-r-2
+enum-known-r-2 c = search needs
+
+enum-known-duration : tie.Need-enum-known-duration
+enum-known-duration c = search needs
+
+tween-from-requires : tie.Need-tween-from-requires
+tween-from-requires c κs = search needs
+
+put-tween-fields-requires : tie.Need-put-tween-fields-requires
+unfolding tweenFields sortRank
+put-tween-fields-requires c κs =
+    let e = rw (c .before .before .before .before .before .before .before .before .before .before .at .given .1) at (c .before .before .before .before .before .before .before .before .before .before .before .before .before .before .parse-ends .ensures) in
+    let t = timed-at (c .before .before .before .before .before .before .before .before .before .before .before .before .before .before .before .before .before .before .args .text .now) _ tweenSorts _ tweenFields 0 number refl refl (c .before .before .before .before .before .before .before .before .tween-fields .result) (c .before .before .before .before .before .before .before .before .tween-fields .ensures) _ _ (rw (c .before .before .before .before .before .duration .given .1) at (c .before .before .before .before .before .before .before .duration-in .ensures)) in
+    let r = ends-room _ _ _ _ _ _ _ _ (c .before .before .before .before .before .before .before .before .before .before .before .before .before .before .before .before .before .before .pre .1) e in
+    (omega (arith, r), rw (c .before .tween-from .ensures) (tween-plain _ _ _ _ _ _ _ e (c .before .before .before .before .before .before .before .before .tween-fields .result) _ _ t))
+
+same-length : tie.Need-same-length
+same-length c = search needs
+
+returns : tie.Need-returns
+returns c = tween-no-ends (c .before .before .before .before .before .before .before .before .before .args .text .now) (c .before .before .before .before .before .before .before .before .before .args .c) _ _ (rw (c .before .r .given .1) at (c .before .before .before .before .before .parse-ends .ensures))
+
+same-length-2 : tie.Need-same-length-2
+same-length-2 c = search needs
+
+returns-2 : tie.Need-returns-2
+unfolding tweenFields sortRank
+returns-2 c = tween-refused (c .before .before .before .before .before .before .before .before .before .before .before .before .before .before .args .text .now) _ _ (c .before .before .before .before .before .before .before .before .before .before .before .before .before .before .args .c) _ _ _ (rw (c .before .before .before .before .before .before .at .given .1) at (c .before .before .before .before .before .before .before .before .before .before .parse-ends .ensures)) _ _ (not-timed (c .before .before .before .before .before .before .before .before .before .before .before .before .before .before .args .text .now) _ tweenSorts _ tweenFields 0 number refl refl (c .before .before .before .before .tween-fields .result) (c .before .before .before .before .tween-fields .ensures) _ _ (rw (c .before .r2 .given .1) at (c .before .before .before .duration-in .ensures)))
+
+same-length-3 : tie.Need-same-length-3
+same-length-3 c = search needs
+
+returns-3 : tie.Need-returns-3
+unfolding tweenFields sortRank
+returns-3 c =
+    let e = rw (c .before .before .before .before .before .before .before .before .before .before .before .before .before .at .given .1) at (c .before .before .before .before .before .before .before .before .before .before .before .before .before .before .before .before .before .parse-ends .ensures) in
+    let t = timed-at (c .before .before .before .before .before .before .before .before .before .before .before .before .before .before .before .before .before .before .before .before .before .args .text .now) _ tweenSorts _ tweenFields 0 number refl refl (c .before .before .before .before .before .before .before .before .before .before .before .tween-fields .result) (c .before .before .before .before .before .before .before .before .before .before .before .tween-fields .ensures) _ _ (rw (c .before .before .before .before .before .before .before .before .duration .given .1) at (c .before .before .before .before .before .before .before .before .before .before .duration-in .ensures)) in
+    tween-went (c .before .before .before .before .before .before .before .before .before .before .before .before .before .before .before .before .before .before .before .before .before .args .text .now) _ _ (c .before .before .before .before .before .before .before .before .before .before .before .before .before .before .before .before .before .before .before .before .before .args .c) _ _ _ e (c .before .before .before .before .before .before .before .before .before .before .before .tween-fields .result) _ _ t _ _ (rw (c .before .before .before .before .tween-from .ensures) at (c .before .before .put-tween-fields .ensures))
+
+pub parse-tween-spec : {M : Type 1} → statement M
+parse-tween-spec =
+    tie.close
+    (tie.spec
+    parse-ends-requires
+    enum-known-r
+    enum-known-at
+    tween-fields-requires
+    duration-in-requires
+    enum-known-r-2
+    enum-known-duration
+    tween-from-requires
+    put-tween-fields-requires
+    same-length
+    returns
+    same-length-2
+    returns-2
+    same-length-3
+    returns-3)

@@ -1,0 +1,153 @@
+-- What tween and spring begin with, their fields, and what is written. Contracts cite these. Assumes nothing.
+use Prim.Native.Nat.{ℕ, _+_, _*_, _-_, _≤_}
+use mathlib.Core.List.{List, [], _∷_, _++_}
+use mathlib.Core.Option.{Option}
+use mathlib.Core.Path.{_≡_}
+use lib.Ieee.{Float}
+use lib.ListN.{length}
+use Rattle.number.specs.Number.{bits}
+use Rattle.codec.specs.Codec.{opt, below}
+use Rattle.ast.specs.Tree.{Span, ValueExpr}
+use Rattle.sheet.specs.Sheet.{word, flag, spanForm, valueForm, easingForm, loopForm, dampingForm}
+use Rattle.encode.specs.Of.{Plain, PlainOptFloat, PlainOptEasing, PlainOptDamping, spanOf, optFloatOf, optWordOf, optCaseOf, optEasingOf, optLoopOf, optDampingOf}
+use Rattle.encode.specs.Writes.{Writes}
+use Rattle.error.specs.declared.Refusal.the-variants.{Missing}
+use Rattle.grammar.specs.Rule.{Rule, refused, give, the, both, _>>=_, _>>_}
+use Rattle.grammar.specs.Values.{ident, parseValue}
+use Rattle.cursor.specs.Means.{run, Took}
+use Rattle.cursor.specs.declared.Cursor.{Cursor}
+use Rattle.cursor.specs.declared.WordRead.{WordRead}
+use Rattle.cursor.specs.declared.WordRead.the-variants as words
+use Rattle.arrays.specs.Means.{Went}
+use Rattle.arrays.specs.declared.ValueRead.{ValueRead}
+use Rattle.arrays.specs.declared.ValueRead.the-variants as value
+use Rattle.slots.specs.Means.{everOf, keptAt, floatIn, wholeIn, caseIn, PlaceSays}
+use Rattle.slots.specs.declared.Slot.{Slot}
+use Rattle.slots.specs.declared.OptPlace.{OptPlace}
+use Rattle.slots.specs.declared.Others.{Others}
+use Rattle.tweens.specs.declared.TweenFields.{TweenFields}
+use Rattle.tweens.specs.declared.SpringFields.{SpringFields}
+
+-- ---- what both begin with
+
+-- the target and its `:`
+abbrev pub targetMark : Rule Span
+targetMark = ident >>= λ t. the ":" >> give t
+
+abbrev pub TargetMeans : List ℕ → Cursor → WordRead → Type 0
+TargetMeans s c (words.Is x m) = Took 2 s c m targetMark (spanOf x)
+TargetMeans s c (words.Missing q) = run s c targetMark ≡ refused Missing q
+
+abbrev pub Pair : Type 0
+Pair = ValueExpr × ValueExpr
+
+-- `from => to`
+abbrev pub valuePair : Rule Pair
+valuePair = parseValue >>= λ v. both "=" ">" >> (parseValue >>= λ w. give (v, w))
+
+abbrev pub pairBytes : Pair → List ℕ
+pairBytes p = valueForm .write (p .0) ++ valueForm .write (p .1)
+
+abbrev pub PairMeans : List ℕ → List ℕ → List ℕ → Cursor → ℕ → ValueRead → Type 0
+PairMeans s b a c out (value.Is q m) = Went 1 s b a c m out q valuePair pairBytes
+PairMeans s b a c out (value.Refused r q) = run s c valuePair ≡ refused r q
+
+abbrev pub Ends : Type 0
+Ends = Span × Pair
+
+-- `target: from => to`
+abbrev pub theEnds : Rule Ends
+theEnds = targetMark >>= λ t. valuePair >>= λ p. give (t, p)
+
+-- the beginning of a record of that kind, for a text of n bytes
+abbrev pub endsBytes : ℕ → ℕ → Ends → List ℕ
+endsBytes kind n e = kind ∷ (spanForm n .write (e .0) ++ pairBytes (e .1))
+
+-- 64 bytes more are paid for
+pub record EndsWent (s b a : List ℕ) (c m : Cursor) (kind out q : ℕ) : Type 0 where
+  pub value : Ends
+  pub took : Took 1 s c m theEnds value
+  pub writes : Writes b out (endsBytes kind (length s) value) a q
+  pub paid : q + 64 ≤ out + 64 * (m .at - c .at)
+
+abbrev pub EndsMeans : List ℕ → List ℕ → List ℕ → Cursor → ℕ → ℕ → ValueRead → Type 0
+EndsMeans s b a c kind out (value.Is q m) = EndsWent s b a c m kind out q
+EndsMeans s b a c kind out (value.Refused r q) = run s c theEnds ≡ refused r q
+
+-- ---- tween
+
+-- the sorts of tweenFields
+abbrev pub tweenSorts : List ℕ
+tweenSorts = 0 ∷ 7 ∷ 0 ∷ 0 ∷ 8 ∷ 0 ∷ 1 ∷ 6 ∷ []
+
+-- what the slots and the values beside them keep
+abbrev pub tweenFrom : List Slot → Others → Float → TweenFields
+tweenFrom xs o d = record {
+  duration = d;
+  easing = o .easing;
+  delay = floatIn (keptAt xs 2);
+  «time_scale» = floatIn (keptAt xs 3);
+  «loop_mode» = o .«loop_mode»;
+  snap = floatIn (keptAt xs 5);
+  round = wholeIn (keptAt xs 6);
+  reverse = everOf (keptAt xs 7);
+}
+
+abbrev pub PlainTween : TweenFields → Type 0
+PlainTween x = Plain (x .duration) × PlainOptEasing (x .easing) × PlainOptFloat (x .delay) × PlainOptFloat (x .«time_scale») × PlainOptFloat (x .snap)
+
+-- the end of a tween's record, for a text of n bytes
+abbrev pub tweenBytes : ℕ → TweenFields → List ℕ
+tweenBytes n x =
+    word .write (bits (x .duration))
+    ++ (opt (easingForm n) .write (optEasingOf (x .easing))
+    ++ (opt word .write (optFloatOf (x .delay))
+    ++ (opt word .write (optFloatOf (x .«time_scale»))
+    ++ (opt loopForm .write (optLoopOf (x .«loop_mode»))
+    ++ (opt word .write (optFloatOf (x .snap))
+    ++ (opt word .write (optWordOf (x .round))
+    ++ flag .write (x .reverse)))))))
+
+-- ---- spring
+
+-- the sorts of springFields
+abbrev pub springSorts : List ℕ
+springSorts = 3 ∷ 0 ∷ 0 ∷ 0 ∷ 13 ∷ 0 ∷ 4 ∷ 10 ∷ 11 ∷ 12 ∷ []
+
+-- what the slots and the values beside them keep
+abbrev pub springFrom : List Slot → Others → SpringFields
+springFrom xs o = record {
+  preset = caseIn (keptAt xs 0);
+  stiffness = floatIn (keptAt xs 1);
+  damping = floatIn (keptAt xs 2);
+  mass = floatIn (keptAt xs 3);
+  velocity = o .velocity;
+  epsilon = floatIn (keptAt xs 5);
+  integrator = caseIn (keptAt xs 6);
+  «damping_mode» = o .damping;
+}
+
+-- a value stands at the place that is kept of one
+abbrev pub Told : List ℕ → OptPlace → Type 0
+Told s p = (v : Option ValueExpr) × (lo : ℕ) × (hi : ℕ) × PlaceSays s lo hi p v
+
+-- the velocity v is written; a text of 16,384 bytes has none of more
+pub record VelocityPut (b a : List ℕ) (at : ℕ) (v : Option ValueExpr) (q : ℕ) : Type 0 where
+  pub writes : Writes b at (opt valueForm .write v) a q
+  pub most : q ≤ at + 1 + 64 * 16384
+
+abbrev pub PlainSpring : SpringFields → Type 0
+PlainSpring x =
+    PlainOptFloat (x .stiffness) × PlainOptFloat (x .damping) × PlainOptFloat (x .mass) × PlainOptFloat (x .epsilon) × PlainOptDamping (x .«damping_mode»)
+
+-- the end of a spring's record, v being the velocity
+abbrev pub springBytes : SpringFields → Option ValueExpr → List ℕ
+springBytes x v =
+    opt (below 5) .write (optCaseOf (x .preset))
+    ++ (opt word .write (optFloatOf (x .stiffness))
+    ++ (opt word .write (optFloatOf (x .damping))
+    ++ (opt word .write (optFloatOf (x .mass))
+    ++ (opt valueForm .write v
+    ++ (opt word .write (optFloatOf (x .epsilon))
+    ++ (opt (below 2) .write (optCaseOf (x .integrator))
+    ++ opt dampingForm .write (optDampingOf (x .«damping_mode»))))))))

@@ -1,0 +1,76 @@
+#!/bin/sh
+# Compares the answers of target/bin/read_cases with the oracle's, and prints the differences. Those with the same two refusals
+# (or accept) are one sort, of which it prints how many there are and the shortest text, made shorter as long as it still
+# differs so.
+# usage: oracle/compare-reads.sh [-x WORDS] [TEXTS ANSWERS]   after oracle/build.sh and `rt check read_cases`
+# TEXTS and ANSWERS are the stored cases if left out. Texts in which one of WORDS stands are left out.
+set -eu
+here=$(cd "$(dirname "$0")" && pwd)
+oracle=$here/../target/oracle/places/release/oracle
+program=$here/../target/bin/read_cases
+crate=$here/../crates/read_cases
+words=
+if [ "${1:-}" = -x ]; then
+    words=$2
+    shift 2
+fi
+texts=${1:-$crate/stdin}
+answers=${2:-$crate/stdout}
+work=$(mktemp -d)
+trap 'rm -rf "$work"' EXIT
+. "$here/hex.sh"
+
+# without: of lines TEXT TAB NUMBER, the numbers of those with none of the words in it.
+without() {
+    from_hex | awk -F'\t' -v words="$words" '
+        BEGIN { count = split(words, word, " "); for (i = 1; i <= count; i++) out[word[i]] }
+        { gsub(/\\x../, " ", $1); count = split($1, word, /[^A-Za-z0-9_]+/) }
+        { for (i = 1; i <= count; i++) if (word[i] in out) next; print $2 }'
+}
+
+# differing TEXTS ANSWERS: lines SORT TAB TEXT TAB ANSWER TAB THE PROGRAM'S where these differ.
+differing() {
+    "$program" < "$1" | paste "$1" "$2" - | awk -F'\t' -v OFS='\t' '
+        function sort(answer, word) { split(answer, word, " "); return word[1] == "accept" ? "accept" : word[1] " " word[2] }
+        $2 != $3 { print sort($2) ", not " sort($3), $0 }'
+}
+
+# shorter TEXT: that text with 64, 32 .. or 1 bytes taken out of each place.
+shorter() {
+    awk -v text="$1" 'BEGIN {
+        for (size = 128; size > 1; size /= 2)
+            for (i = 1; i + size <= length(text) + 1; i += 2) print substr(text, 1, i - 1) substr(text, i + size) }'
+}
+
+# shrink SORT LINE: the line of differing for the shortest text found with a difference of that sort.
+shrink() {
+    line=$2
+    while text=$(echo "$line" | cut -f2) && [ ${#text} -lt 4000 ]; do
+        shorter "$text" > "$work/shorter"
+        "$oracle" read < "$work/shorter" | cut -f1 > "$work/answers"
+        next=$(differing "$work/shorter" "$work/answers" | awk -F'\t' -v sort="$1" '!found && $1 == sort { print; found = 1 }')
+        [ -n "$next" ] || break
+        line=$next
+    done
+    echo "$line"
+}
+
+cut -f1 "$texts" | paste - "$answers" > "$work/cases"
+if [ -n "$words" ]; then
+    awk -F'\t' -v OFS='\t' '{ print $1, NR }' "$work/cases" | without > "$work/kept"
+    awk 'NR == FNR { kept[$1]; next } FNR in kept' "$work/kept" "$work/cases" > "$work/chosen"
+    mv "$work/chosen" "$work/cases"
+fi
+cut -f1 "$work/cases" > "$work/texts"
+cut -f2 "$work/cases" > "$work/wanted"
+differing "$work/texts" "$work/wanted" > "$work/differing"
+echo "$(wc -l < "$work/texts") scripts compared, $(wc -l < "$work/differing") differ"
+[ -s "$work/differing" ] || exit 0
+cut -f1 "$work/differing" | sort | uniq -c | sort -rn | while read -r count sort; do
+    awk -F'\t' -v sort="$sort" '$1 == sort && (!least || length($2) < least) { least = length($2); line = $0 } END { print line }' \
+        "$work/differing" > "$work/least"
+    shrink "$sort" "$(cat "$work/least")" > "$work/shrunk"
+    echo "$count $sort: $(cut -f2 "$work/shrunk" | from_hex)"
+    echo "    $(cut -f3 "$work/shrunk"), not $(cut -f4 "$work/shrunk")"
+done
+exit 1
