@@ -104,18 +104,18 @@ module _ (t sheet out : List ℕ) where
     ahead-after true q = let h = ltb-true i n q in omega arith
     ahead-after false q = omega arith
 
-    pub step-line : (m : ℕ) (after : List ℕ) → length after ≡ length out → lining t (take size sheet) i out ≡ (line.Accepted m, after) → Steps t sheet out (Line size n i) after m (afterLine size n i)
+    pub step-line : (m : ℕ) (after : List ℕ) → length after ≡ length out → (line.Accepted m, after) ≡ lining t (take size sheet) i out → Steps t sheet out (Line size n i) after m (afterLine size n i)
     unfolding lines
     step-line m after k e = record {
       kept = k;
-      fits = given-fits t (take size sheet) i out e;
-      piece = λ room. rw e (ap (λ (l : List ℕ). take m after ++ l) (lines-after after (ltb i n) refl));
+      fits = given-fits t (take size sheet) i out (sym e);
+      piece = λ room. rw (← e) (ap (λ (l : List ℕ). take m after ++ l) (lines-after after (ltb i n) refl));
       falls = λ h. ahead-after (ltb i n) refl;
     }
 
-    pub step-refused : (r : Refusal) (p : ℕ) (after : List ℕ) → length after ≡ length out → lining t (take size sheet) i out ≡ (line.Refused r p, after) → Steps t sheet out (Line size n i) after 0 (Refuse r p)
+    pub step-refused : (r : Refusal) (p : ℕ) (after : List ℕ) → length after ≡ length out → (line.Refused r p, after) ≡ lining t (take size sheet) i out → Steps t sheet out (Line size n i) after 0 (Refuse r p)
     unfolding lines
-    step-refused r p after k e = record { kept = k; fits = omega arith; piece = λ room. rw e; falls = λ h. omega arith }
+    step-refused r p after k e = record { kept = k; fits = omega arith; piece = λ room. rw (← e); falls = λ h. omega arith }
 
 -- ---- the first stage
 

@@ -1,34 +1,26 @@
+-- `print::first_stage` meets its contract. Assumes nothing.
 use borrow.Author.Needs.{needs}
 use Rattle.print.proofs.first_stage.Statement.{statement}
 use Rattle.print.proofs.first_stage.Tie as tie
-use Rattle.print.proofs.first_stage.Reads as reads
-use Rattle.print.proofs.first_stage.Lts as lts
 
--- src/lib.rt:97:27
 enum-known-verdict : tie.Need-enum-known-verdict
 enum-known-verdict c = search needs
 
--- src/lib.rt:98:28
 enum-known-verdict-2 : tie.Need-enum-known-verdict-2
 enum-known-verdict-2 c = search needs
 
--- src/lib.rt:99:38
 enum-told : tie.Need-enum-told
 enum-told c = search needs
 
--- src/lib.rt:104:36
 enum-known-answer : tie.Need-enum-known-answer
 enum-known-answer c = search needs
 
--- src/lib.rt:93:1
 returns : tie.Need-returns
 returns c = rw (c .before .verdict .given .1)
 
--- src/lib.rt:93:1
 returns-2 : tie.Need-returns-2
 returns-2 c = rw (c .before .before .before .verdict2 .given .1, c .enum-told .given .1)
 
--- src/lib.rt:93:1
 returns-3 : tie.Need-returns-3
 returns-3 c = rw (c .before .before .before .before .verdict2 .given .1, c .before .answer .given .1)
 

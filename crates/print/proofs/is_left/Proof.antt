@@ -1,40 +1,31 @@
+-- `print::is_left` meets its contract. Assumes nothing.
 use mathlib.Core.Path.{sym}
 use Rattle.print.proofs.PrintLaws.{line-left}
 use borrow.Author.Needs.{needs}
 use Rattle.print.proofs.is_left.Statement.{statement}
 use Rattle.print.proofs.is_left.Tie as tie
-use Rattle.print.proofs.is_left.Reads as reads
-use Rattle.print.proofs.is_left.Lts as lts
 
--- src/lib.rt:134:60
 enum-told : tie.Need-enum-told
 enum-told c = search needs
 
--- src/lib.rt:135:41
 enum-told-2 : tie.Need-enum-told-2
 enum-told-2 c = search needs
 
--- src/lib.rt:136:51
 enum-told-3 : tie.Need-enum-told-3
 enum-told-3 c = search needs
 
--- src/lib.rt:137:24
 enum-told-4 : tie.Need-enum-told-4
 enum-told-4 c = search needs
 
--- src/lib.rt:130:1
 returns : tie.Need-returns
 returns c = rw (c .enum-told .given .1) (sym (line-left (c .enum-told .given .0 .0) (c .enum-told .given .0 .1 .0) (c .enum-told .given .0 .1 .1 .0)))
 
--- src/lib.rt:130:1
 returns-2 : tie.Need-returns-2
 returns-2 c = rw (c .enum-told2 .given .1)
 
--- src/lib.rt:130:1
 returns-3 : tie.Need-returns-3
 returns-3 c = rw (c .enum-told3 .given .1)
 
--- src/lib.rt:130:1
 returns-4 : tie.Need-returns-4
 returns-4 c = rw (c .enum-told4 .given .1)
 

@@ -1,3 +1,4 @@
+-- `print::print` meets its contract. Assumes nothing.
 use mathlib.Core.Path.{_≡_, refl, sym, _∙_}
 use lib.ListN.{length}
 use lib.Seq.{length-take-le}
@@ -6,12 +7,6 @@ use borrow.Author.Needs.{needs}
 use Rattle.print.specs.Pieces.{ahead}
 use Rattle.print.proofs.print.Statement.{statement}
 use Rattle.print.proofs.print.Tie as tie
-use Rattle.print.proofs.print.Reads as reads
-use Rattle.print.proofs.print.Lts as lts
-use Rattle.io.proofs.write_all.Reads as write-all-reads
-use Rattle.print.proofs.begin.Reads as begin-reads
-use Rattle.print.proofs.is_left.Reads as is-left-reads
-use Rattle.print.proofs.step.Reads as step-reads
 
 abbrev Inv-loop : tie.InvT-loop
 Inv-loop text scratch sheet out₀ stage₀ out stage = length out ≡ length out₀
@@ -19,71 +14,54 @@ Inv-loop text scratch sheet out₀ stage₀ out stage = length out ≡ length ou
 abbrev μ-loop : tie.MeasureT-loop
 μ-loop text scratch sheet out₀ stage₀ out stage = ahead stage
 
--- src/lib.rt:205:9
 begin-requires : tie.Need-begin-requires Inv-loop μ-loop
 begin-requires c κs = search needs
 
--- src/lib.rt:206:5
 loop-holds : tie.Need-loop-holds Inv-loop μ-loop
 loop-holds c = refl
 
--- src/lib.rt:206:11
 is-left-requires : tie.Need-is-left-requires Inv-loop μ-loop
 is-left-requires c κs = search needs
 
--- src/lib.rt:207:13
 step-requires : tie.Need-step-requires Inv-loop μ-loop
 step-requires c κs = search needs
 
--- src/lib.rt:209:42
 slice-reshare-prefix-write-all : tie.Need-slice-reshare-prefix-write-all Inv-loop μ-loop
 slice-reshare-prefix-write-all c = c .before .before .step .ensures .fits
 
--- src/lib.rt:209:42
 slice-aggregate-write-all : tie.Need-slice-aggregate-write-all Inv-loop μ-loop
 slice-aggregate-write-all c = sym (length-take-le _ _ (c .before .before .before .step .ensures .fits))
 
--- src/lib.rt:209:13
 write-all-requires : tie.Need-write-all-requires Inv-loop μ-loop
 write-all-requires c κs = search needs
 
--- src/lib.rt:210:13
 same-length : tie.Need-same-length Inv-loop μ-loop
 same-length c = search needs
 
--- src/lib.rt:210:13
 same-length-2 : tie.Need-same-length-2 Inv-loop μ-loop
 same-length-2 c = search needs
 
--- src/lib.rt:210:13
 same-length-3 : tie.Need-same-length-3 Inv-loop μ-loop
 same-length-3 c = c .before .before .before .before .before .step .kept .1 .1 .0 ∙ c .before .before .before .before .before .before .before .before .before .before .loop .inv
 
--- src/lib.rt:210:13
 returns : tie.Need-returns Inv-loop μ-loop
 returns c = let call = c .before .before .before .before .before .before .before .before .before .before .before .before .before .before .before in (call .begin .ensures .0, call .begin .ensures .1 .0)
 
--- src/lib.rt:206:5
 loop-less : tie.Need-loop-less Inv-loop μ-loop
 loop-less c = let made = c .before .before .before .before .before in made .step .ensures .falls (ltb-true 0 _ (sym (made .before .before .before .before .is-left .ensures) ∙ made .before .before .before .if1 .taken))
 
--- src/lib.rt:206:5
 loop-again : tie.Need-loop-again Inv-loop μ-loop
 loop-again c = c .before .before .before .before .before .step .kept .1 .1 .0 ∙ c .before .before .before .before .before .before .before .before .before .before .loop .inv
 
--- src/lib.rt:201:1
 same-length-4 : tie.Need-same-length-4 Inv-loop μ-loop
 same-length-4 c = search needs
 
--- src/lib.rt:201:1
 same-length-5 : tie.Need-same-length-5 Inv-loop μ-loop
 same-length-5 c = search needs
 
--- src/lib.rt:201:1
 same-length-6 : tie.Need-same-length-6 Inv-loop μ-loop
 same-length-6 c = c .before .before .loop .inv
 
--- src/lib.rt:201:1
 returns-2 : tie.Need-returns-2 Inv-loop μ-loop
 returns-2 c = let call = c .before .before .before .before .before .before .before in (call .begin .ensures .0, call .begin .ensures .1 .0)
 

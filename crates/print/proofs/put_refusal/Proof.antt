@@ -1,56 +1,40 @@
+-- `print::put_refusal` meets its contract. Assumes nothing.
 use Rattle.text.proofs.WriteLaws.{puts-then}
 use Rattle.script.specs.Output.{refusal}
 use borrow.Author.Needs.{needs}
 use Rattle.print.proofs.put_refusal.Statement.{statement}
 use Rattle.print.proofs.put_refusal.Tie as tie
-use Rattle.print.proofs.put_refusal.Reads as reads
-use Rattle.print.proofs.put_refusal.Lts as lts
-use Rattle.error.proofs.number_of.Reads as number-of-reads
-use Rattle.print.proofs.put_decimal.Reads as put-decimal-reads
-use Rattle.print.proofs.put_word.Reads as put-word-reads
-use Rattle.text.proofs.put.Reads as put-reads
 
--- src/lib.rt:69:35
 slice-aggregate-put-word : tie.Need-slice-aggregate-put-word
 slice-aggregate-put-word c = search needs
 
--- src/lib.rt:69:9
 put-word-requires : tie.Need-put-word-requires
 put-word-requires c κs = search needs
 
--- src/lib.rt:70:45
 number-of-requires : tie.Need-number-of-requires
 number-of-requires c κs = search needs
 
--- src/lib.rt:70:45
 cast-put-decimal : tie.Need-cast-put-decimal
 cast-put-decimal c = search needs
 
--- src/lib.rt:70:9
 put-decimal-requires : tie.Need-put-decimal-requires
 put-decimal-requires c κs = search needs
 
--- src/lib.rt:71:36
 slice-aggregate-put-word-2 : tie.Need-slice-aggregate-put-word-2
 slice-aggregate-put-word-2 c = search needs
 
--- src/lib.rt:71:9
 put-word-requires-2 : tie.Need-put-word-requires-2
 put-word-requires-2 c κs = search needs
 
--- src/lib.rt:72:9
 put-decimal-requires-2 : tie.Need-put-decimal-requires-2
 put-decimal-requires-2 c κs = search needs
 
--- src/lib.rt:73:5
 put-requires : tie.Need-put-requires
 put-requires c κs = search needs
 
--- src/lib.rt:66:1
 same-length : tie.Need-same-length
 same-length c = search needs
 
--- src/lib.rt:66:1
 returns : tie.Need-returns
 unfolding refusal
 returns c =

@@ -1,3 +1,4 @@
+-- `print::put_word` meets its contract. Assumes nothing.
 use Prim.Native.Nat.{_-_, ℕ}
 use mathlib.Core.List.{List}
 use mathlib.Core.Path.{refl, _∙_, _≡_}
@@ -8,9 +9,6 @@ use Rattle.text.proofs.WriteLaws.{puts-none, puts-then}
 use Rattle.print.proofs.PrintLaws.{word-at}
 use Rattle.print.proofs.put_word.Statement.{statement}
 use Rattle.print.proofs.put_word.Tie as tie
-use Rattle.print.proofs.put_word.Reads as reads
-use Rattle.print.proofs.put_word.Lts as lts
-use Rattle.text.proofs.put.Reads as put-reads
 
 abbrev Inv-loop : tie.InvT-loop
 Inv-loop out₀ at word end₀ i₀ out end i = (length out ≡ length out₀) × ((after : List ℕ) (e : ℕ) → Puts out end (drop i word) after e → Puts out₀ at word after e)
@@ -18,27 +16,21 @@ Inv-loop out₀ at word end₀ i₀ out end i = (length out ≡ length out₀) �
 abbrev μ-loop : tie.MeasureT-loop
 μ-loop out₀ at word end₀ i₀ out end i = length word - i
 
--- src/lib.rt:34:5
 loop-holds : tie.Need-loop-holds Inv-loop μ-loop
 loop-holds c = (refl, λ after e p. p)
 
--- src/lib.rt:35:35
 shared-slice-read-put : tie.Need-shared-slice-read-put Inv-loop μ-loop
 shared-slice-read-put c = search needs
 
--- src/lib.rt:35:9
 put-requires : tie.Need-put-requires Inv-loop μ-loop
 put-requires c κs = search needs
 
--- src/lib.rt:36:9
 add-i : tie.Need-add-i Inv-loop μ-loop
 add-i c = search needs
 
--- src/lib.rt:34:5
 loop-less : tie.Need-loop-less Inv-loop μ-loop
 loop-less c = search needs
 
--- src/lib.rt:34:5
 loop-again : tie.Need-loop-again Inv-loop μ-loop
 loop-again c =
     let at-put = c .before .before in
@@ -49,11 +41,9 @@ loop-again c =
       λ after e p. at-loop .loop .inv .1 after e (rw (word-at (start .args .word .now) (at-loop .loop .i) (in-loop .loop-test .taken)) (puts-then (at-put .put .ensures) p)),
     )
 
--- src/lib.rt:29:1
 same-length : tie.Need-same-length Inv-loop μ-loop
 same-length c = c .before .loop .inv .0
 
--- src/lib.rt:29:1
 returns : tie.Need-returns Inv-loop μ-loop
 returns c = c .before .loop .inv .1 _ _ (rw (drop-of-length-le (c .before .before .before .before .args .word .now) (c .loop-test .left)) (puts-none _ _))
 

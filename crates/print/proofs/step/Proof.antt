@@ -1,74 +1,56 @@
+-- `print::step` meets its contract. Assumes nothing.
 use mathlib.Core.Path.{refl}
 use Rattle.print.specs.declared.Stage.the-variants.{Accept, Refuse}
 use Rattle.print.proofs.PrintLaws.{step-last, step-done, accept-short, refusal-short}
 use borrow.Author.Needs.{needs}
 use Rattle.print.proofs.step.Statement.{statement}
 use Rattle.print.proofs.step.Tie as tie
-use Rattle.print.proofs.step.Reads as reads
-use Rattle.print.proofs.step.Lts as lts
-use Rattle.print.proofs.put_accept.Reads as put-accept-reads
-use Rattle.print.proofs.put_refusal.Reads as put-refusal-reads
-use Rattle.print.proofs.step_line.Reads as step-line-reads
 
--- src/lib.rt:113:23
 enum-known-stage : tie.Need-enum-known-stage
 enum-known-stage c = search needs
 
--- src/lib.rt:113:51
 step-line-requires : tie.Need-step-line-requires
 step-line-requires c κs = search needs
 
--- src/lib.rt:114:25
 enum-known-stage-2 : tie.Need-enum-known-stage-2
 enum-known-stage-2 c = search needs
 
--- src/lib.rt:115:21
 put-accept-requires : tie.Need-put-accept-requires
 put-accept-requires c κs = search needs
 
--- src/lib.rt:118:25
 enum-known-stage-3 : tie.Need-enum-known-stage-3
 enum-known-stage-3 c = search needs
 
--- src/lib.rt:119:21
 put-refusal-requires : tie.Need-put-refusal-requires
 put-refusal-requires c κs = search needs
 
--- src/lib.rt:124:19
 enum-told : tie.Need-enum-told
 enum-told c = search needs
 
--- src/lib.rt:109:1
 same-length : tie.Need-same-length
 same-length c = search needs
 
--- src/lib.rt:109:1
 returns : tie.Need-returns
 returns c =
     let made = c .before .before in
     rw (made .before .before .before .stage .given .1) (made .step-line .ensures)
 
--- src/lib.rt:109:1
 same-length-2 : tie.Need-same-length-2
 same-length-2 c = search needs
 
--- src/lib.rt:109:1
 returns-2 : tie.Need-returns-2
 returns-2 c =
     let made = c .before .before in
     rw (made .before .before .before .stage2 .given .1) (step-last _ _ _ (Accept _) _ _ _ refl refl (accept-short _) (made .put-accept .ensures))
 
--- src/lib.rt:109:1
 same-length-3 : tie.Need-same-length-3
 same-length-3 c = search needs
 
--- src/lib.rt:109:1
 returns-3 : tie.Need-returns-3
 returns-3 c =
     let made = c .before .before in
     rw (made .before .before .before .stage3 .given .1) (step-last _ _ _ (Refuse _ _) _ _ _ refl refl (refusal-short _ _) (made .put-refusal .ensures))
 
--- src/lib.rt:109:1
 returns-4 : tie.Need-returns-4
 returns-4 c = rw (c .enum-told .given .1) (step-done _ _ _)
 

@@ -1,57 +1,43 @@
-use mathlib.Core.Path.{sym}
+-- `print::step_line` meets its contract. Assumes nothing.
 use Rattle.print.proofs.PrintLaws.{step-line, step-refused}
 use borrow.Author.Needs.{needs}
 use Rattle.print.proofs.step_line.Statement.{statement}
 use Rattle.print.proofs.step_line.Tie as tie
-use Rattle.print.proofs.step_line.Reads as reads
-use Rattle.print.proofs.step_line.Lts as lts
-use Rattle.line.proofs.line.Reads as line-reads
-use Rattle.print.proofs.after_line.Reads as after-line-reads
-use Rattle.text.proofs.part.Reads as part-reads
 
--- src/lib.rt:96:28
 part-requires : tie.Need-part-requires
 part-requires c κs = search needs
 
--- src/lib.rt:96:11
 line-requires : tie.Need-line-requires
 line-requires c κs = search needs
 
--- src/lib.rt:97:32
 enum-known-length : tie.Need-enum-known-length
 enum-known-length c = search needs
 
--- src/lib.rt:98:17
 after-line-requires : tie.Need-after-line-requires
 after-line-requires c κs = search needs
 
--- src/lib.rt:101:31
 enum-known-refusal : tie.Need-enum-known-refusal
 enum-known-refusal c = search needs
 
--- src/lib.rt:93:1
 same-length : tie.Need-same-length
 same-length c = search needs
 
--- src/lib.rt:93:1
 returns : tie.Need-returns
 returns c =
     let lined = c .before .before .before .before .before .before in
     let start = lined .before .before .before .before .before .before in
     let e = rw (lined .before .before .part .ensures, c .before .before .length .given .1) at (lined .line .ensures) in
-    rw (c .after-line .ensures) (step-line (start .args .text .now) (start .args .sheet .now) (start .args .out .now) (start .args .size) (start .args .records) (start .args .ordinal) _ _ (lined .line .kept .1 .1 .1 .0) (sym e))
+    rw (c .after-line .ensures) (step-line (start .args .text .now) (start .args .sheet .now) (start .args .out .now) (start .args .size) (start .args .records) (start .args .ordinal) _ _ (lined .line .kept .1 .1 .1 .0) e)
 
--- src/lib.rt:93:1
 same-length-2 : tie.Need-same-length-2
 same-length-2 c = search needs
 
--- src/lib.rt:93:1
 returns-2 : tie.Need-returns-2
 returns-2 c =
     let lined = c .before .before .before .before .before in
     let start = lined .before .before .before .before .before .before in
     let e = rw (lined .before .before .part .ensures, c .before .refusal .given .1) at (lined .line .ensures) in
-    step-refused (start .args .text .now) (start .args .sheet .now) (start .args .out .now) (start .args .size) (start .args .records) (start .args .ordinal) _ _ _ (lined .line .kept .1 .1 .1 .0) (sym e)
+    step-refused (start .args .text .now) (start .args .sheet .now) (start .args .out .now) (start .args .size) (start .args .records) (start .args .ordinal) _ _ _ (lined .line .kept .1 .1 .1 .0) e
 
 pub step-line-spec : {M : Type 1} → statement M
 step-line-spec =

@@ -1,42 +1,30 @@
+-- `verdict::read_and_check` meets its contract. Assumes nothing.
 use Rattle.verdict.proofs.VerdictLaws.{unread, checked}
 use borrow.Author.Needs.{needs}
 use Rattle.verdict.proofs.read_and_check.Statement.{statement}
 use Rattle.verdict.proofs.read_and_check.Tie as tie
-use Rattle.verdict.proofs.read_and_check.Reads as reads
-use Rattle.verdict.proofs.read_and_check.Lts as lts
-use Rattle.parser.proofs.read.Reads as read-reads
-use Rattle.text.proofs.part.Reads as part-reads
-use Rattle.validate.proofs.check.Reads as check-reads
 
--- src/lib.rt:25:11
 read-requires : tie.Need-read-requires
 read-requires c κs = search needs
 
--- src/lib.rt:26:31
 enum-known-refusal : tie.Need-enum-known-refusal
 enum-known-refusal c = search needs
 
--- src/lib.rt:27:32
 enum-known-length : tie.Need-enum-known-length
 enum-known-length c = search needs
 
--- src/lib.rt:28:48
 part-requires : tie.Need-part-requires
 part-requires c κs = search needs
 
--- src/lib.rt:28:17
 check-requires : tie.Need-check-requires
 check-requires c κs = search needs
 
--- src/lib.rt:20:1
 same-length : tie.Need-same-length
 same-length c = search needs
 
--- src/lib.rt:20:1
 same-length-2 : tie.Need-same-length-2
 same-length-2 c = search needs
 
--- src/lib.rt:20:1
 returns : tie.Need-returns
 returns c =
     let call = c .before .before .before .before .before .before .before in
@@ -44,15 +32,12 @@ returns c =
     let start = call .before .before .before .before .before .before in
     (e, (tt, unread (start .args .text .now) (start .args .scratch .now) (start .args .sheet .now) _ _ _ _ e))
 
--- src/lib.rt:20:1
 same-length-3 : tie.Need-same-length-3
 same-length-3 c = search needs
 
--- src/lib.rt:20:1
 same-length-4 : tie.Need-same-length-4
 same-length-4 c = search needs
 
--- src/lib.rt:20:1
 returns-2 : tie.Need-returns-2
 returns-2 c =
     let call = c .before .before .before .before .before .before .before .before .before .before in
