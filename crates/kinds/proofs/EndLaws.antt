@@ -1,5 +1,4 @@
 -- The end of a node: its fields are taken, and its record is written. Assumes nothing.
--- ---- fields with a duration
 use Prim.Native.Nat.{ℕ, _+_, _≤_}
 use mathlib.Core.List.{List, []}
 use mathlib.Core.Option.{some}
@@ -22,8 +21,10 @@ use Rattle.slots.specs.Means.{sortRank, ListMeans, TimedMeans}
 use Rattle.slots.specs.declared.Gathered.{Gathered}
 use Rattle.slots.specs.declared.Timed.the-variants as timed
 use Rattle.slots.proofs.TimedLaws.{TimedAt, not-timed, timely-refused}
-use Rattle.kinds.specs.Means.{Put, EndWent, EndMeans, timedEnd}
+use Rattle.kinds.specs.Means.{EndWent, EndMeans, timedEnd}
+use Rattle.write.specs.Means.{Put}
 
+-- ---- fields with a duration
 module _ (s : List ℕ) (lo : ℕ) (sorts : List ℕ) (c : Cursor) (t : Table) (k : Fields → ℕ → Leaf Key) where
   pub end-refused : (i : ℕ) (p : Rule Content) → getElem? t i ≡ some ("duration", p) → sortRank (getD sorts i 0) ≡ 1 → (g : Gathered) → ListMeans s lo sorts c t [] g
       → (a : Refusal) (q : ℕ) → TimedMeans g i (timed.Refused a q) → run s c (timedEnd t k) ≡ refused a q

@@ -1,5 +1,4 @@
 -- A node is what stands before its end, and its end. Assumes nothing.
--- ---- draw
 use Prim.Native.Nat.{ℕ, _+_, _≤_}
 use mathlib.Core.List.{List, [], _∷_}
 use mathlib.Core.Path.{_≡_}
@@ -20,6 +19,7 @@ use Rattle.nodes.specs.declared.NodeRead.{NodeRead}
 use Rattle.kinds.specs.Means.{EndMeans, drawEnd, morphEnd, colorStrings, colorEnd, pathEnd, waveformEnd}
 use Rattle.kinds.proofs.EndLaws.{whole-node, whole-end}
 
+-- ---- draw
 module _ (s : List ℕ) (c : Cursor) where
   pub no-svg : (q : ℕ) → run s c text ≡ refused Missing q → run s c parseDraw ≡ refused Missing q
   unfolding parseDraw string

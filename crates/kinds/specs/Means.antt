@@ -5,17 +5,9 @@ use mathlib.Core.Path.{_≡_}
 use lib.ListN.{length}
 use Rattle.text.specs.Bytes.{bytes}
 use Rattle.text.specs.Words.{default}
-use Rattle.number.specs.Number.{bits}
 use Rattle.number.specs.Time.{Key}
 use Rattle.ast.specs.Tree as tree
 use Rattle.ast.specs.Tree.{Leaf}
-use Rattle.ast.specs.declared.DrawSpec.{DrawSpec}
-use Rattle.ast.specs.declared.MorphSpec.{MorphSpec}
-use Rattle.ast.specs.declared.ColorSpec.{ColorSpec}
-use Rattle.ast.specs.declared.PathSpec.{PathSpec}
-use Rattle.ast.specs.declared.WaveformSpec.{WaveformSpec}
-use Rattle.ast.specs.declared.PresetCall.{PresetCall}
-use Rattle.encode.specs.Of.{Plain, PlainOptFloat, PlainOptRange, PlainOptEasing, spanOf, optFloatOf, optWordOf, optBoolOf, optRangeOf, optEasingOf, optLoopOf}
 use Rattle.encode.specs.Writes.{Writes}
 use Rattle.error.specs.declared.Refusal.the-variants.{MissingDuration}
 use Rattle.grammar.specs.Rule.{Rule, refused, give, need, _>>=_, _>>_, if, sees, skip, both, inside}
@@ -35,12 +27,7 @@ abbrev pub rowsOf : Table → List ℕ
 rowsOf [] = []
 rowsOf (f ∷ fs) = length (bytes (f .0)) ∷ bytes (f .0) ++ rowsOf fs
 
--- ---- a record is written
-
--- the record of a leaf, of at most 64 bytes
-pub record Put (b : List ℕ) (out : ℕ) (l : Leaf Key) (a : List ℕ) (q : ℕ) : Type 0 where
-  pub writes : (n : ℕ) → Writes b out (leafBytes n l) a q
-  pub most : q ≤ out + 64
+-- ---- the end of a node
 
 -- the end of a node is taken, and the node's record written: 64 bytes are not paid for by the end
 pub record EndWent (s b a : List ℕ) (c m : Cursor) (out q : ℕ) (p : Rule (Leaf Key)) : Type 0 where
@@ -69,12 +56,6 @@ drawLeaf svg fs d = Leaf.draw (record { svg = svg; duration = d; easing = easing
 abbrev pub drawEnd : tree.Span → Rule (Leaf Key)
 drawEnd svg = timedEnd drawFields (drawLeaf svg)
 
-abbrev pub PlainDraw : DrawSpec → Type 0
-PlainDraw x = Plain (x .duration) × PlainOptEasing (x .easing)
-
-abbrev pub drawOf : DrawSpec → Leaf Key
-drawOf x = Leaf.draw (record { svg = spanOf (x .svg); duration = bits (x .duration); easing = optEasingOf (x .easing) })
-
 -- morph
 abbrev pub morphSorts : List ℕ
 morphSorts = 1 ∷ 0 ∷ 7 ∷ []
@@ -84,12 +65,6 @@ morphLeaf from to fs d = Leaf.morph (record { from = from; to = to; samples = de
 
 abbrev pub morphEnd : tree.Span → tree.Span → Rule (Leaf Key)
 morphEnd from to = timedEnd morphFields (morphLeaf from to)
-
-abbrev pub PlainMorph : MorphSpec → Type 0
-PlainMorph x = Plain (x .duration) × PlainOptEasing (x .easing)
-
-abbrev pub morphOf : MorphSpec → Leaf Key
-morphOf x = Leaf.morph (record { from = spanOf (x .from); to = spanOf (x .to); samples = x .samples; duration = bits (x .duration); easing = optEasingOf (x .easing) })
 
 -- color
 abbrev pub colorSorts : List ℕ
@@ -104,19 +79,6 @@ colorEnd target from to = timedEnd colorFields (colorLeaf target from to)
 -- behind the `:`
 abbrev pub colorStrings : tree.Span → Rule (Leaf Key)
 colorStrings target = string >>= λ from. both "=" ">" >> (string >>= λ to. colorEnd target from to)
-
-abbrev pub PlainColor : ColorSpec → Type 0
-PlainColor x = Plain (x .duration) × PlainOptEasing (x .easing)
-
-abbrev pub colorOf : ColorSpec → Leaf Key
-colorOf x = Leaf.color (record {
-  target = spanOf (x .target);
-  from = spanOf (x .from);
-  to = spanOf (x .to);
-  duration = bits (x .duration);
-  space = x .space;
-  easing = optEasingOf (x .easing);
-})
 
 -- path
 abbrev pub pathSorts : List ℕ
@@ -135,20 +97,6 @@ pathLeaf target svg fs d = Leaf.path (record {
 
 abbrev pub pathEnd : tree.Span → tree.Span → Rule (Leaf Key)
 pathEnd target svg = timedEnd pathFields (pathLeaf target svg)
-
-abbrev pub PlainPath : PathSpec → Type 0
-PlainPath x = Plain (x .duration) × PlainOptEasing (x .easing) × PlainOptRange (x .offset)
-
-abbrev pub pathOf : PathSpec → Leaf Key
-pathOf x = Leaf.path (record {
-  target = spanOf (x .target);
-  svg = spanOf (x .svg);
-  duration = bits (x .duration);
-  easing = optEasingOf (x .easing);
-  autoRotate = optBoolOf (x .«auto_rotate»);
-  offset = optRangeOf (x .offset);
-  loopMode = optLoopOf (x .«loop_mode»);
-})
 
 -- waveform
 abbrev pub waveformSorts : List ℕ
@@ -169,23 +117,6 @@ waveformLeaf kind fs = Leaf.waveform (record {
 abbrev pub waveformEnd : ℕ → Rule (Leaf Key)
 waveformEnd kind = parseFieldList waveformFields [] >>= λ fs. give (waveformLeaf kind fs)
 
-abbrev pub PlainWaveform : WaveformSpec → Type 0
-PlainWaveform x =
-    PlainOptFloat (x .frequency) × PlainOptFloat (x .amplitude) × PlainOptFloat (x .phase) × PlainOptFloat (x .«duty_cycle») × PlainOptFloat (x .smoothness)
-    × PlainOptFloat (x .duration)
-
-abbrev pub waveformOf : WaveformSpec → Leaf Key
-waveformOf x = Leaf.waveform (record {
-  kind = x .kind;
-  frequency = optFloatOf (x .frequency);
-  amplitude = optFloatOf (x .amplitude);
-  phase = optFloatOf (x .phase);
-  dutyCycle = optFloatOf (x .«duty_cycle»);
-  seed = optWordOf (x .seed);
-  smoothness = optFloatOf (x .smoothness);
-  duration = optFloatOf (x .duration);
-})
-
 -- preset: fields in parentheses or not, and more of them behind a `,` or not
 abbrev pub presetPairs : Rule Fields
 presetPairs = if (sees "(") (inside "(" (pairs drawFields)) (give [])
@@ -202,9 +133,3 @@ presetLeaf name fs = Leaf.preset (record { name = name; duration = numberOf "dur
 
 abbrev pub presetEnd : tree.Span → Rule (Leaf Key)
 presetEnd name = presetFields >>= λ fs. give (presetLeaf name fs)
-
-abbrev pub PlainPreset : PresetCall → Type 0
-PlainPreset x = PlainOptFloat (x .duration) × PlainOptEasing (x .easing)
-
-abbrev pub presetOf : PresetCall → Leaf Key
-presetOf x = Leaf.preset (record { name = spanOf (x .name); duration = optFloatOf (x .duration); easing = optEasingOf (x .easing) })

@@ -2,7 +2,7 @@
 // The functions are for our own crates: each requires a cursor that stands in a text of at most 16,384 bytes, and a place below 2^30.
 ghost use mathlib.Core.Path.{_≡_};
 ghost use mathlib.Core.List.{[]};
-ghost use Prim.Native.Nat.{ℕ, _^_, _≤_, _<_};
+ghost use Prim.Native.Nat.{_≤_};
 ghost use lib.ListN.{length};
 ghost use Rattle.text.specs.Words.{default};
 ghost use Rattle.encode.specs.Of.{spanOf, optWordOf, optCaseOf};
@@ -12,7 +12,7 @@ ghost use Rattle.cursor.specs.Means.{Ready};
 ghost use Rattle.arrays.specs.Means.{Room};
 ghost use Rattle.nodes.specs.Means.{LeafMeans};
 ghost use Rattle.slots.specs.Means.{Layout, Laid, ListMeans};
-ghost use Rattle.kinds.specs.Means.{Put, EndMeans, drawEnd, PlainDraw, drawOf, morphEnd, PlainMorph, morphOf, colorEnd, colorStrings, PlainColor, colorOf, pathEnd, PlainPath, pathOf, waveformEnd, PlainWaveform, waveformOf, GatheredMeans, presetPairs, presetFields, presetEnd, PlainPreset, presetOf};
+ghost use Rattle.kinds.specs.Means.{EndMeans, drawEnd, morphEnd, colorEnd, colorStrings, pathEnd, waveformEnd, GatheredMeans, presetPairs, presetFields, presetEnd};
 use ast::ColorSpec;
 use ast::DrawSpec;
 use ast::MorphSpec;
@@ -65,18 +65,6 @@ const DRAW_ROWS: [u8; 16] = *b"\x08duration\x06easing";
 
 const DRAW_SORTS: [u8; 2] = *b"\x00\x07";
 
-fn put_draw(sheet: &mut [u8], out: usize, x: DrawSpec) -> usize
-    requires { ⌜ (out < 2 ^ 30) × PlainDraw x ⌝ }
-    ensures { λ r. ⌜ Put (now (sheet .entry)) out (drawOf x) (now (sheet .exit)) r ⌝ }
-{
-    let easing = x.easing;
-    let svg = x.svg;
-    let svg_at = encode::put_byte(sheet, out, 9);
-    let duration_at = encode::put_span(sheet, svg_at, svg);
-    let easing_at = encode::put_float(sheet, duration_at, x.duration);
-    encode::put_opt_easing(sheet, easing_at, easing)
-}
-
 // Behind the string.
 fn draw_end(text: &[u8], sheet: &mut [u8], c: Cursor, out: usize, svg: Span) -> NodeRead
     requires { ⌜ Ready (now text) c × Room (now text) out ⌝ }
@@ -93,7 +81,7 @@ fn draw_end(text: &[u8], sheet: &mut [u8], c: Cursor, out: usize, svg: Span) -> 
                 duration,
                 easing,
             };
-            NodeRead::Is(put_draw(sheet, out, spec), e)
+            NodeRead::Is(write::put_draw(sheet, out, spec), e)
         }
     }
 }
@@ -113,21 +101,6 @@ pub fn parse_draw(text: &[u8], sheet: &mut [u8], c: Cursor, out: usize) -> NodeR
 const MORPH_ROWS: [u8; 24] = *b"\x07samples\x08duration\x06easing";
 
 const MORPH_SORTS: [u8; 3] = *b"\x01\x00\x07";
-
-fn put_morph(sheet: &mut [u8], out: usize, x: MorphSpec) -> usize
-    requires { ⌜ (out < 2 ^ 30) × PlainMorph x ⌝ }
-    ensures { λ r. ⌜ Put (now (sheet .entry)) out (morphOf x) (now (sheet .exit)) r ⌝ }
-{
-    let from = x.from;
-    let to = x.to;
-    let easing = x.easing;
-    let from_at = encode::put_byte(sheet, out, 8);
-    let to_at = encode::put_span(sheet, from_at, from);
-    let samples_at = encode::put_span(sheet, to_at, to);
-    let duration_at = encode::put_word(sheet, samples_at, x.samples);
-    let easing_at = encode::put_float(sheet, duration_at, x.duration);
-    encode::put_opt_easing(sheet, easing_at, easing)
-}
 
 // Behind the strings.
 fn morph_end(text: &[u8], sheet: &mut [u8], c: Cursor, out: usize, from: Span, to: Span) -> NodeRead
@@ -149,7 +122,7 @@ fn morph_end(text: &[u8], sheet: &mut [u8], c: Cursor, out: usize, from: Span, t
                 duration,
                 easing,
             };
-            NodeRead::Is(put_morph(sheet, out, spec), e)
+            NodeRead::Is(write::put_morph(sheet, out, spec), e)
         }
     }
 }
@@ -175,23 +148,6 @@ pub fn parse_morph(text: &[u8], sheet: &mut [u8], c: Cursor, out: usize) -> Node
 const COLOR_ROWS: [u8; 22] = *b"\x08duration\x05space\x06easing";
 
 const COLOR_SORTS: [u8; 3] = *b"\x00\x02\x07";
-
-fn put_color(sheet: &mut [u8], out: usize, x: ColorSpec) -> usize
-    requires { ⌜ (out < 2 ^ 30) × PlainColor x ⌝ }
-    ensures { λ r. ⌜ Put (now (sheet .entry)) out (colorOf x) (now (sheet .exit)) r ⌝ }
-{
-    let target = x.target;
-    let from = x.from;
-    let to = x.to;
-    let easing = x.easing;
-    let target_at = encode::put_byte(sheet, out, 10);
-    let from_at = encode::put_span(sheet, target_at, target);
-    let to_at = encode::put_span(sheet, from_at, from);
-    let duration_at = encode::put_span(sheet, to_at, to);
-    let space_at = encode::put_float(sheet, duration_at, x.duration);
-    let easing_at = encode::put_byte(sheet, space_at, x.space);
-    encode::put_opt_easing(sheet, easing_at, easing)
-}
 
 // Behind the strings.
 fn color_end(
@@ -222,7 +178,7 @@ fn color_end(
                 space,
                 easing,
             };
-            NodeRead::Is(put_color(sheet, out, spec), e)
+            NodeRead::Is(write::put_color(sheet, out, spec), e)
         }
     }
 }
@@ -263,26 +219,6 @@ const PATH_ROWS: [u8; 40] = *b"\x08duration\x06easing\x0bauto_rotate\x06offset\x
 
 const PATH_SORTS: [u8; 5] = *b"\x00\x07\x05\x09\x08";
 
-fn put_path(sheet: &mut [u8], out: usize, x: PathSpec) -> usize
-    requires { ⌜ (out < 2 ^ 30) × PlainPath x ⌝ }
-    ensures { λ r. ⌜ Put (now (sheet .entry)) out (pathOf x) (now (sheet .exit)) r ⌝ }
-{
-    let target = x.target;
-    let svg = x.svg;
-    let easing = x.easing;
-    let auto_rotate = x.auto_rotate;
-    let offset = x.offset;
-    let loop_mode = x.loop_mode;
-    let target_at = encode::put_byte(sheet, out, 7);
-    let svg_at = encode::put_span(sheet, target_at, target);
-    let duration_at = encode::put_span(sheet, svg_at, svg);
-    let easing_at = encode::put_float(sheet, duration_at, x.duration);
-    let auto_rotate_at = encode::put_opt_easing(sheet, easing_at, easing);
-    let offset_at = encode::put_opt_bool(sheet, auto_rotate_at, auto_rotate);
-    let loop_at = encode::put_opt_range(sheet, offset_at, offset);
-    encode::put_opt_loop(sheet, loop_at, loop_mode)
-}
-
 // Behind the string.
 fn path_end(
     text: &[u8],
@@ -314,7 +250,7 @@ fn path_end(
                 offset,
                 loop_mode,
             };
-            NodeRead::Is(put_path(sheet, out, spec), e)
+            NodeRead::Is(write::put_path(sheet, out, spec), e)
         }
     }
 }
@@ -344,28 +280,6 @@ const WAVEFORM_ROWS: [u8; 62] =
 
 const WAVEFORM_SORTS: [u8; 7] = *b"\x00\x00\x00\x00\x01\x00\x00";
 
-fn put_waveform(sheet: &mut [u8], out: usize, x: WaveformSpec) -> usize
-    requires { ⌜ (out < 2 ^ 30) × PlainWaveform x ⌝ }
-    ensures { λ r. ⌜ Put (now (sheet .entry)) out (waveformOf x) (now (sheet .exit)) r ⌝ }
-{
-    let frequency = x.frequency;
-    let amplitude = x.amplitude;
-    let phase = x.phase;
-    let duty_cycle = x.duty_cycle;
-    let seed = x.seed;
-    let smoothness = x.smoothness;
-    let duration = x.duration;
-    let kind_at = encode::put_byte(sheet, out, 11);
-    let frequency_at = encode::put_byte(sheet, kind_at, x.kind);
-    let amplitude_at = encode::put_opt_float(sheet, frequency_at, frequency);
-    let phase_at = encode::put_opt_float(sheet, amplitude_at, amplitude);
-    let duty_cycle_at = encode::put_opt_float(sheet, phase_at, phase);
-    let seed_at = encode::put_opt_float(sheet, duty_cycle_at, duty_cycle);
-    let smoothness_at = encode::put_opt_word(sheet, seed_at, seed);
-    let duration_at = encode::put_opt_float(sheet, smoothness_at, smoothness);
-    encode::put_opt_float(sheet, duration_at, duration)
-}
-
 // Behind the waveform's kind.
 fn waveform_end(
     text: &[u8],
@@ -393,7 +307,7 @@ fn waveform_end(
                 smoothness: slots::float_at(slots, 5),
                 duration: slots::float_at(slots, 6),
             };
-            NodeRead::Is(put_waveform(sheet, out, spec), e)
+            NodeRead::Is(write::put_waveform(sheet, out, spec), e)
         }
     }
 }
@@ -462,19 +376,6 @@ fn preset_fields(text: &[u8], c: Cursor) -> Gathered
     }
 }
 
-fn put_preset(sheet: &mut [u8], out: usize, x: PresetCall) -> usize
-    requires { ⌜ (out < 2 ^ 30) × PlainPreset x ⌝ }
-    ensures { λ r. ⌜ Put (now (sheet .entry)) out (presetOf x) (now (sheet .exit)) r ⌝ }
-{
-    let name = x.name;
-    let duration = x.duration;
-    let easing = x.easing;
-    let name_at = encode::put_byte(sheet, out, 12);
-    let duration_at = encode::put_span(sheet, name_at, name);
-    let easing_at = encode::put_opt_float(sheet, duration_at, duration);
-    encode::put_opt_easing(sheet, easing_at, easing)
-}
-
 // Behind the name.
 fn preset_end(text: &[u8], sheet: &mut [u8], c: Cursor, out: usize, name: Span) -> NodeRead
     requires { ⌜ Ready (now text) c × Room (now text) out ⌝ }
@@ -494,7 +395,7 @@ fn preset_end(text: &[u8], sheet: &mut [u8], c: Cursor, out: usize, name: Span) 
                 duration,
                 easing,
             };
-            NodeRead::Is(put_preset(sheet, out, call), e)
+            NodeRead::Is(write::put_preset(sheet, out, call), e)
         }
     }
 }

@@ -1,5 +1,4 @@
 -- Fields that are read in a loop, and what is kept of them. Assumes nothing.
--- the list that began at c with fs stands at m, and xs and o keep its fields, which stand from lo on
 use Prim.Native.Nat.{ℕ, _<_, _≤_}
 use Prim.Native.String.{String}
 use mathlib.Core.Bool.{Bool, true, false}
@@ -26,6 +25,7 @@ use Rattle.slots.specs.declared.ContentRead.the-variants as contents
 use Rattle.slots.specs.declared.Ended.the-variants as ended
 use Rattle.slots.proofs.HeldLaws.{row-rule, held-with, held-wider, content-wider}
 
+-- the list that began at c with fs stands at m, and xs and o keep its fields, which stand from lo on
 pub record Gathering (step : Fields → Rule (Next Fields)) (s : List ℕ) (lo : ℕ) (sorts : List ℕ) (t : Table) (c m : Cursor) (fs : Fields) (xs : List Slot) (o : Others) : Type 0 where
   pub fields : Fields
   pub listed : Listed step s c m fs fields

@@ -152,7 +152,7 @@ beside-with s lo hi k o m (content.Beside (apart.Value c)) y fs h b = rw (h .1 .
 
 module _ (s : List ℕ) (lo hi lo′ hi′ : ℕ) (a : lo′ ≤ lo) (b : hi ≤ hi′) where
   value-wider : (c : Cursor) (v : ValueExpr) → ValueAt s lo hi c v → ValueAt s lo′ hi′ c v
-  value-wider c v h = record { ready = h .ready; next = h .next; took = h .took; low = omega (arith, a, h .low); high = omega (arith, b, h .high) }
+  value-wider c v h = record { ready = h .ready; next = h .next; took = h .took; low = omega (arith, a, h .low); high = omega (arith, b, h .high); paid = h .paid }
 
   apart-wider : (x : Apart) (y : fields.Content) → ApartIs s lo hi x y → ApartIs s lo′ hi′ x y
   apart-wider (apart.Easing e) y h = h

@@ -1,5 +1,4 @@
 -- What is kept of a list's fields, as the values of its node. Assumes nothing.
--- a case of another rank
 use Prim.Native.Nat.{ℕ}
 use Prim.Native.String.{String}
 use mathlib.Core.List.{List, []}
@@ -15,6 +14,7 @@ use Rattle.slots.specs.declared.Slot.{Slot}
 use Rattle.slots.specs.declared.Kept.the-variants as kept
 use Rattle.slots.proofs.HeldLaws.{was-ever, row-ten}
 
+-- a case of another rank
 other : {A : Type 0} (a r : ℕ) → (a ≡ 0) ⊎ (a ≡ r) → (a ≡ 0 → ⊥) → (a ≡ r → ⊥) → A
 other a r h f g = absurd (⊎-elim f g h)
 

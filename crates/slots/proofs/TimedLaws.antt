@@ -1,5 +1,4 @@
 -- A list of fields with a duration, which must be there. Assumes nothing.
--- the fields of a list, and the duration among them
 use Prim.Native.Nat.{ℕ}
 use mathlib.Core.List.{List, []}
 use mathlib.Core.Logic.{inl, inr}
@@ -24,6 +23,7 @@ use Rattle.slots.specs.declared.Ended.the-variants as ended
 use Rattle.slots.proofs.KeptLaws.{float-held, float-plain}
 use Rattle.slots.specs.declared.Timed.the-variants as timed
 
+-- the fields of a list, and the duration among them
 pub record TimedAt (s : List ℕ) (lo : ℕ) (sorts : List ℕ) (c e : Cursor) (t : Table) (g : Gathered) (x : Float) : Type 0 where
   pub fields : Fields
   pub took : Took 0 s c e (parseFieldList t []) fields

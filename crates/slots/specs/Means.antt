@@ -1,5 +1,5 @@
 -- The sorts of fields, what a field holds, and what the slots keep of a list. Contracts cite these. Assumes nothing.
-use Prim.Native.Nat.{ℕ, zero, suc, _≤_, _<_}
+use Prim.Native.Nat.{ℕ, zero, suc, _*_, _-_, _≤_, _<_}
 use Prim.Native.String.{String}
 use mathlib.Core.Bool.{Bool, true, false, not, _||_, _&&_}
 use mathlib.Core.List.{List, [], _∷_}
@@ -23,6 +23,7 @@ use Rattle.ast.specs.declared.OptEasing.the-variants as optEasing
 use Rattle.ast.specs.declared.OptLoop.the-variants as optLoop
 use Rattle.ast.specs.declared.OptRange.the-variants as optRange
 use Rattle.ast.specs.declared.OptDamping.the-variants as optDamping
+use Rattle.sheet.specs.Sheet.{valueForm}
 use Rattle.encode.specs.Of as of
 use Rattle.grammar.specs.Rule.{Rule, refused}
 use Rattle.grammar.specs.Fields as fields
@@ -74,13 +75,14 @@ rankOf (kept.Ever b) = 5
 
 -- ---- a value that was read
 
--- the value v stands at the cursor c, between the places lo and hi
+-- the value v stands at the cursor c, between the places lo and hi, and its text pays for its bytes
 pub record ValueAt (s : List ℕ) (lo hi : ℕ) (c : Cursor) (v : ValueExpr) : Type 0 where
   pub ready : Ready s c
   pub next : Cursor
   pub took : Took 1 s c next parseValue v
   pub low : lo ≤ c .at
   pub high : next .at ≤ hi
+  pub paid : length (valueForm .write v) ≤ 64 * (next .at - c .at)
 
 abbrev pub KeptIs : Kept → fields.Content → Type 0
 KeptIs kept.Absent y = ⊥

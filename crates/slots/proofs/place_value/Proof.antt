@@ -29,7 +29,7 @@ returns c = not-given aValue (c .before .before .before .before .before .before 
 
 returns-2 : tie.Need-returns-2
 unfolding sortRule sortRules sortRank value
-returns-2 c = let t = rw (c .before .m .given .1) at (c .before .before .before .before .parse-value .ensures) in (_, given aValue (c .before .before .before .before .before .before .before .args .text .now) (c .before .before .before .before .before .before .before .args .c) parseValue (t .took), (refl, (_, refl, record { ready = c .before .before .before .before .before .before .before .pre .0; next = _; took = t .took; low = omega arith; high = omega arith })))
+returns-2 c = let t = rw (c .before .m .given .1) at (c .before .before .before .before .parse-value .ensures) in (_, given aValue (c .before .before .before .before .before .before .before .args .text .now) (c .before .before .before .before .before .before .before .args .c) parseValue (t .took), (refl, (_, refl, record { ready = c .before .before .before .before .before .before .before .pre .0; next = _; took = t .took; low = omega arith; high = omega arith; paid = let p = t .writes .place in omega (arith, t .paid) })))
 
 pub place-value-spec : {M : Type 1} → statement M
 place-value-spec =

@@ -1,13 +1,13 @@
--- `kinds::put_morph` meets its contract. Assumes nothing.
+-- `write::put_morph` meets its contract. Assumes nothing.
 use native.Mathlib.Omega.{arith}
 use Rattle.number.specs.Number.{bits}
 use Rattle.encode.specs.Of.{spanOf, optEasingOf}
 use Rattle.encode.proofs.OverLaws.{writes-then}
 use Rattle.encode.proofs.FieldLaws.{length-word, length-span}
-use Rattle.kinds.proofs.PutLaws.{opt-easing}
+use Rattle.write.proofs.PutLaws.{opt-easing}
 use borrow.Author.Needs.{needs}
-use Rattle.kinds.proofs.put_morph.Statement.{statement}
-use Rattle.kinds.proofs.put_morph.Tie as tie
+use Rattle.write.proofs.put_morph.Statement.{statement}
+use Rattle.write.proofs.put_morph.Tie as tie
 
 put-byte-requires : tie.Need-put-byte-requires
 put-byte-requires c κs = let z = c .before .before .before .before .pre .0 in omega arith

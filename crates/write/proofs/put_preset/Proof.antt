@@ -1,12 +1,12 @@
--- `kinds::put_preset` meets its contract. Assumes nothing.
+-- `write::put_preset` meets its contract. Assumes nothing.
 use native.Mathlib.Omega.{arith}
 use Rattle.encode.specs.Of.{spanOf, optFloatOf, optEasingOf}
 use Rattle.encode.proofs.OverLaws.{writes-then}
 use Rattle.encode.proofs.FieldLaws.{length-span}
-use Rattle.kinds.proofs.PutLaws.{opt-word, opt-easing}
+use Rattle.write.proofs.PutLaws.{opt-word, opt-easing}
 use borrow.Author.Needs.{needs}
-use Rattle.kinds.proofs.put_preset.Statement.{statement}
-use Rattle.kinds.proofs.put_preset.Tie as tie
+use Rattle.write.proofs.put_preset.Statement.{statement}
+use Rattle.write.proofs.put_preset.Tie as tie
 
 put-byte-requires : tie.Need-put-byte-requires
 put-byte-requires c κs = let z = c .before .before .before .pre .0 in omega arith

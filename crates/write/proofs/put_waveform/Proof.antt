@@ -1,10 +1,10 @@
--- `kinds::put_waveform` meets its contract. Assumes nothing.
+-- `write::put_waveform` meets its contract. Assumes nothing.
 use Rattle.encode.proofs.OverLaws.{writes-keeps, writes-then}
 use native.Mathlib.Omega.{arith}
 use Rattle.encode.specs.Of.{optFloatOf, optWordOf}
-use Rattle.kinds.proofs.PutLaws.{opt-word}
-use Rattle.kinds.proofs.put_waveform.Statement.{statement}
-use Rattle.kinds.proofs.put_waveform.Tie as tie
+use Rattle.write.proofs.PutLaws.{opt-word}
+use Rattle.write.proofs.put_waveform.Statement.{statement}
+use Rattle.write.proofs.put_waveform.Tie as tie
 
 put-byte-requires : tie.Need-put-byte-requires
 put-byte-requires c κs = let z = c .before .before .pre .0 in omega arith
