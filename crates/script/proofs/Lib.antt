@@ -2,3 +2,4 @@ pub mod Faults
 pub mod Tracks
 pub mod Reading
 pub mod Whole
+pub mod Closed

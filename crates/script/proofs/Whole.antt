@@ -27,6 +27,13 @@ checks : (t : List ℕ) (ns : Nodes KeyframeTime) → length t ≤ 16384 → for
 unfolding checking opening
 checks t ns h f d = rw (le-ltb 16384 (length t) h, f, d)
 
+-- whoever has made both calls: `left` is what reading answered and left behind, v what checking answered to the sheet up to the length that
+-- reading gave; where reading refuses, v is anything
+abbrev pub Claimed : Type 0
+Claimed =
+    (t scratch sheet : List ℕ) (left : ReadAnswer × List ℕ × List ℕ) (v : CheckAnswer) → left ≡ reading t scratch sheet
+    → ((n c : ℕ) → left .0 ≡ read.Accepted n c → v ≡ checking t (take n (left .2))) → Claim t (length scratch) (length sheet) (left .0) (left .2) v
+
 module _
     (clean : (t : List ℕ) (ns : Nodes Key) → parse t ≡ tree ns → foreignFrom 0 t ≡ none)
     (fits : (t : List ℕ) (ns : Nodes Key) → length t ≤ 16384 → parse t ≡ tree ns → Fits (length t) (mapTimes stored ns))
@@ -34,10 +41,7 @@ module _
   back : (t : List ℕ) (ns : Nodes Key) → length t ≤ 16384 → parse t ≡ tree ns → decode (length t) (sheetOf t ns) ≡ some (mapTimes stored ns)
   back t ns h p = decodes (length t) (mapTimes stored ns) (fits t ns h p) (let s = small t ns h p in omega arith)
 
-  -- whoever has made both calls: `left` is what reading answered and left behind, v what checking answered to the sheet up to the length that
-  -- reading gave; where reading refuses, v is anything
-  pub claim : (t scratch sheet : List ℕ) (left : ReadAnswer × List ℕ × List ℕ) (v : CheckAnswer) → left ≡ reading t scratch sheet
-      → ((n c : ℕ) → left .0 ≡ read.Accepted n c → v ≡ checking t (take n (left .2))) → Claim t (length scratch) (length sheet) (left .0) (left .2) v
+  pub claim : Claimed
   claim t scratch sheet left v e g = record {
     only = λ n c a. due t scratch sheet n c (ap (λ (r : ReadAnswer × List ℕ × List ℕ). r .0) (sym e) ∙ a);
     whenever = λ ns h. agreed ns h (e ∙ accepts t scratch sheet ns h);

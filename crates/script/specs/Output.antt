@@ -40,15 +40,19 @@ unfoldable pub lines : List ℕ → List ℕ → ℕ → ℕ → ℕ → List �
 lines t sheet n zero i out = accept n
 lines t sheet n (suc k) i out = lineThen (lining t sheet i out) (λ after. lines t sheet n k (suc i) after)
 
--- "If reading or checking refuses it prints only `refuse R at P`"
-abbrev pub whenChecked : List ℕ → List ℕ → ℕ → CheckAnswer → List ℕ
-whenChecked t sheet n check.Accepted = lines t sheet n (suc n) 0 (replicate 65536 0)
-whenChecked t sheet n (check.Refused r p) = refusal r p
+-- "If reading or checking refuses it prints only `refuse R at P`"; out is the output that lining is lent
+abbrev pub whenChecked : List ℕ → List ℕ → ℕ → List ℕ → CheckAnswer → List ℕ
+whenChecked t sheet n out check.Accepted = lines t sheet n (suc n) 0 out
+whenChecked t sheet n out (check.Refused r p) = refusal r p
 
-abbrev pub whenRead : List ℕ → ReadAnswer × List ℕ × List ℕ → List ℕ
-whenRead t (read.Accepted length n, scratch, sheet) = whenChecked t (take length sheet) n (checking t (take length sheet))
-whenRead t (read.Refused r p, scratch, sheet) = refusal r p
+abbrev pub whenRead : List ℕ → List ℕ → ReadAnswer × List ℕ × List ℕ → List ℕ
+whenRead t out (read.Accepted length n, scratch, sheet) = whenChecked t (take length sheet) n out (checking t (take length sheet))
+whenRead t out (read.Refused r p, scratch, sheet) = refusal r p
 
--- reading, checking, then lining record by record, with the program's buffers: 16,384 words, 49,152 bytes, 65,536 bytes
+-- reading, checking, then lining record by record, with the buffers that are lent
+abbrev pub printed : List ℕ → List ℕ → List ℕ → List ℕ → List ℕ
+printed t scratch sheet out = whenRead t out (reading t scratch sheet)
+
+-- with the program's: 16,384 words, 49,152 bytes, 65,536 bytes
 unfoldable pub output : List ℕ → List ℕ
-output t = whenRead t (reading t (replicate 16384 0) (replicate 49152 0))
+output t = printed t (replicate 16384 0) (replicate 49152 0) (replicate 65536 0)

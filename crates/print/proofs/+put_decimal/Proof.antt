@@ -1,0 +1,93 @@
+-- `print::put_decimal` meets its contract: it calls itself with a digit fewer. Assumes nothing.
+use borrow.Author.Needs.{needs}
+use native.Mathlib.Omega.{arith}
+use Rattle.text.proofs.WriteLaws.{puts-none, puts-then}
+use Rattle.print.proofs.PrintLaws.{decimal-none, decimal-one, decimal-more}
+use Prim.Native.Nat.{ℕ, _<_}
+use borrow.Fn.Kinds.{In}
+use borrow.Fn.PlainCycle.{Measures, is, falls, and}
+use Rattle.print.proofs.put_decimal.Reads as put-decimal
+use Rattle.print.proofs.put_decimal.Kinds as put-decimal-kinds
+use Rattle.print.proofs.+put_decimal.Lts-put_decimal as put-decimal-lts
+use Rattle.text.proofs.put.Reads as put-reads
+use Rattle.print.proofs.+put_decimal.{statement}
+use Rattle.print.proofs.+put_decimal.Tie.{close}
+
+abbrev μ-put-decimal : Measures 1 put-decimal-kinds.ps ℕ
+μ-put-decimal κs a = a .1 .1 .0
+
+abbrev put-decimal-at : ℕ → In 1 put-decimal-kinds.ps
+put-decimal-at t =
+    and 1 put-decimal-kinds.ps (is 1 put-decimal-kinds.ps μ-put-decimal t) put-decimal.Pre
+
+abbrev put-decimal-below : ℕ → In 1 put-decimal-kinds.ps
+put-decimal-below t =
+    and 1 put-decimal-kinds.ps (falls 1 put-decimal-kinds.ps _<_ μ-put-decimal t) put-decimal.Pre
+
+-- what the calls ask and give
+abbrev put-decimal-calls : ℕ → put-decimal-lts.Claims
+put-decimal-calls t = (put-reads.Asked, put-reads.Learnt, put-decimal-below t, put-decimal.Post)
+
+put-decimal-returns : (t : ℕ) → put-decimal-lts.Need-returns (put-decimal-calls t) (put-decimal-at t) put-decimal.Post
+put-decimal-returns t c = rw (decimal-none _ (c .before .before .args .n) (c .if1 .taken)) (puts-none _ _)
+
+put-decimal-cast-put : (t : ℕ) → put-decimal-lts.Need-cast-put (put-decimal-calls t) (put-decimal-at t) put-decimal.Post
+put-decimal-cast-put t c = search needs
+
+put-decimal-add-put : (t : ℕ) → put-decimal-lts.Need-add-put (put-decimal-calls t) (put-decimal-at t) put-decimal.Post
+put-decimal-add-put t c = search needs
+
+put-decimal-put-requires : (t : ℕ) → put-decimal-lts.Need-put-requires (put-decimal-calls t) (put-decimal-at t) put-decimal.Post
+put-decimal-put-requires t c κs = search needs
+
+put-decimal-same-length : (t : ℕ) → put-decimal-lts.Need-same-length (put-decimal-calls t) (put-decimal-at t) put-decimal.Post
+put-decimal-same-length t c = search needs
+
+put-decimal-returns-2 : (t : ℕ) → put-decimal-lts.Need-returns-2 (put-decimal-calls t) (put-decimal-at t) put-decimal.Post
+put-decimal-returns-2 t c =
+    let tests = c .before .before .before .before in
+    let start = tests .before .before .before in
+    rw (decimal-one (start .args .digits) (start .args .n) (omega (arith, tests .before .if1 .left)) (tests .if2 .taken)) (c .before .before .put .ensures)
+
+put-decimal-sub-put-decimal : (t : ℕ) → put-decimal-lts.Need-sub-put-decimal (put-decimal-calls t) (put-decimal-at t) put-decimal.Post
+put-decimal-sub-put-decimal t c = search needs
+
+put-decimal-put-decimal-requires : (t : ℕ) → put-decimal-lts.Need-put-decimal-requires (put-decimal-calls t) (put-decimal-at t) put-decimal.Post
+put-decimal-put-decimal-requires t c κs = search needs
+
+put-decimal-cast-put-2 : (t : ℕ) → put-decimal-lts.Need-cast-put-2 (put-decimal-calls t) (put-decimal-at t) put-decimal.Post
+put-decimal-cast-put-2 t c = search needs
+
+put-decimal-add-put-2 : (t : ℕ) → put-decimal-lts.Need-add-put-2 (put-decimal-calls t) (put-decimal-at t) put-decimal.Post
+put-decimal-add-put-2 t c = search needs
+
+put-decimal-put-requires-2 : (t : ℕ) → put-decimal-lts.Need-put-requires-2 (put-decimal-calls t) (put-decimal-at t) put-decimal.Post
+put-decimal-put-requires-2 t c κs = search needs
+
+put-decimal-same-length-2 : (t : ℕ) → put-decimal-lts.Need-same-length-2 (put-decimal-calls t) (put-decimal-at t) put-decimal.Post
+put-decimal-same-length-2 t c = search needs
+
+put-decimal-returns-3 : (t : ℕ) → put-decimal-lts.Need-returns-3 (put-decimal-calls t) (put-decimal-at t) put-decimal.Post
+put-decimal-returns-3 t c =
+    let front = c .before .before .before .before .before .before in
+    let tests = front .before .before in
+    let start = tests .before .before .before in
+    rw (decimal-more (start .args .digits) (start .args .n) (omega (arith, tests .before .if1 .left)) (tests .if2 .left)) (puts-then (front .put-decimal .ensures) (c .before .before .put2 .ensures))
+
+pub +put-decimal-spec : {M : Type 1} → statement M
++put-decimal-spec = close μ-put-decimal λ t. put-decimal-lts.spec (put-decimal-calls t)
+    (put-decimal-at t)
+    put-decimal.Post
+    (put-decimal-returns t)
+    (put-decimal-cast-put t)
+    (put-decimal-add-put t)
+    (put-decimal-put-requires t)
+    (put-decimal-same-length t)
+    (put-decimal-returns-2 t)
+    (put-decimal-sub-put-decimal t)
+    (put-decimal-put-decimal-requires t)
+    (put-decimal-cast-put-2 t)
+    (put-decimal-add-put-2 t)
+    (put-decimal-put-requires-2 t)
+    (put-decimal-same-length-2 t)
+    (put-decimal-returns-3 t)

@@ -1,0 +1,63 @@
+-- `print::put_refusal` meets its contract. Assumes nothing.
+use Rattle.text.proofs.WriteLaws.{puts-then}
+use Rattle.script.specs.Output.{refusal}
+use borrow.Author.Needs.{needs}
+use Rattle.print.proofs.put_refusal.Statement.{statement}
+use Rattle.print.proofs.put_refusal.Tie as tie
+
+slice-aggregate-put-word : tie.Need-slice-aggregate-put-word
+slice-aggregate-put-word c = search needs
+
+put-word-requires : tie.Need-put-word-requires
+put-word-requires c κs = search needs
+
+number-of-requires : tie.Need-number-of-requires
+number-of-requires c κs = search needs
+
+cast-put-decimal : tie.Need-cast-put-decimal
+cast-put-decimal c = search needs
+
+put-decimal-requires : tie.Need-put-decimal-requires
+put-decimal-requires c κs = search needs
+
+slice-aggregate-put-word-2 : tie.Need-slice-aggregate-put-word-2
+slice-aggregate-put-word-2 c = search needs
+
+put-word-requires-2 : tie.Need-put-word-requires-2
+put-word-requires-2 c κs = search needs
+
+put-decimal-requires-2 : tie.Need-put-decimal-requires-2
+put-decimal-requires-2 c κs = search needs
+
+put-requires : tie.Need-put-requires
+put-requires c κs = search needs
+
+same-length : tie.Need-same-length
+same-length c = search needs
+
+returns : tie.Need-returns
+unfolding refusal
+returns c =
+    let place = c .before .before .before .before .before .before in
+    let middle = place .before .before .before .before in
+    let number = middle .before .before .before .before .before in
+    let word = number .before .before .before .before .before in
+    puts-then
+    (puts-then (puts-then (puts-then (word .put-word .ensures) (rw (number .before .number-of .ensures) at (number .put-decimal .ensures))) (middle .put-word2 .ensures)) (place .put-decimal2 .ensures))
+    (c .before .before .put .ensures)
+
+pub put-refusal-spec : {M : Type 1} → statement M
+put-refusal-spec =
+    tie.close
+    (tie.spec
+    slice-aggregate-put-word
+    put-word-requires
+    number-of-requires
+    cast-put-decimal
+    put-decimal-requires
+    slice-aggregate-put-word-2
+    put-word-requires-2
+    put-decimal-requires-2
+    put-requires
+    same-length
+    returns)

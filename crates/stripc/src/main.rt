@@ -1,0 +1,63 @@
+// The program: reads a script from standard input and prints its lines and `accept N`, or `refuse R at P`.
+ghost use Prim.Native.Nat.{_≤_};
+ghost use lib.ListN.{length};
+use libc::STDERR_FILENO;
+use libc::STDIN_FILENO;
+
+// How many bytes were read, and whether a read failed.
+struct Input {
+    length: usize,
+    failed: bool,
+}
+
+// The text has room for a byte more than the longest script, so that a longer one is still too long.
+fn main() {
+    let mut text = [0u8; 16385];
+    let input = read_input(&mut text);
+    if input.failed {
+        io::write_all(STDERR_FILENO, b"stripc: standard input cannot be read\n");
+        return;
+    }
+    let n = input.length;
+    run(&text[..n]);
+}
+
+// Reads standard input to its end, or as far as there is room.
+fn read_input(text: &mut [u8]) -> Input
+    ensures { λ r. ⌜ r .length ≤ length (now (text .exit)) ⌝ }
+{
+    let mut done: usize = 0;
+    while done < text.len() {
+        let got = libc::read(STDIN_FILENO, &mut text[done..]);
+        if got < 0 {
+            return Input {
+                length: 0,
+                failed: true,
+            };
+        }
+        let more = io::count(got, &text[done..]);
+        if more == 0 {
+            return Input {
+                length: done,
+                failed: false,
+            };
+        }
+        done += more;
+    }
+    Input {
+        length: done,
+        failed: false,
+    }
+}
+
+fn run(text: &[u8]) {
+    let mut scratch = [0u16; 16384];
+    let mut sheet = [0u8; 49152];
+    let mut out = [0u8; 65536];
+    if !print::print(text, &mut scratch, &mut sheet, &mut out) {
+        io::write_all(
+            STDERR_FILENO,
+            b"stripc: standard output cannot be written\n",
+        );
+    }
+}

@@ -1,0 +1,23 @@
+-- Demand 3 of the two answers, by cases of reading's. Assumes nothing.
+use Prim.Native.Nat.{ℕ}
+use mathlib.Core.List.{List}
+use mathlib.Core.Path.{_≡_, sym}
+use native.Mathlib.Omega.{arith}
+use lib.ListN.{length, take}
+use Rattle.error.specs.declared.Refusal.{Refusal}
+use Rattle.error.specs.declared.ReadAnswer.the-variants as read
+use Rattle.error.specs.declared.CheckAnswer.{CheckAnswer}
+use Rattle.parser.specs.Means.{outcome}
+use Rattle.parser.specs.Reading.{reading}
+use Rattle.validate.specs.Checking.{checking}
+use Rattle.script.proofs.Closed.{claim}
+use Rattle.verdict.specs.Verdict.{Claims}
+use Rattle.verdict.specs.declared.Verdict.the-variants.{Unread, Checked}
+
+module _ (t scratch sheet words s : List ℕ) where
+  pub unread : (r : Refusal) (p : ℕ) → outcome (read.Refused r p) words s ≡ reading t scratch sheet → Claims t (length scratch) (length sheet) s (Unread r p)
+  unread r p e v = claim t scratch sheet (read.Refused r p, words, s) v e (λ n c q. absurd (let z : _≡_ {A = ℕ} 0 1 = cc in omega arith))
+
+  pub checked : (n c : ℕ) (v : CheckAnswer) → outcome (read.Accepted n c) words s ≡ reading t scratch sheet → v ≡ checking t (take n s)
+      → Claims t (length scratch) (length sheet) s (Checked n c v)
+  checked n c v e f = claim t scratch sheet (read.Accepted n c, words, s) v e (λ m d q. let z : n ≡ m = cc in rw (sym z) f)

@@ -1,0 +1,63 @@
+-- `verdict::read_and_check` meets its contract. Assumes nothing.
+use Rattle.verdict.proofs.VerdictLaws.{unread, checked}
+use borrow.Author.Needs.{needs}
+use Rattle.verdict.proofs.read_and_check.Statement.{statement}
+use Rattle.verdict.proofs.read_and_check.Tie as tie
+
+read-requires : tie.Need-read-requires
+read-requires c κs = search needs
+
+enum-known-refusal : tie.Need-enum-known-refusal
+enum-known-refusal c = search needs
+
+enum-known-length : tie.Need-enum-known-length
+enum-known-length c = search needs
+
+part-requires : tie.Need-part-requires
+part-requires c κs = search needs
+
+check-requires : tie.Need-check-requires
+check-requires c κs = search needs
+
+same-length : tie.Need-same-length
+same-length c = search needs
+
+same-length-2 : tie.Need-same-length-2
+same-length-2 c = search needs
+
+returns : tie.Need-returns
+returns c =
+    let call = c .before .before .before .before .before .before .before in
+    let e = rw (c .before .refusal .given .1) at (call .read .ensures) in
+    let start = call .before .before .before .before .before .before in
+    (e, (tt, unread (start .args .text .now) (start .args .scratch .now) (start .args .sheet .now) _ _ _ _ e))
+
+same-length-3 : tie.Need-same-length-3
+same-length-3 c = search needs
+
+same-length-4 : tie.Need-same-length-4
+same-length-4 c = search needs
+
+returns-2 : tie.Need-returns-2
+returns-2 c =
+    let call = c .before .before .before .before .before .before .before .before .before .before in
+    let e = rw (c .before .before .before .before .length .given .1) at (call .read .ensures) in
+    let start = call .before .before .before .before .before .before in
+    let v = rw (c .before .part .ensures) at (c .check .ensures) in
+    (e, (v, checked (start .args .text .now) (start .args .scratch .now) (start .args .sheet .now) _ _ _ _ _ e v))
+
+pub read-and-check-spec : {M : Type 1} → statement M
+read-and-check-spec =
+    tie.close
+    (tie.spec
+    read-requires
+    enum-known-refusal
+    enum-known-length
+    part-requires
+    check-requires
+    same-length
+    same-length-2
+    returns
+    same-length-3
+    same-length-4
+    returns-2)

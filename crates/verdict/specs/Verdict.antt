@@ -1,0 +1,27 @@
+-- What the two calls answered, and what demand 3 says of it. Assumes nothing.
+use Prim.Native.Nat.{ℕ}
+use mathlib.Core.List.{List}
+use mathlib.Core.Path.{_≡_}
+use lib.ListN.{take}
+use Rattle.error.specs.declared.ReadAnswer.{ReadAnswer}
+use Rattle.error.specs.declared.ReadAnswer.the-variants as read
+use Rattle.error.specs.declared.CheckAnswer.{CheckAnswer}
+use Rattle.validate.specs.Checking.{checking}
+use Rattle.script.specs.Claim.{Claim}
+use Rattle.verdict.specs.declared.Verdict.{Verdict}
+use Rattle.verdict.specs.declared.Verdict.the-variants.{Unread, Checked}
+
+-- what reading answered
+abbrev pub readOf : Verdict → ReadAnswer
+readOf (Unread r p) = read.Refused r p
+readOf (Checked n c v) = read.Accepted n c
+
+-- what checking answered: "Checking gets the sheet up to the length reading gave". Where reading refused, it was not called
+abbrev pub Answered : List ℕ → List ℕ → Verdict → Type 0
+Answered t s (Unread r p) = Unit {0}
+Answered t s (Checked n c v) = v ≡ checking t (take n s)
+
+-- demand 3 of both answers and of the sheet s that reading left; where reading refused, whatever checking might answer
+abbrev pub Claims : List ℕ → ℕ → ℕ → List ℕ → Verdict → Type 0
+Claims t words room s (Unread r p) = (v : CheckAnswer) → Claim t words room (read.Refused r p) s v
+Claims t words room s (Checked n c v) = Claim t words room (read.Accepted n c) s v

@@ -1,0 +1,43 @@
+// Reading a script and checking its sheet, one call after the other.
+ghost use mathlib.Core.Path.{_≡_};
+ghost use lib.ListN.{length};
+ghost use Rattle.parser.specs.Means.{outcome};
+ghost use Rattle.parser.specs.Reading.{reading};
+ghost use Rattle.verdict.specs.Verdict.{readOf, Answered, Claims};
+use error::CheckAnswer;
+use error::ReadAnswer;
+use error::Refusal;
+
+// What the two calls answered.
+pub enum Verdict {
+    // Reading refused, and checking was not called.
+    Unread {
+        refusal: Refusal,
+        place: usize,
+    },
+    // Reading gave the sheet's length and its count of node records, and checking this answer.
+    Checked {
+        length: usize,
+        records: usize,
+        answer: CheckAnswer,
+    },
+}
+
+// Reads a text into a sheet, and checks the sheet up to the length that reading gave.
+pub fn read_and_check(text: &[u8], scratch: &mut [u16], sheet: &mut [u8]) -> Verdict
+    ensures { λ r. ⌜ outcome (readOf r) (now (scratch .exit)) (now (sheet .exit)) ≡ reading (now (text .entry)) (now (scratch .entry)) (now (sheet .entry)) ⌝ }
+    ensures { λ r. ⌜ Answered (now (text .entry)) (now (sheet .exit)) r ⌝ }
+    ensures { λ r. ⌜ Claims (now (text .entry)) (length (now (scratch .entry))) (length (now (sheet .entry))) (now (sheet .exit)) r ⌝ }
+{
+    match parser::read(text, scratch, sheet) {
+        ReadAnswer::Refused { refusal, place } => Verdict::Unread { refusal, place },
+        ReadAnswer::Accepted { length, records } => {
+            let answer = validate::check(text, text::part(sheet, 0, length));
+            Verdict::Checked {
+                length,
+                records,
+                answer,
+            }
+        }
+    }
+}
