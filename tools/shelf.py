@@ -1,6 +1,8 @@
 #!/usr/bin/env python3
-"""Makes crates/shelf/stdin and stdout: 01's shelf tests, but for P13, which is no script, and scripts at its limits. The records are written here by
-hand from 01, and their lines follow by its rule. Run from the repository's root."""
+"""Makes crates/shelf/stdin and stdout: 01's shelf tests, but for P13, which is no script, scripts at its limits, and those of examples/. The records
+of the first two are written here by hand from 01, and their lines follow by its rule; what the examples print is in examples/*.out. Each script ends
+with a byte 0. Run from the repository's root."""
+import glob
 
 
 def line(record):
@@ -67,6 +69,10 @@ def too_long():
     return (text, [line(bytes.fromhex("0001")), "refuse 32 at 1"])
 
 
-cases = SHELF + LIMITS + [too_long()]
-open("crates/shelf/stdin", "w").write("".join(text + "\n" for text, _ in cases))
+def example(path):
+    return (open(path).read(), open(path[: -len("strip")] + "out").read().splitlines())
+
+
+cases = SHELF + LIMITS + [too_long()] + [example(path) for path in sorted(glob.glob("examples/*.strip"))]
+open("crates/shelf/stdin", "w").write("".join(text + "\0" for text, _ in cases))
 open("crates/shelf/stdout", "w").write("".join(l + "\n" for _, lines in cases for l in lines))

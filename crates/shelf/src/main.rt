@@ -1,5 +1,5 @@
-// Runs many scripts, the lines of standard input, as the program runs one, and prints what they give one after the other.
-// tools/shelf.py makes the scripts and what 01 says of each.
+// Runs many scripts, each behind which a byte 0 stands in standard input, as the program runs one, and prints what they give one
+// after the other. tools/shelf.py makes the scripts and what 01 says of each.
 use libc::STDIN_FILENO;
 
 fn main() {
@@ -14,7 +14,7 @@ fn main() {
 fn run_all(input: &[u8], scratch: &mut [u16], sheet: &mut [u8], out: &mut [u8]) {
     let mut at: usize = 0;
     while at < input.len() {
-        let end = cases::find(input, at, b'\n');
+        let end = cases::find(input, at, 0);
         print::print(&input[at..end], scratch, sheet, out);
         at = end + 1;
     }
