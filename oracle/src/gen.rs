@@ -30,6 +30,14 @@ pub fn run(seed: u64, count: u64, kind: &str) {
     }
 }
 
+/// Writes every short string of tokens at every chosen spot.
+pub fn short() {
+    let mut out = BufWriter::new(io::stdout().lock());
+    for script in short::all() {
+        writeln!(out, "{}", hex::write(script.as_bytes())).expect("output");
+    }
+}
+
 fn script(seed: u64, index: u64, kind: &str) -> Option<Vec<u8>> {
     let mut random = Random::new(seed, index);
     let random = &mut random;

@@ -44,6 +44,7 @@ fn main() {
         ["compare-syn", plain] => compare::run(plain),
         ["gen", seed, count] => gen::run(number(seed), number(count), "all"),
         ["gen", seed, count, kind] => gen::run(number(seed), number(count), kind),
+        ["gen-short"] => gen::short(),
         ["gen-sheets", seed, count] => gen_sheets::run(number(seed), number(count)),
         _ => usage(),
     }
@@ -51,7 +52,7 @@ fn main() {
 
 fn usage() -> ! {
     eprintln!("usage: oracle read [--rust-only] | check | records | tree | compare-syn PLAIN-ORACLE");
-    eprintln!("     | gen SEED COUNT [grammar|damage|limits|words|short|rare] | gen-sheets SEED COUNT");
+    eprintln!("     | gen SEED COUNT [grammar|damage|limits|words|short|rare] | gen-short | gen-sheets SEED COUNT");
     std::process::exit(2)
 }
 

@@ -32,6 +32,26 @@ const PIECES: &[&str] = &[
     "self", "dyn", "times(2)", "center", "sine", "in", "at 1;", "1=>2", ":1",
 ];
 
+/// A text with the closers that it lacks.
+fn closed(mut text: String) -> String {
+    let mut open = still_open(&text);
+    while let Some(opener) = open.pop() {
+        text.push(closer(opener) as char);
+    }
+    text
+}
+
+/// Every spot with every string of at most two pieces behind it.
+pub fn all() -> impl Iterator<Item = String> {
+    let strings = || std::iter::once("").chain(PIECES.iter().copied());
+    SPOTS.iter().flat_map(move |spot| {
+        strings().flat_map(move |one| {
+            let twos: Vec<&str> = if one.is_empty() { vec![""] } else { strings().collect() };
+            twos.into_iter().map(move |two| closed(format!("{spot}{one} {two}")))
+        })
+    })
+}
+
 pub fn script(random: &mut Random) -> Vec<u8> {
     let inside = random.chance(10);
     let mut text = if inside { "sequence{".to_string() } else { String::new() };
@@ -42,10 +62,7 @@ pub fn script(random: &mut Random) -> Vec<u8> {
             text.push(' ');
         }
     }
-    let mut open = still_open(&text);
-    while let Some(opener) = open.pop() {
-        text.push(closer(opener) as char);
-    }
+    text = closed(text);
     if random.chance(15) {
         text += random.pick(&["", " at 1", ";", " foo", "{}", " duration:1", ",", " 1", "x"]);
     }

@@ -1,10 +1,10 @@
--- `read_cases::print_bytes` ends and stays in bounds. Assumes nothing.
+-- `script_cases::print_bytes` ends and stays in bounds. Assumes nothing.
 use Prim.Native.Nat.{_-_}
 use mathlib.Core.Path.{_≡_}
 use lib.ListN.{length}
 use borrow.Author.Needs.{needs}
-use Rattle.read_cases.proofs.print_bytes.Statement.{statement}
-use Rattle.read_cases.proofs.print_bytes.Tie as tie
+use Rattle.script_cases.proofs.print_bytes.Statement.{statement}
+use Rattle.script_cases.proofs.print_bytes.Tie as tie
 
 abbrev Inv-loop : tie.InvT-loop
 Inv-loop bytes room₀ at₀ room at = length room ≡ length room₀

@@ -1,9 +1,9 @@
--- `read_cases::answer_input` ends and stays in bounds. Assumes nothing.
+-- `script_cases::answer_input` ends and stays in bounds. Assumes nothing.
 use mathlib.Core.Path.{_≡_}
 use lib.ListN.{length}
 use borrow.Author.Needs.{needs}
-use Rattle.read_cases.proofs.answer_input.Statement.{statement}
-use Rattle.read_cases.proofs.answer_input.Tie as tie
+use Rattle.script_cases.proofs.answer_input.Statement.{statement}
+use Rattle.script_cases.proofs.answer_input.Tie as tie
 
 abbrev Inv-loop : tie.InvT-loop
 Inv-loop part₀ text₀ digits₀ parts₀ part text digits parts = (length part ≡ length part₀) × (length text ≡ length text₀)

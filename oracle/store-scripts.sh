@@ -1,11 +1,11 @@
 #!/bin/sh
-# Makes the cases of crates/read_cases anew: each text of answers/read.txt.gz and of answers/reference.txt once, and 01's
-# "Run only" cases that concern reading. The answers are the oracle's.
-# usage: oracle/store-reads.sh   after oracle/build.sh
+# Makes the cases of crates/script_cases anew: each text of answers/read.txt.gz and of answers/reference.txt once, and 01's
+# "Run only" cases. The answers are the oracle's.
+# usage: oracle/store-scripts.sh   after oracle/build.sh
 set -eu
 here=$(cd "$(dirname "$0")" && pwd)
 oracle=$here/../target/oracle/places/release/oracle
-crate=$here/../crates/read_cases
+crate=$here/../crates/script_cases
 . "$here/hex.sh"
 
 # padded SIZE TEXT: TEXT and blanks, SIZE bytes in all.
@@ -72,4 +72,4 @@ texts() {
 }
 
 texts | awk '!seen[$0]++' > "$crate/stdin"
-"$oracle" read < "$crate/stdin" | cut -f1 > "$crate/stdout"
+"$oracle" read < "$crate/stdin" > "$crate/stdout"

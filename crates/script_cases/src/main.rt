@@ -1,9 +1,11 @@
 // Answers cases: reads texts in hexadecimal from standard input, a line each, and writes for each what reading answers, its
-// sheet in hexadecimal. It takes its input in parts, which may be any number. oracle/store-reads.sh makes the lines and the
-// answers.
-use error::ReadAnswer;
+// sheet in hexadecimal, and what checking answers to that. It takes its input in parts, which may be any number.
+// oracle/store-scripts.sh makes the lines and the answers.
+use error::CheckAnswer;
+use error::Refusal;
 use libc::STDIN_FILENO;
 use libc::STDOUT_FILENO;
+use verdict::Verdict;
 
 // The text has room for a byte more than the longest case, so that a longer one is still too long.
 fn main() {
@@ -54,22 +56,34 @@ fn take_byte(text: &mut [u8], digits: usize, b: u8) -> usize {
 fn answer(text: &[u8]) {
     let mut scratch = [0u16; 16384];
     let mut sheet = [0u8; 49152];
-    match parser::read(text, &mut scratch, &mut sheet) {
-        ReadAnswer::Accepted { length, records } => {
+    match verdict::read_and_check(text, &mut scratch, &mut sheet) {
+        Verdict::Unread { refusal, place } => refuse(refusal, place),
+        Verdict::Checked {
+            length,
+            records,
+            answer,
+        } => {
             io::write_all(STDOUT_FILENO, b"accept ");
             io::print_decimal(STDOUT_FILENO, records as u64);
             io::write_all(STDOUT_FILENO, b" ");
             print_bytes(text::part(&sheet, 0, length));
-            io::write_all(STDOUT_FILENO, b"\n");
-        }
-        ReadAnswer::Refused { refusal, place } => {
-            io::write_all(STDOUT_FILENO, b"refuse ");
-            io::print_decimal(STDOUT_FILENO, error::number_of(refusal) as u64);
-            io::write_all(STDOUT_FILENO, b" at ");
-            io::print_decimal(STDOUT_FILENO, place as u64);
-            io::write_all(STDOUT_FILENO, b"\n");
+            io::write_all(STDOUT_FILENO, b"\t");
+            match answer {
+                CheckAnswer::Accepted => {
+                    io::write_all(STDOUT_FILENO, b"accept\n");
+                }
+                CheckAnswer::Refused { refusal, place } => refuse(refusal, place),
+            }
         }
     }
+}
+
+fn refuse(refusal: Refusal, place: usize) {
+    io::write_all(STDOUT_FILENO, b"refuse ");
+    io::print_decimal(STDOUT_FILENO, error::number_of(refusal) as u64);
+    io::write_all(STDOUT_FILENO, b" at ");
+    io::print_decimal(STDOUT_FILENO, place as u64);
+    io::write_all(STDOUT_FILENO, b"\n");
 }
 
 // Writes bytes in hexadecimal, as many at a time as there is room for.

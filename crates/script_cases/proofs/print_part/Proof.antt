@@ -1,10 +1,10 @@
--- `read_cases::print_part` ends and stays in bounds. Assumes nothing.
+-- `script_cases::print_part` ends and stays in bounds. Assumes nothing.
 use Prim.Native.Nat.{_-_}
 use mathlib.Core.Path.{_≡_}
 use lib.ListN.{length}
 use borrow.Author.Needs.{needs}
-use Rattle.read_cases.proofs.print_part.Statement.{statement}
-use Rattle.read_cases.proofs.print_part.Tie as tie
+use Rattle.script_cases.proofs.print_part.Statement.{statement}
+use Rattle.script_cases.proofs.print_part.Tie as tie
 
 abbrev Inv-loop : tie.InvT-loop
 Inv-loop bytes out₀ end₀ i₀ out end i = length out ≡ length out₀

@@ -1,14 +1,14 @@
 #!/bin/sh
-# Compares the answers of target/bin/read_cases with the oracle's, and prints the differences. Those with the same two refusals
+# Compares the answers of target/bin/script_cases with the oracle's, and prints the differences. Those with the same two refusals
 # (or accept) are one sort, of which it prints how many there are and the shortest text, made shorter as long as it still
 # differs so.
-# usage: oracle/compare-reads.sh [-x WORDS] [TEXTS ANSWERS]   after oracle/build.sh and `rt check read_cases`
+# usage: oracle/compare-scripts.sh [-x WORDS] [TEXTS ANSWERS]   after oracle/build.sh and `rt check script_cases`
 # TEXTS and ANSWERS are the stored cases if left out. Texts in which one of WORDS stands are left out.
 set -eu
 here=$(cd "$(dirname "$0")" && pwd)
 oracle=$here/../target/oracle/places/release/oracle
-program=$here/../target/bin/read_cases
-crate=$here/../crates/read_cases
+program=$here/../target/bin/script_cases
+crate=$here/../crates/script_cases
 words=
 if [ "${1:-}" = -x ]; then
     words=$2
@@ -30,8 +30,8 @@ without() {
 
 # differing TEXTS ANSWERS: lines SORT TAB TEXT TAB ANSWER TAB THE PROGRAM'S where these differ.
 differing() {
-    "$program" < "$1" | paste "$1" "$2" - | awk -F'\t' -v OFS='\t' '
-        function sort(answer, word) { split(answer, word, " "); return word[1] == "accept" ? "accept" : word[1] " " word[2] }
+    "$program" < "$1" | tr '\t' ' ' | paste "$1" "$2" - | awk -F'\t' -v OFS='\t' '
+        function sort(answer, word) { split(answer, word, " "); return word[1] == "accept" ? "accept, " word[4] " " word[5] : word[1] " " word[2] }
         $2 != $3 { print sort($2) ", not " sort($3), $0 }'
 }
 
@@ -47,7 +47,7 @@ shrink() {
     line=$2
     while text=$(echo "$line" | cut -f2) && [ ${#text} -lt 4000 ]; do
         shorter "$text" > "$work/shorter"
-        "$oracle" read < "$work/shorter" | cut -f1 > "$work/answers"
+        "$oracle" read < "$work/shorter" | tr '\t' ' ' > "$work/answers"
         next=$(differing "$work/shorter" "$work/answers" | awk -F'\t' -v sort="$1" '!found && $1 == sort { print; found = 1 }')
         [ -n "$next" ] || break
         line=$next
@@ -55,7 +55,8 @@ shrink() {
     echo "$line"
 }
 
-cut -f1 "$texts" | paste - "$answers" > "$work/cases"
+# The verdict stands behind a blank here, so that an answer is one field.
+tr '\t' ' ' < "$answers" | paste "$texts" - > "$work/cases"
 if [ -n "$words" ]; then
     awk -F'\t' -v OFS='\t' '{ print $1, NR }' "$work/cases" | without > "$work/kept"
     awk 'NR == FNR { kept[$1]; next } FNR in kept' "$work/kept" "$work/cases" > "$work/chosen"
