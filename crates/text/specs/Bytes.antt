@@ -61,10 +61,6 @@ isHex b = isDigit b || among "abcdefABCDEF" b
 abbrev pub isForeign : ℕ → Bool
 isForeign b = not (within 32 126 b || oneOf (9 ∷ 10 ∷ 13 ∷ []) b)
 
--- 01: "and `: ; , = > . + - % ( ) [ ] { }`"
-abbrev pub isSign : ℕ → Bool
-isSign b = among ":;,=>.+-%([{)]}" b
-
 -- a capital as its small letter, each other byte as it is
 abbrev pub lower : ℕ → ℕ
 lower b = cond (isUpper b) (b + 32) b

@@ -3,10 +3,9 @@ ghost use Prim.Native.Nat.{_+_};
 ghost use mathlib.Core.List.{[], _∷_};
 ghost use mathlib.Core.Path.{_≡_};
 ghost use lib.ListN.{drop};
-ghost use Rattle.text.specs.declared.Class.{Class};
-ghost use Rattle.text.specs.Bytes.{within, oneOf, isUpper, same, run, at, part, lower, lowered};
+ghost use Rattle.text.specs.Bytes.{within, oneOf, isUpper, isLetter, isName, isInside, isHex, isForeign, same, run, at, part, lower, lowered};
 ghost use Rattle.text.specs.Words.{find, table, isSome};
-ghost use Rattle.text.specs.Means.{passes, bitIn, placeOf};
+ghost use Rattle.text.specs.Means.{passes, placeOf};
 ghost use Rattle.text.specs.Write.{Puts};
 
 // A class of bytes.
@@ -21,8 +20,6 @@ pub enum Class {
     Hex,
     // What no script holds, in strings or outside.
     Foreign,
-    // What is a token by itself.
-    Mark,
 }
 
 // The place of a word in a table, if it is there.
@@ -59,271 +56,52 @@ pub fn is_upper(b: u8) -> bool
     between(65, 90, b)
 }
 
-// The classes of each byte, a bit for each.
-const CLASSES: [u8; 256] = [
-    64,
-    64,
-    64,
-    64,
-    64,
-    64,
-    64,
-    64,
-    64,
-    1,
-    1,
-    64,
-    64,
-    1,
-    64,
-    64,
-    64,
-    64,
-    64,
-    64,
-    64,
-    64,
-    64,
-    64,
-    64,
-    64,
-    64,
-    64,
-    64,
-    64,
-    64,
-    64,
-    17,
-    16,
-    0,
-    16,
-    16,
-    144,
-    16,
-    16,
-    144,
-    144,
-    16,
-    144,
-    144,
-    144,
-    144,
-    16,
-    58,
-    58,
-    58,
-    58,
-    58,
-    58,
-    58,
-    58,
-    58,
-    58,
-    144,
-    144,
-    16,
-    144,
-    144,
-    16,
-    16,
-    60,
-    60,
-    60,
-    60,
-    60,
-    60,
-    28,
-    28,
-    28,
-    28,
-    28,
-    28,
-    28,
-    28,
-    28,
-    28,
-    28,
-    28,
-    28,
-    28,
-    28,
-    28,
-    28,
-    28,
-    28,
-    28,
-    144,
-    0,
-    144,
-    16,
-    28,
-    16,
-    60,
-    60,
-    60,
-    60,
-    60,
-    60,
-    28,
-    28,
-    28,
-    28,
-    28,
-    28,
-    28,
-    28,
-    28,
-    28,
-    28,
-    28,
-    28,
-    28,
-    28,
-    28,
-    28,
-    28,
-    28,
-    28,
-    144,
-    16,
-    144,
-    16,
-    64,
-    64,
-    64,
-    64,
-    64,
-    64,
-    64,
-    64,
-    64,
-    64,
-    64,
-    64,
-    64,
-    64,
-    64,
-    64,
-    64,
-    64,
-    64,
-    64,
-    64,
-    64,
-    64,
-    64,
-    64,
-    64,
-    64,
-    64,
-    64,
-    64,
-    64,
-    64,
-    64,
-    64,
-    64,
-    64,
-    64,
-    64,
-    64,
-    64,
-    64,
-    64,
-    64,
-    64,
-    64,
-    64,
-    64,
-    64,
-    64,
-    64,
-    64,
-    64,
-    64,
-    64,
-    64,
-    64,
-    64,
-    64,
-    64,
-    64,
-    64,
-    64,
-    64,
-    64,
-    64,
-    64,
-    64,
-    64,
-    64,
-    64,
-    64,
-    64,
-    64,
-    64,
-    64,
-    64,
-    64,
-    64,
-    64,
-    64,
-    64,
-    64,
-    64,
-    64,
-    64,
-    64,
-    64,
-    64,
-    64,
-    64,
-    64,
-    64,
-    64,
-    64,
-    64,
-    64,
-    64,
-    64,
-    64,
-    64,
-    64,
-    64,
-    64,
-    64,
-    64,
-    64,
-    64,
-    64,
-    64,
-    64,
-    64,
-    64,
-    64,
-    64,
-    64,
-    64,
-    64,
-    64,
-    64,
-    64,
-    64,
-    64,
-    64,
-    64,
-    64,
-    64,
-    64,
-    64,
-    64,
-];
-
-// The classes of b, one bit for each.
-fn classes_of(b: u8) -> u8
-    ensures { λ r. ⌜ ((k : Class) → bitIn k r ≡ passes k b) ⌝ }
+fn is_letter(b: u8) -> bool
+    ensures { λ r. ⌜ r ≡ isLetter b ⌝ }
 {
-    CLASSES[b as usize]
+    if between(97, 122, b) {
+        return true;
+    }
+    if is_upper(b) {
+        return true;
+    }
+    b == 95
+}
+
+fn is_name(b: u8) -> bool
+    ensures { λ r. ⌜ r ≡ isName b ⌝ }
+{
+    if is_letter(b) {
+        return true;
+    }
+    between(48, 57, b)
+}
+
+fn is_inside(b: u8) -> bool
+    ensures { λ r. ⌜ r ≡ isInside b ⌝ }
+{
+    if between(32, 126, b) {
+        return !has(b"\"\\", b);
+    }
+    false
+}
+
+fn is_hex(b: u8) -> bool
+    ensures { λ r. ⌜ r ≡ isHex b ⌝ }
+{
+    if between(48, 57, b) {
+        return true;
+    }
+    has(b"abcdefABCDEF", b)
+}
+
+fn is_foreign(b: u8) -> bool
+    ensures { λ r. ⌜ r ≡ isForeign b ⌝ }
+{
+    if between(32, 126, b) {
+        return false;
+    }
+    !has(b"\t\n\r", b)
 }
 
 // Whether b is of the class k.
@@ -331,14 +109,13 @@ pub fn in_class(k: Class, b: u8) -> bool
     ensures { λ r. ⌜ r ≡ passes k b ⌝ }
 {
     match k {
-        Class::Blank => classes_of(b) % 2 == 1,
-        Class::Digit => classes_of(b) / 2 % 2 == 1,
-        Class::Letter => classes_of(b) / 4 % 2 == 1,
-        Class::NameByte => classes_of(b) / 8 % 2 == 1,
-        Class::Inside => classes_of(b) / 16 % 2 == 1,
-        Class::Hex => classes_of(b) / 32 % 2 == 1,
-        Class::Foreign => classes_of(b) / 64 % 2 == 1,
-        Class::Mark => classes_of(b) / 128 % 2 == 1,
+        Class::Blank => has(b" \t\n\r", b),
+        Class::Digit => between(48, 57, b),
+        Class::Letter => is_letter(b),
+        Class::NameByte => is_name(b),
+        Class::Inside => is_inside(b),
+        Class::Hex => is_hex(b),
+        Class::Foreign => is_foreign(b),
     }
 }
 

@@ -197,7 +197,7 @@ fn number_at(t: &[u8]) -> Cut
 fn is_mark(b: u8) -> bool
     ensures { λ r. ⌜ r ≡ among ":;,=>.+-%([{)]}" b ⌝ }
 {
-    text::in_class(Class::Mark, b)
+    text::has(b":;,=>.+-%([{)]}", b)
 }
 
 // The token that a text begins with; no blank stands first.

@@ -5,7 +5,7 @@ use native.Mathlib.Omega.{arith}
 use lib.ListN.{drop, length}
 use borrow.Author.Needs.{needs}
 use Rattle.text.proofs.WordLaws.{table-here, table-past, table-end}
-use Rattle.text.specs.Bytes.{same}
+use Rattle.text.specs.Bytes.{same, at}
 use Rattle.text.specs.Words.{entries, find, table}
 use Rattle.text.proofs.find.Statement.{statement}
 use Rattle.text.proofs.find.Tie as tie
