@@ -1,54 +1,39 @@
+-- `reader::count_from` meets its contract. Assumes nothing.
+use Prim.Native.Nat.{_-_}
+use mathlib.Core.Path.{sym, _∙_}
+use native.Mathlib.Omega.{arith}
+use borrow.Author.Needs.{needs}
+use lib.ListN.{length}
+use Rattle.reader.proofs.CountLaws.{Counted, counted-none, counted-below, counted-all, counted-moves, counted-next, not-true, not-false}
 use Rattle.reader.proofs.count_from.Statement.{statement}
 use Rattle.reader.proofs.count_from.Tie as tie
-use Rattle.reader.proofs.count_from.Reads as reads
-use Rattle.reader.proofs.count_from.Lts as lts
-use Rattle.cursor.proofs.advance.Reads as advance-reads
-use Rattle.cursor.proofs.sees.Reads as sees-reads
 
 abbrev Inv-loop : tie.InvT-loop
-Inv-loop text m₀ n₀ m n = ?
+Inv-loop text m₀ n₀ m n = Counted text m₀ m n
 
 abbrev μ-loop : tie.MeasureT-loop
-μ-loop text m₀ n₀ m n = ?
+μ-loop text m₀ n₀ m n = length text - m .at
 
--- src/lib.rt:32:5
 loop-holds : tie.Need-loop-holds Inv-loop μ-loop
-loop-holds c = ?
+loop-holds c = counted-none (c .before .args .text .now) (c .before .args .c) (c .before .pre)
 
--- src/lib.rt:32:12
 sees-requires : tie.Need-sees-requires Inv-loop μ-loop
-sees-requires c κs = ?
+sees-requires c κs = search needs
 
--- src/lib.rt:33:13
 add-n : tie.Need-add-n Inv-loop μ-loop
-add-n c = ?
+add-n c = record { fits = let a = counted-below (c .before .before .before .before .args .text .now) (c .before .before .before .before .args .c) (c .before .before .loop .m) (c .before .before .loop .n) (c .before .before .loop .inv) (sym (c .before .sees .ensures (c .before .before .before .before .args .text .now) (c .before .before .loop .inv .ready)) ∙ not-true _ (c .if1 .taken)) in omega (arith, c .before .before .loop .inv .few) }
 
--- src/lib.rt:34:9
 advance-requires : tie.Need-advance-requires Inv-loop μ-loop
-advance-requires c κs = ?
+advance-requires c κs = c .before .before .loop .inv .ready
 
--- src/lib.rt:32:5
 loop-less : tie.Need-loop-less Inv-loop μ-loop
-loop-less c = ?
+loop-less c = let a = counted-moves (c .before .before .before .before .before .args .text .now) (c .before .before .before .before .before .args .c) (c .before .before .before .loop .m) (c .before .before .before .loop .n) (c .before .before .before .loop .inv) (c .advance .result) (c .advance .ensures) (sym (c .before .before .sees .ensures (c .before .before .before .before .before .args .text .now) (c .before .before .before .loop .inv .ready)) ∙ not-true _ (c .before .if1 .taken)) in omega (arith, c .advance .ensures .ready .high)
 
--- src/lib.rt:32:5
 loop-again : tie.Need-loop-again Inv-loop μ-loop
-loop-again c = ?
+loop-again c = counted-next (c .before .before .before .before .before .args .text .now) (c .before .before .before .before .before .args .c) (c .before .before .before .loop .m) (c .before .before .before .loop .n) (c .before .before .before .loop .inv) (c .advance .result) (c .advance .ensures) (sym (c .before .before .sees .ensures (c .before .before .before .before .before .args .text .now) (c .before .before .before .loop .inv .ready)) ∙ not-true _ (c .before .if1 .taken))
 
--- src/lib.rt:26:1
 returns : tie.Need-returns Inv-loop μ-loop
-returns c = ?
+returns c = counted-all (c .before .before .before .before .args .text .now) (c .before .before .before .before .args .c) (c .before .before .loop .m) (c .before .before .loop .n) (c .before .before .loop .inv) (sym (c .before .sees .ensures (c .before .before .before .before .args .text .now) (c .before .before .loop .inv .ready)) ∙ not-false _ (c .if1 .left))
 
 pub count-from-spec : {M : Type 1} → statement M
-count-from-spec =
-    tie.close
-    (tie.spec
-    Inv-loop
-    μ-loop
-    loop-holds
-    sees-requires
-    add-n
-    advance-requires
-    loop-less
-    loop-again
-    returns)
+count-from-spec = tie.close (tie.spec Inv-loop μ-loop loop-holds sees-requires add-n advance-requires loop-less loop-again returns)
