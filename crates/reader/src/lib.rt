@@ -3,13 +3,15 @@
 // them and has a plain parameter, so whoever calls it needs no walk.
 ghost use mathlib.Core.Path.{_≡_};
 ghost use Prim.Native.Nat.{_<_};
+ghost use lib.Dec.{eqb};
 ghost use Rattle.token.specs.Token.{tokensFrom};
 ghost use Rattle.grammar.specs.Rule.{seesByte, theByte};
-ghost use Rattle.cursor.specs.Means.{Ready, tokens, Follows, MarkMeans};
+ghost use Rattle.cursor.specs.Means.{Ready, tokens, Follows, MarkMeans, WordMeans};
 ghost use Rattle.reader.specs.Reader.{tokenCount};
 use cursor::Cursor;
 use cursor::Left;
 use cursor::MarkRead;
+use cursor::WordRead;
 
 pub struct TokenReader<'a> {
     pub text: &'a [u8],
@@ -60,6 +62,14 @@ pub fn mark<'a>(r: TokenReader<'a>, b: u8) -> MarkRead
     cursor::mark(r.text, r.cursor, b)
 }
 
+// Takes a name that is no keyword.
+pub fn word<'a>(r: TokenReader<'a>) -> WordRead
+    requires { ⌜ Ready (now (r .text)) (r .cursor) ⌝ }
+    ensures { λ x. ⌜ WordMeans (now (r .entry .text)) (r .entry .cursor) x ⌝ }
+{
+    cursor::word(r.text, r.cursor)
+}
+
 // Behind the next token; at the text's end it stays.
 pub fn advance<'a>(r: TokenReader<'a>) -> TokenReader<'a>
     requires { ⌜ Ready (now (r .text)) (r .cursor) ⌝ }
@@ -85,4 +95,11 @@ pub fn count_tokens(text: &[u8]) -> usize
     ensures { λ n. ⌜ n ≡ tokenCount (tokensFrom (now (text .entry)) 0) ⌝ }
 {
     count(new(text))
+}
+
+// Whether a text has no tokens. Its parameter is plain, and so is that of what it calls: it needs no walk.
+pub fn is_blank(text: &[u8]) -> bool
+    ensures { λ r. ⌜ r ≡ eqb (tokenCount (tokensFrom (now (text .entry)) 0)) 0 ⌝ }
+{
+    count_tokens(text) == 0
 }
