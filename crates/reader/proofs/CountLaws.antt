@@ -1,11 +1,11 @@
 -- Laws of counting the tokens from a cursor on. Assumes nothing.
 use Prim.Native.Nat.{ℕ, suc, _+_, _≤_, _<_}
-use mathlib.Core.Bool.{Bool, true, false, not, cond}
+use mathlib.Core.Bool.{Bool, true, false, not}
 use mathlib.Core.List.{List, [], _∷_}
-use mathlib.Core.Path.{_≡_, refl, sym, ap, _∙_}
+use mathlib.Core.Path.{_≡_, refl, sym, ap}
 use native.Mathlib.Omega.{arith}
 use lib.ListN.{length}
-use Rattle.token.specs.Token.{Token, token, kind, isMark, rest}
+use Rattle.token.specs.Token.{Token, token, rest}
 use Rattle.grammar.specs.Rule.{seesByte}
 use Rattle.cursor.specs.Means.{Ready, tokens, Follows}
 use Rattle.cursor.specs.declared.Cursor.{Cursor}
