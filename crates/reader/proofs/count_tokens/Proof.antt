@@ -45,10 +45,13 @@ use Rattle.reader.proofs.TokenReader.Laws as T′
 use Rattle.reader.proofs.Held.{B}
 use Rattle.reader.proofs.new as new
 use Rattle.reader.proofs.new.Symbol as new-def
+use Rattle.reader.proofs.new.Symbol.{name as #reader·new}
 use Rattle.reader.proofs.new.Met as new-thm
 use Rattle.reader.proofs.count as count
 use Rattle.reader.proofs.count.Symbol as count-def
+use Rattle.reader.proofs.count.Symbol.{name as #reader·count}
 use Rattle.reader.proofs.count.Met as count-thm
+use Rattle.reader.proofs.count_tokens.Key.{name as #reader·count-tokens}
 use Rattle.reader.proofs.count_tokens as total
 use Rattle.reader.proofs.count_tokens.Statement as stated
 use Rattle.reader.proofs.count_tokens.Code as code

@@ -42,7 +42,9 @@ use Rattle.reader.specs.declared.TokenReader.{TokenReader}
 use Rattle.reader.proofs.Held.{madeVal, cursor-typed, made, made-typed}
 use Rattle.reader.proofs.first_cursor as callee
 use Rattle.reader.proofs.first_cursor.Symbol as callee-def
+use Rattle.reader.proofs.first_cursor.Symbol.{name as #reader·first-cursor}
 use Rattle.reader.proofs.first_cursor.Met as callee-thm
+use Rattle.reader.proofs.new.Key.{name as #reader·new}
 use Rattle.reader.proofs.new as new
 use Rattle.reader.proofs.new.Statement as stated
 use Rattle.reader.proofs.new.Code as code
