@@ -7,6 +7,7 @@ ghost use lib.Dec.{eqb};
 ghost use Rattle.token.specs.Token.{tokensFrom};
 ghost use Rattle.grammar.specs.Rule.{seesByte, theByte};
 ghost use Rattle.cursor.specs.Means.{Ready, tokens, Follows, MarkMeans, WordMeans};
+ghost use Rattle.cursor.specs.declared.Left.the-variants.{Nothing};
 ghost use Rattle.reader.specs.Reader.{tokenCount};
 use cursor::Cursor;
 use cursor::Left;
@@ -20,7 +21,7 @@ pub struct TokenReader<'a> {
 
 // The work: a cursor at a text's start, and how many tokens stand from a cursor on.
 fn first_cursor(text: &[u8]) -> Cursor
-    ensures { λ r. ⌜ Ready (now (text .entry)) r × (r .at ≡ 0) ⌝ }
+    ensures { λ r. ⌜ Ready (now (text .entry)) r × (r .at ≡ 0) × (r .left ≡ Nothing) ⌝ }
 {
     cursor::start(text, 0, Left::Nothing)
 }
@@ -40,7 +41,7 @@ fn count_from(text: &[u8], c: Cursor) -> usize
 
 // At the text's start.
 pub fn new<'a>(text: &'a [u8]) -> TokenReader<'a>
-    ensures { λ r. ⌜ (r .text ≡ text .entry) × Ready (now (text .entry)) (r .cursor) × (r .cursor .at ≡ 0) ⌝ }
+    ensures { λ r. ⌜ (r .text ≡ text .entry) × Ready (now (text .entry)) (r .cursor) × (r .cursor .at ≡ 0) × (r .cursor .left ≡ Nothing) ⌝ }
 {
     let cursor = first_cursor(text);
     TokenReader { text, cursor }

@@ -1,5 +1,5 @@
--- `reader::advance` meets its contract: a walk of its MIR, by hand. The struct is taken apart, and `cursor::advance` is called on the text and the cursor, and a reader is made of the text and the cursor that it gives. All that the proof knows of `cursor::advance` is that it meets its contract.
--- Assumes nothing.
+-- `reader::advance` meets its contract. Assumes nothing.
+-- A walk of its MIR, by hand: the struct is taken apart, `cursor::advance` is called on the text and the cursor, and a reader is made of the text and of the cursor that it gives. All that is known of the callee is that it meets its contract.
 use mathlib.Core.Path.{refl}
 use mathlib.Core.List.{[], _∷_}
 use lib.Dec.{T as Holds}

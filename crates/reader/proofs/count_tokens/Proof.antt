@@ -1,6 +1,6 @@
--- `reader::count_tokens` meets its contract: a walk of its MIR, by hand. A reader that `new` returns is held in a local and passed to `count`. All that the proof knows of `new` and of `count` is that each meets its contract.
+-- `reader::count_tokens` meets its contract. Assumes nothing.
+-- A walk of its MIR, by hand: a reader that `new` gives is held in a local and passed to `count`. All that is known of either is that it meets its contract.
 -- In a local of a body MIR erases the lifetime of the struct's type, so the value is shown to have the type at `erased`.
--- Assumes nothing.
 use mathlib.Core.Path.{_≡_, refl, ap, _∙_, subst⁻¹}
 use Prim.Native.Nat.{ℕ}
 use mathlib.Core.List.{List, [], _∷_}
@@ -38,6 +38,7 @@ use denote.Exit.{yes}
 use denote.Triple.Clauses.{ensured, lasts}
 use Rattle.token.specs.Token.{tokensFrom}
 use Rattle.cursor.specs.Means.{Ready, tokens}
+use Rattle.cursor.specs.declared.Left.the-variants.{Nothing}
 use Rattle.reader.specs.Reader.{tokenCount}
 use Rattle.reader.specs.declared.TokenReader.{TokenReader}
 use Rattle.reader.proofs.TokenReader as T
@@ -74,7 +75,7 @@ module _ {M : Type 1} (𝓤 : URA M) (H : Heap 𝓤) (A : Atoms 𝓤) (W : Given
 
   -- what `new` says of its result, and what `count` says of its own at the reader r
   abbrev Made : TokenReader → Type 0
-  Made r = (r .text ≡ s) × Ready (now s) (r .cursor) × (r .cursor .at ≡ 0)
+  Made r = (r .text ≡ s) × Ready (now s) (r .cursor) × (r .cursor .at ≡ 0) × (r .cursor .left ≡ Nothing)
 
   abbrev Told : TokenReader → ℕ → Type 0
   Told r n = n ≡ tokenCount (tokens (now (r .text)) (r .cursor))

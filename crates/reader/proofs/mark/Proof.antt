@@ -1,5 +1,5 @@
--- `reader::mark` meets its contract: a walk of its MIR, by hand. The struct is taken apart, and `cursor::mark` is called on the text, the cursor and the byte. All that the proof knows of `cursor::mark` is that it meets its contract.
--- Assumes nothing.
+-- `reader::mark` meets its contract. Assumes nothing.
+-- A walk of its MIR, by hand: the struct is taken apart, and `cursor::mark` is called on the text, the cursor and the byte. All that is known of the callee is that it meets its contract.
 use mathlib.Core.Path.{refl}
 use Prim.Native.Nat.{ℕ, _<_, _^_}
 use mathlib.Core.List.{[], _∷_}

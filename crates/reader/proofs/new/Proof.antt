@@ -1,6 +1,6 @@
--- `reader::new` meets its contract: a walk of its MIR, by hand. `first_cursor` is called, and a reader is made of the text passed and the cursor that it gives. All that the proof knows of `first_cursor` is that it meets its contract.
--- A `&[u8]` is Copy, so what it owns is had twice: once for the callee, once for the exit; and once more for the result.
--- Assumes nothing.
+-- `reader::new` meets its contract. Assumes nothing.
+-- A walk of its MIR, by hand: `first_cursor` is called, and a reader is made of the text passed and of the cursor that it gives. All that is known of the callee is that it meets its contract.
+-- A `&[u8]` is Copy, so what it owns is had for the callee, for the exit and for the result.
 use mathlib.Core.Path.{_≡_, refl}
 use Prim.Native.Nat.{ℕ}
 use mathlib.Core.List.{List, [], _∷_}
@@ -37,6 +37,7 @@ use denote.Exit.{yes}
 use denote.Triple.Clauses.{ensured, lasts}
 use Rattle.cursor.specs.Means.{Ready}
 use Rattle.cursor.specs.declared.Cursor.{Cursor}
+use Rattle.cursor.specs.declared.Left.the-variants.{Nothing}
 use Rattle.cursor.proofs.Cursor as Cu
 use Rattle.reader.specs.declared.TokenReader.{TokenReader}
 use Rattle.reader.proofs.Held.{madeVal, cursor-typed, made, made-typed}
@@ -63,7 +64,7 @@ module _ {M : Type 1} (𝓤 : URA M) (H : Heap 𝓤) (A : Atoms 𝓤) (W : Given
 
   -- what the callee says of its result, and the reader that is made of it
   abbrev Means : Cursor → Type 0
-  Means c = Ready (now s) c × (c .at ≡ 0)
+  Means c = Ready (now s) c × (c .at ≡ 0) × (c .left ≡ Nothing)
 
   abbrev reader : Cursor → TokenReader
   reader c = record { text = s; cursor = c }
@@ -89,7 +90,7 @@ module _ {M : Type 1} (𝓤 : URA M) (H : Heap 𝓤) (A : Atoms 𝓤) (W : Given
   exits : (c : Cursor) (u : Val) → Is Cu.the-row c (u ∷ []) → Means c → ent 𝓤 (⋆ 𝓤 H A (‵ (Cu.the-row .own c (u ∷ [])) ∷ (‵ (flft κ q) ⊛ ‵ ftrue) ∷ ‵ Own ∷ [])) (Post (madeVal (reader c) u))
   exits c u is e =
       qed W (‵ (Cu.the-row .own c (u ∷ [])) ∷ (‵ (flft κ q) ⊛ ‵ ftrue) ∷ ‵ Own ∷ []) ∵
-      suffices ! _ (ends-at 𝓤 H A new.ended stayed (new.clauses 𝓤 H A mem run) W (((κ, tt), (q, tt), tt, (s, tt), (v ∷ [], tt)), tt) (madeVal (reader c) u) (reader c) (tt, tt) (tt, tt)) $ says ! (refl, e .0, e .1) $
+      suffices ! _ (ends-at 𝓤 H A new.ended stayed (new.clauses 𝓤 H A mem run) W (((κ, tt), (q, tt), tt, (s, tt), (v ∷ [], tt)), tt) (madeVal (reader c) u) (reader c) (tt, tt) (tt, tt)) $ says ! (refl, e .0, e .1, e .2) $
       move ! (1 ∷ []) $ frame ! $ move ! (1 ∷ []) $ use1 W (‵ Own ⊛ ‵ Own) (shr-slice-copy 𝓤 H A W (named 0) κ u8 .twice s (v ∷ [])) $ split ! $
       -- [what the text owns, twice; what the cursor owns]
       nothing ! $ move ! (1 ∷ 0 ∷ []) $ fjoin ! $ frame ! $ by ! (made 𝓤 H A W κ (reader c) u is)

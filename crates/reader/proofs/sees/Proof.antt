@@ -1,6 +1,6 @@
--- `reader::sees` meets its contract: a walk of its MIR, by hand. The struct is taken apart, and `cursor::sees` is called on the cursor and the byte. All that the proof knows of `cursor::sees` is that it meets its contract.
+-- `reader::sees` meets its contract. Assumes nothing.
+-- A walk of its MIR, by hand: the struct is taken apart, and `cursor::sees` is called on the cursor and the byte. All that is known of the callee is that it meets its contract.
 -- The callee takes no reference, so the lifetime's token is kept over the call.
--- Assumes nothing.
 use mathlib.Core.Path.{_≡_, refl}
 use Prim.Native.Nat.{ℕ, _<_, _^_}
 use mathlib.Core.Bool.{Bool}

@@ -1,5 +1,5 @@
--- `reader::word` meets its contract: a walk of its MIR, by hand. The struct is taken apart, and `cursor::word` is called on the text and the cursor. All that the proof knows of `cursor::word` is that it meets its contract.
--- Assumes nothing.
+-- `reader::word` meets its contract. Assumes nothing.
+-- A walk of its MIR, by hand: the struct is taken apart, and `cursor::word` is called on the text and the cursor. All that is known of the callee is that it meets its contract.
 use mathlib.Core.Path.{refl}
 use mathlib.Core.List.{[], _∷_}
 use lib.Dec.{T as Holds}
