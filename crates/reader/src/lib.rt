@@ -1,10 +1,10 @@
 // A token reader: the text and a cursor in it, in one struct, with thin functions over the cursor by value.
-// The borrow checker covers no function over such a struct, so each takes it apart and is walked by hand; `count_tokens` stands above
-// them and has a plain parameter, so whoever calls it needs no walk.
+// The borrow checker covers no function over such a struct, so each takes it apart and is walked by hand; `count_tokens`
+// and `second_is` stand above them with plain parameters, so whoever calls these needs no walk.
 ghost use mathlib.Core.Path.{_≡_};
 ghost use Prim.Native.Nat.{_<_};
 ghost use lib.Dec.{eqb};
-ghost use Rattle.token.specs.Token.{tokensFrom};
+ghost use Rattle.token.specs.Token.{tokensFrom, rest};
 ghost use Rattle.grammar.specs.Rule.{seesByte, theByte};
 ghost use Rattle.cursor.specs.Means.{Ready, tokens, Follows, MarkMeans, WordMeans};
 ghost use Rattle.cursor.specs.declared.Left.the-variants.{Nothing};
@@ -96,6 +96,13 @@ pub fn count_tokens(text: &[u8]) -> usize
     ensures { λ n. ⌜ n ≡ tokenCount (tokensFrom (now (text .entry)) 0) ⌝ }
 {
     count(new(text))
+}
+
+// Whether a text's second token is a mark, as the `{` behind a container's keyword is.
+pub fn second_is(text: &[u8], b: u8) -> bool
+    ensures { λ r. ⌜ r ≡ seesByte b (rest (tokensFrom (now (text .entry)) 0)) ⌝ }
+{
+    sees(advance(new(text)), b)
 }
 
 // Whether a text has no tokens. Its parameter is plain, and so is that of what it calls: it needs no walk.

@@ -1,7 +1,7 @@
 -- `reader::count_tokens` meets its contract. Assumes nothing.
 -- A walk of its MIR, by hand: a reader that `new` gives is held in a local and passed to `count`. All that is known of either is that it meets its contract.
 -- In a local of a body MIR erases the lifetime of the struct's type, so the value is shown to have the type at `erased`.
-use mathlib.Core.Path.{_≡_, refl, ap, _∙_, subst⁻¹}
+use mathlib.Core.Path.{_≡_, refl, ap, _∙_}
 use Prim.Native.Nat.{ℕ}
 use mathlib.Core.List.{List, [], _∷_}
 use lib.ListN.{length}
@@ -37,13 +37,12 @@ use denote.Triple.Walked.{says, Stays, stay-none-slice, walkOf, goes-none-slice,
 use denote.Exit.{yes}
 use denote.Triple.Clauses.{ensured, lasts}
 use Rattle.token.specs.Token.{tokensFrom}
-use Rattle.cursor.specs.Means.{Ready, tokens}
-use Rattle.cursor.specs.declared.Left.the-variants.{Nothing}
+use Rattle.cursor.specs.Means.{tokens}
 use Rattle.reader.specs.Reader.{tokenCount}
 use Rattle.reader.specs.declared.TokenReader.{TokenReader}
 use Rattle.reader.proofs.TokenReader as T
 use Rattle.reader.proofs.TokenReader.Laws as T′
-use Rattle.reader.proofs.Held.{B}
+use Rattle.reader.proofs.Held.{B, Fresh, fresh-ready, fresh-tokens}
 use Rattle.reader.proofs.new as new
 use Rattle.reader.proofs.new.Symbol as new-def
 use Rattle.reader.proofs.new.Symbol.{name as #reader·new}
@@ -73,18 +72,12 @@ module _ {M : Type 1} (𝓤 : URA M) (H : Heap 𝓤) (A : Atoms 𝓤) (W : Given
   abbrev v : Val
   v = sliceVal (s .ptr) (length (s .now))
 
-  -- what `new` says of its result, and what `count` says of its own at the reader r
-  abbrev Made : TokenReader → Type 0
-  Made r = (r .text ≡ s) × Ready (now s) (r .cursor) × (r .cursor .at ≡ 0) × (r .cursor .left ≡ Nothing)
-
+  -- what `count` says of its result at the reader r
   abbrev Told : TokenReader → ℕ → Type 0
   Told r n = n ≡ tokenCount (tokens (now (r .text)) (r .cursor))
 
-  ready : (r : TokenReader) → Made r → Ready (now (r .text)) (r .cursor)
-  ready r e = subst⁻¹ (λ (x : RefT (List ℕ)). Ready (now x) (r .cursor)) (e .0) (e .1)
-
-  told : (r : TokenReader) (n : ℕ) → Made r → Told r n → n ≡ tokenCount (tokensFrom (now s) 0)
-  told r n e t = t ∙ (ap (λ (x : RefT (List ℕ)). tokenCount (tokensFrom (now x) (r .cursor .at))) (e .0) ∙ ap (λ (p : ℕ). tokenCount (tokensFrom (now s) p)) (e .2))
+  told : (r : TokenReader) (n : ℕ) → Fresh s r → Told r n → n ≡ tokenCount (tokensFrom (now s) 0)
+  told r n e t = t ∙ ap tokenCount (fresh-tokens s r e)
 
   -- the struct's type as a local of a body has it
   abbrev αᵉ : NamedLft
@@ -106,15 +99,15 @@ module _ {M : Type 1} (𝓤 : URA M) (H : Heap 𝓤) (A : Atoms 𝓤) (W : Given
       move ! (1 ∷ []) $ fsplit ! $ use1 W (‵ Own ⊛ ‵ Own) (shr-slice-copy 𝓤 H A W (named 0) κ u8 .twice s (v ∷ [])) $ split ! $
       move ! (0 ∷ 2 ∷ []) $ fjoin ! $ move ! (2 ∷ 0 ∷ []) $ use2 W (raw (New 𝓤 H A mem run .pre to-new)) (qed W ((‵ (flft κ q) ⊛ ‵ ftrue) ∷ ‵ (owns (ShrSlice (named 0) κ u8 ∷ []) (s, tt) (v ∷ [], tt)) ∷ []) ∵ join ! $ frame ! $ done !) $ frame ! $ done !
 
-  new-said : (r : TokenReader) → ent 𝓤 (ensured 𝓤 H A new.ended (new.clauses 𝓤 H A mem run) (κ, tt) (s, tt) tt r) (fact 𝓤 (Made r))
-  new-said r = exE 𝓤 _ (λ ws. snd∗ 𝓤 (sem 𝓤 H A (lasts new.ended (κ, tt) (s, tt) ws)) (fact 𝓤 (Made r)))
+  new-said : (r : TokenReader) → ent 𝓤 (ensured 𝓤 H A new.ended (new.clauses 𝓤 H A mem run) (κ, tt) (s, tt) tt r) (fact 𝓤 (Fresh s r))
+  new-said r = exE 𝓤 _ (λ ws. snd∗ 𝓤 (sem 𝓤 H A (lasts new.ended (κ, tt) (s, tt) ws)) (fact 𝓤 (Fresh s r)))
 
   -- the call of `next`, at the struct r with the machine value u
   abbrev to-count : TokenReader → Val → Count 𝓤 H A mem run .Ghost
   to-count r u = (((κ, tt), (q, tt), tt, (r, tt), (u ∷ [], tt)), tt)
 
-  goes-count : (r : TokenReader) (u : Val) → Made r → ent 𝓤 (⋆ 𝓤 H A (‵ (B (κ, tt) .own r (u ∷ [])) ∷ (‵ (flft κ q) ⊛ ‵ ftrue) ∷ [])) (Count 𝓤 H A mem run .pre (to-count r u))
-  goes-count r u e = qed W (‵ (B (κ, tt) .own r (u ∷ [])) ∷ (‵ (flft κ q) ⊛ ‵ ftrue) ∷ []) ∵ nothing ! $ move ! (1 ∷ 0 ∷ []) $ fjoin ! $ move ! (1 ∷ 0 ∷ []) $ says ! (ready r e) $ frame ! $ done !
+  goes-count : (r : TokenReader) (u : Val) → Fresh s r → ent 𝓤 (⋆ 𝓤 H A (‵ (B (κ, tt) .own r (u ∷ [])) ∷ (‵ (flft κ q) ⊛ ‵ ftrue) ∷ [])) (Count 𝓤 H A mem run .pre (to-count r u))
+  goes-count r u e = qed W (‵ (B (κ, tt) .own r (u ∷ [])) ∷ (‵ (flft κ q) ⊛ ‵ ftrue) ∷ []) ∵ nothing ! $ move ! (1 ∷ 0 ∷ []) $ fjoin ! $ move ! (1 ∷ 0 ∷ []) $ says ! (fresh-ready s r e) $ frame ! $ done !
 
   count-said : (r : TokenReader) (t : ℕ) → ent 𝓤 (ensured 𝓤 H A count.ended (count.clauses 𝓤 H A mem run) (κ, tt) (r, tt) tt t) (fact 𝓤 (Told r t))
   count-said r t = exE 𝓤 _ (λ ws. snd∗ 𝓤 (sem 𝓤 H A (lasts count.ended (κ, tt) (r, tt) ws)) (fact 𝓤 (Told r t)))
@@ -133,7 +126,7 @@ module _ {M : Type 1} (𝓤 : URA M) (H : Heap 𝓤) (A : Atoms 𝓤) (W : Given
         move ! (6 ∷ []) $ use1 W (raw (New 𝓤 H A mem run .pre to-new) ⊛ ‵ Own) goes-new $ split ! $
         calls-at ! fm (New 𝓤 H A mem run) known-new to-new (and-then ! (load ! (from ! (stop !)) (look ! 4 refl)) (no-more !)) (λ u.
         use1 W (later (some (λ (r : TokenReader). ((‵ (flft κ q) ⊛ ‵ ftrue) ⊛ ‵ (B (κ, tt) .own r (u ∷ []))) ⊛ raw (ensured 𝓤 H A new.ended (new.clauses 𝓤 H A mem run) (κ, tt) (s, tt) tt r)))) (id⊢ 𝓤 _) $ await ! tt $ pick ! (λ r.
-        split ! $ move ! (1 ∷ []) $ use1 W (raw (fact 𝓤 (Made r))) (new-said r) $ heard ! (Made r) (λ e. split ! $ move ! (1 ∷ []) $
+        split ! $ move ! (1 ∷ []) $ use1 W (raw (fact 𝓤 (Fresh s r))) (new-said r) $ heard ! (Fresh s r) (λ e. split ! $ move ! (1 ∷ []) $
         -- [what the struct owns; the token; what s owns; room for _2; …; _1; …; room for _0; …]
         peeks ! (B (κ, tt)) (Is (B (κ, tt))) (shows 𝓤 H A (B (κ, tt))) r (u ∷ []) (λ is.
         land ! (from ! (stop !)) (init ! 3 refl (LL.lawful (T.the-type αᵉ) (T′.the-laws αᵉ) 𝓤 H A W .typed r _ is .0)) $
