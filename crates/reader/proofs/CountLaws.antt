@@ -1,11 +1,16 @@
 -- Laws of counting the tokens from a cursor on. Assumes nothing.
-use Prim.Native.Nat.{ℕ, suc, _+_, _≤_, _<_}
+use Prim.Native.Nat.{ℕ, zero, suc, _+_, _≤_, _<_}
 use mathlib.Core.Bool.{Bool, true, false, not}
 use mathlib.Core.List.{List, [], _∷_}
-use mathlib.Core.Path.{_≡_, refl, sym, ap}
+use mathlib.Core.Path.{_≡_, refl, sym, ap, _∙_}
 use native.Mathlib.Omega.{arith}
-use lib.ListN.{length}
-use Rattle.token.specs.Token.{Token, token, rest}
+use lib.ListN.{length, drop}
+use Rattle.text.specs.Bytes.{isBlank}
+use Rattle.token.specs.Token.{Kind, name, number, quoted, mark, Token, token, Lexeme, bad, piece, lexeme, cutBy, further, cut, tokensFrom, isMark, rest}
+use Rattle.token.specs.Split.{split}
+use Rattle.token.specs.Split as tokenized
+use Rattle.token.proofs.WholeLaws.{Fits, whole-of}
+use Rattle.token.proofs.StreamLaws.{split-reads}
 use Rattle.grammar.specs.Rule.{seesByte}
 use Rattle.cursor.specs.Means.{Ready, tokens, Follows}
 use Rattle.cursor.specs.declared.Cursor.{Cursor}
@@ -57,3 +62,27 @@ module _ (s : List ℕ) (c m : Cursor) (n : ℕ) (h : Counted s c m n) where
       few = let a = counted-moves in omega (arith, h .few);
       ready = f .ready;
     }
+
+-- ---- every token but the end is counted
+
+no-end : (k : Kind) (n : ℕ) → Fits k n → isMark k 0 ≡ false
+no-end (name w) n h = refl
+no-end (number w) n h = refl
+no-end (quoted m) n h = refl
+no-end (mark b) n h = h
+
+cut-counts : (l : List ℕ) (k p : ℕ) → suc (tokenCount (cut k p l)) ≡ length (cut k p l)
+unfolding cut tokenCount
+cut-counts [] k p = refl
+cut-counts (b ∷ l) (suc k) p = cut-counts l k (suc p)
+cut-counts (b ∷ l) zero p = go (isBlank b) (lexeme (b ∷ l)) refl _ (cut-counts l (further (isBlank b) (lexeme (b ∷ l))) (suc p))
+  where
+    go : (x : Bool) (y : Lexeme) → lexeme (b ∷ l) ≡ y → (ts : List Token) → suc (tokenCount ts) ≡ length ts → suc (tokenCount (cutBy x y p ts)) ≡ length (cutBy x y p ts)
+    go true y f ts h = h
+    go false (bad r) f ts h = refl
+    go false (piece k m) f ts h = rw (no-end k m (whole-of (b ∷ l) k m f .fits)) (ap suc h)
+
+-- of a text that the text rules accept, the count is that of its tokens without the end
+pub split-counts : (s : List ℕ) (ts : List Token) → split s ≡ tokenized.tokens ts → suc (tokenCount (tokensFrom s 0)) ≡ length ts
+unfolding tokensFrom
+split-counts s ts e = cut-counts (drop 0 s) 0 0 ∙ ap length (split-reads s ts e)
