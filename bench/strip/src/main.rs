@@ -92,7 +92,7 @@ fn speed(bytes: usize, nanoseconds: f64) -> f64 {
 }
 
 fn columns(p: Pair) -> String {
-    format!("{:.2} | {:.2} | {:.2}", p.ours / 1000.0, p.rust / 1000.0, p.ratio())
+    format!("{:.3} | {:.3} | {:.2}", p.ours / 1000.0, p.rust / 1000.0, p.ratio())
 }
 
 fn speeds(bytes: usize, p: Pair) -> String {
