@@ -11,11 +11,7 @@ mod error {
 
 use std::hint::black_box;
 use std::time::Instant;
-
-#[link(name = "read_c", kind = "static")]
-extern "C" {
-    fn read_text(text: *const u8, size: usize, scratch: *mut u16, words: usize, sheet: *mut u8, room: usize) -> u8;
-}
+use strip::ReadAnswer;
 
 /// What the program of 01 lends.
 struct Lent {
@@ -24,10 +20,8 @@ struct Lent {
 }
 
 impl Lent {
-    fn read(&mut self, text: &str) -> u8 {
-        let Lent { scratch, sheet } = self;
-        // SAFETY: the three slices are whole, and do not overlap.
-        unsafe { read_text(text.as_ptr(), text.len(), scratch.as_mut_ptr(), scratch.len(), sheet.as_mut_ptr(), sheet.len()) }
+    fn read(&mut self, text: &str) -> ReadAnswer {
+        strip::read(text.as_bytes(), &mut self.scratch, &mut self.sheet)
     }
 }
 
@@ -80,9 +74,8 @@ fn report(lent: &mut Lent, empty: f64, script: &Script) {
     let Script(name, _) = script;
     let text = script.of(10_240);
     assert!(rust_reads(&text), "{name}");
-    match lent.read(&text) {
-        0 => {}
-        number => return println!("{name}: reading refuses it with {number}"),
+    if let ReadAnswer::Refused { refusal, .. } = lent.read(&text) {
+        return println!("{name}: reading refuses it with {}", refusal.number());
     }
     let rust = least(|| rust_reads(black_box(&text)));
     let mut time = |size: usize| {
@@ -100,7 +93,7 @@ fn report(lent: &mut Lent, empty: f64, script: &Script) {
 }
 
 fn main() {
-    let mut lent = Lent { scratch: vec![0; 16_384], sheet: vec![0; 49_152] };
+    let mut lent = Lent { scratch: vec![0; strip::SCRATCH_WORDS], sheet: vec![0; strip::SHEET_BYTES] };
     let empty = least(|| lent.read(black_box("")));
     println!("an empty text: {:.1} microseconds", empty / 1000.0);
     for script in SCRIPTS {

@@ -27,16 +27,6 @@ include!(concat!(env!("OUT_DIR"), "/sources.rs"));
 use std::hint::black_box;
 use std::time::Instant;
 
-#[link(name = "validate_c", kind = "static")]
-extern "C" {
-    fn check_sheet(text: *const u8, text_size: usize, sheet: *const u8, sheet_size: usize) -> u8;
-}
-
-fn ours(text: &[u8], sheet: &[u8]) -> u8 {
-    // SAFETY: the two slices are whole.
-    unsafe { check_sheet(text.as_ptr(), text.len(), sheet.as_ptr(), sheet.len()) }
-}
-
 /// An ordinary script, as far as whole nodes go; blanks behind them.
 fn script(size: usize) -> Vec<u8> {
     let node = "sequence {\n  tween opacity: 0 => 1 duration: 0.5s easing: ease_in_out_quad;\n  keyframes x { 0%: -20, 50%: 1.25, 100%: 0 };\n  label \"here\";\n}\n";
@@ -61,12 +51,12 @@ fn track(frames: u16) -> Vec<u8> {
 /// The least times of the two in some rounds, by turns, in microseconds.
 fn times(text: &[u8], sheet: &[u8], rounds: usize) -> (f64, f64) {
     let nodes = sheet::decode(text, sheet).expect("a sheet");
-    assert_eq!(ours(text, sheet), 0);
+    assert_eq!(strip::check(text, sheet), strip::CheckAnswer::Accepted);
     assert!(validate::validate_nodes(&nodes).is_ok());
     let mut least = (f64::MAX, f64::MAX);
     for _ in 0..rounds {
         let start = Instant::now();
-        black_box(ours(black_box(text), black_box(sheet)));
+        black_box(strip::check(black_box(text), black_box(sheet)));
         least.0 = least.0.min(start.elapsed().as_nanos() as f64 / 1000.0);
         let start = Instant::now();
         let _ = black_box(validate::validate_nodes(black_box(&nodes)));

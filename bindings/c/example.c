@@ -1,0 +1,40 @@
+/* Reads a script from standard input, checks it, and prints its lines, then `accept N`; or `refuse R at P`. */
+#include "strip.h"
+
+#include <stdio.h>
+
+static uint8_t text[STRIP_TEXT_BYTES + 1];
+static uint16_t scratch[STRIP_SCRATCH_WORDS];
+static uint8_t sheet[STRIP_SHEET_BYTES];
+static uint8_t output[65536];
+
+/* Prints a refusal, if there is one, and says whether there is. */
+static int refused(uint64_t answer) {
+    if (strip_number(answer) == STRIP_ACCEPTED)
+        return 0;
+    printf("refuse %u at %u\n", (unsigned)strip_number(answer), (unsigned)strip_value(answer));
+    return 1;
+}
+
+int main(void) {
+    size_t length = fread(text, 1, sizeof text, stdin);
+    if (ferror(stdin)) {
+        perror("standard input");
+        return 1;
+    }
+    uint64_t reading = strip_read(text, length, scratch, STRIP_SCRATCH_WORDS, sheet, STRIP_SHEET_BYTES);
+    if (refused(reading))
+        return 0;
+    uint32_t size = strip_sheet_length(reading);
+    uint32_t records = strip_records(reading);
+    if (refused(strip_check(text, length, sheet, size)))
+        return 0;
+    for (uint32_t ordinal = 0; ordinal <= records; ordinal++) {
+        uint64_t line = strip_line(text, length, sheet, size, ordinal, output, sizeof output);
+        if (refused(line))
+            return 0;
+        fwrite(output, 1, strip_value(line), stdout);
+    }
+    printf("accept %u\n", (unsigned)records);
+    return 0;
+}

@@ -1,0 +1,87 @@
+/*
+ * Motion scripts of shelf-edge strips: reading a script into a sheet of bytes, checking the sheet, and lining its records in
+ * hexadecimal. `rt staticlib strip` writes the library, target/staticlib/libstrip.a.
+ *
+ * No pointer is NULL, not even where its length is 0. What is written to overlaps nothing else that is lent. A length is in
+ * elements. Nothing is allocated.
+ *
+ * Each function answers with one number: the refusal's, 0 for accepted, times 2^56, plus a value.
+ */
+#ifndef STRIP_H
+#define STRIP_H
+
+#include <stddef.h>
+#include <stdint.h>
+
+#ifdef __cplusplus
+extern "C" {
+#endif
+
+/* The longest text, the fewest words of scratch, and a sheet long enough for every text. */
+#define STRIP_TEXT_BYTES 16384
+#define STRIP_SCRATCH_WORDS 16384
+#define STRIP_SHEET_BYTES 49152
+
+/* The causes of refusal. */
+enum strip_refusal {
+    STRIP_ACCEPTED = 0,
+    STRIP_TEXT_TOO_LONG = 1,
+    STRIP_BAD_FORM = 2,
+    STRIP_TOO_MANY_DIGITS = 3,
+    STRIP_UNBALANCED = 4,
+    STRIP_TOO_MANY_OPEN = 5,
+    STRIP_MISSING = 6,
+    STRIP_UNKNOWN_KEYWORD = 7,
+    STRIP_MALFORMED = 8,
+    STRIP_UNKNOWN_SPRING_PRESET = 9,
+    STRIP_MISSING_DURATION = 10,
+    STRIP_STAGGER_GRID_INCOMPLETE = 11,
+    STRIP_TOO_MANY_NESTED = 12,
+    STRIP_LEFTOVER = 13,
+    STRIP_SHEET_TOO_SHORT = 14,
+    STRIP_SCRATCH_TOO_SHORT = 16,
+    STRIP_NOT_A_SHEET = 20,
+    STRIP_OUT_OF_RANGE = 21,
+    STRIP_VALUE_TYPE_MISMATCH = 22,
+    STRIP_UNKNOWN_EASING = 23,
+    STRIP_UNKNOWN_PRESET = 24,
+    STRIP_INVALID_COLOR = 25,
+    STRIP_DUPLICATE_TIME = 26,
+    STRIP_TOO_FEW_FRAMES = 27,
+    STRIP_NO_SUCH_RECORD = 31,
+    STRIP_OUTPUT_TOO_SHORT = 32
+};
+
+/*
+ * Reads a text into a sheet. Accepted: strip_sheet_length and strip_records. Refused: strip_value is the place in the text.
+ * Afterwards scratch is all zero, and the sheet zero past its length, or everywhere on a refusal; but refusals 1 and 16 leave both
+ * as they were.
+ */
+uint64_t strip_read(const uint8_t *text, size_t text_length, uint16_t *scratch, size_t scratch_length, uint8_t *sheet,
+                    size_t sheet_length);
+
+/*
+ * Checks a sheet, lent up to the length that reading gave. Refused: strip_value is the record's ordinal, for 2 a place in the
+ * text, for 1 and 20 it is 0.
+ */
+uint64_t strip_check(const uint8_t *text, size_t text_length, const uint8_t *sheet, size_t sheet_length);
+
+/*
+ * Writes the line of the record with an ordinal, the head being 0. Accepted: strip_value is the line's length, its LF included; past
+ * it the output is as it was. Refused: strip_value is the ordinal, for 2 a place in the text, for 1 and 20 it is 0; the output is as
+ * it was. A record of n bytes needs 2n + 7 bytes of output.
+ */
+uint64_t strip_line(const uint8_t *text, size_t text_length, const uint8_t *sheet, size_t sheet_length, uint32_t ordinal,
+                    uint8_t *output, size_t output_length);
+
+/* The parts of an answer. */
+static inline enum strip_refusal strip_number(uint64_t answer) { return (enum strip_refusal)(answer >> 56); }
+static inline uint32_t strip_value(uint64_t answer) { return (uint32_t)answer; }
+static inline uint32_t strip_sheet_length(uint64_t answer) { return (uint32_t)(answer & 0xFFFFFF); }
+static inline uint32_t strip_records(uint64_t answer) { return (uint32_t)(answer >> 24 & 0xFFFF); }
+
+#ifdef __cplusplus
+}
+#endif
+
+#endif

@@ -1,0 +1,141 @@
+//! Motion scripts of shelf-edge strips: reading a script into a sheet of bytes, checking the sheet, and lining its records in
+//! hexadecimal. The three functions call a library that is proved: each answer and every byte that is written equals a
+//! definition. They allocate nothing, and what they write to is lent.
+//!
+//! ```
+//! use strip::{CheckAnswer, LineAnswer, ReadAnswer, Refusal};
+//!
+//! let text = b"at 0.5;";
+//! let mut scratch = vec![0; strip::SCRATCH_WORDS];
+//! let mut sheet = vec![0; strip::SHEET_BYTES];
+//! let ReadAnswer::Accepted { length, records } = strip::read(text, &mut scratch, &mut sheet) else {
+//!     panic!("a refusal");
+//! };
+//! let sheet = &sheet[..length];
+//! assert_eq!((sheet, records), (&[0, 1, 14, 0x3F, 0, 0, 0, 0][..], 1));
+//! assert_eq!(strip::check(text, sheet), CheckAnswer::Accepted);
+//!
+//! // the head is record 0, and a node's ordinals begin at 1
+//! let mut output = [0; 64];
+//! assert_eq!(strip::line(text, sheet, 1, &mut output), LineAnswer::Accepted { length: 19 });
+//! assert_eq!(&output[..19], b"00060E3F00000000B3\n");
+//!
+//! // a refusal has a number, a name and a place
+//! let answer = strip::read(b"at 0.5; tween", &mut scratch, &mut vec![0; strip::SHEET_BYTES]);
+//! assert_eq!(answer, ReadAnswer::Refused { refusal: Refusal::Missing, place: 13 });
+//! assert_eq!((Refusal::Missing.number(), Refusal::Missing.name()), (6, "Missing"));
+//! ```
+#![warn(missing_docs)]
+
+mod refusal;
+
+pub use refusal::Refusal;
+
+/// The longest text that reading takes, in bytes.
+pub const TEXT_BYTES: usize = 16_384;
+/// The fewest words of scratch that reading takes.
+pub const SCRATCH_WORDS: usize = 16_384;
+/// A sheet of so many bytes is long enough for every text.
+pub const SHEET_BYTES: usize = 49_152;
+
+/// What [`read`] answers.
+#[derive(Clone, Copy, Debug, PartialEq, Eq)]
+pub enum ReadAnswer {
+    /// The sheet's first `length` bytes are the sheet, which has `records` records of nodes.
+    Accepted {
+        /// The sheet's length in bytes.
+        length: usize,
+        /// How many records of nodes it has; the head is not counted.
+        records: usize,
+    },
+    /// There is no sheet.
+    Refused {
+        /// Why.
+        refusal: Refusal,
+        /// Where in the text, in bytes.
+        place: usize,
+    },
+}
+
+/// What [`check`] answers.
+#[derive(Clone, Copy, Debug, PartialEq, Eq)]
+pub enum CheckAnswer {
+    /// No rule is broken.
+    Accepted,
+    /// A rule is broken, or there is nothing to check.
+    Refused {
+        /// Why.
+        refusal: Refusal,
+        /// The record's ordinal; for [`Refusal::BadForm`] a place in the text; for what is no sheet 0.
+        place: usize,
+    },
+}
+
+/// What [`line`] answers.
+#[derive(Clone, Copy, Debug, PartialEq, Eq)]
+pub enum LineAnswer {
+    /// The output's first `length` bytes are the line, its LF included.
+    Accepted {
+        /// The line's length in bytes.
+        length: usize,
+    },
+    /// There is no line, and the output is as it was.
+    Refused {
+        /// Why.
+        refusal: Refusal,
+        /// The ordinal; for [`Refusal::BadForm`] a place in the text; for what is no sheet 0.
+        place: usize,
+    },
+}
+
+extern "C" {
+    fn strip_read(text: *const u8, text_length: usize, scratch: *mut u16, words: usize, sheet: *mut u8, room: usize) -> u64;
+    fn strip_check(text: *const u8, text_length: usize, sheet: *const u8, sheet_length: usize) -> u64;
+    fn strip_line(text: *const u8, text_length: usize, sheet: *const u8, sheet_length: usize, ordinal: u32, output: *mut u8, room: usize) -> u64;
+}
+
+/// Reads a text into a sheet. Afterwards scratch is all zero, and the sheet zero past its length, or everywhere on a refusal;
+/// but [`Refusal::TextTooLong`] and [`Refusal::ScratchTooShort`] leave both as they were.
+pub fn read(text: &[u8], scratch: &mut [u16], sheet: &mut [u8]) -> ReadAnswer {
+    // SAFETY: the three slices are whole, and do not overlap.
+    let answer = unsafe { strip_read(text.as_ptr(), text.len(), scratch.as_mut_ptr(), scratch.len(), sheet.as_mut_ptr(), sheet.len()) };
+    match refused(answer) {
+        Some((refusal, place)) => ReadAnswer::Refused { refusal, place },
+        None => ReadAnswer::Accepted { length: (answer & 0xFF_FFFF) as usize, records: (answer >> 24 & 0xFFFF) as usize },
+    }
+}
+
+/// Checks a sheet. `sheet` is what [`read`] gave for this text, up to its length; any other bytes are refused unless they are a
+/// sheet for the text.
+pub fn check(text: &[u8], sheet: &[u8]) -> CheckAnswer {
+    // SAFETY: the two slices are whole.
+    let answer = unsafe { strip_check(text.as_ptr(), text.len(), sheet.as_ptr(), sheet.len()) };
+    match refused(answer) {
+        Some((refusal, place)) => CheckAnswer::Refused { refusal, place },
+        None => CheckAnswer::Accepted,
+    }
+}
+
+/// Writes the line of the record with an ordinal, the head being 0. Past the line the output is as it was. A record of n bytes
+/// needs 2n + 7 bytes of output.
+pub fn line(text: &[u8], sheet: &[u8], ordinal: u32, output: &mut [u8]) -> LineAnswer {
+    // SAFETY: the three slices are whole, and the output overlaps neither of the others.
+    let answer = unsafe { strip_line(text.as_ptr(), text.len(), sheet.as_ptr(), sheet.len(), ordinal, output.as_mut_ptr(), output.len()) };
+    match refused(answer) {
+        Some((refusal, place)) => LineAnswer::Refused { refusal, place },
+        None => LineAnswer::Accepted { length: value(answer) },
+    }
+}
+
+/// The refusal of an answer and its place, if it is one: the number times 2^56, plus the place.
+fn refused(answer: u64) -> Option<(Refusal, usize)> {
+    match (answer >> 56) as u8 {
+        0 => None,
+        number => Some((Refusal::of(number).expect("a refusal of the library"), value(answer))),
+    }
+}
+
+/// The value of an answer, below 2^32.
+fn value(answer: u64) -> usize {
+    (answer & 0xFFFF_FFFF) as usize
+}

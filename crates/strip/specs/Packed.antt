@@ -1,0 +1,57 @@
+-- An answer as one number, for C and Rust. Assumes nothing.
+-- "Each answers one u64: the refusal's number, 0 for accepted, times 2^56, plus a value below 2^32 that is the place of a refusal (the
+-- ordinal in lining), 0 for checking's accept, or lining's line length; reading's accept has its sheet length plus its count of node
+-- records times 2^24 (bits 40 to 55 stay 0, kept for a later count)." (the request for the library)
+-- A place or a length of 2^32 or more counts by its remainder, as do a sheet's length of 2^24 or more and 2^16 or more records.
+use Prim.Native.Nat.{ℕ, _+_, _*_, _/_, _%_, _^_}
+use mathlib.Core.List.{List}
+use Rattle.error.specs.Refusal.{numberOf}
+use Rattle.error.specs.declared.Refusal.{Refusal}
+use Rattle.error.specs.declared.ReadAnswer.{ReadAnswer}
+use Rattle.error.specs.declared.ReadAnswer.the-variants as read
+use Rattle.error.specs.declared.CheckAnswer.{CheckAnswer}
+use Rattle.error.specs.declared.CheckAnswer.the-variants as check
+use Rattle.error.specs.declared.LineAnswer.{LineAnswer}
+use Rattle.error.specs.declared.LineAnswer.the-variants as line
+
+-- ---- an answer
+
+abbrev pub packedRefusal : Refusal → ℕ → ℕ
+packedRefusal refusal place = numberOf refusal * 2 ^ 56 + place % 2 ^ 32
+
+abbrev pub packedSheet : ℕ → ℕ → ℕ
+packedSheet length records = records % 2 ^ 16 * 2 ^ 24 + length % 2 ^ 24
+
+abbrev pub packedRead : ReadAnswer → ℕ
+packedRead (read.Accepted length records) = packedSheet length records
+packedRead (read.Refused refusal place) = packedRefusal refusal place
+
+abbrev pub packedCheck : CheckAnswer → ℕ
+packedCheck check.Accepted = 0
+packedCheck (check.Refused refusal place) = packedRefusal refusal place
+
+abbrev pub packedLine : LineAnswer → ℕ
+packedLine (line.Accepted length) = length % 2 ^ 32
+packedLine (line.Refused refusal place) = packedRefusal refusal place
+
+-- ---- an answer with the buffers afterwards
+
+abbrev pub readOutcome : ReadAnswer × List ℕ × List ℕ → ℕ × List ℕ × List ℕ
+readOutcome x = (packedRead (x .0), x .1, x .2)
+
+abbrev pub lineOutcome : LineAnswer × List ℕ → ℕ × List ℕ
+lineOutcome x = (packedLine (x .0), x .1)
+
+-- ---- its parts
+
+abbrev pub numberIn : ℕ → ℕ
+numberIn w = w / 2 ^ 56
+
+abbrev pub valueIn : ℕ → ℕ
+valueIn w = w % 2 ^ 32
+
+abbrev pub lengthIn : ℕ → ℕ
+lengthIn w = w % 2 ^ 24
+
+abbrev pub recordsIn : ℕ → ℕ
+recordsIn w = w / 2 ^ 24 % 2 ^ 16

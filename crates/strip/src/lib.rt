@@ -1,0 +1,65 @@
+// The three operations for C and Rust to link.
+ghost use mathlib.Core.Path.{_≡_};
+ghost use Prim.Native.Nat.{_%_, _^_};
+ghost use Rattle.parser.specs.Reading.{reading};
+ghost use Rattle.validate.specs.Checking.{checking};
+ghost use Rattle.line.specs.Lining.{lining};
+ghost use Rattle.strip.specs.Packed.{packedRefusal, packedSheet, packedCheck, readOutcome, lineOutcome};
+use error::CheckAnswer;
+use error::LineAnswer;
+use error::ReadAnswer;
+use error::Refusal;
+
+// The lowest 32 bits of a place or a length.
+fn low(n: usize) -> u64
+    ensures { λ r. ⌜ r ≡ n % 2 ^ 32 ⌝ }
+{
+    (n % 4294967296) as u64
+}
+
+// A refusal's number in the highest byte, its place in the lowest four.
+fn pack_refusal(refusal: Refusal, place: usize) -> u64
+    ensures { λ r. ⌜ r ≡ packedRefusal refusal place ⌝ }
+{
+    (error::number_of(refusal) as u64) * 72057594037927936 + low(place)
+}
+
+// A sheet's length in the lowest three bytes, its count of node records in the next two.
+fn pack_sheet(length: usize, records: usize) -> u64
+    ensures { λ r. ⌜ r ≡ packedSheet length records ⌝ }
+{
+    (records % 65536 * 16777216 + length % 16777216) as u64
+}
+
+// parser::read.
+#[no_mangle]
+pub extern "C" fn strip_read(text: &[u8], scratch: &mut [u16], sheet: &mut [u8]) -> u64
+    ensures { λ r. ⌜ (r, now (scratch .exit), now (sheet .exit)) ≡ readOutcome (reading (now (text .entry)) (now (scratch .entry)) (now (sheet .entry))) ⌝ }
+{
+    match parser::read(text, scratch, sheet) {
+        ReadAnswer::Accepted { length, records } => pack_sheet(length, records),
+        ReadAnswer::Refused { refusal, place } => pack_refusal(refusal, place),
+    }
+}
+
+// validate::check.
+#[no_mangle]
+pub extern "C" fn strip_check(text: &[u8], sheet: &[u8]) -> u64
+    ensures { λ r. ⌜ r ≡ packedCheck (checking (now (text .entry)) (now (sheet .entry))) ⌝ }
+{
+    match validate::check(text, sheet) {
+        CheckAnswer::Accepted => 0,
+        CheckAnswer::Refused { refusal, place } => pack_refusal(refusal, place),
+    }
+}
+
+// line::line.
+#[no_mangle]
+pub extern "C" fn strip_line(text: &[u8], sheet: &[u8], ordinal: u32, out: &mut [u8]) -> u64
+    ensures { λ r. ⌜ (r, now (out .exit)) ≡ lineOutcome (lining (now (text .entry)) (now (sheet .entry)) ordinal (now (out .entry))) ⌝ }
+{
+    match line::line(text, sheet, ordinal as usize, out) {
+        LineAnswer::Accepted { length } => low(length),
+        LineAnswer::Refused { refusal, place } => pack_refusal(refusal, place),
+    }
+}

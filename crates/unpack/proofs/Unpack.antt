@@ -1,0 +1,1 @@
+-- The parts of a packed answer are those of the operation's answer. Assumes nothing.
