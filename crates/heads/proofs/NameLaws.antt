@@ -20,7 +20,7 @@ use Rattle.heads.specs.Means.{namesOf, byName}
 pub none≢some : {A B : Type 0} {a : A} → Prim.Path (Option A) none (some a) → B
 none≢some e = absurd (let z : _≡_ {A = ℕ} 0 1 = cc in omega arith)
 
-refused≢got : {A B : Type 0} {r : Refusal} {q : ℕ} {a : A} {l : Notes} {ts : List Token} → Prim.Path (Out A) (refused r q) (got a l ts) → B
+pub refused≢got : {A B : Type 0} {r : Refusal} {q : ℕ} {a : A} {l : Notes} {ts : List Token} → Prim.Path (Out A) (refused r q) (got a l ts) → B
 refused≢got e = absurd (let z : _≡_ {A = ℕ} 0 1 = cc in omega arith)
 
 -- ---- lookups
@@ -37,10 +37,10 @@ find-below [] k i w e = none≢some e
 find-below (n ∷ ns) k i w e = below-by n ns k i w e (λ q. find-below ns (suc k) i w q) (same w n) refl
 
 -- a row that a lookup of its name finds at d
-record RowUnder {A : Type 0} (t : List (String × A)) (w : List ℕ) (d : ℕ) : Type 0 where
-  row : String × A
-  is : getElem? t d ≡ some row
-  under : under t w ≡ some (row .1)
+pub record RowUnder {A : Type 0} (t : List (String × A)) (w : List ℕ) (d : ℕ) : Type 0 where
+  pub row : String × A
+  pub is : getElem? t d ≡ some row
+  pub under : under t w ≡ some (row .1)
 
 under-by : {A : Type 0} (f : String × A) (fs : List (String × A)) (i m : ℕ) (w : List ℕ) → find (namesOf (f ∷ fs)) i w ≡ some m
     → (find (namesOf fs) (suc i) w ≡ some m → (d : ℕ) × (m ≡ suc i + d) × RowUnder fs w d)
@@ -57,7 +57,7 @@ unfolding find
 under-from [] i m w e = none≢some e
 under-from (f ∷ fs) i m w e = under-by f fs i m w e (λ q. under-from fs (suc i) m w q) (same w (bytes (f .0))) refl
 
-under-row : {A : Type 0} (t : List (String × A)) (m : ℕ) (w : List ℕ) → find (namesOf t) 0 w ≡ some m → RowUnder t w m
+pub under-row : {A : Type 0} (t : List (String × A)) (m : ℕ) (w : List ℕ) → find (namesOf t) 0 w ≡ some m → RowUnder t w m
 under-row t m w e = let (d, p, r) = under-from t 0 m w e in let q : m ≡ d = omega arith in subst (RowUnder t w) (sym q) r
 
 none-by : {A : Type 0} (f : String × A) (fs : List (String × A)) (i : ℕ) (w : List ℕ) → find (namesOf (f ∷ fs)) i w ≡ none
@@ -66,7 +66,7 @@ unfolding under
 none-by f fs i w e ih true q = none≢some (sym e ∙ find-here w (bytes (f .0)) (namesOf fs) i q)
 none-by f fs i w e ih false q = rw (q, under) (ih (sym (find-past w (bytes (f .0)) (namesOf fs) i q) ∙ e))
 
-under-none : {A : Type 0} (t : List (String × A)) (i : ℕ) (w : List ℕ) → find (namesOf t) i w ≡ none → under t w ≡ none
+pub under-none : {A : Type 0} (t : List (String × A)) (i : ℕ) (w : List ℕ) → find (namesOf t) i w ≡ none → under t w ≡ none
 unfolding under
 under-none [] i w e = refl
 under-none (f ∷ fs) i w e = none-by f fs i w e (λ q. under-none fs (suc i) w q) (same w (bytes (f .0))) refl

@@ -59,7 +59,7 @@ pub fn parse_group(text: &[u8], c: Cursor) -> GroupRead
 
 // ---- what is present, or else a default
 
-fn word_or(o: OptU32, d: u32) -> u32
+pub fn word_or(o: OptU32, d: u32) -> u32
     ensures { λ r. ⌜ r ≡ default (optWordOf o) d ⌝ }
 {
     match o {
@@ -68,7 +68,7 @@ fn word_or(o: OptU32, d: u32) -> u32
     }
 }
 
-fn case_or(o: OptCase, d: u8) -> u8
+pub fn case_or(o: OptCase, d: u8) -> u8
     ensures { λ r. ⌜ r ≡ default (optCaseOf o) d ⌝ }
 {
     match o {

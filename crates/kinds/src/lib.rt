@@ -1,11 +1,9 @@
 // parser.rs: the nodes that hold a name or strings, and fields. Each is read behind its keyword, and its record is written at `out`.
 // The functions are for our own crates: each requires a cursor that stands in a text of at most 16,384 bytes, and a place below 2^30.
-ghost use mathlib.Core.Path.{_≡_};
 ghost use mathlib.Core.List.{[]};
 ghost use Prim.Native.Nat.{_≤_};
 ghost use lib.ListN.{length};
-ghost use Rattle.text.specs.Words.{default};
-ghost use Rattle.encode.specs.Of.{spanOf, optWordOf, optCaseOf};
+ghost use Rattle.encode.specs.Of.{spanOf};
 ghost use Rattle.grammar.specs.Grammar.{parseDraw, parseMorph, parseColor, parsePath, parseWaveform, parsePresetCall};
 ghost use Rattle.grammar.specs.Fields.{Table};
 ghost use Rattle.cursor.specs.Means.{Ready};
@@ -16,8 +14,6 @@ ghost use Rattle.kinds.specs.Means.{EndMeans, drawEnd, morphEnd, colorEn
 use ast::ColorSpec;
 use ast::DrawSpec;
 use ast::MorphSpec;
-use ast::OptCase;
-use ast::OptU32;
 use ast::PathSpec;
 use ast::PresetCall;
 use ast::Span;
@@ -39,24 +35,6 @@ fn fields_at(text: &[u8], c: Cursor, rows: &[u8], sorts: &[u8]) -> Gathered
     ensures { λ r. ⌜ ((t : Table) → Layout (now (rows .entry)) (now (sorts .entry)) t → ListMeans (now (text .entry)) (c .at) (now (sorts .entry)) c t [] r) ⌝ }
 {
     slots::field_list(text, c, rows, sorts, slots::no_slots(), slots::no_others())
-}
-
-fn word_or(o: OptU32, d: u32) -> u32
-    ensures { λ r. ⌜ r ≡ default (optWordOf o) d ⌝ }
-{
-    match o {
-        OptU32::Absent => d,
-        OptU32::Present(n) => n,
-    }
-}
-
-fn case_or(o: OptCase, d: u8) -> u8
-    ensures { λ r. ⌜ r ≡ default (optCaseOf o) d ⌝ }
-{
-    match o {
-        OptCase::Absent => d,
-        OptCase::Present(k) => k,
-    }
 }
 
 // ---- draw
@@ -114,7 +92,7 @@ fn morph_end(text: &[u8], sheet: &mut [u8], c: Cursor, out: usize, from: Span, t
             let slots = g.slots;
             let others = g.others;
             let easing = others.easing;
-            let samples = word_or(slots::whole_at(slots, 0), 32);
+            let samples = heads::word_or(slots::whole_at(slots, 0), 32);
             let spec = MorphSpec {
                 from,
                 to,
@@ -169,7 +147,7 @@ fn color_end(
             let slots = g.slots;
             let others = g.others;
             let easing = others.easing;
-            let space = case_or(slots::case_at(slots, 1), 0);
+            let space = heads::case_or(slots::case_at(slots, 1), 0);
             let spec = ColorSpec {
                 target,
                 from,

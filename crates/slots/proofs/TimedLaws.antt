@@ -20,6 +20,7 @@ use Rattle.slots.specs.Means.{TimedMeans, sortRank, Held, Said, ListMean
 use Rattle.slots.specs.declared.Gathered.{Gathered}
 use Rattle.slots.specs.declared.Ended.{Ended}
 use Rattle.slots.specs.declared.Ended.the-variants as ended
+use Rattle.heads.proofs.NameLaws.{refused≢got}
 use Rattle.slots.proofs.KeptLaws.{float-held, float-plain}
 use Rattle.slots.specs.declared.Timed.the-variants as timed
 
@@ -61,9 +62,6 @@ module _ (s : List ℕ) (lo : ℕ) (sorts : List ℕ) (c : Cursor) (t : Table) (
       let d = said (m .0) h in
       let z : numberOf "duration" (h .0) ≡ none = sym (float-held "duration" (h .0) (keptAt (g .slots) i) d) ∙ ap optFloatOf (m .2) in
       rw (h .1 .is, z, h .1 .ready .head .place, m .3, m .4)
-
-refused≢got : {A B : Type 0} {r : Refusal} {q : ℕ} {a : A} {l : Notes} {ts : List Token} → Prim.Path (Out A) (refused r q) (got a l ts) → B
-refused≢got e = absurd (let z : _≡_ {A = ℕ} 0 1 = cc in omega arith)
 
 -- the same refusal of another rule
 refused-too : {A B : Type 0} (r a : Refusal) (p q : ℕ) → Prim.Path (Out A) (refused r p) (refused a q) → Prim.Path (Out B) (refused r p) (refused a q)
