@@ -1,2 +1,3 @@
+pub mod StepLaws
 pub mod SheetLaws
 pub mod Unpack
