@@ -1,3 +1,4 @@
 pub mod StepLaws
+pub mod RuleLaws
 pub mod SheetLaws
 pub mod Unpack

@@ -135,6 +135,14 @@ then {n = n} {p = p} {f = f} x k = record { run = λ l ts h. goes-on n f k (p l 
 pub and : {A B : Type 0} {n : ℕ} {p : Rule A} {f : Rule B} → Stays n p → Stays n f → Stays n (p >> f)
 and {n = n} {p = p} {f = f} x k = record { run = λ l ts h. goes-on n (λ a. f) (λ a. k) (p l ts) (x .run l ts h) }
 
+-- two rules as one, and a third behind them
+regroup : {A B C : Type 0} (n : ℕ) (f : A → Rule B) (g : B → Rule C) (o : Out A) → OutNear n (after o (λ a. f a >>= g)) → OutNear n (after (after o f) g)
+regroup n f g (got a l ts) h = h
+regroup n f g (refused r p) h = h
+
+pub grouped : {A B C : Type 0} {n : ℕ} (p : Rule A) (f : A → Rule B) (g : B → Rule C) → Stays n (p >>= λ a. f a >>= g) → Stays n (p >>= f >>= g)
+grouped {n = n} p f g x = record { run = λ l ts h. regroup n f g (p l ts) (x .run l ts h) }
+
 pub conds : {A : Type 0} {n : ℕ} (b : Bool) {p q : Rule A} → Stays n p → Stays n q → Stays n (cond b p q)
 conds true x y = x
 conds false x y = y
