@@ -1,21 +1,20 @@
 -- Each rule of the grammar refuses at the place of a token. Assumes nothing.
 use Prim.Native.Nat.{ℕ, zero, suc}
 use Prim.Native.String.{String}
-use mathlib.Core.Bool.{Bool, true, false, _&&_, cond}
+use mathlib.Core.Bool.{Bool, true, false, _&&_}
 use mathlib.Core.List.{List, [], _∷_}
 use mathlib.Core.Option.{Option, none, some}
 use Rattle.text.specs.Bytes.{bytes, same}
 use Rattle.text.specs.Words.{words, under}
-use Rattle.codec.proofs.Laws.{All}
 use Rattle.number.specs.Number.{whole}
 use Rattle.number.specs.Time.{Key}
-use Rattle.token.specs.Token.{Token, kind}
+use Rattle.token.specs.Token.{kind}
 use Rattle.ast.specs.Tree.{Nodes, Leaf, Container}
 use Rattle.error.specs.declared.Refusal.the-variants.{Missing, UnknownKeyword, Malformed, UnknownSpringPreset, MissingDuration, StaggerGridIncomplete, TooManyNested}
-use Rattle.grammar.specs.Rule.{Rule, give, need, refuse, _>>=_, _>>_, if, sees, seesTwo, seesWord, seesName, seesNumber, seesWhole, ends, skip, the, eat, signed, Next, more, done, goOn}
+use Rattle.grammar.specs.Rule.{Rule, give, need, refuse, _>>=_, _>>_, sees, seesTwo, seesWord, seesName, seesNumber, seesWhole, ends, the, eat, more, done, goOn}
 use Rattle.grammar.specs.Fields.{Content, Fields, Table, Item, halts, closes, passes, starts, rowOf, fieldHead, fieldValue, entry, pairName, onePair, pairs, itemOf, fieldName, oneField, byItem, fieldsStep, parseFieldList, numberOf}
 use Rattle.grammar.specs.Values.{ident, string, truth, parseFloat, parseUint, parseFloatInParens, commaFloat, twoFloats, parseTwoFloatsInParens, parseUintInParens, arrayItem, arrayItems, parseValue, number, count, flag, value, commaFloats, fourFloats, bezierCurve, roughFields, roughCurve, slowMoFields, slowMoCurve, stepsCurve, wiggleCurve, curves, variantEasing, namedEasing, curveOr, parseEasing, timesMode, pingPongMode, loopModes, parseLoopMode, easing, loopMode}
-use Rattle.grammar.specs.Grammar.{tweenFields, parseTween, parseSpringPreset, springPreset, integrator, critical, over, springFields, parseSpring, parseKeyframeTime, keyframeEntry, Track, trackLoop, trackFrame, trackStep, parseKeyframes, parseSequence, parseParallel, parseGroup, parseGridOrigin, origin, gridFields, gridPattern, randomFields, randomPattern, patterns, parseStaggerPattern, Opening, openingFields, openingField, openingStep, parseStagger, offset, pathFields, parsePath, morphFields, parseMorph, drawFields, parseDraw, space, colorFields, parseColor, waveformKind, waveformFields, parseWaveform, parsePresetCall, parseLabel, atSign, parseAt, leaves, containers, Begins, aLeaf, aContainer, unknown, orContainer, beginning, nodeBy, parseNode, oneNode, nodesStep, block, animatoInput}
+use Rattle.grammar.specs.Grammar.{tweenFields, parseTween, parseSpringPreset, springPreset, integrator, critical, over, springFields, parseSpring, parseKeyframeTime, keyframeEntry, Track, trackLoop, trackFrame, trackStep, parseKeyframes, parseSequence, parseParallel, parseGroup, parseGridOrigin, origin, gridFields, gridPattern, randomFields, randomPattern, patterns, parseStaggerPattern, Opening, openingFields, openingField, openingStep, parseStagger, offset, pathFields, parsePath, morphFields, parseMorph, drawFields, parseDraw, space, colorFields, parseColor, waveformKind, waveformFields, parseWaveform, parsePresetCall, parseLabel, atSign, parseAt, leaves, containers, orContainer, beginning, nodeBy, parseNode, oneNode, nodesStep, block, animatoInput}
 use Rattle.grammar.specs.Grammar.{under as underdamping}
 use Rattle.limits.proofs.ListLaws.{_also_}
 use Rattle.unpack.proofs.StepLaws.{Stays, Found, Rows, gives, refuses, then, and, grouped, conds, tests, needs, skips, the-mark, two-marks, eats, a-word, a-text, a-choice, a-number, in-group, repeats, lists, under-found, by-word, by-word-or}

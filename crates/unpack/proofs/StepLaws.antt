@@ -8,61 +8,10 @@ use native.Mathlib.Omega.{arith}
 use Rattle.text.specs.Bytes.{bytes, same}
 use Rattle.text.specs.Words.{under, default, find}
 use Rattle.codec.proofs.Laws.{All}
-use Rattle.token.specs.Token.{Kind, Token, token, place, kind, isMark, rest}
+use Rattle.token.specs.Token.{Token, token, place, kind, isMark, rest}
 use Rattle.token.specs.Names.{nameOf, quoteOf}
-use Rattle.number.specs.Number.{Written}
 use Rattle.error.specs.declared.Refusal.{Refusal}
-use Rattle.grammar.specs.Rule.{
-  Notes,
-  Out,
-  got,
-  refused,
-  Rule,
-  after,
-  give,
-  need,
-  refuse,
-  if,
-  _>>=_,
-  _>>_,
-  ends,
-  skip,
-  seesByte,
-  seesPair,
-  theByte,
-  bothBytes,
-  eatByte,
-  found,
-  word,
-  text,
-  choiceIn,
-  Signed,
-  absent,
-  plus,
-  minus,
-  taken,
-  signed,
-  Pass,
-  halts,
-  closes,
-  goes,
-  weigh,
-  depth,
-  passed,
-  behind,
-  firstOf,
-  noted,
-  leave,
-  insideByte,
-  Next,
-  more,
-  done,
-  steps,
-  repeat,
-  goOn,
-  listStep,
-  list,
-}
+use Rattle.grammar.specs.Rule.{Notes, Out, got, refused, Rule, after, give, need, refuse, if, _>>=_, _>>_, ends, skip, seesByte, seesPair, theByte, bothBytes, eatByte, found, word, text, choiceIn, Signed, absent, plus, minus, taken, signed, Pass, halts, closes, goes, weigh, depth, passed, behind, firstOf, noted, leave, insideByte, Next, more, done, steps, repeat, listStep, list}
 use Rattle.grammar.specs.Rule.{next as following}
 
 -- ---- tokens at places up to n
