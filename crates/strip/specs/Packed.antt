@@ -2,7 +2,8 @@
 -- "Each answers one u64: the refusal's number, 0 for accepted, times 2^56, plus a value below 2^32 that is the place of a refusal (the
 -- ordinal in lining), 0 for checking's accept, or lining's line length; reading's accept has its sheet length plus its count of node
 -- records times 2^24 (bits 40 to 55 stay 0, kept for a later count)." (the request for the library)
--- A place or a length of 2^32 or more counts by its remainder, as do a sheet's length of 2^24 or more and 2^16 or more records.
+-- A place or a line's length of 2^32 or more counts by its remainder, as do a sheet's length of 2^24 or more and 2^16 or more records.
+-- No operation answers with such: the laws of the crate `unpack`.
 use Prim.Native.Nat.{ℕ, _+_, _*_, _/_, _%_, _^_}
 use mathlib.Core.List.{List}
 use Rattle.error.specs.Refusal.{numberOf}

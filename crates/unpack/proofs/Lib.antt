@@ -1,2 +1,5 @@
+pub mod StepLaws
+pub mod RuleLaws
 pub mod SheetLaws
+pub mod Within
 pub mod Unpack

@@ -4,7 +4,7 @@ use Prim.Native.String.{String}
 use mathlib.Core.Bool.{Bool, true, false, cond}
 use mathlib.Core.List.{List, [], _∷_, _++_}
 use mathlib.Core.Option.{Option, none, some}
-use mathlib.Core.Path.{_≡_, refl, sym, ap, _∙_}
+use mathlib.Core.Path.{_≡_, refl, ap, _∙_}
 use native.Mathlib.Omega.{arith}
 use lib.Dec.{ltb}
 use lib.ListN.{length, getElem?, length-append}
@@ -18,7 +18,7 @@ use Rattle.sheet.specs.Sheet.{Forest, encode, decode}
 use Rattle.sheet.specs.Records.{recordOf, recordsOf, allRecords}
 use Rattle.sheet.specs.Opening.{Opened, opened, shut, foreignFrom, unlessForeign, opening}
 use Rattle.sheet.specs.Opening as begins
-use Rattle.sheet.proofs.Laws.{Fits, Decoded, decoded}
+use Rattle.sheet.proofs.Laws.{Fits, decoded}
 use Rattle.sheet.proofs.Flat.{concat, concat-append, sheet-flat}
 use Rattle.validate.specs.Rules.{validateLeaf, validateContainer, atOrdinal, validateNodes}
 use Rattle.error.specs.declared.Refusal.{Refusal}
@@ -125,7 +125,7 @@ unfolding foreignFrom
 foreign-before i [] = tt
 foreign-before i (b ∷ t) = foreign-step (isForeign b) i (length t) (foreignFrom (suc i) t) (foreign-before (suc i) t)
 
--- a tree, whose sheet has n bytes of text: its count of records and each record's length
+-- a tree for a text of n bytes: its count of records, and each record's length
 pub record Slight (n : ℕ) (ns : Forest) : Type 0 where
   pub few : records ns ≤ 65535
   pub short : (i : ℕ) (r : List ℕ) → getElem? (allRecords n ns) i ≡ some r → length r ≤ 65535

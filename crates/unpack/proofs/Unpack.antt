@@ -1,1 +1,60 @@
--- The parts of a packed answer are those of the operation's answer. Assumes nothing.
+-- The parts of a packed answer are those of the operation's answer, for every text, sheet and output. Assumes nothing.
+use Prim.Native.Nat.{ℕ, _^_, _<_}
+use mathlib.Core.List.{List}
+use mathlib.Core.Logic.{inl, inr}
+use mathlib.Core.Path.{_≡_, refl}
+use native.Mathlib.Omega.{arith}
+use Rattle.parser.specs.Reading.{reading}
+use Rattle.validate.specs.Checking.{checking}
+use Rattle.line.specs.Lining.{lining}
+use Rattle.error.specs.Refusal.{numberOf}
+use Rattle.error.specs.declared.ReadAnswer.{ReadAnswer}
+use Rattle.error.specs.declared.ReadAnswer.the-variants as read
+use Rattle.error.specs.declared.CheckAnswer.{CheckAnswer}
+use Rattle.error.specs.declared.CheckAnswer.the-variants as check
+use Rattle.error.specs.declared.LineAnswer.{LineAnswer}
+use Rattle.error.specs.declared.LineAnswer.the-variants as line
+use Rattle.strip.specs.Packed.{packedRead, packedCheck, packedLine, numberIn, valueIn, lengthIn, recordsIn}
+use Rattle.strip.proofs.PackedLaws.{refusal-number, refusal-place, sheet-number, sheet-length, sheet-records, line-number, line-length}
+use Rattle.unpack.proofs.Within.{ReadWithin, read-within, CheckWithin, check-within, LineWithin, line-within}
+
+-- ---- reading
+
+-- w has the parts of an answer
+abbrev pub ReadParts : ReadAnswer → ℕ → Type 0
+ReadParts (read.Accepted n k) w = (numberIn w ≡ 0) × (lengthIn w ≡ n) × (recordsIn w ≡ k)
+ReadParts (read.Refused r p) w = (numberIn w ≡ numberOf r) × (valueIn w ≡ p)
+
+read-back : (a : ReadAnswer) → ReadWithin a → ReadParts a (packedRead a)
+read-back (read.Accepted n k) h = (sheet-number n k, sheet-length n k (omega (arith, h .0)), sheet-records n k (omega (arith, h .1)))
+read-back (read.Refused r p) h = (refusal-number r p, refusal-place r p (omega arith))
+
+pub read-parts : (t scratch sheet : List ℕ) → ReadParts (reading t scratch sheet .0) (packedRead (reading t scratch sheet .0))
+read-parts t scratch sheet = read-back (reading t scratch sheet .0) (read-within t scratch sheet)
+
+-- ---- checking
+
+abbrev pub CheckParts : CheckAnswer → ℕ → Type 0
+CheckParts check.Accepted w = w ≡ 0
+CheckParts (check.Refused r p) w = (numberIn w ≡ numberOf r) × (valueIn w ≡ p)
+
+check-back : (a : CheckAnswer) → CheckWithin a → CheckParts a (packedCheck a)
+check-back check.Accepted h = refl
+check-back (check.Refused r p) h = (refusal-number r p, refusal-place r p (omega arith))
+
+pub check-parts : (t sheet : List ℕ) → CheckParts (checking t sheet) (packedCheck (checking t sheet))
+check-parts t sheet = check-back (checking t sheet) (check-within t sheet)
+
+-- ---- lining, whose ordinal is a u32
+
+abbrev pub LineParts : LineAnswer → ℕ → Type 0
+LineParts (line.Accepted n) w = (numberIn w ≡ 0) × (valueIn w ≡ n)
+LineParts (line.Refused r p) w = (numberIn w ≡ numberOf r) × (valueIn w ≡ p)
+
+line-back : (i : ℕ) → i < 2 ^ 32 → (a : LineAnswer) → LineWithin i a → LineParts a (packedLine a)
+line-back i g (line.Accepted n) h = (line-number n, line-length n (omega arith))
+line-back i g (line.Refused r p) (inl h) = (refusal-number r p, refusal-place r p (omega arith))
+line-back i g (line.Refused r p) (inr h) = (refusal-number r p, refusal-place r p (omega arith))
+
+pub line-parts : (t sheet : List ℕ) (i : ℕ) (out : List ℕ) → i < 2 ^ 32 → LineParts (lining t sheet i out .0) (packedLine (lining t sheet i out .0))
+line-parts t sheet i out g = line-back i g (lining t sheet i out .0) (line-within t sheet i out)

@@ -1,0 +1,206 @@
+-- Rules refuse at the place of a token: the steps of the grammar. Assumes nothing.
+use Prim.Native.Nat.{ℕ, zero, suc, _≤_}
+use Prim.Native.String.{String}
+use mathlib.Core.Bool.{Bool, true, false, cond}
+use mathlib.Core.List.{List, [], _∷_}
+use mathlib.Core.Option.{Option, none, some}
+use native.Mathlib.Omega.{arith}
+use Rattle.text.specs.Bytes.{bytes, same}
+use Rattle.text.specs.Words.{under, default, find}
+use Rattle.codec.proofs.Laws.{All}
+use Rattle.token.specs.Token.{Token, token, place, kind, isMark, rest}
+use Rattle.token.specs.Names.{nameOf, quoteOf}
+use Rattle.error.specs.declared.Refusal.{Refusal}
+use Rattle.grammar.specs.Rule.{Notes, Out, got, refused, Rule, after, give, need, refuse, if, _>>=_, _>>_, ends, skip, seesByte, seesPair, theByte, bothBytes, eatByte, found, word, text, choiceIn, Signed, absent, plus, minus, taken, signed, Pass, halts, closes, goes, weigh, depth, passed, behind, firstOf, noted, leave, insideByte, Next, more, done, steps, repeat, listStep, list}
+use Rattle.grammar.specs.Rule.{next as following}
+
+-- ---- tokens at places up to n
+
+unfoldable pub Near : ℕ → List Token → Type 0
+Near n [] = Unit {0}
+Near n (token p k ∷ ts) = (p ≤ n) × Near n ts
+
+place-near : (n : ℕ) (ts : List Token) → Near n ts → place ts ≤ n
+unfolding Near
+place-near n [] h = omega arith
+place-near n (token p k ∷ ts) h = h .0
+
+rest-near : (n : ℕ) (ts : List Token) → Near n ts → Near n (rest ts)
+unfolding Near
+rest-near n [] h = tt
+rest-near n (token p k ∷ ts) h = go (isMark k 0)
+  where
+    go : (b : Bool) → Near n (cond b (token p k ∷ ts) ts)
+    go true = h
+    go false = h .1
+
+passed-near : (n : ℕ) (x : Pass) (ts us vs : List Token) → Near n ts → Near n us → Near n vs → Near n (passed x ts us vs)
+passed-near n halts ts us vs f g h = f
+passed-near n closes ts us vs f g h = g
+passed-near n (goes d) ts us vs f g h = h
+
+behind-near : (n d : ℕ) (ts : List Token) → Near n ts → Near n (behind d ts)
+unfolding Near behind
+behind-near n d [] h = tt
+behind-near n d (token p k ∷ ts) h =
+    passed-near n (weigh k d) (token p k ∷ ts) ts (behind (depth (weigh k d)) ts) h (h .1) (behind-near n (depth (weigh k d)) ts (h .1))
+
+-- ---- the state of a rule, and what it comes to
+
+abbrev pub LeftNear : ℕ → Option ℕ → Type 0
+LeftNear n none = Unit {0}
+LeftNear n (some p) = p ≤ n
+
+pub record State (n : ℕ) (l : Notes) (ts : List Token) : Type 0 where
+  pub left : LeftNear n (l .leftover)
+  pub near : Near n ts
+
+abbrev pub OutNear : {A : Type 0} → ℕ → Out A → Type 0
+OutNear n (got a l ts) = State n l ts
+OutNear n (refused r p) = p ≤ n
+
+-- whatever the tokens, a rule refuses at a place up to n, and leaves such tokens
+pub record Stays {A : Type 0} (n : ℕ) (p : Rule A) : Type 0 where
+  pub run : (l : Notes) (ts : List Token) → State n l ts → OutNear n (p l ts)
+
+moved : (n : ℕ) (l : Notes) (ts : List Token) → State n l ts → State n l (rest ts)
+moved n l ts h = record { left = h .left; near = rest-near n ts (h .near) }
+
+-- ---- one after the other
+
+pub gives : {A : Type 0} {n : ℕ} {a : A} → Stays n (give a)
+gives = record { run = λ l ts h. h }
+
+pub refuses : {A : Type 0} {n : ℕ} {r : Refusal} → Stays {A = A} n (refuse r)
+refuses {n = n} = record { run = λ l ts h. place-near n ts (h .near) }
+
+goes-on : {A B : Type 0} (n : ℕ) (f : A → Rule B) → ((a : A) → Stays n (f a)) → (o : Out A) → OutNear n o → OutNear n (after o f)
+goes-on n f k (got a l ts) h = k a .run l ts h
+goes-on n f k (refused r p) h = h
+
+pub then : {A B : Type 0} {n : ℕ} {p : Rule A} {f : A → Rule B} → Stays n p → ((a : A) → Stays n (f a)) → Stays n (p >>= f)
+then {n = n} {p = p} {f = f} x k = record { run = λ l ts h. goes-on n f k (p l ts) (x .run l ts h) }
+
+pub and : {A B : Type 0} {n : ℕ} {p : Rule A} {f : Rule B} → Stays n p → Stays n f → Stays n (p >> f)
+and {n = n} {p = p} {f = f} x k = record { run = λ l ts h. goes-on n (λ a. f) (λ a. k) (p l ts) (x .run l ts h) }
+
+-- two rules as one, and a third behind them
+regroup : {A B C : Type 0} (n : ℕ) (f : A → Rule B) (g : B → Rule C) (o : Out A) → OutNear n (after o (λ a. f a >>= g)) → OutNear n (after (after o f) g)
+regroup n f g (got a l ts) h = h
+regroup n f g (refused r p) h = h
+
+pub grouped : {A B C : Type 0} {n : ℕ} (p : Rule A) (f : A → Rule B) (g : B → Rule C) → Stays n (p >>= λ a. f a >>= g) → Stays n (p >>= f >>= g)
+grouped {n = n} p f g x = record { run = λ l ts h. regroup n f g (p l ts) (x .run l ts h) }
+
+pub conds : {A : Type 0} {n : ℕ} (b : Bool) {p q : Rule A} → Stays n p → Stays n q → Stays n (cond b p q)
+conds true x y = x
+conds false x y = y
+
+pub tests : {A : Type 0} {n : ℕ} (test : List Token → Bool) {p q : Rule A} → Stays n p → Stays n q → Stays n (if test p q)
+tests test x y = record { run = λ l ts h. conds (test ts) x y .run l ts h }
+
+pub needs : {A : Type 0} {n : ℕ} (r : Refusal) (o : Option A) → Stays n (need r o)
+needs r none = refuses
+needs r (some a) = gives
+
+-- ---- tokens
+
+pub skips : {n : ℕ} → Stays n skip
+skips {n = n} = record { run = λ l ts h. moved n l ts h }
+
+pub the-mark : {n : ℕ} (b : ℕ) → Stays n (theByte b)
+the-mark b = tests (seesByte b) skips refuses
+
+pub two-marks : {n : ℕ} (b d : ℕ) → Stays n (bothBytes b d)
+two-marks b d = tests (seesPair b d) (and {f = skip} skips skips) refuses
+
+pub eats : {n : ℕ} (b : ℕ) → Stays n (eatByte b)
+eats b = tests (seesByte b) (and {f = give true} skips gives) gives
+
+finds : {A B : Type 0} (n : ℕ) (o : Option A) (f : A → B) (l : Notes) (ts : List Token) → State n l ts → OutNear n (found o f l ts)
+finds n none f l ts h = place-near n ts (h .near)
+finds n (some a) f l ts h = moved n l ts h
+
+pub a-word : {n : ℕ} → Stays n word
+a-word {n = n} = record { run = λ l ts h. finds n (nameOf (kind ts)) (λ w. (place ts, w)) l ts h }
+
+pub a-text : {n : ℕ} → Stays n text
+a-text {n = n} = record { run = λ l ts h. finds n (quoteOf (kind ts)) (λ m. (suc (place ts), m)) l ts h }
+
+pub a-choice : {n : ℕ} (r : Refusal) (ns : List (List ℕ)) → Stays n (choiceIn r ns)
+a-choice r ns = then a-word (λ w. needs r (find ns 0 (w .1)))
+
+takes : (n : ℕ) (r : Refusal) (x : Signed) (l : Notes) (ts : List Token) → State n l ts → OutNear n (taken r x l ts)
+takes n r absent l ts h = place-near n ts (h .near)
+takes n r (plus w) l ts h = moved n l ts h
+takes n r (minus w) l ts h = moved n l (rest ts) (moved n l ts h)
+
+pub a-number : {n : ℕ} (view : List Token → Signed) (r : Refusal) → Stays n (signed view r)
+a-number {n = n} view r = record { run = λ l ts h. takes n r (view ts) l ts h }
+
+-- ---- groups
+
+first-near : (n : ℕ) (o : Option ℕ) (p : ℕ) → LeftNear n o → p ≤ n → LeftNear n (firstOf o p)
+first-near n none p h g = g
+first-near n (some q) p h g = h
+
+pub leaves : {n : ℕ} → Stays n leave
+leaves {n = n} = record { run = λ l ts h. go l ts h (ends ts) }
+  where
+    go : (l : Notes) (ts : List Token) → State n l ts → (b : Bool) → OutNear n (cond {A = Out Unit} b (got tt l (rest ts)) (got tt (noted l (place ts)) (behind 0 ts)))
+    go l ts h true = moved n l ts h
+    go l ts h false = record { left = first-near n (l .leftover) (place ts) (h .left) (place-near n ts (h .near)); near = behind-near n 0 ts (h .near) }
+
+pub in-group : {A : Type 0} {n : ℕ} {p : Rule A} (b : ℕ) → Stays n p → Stays n (insideByte b p)
+in-group {p = p} b x = and {f = p >>= λ a. leave >> give a} (the-mark b) (then x (λ a. and {f = give a} leaves gives))
+
+-- ---- repetition
+
+on : {A : Type 0} (n : ℕ) (again : A → Rule A) → ((b : A) → Stays n (again b)) → (x : Next A) → Stays n (following again x)
+on n again k (more b) = k b
+on n again k (done b) = gives
+
+steps-stay : {A : Type 0} (n : ℕ) (step : A → Rule (Next A)) → ((a : A) → Stays n (step a)) → (k : ℕ) (a : A) → Stays n (steps step k a)
+unfolding steps
+steps-stay n step h zero a = record { run = λ l ts g. g }
+steps-stay n step h (suc k) a =
+    record { run = λ l ts g. goes-on n (following (λ b. steps step k b)) (on n (λ b. steps step k b) (λ b. steps-stay n step h k b)) (step a l ts) (h a .run l ts g) }
+
+pub repeats : {A : Type 0} {n : ℕ} (step : A → Rule (Next A)) → ((a : A) → Stays n (step a)) → (a : A) → Stays n (repeat step a)
+repeats {n = n} step h a = record { run = λ l ts g. steps-stay n step h (l .bound) a .run l ts g }
+
+pub lists : {A : Type 0} {n : ℕ} (item : A → Rule A) → ((a : A) → Stays n (item a)) → (a : A) → Stays n (list item a)
+lists item h a = repeats (listStep item) (λ a. tests ends gives (then (h a) (λ b. then (eats 44) (λ c. gives)))) a
+
+-- ---- a rule by its word
+
+abbrev pub Found : {A : Type 0} → ℕ → Option (Rule A) → Type 0
+Found n none = Unit {0}
+Found n (some p) = Stays n p
+
+abbrev pub Rows : {A : Type 0} → ℕ → List (String × Rule A) → Type 0
+Rows n t = All (λ f. Stays n (f .1)) t
+
+picks : {A : Type 0} (n : ℕ) (b : Bool) (p : Rule A) (o : Option (Rule A)) → Stays n p → Found n o → Found {A = A} n (elim b [ true ↦ some p | false ↦ o ])
+picks n true p o x y = x
+picks n false p o x y = y
+
+pub under-found : {A : Type 0} (n : ℕ) (t : List (String × Rule A)) (w : List ℕ) → Rows n t → Found n (under t w)
+unfolding under
+under-found n [] w h = tt
+under-found n (f ∷ t) w h = picks n (same w (bytes (f .0))) (f .1) (under t w) (h .0) (under-found n t w (h .1))
+
+needs-rule : {A B : Type 0} (n : ℕ) (r : Refusal) (o : Option (Rule A)) (f : Rule A → Rule B) → Found n o → ((p : Rule A) → Stays n p → Stays n (f p)) → Stays n (need r o >>= f)
+needs-rule n r none f x k = record { run = λ l ts h. place-near n ts (h .near) }
+needs-rule n r (some p) f x k = record { run = λ l ts h. k p x .run l ts h }
+
+-- f goes on with the rule that is found
+pub by-word : {A B : Type 0} {n : ℕ} (r : Refusal) (t : List (String × Rule A)) (w : List ℕ) (f : Rule A → Rule B) → Rows n t → ((p : Rule A) → Stays n p → Stays n (f p)) → Stays n (need r (under t w) >>= f)
+by-word {n = n} r t w f rows k = needs-rule n r (under t w) f (under-found n t w rows) k
+
+or-rule : {A : Type 0} (n : ℕ) (o : Option (Rule A)) (p : Rule A) → Found n o → Stays n p → Stays n (default o p)
+or-rule n none p x y = y
+or-rule n (some q) p x y = x
+
+pub by-word-or : {A : Type 0} {n : ℕ} (t : List (String × Rule A)) (w : List ℕ) (p : Rule A) → Rows n t → Stays n p → Stays n (default (under t w) p)
+by-word-or {n = n} t w p rows x = or-rule n (under t w) p (under-found n t w rows) x

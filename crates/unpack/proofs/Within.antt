@@ -1,0 +1,169 @@
+-- The places, lengths and counts that the three operations answer with are small. Assumes nothing.
+use Prim.Native.Nat.{ℕ, zero, suc, _+_, _≤_}
+use mathlib.Core.Bool.{Bool, true, false, cond}
+use mathlib.Core.List.{List, [], _∷_, _++_}
+use mathlib.Core.Logic.{_⊎_, inl, inr}
+use mathlib.Core.Option.{Option, none, some}
+use mathlib.Core.Path.{_≡_, refl}
+use native.Mathlib.Omega.{arith}
+use lib.Dec.{ltb}
+use lib.ListN.{length, drop, getElem?}
+use borrow.Author.Tests.{ltb-false}
+use Rattle.number.specs.Time.{Key}
+use Rattle.token.specs.Token.{Kind, token}
+use Rattle.token.specs.Split.{Split, unlexed, tokens, Step, halt, blank, takes, before, ended, stepped, awaited, step, splitFrom, split}
+use Rattle.token.specs.Split as splitting
+use Rattle.ast.specs.Tree.{Nodes, mapTimes, records}
+use Rattle.sheet.specs.Sheet.{encode}
+use Rattle.sheet.specs.Records.{allRecords}
+use Rattle.sheet.specs.Opening.{Opened, opened, shut, opening}
+use Rattle.grammar.specs.Rule.{Notes, Out, got, refused}
+use Rattle.grammar.specs.Grammar.{stored, animatoInput}
+use Rattle.parser.specs.Reading.{Parsed, tree, wrong, unlessLeft, finished, parsed, parse, written, early, unlessEarly, reading}
+use Rattle.limits.proofs.Limits.{parses-fits, parses-small}
+use Rattle.presets.specs.Colors.{colors}
+use Rattle.validate.specs.Rules.{validateNodes}
+use Rattle.validate.specs.Checking.{answerOf, judged, verdict, checking}
+use Rattle.line.specs.Line.{line}
+use Rattle.line.specs.Lining.{ofRecord, ofOpened, lining}
+use Rattle.line.proofs.LineLaws.{length-line}
+use Rattle.error.specs.declared.Refusal.{Refusal}
+use Rattle.error.specs.declared.Refusal.the-variants.{TextTooLong, ScratchTooShort, SheetTooShort, OutputTooShort}
+use Rattle.error.specs.declared.ReadAnswer.{ReadAnswer}
+use Rattle.error.specs.declared.ReadAnswer.the-variants as read
+use Rattle.error.specs.declared.CheckAnswer.{CheckAnswer}
+use Rattle.error.specs.declared.CheckAnswer.the-variants as check
+use Rattle.error.specs.declared.LineAnswer.{LineAnswer}
+use Rattle.error.specs.declared.LineAnswer.the-variants as lines
+use Rattle.unpack.proofs.StepLaws.{Near, LeftNear, OutNear}
+use Rattle.unpack.proofs.RuleLaws.{input-stays}
+use Rattle.unpack.proofs.SheetLaws.{sheet-some, records-same, Below, nodes-below, Within, opening-within}
+
+-- ---- reading: a text's tokens, and its refusals 2 to 5
+
+abbrev SplitNear : ℕ → Split → Type 0
+SplitNear n (unlexed r p) = p ≤ n
+SplitNear n (tokens ts) = Near n ts
+
+ended-near : (n p : ℕ) (cs : List ℕ) → p ≤ n → SplitNear n (ended p cs)
+unfolding Near
+ended-near n p [] h = (h, tt)
+ended-near n p (c ∷ cs) h = h
+
+before-near : (n p : ℕ) (k : Kind) (x : Split) → p ≤ n → SplitNear n x → SplitNear n (before (token p k) x)
+unfolding Near
+before-near n p k (unlexed r q) h g = g
+before-near n p k (tokens ts) h g = (h, g)
+
+stepped-near : (n p : ℕ) (s : Step) (x : Split) → p ≤ n → SplitNear n x → SplitNear n (stepped s p x)
+stepped-near n p (halt r) x h g = h
+stepped-near n p blank x h g = g
+stepped-near n p (takes k m cs) x h g = before-near n p k x h g
+
+split-near : (n k p : ℕ) (cs t : List ℕ) → p + length t ≤ n → SplitNear n (splitFrom k p cs t)
+unfolding splitFrom
+split-near n k p cs [] h = ended-near n p cs (omega arith)
+split-near n (suc k) p cs (b ∷ t) h = split-near n k (suc p) cs t (omega arith)
+split-near n zero p cs (b ∷ t) h =
+    let s = step cs (b ∷ t) in
+    stepped-near n p s (splitFrom (splitting.more s) (suc p) (awaited cs s) t) (omega arith) (split-near n (splitting.more s) (suc p) (awaited cs s) t (omega arith))
+
+-- ---- and the grammar's
+
+abbrev ParsedNear : ℕ → Parsed → Type 0
+ParsedNear n (tree ns) = Unit {0}
+ParsedNear n (wrong r p) = p ≤ n
+
+left-near : (n : ℕ) (ns : Nodes Key) (o : Option ℕ) → LeftNear n o → ParsedNear n (unlessLeft ns o)
+left-near n ns none h = tt
+left-near n ns (some p) h = h
+
+finished-near : (n : ℕ) (o : Out (Nodes Key)) → OutNear n o → ParsedNear n (finished o)
+finished-near n (got ns l ts) h = left-near n ns (l .leftover) (h .left)
+finished-near n (refused r p) h = h
+
+parsed-near : (n : ℕ) (x : Split) → SplitNear n x → ParsedNear n (parsed n x)
+parsed-near n (unlexed r p) h = h
+parsed-near n (tokens ts) h =
+    let l : Notes = record { leftover = none; bound = suc n } in
+    finished-near n (animatoInput l ts) (input-stays n .run l ts (record { left = tt; near = h }))
+
+pub parse-near : (t : List ℕ) → ParsedNear (length t) (parse t)
+unfolding parse split
+parse-near t = parsed-near (length t) (split t) (split-near (length t) 0 0 [] t (omega arith))
+
+-- ---- reading: "a refusal's place is at most the text's length", a sheet has at most 49,152 bytes, and no more records
+
+abbrev pub ReadWithin : ReadAnswer → Type 0
+ReadWithin (read.Accepted n k) = (n ≤ 49152) × (k ≤ 49152)
+ReadWithin (read.Refused r p) = p ≤ 16384
+
+short-text : (size words : ℕ) → early size words ≡ none → size ≤ 16384
+unfolding early
+short-text size words e = go (ltb 16384 size) refl e
+  where
+    go : (b : Bool) → ltb 16384 size ≡ b → cond b (some TextTooLong) (cond (ltb words 16384) (some ScratchTooShort) none) ≡ none → size ≤ 16384
+    go true f e = absurd (let z : _≡_ {A = ℕ} 0 1 = cc in omega arith)
+    go false f e = omega (arith, ltb-false 16384 size f)
+
+fitting-within : (b : Bool) (bs : List ℕ) (k : ℕ) → length bs ≤ 49152 → k ≤ length bs
+    → ReadWithin (cond {A = ReadAnswer × List ℕ} b (read.Refused SheetTooShort 0, []) (read.Accepted (length bs) k, bs) .0)
+fitting-within true bs k h g = omega arith
+fitting-within false bs k h g = (h, omega arith)
+
+written-within : (t : List ℕ) (room : ℕ) (x : Parsed) → parse t ≡ x → length t ≤ 16384 → ParsedNear (length t) x → ReadWithin (written (length t) room x .0)
+written-within t room (wrong r p) e l h = omega arith
+written-within t room (tree ns) e l h =
+    let bs = encode (length t) (mapTimes stored ns) in
+    fitting-within (ltb room (length bs)) bs (records ns) (parses-small t ns l e)
+    (omega (arith, sheet-some (length t) (mapTimes stored ns) (parses-fits t ns l e), records-same stored ns))
+
+pub read-within : (t scratch sheet : List ℕ) → ReadWithin (reading t scratch sheet .0)
+unfolding reading
+read-within t scratch sheet = go (early (length t) (length scratch)) refl
+  where
+    go : (o : Option Refusal) → early (length t) (length scratch) ≡ o → ReadWithin (unlessEarly t scratch sheet o .0)
+    go (some r) e = omega arith
+    go none e = written-within t (length sheet) (parse t) refl (short-text (length t) (length scratch) e) (parse-near t)
+
+-- ---- checking: an ordinal is at most 65,535
+
+abbrev pub CheckWithin : CheckAnswer → Type 0
+CheckWithin check.Accepted = Unit {0}
+CheckWithin (check.Refused r p) = p ≤ 65535
+
+answer-within : (o : Option (Refusal × ℕ)) (m : ℕ) → m ≤ 65536 → Below m o → CheckWithin (answerOf o)
+answer-within none m h b = tt
+answer-within (some f) m h b = omega arith
+
+verdict-within : (t : List ℕ) (o : Opened) → Within (length t) o → CheckWithin (verdict t o)
+unfolding judged
+verdict-within t (shut r p) h = omega arith
+verdict-within t (opened ns) h = answer-within (validateNodes colors t 1 ns) (1 + records ns) (omega (arith, h .few)) (nodes-below colors t 1 ns)
+
+pub check-within : (t sheet : List ℕ) → CheckWithin (checking t sheet)
+unfolding checking
+check-within t sheet = verdict-within t (opening t sheet) (opening-within t sheet)
+
+-- ---- lining: a line is at most 131,077 bytes; a refusal's place is the ordinal, or at most 16,384
+
+abbrev pub LineWithin : ℕ → LineAnswer → Type 0
+LineWithin i (lines.Accepted n) = n ≤ 131077
+LineWithin i (lines.Refused r p) = (p ≡ i) ⊎ (p ≤ 16384)
+
+placed-within : (i : ℕ) (out l : List ℕ) (b : Bool) → length l ≤ 131077
+    → LineWithin i (cond {A = LineAnswer × List ℕ} b (lines.Refused OutputTooShort i, out) (lines.Accepted (length l), l ++ drop (length l) out) .0)
+placed-within i out l true h = inl refl
+placed-within i out l false h = h
+
+record-within : (i : ℕ) (out : List ℕ) (o : Option (List ℕ)) → ((r : List ℕ) → o ≡ some r → length r ≤ 65535) → LineWithin i (ofRecord i out o .0)
+record-within i out none h = inl refl
+record-within i out (some r) h = placed-within i out (line r) (ltb (length out) (length (line r))) (omega (arith, h r refl, length-line r))
+
+opened-within : (n i : ℕ) (out : List ℕ) (o : Opened) → Within n o → LineWithin i (ofOpened n i out o .0)
+opened-within n i out (shut r p) h = inr h
+opened-within n i out (opened ns) h = record-within i out (getElem? (allRecords n ns) i) (λ r e. h .short i r e)
+
+pub line-within : (t sheet : List ℕ) (i : ℕ) (out : List ℕ) → LineWithin i (lining t sheet i out .0)
+unfolding lining
+line-within t sheet i out = opened-within (length t) i out (opening t sheet) (opening-within t sheet)
