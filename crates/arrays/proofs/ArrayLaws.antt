@@ -13,7 +13,8 @@ use Rattle.encode.proofs.OverLaws.{writes-none, writes-then, writes-counted}
 use Rattle.encode.proofs.FieldLaws.{each-more, length-word}
 use Rattle.error.specs.declared.Refusal.{Refusal}
 use Rattle.error.specs.declared.Refusal.the-variants.{Missing}
-use Rattle.grammar.specs.Rule.{leave, theByte, seesByte, skip, refuse, after, give, _>>_, Rule, Out, got, refused, listStep, eatByte, ends, repeat}
+use Rattle.grammar.specs.Rule.{leave, theByte, seesByte, skip, refuse, after, give, _>>_}
+use Rattle.grammar.specs.Rule.{Rule, Out, got, refused, listStep, eatByte, ends, repeat}
 use Rattle.grammar.specs.Values.{parseFloat, arrayItem, arrayItems, parseValue}
 use Rattle.cursor.specs.Means.{Ready, notes, tokens, run, Took}
 use Rattle.cursor.specs.declared.Cursor.{Cursor}
@@ -33,7 +34,13 @@ pub record Items (s b a : List ℕ) (c m : Cursor) (out at n : ℕ) : Type 0 whe
   pub paid : at ≤ out + 64 * (m .at - c .at)
 
 pub items-start : (s b : List ℕ) (c : Cursor) (out : ℕ) → Ready s c → Items s b b c c out out 0
-items-start s b c out r = record { xs = []; listed = listed-start (listStep arrayItem) s c [] r; count = refl; writes = writes-none b out; paid = omega arith }
+items-start s b c out r = record {
+  xs = [];
+  listed = listed-start (listStep arrayItem) s c [] r;
+  count = refl;
+  writes = writes-none b out;
+  paid = omega arith;
+}
 
 module _ (s b a : List ℕ) (c m : Cursor) (out at n : ℕ) (i : Items s b a c m out at n) where
   -- the group ends
@@ -42,18 +49,30 @@ module _ (s b a : List ℕ) (c m : Cursor) (out at n : ℕ) (i : Items s b a c m
   items-end e = (
     record {
       value = i .xs;
-      took = listed-done (listStep arrayItem) s c m [] (i .xs) (i .listed) m (i .listed .ready) (omega arith) (by-step (listStep arrayItem) (i .xs) s m _ (i .listed .ready) (λ k l. rw e));
+      took = listed-done
+          (listStep arrayItem)
+          s c m []
+          (i .xs)
+          (i .listed)
+          m
+          (i .listed .ready)
+          (omega arith)
+          (by-step (listStep arrayItem) (i .xs) s m _ (i .listed .ready) (λ k l. rw e));
       writes = i .writes;
       paid = i .paid;
     },
     i .count,
   )
 
-  pub items-refused : (r : Refusal) (q : ℕ) → ends (tokens s m) ≡ false → run s m parseFloat ≡ refused r q → run s c arrayItems ≡ refused r q
+  pub items-refused : (r : Refusal) (q : ℕ) → ends (tokens s m) ≡ false → run s m parseFloat ≡ refused r q
+      → run s c arrayItems ≡ refused r q
   unfolding arrayItems arrayItem
-  items-refused r q e h = listed-gives (listStep arrayItem) s c m [] (i .xs) (i .listed) _ (by-step (listStep arrayItem) (i .xs) s m _ (i .listed .ready) (λ k l. rw (e, h)))
+  items-refused r q e h =
+      listed-gives (listStep arrayItem) s c m [] (i .xs) (i .listed) _
+      (by-step (listStep arrayItem) (i .xs) s m _ (i .listed .ready) (λ k l. rw (e, h)))
 
-  module _ (e : ends (tokens s m) ≡ false) (v u : Cursor) (x : ℕ) (t : Took 1 s m v parseFloat x) (a′ : List ℕ) (at′ : ℕ) (w : Writes a at (word .write x) a′ at′) where
+  module _ (e : ends (tokens s m) ≡ false) (v u : Cursor) (x : ℕ) (t : Took 1 s m v parseFloat x) (a′ : List ℕ) (at′ : ℕ)
+      (w : Writes a at (word .write x) a′ at′) where
     more-written : Writes b out (eachOut (word .write) (i .xs ++ x ∷ [])) a′ at′
     more-written = rw each-more (writes-then (i .writes) w)
 
@@ -67,7 +86,9 @@ module _ (s b a : List ℕ) (c m : Cursor) (out at n : ℕ) (i : Items s b a c m
       listed = record {
         low = omega (arith, i .listed .low, t .low, z .low);
         ready = z .ready;
-        goes = λ o h. i .listed .goes o (by-step (listStep arrayItem) (i .xs) s m o (i .listed .ready) (λ k l. rw (e, t .is, z .is) (h k (omega (arith, t .low, z .low)))));
+        goes = λ o h. i .listed .goes o
+            (by-step (listStep arrayItem) (i .xs) s m o (i .listed .ready)
+            (λ k l. rw (e, t .is, z .is) (h k (omega (arith, t .low, z .low)))));
       };
       count = rw (length-append) (omega (arith, i .count));
       writes = more-written;
@@ -77,13 +98,15 @@ module _ (s b a : List ℕ) (c m : Cursor) (out at n : ℕ) (i : Items s b a c m
     pub items-moves : Took 0 s v u (eatByte 44) true → m .at < u .at
     items-moves z = omega (arith, t .low, z .low)
 
-    pub items-last : Took 0 s v u (eatByte 44) false → (y : Went 0 s b a′ c u out at′ arrayItems (eachOut (word .write))) × (n + 1 ≡ length (y .value))
+    pub items-last : Took 0 s v u (eatByte 44) false
+        → (y : Went 0 s b a′ c u out at′ arrayItems (eachOut (word .write))) × (n + 1 ≡ length (y .value))
     unfolding arrayItem arrayItems
     items-last z = (
       record {
         value = i .xs ++ x ∷ [];
         took = record {
-          is = listed-gives (listStep arrayItem) s c m [] (i .xs) (i .listed) _ (by-step (listStep arrayItem) (i .xs) s m _ (i .listed .ready) (λ k l. rw (e, t .is, z .is)));
+          is = listed-gives (listStep arrayItem) s c m [] (i .xs) (i .listed) _
+              (by-step (listStep arrayItem) (i .xs) s m _ (i .listed .ready) (λ k l. rw (e, t .is, z .is)));
           low = omega (arith, i .listed .low, t .low, z .low);
           ready = z .ready;
         };
@@ -104,7 +127,10 @@ few xs w = let h = go xs in omega (arith, w .place)
 -- ---- the whole of an array
 
 -- its case is written, two bytes are left open, its elements are written, and their count is put there
-pub array-went : (s b b′ a a′ : List ℕ) (c m u : Cursor) (out f q e n : ℕ) → Writes b out (1 ∷ []) b′ f → (w : Went 0 s b′ a c m (f + 2) q arrayItems (eachOut (word .write))) → n ≡ length (w .value)
+pub array-went : (s b b′ a a′ : List ℕ) (c m u : Cursor) (out f q e n : ℕ)
+    → Writes b out (1 ∷ []) b′ f
+    → (w : Went 0 s b′ a c m (f + 2) q arrayItems (eachOut (word .write)))
+    → n ≡ length (w .value)
     → Writes a f (big 2 .write n) a′ e → Took 0 s m u leave tt → ArrayWent s b a′ c u out q
 array-went s b b′ a a′ c m u out f q e n o w k p l = record {
   value = array (w .value);
@@ -145,7 +171,8 @@ module _ (s : List ℕ) (c m : Cursor) (o : Took 1 s c m (theByte 91) tt) where
   unfolding parseValue
   array-run = rw (mark-seen s c m 91 o, o .is) (regroup (run s m arrayItems))
 
-  pub value-array : (b a : List ℕ) (out q : ℕ) (u : Cursor) → ArrayWent s b a m u out q → Went 1 s b a c u out q parseValue (valueForm .write)
+  pub value-array : (b a : List ℕ) (out q : ℕ) (u : Cursor) → ArrayWent s b a m u out q
+      → Went 1 s b a c u out q parseValue (valueForm .write)
   value-array b a out q u w = record {
     value = w .value;
     took = record { is = array-run ∙ w .took .is; low = omega (arith, o .low, w .took .low); ready = w .took .ready };
@@ -157,7 +184,9 @@ module _ (s : List ℕ) (c m : Cursor) (o : Took 1 s c m (theByte 91) tt) where
   value-refused r q h = array-run ∙ h
 
 module _ (s : List ℕ) (c : Cursor) (e : seesByte 91 (tokens s c) ≡ false) where
-  pub scalar-went : (b a : List ℕ) (out q : ℕ) (m : Cursor) (x : ℕ) → Took 1 s c m parseFloat x → Writes b out (valueForm .write (scalar x)) a q → Went 1 s b a c m out q parseValue (valueForm .write)
+  pub scalar-went : (b a : List ℕ) (out q : ℕ) (m : Cursor) (x : ℕ) → Took 1 s c m parseFloat x
+      → Writes b out (valueForm .write (scalar x)) a q
+      → Went 1 s b a c m out q parseValue (valueForm .write)
   unfolding parseValue
   scalar-went b a out q m x t w = record {
     value = scalar x;
@@ -171,6 +200,8 @@ module _ (s : List ℕ) (c : Cursor) (e : seesByte 91 (tokens s c) ≡ false) wh
   scalar-refused r q h = rw (e, h)
 
 -- the answer behind an opener is the answer from it on
-pub value-behind : (s b a : List ℕ) (c m : Cursor) (out : ℕ) (x : ValueRead) → Took 1 s c m (theByte 91) tt → ArrayMeans s b a m out x → ValueMeans s b a c out x
+pub value-behind : (s b a : List ℕ) (c m : Cursor) (out : ℕ) (x : ValueRead)
+    → Took 1 s c m (theByte 91) tt → ArrayMeans s b a m out x
+    → ValueMeans s b a c out x
 value-behind s b a c m out (values.Is q u) o w = value-array s c m o b a out q u w
 value-behind s b a c m out (values.Refused r q) o h = value-refused s c m o r q h

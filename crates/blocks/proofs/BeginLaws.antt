@@ -21,7 +21,8 @@ use Rattle.blocks.specs.declared.Begun.the-variants as begun
 -- ---- behind the keyword
 
 module _ (s b a : List ℕ) (c : Cursor) (out : ℕ) (w : List ℕ) where
-  pub leaf-begun : (i q : ℕ) (m : Cursor) → KeywordMeans w (keyword.Leaf i) → LeafAtMeans s b a c out i (read.Is q m) → LeafBegun 0 s b a c m out q (behindWord w)
+  pub leaf-begun : (i q : ℕ) (m : Cursor) → KeywordMeans w (keyword.Leaf i)
+      → LeafAtMeans s b a c out i (read.Is q m) → LeafBegun 0 s b a c m out q (behindWord w)
   leaf-begun i q m k h = let l = h (k .0) (k .1) in record {
     value = l .value;
     took = λ blk. record { is = rw (k .2, l .took .is); low = omega (arith, l .took .low); ready = l .took .ready };
@@ -29,10 +30,13 @@ module _ (s b a : List ℕ) (c : Cursor) (out : ℕ) (w : List ℕ) where
     paid = l .paid;
   }
 
-  pub leaf-refused : (i : ℕ) (r : Refusal) (q : ℕ) → KeywordMeans w (keyword.Leaf i) → LeafAtMeans s b a c out i (read.Refused r q) → (blk : Rule (Nodes Key)) → run s c (behindWord w blk) ≡ refused r q
+  pub leaf-refused : (i : ℕ) (r : Refusal) (q : ℕ) → KeywordMeans w (keyword.Leaf i)
+      → LeafAtMeans s b a c out i (read.Refused r q) → (blk : Rule (Nodes Key))
+      → run s c (behindWord w blk) ≡ refused r q
   leaf-refused i r q k h blk = rw (k .2, h (k .0) (k .1))
 
-  pub open-begun : (i q : ℕ) (m : Cursor) → KeywordMeans w (keyword.Container i) → HeadAtMeans s b a c out i (read.Is q m) → OpenBegun 0 s b a c m out q (behindWord w)
+  pub open-begun : (i q : ℕ) (m : Cursor) → KeywordMeans w (keyword.Container i)
+      → HeadAtMeans s b a c out i (read.Is q m) → OpenBegun 0 s b a c m out q (behindWord w)
   open-begun i q m k h = let l = h (k .0) (k .1) in record {
     value = l .value;
     is = λ blk. rw (k .2, l .took .is);
@@ -42,20 +46,27 @@ module _ (s b a : List ℕ) (c : Cursor) (out : ℕ) (w : List ℕ) where
     small = l .small;
   }
 
-  pub open-refused : (i : ℕ) (r : Refusal) (q : ℕ) → KeywordMeans w (keyword.Container i) → HeadAtMeans s b a c out i (read.Refused r q) → (blk : Rule (Nodes Key)) → run s c (behindWord w blk) ≡ refused r q
+  pub open-refused : (i : ℕ) (r : Refusal) (q : ℕ) → KeywordMeans w (keyword.Container i)
+      → HeadAtMeans s b a c out i (read.Refused r q) → (blk : Rule (Nodes Key))
+      → run s c (behindWord w blk) ≡ refused r q
   open-refused i r q k h blk = rw (k .2, h (k .0) (k .1))
 
 -- "`unknown_keyword`": 7, behind the word
-pub unknown-refused : (s : List ℕ) (c : Cursor) (w : List ℕ) → Ready s c → KeywordMeans w keyword.Unknown → (blk : Rule (Nodes Key)) → run s c (behindWord w blk) ≡ refused UnknownKeyword (c .head .start)
+pub unknown-refused : (s : List ℕ) (c : Cursor) (w : List ℕ) → Ready s c → KeywordMeans w keyword.Unknown
+    → (blk : Rule (Nodes Key))
+    → run s c (behindWord w blk) ≡ refused UnknownKeyword (c .head .start)
 unknown-refused s c w r k blk = rw (k, r .head .place)
 
 -- ---- from the keyword on
 
-pub no-keyword : (s : List ℕ) (c : Cursor) (r : Refusal) (q : ℕ) → run s c word ≡ refused r q → (blk : Rule (Nodes Key)) → run s c (parseNode blk) ≡ refused r q
+pub no-keyword : (s : List ℕ) (c : Cursor) (r : Refusal) (q : ℕ) → run s c word ≡ refused r q
+    → (blk : Rule (Nodes Key)) → run s c (parseNode blk) ≡ refused r q
 unfolding parseNode
 no-keyword s c r q h blk = rw h
 
-pub from-keyword : (s b a : List ℕ) (c m : Cursor) (out p : ℕ) (w : List ℕ) (x : Begun) → Took 1 s c m word (p, w) → BegunMeans 0 s b a m out (behindWord w) x → BegunMeans 1 s b a c out parseNode x
+pub from-keyword : (s b a : List ℕ) (c m : Cursor) (out p : ℕ) (w : List ℕ) (x : Begun)
+    → Took 1 s c m word (p, w) → BegunMeans 0 s b a m out (behindWord w) x
+    → BegunMeans 1 s b a c out parseNode x
 unfolding parseNode
 from-keyword s b a c m out p w (begun.Leaf q e) t h = record {
   value = h .value;

@@ -39,7 +39,9 @@ no-brace s c zero q h =
 no-brace s c (suc d) q h = rw h
 
 -- "a 17th container inside 16 others": 12, at "its `{`"
-pub too-deep : (s : List ℕ) (c m : Cursor) (d : ℕ) → Ready s c → Took 1 s c m (theByte 123) tt → d ≡ 0 → run s c (block d) ≡ refused TooManyNested (c .head .start)
+pub too-deep : (s : List ℕ) (c m : Cursor) (d : ℕ) → Ready s c → Took 1 s c m (theByte 123) tt
+    → d ≡ 0
+    → run s c (block d) ≡ refused TooManyNested (c .head .start)
 unfolding block
 too-deep s c m d r t e = rw (e, mark-seen s c m 123 t, r .head .place)
 
@@ -55,16 +57,22 @@ pub block-bytes : (n d : ℕ) (ns : Nodes Key) → big 2 .write (width ns) ++ no
 block-bytes n d ns = let m = mapTimes stored ns in sym (ap (λ (w : ℕ). big 2 .write w ++ forest n (inner n d) w .write m) (width-map ns))
 
 -- a container is its head, and the nodes in its block
-holding-bytes : (n d : ℕ) (k : Container) (ns : Nodes Key) → headBytes n k ++ (big 2 .write (width ns) ++ nodesBytes n d ns) ≡ nodeBytes n (suc d) (holding k ns)
-holding-bytes n d k ns = ap (λ (l : List ℕ). headBytes n k ++ l) (block-bytes n d ns) ∙ sym (head-then n (inner n (suc d)) k (mapTimes stored ns))
+holding-bytes : (n d : ℕ) (k : Container) (ns : Nodes Key)
+    → headBytes n k ++ (big 2 .write (width ns) ++ nodesBytes n d ns) ≡ nodeBytes n (suc d) (holding k ns)
+holding-bytes n d k ns =
+    ap (λ (l : List ℕ). headBytes n k ++ l) (block-bytes n d ns) ∙ sym (head-then n (inner n (suc d)) k (mapTimes stored ns))
 
 -- one node more
-bytes-more : (n d : ℕ) (ns : Nodes Key) (x : MotionNode Key) → nodesBytes n d (append ns (push x Nodes.none)) ≡ nodesBytes n d ns ++ nodeBytes n d x
+bytes-more : (n d : ℕ) (ns : Nodes Key) (x : MotionNode Key)
+    → nodesBytes n d (append ns (push x Nodes.none)) ≡ nodesBytes n d ns ++ nodeBytes n d x
 bytes-more n d Nodes.none (single l) = append-nil _
 bytes-more n d Nodes.none (holding k ns) = append-nil _
-bytes-more n d (leaf l rest) x = ap (λ (t : List ℕ). nodeBytes n d (single l) ++ t) (bytes-more n d rest x) ∙ sym (append-assoc (nodeBytes n d (single l)) (nodesBytes n d rest) (nodeBytes n d x))
+bytes-more n d (leaf l rest) x =
+    ap (λ (t : List ℕ). nodeBytes n d (single l) ++ t) (bytes-more n d rest x)
+    ∙ sym (append-assoc (nodeBytes n d (single l)) (nodesBytes n d rest) (nodeBytes n d x))
 bytes-more n d (box k ns rest) x =
-    ap (λ (t : List ℕ). nodeBytes n d (holding k ns) ++ t) (bytes-more n d rest x) ∙ sym (append-assoc (nodeBytes n d (holding k ns)) (nodesBytes n d rest) (nodeBytes n d x))
+    ap (λ (t : List ℕ). nodeBytes n d (holding k ns) ++ t) (bytes-more n d rest x)
+    ∙ sym (append-assoc (nodeBytes n d (holding k ns)) (nodesBytes n d rest) (nodeBytes n d x))
 
 width-more : (ns : Nodes Key) (x : MotionNode Key) → width (append ns (push x Nodes.none)) ≡ width ns + 1
 width-more Nodes.none (single l) = refl
@@ -98,7 +106,8 @@ by-suc : (P : ℕ → Type 0) (d : ℕ) → 0 < d → P (suc (d - 1)) → P d
 by-suc P d z h = let e : suc (d - 1) ≡ d = omega arith in subst P e h
 
 -- behind the `{`
-module _ (s b b₁ : List ℕ) (c m e : Cursor) (out q d : ℕ) (o : OpenBegun 1 s b b₁ c m out q parseNode) (t : Took 1 s m e (theByte 123) tt) (z : 0 < d) where
+module _ (s b b₁ : List ℕ) (c m e : Cursor) (out q d : ℕ) (o : OpenBegun 1 s b b₁ c m out q parseNode)
+    (t : Took 1 s m e (theByte 123) tt) (z : 0 < d) where
   pub block-reached : Reached s c out → Reached s e (q + 2)
   block-reached h = record { short = h .short; low = omega (arith, h .low, o .small, o .low, t .low) }
 
@@ -106,18 +115,27 @@ module _ (s b b₁ : List ℕ) (c m e : Cursor) (out q d : ℕ) (o : OpenBegun 1
   unfolding block
   inside-refused r p h = by-suc (λ (j : ℕ). run s c (parseNode (block j)) ≡ refused r p) d z (o .is (block (suc (d - 1))) ∙ (rw (t .is, h)))
 
-  pub node-open : (n u : Cursor) (b₂ a : List ℕ) (end w k f : ℕ) → NodesWent s b₁ b₂ e n (q + 2) end (d - 1) w k → Writes b₂ q (big 2 .write w) a f → Took 0 s n u leave tt → NodeWent s b a c u out end d (k + 1)
+  pub node-open : (n u : Cursor) (b₂ a : List ℕ) (end w k f : ℕ) → NodesWent s b₁ b₂ e n (q + 2) end (d - 1) w k
+      → Writes b₂ q (big 2 .write w) a f → Took 0 s n u leave tt
+      → NodeWent s b a c u out end d (k + 1)
   unfolding block
-  node-open n u b₂ a end w k f g p l = by-suc (λ (j : ℕ). NodeWent s b a c u out end j (k + 1)) d z (record {
-    went = record {
-      value = holding (o .value) (g .went .value);
-      took = record { is = o .is (block (suc (d - 1))) ∙ (rw (t .is, g .went .took .is, l .is)); low = omega (arith, o .low, t .low, g .went .took .low, l .low); ready = l .ready };
-      writes = rw (← holding-bytes (length s) (d - 1) (o .value) (g .went .value)) (writes-then (o .writes) (writes-counted (width (g .went .value)) refl (g .went .writes) (rw (g .wide) at p)));
-      paid = omega (arith, o .small, o .low, t .low, g .went .paid, g .went .took .low, l .low);
-    };
-    count = omega (arith, g .count);
-    few = omega (arith, o .low, t .low, g .few, l .low);
-  })
+  node-open n u b₂ a end w k f g p l =
+      by-suc (λ (j : ℕ). NodeWent s b a c u out end j (k + 1)) d z
+      (record {
+        went = record {
+          value = holding (o .value) (g .went .value);
+          took = record {
+            is = o .is (block (suc (d - 1))) ∙ (rw (t .is, g .went .took .is, l .is));
+            low = omega (arith, o .low, t .low, g .went .took .low, l .low);
+            ready = l .ready;
+          };
+          writes = rw (← holding-bytes (length s) (d - 1) (o .value) (g .went .value))
+              (writes-then (o .writes) (writes-counted (width (g .went .value)) refl (g .went .writes) (rw (g .wide) at p)));
+          paid = omega (arith, o .small, o .low, t .low, g .went .paid, g .went .took .low, l .low);
+        };
+        count = omega (arith, g .count);
+        few = omega (arith, o .low, t .low, g .few, l .low);
+      })
 
 -- ---- nodes one after the other
 
@@ -154,7 +172,15 @@ module _ (s b a : List ℕ) (c m : Cursor) (out at d w k : ℕ) (i : Growing s b
   growing-end e = record {
     went = record {
       value = i .nodes;
-      took = listed-done (nodesStep (block d)) s c m Nodes.none (i .nodes) (i .listed) m (i .listed .ready) (omega arith) (by-step (nodesStep (block d)) (i .nodes) s m _ (i .listed .ready) (λ j l. rw e));
+      took = listed-done
+          (nodesStep (block d))
+          s c m Nodes.none
+          (i .nodes)
+          (i .listed)
+          m
+          (i .listed .ready)
+          (omega arith)
+          (by-step (nodesStep (block d)) (i .nodes) s m _ (i .listed .ready) (λ j l. rw e));
       writes = i .writes;
       paid = i .paid;
     };
@@ -175,7 +201,9 @@ module _ (s b a : List ℕ) (c m : Cursor) (out at d w k : ℕ) (i : Growing s b
       listed = record {
         low = let t = pass-moves in omega (arith, i .listed .low);
         ready = g .ready;
-        goes = λ o h. i .listed .goes o (by-step (nodesStep (block d)) (i .nodes) s m o (i .listed .ready) (λ j l. rw (e, f, g .rest, sym (g .left)) (h j (let t = pass-moves in omega arith))));
+        goes = λ o h. i .listed .goes o
+            (by-step (nodesStep (block d)) (i .nodes) s m o (i .listed .ready)
+            (λ j l. rw (e, f, g .rest, sym (g .left)) (h j (let t = pass-moves in omega arith))));
       };
       wide = i .wide;
       count = i .count;
@@ -189,7 +217,9 @@ module _ (s b a : List ℕ) (c m : Cursor) (out at d w k : ℕ) (i : Growing s b
   module _ (e : ends (tokens s m) ≡ false) (f : seesByte 59 (tokens s m) ≡ false) where
     pub growing-refused : (r : Refusal) (q : ℕ) → run s m (parseNode (block d)) ≡ refused r q → run s c (parseNodes d) ≡ refused r q
     unfolding nodesStep oneNode
-    growing-refused r q h = listed-gives (nodesStep (block d)) s c m Nodes.none (i .nodes) (i .listed) _ (by-step (nodesStep (block d)) (i .nodes) s m _ (i .listed .ready) (λ j l. rw (e, f, h)))
+    growing-refused r q h =
+        listed-gives (nodesStep (block d)) s c m Nodes.none (i .nodes) (i .listed) _
+        (by-step (nodesStep (block d)) (i .nodes) s m _ (i .listed .ready) (λ j l. rw (e, f, h)))
 
     pub growing-more : (u : Cursor) (a′ : List ℕ) (q k′ : ℕ) → NodeWent s a a′ m u at q d k′ → Growing s b a′ c u out q d (w + 1) (k + k′)
     unfolding nodesStep oneNode
@@ -198,7 +228,9 @@ module _ (s b a : List ℕ) (c m : Cursor) (out at d w k : ℕ) (i : Growing s b
       listed = record {
         low = omega (arith, i .listed .low, g .went .took .low);
         ready = g .went .took .ready;
-        goes = λ o h. i .listed .goes o (by-step (nodesStep (block d)) (i .nodes) s m o (i .listed .ready) (λ j l. rw (e, f, g .went .took .is) (h j (omega (arith, g .went .took .low)))));
+        goes = λ o h. i .listed .goes o
+            (by-step (nodesStep (block d)) (i .nodes) s m o (i .listed .ready)
+            (λ j l. rw (e, f, g .went .took .is) (h j (omega (arith, g .went .took .low)))));
       };
       wide = rw width-more (omega (arith, i .wide));
       count = rw records-more (omega (arith, i .count, g .count));

@@ -22,7 +22,8 @@ use Rattle.heads.proofs.RowLaws.{Each, by-row}
 use Rattle.blocks.specs.Means.{headBytes, HeadWent, HeadMeans, HeadAtMeans}
 
 -- a container is its head, and then the nodes in it
-pub head-then : (n : ℕ) (blk : Form Forest) (k : Container) (ns : Forest) → nodeForm n blk .write (holding k ns) ≡ headBytes n k ++ blk .write ns
+pub head-then : (n : ℕ) (blk : Form Forest) (k : Container) (ns : Forest)
+    → nodeForm n blk .write (holding k ns) ≡ headBytes n k ++ blk .write ns
 head-then n blk sequence ns = refl
 head-then n blk parallel ns = refl
 head-then n blk (group m) ns = refl
@@ -55,10 +56,13 @@ module _ {s b a : List ℕ} {c : Cursor} {out q : ℕ} (r : Ready s c) where
   unfolding parseParallel
   parallel-went w = record { value = parallel; took = stays s c r parseParallel parallel refl; writes = w; small = omega (arith, w .place) }
 
-pub group-went : {s b b′ a : List ℕ} {c m : Cursor} {out f q k : ℕ} → Took 1 s c m parseGroup (group k) → Writes b out (5 ∷ []) b′ f → Writes b′ f (k ∷ []) a q → HeadWent s b a c m out q parseGroup
+pub group-went : {s b b′ a : List ℕ} {c m : Cursor} {out f q k : ℕ} → Took 1 s c m parseGroup (group k)
+    → Writes b out (5 ∷ []) b′ f → Writes b′ f (k ∷ []) a q
+    → HeadWent s b a c m out q parseGroup
 group-went {k = k} t o w = record { value = group k; took = fewer t; writes = writes-then o w; small = omega (arith, o .place, w .place) }
 
-pub stagger-went : {s b b₁ b₂ a : List ℕ} {c m : Cursor} {out f g q : ℕ} (p : Option StaggerPatternSpec) (d : Option ℕ) → Took 0 s c m parseStagger (stagger p d) → Writes b out (6 ∷ []) b₁ f
+pub stagger-went : {s b b₁ b₂ a : List ℕ} {c m : Cursor} {out f g q : ℕ} (p : Option StaggerPatternSpec) (d : Option ℕ)
+    → Took 0 s c m parseStagger (stagger p d) → Writes b out (6 ∷ []) b₁ f
     → Writes b₁ f (opt patternForm .write p) b₂ g → Writes b₂ g (opt word .write d) a q → HeadWent s b a c m out q parseStagger
 stagger-went p d t o w z = record {
   value = stagger p d;
@@ -68,5 +72,7 @@ stagger-went p d t o w z = record {
 }
 
 -- by the row of the table
-pub by-head : (s b a : List ℕ) (c : Cursor) (out i : ℕ) (r : NodeRead) → Each (λ (row : String × Rule Container). HeadMeans s b a c out (row .1) r) i 0 containers → HeadAtMeans s b a c out i r
+pub by-head : (s b a : List ℕ) (c : Cursor) (out i : ℕ) (r : NodeRead)
+    → Each (λ (row : String × Rule Container). HeadMeans s b a c out (row .1) r) i 0 containers
+    → HeadAtMeans s b a c out i r
 by-head s b a c out i r h row e = by-row (λ (row : String × Rule Container). HeadMeans s b a c out (row .1) r) i containers row e h

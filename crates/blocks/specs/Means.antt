@@ -1,4 +1,5 @@
--- What the answers for nodes mean: what the grammar's rules take, and the bytes written, in the sheet's own form. Contracts cite these. Assumes nothing.
+-- What the answers for nodes mean: what the grammar's rules take, and the bytes written, in the sheet's own form. Contracts cite these.
+-- Assumes nothing.
 use Prim.Native.Nat.{ℕ, _+_, _*_, _-_, _≤_, _<_}
 use Prim.Native.String.{String}
 use mathlib.Core.Bool.{true, false}
@@ -57,7 +58,8 @@ HeadAtMeans s b a c out i r = (row : String × Rule Container) → getElem? cont
 
 abbrev pub KeywordMeans : List ℕ → Keyword → Type 0
 KeywordMeans w (keyword.Leaf i) = (row : String × Rule (Leaf Key)) × (getElem? leaves i ≡ some row) × (beginning w ≡ aLeaf (row .1))
-KeywordMeans w (keyword.Container i) = (row : String × Rule Container) × (getElem? containers i ≡ some row) × (beginning w ≡ aContainer (row .1))
+KeywordMeans w (keyword.Container i) =
+    (row : String × Rule Container) × (getElem? containers i ≡ some row) × (beginning w ≡ aContainer (row .1))
 KeywordMeans w keyword.Unknown = beginning w ≡ unknown
 
 -- ---- the beginning of a node, whatever the rule for a container's block

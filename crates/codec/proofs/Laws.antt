@@ -1,4 +1,5 @@
--- A form is lawful for the values that pass `ok`: what it writes it reads back, and whatever it reads it would have written. Assumes nothing.
+-- A form is lawful for the values that pass `ok`: what it writes it reads back, and whatever it reads it would have written.
+-- Assumes nothing.
 use Prim.Native.Nat.{ℕ, zero, suc, _+_, _*_, _/_, _%_, _<_}
 use mathlib.Core.Bool.{Bool, true, false, cond}
 use mathlib.Core.List.{List, [], _∷_, _++_, append-assoc}
@@ -87,17 +88,22 @@ module _ {A B : Type 0} (c : Form A) (d : Form B) (P : A → Type 0) (Q : B → 
   pub both-back : (p : A × B) → P (p .0) × Q (p .1) → (r : List ℕ) → (c ▹ d) .read ((c ▹ d) .write p ++ r) ≡ some (p, r)
   both-back p h r =
       ap (λ (l : List ℕ). (c ▹ d) .read l) (append-assoc (c .write (p .0)) (d .write (p .1)) r)
-      ∙ ap (λ (o : Option (A × List ℕ)). andThen o (λ a. step (d .read) (λ b bs. some ((a, b), bs)))) (lc .back (p .0) (h .0) (d .write (p .1) ++ r))
+      ∙ ap (λ (o : Option (A × List ℕ)). andThen o (λ a. step (d .read) (λ b bs. some ((a, b), bs))))
+      (lc .back (p .0) (h .0) (d .write (p .1) ++ r))
       ∙ ap (λ (o : Option (B × List ℕ)). andThen o (λ b bs. some ((p .0, b), bs))) (ld .back (p .1) (h .1) r)
 
-  pub both-forth : (bs : List ℕ) (z : (A × B) × List ℕ) → (c ▹ d) .read bs ≡ some z → (bs ≡ (c ▹ d) .write (z .0) ++ z .1) × (P (z .0 .0) × Q (z .0 .1))
+  pub both-forth : (bs : List ℕ) (z : (A × B) × List ℕ) → (c ▹ d) .read bs ≡ some z
+      → (bs ≡ (c ▹ d) .write (z .0) ++ z .1) × (P (z .0 .0) × Q (z .0 .1))
   both-forth bs z e =
       let (y, o, e₁) = inverse (c .read bs) (λ a. step (d .read) (λ b cs. some ((a, b), cs))) z e in
       let (x, o₁, e₂) = inverse (d .read (y .1)) (λ b cs. some ((y .0, b), cs)) z e₁ in
       let f = lc .forth bs y o in
       let g = ld .forth (y .1) x o₁ in
-      subst (λ (w : (A × B) × List ℕ). (bs ≡ (c ▹ d) .write (w .0) ++ w .1) × (P (w .0 .0) × Q (w .0 .1))) (Option·some-injective ((y .0, x .0), x .1) z e₂)
-      (f .0 ∙ ap (λ (l : List ℕ). c .write (y .0) ++ l) (g .0) ∙ sym (append-assoc (c .write (y .0)) (d .write (x .0)) (x .1)), (f .1, g .1))
+      subst (λ (w : (A × B) × List ℕ). (bs ≡ (c ▹ d) .write (w .0) ++ w .1) × (P (w .0 .0) × Q (w .0 .1)))
+      (Option·some-injective ((y .0, x .0), x .1) z e₂) (
+        f .0 ∙ ap (λ (l : List ℕ). c .write (y .0) ++ l) (g .0) ∙ sym (append-assoc (c .write (y .0)) (d .write (x .0)) (x .1)),
+        (f .1, g .1),
+      )
 
   pub both-lawful : Lawful (c ▹ d) (λ p. P (p .0) × Q (p .1))
   both-lawful = record { back = both-back; forth = both-forth }
@@ -116,7 +122,8 @@ module _ {A B : Type 0} (c : Form A) (f : A → B) (g : B → A) (P : A → Type
     where
       go : (y : A × List ℕ) × (c .read bs ≡ some y) × (some (f (y .0), y .1) ≡ some z) → (bs ≡ via c f g .write (z .0) ++ z .1) × Q (z .0)
       go w =
-          subst (λ (v : B × List ℕ). (bs ≡ c .write (g (v .0)) ++ v .1) × Q (v .0)) (Option·some-injective (f (w .0 .0), w .0 .1) z (w .2)) (
+          subst (λ (v : B × List ℕ). (bs ≡ c .write (g (v .0)) ++ v .1) × Q (v .0))
+          (Option·some-injective (f (w .0 .0), w .0 .1) z (w .2)) (
             lc .forth bs (w .0) (w .1) .0 ∙ ap (λ (a : A). c .write a ++ w .0 .1) (sym (again (w .0 .0) (lc .forth bs (w .0) (w .1) .1))),
             ok (w .0 .0) (lc .forth bs (w .0) (w .1) .1),
           )
@@ -163,8 +170,11 @@ Small zero n = n ≡ 0
 Small (suc k) n = Small k (n / 256)
 
 pub big-lawful : (k : ℕ) → Lawful (big k) (Small k)
-big-lawful zero = via-lawful empty (λ u. 0) (λ n. tt) (λ u. Unit {0}) (λ n. n ≡ 0) empty-lawful (λ b h. tt) (λ b h. sym h) (λ a h. refl) (λ a h. refl)
-big-lawful (suc k) = via-lawful (big k ▹ below 256) (λ p. p .0 * 256 + p .1) (λ n. (n / 256, n % 256)) (λ p. Small k (p .0) × (p .1 < 256)) (λ n. Small k (n / 256))
+big-lawful zero =
+    via-lawful empty (λ u. 0) (λ n. tt) (λ u. Unit {0}) (λ n. n ≡ 0) empty-lawful (λ b h. tt) (λ b h. sym h) (λ a h. refl) (λ a h. refl)
+big-lawful (suc k) =
+    via-lawful (big k ▹ below 256) (λ p. p .0 * 256 + p .1) (λ n. (n / 256, n % 256)) (λ p. Small k (p .0) × (p .1 < 256))
+    (λ n. Small k (n / 256))
     (both-lawful (big k) (below 256) (Small k) (λ b. b < 256) (big-lawful k) (below-lawful 256))
     (λ b h. (h, mod-lt b (lit< tt))) (λ b h. div-add-mod' b 256)
     (λ p h. subst⁻¹ (Small k) (quot p (h .1)) (h .0)) (λ p h. λ i. (quot p (h .1) i, rest p (h .1) i))
@@ -184,7 +194,8 @@ module _ {A : Type 0} (size : A → ℕ) (c : ℕ → Form A) (ok : A → Type 0
       ∙ ap (λ (o : Option (ℕ × List ℕ)). andThen o (λ n. c n .read)) (big-lawful 2 .back (size a) (h .0) (c (size a) .write a ++ r))
       ∙ lc (size a) .back a (refl, h .1) r
 
-  sized-forth : (bs : List ℕ) (z : A × List ℕ) → sized size c .read bs ≡ some z → (bs ≡ sized size c .write (z .0) ++ z .1) × (Small 2 (size (z .0)) × ok (z .0))
+  sized-forth : (bs : List ℕ) (z : A × List ℕ) → sized size c .read bs ≡ some z
+      → (bs ≡ sized size c .write (z .0) ++ z .1) × (Small 2 (size (z .0)) × ok (z .0))
   sized-forth bs z e = go (inverse (big 2 .read bs) (λ n. c n .read) z e)
     where
       go : (y : ℕ × List ℕ) × (big 2 .read bs ≡ some y) × (c (y .0) .read (y .1) ≡ some z)
@@ -208,38 +219,45 @@ All P [] = Unit {0}
 All P (x ∷ xs) = P x × All P xs
 
 module _ {A : Type 0} (c : Form A) (P : A → Type 0) (lc : Lawful c P) where
-  each-back : (xs : List A) (n : ℕ) → (length xs ≡ n) × All P xs → (r : List ℕ) → eachIn (c .read) n (eachOut (c .write) xs ++ r) ≡ some (xs, r)
+  each-back : (xs : List A) (n : ℕ) → (length xs ≡ n) × All P xs → (r : List ℕ)
+      → eachIn (c .read) n (eachOut (c .write) xs ++ r) ≡ some (xs, r)
   each-back xs n h r = subst (λ (m : ℕ). eachIn (c .read) m (eachOut (c .write) xs ++ r) ≡ some (xs, r)) (h .0) (go xs (h .1) r)
     where
       go : (xs : List A) → All P xs → (r : List ℕ) → eachIn (c .read) (length xs) (eachOut (c .write) xs ++ r) ≡ some (xs, r)
       go [] h r = refl
       go (x ∷ xs) h r =
           ap (λ (l : List ℕ). eachIn (c .read) (suc (length xs)) l) (append-assoc (c .write x) (eachOut (c .write) xs) r)
-          ∙ ap (λ (o : Option (A × List ℕ)). andThen o (λ y. step (eachIn (c .read) (length xs)) (λ ys cs. some (y ∷ ys, cs)))) (lc .back x (h .0) (eachOut (c .write) xs ++ r))
+          ∙ ap (λ (o : Option (A × List ℕ)). andThen o (λ y. step (eachIn (c .read) (length xs)) (λ ys cs. some (y ∷ ys, cs))))
+          (lc .back x (h .0) (eachOut (c .write) xs ++ r))
           ∙ ap (λ (o : Option (List A × List ℕ)). andThen o (λ ys cs. some (x ∷ ys, cs))) (go xs (h .1) r)
 
   each-forth : (n : ℕ) (bs : List ℕ) (z : List A × List ℕ) → eachIn (c .read) n bs ≡ some z
       → (bs ≡ eachOut (c .write) (z .0) ++ z .1) × ((length (z .0) ≡ n) × All P (z .0))
   each-forth zero bs z e =
-      subst (λ (y : List A × List ℕ). (bs ≡ eachOut (c .write) (y .0) ++ y .1) × ((length (y .0) ≡ 0) × All P (y .0))) (Option·some-injective ([], bs) z e) (refl, (refl, tt))
-  each-forth (suc n) bs z e = go (inverse (c .read bs) (λ y. step (eachIn (c .read) n) (λ ys cs. some (y ∷ ys, cs))) z e) (λ b w. each-forth n b w)
+      subst (λ (y : List A × List ℕ). (bs ≡ eachOut (c .write) (y .0) ++ y .1) × ((length (y .0) ≡ 0) × All P (y .0)))
+      (Option·some-injective ([], bs) z e) (refl, (refl, tt))
+  each-forth (suc n) bs z e =
+      go (inverse (c .read bs) (λ y. step (eachIn (c .read) n) (λ ys cs. some (y ∷ ys, cs))) z e) (λ b w. each-forth n b w)
     where
       Goal : List A × List ℕ → Type 0
       Goal y = (bs ≡ eachOut (c .write) (y .0) ++ y .1) × ((length (y .0) ≡ suc n) × All P (y .0))
 
       end : (y : A × List ℕ) → c .read bs ≡ some y
-          → ((b : List ℕ) (w : List A × List ℕ) → eachIn (c .read) n b ≡ some w → (b ≡ eachOut (c .write) (w .0) ++ w .1) × ((length (w .0) ≡ n) × All P (w .0)))
+          → ((b : List ℕ) (w : List A × List ℕ) → eachIn (c .read) n b ≡ some w
+          → (b ≡ eachOut (c .write) (w .0) ++ w .1) × ((length (w .0) ≡ n) × All P (w .0)))
           → (x : List A × List ℕ) × (eachIn (c .read) n (y .1) ≡ some x) × (some (y .0 ∷ x .0, x .1) ≡ some z) → Goal z
       end y o ih w =
           let f = lc .forth bs y o in
           let g = ih (y .1) (w .0) (w .1) in
           subst Goal (Option·some-injective (y .0 ∷ w .0 .0, w .0 .1) z (w .2)) (
-            f .0 ∙ ap (λ (l : List ℕ). c .write (y .0) ++ l) (g .0) ∙ sym (append-assoc (c .write (y .0)) (eachOut (c .write) (w .0 .0)) (w .0 .1)),
+            f .0 ∙ ap (λ (l : List ℕ). c .write (y .0) ++ l) (g .0)
+                ∙ sym (append-assoc (c .write (y .0)) (eachOut (c .write) (w .0 .0)) (w .0 .1)),
             (ap suc (g .1 .0), (f .1, g .1 .1)),
           )
 
       go : (y : A × List ℕ) × (c .read bs ≡ some y) × (step (eachIn (c .read) n) (λ ys cs. some (y .0 ∷ ys, cs)) (y .1) ≡ some z)
-          → ((b : List ℕ) (w : List A × List ℕ) → eachIn (c .read) n b ≡ some w → (b ≡ eachOut (c .write) (w .0) ++ w .1) × ((length (w .0) ≡ n) × All P (w .0)))
+          → ((b : List ℕ) (w : List A × List ℕ) → eachIn (c .read) n b ≡ some w
+          → (b ≡ eachOut (c .write) (w .0) ++ w .1) × ((length (w .0) ≡ n) × All P (w .0)))
           → Goal z
       go w ih = end (w .0) (w .1) ih (inverse (eachIn (c .read) n (w .0 .1)) (λ ys cs. some (w .0 .0 ∷ ys, cs)) z (w .2))
 
@@ -278,7 +296,9 @@ abbrev pub manyL : {A : Type 0} {c : Form A} → Law c → Law (many c)
 manyL {c = c} l = record { ok = λ xs. Small 2 (length xs) × All (l .ok) xs; law = many-lawful c (l .ok) (l .law) }
 
 -- a struct: taken apart and put together again it is the same
-abbrev pub structL : {A B : Type 0} {c : Form A} (f : A → B) (g : B → A) → Law c → ((b : B) → f (g b) ≡ b) → ((a : A) → g (f a) ≡ a) → Law (via c f g)
+abbrev pub structL : {A B : Type 0} {c : Form A} (f : A → B) (g : B → A)
+    → Law c → ((b : B) → f (g b) ≡ b) → ((a : A) → g (f a) ≡ a)
+    → Law (via c f g)
 structL {c = c} f g l s t = record { ok = λ b. l .ok (g b); law = same-lawful c f g (l .ok) (l .law) (λ b h. s b) (λ a h. t a) }
 
 -- ---- enums
@@ -304,7 +324,8 @@ abbrev pub EachCase : {B : Type 0} (cs : List (Case B)) → ((i : ℕ) → Field
 EachCase [] P = Unit {0}
 EachCase (c ∷ cs) P = ((x : c .Fields) → P zero x) × EachCase cs (λ i x. P (suc i) x)
 
-pub each-case : {B : Type 0} (cs : List (Case B)) (P : (i : ℕ) → FieldsAt cs i → Type 0) → EachCase cs P → (i : ℕ) (x : FieldsAt cs i) → P i x
+pub each-case : {B : Type 0} (cs : List (Case B)) (P : (i : ℕ) → FieldsAt cs i → Type 0)
+    → EachCase cs P → (i : ℕ) (x : FieldsAt cs i) → P i x
 each-case [] P h i x = absurd x
 each-case (c ∷ cs) P h zero x = h .0 x
 each-case (c ∷ cs) P h (suc i) x = each-case cs (λ j y. P (suc j) y) (h .1) i x
@@ -341,7 +362,8 @@ module _ {B : Type 0} (cs : List (Case B)) (split : B → (i : ℕ) × FieldsAt 
       Goal : (j : ℕ) × FieldsAt cs j → Type 0
       Goal p = (i ∷ bs ≡ p .0 ∷ writeAt cs (p .0) (p .1) ++ z .1) × okAt cs l (p .0) (p .1)
 
-      go : (x : FieldsAt cs i) × (bs ≡ writeAt cs i x ++ z .1) × okAt cs l i x × (makeAt cs i x ≡ z .0) → (i ∷ bs ≡ enum cs split .write (z .0) ++ z .1) × Ok (z .0)
+      go : (x : FieldsAt cs i) × (bs ≡ writeAt cs i x ++ z .1) × okAt cs l i x × (makeAt cs i x ≡ z .0)
+          → (i ∷ bs ≡ enum cs split .write (z .0) ++ z .1) × Ok (z .0)
       go w =
           subst (λ (b : B). Goal (split b)) (w .3)
           (subst⁻¹ Goal (each-case cs (λ j y. Prim.Path ((k : ℕ) × FieldsAt cs k) (split (makeAt cs j y)) (j, y)) again i (w .0))

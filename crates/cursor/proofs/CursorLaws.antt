@@ -20,7 +20,9 @@ use Rattle.token.specs.declared.Number.{Number}
 use Rattle.token.specs.declared.Tok.the-variants.{Name, Num, Quoted}
 use Rattle.token.specs.Names.{isKeyword, unless, wordOf, nameOf, quoteOf}
 use Rattle.grammar.specs.Values.{truth}
-use Rattle.grammar.specs.Rule.{isWord, seesBytes, word, text, Rule, Out, got, refused, seesByte, seesPair, theByte, bothBytes, eatByte, skip, _>>_, Signed, absent, plus, minus, plain, negated, pointless, seesNumber, seesWhole, taken, signed, Pass, halts, closes, goes, closing, depth, weigh, behind, ends, isEnd, firstOf, leave}
+use Rattle.grammar.specs.Rule.{isWord, seesBytes, word, text, Rule, Out, got, refused, seesByte, seesPair, theByte, bothBytes}
+use Rattle.grammar.specs.Rule.{eatByte, skip, _>>_, Signed, absent, plus, minus, plain, negated, pointless, seesNumber, seesWhole}
+use Rattle.grammar.specs.Rule.{taken, signed, Pass, halts, closes, goes, closing, depth, weigh, behind, ends, isEnd, firstOf, leave}
 use Rattle.error.specs.declared.Refusal.{Refusal}
 use Rattle.error.specs.declared.Refusal.the-variants.{Missing}
 use Rattle.cursor.specs.Means.{leftOf, Ready, notes, tokens, run, Took, Follows, Behind, sign, past, Numbers}
@@ -58,7 +60,9 @@ module _ (s : List ℕ) (c m : Cursor) (r : Ready s c) (f : Follows s c m) where
   same-notes = rw (f .left)
 
   -- a rule that takes the head
-  pub took : {A : Type 0} (p : Rule A) (x : A) → isMark (kind (tokens s c)) 0 ≡ false → run s c p ≡ got x (notes s c) (rest (tokens s c)) → Took 1 s c m p x
+  pub took : {A : Type 0} (p : Rule A) (x : A) → isMark (kind (tokens s c)) 0 ≡ false
+      → run s c p ≡ got x (notes s c) (rest (tokens s c))
+      → Took 1 s c m p x
   took p x e h = record { is = h ∙ (rw (f .rest, f .left)); low = let a = head-moves s c r e in omega (arith, f .at); ready = f .ready }
 
   pub took-mark : (d : ℕ) → 0 < d → seesByte d (tokens s c) ≡ true → Took 1 s c m (theByte d) tt
@@ -71,14 +75,16 @@ module _ (s : List ℕ) (c m : Cursor) (r : Ready s c) (f : Follows s c m) where
   moved-low = let a = head-low s c r in omega (arith, f .at)
 
 -- a rule that takes nothing
-pub stays : {A : Type 0} (s : List ℕ) (c : Cursor) → Ready s c → (p : Rule A) (x : A) → run s c p ≡ got x (notes s c) (tokens s c) → Took 0 s c c p x
+pub stays : {A : Type 0} (s : List ℕ) (c : Cursor) → Ready s c → (p : Rule A) (x : A)
+    → run s c p ≡ got x (notes s c) (tokens s c) → Took 0 s c c p x
 stays s c r p x h = record { is = h; low = omega arith; ready = r }
 
 -- more bytes are enough bytes
 pub fewer : {A : Type 0} {s : List ℕ} {c m : Cursor} {p : Rule A} {x : A} → Took 1 s c m p x → Took 0 s c m p x
 fewer t = record { is = t .is; low = omega (arith, t .low); ready = t .ready }
 
-pub mark-missing : (s : List ℕ) (c : Cursor) → Ready s c → (d : ℕ) → seesByte d (tokens s c) ≡ false → run s c (theByte d) ≡ refused Missing (c .head .start)
+pub mark-missing : (s : List ℕ) (c : Cursor) → Ready s c → (d : ℕ) → seesByte d (tokens s c) ≡ false
+    → run s c (theByte d) ≡ refused Missing (c .head .start)
 mark-missing s c r d e = rw (e, r .head .place)
 
 -- ---- words and strings
@@ -89,7 +95,8 @@ small-number s c n r k = rw k at (r .head .stands)
 pub name-in : (s : List ℕ) (c : Cursor) (n : ℕ) → Ready s c → c .head .tok ≡ Name n → c .head .start + n ≤ length s
 name-in s c n r k = let a = rw k at (r .head .stands) in omega (arith, next-high s c r)
 
-pub took-word : (s : List ℕ) (c m : Cursor) (r : Ready s c) (f : Follows s c m) (n : ℕ) → c .head .tok ≡ Name n → isKeyword (part s (c .head .start) n) ≡ false
+pub took-word : (s : List ℕ) (c m : Cursor) (r : Ready s c) (f : Follows s c m) (n : ℕ)
+    → c .head .tok ≡ Name n → isKeyword (part s (c .head .start) n) ≡ false
     → Took 1 s c m word (c .head .start, part s (c .head .start) n)
 took-word s c m r f n k e = took s c m r f word _ (rw (r .head .kind, k)) (rw (r .head .kind, k, e, r .head .place))
 
@@ -100,7 +107,8 @@ no-word s c r e = rw (e, r .head .place)
 pub string-in : (s : List ℕ) (c : Cursor) (n : ℕ) → Ready s c → c .head .tok ≡ Quoted n → c .head .start + 1 + n ≤ length s
 string-in s c n r k = let a = rw k at (r .head .stands) in omega (arith, next-high s c r)
 
-pub took-string : (s : List ℕ) (c m : Cursor) (r : Ready s c) (f : Follows s c m) (n : ℕ) → c .head .tok ≡ Quoted n → Took 1 s c m text (c .head .start + 1, n)
+pub took-string : (s : List ℕ) (c m : Cursor) (r : Ready s c) (f : Follows s c m) (n : ℕ)
+    → c .head .tok ≡ Quoted n → Took 1 s c m text (c .head .start + 1, n)
 took-string s c m r f n k = took s c m r f text _ (rw (r .head .kind, k)) (rw (r .head .kind, k, r .head .place, add-one))
 
 pub no-string : (s : List ℕ) (c : Cursor) → Ready s c → quoteOf (kind (tokens s c)) ≡ none → run s c text ≡ refused Missing (c .head .start)
@@ -113,15 +121,19 @@ word-end (number w) v e = refl
 word-end (quoted w) v e = refl
 word-end (mark b) v e = absurd (let z : _≡_ {A = ℕ} 0 1 = cc in omega arith)
 
-pub took-true : (s : List ℕ) (c m : Cursor) (r : Ready s c) (f : Follows s c m) → seesBytes (bytes "true") (tokens s c) ≡ true → Took 1 s c m truth true
+pub took-true : (s : List ℕ) (c m : Cursor) (r : Ready s c) (f : Follows s c m)
+    → seesBytes (bytes "true") (tokens s c) ≡ true → Took 1 s c m truth true
 unfolding truth
 took-true s c m r f e = took s c m r f truth true (word-end (kind (tokens s c)) (bytes "true") e) (rw e)
 
-pub took-false : (s : List ℕ) (c m : Cursor) (r : Ready s c) (f : Follows s c m) → seesBytes (bytes "true") (tokens s c) ≡ false → seesBytes (bytes "false") (tokens s c) ≡ true → Took 1 s c m truth false
+pub took-false : (s : List ℕ) (c m : Cursor) (r : Ready s c) (f : Follows s c m)
+    → seesBytes (bytes "true") (tokens s c) ≡ false → seesBytes (bytes "false") (tokens s c) ≡ true
+    → Took 1 s c m truth false
 unfolding truth
 took-false s c m r f d e = took s c m r f truth false (word-end (kind (tokens s c)) (bytes "false") e) (rw (d, e))
 
-pub no-truth : (s : List ℕ) (c : Cursor) → Ready s c → seesBytes (bytes "true") (tokens s c) ≡ false → seesBytes (bytes "false") (tokens s c) ≡ false → run s c truth ≡ refused Missing (c .head .start)
+pub no-truth : (s : List ℕ) (c : Cursor) → Ready s c → seesBytes (bytes "true") (tokens s c) ≡ false
+    → seesBytes (bytes "false") (tokens s c) ≡ false → run s c truth ≡ refused Missing (c .head .start)
 unfolding truth
 no-truth s c r d e = rw (d, e, r .head .place)
 
@@ -134,7 +146,8 @@ some-unless false w = refl
 
 -- u stands behind the second of two marks
 pub took-both : (s : List ℕ) (c m u : Cursor) (r : Ready s c) (f : Follows s c m) (g : Follows s m u) (a b : ℕ) → 0 < a
-    → seesByte a (tokens s c) ≡ true → seesByte b (tokens s m) ≡ true → m .head .start ≡ c .head .start + 1 → Took 1 s c u (bothBytes a b) tt
+    → seesByte a (tokens s c) ≡ true → seesByte b (tokens s m) ≡ true
+    → m .head .start ≡ c .head .start + 1 → Took 1 s c u (bothBytes a b) tt
 took-both s c m u r f g a b h x y e =
     let q : place (tokens s m) ≡ suc (place (tokens s c)) = head-place s m (f .ready) ∙ e ∙ (rw (add-one, r .head .place)) in
     record {
@@ -149,20 +162,24 @@ no-pair true true false h = refl
 no-pair true false z h = refl
 no-pair false y z h = refl
 
-pub both-missing : (s : List ℕ) (c : Cursor) → Ready s c → (a b : ℕ) → seesPair a b (tokens s c) ≡ false → run s c (bothBytes a b) ≡ refused Missing (c .head .start)
+pub both-missing : (s : List ℕ) (c : Cursor) → Ready s c → (a b : ℕ) → seesPair a b (tokens s c) ≡ false
+    → run s c (bothBytes a b) ≡ refused Missing (c .head .start)
 both-missing s c r a b e = rw (e, r .head .place)
 
 -- the first is not there; or the second; or they are not adjacent
 pub pair-first : (s : List ℕ) (c : Cursor) (a b : ℕ) → seesByte a (tokens s c) ≡ false → seesPair a b (tokens s c) ≡ false
 pair-first s c a b e = no-pair _ _ _ (inl e)
 
-pub pair-second : (s : List ℕ) (c m : Cursor) (f : Follows s c m) (a b : ℕ) → seesByte b (tokens s m) ≡ false → seesPair a b (tokens s c) ≡ false
+pub pair-second : (s : List ℕ) (c m : Cursor) (f : Follows s c m) (a b : ℕ)
+    → seesByte b (tokens s m) ≡ false → seesPair a b (tokens s c) ≡ false
 pair-second s c m f a b e = no-pair (seesByte a (tokens s c)) _ _ (inr (inl (rw (f .rest, e))))
 
-pub pair-apart : (s : List ℕ) (c m : Cursor) (r : Ready s c) (f : Follows s c m) (a b : ℕ) → (m .head .start ≡ c .head .start + 1 → ⊥) → seesPair a b (tokens s c) ≡ false
+pub pair-apart : (s : List ℕ) (c m : Cursor) (r : Ready s c) (f : Follows s c m) (a b : ℕ)
+    → (m .head .start ≡ c .head .start + 1 → ⊥) → seesPair a b (tokens s c) ≡ false
 pair-apart s c m r f a b n =
     no-pair (seesByte a (tokens s c)) (seesByte b (rest (tokens s c))) _
-    (inr (inr (rw (f .rest, head-place s m (f .ready), r .head .place) (ne-eqb (m .head .start) (suc (c .head .start)) (λ e. n (omega arith))))))
+    (inr
+    (inr (rw (f .rest, head-place s m (f .ready), r .head .place) (ne-eqb (m .head .start) (suc (c .head .start)) (λ e. n (omega arith))))))
 
 -- ---- numbers
 
@@ -177,24 +194,33 @@ module _ (s : List ℕ) (c m : Cursor) (r : Ready s c) (f : Follows s c m) where
     small = l;
   }
 
-  pub minus-number : (u : Cursor) → Follows s m u → (n : Number) → seesByte 45 (tokens s c) ≡ true → m .head .tok ≡ Num n → Small n → Numbers s c true n u
+  pub minus-number : (u : Cursor) → Follows s m u → (n : Number) → seesByte 45 (tokens s c) ≡ true
+      → m .head .tok ≡ Num n → Small n → Numbers s c true n u
   minus-number u g n e k l = record {
     sees = rw (e, f .rest, f .ready .head .kind, k);
     past = rw (f .rest, g .rest);
     left = g .left ∙ f .left;
-    low = let a = head-moves s c r (no-end (kind (tokens s c)) 45 e (omega arith)) in let b = moved-low s m u (f .ready) g in omega (arith, f .at);
+    low = let a = head-moves s c r (no-end (kind (tokens s c)) 45 e (omega arith)) in
+        let b = moved-low s m u (f .ready) g in
+        omega (arith, f .at);
     ready = g .ready;
     small = l;
   }
 
-  pub no-minus : seesByte 45 (tokens s c) ≡ true → ((t : List ℕ) → plain (kindOf t (m .head .tok)) ≡ absent) → seesNumber (tokens s c) ≡ absent
+  pub no-minus : seesByte 45 (tokens s c) ≡ true
+      → ((t : List ℕ) → plain (kindOf t (m .head .tok)) ≡ absent)
+      → seesNumber (tokens s c) ≡ absent
   no-minus e k = rw (e, f .rest, f .ready .head .kind, k)
 
-pub no-number : (s : List ℕ) (c : Cursor) → Ready s c → seesByte 45 (tokens s c) ≡ false → ((t : List ℕ) → plain (kindOf t (c .head .tok)) ≡ absent) → seesNumber (tokens s c) ≡ absent
+pub no-number : (s : List ℕ) (c : Cursor) → Ready s c → seesByte 45 (tokens s c) ≡ false
+    → ((t : List ℕ) → plain (kindOf t (c .head .tok)) ≡ absent)
+    → seesNumber (tokens s c) ≡ absent
 no-number s c r e k = rw (e, r .head .kind, k)
 
 module _ (s : List ℕ) (c m : Cursor) (b : Bool) (n : Number) (h : Numbers s c b n m) where
-  by-sign : (r : Refusal) (x : Bool) (v : Signed) → v ≡ sign x (written n) → (us : List Token) → past x (tokens s c) ≡ us → taken r v (notes s c) (tokens s c) ≡ got (x, written n) (notes s c) us
+  by-sign : (r : Refusal) (x : Bool) (v : Signed) → v ≡ sign x (written n)
+      → (us : List Token) → past x (tokens s c) ≡ us
+      → taken r v (notes s c) (tokens s c) ≡ got (x, written n) (notes s c) us
   by-sign r false v e us q = rw (e, q)
   by-sign r true v e us q = rw (e, q)
 
@@ -210,7 +236,11 @@ module _ (s : List ℕ) (c m : Cursor) (b : Bool) (n : Number) (h : Numbers s c 
   took-number r = record { is = by-sign r b _ (h .sees) _ (h .past) ∙ (rw (h .left)); low = h .low; ready = h .ready }
 
   pub took-whole : (r : Refusal) → n .point ≡ false → Took 1 s c m (signed seesWhole r) (b, written n)
-  took-whole r e = record { is = by-sign r b _ (ap pointless (h .sees) ∙ whole-sign b e) _ (h .past) ∙ (rw (h .left)); low = h .low; ready = h .ready }
+  took-whole r e = record {
+    is = by-sign r b _ (ap pointless (h .sees) ∙ whole-sign b e) _ (h .past) ∙ (rw (h .left));
+    low = h .low;
+    ready = h .ready;
+  }
 
   pub whole-missing : (r : Refusal) → n .point ≡ true → run s c (signed seesWhole r) ≡ refused r (place (tokens s c))
   whole-missing r e = ap (λ (v : Signed). taken r v (notes s c) (tokens s c)) (ap pointless (h .sees) ∙ whole-none b e)
@@ -295,13 +325,16 @@ module _ (s : List ℕ) (c m : Cursor) (d : ℕ) (w : Leaving s c m d) where
   }
 
   pub leaving-moves : (u : Cursor) → Follows s m u → (x : ℕ) → weigh (kind (tokens s m)) d ≡ goes x → m .at < u .at
-  leaving-moves u f x e = let a = head-moves s m (w .ready) (not-halted (kind (tokens s m)) d (goes x) e (not-goes x)) in omega (arith, f .at)
+  leaving-moves u f x e =
+      let a = head-moves s m (w .ready) (not-halted (kind (tokens s m)) d (goes x) e (not-goes x)) in omega (arith, f .at)
 
   pub leaving-goes : (u : Cursor) → Follows s m u → (x : ℕ) → weigh (kind (tokens s m)) d ≡ goes x → Leaving s c u x
   leaving-goes u f x e = record {
     is = w .is ∙ behind-goes d x (tokens s m) e (not-halted (kind (tokens s m)) d (goes x) e (not-goes x)) ∙ ap (behind x) (f .rest);
     low = let a = leaving-moves u f x e in omega (arith, w .low);
-    deep = let a = leaving-moves u f x e in let b : depth (goes x) ≤ d + 1 = subst (λ (p : Pass). depth p ≤ d + 1) e (depth-small (kind (tokens s m)) d) in omega (arith, w .deep);
+    deep = let a = leaving-moves u f x e in
+        let b : depth (goes x) ≤ d + 1 = subst (λ (p : Pass). depth p ≤ d + 1) e (depth-small (kind (tokens s m)) d) in
+        omega (arith, w .deep);
     left = f .left ∙ w .left;
     ready = f .ready;
   }
@@ -310,7 +343,9 @@ module _ (s : List ℕ) (c m : Cursor) (d : ℕ) (w : Leaving s c m d) where
 pub leave-end : (s : List ℕ) (c m : Cursor) → Ready s c → Follows s c m → ends (tokens s c) ≡ true → Took 0 s c m leave tt
 leave-end s c m r f e = record { is = rw (e, f .rest, f .left); low = let a = moved-low s c m r f in omega arith; ready = f .ready }
 
-pub leave-left : (s : List ℕ) (c m u : Cursor) → Ready s c → Behind s c m → ends (tokens s c) ≡ false → u .at ≡ m .at → u .head ≡ m .head → leftOf (u .left) ≡ firstOf (leftOf (c .left)) (c .head .start)
+pub leave-left : (s : List ℕ) (c m u : Cursor) → Ready s c → Behind s c m
+    → ends (tokens s c) ≡ false → u .at ≡ m .at → u .head ≡ m .head
+    → leftOf (u .left) ≡ firstOf (leftOf (c .left)) (c .head .start)
     → Took 0 s c u leave tt
 leave-left s c m u r b e i j l = record {
   is = rw (e, r .head .place, l, i, b .is);

@@ -1,4 +1,5 @@
--- What a cursor is, and what the answers of the functions over it mean, in terms of the grammar's rules. Contracts cite these. Assumes nothing.
+-- What a cursor is, and what the answers of the functions over it mean, in terms of the grammar's rules. Contracts cite these.
+-- Assumes nothing.
 use Prim.Native.Nat.{ℕ, suc, _+_, _≤_, _<_}
 use mathlib.Core.Bool.{Bool, true, false, not}
 use mathlib.Core.List.{List}
@@ -16,7 +17,8 @@ use Rattle.token.specs.declared.Tok.{Tok}
 use Rattle.token.specs.declared.Tok.the-variants as tok
 use Rattle.ast.specs.declared.Span.{Span}
 use Rattle.error.specs.declared.Refusal.the-variants as cause
-use Rattle.grammar.specs.Rule.{Notes, Out, got, refused, Rule, Signed, absent, plus, minus, plain, seesNumber, word, text, behind, Pass, halts, closes, goes}
+use Rattle.grammar.specs.Rule.{Notes, Out, got, refused, Rule, Signed, absent, plus, minus}
+use Rattle.grammar.specs.Rule.{plain, seesNumber, word, text, behind, Pass, halts, closes, goes}
 use Rattle.cursor.specs.declared.Left.{Left}
 use Rattle.cursor.specs.declared.Left.the-variants as left
 use Rattle.cursor.specs.declared.Cursor.{Cursor}

@@ -117,7 +117,8 @@ module _ (s : List ℕ) (at n : ℕ) where
   byte-got h b = got (getD s at 0) (rw (drop-cons s at 0 h, lt-ltb _ _ b, add-one)) refl (omega arith) (omega arith)
 
   pub byte-over : {v k : ℕ} → Lost s k → n ≤ getD s at 0 → Reads (below n) same s at v k
-  byte-over o b = bad o (λ i. ⊎-elim (λ e. rw (drop-of-length-le s {i = at} e)) (λ h. rw (drop-cons s at 0 h, le-ltb _ _ b)) (le-or-lt (length s) at))
+  byte-over o b =
+      bad o (λ i. ⊎-elim (λ e. rw (drop-of-length-le s {i = at} e)) (λ h. rw (drop-cons s at 0 h, le-ltb _ _ b)) (le-or-lt (length s) at))
 
   pub byte-end : {v k : ℕ} → Lost s k → length s ≤ at → Reads (below n) same s at v k
   byte-end o h = bad o (λ i. rw (drop-of-length-le s {i = at} h))
@@ -130,7 +131,8 @@ formAt [] i = never
 formAt (c ∷ cs) zero = c .form
 formAt (c ∷ cs) (suc i) = formAt cs i
 
-read-at : {B : Type 0} (cs : List (Case B)) (i : ℕ) (bs : List ℕ) → readAt cs i bs ≡ andThen (formAt cs i .read bs) (λ x r. some (makeAt cs i x, r))
+read-at : {B : Type 0} (cs : List (Case B)) (i : ℕ) (bs : List ℕ)
+    → readAt cs i bs ≡ andThen (formAt cs i .read bs) (λ x r. some (makeAt cs i x, r))
 read-at [] i bs = refl
 read-at (c ∷ cs) zero bs = refl
 read-at (c ∷ cs) (suc i) bs = read-at cs i bs
@@ -152,12 +154,14 @@ module _ {B : Type 0} (cs : List (Case B)) (split : B → (i : ℕ) × FieldsAt 
       go true p q = absurd (let z : _≡_ {A = ℕ} 0 1 = cc in omega arith)
       go false p q = no-case cs b bs (ltb-false b (length cs) p)
 
-  a-byte : (bs : List ℕ) (i : ℕ) (r : List ℕ) → belowIn (length cs) bs ≡ some (i, r) → readCase cs bs ≡ andThen (formAt cs i .read r) (λ x t. some (makeAt cs i x, t))
+  a-byte : (bs : List ℕ) (i : ℕ) (r : List ℕ) → belowIn (length cs) bs ≡ some (i, r)
+      → readCase cs bs ≡ andThen (formAt cs i .read r) (λ x t. some (makeAt cs i x, t))
   a-byte bs i r e = ap (readCase cs) (below-lawful (length cs) .forth bs (i, r) e .0) ∙ read-at cs i r
 
   -- the position i, then the fields of the case there
   pub chosen : {X Y : Type 0} {view : B → Y} {s : List ℕ} {at m k b : ℕ} {v : X} {w : Y} (i : ℕ) {f : FieldsAt cs i → X}
-      → Reads (below (length cs)) same s at b m → b ≡ i → Reads (formAt cs i) f s m v k → ((x : FieldsAt cs i) → f x ≡ v → view (makeAt cs i x) ≡ w)
+      → Reads (below (length cs)) same s at b m → b ≡ i → Reads (formAt cs i) f s m v k
+      → ((x : FieldsAt cs i) → f x ≡ v → view (makeAt cs i x) ≡ w)
       → Reads (enum cs split) view s at w k
   chosen {s = s} {at = at} {m = m} i (got a e q h l) p (got x e′ q′ h′ l′) t =
       let z : belowIn (length cs) (drop at s) ≡ some (i, drop m s) = e ∙ ap (λ (j : ℕ). some (j, drop m s)) (q ∙ p) in
@@ -174,7 +178,8 @@ module _ {A : Type 0} (c : Form A) {X : Type 0} {view : Option A → X} {s : Lis
   absent r p q = chosen (options c) (splitOption c) 0 {f = λ (u : Unit {0}). u} (r .reads) p (nothing s m) (λ x e. q)
 
   pub present : {Y : Type 0} {f : A → Y} {k : ℕ} {v : Y} {w : X}
-      → Number (below 2) 2 s at b m → (b ≡ 0 → ⊥) → Reads c f s m v k → ((a : A) → f a ≡ v → view (some a) ≡ w) → Reads (opt c) view s at w k
+      → Number (below 2) 2 s at b m → (b ≡ 0 → ⊥) → Reads c f s m v k
+      → ((a : A) → f a ≡ v → view (some a) ≡ w) → Reads (opt c) view s at w k
   present r n g t = chosen (options c) (splitOption c) 1 (r .reads) (one b (r .small) n) g t
     where
       one : (b : ℕ) → b < 2 → (b ≡ 0 → ⊥) → b ≡ 1
@@ -220,19 +225,26 @@ module _ (s : List ℕ) (at : ℕ) where
 
   pub big-short : (j k v : ℕ) {m : ℕ} → length s ≤ at + k → big k .read (drop at s) ≡ some (v, drop (at + k) s) → k < j → Lost s m
       → Number (big j) (256 ^ j) s at 0 m
-  big-short j k v h e l o = record { reads = bad o (λ i. big-up j (suc k) l (rw (e, drop-of-length-le s {i = at + k} h))); small = some-room j }
+  big-short j k v h e l o = record {
+    reads = bad o (λ i. big-up j (suc k) l (rw (e, drop-of-length-le s {i = at + k} h)));
+    small = some-room j;
+  }
 
   pub big-got : (j k v : ℕ) → k ≡ j → big k .read (drop at s) ≡ some (v, drop (at + k) s) → at + k ≤ length s → v < 256 ^ k
       → Number (big j) (256 ^ j) s at v (at + k)
-  big-got j k v q e l r = subst (λ (j : ℕ). Number (big j) (256 ^ j) s at v (at + k)) q (record { reads = got v e refl (omega arith) l; small = r })
+  big-got j k v q e l r =
+      subst (λ (j : ℕ). Number (big j) (256 ^ j) s at v (at + k)) q (record { reads = got v e refl (omega arith) l; small = r })
 
 -- ---- so many of a form
 
 pub each-none : {A X : Type 0} (c : Form A) (h : List A → X) (s : List ℕ) (at : ℕ) → Reads (each c 0) h s at (h []) at
 each-none c h s at = ⊎-elim (λ l. got [] refl refl (omega arith) l) (λ l. stays-lost (each c 0) s l l) (le-or-lt at (length s))
 
-pub each-next : {A X Y Z : Type 0} {c : Form A} {f : A → X} (j : ℕ) {g : List A → Y} (h : List A → Z) {s : List ℕ} {at m k : ℕ} {v : X} {w : Y} {z : Z}
-    → Reads c f s at v m → Reads (each c j) g s m w k → ((x : A) (xs : List A) → f x ≡ v → g xs ≡ w → h (x ∷ xs) ≡ z) → Reads (each c (suc j)) h s at z k
+pub each-next : {A X Y Z : Type 0} {c : Form A} {f : A → X} (j : ℕ) {g : List A → Y} (h : List A → Z) {s : List ℕ} {at m k : ℕ} {v : X}
+    {w : Y} {z : Z}
+    → Reads c f s at v m → Reads (each c j) g s m w k
+    → ((x : A) (xs : List A) → f x ≡ v → g xs ≡ w → h (x ∷ xs) ≡ z)
+    → Reads (each c (suc j)) h s at z k
 each-next j h (got a e q l r) (got b e′ q′ l′ r′) t = got (a ∷ b) (rw (e, e′)) (t a b q q′) (le-trans l l′) r′
 each-next j h (got a e q l r) (bad o n) t = bad o (λ i. rw (e, n r))
 each-next j h {m = m} {k = k} (bad o n) (got b e′ q′ l′ r′) t = beyond _ m k o l′ r′

@@ -26,12 +26,14 @@ length-big zero n = refl
 length-big (suc k) n = length-append (big k .write (n / 256)) _ ∙ (let e = length-big k (n / 256) in omega arith)
 
 -- its last byte is written first
-pub big-last : (l : List ℕ) (at k v : ℕ) → 0 < k → sets l at (big k .write v) ≡ sets (set l (at + (k - 1)) (v % 256)) at (big (k - 1) .write (v / 256))
+pub big-last : (l : List ℕ) (at k v : ℕ) → 0 < k
+    → sets l at (big k .write v) ≡ sets (set l (at + (k - 1)) (v % 256)) at (big (k - 1) .write (v / 256))
 big-last l at zero v h = absurd (omega arith)
 big-last l at (suc k) v h =
     let e = length-big k (v / 256) in
     let s : suc k - 1 ≡ k = omega arith in
-    sets-append l at (big k .write (v / 256)) (v % 256 ∷ []) ∙ (rw (e, s) (set-sets l at (big k .write (v / 256)) (at + k) (v % 256) (omega arith)))
+    sets-append l at (big k .write (v / 256)) (v % 256 ∷ [])
+    ∙ (rw (e, s) (set-sets l at (big k .write (v / 256)) (at + k) (v % 256) (omega arith)))
 
 -- what k bytes hold
 pub small : (k n : ℕ) → n < 256 ^ k → Small k n

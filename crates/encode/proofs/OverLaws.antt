@@ -18,7 +18,9 @@ set-sets l i (a ∷ xs) j x h =
     set-sets (set l i a) (suc i) xs j x (omega arith) ∙ ap (λ (m : List ℕ). sets m (suc i) xs) (set-comm l i j a x (λ e. omega arith))
 
 -- and so may several
-pub sets-comm : (l : List ℕ) (i : ℕ) (xs : List ℕ) (j : ℕ) (bs : List ℕ) → i + length xs ≤ j → sets (sets l i xs) j bs ≡ sets (sets l j bs) i xs
+pub sets-comm : (l : List ℕ) (i : ℕ) (xs : List ℕ) (j : ℕ) (bs : List ℕ)
+    → i + length xs ≤ j
+    → sets (sets l i xs) j bs ≡ sets (sets l j bs) i xs
 sets-comm l i xs j [] h = refl
 sets-comm l i xs j (b ∷ bs) h =
     ap (λ (m : List ℕ). sets m (suc j) bs) (set-sets l i xs j b h) ∙ sets-comm (set l j b) i xs (suc j) bs (omega arith)
@@ -62,7 +64,9 @@ pub writes-none : (out : List ℕ) (at : ℕ) → Writes out at [] out at
 writes-none out at = record { bytes = refl; place = omega arith }
 
 -- bytes, and others behind them
-pub writes-then : {out mid after : List ℕ} {at m end : ℕ} {bs cs : List ℕ} → Writes out at bs mid m → Writes mid m cs after end → Writes out at (bs ++ cs) after end
+pub writes-then : {out mid after : List ℕ} {at m end : ℕ} {bs cs : List ℕ}
+    → Writes out at bs mid m → Writes mid m cs after end
+    → Writes out at (bs ++ cs) after end
 writes-then {out} {mid} {after} {at} {m} {end} {bs} {cs} p q = record {
   bytes = q .bytes ∙ (rw (p .bytes, p .place) (sym (sets-append out at bs cs)));
   place = rw length-append (omega (arith, p .place, q .place));
@@ -72,7 +76,8 @@ pub writes-keeps : {out after bs : List ℕ} {at end : ℕ} → Writes out at bs
 writes-keeps {out} {after} {bs} {at} p = ap length (p .bytes) ∙ length-sets out at bs
 
 -- a part of what was written is written again
-pub writes-patch : {out mid after ys′ : List ℕ} {at j end e : ℕ} (xs ys zs : List ℕ) → Writes out at (xs ++ (ys ++ zs)) mid end → j ≡ at + length xs
+pub writes-patch : {out mid after ys′ : List ℕ} {at j end e : ℕ} (xs ys zs : List ℕ)
+    → Writes out at (xs ++ (ys ++ zs)) mid end → j ≡ at + length xs
     → Writes mid j ys′ after e → length ys ≡ length ys′ → Writes out at (xs ++ (ys′ ++ zs)) after end
 writes-patch {out} {ys′ = ys′} {at} xs ys zs p g q h = record {
   bytes = q .bytes ∙ (rw (p .bytes, g) (sets-patch out at xs ys zs ys′ h));
@@ -80,7 +85,8 @@ writes-patch {out} {ys′ = ys′} {at} xs ys zs p g q h = record {
 }
 
 -- a part that was passed over is written last
-pub writes-fill : {out mid late after xs ys zs : List ℕ} {at j m end e : ℕ} → Writes out at xs mid j → m ≡ j + length ys → Writes mid m zs late end
+pub writes-fill : {out mid late after xs ys zs : List ℕ} {at j m end e : ℕ}
+    → Writes out at xs mid j → m ≡ j + length ys → Writes mid m zs late end
     → Writes late j ys after e → Writes out at (xs ++ (ys ++ zs)) after end
 writes-fill {out} {xs = xs} {ys = ys} {zs = zs} {at} p g q f = record {
   bytes = f .bytes ∙ (rw (q .bytes, g, p .bytes, p .place) (sets-fill out at xs ys zs));
@@ -88,6 +94,7 @@ writes-fill {out} {xs = xs} {ys = ys} {zs = zs} {at} p g q f = record {
 }
 
 -- what stands behind a count of two bytes, then the count
-pub writes-counted : {out late after bs : List ℕ} {at m end e : ℕ} (n : ℕ) → m ≡ at + 2 → Writes out m bs late end → Writes late at (big 2 .write n) after e
+pub writes-counted : {out late after bs : List ℕ} {at m end e : ℕ} (n : ℕ)
+    → m ≡ at + 2 → Writes out m bs late end → Writes late at (big 2 .write n) after e
     → Writes out at (big 2 .write n ++ bs) after end
 writes-counted {out} {at = at} n g q f = writes-fill (writes-none out at) g q f

@@ -18,8 +18,10 @@ use Rattle.token.specs.declared.Tok.{Tok}
 use Rattle.token.specs.declared.Tok.the-variants.{Name, Num, Quoted, Mark}
 use Rattle.error.specs.declared.Refusal.{Refusal}
 use Rattle.error.specs.declared.Refusal.the-variants.{Missing}
-use Rattle.grammar.specs.Rule.{isWord, seesBytes, word, Notes, Out, got, refused, after, Rule, Next, more, done, next, steps, listStep, eat, goOn, give, _>>=_, ends}
-use Rattle.grammar.specs.Fields.{Item, halts, closes, passes, starts, itemOf, Table, Fields, Entry, Content, rowOf, fieldHead, fieldValue, fieldName, pairName, entry, oneField, fieldsStep, onePair}
+use Rattle.grammar.specs.Rule.{isWord, seesBytes, word, Notes, Out, got, refused, after, Rule, Next}
+use Rattle.grammar.specs.Rule.{more, done, next, steps, listStep, eat, goOn, give, _>>=_, ends}
+use Rattle.grammar.specs.Fields.{Item, halts, closes, passes, starts, itemOf, Table, Fields, Entry, Content, rowOf}
+use Rattle.grammar.specs.Fields.{fieldHead, fieldValue, fieldName, pairName, entry, oneField, fieldsStep, onePair}
 use Rattle.cursor.specs.Means.{Ready, notes, tokens, run, Took, Follows, WordMeans, spelled}
 use Rattle.cursor.specs.declared.Cursor.{Cursor}
 use Rattle.cursor.specs.declared.WordRead.{WordRead}
@@ -28,7 +30,8 @@ use Rattle.ast.specs.declared.Span.{Span}
 use Rattle.fields.specs.declared.NextField.{NextField}
 use Rattle.fields.specs.declared.NextField.the-variants as found
 use Rattle.cursor.proofs.CursorLaws.{took, head-moves, moved-low}
-use Rattle.fields.specs.Means.{NameMeans, HeadMeans, StartMeans, FieldMeans, PairMeans, names, headBehind, RowAt, Gives, FieldAt, PairAt}
+use Rattle.fields.specs.Means.{NameMeans, HeadMeans, StartMeans, FieldMeans, PairMeans}
+use Rattle.fields.specs.Means.{names, headBehind, RowAt, Gives, FieldAt, PairAt}
 
 none≢some : {A B : Type 0} {a : A} → Prim.Path (Option A) none (some a) → B
 none≢some e = absurd (let z : _≡_ {A = ℕ} 0 1 = cc in omega arith)
@@ -45,8 +48,11 @@ row-by : (f : String × Rule Content) (fs : Table) (i m : ℕ) (w : List ℕ) �
     → (find (names fs) (suc i) w ≡ some m → (d : ℕ) × (m ≡ suc i + d) × RowFound fs w d)
     → (b : Bool) → same w (bytes (f .0)) ≡ b → (d : ℕ) × (m ≡ i + d) × RowFound (f ∷ fs) w d
 unfolding rowOf
-row-by f fs i m w e ih true q =
-    (0, let z = Option·some-injective i m (sym (find-here w (bytes (f .0)) (names fs) i q) ∙ e) in omega arith, record { row = f; is = refl; under = rw (q, rowOf) })
+row-by f fs i m w e ih true q = (
+  0,
+  let z = Option·some-injective i m (sym (find-here w (bytes (f .0)) (names fs) i q) ∙ e) in omega arith,
+  record { row = f; is = refl; under = rw (q, rowOf) },
+)
 row-by f fs i m w e ih false q =
     let (d, p, r) = ih (sym (find-past w (bytes (f .0)) (names fs) i q) ∙ e) in
     (suc d, omega arith, record { row = r .row; is = r .is; under = rw (q, rowOf) (r .under) })
@@ -74,7 +80,8 @@ pub row-none : (t : Table) (w : List ℕ) → find (names t) 0 w ≡ none → ro
 row-none t w e = row-none-from t 0 w e
 
 -- the code's lookup of a name in a table's words
-pub looked-up : (t : Table) (ws : List (List ℕ)) (w v : List ℕ) (x : Option ℕ) → names t ≡ ws → v ≡ w → x ≡ find ws 0 v → find (names t) 0 w ≡ x
+pub looked-up : (t : Table) (ws : List (List ℕ)) (w v : List ℕ) (x : Option ℕ)
+    → names t ≡ ws → v ≡ w → x ≡ find ws 0 v → find (names t) 0 w ≡ x
 looked-up t ws w v x e f h = rw (e, ← f) (sym h)
 
 -- ---- a list of fields, from a cursor on
@@ -96,7 +103,8 @@ not-passes e = let z : _≡_ {A = ℕ} 0 1 = cc in omega arith
 
 -- with some steps left there is one
 pub by-step : {A : Type 0} (step : A → Rule (Next A)) (a : A) (s : List ℕ) (c : Cursor) (out : Out A) → Ready s c
-    → ((k : ℕ) → length s < c .at + suc k → after (step a (notes s c) (tokens s c)) (next (λ b. steps step k b)) ≡ out) → Gives step s c a out
+    → ((k : ℕ) → length s < c .at + suc k → after (step a (notes s c) (tokens s c)) (next (λ b. steps step k b)) ≡ out)
+    → Gives step s c a out
 unfolding steps
 by-step step a s c out r h zero l = absurd (let z = r .high in omega arith)
 by-step step a s c out r h (suc k) l = h k l
@@ -106,39 +114,57 @@ module _ (s : List ℕ) (t : Table) (c : Cursor) (r : Ready s c) where
   unfolding fieldsStep
   gives-halts e fs = by-step (fieldsStep t) fs s c _ r (λ k l. rw e)
 
-  pub gives-closes : (m : Cursor) → Follows s c m → itemOf (kind (tokens s c)) ≡ closes → (fs : Fields) → Gives (fieldsStep t) s c fs (got fs (notes s m) (tokens s m))
+  pub gives-closes : (m : Cursor) → Follows s c m → itemOf (kind (tokens s c)) ≡ closes
+      → (fs : Fields)
+      → Gives (fieldsStep t) s c fs (got fs (notes s m) (tokens s m))
   unfolding fieldsStep
   gives-closes m f e fs = by-step (fieldsStep t) fs s c _ r (λ k l. rw (e, f .rest, f .left))
 
   pub passes-moves : (m : Cursor) → Follows s c m → itemOf (kind (tokens s c)) ≡ passes → c .at < m .at
   passes-moves m f e = let a = head-moves s c r (no-halt (kind (tokens s c)) passes e not-passes) in omega (arith, f .at)
 
-  pub gives-passes : (m : Cursor) → Follows s c m → itemOf (kind (tokens s c)) ≡ passes → (fs : Fields) (out : Out Fields) → Gives (fieldsStep t) s m fs out → Gives (fieldsStep t) s c fs out
+  pub gives-passes : (m : Cursor) → Follows s c m → itemOf (kind (tokens s c)) ≡ passes
+      → (fs : Fields) (out : Out Fields) → Gives (fieldsStep t) s m fs out
+      → Gives (fieldsStep t) s c fs out
   unfolding fieldsStep
-  gives-passes m f e fs out h = by-step (fieldsStep t) fs s c _ r (λ k l. rw (e, f .rest, sym (f .left)) (h k (let a = passes-moves m f e in omega arith)))
+  gives-passes m f e fs out h =
+      by-step (fieldsStep t) fs s c _ r (λ k l. rw (e, f .rest, sym (f .left)) (h k (let a = passes-moves m f e in omega arith)))
 
-  pub gives-refused : (x : Refusal) (q : ℕ) → itemOf (kind (tokens s c)) ≡ starts → run s c (fieldHead fieldName t) ≡ refused x q → (fs : Fields) → Gives (fieldsStep t) s c fs (refused x q)
+  pub gives-refused : (x : Refusal) (q : ℕ) → itemOf (kind (tokens s c)) ≡ starts
+      → run s c (fieldHead fieldName t) ≡ refused x q → (fs : Fields)
+      → Gives (fieldsStep t) s c fs (refused x q)
   unfolding fieldsStep oneField entry
   gives-refused x q e h fs = by-step (fieldsStep t) fs s c _ r (λ k l. rw (e, h))
 
-  after-more : (fs : Fields) (g : Fields → Rule Fields) (o : Out Entry) → after (after o (λ f. give (more (f ∷ fs)))) (next g) ≡ after o (λ f. g (f ∷ fs))
+  after-more : (fs : Fields) (g : Fields → Rule Fields) (o : Out Entry)
+      → after (after o (λ f. give (more (f ∷ fs)))) (next g) ≡ after o (λ f. g (f ∷ fs))
   after-more fs g (got f l ts) = refl
   after-more fs g (refused x q) = refl
 
-  pub gives-field : (i : ℕ) (m : Cursor) → itemOf (kind (tokens s c)) ≡ starts → RowAt 1 s c (fieldHead fieldName t) t i m → FieldAt s c t i m
+  pub gives-field : (i : ℕ) (m : Cursor) → itemOf (kind (tokens s c)) ≡ starts
+      → RowAt 1 s c (fieldHead fieldName t) t i m → FieldAt s c t i m
   unfolding fieldsStep oneField entry
   gives-field i m e f = record {
     row = f .row;
     is = f .is;
     low = f .took .low;
     ready = f .took .ready;
-    goes = λ fs out h. by-step (fieldsStep t) fs s c out r (λ k l. rw (e, f .took .is) (after-more fs (λ gs. steps (fieldsStep t) k gs) (run s m (fieldValue (f .row))) ∙ h k (let a = f .took .low in omega arith)));
+    goes = λ fs out h. by-step (fieldsStep t) fs s c out r
+        (λ k l. rw (e, f .took .is)
+        (after-more fs (λ gs. steps (fieldsStep t) k gs) (run s m (fieldValue (f .row))) ∙ h k (let a = f .took .low in omega arith)));
   }
 
 -- a field behind what was passed before it
-pub field-behind : (s : List ℕ) (t : Table) (c m : Cursor) → c .at ≤ m .at → ((fs : Fields) (out : Out Fields) → Gives (fieldsStep t) s m fs out → Gives (fieldsStep t) s c fs out)
+pub field-behind : (s : List ℕ) (t : Table) (c m : Cursor) → c .at ≤ m .at
+    → ((fs : Fields) (out : Out Fields) → Gives (fieldsStep t) s m fs out → Gives (fieldsStep t) s c fs out)
     → (i : ℕ) (u : Cursor) → FieldAt s m t i u → FieldAt s c t i u
-field-behind s t c m l g i u f = record { row = f .row; is = f .is; low = omega (arith, f .low); ready = f .ready; goes = λ fs out h. g fs out (f .goes fs out h) }
+field-behind s t c m l g i u f = record {
+  row = f .row;
+  is = f .is;
+  low = omega (arith, f .low);
+  ready = f .ready;
+  goes = λ fs out h. g fs out (f .goes fs out h);
+}
 
 -- ---- fields in parentheses
 
@@ -146,16 +172,20 @@ module _ (s : List ℕ) (t : Table) (c : Cursor) (r : Ready s c) where
   pub pairs-end : ends (tokens s c) ≡ true → (fs : Fields) → Gives (listStep (onePair t)) s c fs (got fs (notes s c) (tokens s c))
   pairs-end e fs = by-step (listStep (onePair t)) fs s c _ r (λ k l. rw e)
 
-  pub pairs-refused : (x : Refusal) (q : ℕ) → ends (tokens s c) ≡ false → run s c (fieldHead pairName t) ≡ refused x q → (fs : Fields) → Gives (listStep (onePair t)) s c fs (refused x q)
+  pub pairs-refused : (x : Refusal) (q : ℕ) → ends (tokens s c) ≡ false → run s c (fieldHead pairName t) ≡ refused x q
+      → (fs : Fields)
+      → Gives (listStep (onePair t)) s c fs (refused x q)
   unfolding onePair entry
   pairs-refused x q e h fs = by-step (listStep (onePair t)) fs s c _ r (λ k l. rw (e, h))
 
-  after-give : (g : Fields → Rule Fields) (gs : Fields) (o : Out Bool) → after (after o (λ b. give (goOn b gs))) (next g) ≡ after o (λ b. next g (goOn b gs))
+  after-give : (g : Fields → Rule Fields) (gs : Fields) (o : Out Bool)
+      → after (after o (λ b. give (goOn b gs))) (next g) ≡ after o (λ b. next g (goOn b gs))
   after-give g gs (got b l ts) = refl
   after-give g gs (refused x q) = refl
 
   after-pair : (fs : Fields) (g : Fields → Rule Fields) (o : Out Entry)
-      → after (after (after o (λ f. give (f ∷ fs))) (λ gs. eat "," >>= λ b. give (goOn b gs))) (next g) ≡ after o (λ f. eat "," >>= λ b. next g (goOn b (f ∷ fs)))
+      → after (after (after o (λ f. give (f ∷ fs))) (λ gs. eat "," >>= λ b. give (goOn b gs))) (next g)
+      ≡ after o (λ f. eat "," >>= λ b. next g (goOn b (f ∷ fs)))
   after-pair fs g (got f l ts) = after-give g (f ∷ fs) (eat "," l ts)
   after-pair fs g (refused x q) = refl
 
@@ -166,7 +196,10 @@ module _ (s : List ℕ) (t : Table) (c : Cursor) (r : Ready s c) where
     is = f .is;
     low = f .took .low;
     ready = f .took .ready;
-    goes = λ fs out h. by-step (listStep (onePair t)) fs s c out r (λ k l. rw (e, f .took .is) (after-pair fs (λ gs. steps (listStep (onePair t)) k gs) (run s m (fieldValue (f .row))) ∙ h k (let a = f .took .low in omega arith)));
+    goes = λ fs out h. by-step (listStep (onePair t)) fs s c out r
+        (λ k l. rw (e, f .took .is)
+        (after-pair fs (λ gs. steps (listStep (onePair t)) k gs) (run s m (fieldValue (f .row)))
+        ∙ h k (let a = f .took .low in omega arith)));
   }
 
 -- ---- a field's name
@@ -193,45 +226,62 @@ head-spelled s c r v e = go (c .head .tok) (sym (r .head .kind) ∙ e)
     go (Mark n) q = absurd (let z : _≡_ {A = ℕ} 0 1 = cc in omega arith)
 
 -- `loop` as a field's name
-pub took-loop : (s : List ℕ) (c m : Cursor) (r : Ready s c) (f : Follows s c m) → seesBytes (bytes "loop") (tokens s c) ≡ true → Took 1 s c m fieldName (part s (c .head .start) 4)
+pub took-loop : (s : List ℕ) (c m : Cursor) (r : Ready s c) (f : Follows s c m)
+    → seesBytes (bytes "loop") (tokens s c) ≡ true
+    → Took 1 s c m fieldName (part s (c .head .start) 4)
 unfolding fieldName
 took-loop s c m r f e =
     let k = word-name (kind (tokens s c)) (bytes "loop") e in
     rw (head-spelled s c r (bytes "loop") k) (took s c m r f fieldName (bytes "loop") (rw k) (rw e))
 
-pub took-name : (s : List ℕ) (c m : Cursor) (a : ℕ) (w : List ℕ) → seesBytes (bytes "loop") (tokens s c) ≡ false → Took 1 s c m word (a, w) → Took 1 s c m fieldName w
+pub took-name : (s : List ℕ) (c m : Cursor) (a : ℕ) (w : List ℕ) → seesBytes (bytes "loop") (tokens s c) ≡ false
+    → Took 1 s c m word (a, w) → Took 1 s c m fieldName w
 unfolding fieldName pairName
 took-name s c m a w e t = record { is = rw (e, t .is); low = t .low; ready = t .ready }
 
-pub no-name : (s : List ℕ) (c : Cursor) (q : ℕ) → seesBytes (bytes "loop") (tokens s c) ≡ false → run s c word ≡ refused Missing q → run s c fieldName ≡ refused Missing q
+pub no-name : (s : List ℕ) (c : Cursor) (q : ℕ) → seesBytes (bytes "loop") (tokens s c) ≡ false
+    → run s c word ≡ refused Missing q → run s c fieldName ≡ refused Missing q
 unfolding fieldName pairName
 no-name s c q e h = rw (e, h)
 
 -- a name, and what stands behind it
-pub head-took : (s : List ℕ) (p : Rule (List ℕ)) (c m u : Cursor) (w : List ℕ) (t : Table) (i : ℕ) → Took 1 s c m p w → RowAt 1 s m (headBehind w t) t i u → RowAt 1 s c (fieldHead p t) t i u
+pub head-took : (s : List ℕ) (p : Rule (List ℕ)) (c m u : Cursor) (w : List ℕ) (t : Table) (i : ℕ)
+    → Took 1 s c m p w → RowAt 1 s m (headBehind w t) t i u
+    → RowAt 1 s c (fieldHead p t) t i u
 unfolding fieldHead
-head-took s p c m u w t i n f = record { row = f .row; is = f .is; took = record { is = rw (n .is, f .took .is); low = omega (arith, n .low, f .took .low); ready = f .took .ready } }
+head-took s p c m u w t i n f = record {
+  row = f .row;
+  is = f .is;
+  took = record { is = rw (n .is, f .took .is); low = omega (arith, n .low, f .took .low); ready = f .took .ready };
+}
 
-pub head-refused : (s : List ℕ) (p : Rule (List ℕ)) (c m : Cursor) (w : List ℕ) (t : Table) (x : Refusal) (q : ℕ) → Took 1 s c m p w → run s m (headBehind w t) ≡ refused x q → run s c (fieldHead p t) ≡ refused x q
+pub head-refused : (s : List ℕ) (p : Rule (List ℕ)) (c m : Cursor) (w : List ℕ) (t : Table) (x : Refusal) (q : ℕ)
+    → Took 1 s c m p w → run s m (headBehind w t) ≡ refused x q
+    → run s c (fieldHead p t) ≡ refused x q
 unfolding fieldHead
 head-refused s p c m w t x q n h = rw (n .is, h)
 
-pub head-missing : (s : List ℕ) (p : Rule (List ℕ)) (c : Cursor) (t : Table) (x : Refusal) (q : ℕ) → run s c p ≡ refused x q → run s c (fieldHead p t) ≡ refused x q
+pub head-missing : (s : List ℕ) (p : Rule (List ℕ)) (c : Cursor) (t : Table) (x : Refusal) (q : ℕ)
+    → run s c p ≡ refused x q → run s c (fieldHead p t) ≡ refused x q
 unfolding fieldHead
 head-missing s p c t x q h = rw h
 
-pub named : (s : List ℕ) (c : Cursor) (a : WordRead) → seesBytes (bytes "loop") (tokens s c) ≡ false → WordMeans s c a → NameMeans s c fieldName a
+pub named : (s : List ℕ) (c : Cursor) (a : WordRead) → seesBytes (bytes "loop") (tokens s c) ≡ false
+    → WordMeans s c a → NameMeans s c fieldName a
 named s c (words.Is x m) e h = took-name s c m (x .start) _ e (h .0)
 named s c (words.Missing q) e h = no-name s c q e h
 
 -- the answer behind a name is the answer from the name on
-pub started : (s : List ℕ) (p : Rule (List ℕ)) (c m : Cursor) (x : Span) (t : Table) (a : NextField) → Took 1 s c m p (spelled s x) → HeadMeans s x m t a → StartMeans s p c t a
+pub started : (s : List ℕ) (p : Rule (List ℕ)) (c m : Cursor) (x : Span) (t : Table) (a : NextField)
+    → Took 1 s c m p (spelled s x) → HeadMeans s x m t a
+    → StartMeans s p c t a
 started s p c m x t (found.Field i u) n h = head-took s p c m u (spelled s x) t i n h
 started s p c m x t (found.Done u) n h = h
 started s p c m x t (found.Refused r q) n h = head-refused s p c m (spelled s x) t r q n h
 
 -- the next of the fields in parentheses, where the group does not end
-pub paired : (s : List ℕ) (t : Table) (c : Cursor) → Ready s c → ends (tokens s c) ≡ false → (a : NextField) → StartMeans s pairName c t a → PairMeans s c t a
+pub paired : (s : List ℕ) (t : Table) (c : Cursor) → Ready s c → ends (tokens s c) ≡ false
+    → (a : NextField) → StartMeans s pairName c t a → PairMeans s c t a
 paired s t c r e (found.Field i u) h = pairs-field s t c r i u e h
 paired s t c r e (found.Done u) h = absurd h
 paired s t c r e (found.Refused x q) h = pairs-refused s t c r x q e h
@@ -261,7 +311,9 @@ passed-on s c m u p f e = record {
   goes = λ t fs out h. p .goes t fs out (gives-passes s t m (p .ready) u f e fs out h);
 }
 
-pub passed-field : (s : List ℕ) (t : Table) (c m : Cursor) → Passed s c m → itemOf (kind (tokens s m)) ≡ starts → (a : NextField) → StartMeans s fieldName m t a → FieldMeans s c t a
+pub passed-field : (s : List ℕ) (t : Table) (c m : Cursor) → Passed s c m
+    → itemOf (kind (tokens s m)) ≡ starts → (a : NextField)
+    → StartMeans s fieldName m t a → FieldMeans s c t a
 passed-field s t c m p e (found.Field i u) h = field-behind s t c m (p .low) (p .goes t) i u (gives-field s t m (p .ready) i u e h)
 passed-field s t c m p e (found.Done u) h = absurd h
 passed-field s t c m p e (found.Refused x q) h = λ fs. p .goes t fs _ (gives-refused s t m (p .ready) x q e h fs)

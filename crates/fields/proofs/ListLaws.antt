@@ -24,20 +24,24 @@ pub listed-start : {A : Type 0} (step : A → Rule (Next A)) (s : List ℕ) (c :
 listed-start step s c b r = record { low = omega arith; ready = r; goes = λ out h. h }
 
 -- the repetition's own bound is enough
-whole : {A : Type 0} (step : A → Rule (Next A)) (s : List ℕ) (c : Cursor) (b : A) (out : Out A) → Gives step s c b out → run s c (repeat step b) ≡ out
+whole : {A : Type 0} (step : A → Rule (Next A)) (s : List ℕ) (c : Cursor) (b : A) (out : Out A)
+    → Gives step s c b out → run s c (repeat step b) ≡ out
 whole step s c b out g = g (suc (length s)) (omega arith)
 
 module _ {A : Type 0} (step : A → Rule (Next A)) (s : List ℕ) (c m : Cursor) (b a : A) (l : Listed step s c m b a) where
   pub listed-gives : (out : Out A) → Gives step s m a out → run s c (repeat step b) ≡ out
   listed-gives out g = whole step s c b out (l .goes out g)
 
-  pub listed-done : (e : Cursor) → Ready s e → m .at ≤ e .at → Gives step s m a (got a (notes s e) (tokens s e)) → Took 0 s c e (repeat step b) a
+  pub listed-done : (e : Cursor) → Ready s e → m .at ≤ e .at
+      → Gives step s m a (got a (notes s e) (tokens s e))
+      → Took 0 s c e (repeat step b) a
   listed-done e r h g = record { is = listed-gives _ g; low = omega (arith, l .low); ready = r }
 
 -- ---- fields in parentheses
 
 -- a value, behind which a `,` stands or not
-module _ (s : List ℕ) (t : Table) (c m v : Cursor) (b a : Fields) (l : Listed (listStep (onePair t)) s c m b a) (i : ℕ) (f : PairAt s m t i v) where
+module _ (s : List ℕ) (t : Table) (c m v : Cursor) (b a : Fields) (l : Listed (listStep (onePair t)) s c m b a) (i : ℕ)
+    (f : PairAt s m t i v) where
   pub pair-refused : (x : Refusal) (q : ℕ) → run s v (f .row .1) ≡ refused x q → run s c (repeat (listStep (onePair t)) b) ≡ refused x q
   unfolding fieldValue
   pair-refused x q h = listed-gives (listStep (onePair t)) s c m b a l _ (f .goes a _ (λ k n. rw h))
@@ -64,7 +68,8 @@ module _ (s : List ℕ) (t : Table) (c m v : Cursor) (b a : Fields) (l : Listed 
 
 -- ---- a field list
 
-module _ (s : List ℕ) (t : Table) (c m v : Cursor) (b a : Fields) (l : Listed (fieldsStep t) s c m b a) (i : ℕ) (f : FieldAt s m t i v) where
+module _ (s : List ℕ) (t : Table) (c m v : Cursor) (b a : Fields) (l : Listed (fieldsStep t) s c m b a) (i : ℕ)
+    (f : FieldAt s m t i v) where
   pub field-refused : (x : Refusal) (q : ℕ) → run s v (f .row .1) ≡ refused x q → run s c (repeat (fieldsStep t) b) ≡ refused x q
   unfolding fieldValue
   field-refused x q h = listed-gives (fieldsStep t) s c m b a l _ (f .goes a _ (λ k n. rw h))

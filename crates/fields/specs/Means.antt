@@ -13,7 +13,8 @@ use Rattle.error.specs.declared.Refusal.{Refusal}
 use Rattle.error.specs.declared.Refusal.the-variants as cause
 use Rattle.grammar.specs.Rule.{Notes, Out, got, refused, after, Rule, Next, next, steps, listStep, eat, goOn, give, _>>=_, _>>_, the, need}
 use Rattle.grammar.specs.Fields as fields
-use Rattle.grammar.specs.Fields.{Table, Fields, Entry, Content, rowOf, fieldHead, fieldValue, fieldName, pairName, fieldsStep, onePair, parseFieldList, pairs}
+use Rattle.grammar.specs.Fields.{Table, Fields, Entry, Content, rowOf, fieldHead, fieldValue}
+use Rattle.grammar.specs.Fields.{fieldName, pairName, fieldsStep, onePair, parseFieldList, pairs}
 use Rattle.cursor.specs.Means.{Ready, notes, tokens, run, Took, spelled}
 use Rattle.cursor.specs.declared.Cursor.{Cursor}
 use Rattle.cursor.specs.declared.WordRead.{WordRead}
@@ -72,12 +73,14 @@ pub record FieldAt (s : List ℕ) (c : Cursor) (t : Table) (i : ℕ) (m : Cursor
   pub low : c .at + 1 ≤ m .at
   pub ready : Ready s m
   pub goes : (fs : Fields) (out : Out Fields)
-      → ((k : ℕ) → length s < m .at + k → after (run s m (fieldValue row)) (λ e. steps (fieldsStep t) k (e ∷ fs)) ≡ out) → Gives (fieldsStep t) s c fs out
+      → ((k : ℕ) → length s < m .at + k → after (run s m (fieldValue row)) (λ e. steps (fieldsStep t) k (e ∷ fs)) ≡ out)
+      → Gives (fieldsStep t) s c fs out
 
 -- parse_field_list
 abbrev pub FieldMeans : List ℕ → Cursor → Table → NextField → Type 0
 FieldMeans s c t (found.Field i m) = FieldAt s c t i m
-FieldMeans s c t (found.Done m) = Ready s m × (c .at ≤ m .at) × ((fs : Fields) → Gives (fieldsStep t) s c fs (got fs (notes s m) (tokens s m)))
+FieldMeans s c t (found.Done m) =
+    Ready s m × (c .at ≤ m .at) × ((fs : Fields) → Gives (fieldsStep t) s c fs (got fs (notes s m) (tokens s m)))
 FieldMeans s c t (found.Refused r q) = (fs : Fields) → Gives (fieldsStep t) s c fs (refused r q)
 
 -- fields in parentheses: behind a field's value a `,`, and the list goes on, or none, and it ends

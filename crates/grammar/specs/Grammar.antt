@@ -36,10 +36,14 @@ use Rattle.ast.specs.Tree.{
   push,
   append,
 }
-use Rattle.grammar.specs.Fields.{Content, aNumber, aDamping, aRange, Table, pairs, parseFieldList, numberOf, truthOf, easingOf, loopModeOf, valueOf, dampingOf, rangeOf, ever}
-use Rattle.grammar.specs.Values.{ident, string, parseFloat, parseUint, parseFloatInParens, parseTwoFloatsInParens, parseValue, f32Of, parseEasing, parseLoopMode, number, count, flag, value, easing, loopMode}
-use Rattle.grammar.specs.Rule.{Rule, _>>=_, _>>_, give, refuse, need, if, sees, seesWord, seesName, seesNumber, ends, skip, the, both, eat, word, choice, signed, inside, repeat, Next, more, done, goOn}
-use Rattle.error.specs.declared.Refusal.the-variants.{Missing, UnknownKeyword, Malformed, UnknownSpringPreset, MissingDuration, StaggerGridIncomplete, TooManyNested}
+use Rattle.grammar.specs.Fields.{Content, aNumber, aDamping, aRange, Table, pairs, parseFieldList}
+use Rattle.grammar.specs.Fields.{numberOf, truthOf, easingOf, loopModeOf, valueOf, dampingOf, rangeOf, ever}
+use Rattle.grammar.specs.Values.{ident, string, parseFloat, parseUint, parseFloatInParens, parseTwoFloatsInParens}
+use Rattle.grammar.specs.Values.{parseValue, f32Of, parseEasing, parseLoopMode, number, count, flag, value, easing, loopMode}
+use Rattle.grammar.specs.Rule.{Rule, _>>=_, _>>_, give, refuse, need, if, sees, seesWord, seesName, seesNumber, ends}
+use Rattle.grammar.specs.Rule.{skip, the, both, eat, word, choice, signed, inside, repeat, Next, more, done, goOn}
+use Rattle.error.specs.declared.Refusal.the-variants.{Missing, UnknownKeyword, Malformed, UnknownSpringPreset}
+use Rattle.error.specs.declared.Refusal.the-variants.{MissingDuration, StaggerGridIncomplete, TooManyNested}
 
 -- ---- tween
 
@@ -240,7 +244,9 @@ Opening = Option StaggerPatternSpec × Option ℕ
 
 unfoldable pub openingFields : Opening → List (String × Rule Opening)
 openingFields s =
-    ("pattern", the ":" >> (parseStaggerPattern >>= λ p. give (some p, s .1))) ∷ ("delay", the ":" >> (parseFloat >>= λ d. give (s .0, some d))) ∷ []
+    ("pattern", the ":" >> (parseStaggerPattern >>= λ p. give (some p, s .1)))
+    ∷ ("delay", the ":" >> (parseFloat >>= λ d. give (s .0, some d)))
+    ∷ []
 
 unfoldable pub openingField : Opening → Rule (Next Opening)
 openingField s = do

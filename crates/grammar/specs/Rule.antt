@@ -1,5 +1,6 @@
 -- What the grammar's rules are made of: the steps of syn's ParseStream. Assumes nothing.
--- A rule gets what is noted so far and the tokens from the cursor on. It gives a value, with both as they are then, or a refusal and its place.
+-- A rule gets what is noted so far and the tokens from the cursor on. It gives a value, with both as they are then, or a refusal and its
+-- place.
 use Prim.Native.Nat.{ℕ, zero, suc}
 use Prim.Native.Char.{Char, code}
 use Prim.Native.String.{String}

@@ -29,7 +29,8 @@ use Rattle.ast.specs.Tree.{
   pingPongTimes,
 }
 use Rattle.grammar.specs.Fields.{Content, aNumber, aTruth, anEasing, aLoopMode, aValue, Table, pairs, numberOf}
-use Rattle.grammar.specs.Rule.{Rule, _>>=_, _>>_, give, refuse, need, if, sees, seesTwo, seesWord, seesNumber, seesWhole, skip, the, both, word, text, choice, signed, inside, list}
+use Rattle.grammar.specs.Rule.{Rule, _>>=_, _>>_, give, refuse, need, if, sees, seesTwo, seesWord, seesNumber}
+use Rattle.grammar.specs.Rule.{seesWhole, skip, the, both, word, text, choice, signed, inside, list}
 use Rattle.error.specs.declared.Refusal.the-variants.{Missing, Malformed, UnknownKeyword}
 
 -- a name as its place
@@ -177,7 +178,9 @@ variantEasing = do
 
 -- a name that is no curve's
 unfoldable pub namedEasing : ℕ × List ℕ → Rule EasingSpec
-namedEasing w = if (λ ts. same (w .1) (bytes "Easing") && seesTwo ":" ":" ts) variantEasing (give (named false (record { start = w .0; size = length (w .1) })))
+namedEasing w =
+    if (λ ts. same (w .1) (bytes "Easing") && seesTwo ":" ":" ts) variantEasing
+    (give (named false (record { start = w .0; size = length (w .1) })))
 
 -- a curve by its word, or a name
 unfoldable pub curveOr : ℕ × List ℕ → Rule EasingSpec

@@ -48,15 +48,18 @@ pub grid-none : GridHeld (record { cols = optWord.Absent; rows = optWord.Absent;
 unfolding last
 grid-none = record { cols = refl; rows = refl; origin = refl }
 
-pub grid-cols : (f : GridFields) (n : ℕ) → Holds GridHeld f (record { cols = optWord.Present n; rows = f .rows; origin = f .origin }) (bytes "cols") (aNumber n)
+pub grid-cols : (f : GridFields) (n : ℕ)
+    → Holds GridHeld f (record { cols = optWord.Present n; rows = f .rows; origin = f .origin }) (bytes "cols") (aNumber n)
 unfolding last same
 grid-cols f n fs h = record { cols = refl; rows = h .rows; origin = h .origin }
 
-pub grid-rows : (f : GridFields) (n : ℕ) → Holds GridHeld f (record { cols = f .cols; rows = optWord.Present n; origin = f .origin }) (bytes "rows") (aNumber n)
+pub grid-rows : (f : GridFields) (n : ℕ)
+    → Holds GridHeld f (record { cols = f .cols; rows = optWord.Present n; origin = f .origin }) (bytes "rows") (aNumber n)
 unfolding last same
 grid-rows f n fs h = record { cols = h .cols; rows = refl; origin = h .origin }
 
-pub grid-origin : (f : GridFields) (k : ℕ) → Holds GridHeld f (record { cols = f .cols; rows = f .rows; origin = optCase.Present k }) (bytes "origin") (aNumber k)
+pub grid-origin : (f : GridFields) (k : ℕ)
+    → Holds GridHeld f (record { cols = f .cols; rows = f .rows; origin = optCase.Present k }) (bytes "origin") (aNumber k)
 unfolding last same
 grid-origin f k fs h = record { cols = h .cols; rows = h .rows; origin = refl }
 
@@ -66,15 +69,18 @@ pub random-none : RandomHeld (record { seed = optWord.Absent; min = optFloat.Abs
 unfolding last
 random-none = record { seed = refl; min = refl; plain-min = tt; max = refl; plain-max = tt }
 
-pub random-seed : (f : RandomFields) (n : ℕ) → Holds RandomHeld f (record { seed = optWord.Present n; min = f .min; max = f .max }) (bytes "seed") (aNumber n)
+pub random-seed : (f : RandomFields) (n : ℕ)
+    → Holds RandomHeld f (record { seed = optWord.Present n; min = f .min; max = f .max }) (bytes "seed") (aNumber n)
 unfolding last same
 random-seed f n fs h = record { seed = refl; min = h .min; plain-min = h .plain-min; max = h .max; plain-max = h .plain-max }
 
-pub random-min : (f : RandomFields) (x : Float) → Plain x → Holds RandomHeld f (record { seed = f .seed; min = optFloat.Present x; max = f .max }) (bytes "min") (aNumber (bits x))
+pub random-min : (f : RandomFields) (x : Float) → Plain x
+    → Holds RandomHeld f (record { seed = f .seed; min = optFloat.Present x; max = f .max }) (bytes "min") (aNumber (bits x))
 unfolding last same
 random-min f x p fs h = record { seed = h .seed; min = refl; plain-min = p; max = h .max; plain-max = h .plain-max }
 
-pub random-max : (f : RandomFields) (x : Float) → Plain x → Holds RandomHeld f (record { seed = f .seed; min = f .min; max = optFloat.Present x }) (bytes "max") (aNumber (bits x))
+pub random-max : (f : RandomFields) (x : Float) → Plain x
+    → Holds RandomHeld f (record { seed = f .seed; min = f .min; max = optFloat.Present x }) (bytes "max") (aNumber (bits x))
 unfolding last same
 random-max f x p fs h = record { seed = h .seed; min = h .min; plain-min = h .plain-min; max = refl; plain-max = p }
 
@@ -85,13 +91,19 @@ module _ (s : List ℕ) (c m : Cursor) (f : GridFields) (h : TookRows GridHeld g
   unfolding gridInside
   no-cols e = rw (h .1 .is, ← h .2 .cols, e, h .1 .ready .head .place)
 
-  pub no-rows : (a : ℕ) → f .cols ≡ optWord.Present a → f .rows ≡ optWord.Absent → run s c gridInside ≡ refused StaggerGridIncomplete (m .head .start)
+  pub no-rows : (a : ℕ) → f .cols ≡ optWord.Present a → f .rows ≡ optWord.Absent
+      → run s c gridInside ≡ refused StaggerGridIncomplete (m .head .start)
   unfolding gridInside
   no-rows a d e = rw (h .1 .is, ← h .2 .cols, d, ← h .2 .rows, e, h .1 .ready .head .place)
 
-  pub took-grid : (a b k : ℕ) → f .cols ≡ optWord.Present a → f .rows ≡ optWord.Present b → k ≡ default (optCaseOf (f .origin)) 4 → Took 0 s c m gridInside (grid a b k)
+  pub took-grid : (a b k : ℕ) → f .cols ≡ optWord.Present a → f .rows ≡ optWord.Present b
+      → k ≡ default (optCaseOf (f .origin)) 4 → Took 0 s c m gridInside (grid a b k)
   unfolding gridInside
-  took-grid a b k d e o = record { is = rw (h .1 .is, ← h .2 .cols, d, ← h .2 .rows, e, ← h .2 .origin, o); low = h .1 .low; ready = h .1 .ready }
+  took-grid a b k d e o = record {
+    is = rw (h .1 .is, ← h .2 .cols, d, ← h .2 .rows, e, ← h .2 .origin, o);
+    low = h .1 .low;
+    ready = h .1 .ready;
+  }
 
 -- the defaults of `random`: 0.0 and 0.1
 pub nought : bits (ofBits binary32 0) ≡ f32Of 0 1
@@ -106,8 +118,11 @@ tenth = refl
 float-is : (o : OptF32) (x : Option ℕ) (d r : Float) (b : ℕ) → FloatOr o d r → optFloatOf o ≡ x → bits d ≡ b → bits r ≡ default x b
 float-is o x d r b h e q = rw (← e, ← q) (h .is)
 
-module _ (s : List ℕ) (c m n u : Cursor) (f : RandomFields) (o : Took 1 s c m (theByte 40) tt) (h : TookRows RandomHeld randomFields s m n f) (l : Took 0 s n u leave tt) where
-  pub took-random : (k : ℕ) (x y a b : Float) → k ≡ default (optWordOf (f .seed)) 0 → FloatOr (f .min) a x → FloatOr (f .max) b y → bits a ≡ f32Of 0 1 → bits b ≡ f32Of 1 10 → Plain a → Plain b
+module _ (s : List ℕ) (c m n u : Cursor) (f : RandomFields) (o : Took 1 s c m (theByte 40) tt)
+    (h : TookRows RandomHeld randomFields s m n f) (l : Took 0 s n u leave tt) where
+  pub took-random : (k : ℕ) (x y a b : Float) → k ≡ default (optWordOf (f .seed)) 0
+      → FloatOr (f .min) a x → FloatOr (f .max) b y → bits a ≡ f32Of 0 1
+      → bits b ≡ f32Of 1 10 → Plain a → Plain b
       → Took 1 s c u randomPattern (random k (bits x) (bits y)) × (Plain x × Plain y)
   unfolding randomPattern
   took-random k x y a b e i j p q v w = (
@@ -125,22 +140,31 @@ module _ (s : List ℕ) (c m n u : Cursor) (f : RandomFields) (o : Took 1 s c m 
     (i .plain (h .2 .plain-min) v, j .plain (h .2 .plain-max) w),
   )
 
-pub no-random : (s : List ℕ) (c : Cursor) (r : Refusal) (q : ℕ) → run s c (insideByte 40 (pairs randomFields)) ≡ refused r q → run s c randomPattern ≡ refused r q
+pub no-random : (s : List ℕ) (c : Cursor) (r : Refusal) (q : ℕ)
+    → run s c (insideByte 40 (pairs randomFields)) ≡ refused r q
+    → run s c randomPattern ≡ refused r q
 unfolding randomPattern
 no-random s c r q h = rw h
 
 -- a pattern at least a byte long, or any
-pub any-pattern : (s : List ℕ) (c : Cursor) (p : Rule StaggerPatternSpec) (a : PatternRead) → PatternMeans 1 s c p a → PatternMeans 0 s c p a
+pub any-pattern : (s : List ℕ) (c : Cursor) (p : Rule StaggerPatternSpec) (a : PatternRead)
+    → PatternMeans 1 s c p a → PatternMeans 0 s c p a
 any-pattern s c p (read.Is x m) h = (fewer (h .0), h .1)
 any-pattern s c p (read.Refused r q) h = h
 
 -- behind a name, at the row that it names
-pub by-pattern : (s : List ℕ) (c : Cursor) (i : ℕ) (a : PatternRead) → Each (λ (row : String × Rule StaggerPatternSpec). PatternMeans 0 s c (row .1) a) i 0 patterns → NamedMeans s c i a
+pub by-pattern : (s : List ℕ) (c : Cursor) (i : ℕ) (a : PatternRead)
+    → Each (λ (row : String × Rule StaggerPatternSpec). PatternMeans 0 s c (row .1) a) i 0 patterns
+    → NamedMeans s c i a
 by-pattern s c i a h row e = by-row (λ (row : String × Rule StaggerPatternSpec). PatternMeans 0 s c (row .1) a) i patterns row e h
 
 -- from the name on
-pub named-pattern : (s : List ℕ) (c m : Cursor) (i : ℕ) (a : PatternRead) → Took 1 s c m (choiceIn Malformed (namesOf patterns)) i → NamedMeans s m i a → PatternMeans 1 s c parseStaggerPattern a
+pub named-pattern : (s : List ℕ) (c m : Cursor) (i : ℕ) (a : PatternRead)
+    → Took 1 s c m (choiceIn Malformed (namesOf patterns)) i
+    → NamedMeans s m i a → PatternMeans 1 s c parseStaggerPattern a
 unfolding parseStaggerPattern
-named-pattern s c m i (read.Is x n) k h =
-    (named-took s c Malformed patterns m i k 0 n (patternOf x) (λ row e. h row e .0), let y = named-row s c Malformed patterns m i k in h (y .0) (y .1) .1)
+named-pattern s c m i (read.Is x n) k h = (
+  named-took s c Malformed patterns m i k 0 n (patternOf x) (λ row e. h row e .0),
+  let y = named-row s c Malformed patterns m i k in h (y .0) (y .1) .1,
+)
 named-pattern s c m i (read.Refused r q) k h = named-refused s c Malformed patterns m i k r q h

@@ -20,12 +20,15 @@ use Rattle.heads.specs.Means.{namesOf, byName}
 pub none≢some : {A B : Type 0} {a : A} → Prim.Path (Option A) none (some a) → B
 none≢some e = absurd (let z : _≡_ {A = ℕ} 0 1 = cc in omega arith)
 
-pub refused≢got : {A B : Type 0} {r : Refusal} {q : ℕ} {a : A} {l : Notes} {ts : List Token} → Prim.Path (Out A) (refused r q) (got a l ts) → B
+pub refused≢got : {A B : Type 0} {r : Refusal} {q : ℕ} {a : A} {l : Notes} {ts : List Token}
+    → Prim.Path (Out A) (refused r q) (got a l ts) → B
 refused≢got e = absurd (let z : _≡_ {A = ℕ} 0 1 = cc in omega arith)
 
 -- ---- lookups
 
-below-by : (n : List ℕ) (ns : List (List ℕ)) (k i : ℕ) (w : List ℕ) → find (n ∷ ns) k w ≡ some i → (find ns (suc k) w ≡ some i → i < suc k + length ns)
+below-by : (n : List ℕ) (ns : List (List ℕ)) (k i : ℕ) (w : List ℕ)
+    → find (n ∷ ns) k w ≡ some i
+    → (find ns (suc k) w ≡ some i → i < suc k + length ns)
     → (b : Bool) → same w n ≡ b → i < k + length (n ∷ ns)
 below-by n ns k i w e ih true q = let z = Option·some-injective k i (sym (find-here w n ns k q) ∙ e) in omega arith
 below-by n ns k i w e ih false q = let z = ih (sym (find-past w n ns k q) ∙ e) in omega arith
@@ -46,13 +49,17 @@ under-by : {A : Type 0} (f : String × A) (fs : List (String × A)) (i m : ℕ) 
     → (find (namesOf fs) (suc i) w ≡ some m → (d : ℕ) × (m ≡ suc i + d) × RowUnder fs w d)
     → (b : Bool) → same w (bytes (f .0)) ≡ b → (d : ℕ) × (m ≡ i + d) × RowUnder (f ∷ fs) w d
 unfolding under
-under-by f fs i m w e ih true q =
-    (0, let z = Option·some-injective i m (sym (find-here w (bytes (f .0)) (namesOf fs) i q) ∙ e) in omega arith, record { row = f; is = refl; under = rw (q, under) })
+under-by f fs i m w e ih true q = (
+  0,
+  let z = Option·some-injective i m (sym (find-here w (bytes (f .0)) (namesOf fs) i q) ∙ e) in omega arith,
+  record { row = f; is = refl; under = rw (q, under) },
+)
 under-by f fs i m w e ih false q =
     let (d, p, r) = ih (sym (find-past w (bytes (f .0)) (namesOf fs) i q) ∙ e) in
     (suc d, omega arith, record { row = r .row; is = r .is; under = rw (q, under) (r .under) })
 
-under-from : {A : Type 0} (t : List (String × A)) (i m : ℕ) (w : List ℕ) → find (namesOf t) i w ≡ some m → (d : ℕ) × (m ≡ i + d) × RowUnder t w d
+under-from : {A : Type 0} (t : List (String × A)) (i m : ℕ) (w : List ℕ)
+    → find (namesOf t) i w ≡ some m → (d : ℕ) × (m ≡ i + d) × RowUnder t w d
 unfolding find
 under-from [] i m w e = none≢some e
 under-from (f ∷ fs) i m w e = under-by f fs i m w e (λ q. under-from fs (suc i) m w q) (same w (bytes (f .0))) refl
@@ -85,7 +92,9 @@ module _ (s : List ℕ) (c m : Cursor) (r : Refusal) (ns : List (List ℕ)) (i :
   chosen-find w l ts e none f q = refused≢got q
   chosen-find w l ts e (some j) f q = let h : j ≡ i = cc in record { name = w; is = cc; found = cc }
 
-  chosen-word : (o : Out (ℕ × List ℕ)) → run s c word ≡ o → after o (λ w. need r (find ns 0 (w .1))) ≡ got i (notes s m) (tokens s m) → Chosen s c m ns i
+  chosen-word : (o : Out (ℕ × List ℕ)) → run s c word ≡ o
+      → after o (λ w. need r (find ns 0 (w .1))) ≡ got i (notes s m) (tokens s m)
+      → Chosen s c m ns i
   chosen-word (got w l ts) e q = chosen-find w l ts e (find ns 0 (w .1)) refl q
   chosen-word (refused a p) e q = refused≢got q
 
@@ -104,7 +113,8 @@ record Named {A : Type 0} (s : List ℕ) (c m : Cursor) (r : Refusal) (t : List 
   is : run s c (byName r t) ≡ run s m (row .1)
 
 -- the same refusal of another rule
-refused-too : {A B : Type 0} (r a : Refusal) (p q : ℕ) → Prim.Path (Out A) (refused r p) (refused a q) → Prim.Path (Out B) (refused r p) (refused a q)
+refused-too : {A B : Type 0} (r a : Refusal) (p q : ℕ) → Prim.Path (Out A) (refused r p) (refused a q)
+    → Prim.Path (Out B) (refused r p) (refused a q)
 refused-too r a p q h = let x : r ≡ a = cc in let y : p ≡ q = cc in rw (x, y)
 
 module _ {A : Type 0} (s : List ℕ) (c : Cursor) (r : Refusal) (t : List (String × Rule A)) where
@@ -119,7 +129,9 @@ module _ {A : Type 0} (s : List ℕ) (c : Cursor) (r : Refusal) (t : List (Strin
   unnamed-find a q w l ts e none f h = rw (e, under-none t 0 (w .1) f) (refused-too r a _ q h)
   unnamed-find a q w l ts e (some j) f h = refused≢got (sym h)
 
-  unnamed-word : (a : Refusal) (q : ℕ) (o : Out (ℕ × List ℕ)) → run s c word ≡ o → after o (λ w. need r (find (namesOf t) 0 (w .1))) ≡ refused a q → run s c (byName r t) ≡ refused a q
+  unnamed-word : (a : Refusal) (q : ℕ) (o : Out (ℕ × List ℕ)) → run s c word ≡ o
+      → after o (λ w. need r (find (namesOf t) 0 (w .1))) ≡ refused a q
+      → run s c (byName r t) ≡ refused a q
   unnamed-word a q (got w l ts) e h = unnamed-find a q w l ts e (find (namesOf t) 0 (w .1)) refl h
   unnamed-word a q (refused b p) e h = rw e (refused-too b a p q h)
 
@@ -131,8 +143,15 @@ module _ {A : Type 0} (s : List ℕ) (c : Cursor) (r : Refusal) (t : List (Strin
     pub named-row : (row : String × Rule A) × (getElem? t i ≡ some row)
     named-row = let n = named m i k in (n .row, n .at)
 
-    pub named-took : (e : ℕ) (u : Cursor) (x : A) → ((row : String × Rule A) → getElem? t i ≡ some row → Took e s m u (row .1) x) → Took 1 s c u (byName r t) x
-    named-took e u x h = let n = named m i k in let y = h (n .row) (n .at) in record { is = n .is ∙ y .is; low = omega (arith, k .low, y .low); ready = y .ready }
+    pub named-took : (e : ℕ) (u : Cursor) (x : A)
+        → ((row : String × Rule A) → getElem? t i ≡ some row → Took e s m u (row .1) x)
+        → Took 1 s c u (byName r t) x
+    named-took e u x h =
+        let n = named m i k in
+        let y = h (n .row) (n .at) in
+        record { is = n .is ∙ y .is; low = omega (arith, k .low, y .low); ready = y .ready }
 
-    pub named-refused : (a : Refusal) (q : ℕ) → ((row : String × Rule A) → getElem? t i ≡ some row → run s m (row .1) ≡ refused a q) → run s c (byName r t) ≡ refused a q
+    pub named-refused : (a : Refusal) (q : ℕ)
+        → ((row : String × Rule A) → getElem? t i ≡ some row → run s m (row .1) ≡ refused a q)
+        → run s c (byName r t) ≡ refused a q
     named-refused a q h = let n = named m i k in n .is ∙ h (n .row) (n .at)

@@ -36,10 +36,13 @@ by-row P i t row e h = row-from P i 0 i t row (omega arith) e h
 -- ---- the value of a field
 
 module _ (t : Table) (s : List ℕ) (c : Cursor) (i : ℕ) where
-  pub took-row : {F : Type 0} (held : F → Fields → Type 0) (m : Cursor) (f g : F) → Each (TookValue held s c m f g) i 0 t → TookRow held t s c m f g i
+  pub took-row : {F : Type 0} (held : F → Fields → Type 0) (m : Cursor) (f g : F)
+      → Each (TookValue held s c m f g) i 0 t → TookRow held t s c m f g i
   took-row held m f g h row e = by-row (TookValue held s c m f g) i t row e h
 
-  pub refused-row : (r : Refusal) (q : ℕ) → Each (λ (row : String × Rule Content). run s c (row .1) ≡ refused r q) i 0 t → RefusedRow t s c i r q
+  pub refused-row : (r : Refusal) (q : ℕ)
+      → Each (λ (row : String × Rule Content). run s c (row .1) ≡ refused r q) i 0 t
+      → RefusedRow t s c i r q
   refused-row r q h row e = by-row (λ (row : String × Rule Content). run s c (row .1) ≡ refused r q) i t row e h
 
 -- ---- fields in parentheses, read in a loop
@@ -63,7 +66,15 @@ module _ {F : Type 0} (held : F → Fields → Type 0) (t : Table) (s : List ℕ
     unfolding pairs
     kept-done e n = (
       k .fields,
-      listed-done (listStep (onePair t)) s c m [] (k .fields) (k .listed) e (rw (n .0) (k .listed .ready)) (rw (n .0) (omega arith)) (rw (n .0) (n .1 (k .fields))),
+      listed-done
+          (listStep (onePair t))
+          s c m []
+          (k .fields)
+          (k .listed)
+          e
+          (rw (n .0) (k .listed .ready))
+          (rw (n .0) (omega arith))
+          (rw (n .0) (n .1 (k .fields))),
       k .holds,
     )
 
@@ -85,4 +96,6 @@ module _ {F : Type 0} (held : F → Fields → Type 0) (t : Table) (s : List ℕ
 
         pub value-last : Took 0 s w u (eatByte 44) false → TookRows held t s c u g
         unfolding pairs
-        value-last z = let y = h (p .row) (p .is) in (_, pair-last s t c m v [] (k .fields) (k .listed) i p w u (y .0) (y .1) z, y .2 (k .fields) (k .holds))
+        value-last z =
+            let y = h (p .row) (p .is) in
+            (_, pair-last s t c m v [] (k .fields) (k .listed) i p w u (y .0) (y .1) z, y .2 (k .fields) (k .holds))

@@ -149,5 +149,6 @@ abbrev pub ValueMeans : List ℕ → Cursor → openings.Opening → ℕ → Ope
 ValueMeans s c f i a = (row : String × Rule Opening) → getElem? (openingFields (openingOf f)) i ≡ some row → OpeningMeans s c (row .1) a
 
 abbrev pub StaggerMeans : List ℕ → Cursor → StaggerRead → Type 0
-StaggerMeans s c (stagger.Is p d m) = Took 0 s c m parseStagger (tree.stagger (optPatternOf p) (optFloatOf d)) × PlainOptPattern p × PlainOptFloat d
+StaggerMeans s c (stagger.Is p d m) =
+    Took 0 s c m parseStagger (tree.stagger (optPatternOf p) (optFloatOf d)) × PlainOptPattern p × PlainOptFloat d
 StaggerMeans s c (stagger.Refused r q) = run s c parseStagger ≡ refused r q

@@ -43,28 +43,41 @@ no-sign s c r b e = stays s c r (percentSign b) false (rw e)
 pub a-sign : (s : List ℕ) (c m : Cursor) (b x : Bool) → b ≡ false → Took 0 s c m (eatByte 37) x → Took 0 s c m (percentSign b) x
 a-sign s c m b x e t = record { is = rw e (t .is); low = t .low; ready = t .ready }
 
-pub stores-percent : (b negative : Bool) (n : numbers.Number) (x : Float) → b ≡ true → x ≡ Number.percent negative (n .digits) → Stores (keyOf b negative (written n)) (time.Percent x)
+pub stores-percent : (b negative : Bool) (n : numbers.Number) (x : Float)
+    → b ≡ true → x ≡ Number.percent negative (n .digits)
+    → Stores (keyOf b negative (written n)) (time.Percent x)
 unfolding stored storedTime
 stores-percent b negative n x e h = rw (e, h) (record { is = refl; plain = percent-number negative (n .digits) })
 
-pub stores-seconds : (b negative : Bool) (n : numbers.Number) (x : Float) → b ≡ false → x ≡ round binary32 negative (n .digits) (10 ^ n .places) → Stores (keyOf b negative (written n)) (time.Seconds x)
+pub stores-seconds : (b negative : Bool) (n : numbers.Number) (x : Float)
+    → b ≡ false
+    → x ≡ round binary32 negative (n .digits) (10 ^ n .places)
+    → Stores (keyOf b negative (written n)) (time.Seconds x)
 unfolding stored storedTime nearest
 stores-seconds b negative n x e h = rw (e, h) (record { is = refl; plain = round-number negative (n .digits) (10 ^ n .places) })
 
-pub no-time : (s : List ℕ) (c : Cursor) (q : ℕ) → (seesNumber (tokens s c) ≡ absent) × (place (tokens s c) ≡ q) → run s c parseKeyframeTime ≡ refused Malformed q
+pub no-time : (s : List ℕ) (c : Cursor) (q : ℕ)
+    → (seesNumber (tokens s c) ≡ absent) × (place (tokens s c) ≡ q)
+    → run s c parseKeyframeTime ≡ refused Malformed q
 unfolding parseKeyframeTime
 no-time s c q e = rw (e .0, e .1)
 
-module _ (s : List ℕ) (c m u : Cursor) (negative : Bool) (n : numbers.Number) (v : Numbers s c negative n m) (p : Bool) (t : Took 0 s m u (percentSign (n .point)) p) where
+module _ (s : List ℕ) (c m u : Cursor) (negative : Bool) (n : numbers.Number) (v : Numbers s c negative n m) (p : Bool)
+    (t : Took 0 s m u (percentSign (n .point)) p) where
   pub percent-suffix : (p && n .suffix) ≡ true → run s c parseKeyframeTime ≡ refused Malformed (u .head .start)
   unfolding parseKeyframeTime
   percent-suffix e = rw (took-number s c m negative n v Malformed .is, t .is, e, head-place s u (t .ready))
 
-  pub took-time : (p && n .suffix) ≡ false → (x : KeyframeTime) → Stores (keyOf p negative (written n)) x → TookTime s c u parseKeyframeTime x
+  pub took-time : (p && n .suffix) ≡ false → (x : KeyframeTime) → Stores (keyOf p negative (written n)) x
+      → TookTime s c u parseKeyframeTime x
   unfolding parseKeyframeTime
   took-time e x h = record {
     key = keyOf p negative (written n);
-    took = record { is = rw (took-number s c m negative n v Malformed .is, t .is, e); low = omega (arith, v .low, t .low); ready = t .ready };
+    took = record {
+      is = rw (took-number s c m negative n v Malformed .is, t .is, e);
+      low = omega (arith, v .low, t .low);
+      ready = t .ready;
+    };
     stores = h;
   }
 
@@ -78,7 +91,11 @@ module _ (s : List ℕ) (c m : Cursor) (x : KeyframeTime) (t : TookTime s c m pa
   no-colon q h = rw (t .took .is, h)
 
   pub took-key : (n : Cursor) → Took 1 s m n (theByte 58) tt → TookTime s c n keyMark x
-  took-key n u = record { key = t .key; took = record { is = rw (t .took .is, u .is); low = omega (arith, t .took .low, u .low); ready = u .ready }; stores = t .stores }
+  took-key n u = record {
+    key = t .key;
+    took = record { is = rw (t .took .is, u .is); low = omega (arith, t .took .low, u .low); ready = u .ready };
+    stores = t .stores;
+  }
 
 -- ---- an easing where a name follows
 
@@ -103,7 +120,9 @@ regroup f (got k l ts) = marked k f (theByte 58 l ts)
 regroup f (refused r q) = refl
 
 -- bytes are written, then others before them and behind them
-around : {b a mid a′ : List ℕ} {at out end j q : ℕ} (ts vs es : List ℕ) → at ≡ out + length ts → Writes b at vs a end → Writes a out ts mid j → Writes mid end es a′ q
+around : {b a mid a′ : List ℕ} {at out end j q : ℕ} (ts vs es : List ℕ)
+    → at ≡ out + length ts → Writes b at vs a end → Writes a out ts mid j
+    → Writes mid end es a′ q
     → Writes b out (ts ++ (vs ++ es)) a′ q
 around {b} {out = out} ts vs es g w t e = rw (← append-assoc ts vs es) (writes-then (writes-fill (writes-none b out) g w t) e)
 
@@ -128,7 +147,8 @@ module _ (s : List ℕ) (c m : Cursor) (x : KeyframeTime) (t : TookTime s c m ke
     unfolding behindKey
     frame-no-easing r q h = frame-run s c ∙ (rw (t .took .is, w .took .is, h))
 
-    module _ (out : ℕ) (g : at ≡ out + 5) (u : Cursor) (e : Entry) (k : e .time ≡ x) (v : Took 0 s n u easingIf (optEasingOf (e .easing))) (a′ : List ℕ) (q : ℕ) (f : Framed a a′ out end e q) where
+    module _ (out : ℕ) (g : at ≡ out + 5) (u : Cursor) (e : Entry) (k : e .time ≡ x)
+        (v : Took 0 s n u easingIf (optEasingOf (e .easing))) (a′ : List ℕ) (q : ℕ) (f : Framed a a′ out end e q) where
       frame : KeyframeEntry Key
       frame = record { time = t .key; value = w .value; easing = optEasingOf (e .easing) }
 
@@ -136,7 +156,8 @@ module _ (s : List ℕ) (c m : Cursor) (x : KeyframeTime) (t : TookTime s c m ke
       unfolding frame
       frame-bytes =
           rw append-nil
-          (around (timeForm .write (stored (t .key))) (valueForm .write (w .value)) (opt (easingForm (length s)) .write (optEasingOf (e .easing))) (rw length-time g) (w .writes)
+          (around (timeForm .write (stored (t .key))) (valueForm .write (w .value))
+          (opt (easingForm (length s)) .write (optEasingOf (e .easing))) (rw length-time g) (w .writes)
           (rw (k, t .stores .is) at (f .time)) (f .easing (length s)))
 
       pub frame-went : Went 1 s b a′ c u out q keyframeEntry (λ y. framesBytes (length s) (y ∷ []))

@@ -34,32 +34,39 @@ use Rattle.arrays.specs.Means.{Went}
 use Rattle.nodes.specs.Means.{leafBytes, LeafMeans}
 use Rattle.nodes.specs.declared.NodeRead.{NodeRead}
 use Rattle.nodes.specs.declared.NodeRead.the-variants as node
-use Rattle.keyframes.specs.Means.{Inner, framesBytes, separator, trackOf, Stepped, Standing, StepMeans, TrackWent, trackBehind, BlockWent, BlockMeans}
+use Rattle.keyframes.specs.Means.{Inner, framesBytes, separator, trackOf, Stepped, Standing}
+use Rattle.keyframes.specs.Means.{StepMeans, TrackWent, trackBehind, BlockWent, BlockMeans}
 use Rattle.keyframes.specs.declared.Track as tracks
 use Rattle.keyframes.specs.declared.TrackNext.{TrackNext}
 use Rattle.keyframes.specs.declared.TrackNext.the-variants as turn
 
 -- ---- `,` or `;`
 
-pub by-comma : (s : List ℕ) (c m : Cursor) (b : Bool) → seesByte 44 (tokens s c) ≡ true → Took 0 s c m (eatByte 44) b → Took 0 s c m separator b
+pub by-comma : (s : List ℕ) (c m : Cursor) (b : Bool) → seesByte 44 (tokens s c) ≡ true
+    → Took 0 s c m (eatByte 44) b → Took 0 s c m separator b
 by-comma s c m b e t = record { is = rw e (rw e at (t .is)); low = t .low; ready = t .ready }
 
-pub by-semicolon : (s : List ℕ) (c m : Cursor) (b : Bool) → seesByte 44 (tokens s c) ≡ false → Took 0 s c m (eatByte 59) b → Took 0 s c m separator b
+pub by-semicolon : (s : List ℕ) (c m : Cursor) (b : Bool) → seesByte 44 (tokens s c) ≡ false
+    → Took 0 s c m (eatByte 59) b → Took 0 s c m separator b
 by-semicolon s c m b e t = record { is = rw e (t .is); low = t .low; ready = t .ready }
 
 -- ---- `loop: ..`
 
 module _ (s b : List ℕ) (t : tracks.Track) (m : Cursor) (f : Follows s (t .next) m) where
-  pub loop-no-colon : (q : ℕ) → run s m (theByte 58) ≡ refused Missing q → (fs : List (KeyframeEntry Key)) → run s (t .next) (trackLoop (trackOf fs t)) ≡ refused Missing q
+  pub loop-no-colon : (q : ℕ) → run s m (theByte 58) ≡ refused Missing q → (fs : List (KeyframeEntry Key))
+      → run s (t .next) (trackLoop (trackOf fs t)) ≡ refused Missing q
   unfolding trackLoop
   loop-no-colon q h fs = rw (f .rest, sym (f .left), h)
 
   module _ (n : Cursor) (o : Took 1 s m n (theByte 58) tt) where
-    pub loop-refused : (r : Refusal) (q : ℕ) → run s n parseLoopMode ≡ refused r q → (fs : List (KeyframeEntry Key)) → run s (t .next) (trackLoop (trackOf fs t)) ≡ refused r q
+    pub loop-refused : (r : Refusal) (q : ℕ) → run s n parseLoopMode ≡ refused r q
+        → (fs : List (KeyframeEntry Key))
+        → run s (t .next) (trackLoop (trackOf fs t)) ≡ refused r q
     unfolding trackLoop
     loop-refused r q h fs = rw (f .rest, sym (f .left), o .is, h)
 
-    pub loop-step : Ready s (t .next) → (v u : Cursor) (x : loops.LoopSpec) (y : Bool) → Took 1 s n v parseLoopMode (loopOf x) → Took 0 s v u (eatByte 44) y
+    pub loop-step : Ready s (t .next) → (v u : Cursor) (x : loops.LoopSpec) (y : Bool)
+        → Took 1 s n v parseLoopMode (loopOf x) → Took 0 s v u (eatByte 44) y
         → Stepped 1 s b b t (record { frames = t .frames; end = t .end; «loop_mode» = optLoop.Present x; next = u }) trackLoop more
     unfolding trackLoop
     loop-step r v u x y l e = record {
@@ -75,12 +82,17 @@ module _ (s b : List ℕ) (t : tracks.Track) (m : Cursor) (f : Follows s (t .nex
 -- ---- a frame
 
 module _ (s : List ℕ) (t : tracks.Track) where
-  pub frame-refused : (r : Refusal) (q : ℕ) → run s (t .next) keyframeEntry ≡ refused r q → (fs : List (KeyframeEntry Key)) → run s (t .next) (trackFrame (trackOf fs t)) ≡ refused r q
+  pub frame-refused : (r : Refusal) (q : ℕ) → run s (t .next) keyframeEntry ≡ refused r q
+      → (fs : List (KeyframeEntry Key))
+      → run s (t .next) (trackFrame (trackOf fs t)) ≡ refused r q
   unfolding trackFrame
   frame-refused r q h fs = rw h
 
-  module _ (b a : List ℕ) (m u : Cursor) (q : ℕ) (w : Went 1 s b a (t .next) m (t .end) q keyframeEntry (λ f. framesBytes (length s) (f ∷ []))) (x : Bool) (z : Took 0 s m u separator x) where
-    pub frame-step : (e : ℕ) → e ≤ 1 → (y : Bool) → x ≡ y → Stepped e s b a t (record { frames = t .frames + 1; end = q; «loop_mode» = t .«loop_mode»; next = u }) trackFrame (goOn y)
+  module _ (b a : List ℕ) (m u : Cursor) (q : ℕ)
+      (w : Went 1 s b a (t .next) m (t .end) q keyframeEntry (λ f. framesBytes (length s) (f ∷ []))) (x : Bool)
+      (z : Took 0 s m u separator x) where
+    pub frame-step : (e : ℕ) → e ≤ 1 → (y : Bool) → x ≡ y
+        → Stepped e s b a t (record { frames = t .frames + 1; end = q; «loop_mode» = t .«loop_mode»; next = u }) trackFrame (goOn y)
     unfolding trackFrame
     frame-step e l y g = record {
       added = w .value ∷ [];
@@ -107,10 +119,27 @@ step-end s b t r e = record {
 }
 
 -- the step is another
-other-step : (s b a : List ℕ) (t : tracks.Track) (p : Track → Rule (Next Track)) → ((x : Track) → run s (t .next) (trackStep x) ≡ run s (t .next) (p x))
+other-step : (s b a : List ℕ) (t : tracks.Track) (p : Track → Rule (Next Track))
+    → ((x : Track) → run s (t .next) (trackStep x) ≡ run s (t .next) (p x))
     → (r : TrackNext) → StepMeans s b a t p r → StepMeans s b a t trackStep r
-other-step s b a t p g (turn.More u) h = record { added = h .added; is = λ fs. g _ ∙ h .is fs; low = h .low; ready = h .ready; count = h .count; writes = h .writes; paid = h .paid }
-other-step s b a t p g (turn.Done u) h = record { added = h .added; is = λ fs. g _ ∙ h .is fs; low = h .low; ready = h .ready; count = h .count; writes = h .writes; paid = h .paid }
+other-step s b a t p g (turn.More u) h = record {
+  added = h .added;
+  is = λ fs. g _ ∙ h .is fs;
+  low = h .low;
+  ready = h .ready;
+  count = h .count;
+  writes = h .writes;
+  paid = h .paid;
+}
+other-step s b a t p g (turn.Done u) h = record {
+  added = h .added;
+  is = λ fs. g _ ∙ h .is fs;
+  low = h .low;
+  ready = h .ready;
+  count = h .count;
+  writes = h .writes;
+  paid = h .paid;
+}
 other-step s b a t p g (turn.Refused r q) h = λ fs. g _ ∙ h fs
 
 module _ (s b a : List ℕ) (t : tracks.Track) (e : ends (tokens s (t .next)) ≡ false) (r : TrackNext) where
@@ -148,8 +177,15 @@ pub record Tracked (s b a : List ℕ) (c : Cursor) (out : ℕ) (t : tracks.Track
   pub writes : Writes b out (framesBytes (length s) frames) a (t .end)
   pub paid : t .end ≤ out + 64 * (t .next .at - c .at)
 
-pub tracked-start : (s b : List ℕ) (c : Cursor) (out : ℕ) → Ready s c → Tracked s b b c out (record { frames = 0; end = out; «loop_mode» = optLoop.Absent; next = c })
-tracked-start s b c out r = record { frames = []; listed = listed-start trackStep s c ([], none) r; count = refl; writes = writes-none b out; paid = omega arith }
+pub tracked-start : (s b : List ℕ) (c : Cursor) (out : ℕ) → Ready s c
+    → Tracked s b b c out (record { frames = 0; end = out; «loop_mode» = optLoop.Absent; next = c })
+tracked-start s b c out r = record {
+  frames = [];
+  listed = listed-start trackStep s c ([], none) r;
+  count = refl;
+  writes = writes-none b out;
+  paid = omega arith;
+}
 
 module _ (s b a : List ℕ) (c : Cursor) (out : ℕ) (t : tracks.Track) (i : Tracked s b a c out t) where
   pub tracked-standing : Inner 16 s out → Standing s t
@@ -159,11 +195,17 @@ module _ (s b a : List ℕ) (c : Cursor) (out : ℕ) (t : tracks.Track) (i : Tra
     few = let h = frames-few (length s) (i .frames) in omega (arith, i .count, i .writes .place);
   }
 
-  pub tracked-refused : (r : Refusal) (q : ℕ) → ((fs : List (KeyframeEntry Key)) → run s (t .next) (trackStep (trackOf fs t)) ≡ refused r q) → run s c (repeat trackStep ([], none)) ≡ refused r q
-  tracked-refused r q h = listed-gives trackStep s c (t .next) ([], none) _ (i .listed) _ (by-step trackStep _ s (t .next) _ (i .listed .ready) (λ k l. rw (h (i .frames))))
+  pub tracked-refused : (r : Refusal) (q : ℕ)
+      → ((fs : List (KeyframeEntry Key)) → run s (t .next) (trackStep (trackOf fs t)) ≡ refused r q)
+      → run s c (repeat trackStep ([], none)) ≡ refused r q
+  tracked-refused r q h =
+      listed-gives trackStep s c (t .next) ([], none) _ (i .listed) _
+      (by-step trackStep _ s (t .next) _ (i .listed .ready) (λ k l. rw (h (i .frames))))
 
   module _ (a′ : List ℕ) (u : tracks.Track) where
-    all-written : (added : List (KeyframeEntry Key)) → Writes a (t .end) (framesBytes (length s) added) a′ (u .end) → Writes b out (framesBytes (length s) (i .frames ++ added)) a′ (u .end)
+    all-written : (added : List (KeyframeEntry Key))
+        → Writes a (t .end) (framesBytes (length s) added) a′ (u .end)
+        → Writes b out (framesBytes (length s) (i .frames ++ added)) a′ (u .end)
     all-written added w = rw (frames-append (length s) (i .frames) added) (writes-then (i .writes) w)
 
     pub tracked-more : Stepped 1 s a a′ t u trackStep more → Tracked s b a′ c out u
@@ -172,7 +214,8 @@ module _ (s b a : List ℕ) (c : Cursor) (out : ℕ) (t : tracks.Track) (i : Tra
       listed = record {
         low = omega (arith, i .listed .low, z .low);
         ready = z .ready;
-        goes = λ o h. i .listed .goes o (by-step trackStep _ s (t .next) o (i .listed .ready) (λ k l. rw (z .is (i .frames)) (h k (omega (arith, z .low)))));
+        goes = λ o h. i .listed .goes o
+            (by-step trackStep _ s (t .next) o (i .listed .ready) (λ k l. rw (z .is (i .frames)) (h k (omega (arith, z .low)))));
       };
       count = rw length-append (omega (arith, i .count, z .count));
       writes = all-written (z .added) (z .writes);
@@ -183,7 +226,8 @@ module _ (s b a : List ℕ) (c : Cursor) (out : ℕ) (t : tracks.Track) (i : Tra
     tracked-last z = record {
       frames = i .frames ++ z .added;
       took = record {
-        is = listed-gives trackStep s c (t .next) ([], none) _ (i .listed) _ (by-step trackStep _ s (t .next) _ (i .listed .ready) (λ k l. rw (z .is (i .frames))));
+        is = listed-gives trackStep s c (t .next) ([], none) _ (i .listed) _
+            (by-step trackStep _ s (t .next) _ (i .listed .ready) (λ k l. rw (z .is (i .frames))));
         low = omega (arith, i .listed .low, z .low);
         ready = z .ready;
       };
@@ -194,12 +238,16 @@ module _ (s b a : List ℕ) (c : Cursor) (out : ℕ) (t : tracks.Track) (i : Tra
 
 -- ---- the whole of a track
 
-pub block-refused : (s : List ℕ) (c : Cursor) (r : Refusal) (q : ℕ) → run s c (repeat trackStep ([], none)) ≡ refused r q → run s c trackBehind ≡ refused r q
+pub block-refused : (s : List ℕ) (c : Cursor) (r : Refusal) (q : ℕ)
+    → run s c (repeat trackStep ([], none)) ≡ refused r q
+    → run s c trackBehind ≡ refused r q
 block-refused s c r q h = rw h
 
 -- two bytes are left open, the frames are written, their count is put there, and the loop mode behind them
-pub block-went : (s b a a₁ a₂ : List ℕ) (c u : Cursor) (out e q : ℕ) (t : tracks.Track) → TrackWent s b a c (out + 2) t → Writes a out (big 2 .write (t .frames)) a₁ e
-    → Writes a₁ (t .end) (opt loopForm .write (optLoopOf (t .«loop_mode»))) a₂ q → Took 0 s (t .next) u leave tt → BlockWent s b a₂ c u out q
+pub block-went : (s b a a₁ a₂ : List ℕ) (c u : Cursor) (out e q : ℕ) (t : tracks.Track)
+    → TrackWent s b a c (out + 2) t → Writes a out (big 2 .write (t .frames)) a₁ e
+    → Writes a₁ (t .end) (opt loopForm .write (optLoopOf (t .«loop_mode»))) a₂ q
+    → Took 0 s (t .next) u leave tt → BlockWent s b a₂ c u out q
 block-went s b a a₁ a₂ c u out e q t w p l v = record {
   value = trackOf (w .frames) t;
   took = record { is = rw (w .took .is, v .is); low = omega (arith, w .took .low, v .low); ready = v .ready };
@@ -213,7 +261,9 @@ pub no-target : (s : List ℕ) (c : Cursor) (q : ℕ) → run s c word ≡ refus
 unfolding parseKeyframes ident
 no-target s c q h = rw h
 
-pub no-brace : (s : List ℕ) (c m : Cursor) (x : ℕ) (w : List ℕ) → Took 1 s c m word (x, w) → (q : ℕ) → run s m (theByte 123) ≡ refused Missing q → run s c parseKeyframes ≡ refused Missing q
+pub no-brace : (s : List ℕ) (c m : Cursor) (x : ℕ) (w : List ℕ) → Took 1 s c m word (x, w)
+    → (q : ℕ) → run s m (theByte 123) ≡ refused Missing q
+    → run s c parseKeyframes ≡ refused Missing q
 unfolding parseKeyframes ident
 no-brace s c m x w t q h = rw (t .is, h)
 
@@ -223,18 +273,29 @@ module _ (s : List ℕ) (c m : Cursor) (x : Span) (t : Took 1 s c m word (x .sta
     unfolding parseKeyframes ident
     no-track r q h = rw (t .is, o .is, h)
 
-    pub keyframes-went : x .start + x .size ≤ length s → (b b₁ b₂ a : List ℕ) (u : Cursor) (out f g q : ℕ) → Writes b out (2 ∷ []) b₁ f → Writes b₁ f (spanForm (length s) .write (spanOf x)) b₂ g
+    pub keyframes-went : x .start + x .size ≤ length s
+        → (b b₁ b₂ a : List ℕ) (u : Cursor) (out f g q : ℕ)
+        → Writes b out (2 ∷ []) b₁ f
+        → Writes b₁ f (spanForm (length s) .write (spanOf x)) b₂ g
         → BlockWent s b₂ a n u g q → Went 1 s b a c u out q parseKeyframes (leafBytes (length s))
     unfolding parseKeyframes ident
     keyframes-went h b b₁ b₂ a u out f g q i j w = record {
       value = keyframes (record { target = spanOf x; frames = w .value .0; loopMode = w .value .1 });
-      took = record { is = rw (t .is, o .is, w .took .is, spelled-length s x h); low = omega (arith, t .low, o .low, w .took .low); ready = w .took .ready };
+      took = record {
+        is = rw (t .is, o .is, w .took .is, spelled-length s x h);
+        low = omega (arith, t .low, o .low, w .took .low);
+        ready = w .took .ready;
+      };
       writes = rw (map-length (w .value .0)) (writes-then i (writes-then j (w .writes)));
-      paid = let p = i .place in let r = j .place in let l = length-span (length s) (spanOf x) in omega (arith, t .low, o .low, w .took .low, w .paid);
+      paid = let p = i .place in
+          let r = j .place in
+          let l = length-span (length s) (spanOf x) in
+          omega (arith, t .low, o .low, w .took .low, w .paid);
     }
 
 -- the answer behind the opener is the answer of the node
-pub behind-opener : (s : List ℕ) (c m n : Cursor) (x : Span) → Took 1 s c m word (x .start, spelled s x) → x .start + x .size ≤ length s → Took 1 s m n (theByte 123) tt
+pub behind-opener : (s : List ℕ) (c m n : Cursor) (x : Span) → Took 1 s c m word (x .start, spelled s x)
+    → x .start + x .size ≤ length s → Took 1 s m n (theByte 123) tt
     → (b b₁ b₂ a : List ℕ) (out f g : ℕ) → Writes b out (2 ∷ []) b₁ f → Writes b₁ f (spanForm (length s) .write (spanOf x)) b₂ g
     → (y : NodeRead) → BlockMeans s b₂ a n g y → LeafMeans s b a c out parseKeyframes y
 behind-opener s c m n x t h o b b₁ b₂ a out f g i j (node.Is q u) w = keyframes-went s c m x t n o h b b₁ b₂ a u out f g q i j w

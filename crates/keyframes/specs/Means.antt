@@ -106,7 +106,8 @@ trackOf fs t = (fs, optLoopOf (t .«loop_mode»))
 -- the step p makes u of the track t, at least e bytes on: it adds some frames, and they are written
 pub record Stepped (e : ℕ) (s b a : List ℕ) (t u : tracks.Track) (p : Track → Rule (Next Track)) (goes : Track → Next Track) : Type 0 where
   pub added : List (KeyframeEntry Key)
-  pub is : (fs : List (KeyframeEntry Key)) → run s (t .next) (p (trackOf fs t)) ≡ got (goes (trackOf (fs ++ added) u)) (notes s (u .next)) (tokens s (u .next))
+  pub is : (fs : List (KeyframeEntry Key))
+      → run s (t .next) (p (trackOf fs t)) ≡ got (goes (trackOf (fs ++ added) u)) (notes s (u .next)) (tokens s (u .next))
   pub low : t .next .at + e ≤ u .next .at
   pub ready : Ready s (u .next)
   pub count : u .frames ≡ t .frames + length added

@@ -26,7 +26,8 @@ use Rattle.write.specs.Means.{Put}
 
 -- ---- fields with a duration
 module _ (s : List ℕ) (lo : ℕ) (sorts : List ℕ) (c : Cursor) (t : Table) (k : Fields → ℕ → Leaf Key) where
-  pub end-refused : (i : ℕ) (p : Rule Content) → getElem? t i ≡ some ("duration", p) → sortRank (getD sorts i 0) ≡ 1 → (g : Gathered) → ListMeans s lo sorts c t [] g
+  pub end-refused : (i : ℕ) (p : Rule Content) → getElem? t i ≡ some ("duration", p)
+      → sortRank (getD sorts i 0) ≡ 1 → (g : Gathered) → ListMeans s lo sorts c t [] g
       → (a : Refusal) (q : ℕ) → TimedMeans g i (timed.Refused a q) → run s c (timedEnd t k) ≡ refused a q
   end-refused i p e r g l a q m = timely-refused s c t (λ fs d. give (k fs d)) a q (not-timed s lo sorts c t i p e r g l a q m)
 
@@ -41,7 +42,9 @@ module _ (s : List ℕ) (lo : ℕ) (sorts : List ℕ) (c : Cursor) (t : Table) (
 
 -- ---- the whole node: what stood before its end took a byte or more
 
-module _ (s : List ℕ) (p : Rule (Leaf Key)) (c m : Cursor) (f : Rule (Leaf Key)) (e : (x : Leaf Key) (u : Cursor) → Took 0 s m u f x → Took 1 s c u p x) (d : (r : Refusal) (q : ℕ) → run s m f ≡ refused r q → run s c p ≡ refused r q)
+module _ (s : List ℕ) (p : Rule (Leaf Key)) (c m : Cursor) (f : Rule (Leaf Key))
+    (e : (x : Leaf Key) (u : Cursor) → Took 0 s m u f x → Took 1 s c u p x)
+    (d : (r : Refusal) (q : ℕ) → run s m f ≡ refused r q → run s c p ≡ refused r q)
     (l : c .at + 1 ≤ m .at) where
   pub whole-node : (b a : List ℕ) (out : ℕ) (y : NodeRead) → EndMeans s b a m out f y → LeafMeans s b a c out p y
   whole-node b a out (node.Is q u) w = record {
@@ -53,7 +56,9 @@ module _ (s : List ℕ) (p : Rule (Leaf Key)) (c m : Cursor) (f : Rule (Leaf Key
   whole-node b a out (node.Refused r q) w = d r q w
 
 -- the same of an end whose own end is another
-module _ (s : List ℕ) (p : Rule (Leaf Key)) (c m : Cursor) (f : Rule (Leaf Key)) (e : (x : Leaf Key) (u : Cursor) → Took 0 s m u f x → Took 0 s c u p x) (d : (r : Refusal) (q : ℕ) → run s m f ≡ refused r q → run s c p ≡ refused r q)
+module _ (s : List ℕ) (p : Rule (Leaf Key)) (c m : Cursor) (f : Rule (Leaf Key))
+    (e : (x : Leaf Key) (u : Cursor) → Took 0 s m u f x → Took 0 s c u p x)
+    (d : (r : Refusal) (q : ℕ) → run s m f ≡ refused r q → run s c p ≡ refused r q)
     (l : c .at ≤ m .at) where
   pub whole-end : (b a : List ℕ) (out : ℕ) (y : NodeRead) → EndMeans s b a m out f y → EndMeans s b a c out p y
   whole-end b a out (node.Is q u) w = record {
@@ -70,7 +75,9 @@ module _ (s : List ℕ) (c : Cursor) (p : Rule Fields) (k : Fields → Leaf Key)
   pub free-refused : (r : Refusal) (q : ℕ) → run s c p ≡ refused r q → run s c (p >>= λ fs. give (k fs)) ≡ refused r q
   free-refused r q h = rw h
 
-  pub free-went : (e : Cursor) (fs : Fields) → Took 0 s c e p fs → (v : Leaf Key) → k fs ≡ v → (b a : List ℕ) (out q : ℕ) → Put b out v a q → EndWent s b a c e out q (p >>= λ fs. give (k fs))
+  pub free-went : (e : Cursor) (fs : Fields) → Took 0 s c e p fs → (v : Leaf Key)
+      → k fs ≡ v → (b a : List ℕ) (out q : ℕ) → Put b out v a q
+      → EndWent s b a c e out q (p >>= λ fs. give (k fs))
   free-went e fs t v z b a out q w = record {
     value = v;
     took = record { is = rw (t .is, z); low = t .low; ready = t .ready };

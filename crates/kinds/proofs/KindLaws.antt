@@ -25,9 +25,13 @@ module _ (s : List ℕ) (c : Cursor) where
   unfolding parseDraw string
   no-svg q h = rw h
 
-  pub draw-node : (m : Cursor) (x : Span) → Took 1 s c m text (x .start, x .size) → (b a : List ℕ) (out : ℕ) (y : NodeRead) → EndMeans s b a m out (drawEnd (spanOf x)) y → LeafMeans s b a c out parseDraw y
+  pub draw-node : (m : Cursor) (x : Span) → Took 1 s c m text (x .start, x .size)
+      → (b a : List ℕ) (out : ℕ) (y : NodeRead) → EndMeans s b a m out (drawEnd (spanOf x)) y
+      → LeafMeans s b a c out parseDraw y
   unfolding parseDraw string
-  draw-node m x t = whole-node s parseDraw c m (drawEnd (spanOf x)) (λ v u z. record { is = rw (t .is, z .is); low = omega (arith, t .low, z .low); ready = z .ready }) (λ r q h. rw (t .is, h)) (t .low)
+  draw-node m x t =
+      whole-node s parseDraw c m (drawEnd (spanOf x))
+      (λ v u z. record { is = rw (t .is, z .is); low = omega (arith, t .low, z .low); ready = z .ready }) (λ r q h. rw (t .is, h)) (t .low)
 
 -- ---- two strings: morph, and behind color's `:`
 
@@ -45,7 +49,8 @@ module _ (s : List ℕ) (c : Cursor) where
     unfolding parseMorph string
     no-arrow q h = rw (t .is, h)
 
-    pub no-color-arrow : (v : Span) (q : ℕ) → run s m (bothBytes 61 62) ≡ refused Missing q → run s c (colorStrings (spanOf v)) ≡ refused Missing q
+    pub no-color-arrow : (v : Span) (q : ℕ) → run s m (bothBytes 61 62) ≡ refused Missing q
+        → run s c (colorStrings (spanOf v)) ≡ refused Missing q
     unfolding string
     no-color-arrow v q h = rw (t .is, h)
 
@@ -62,13 +67,19 @@ module _ (s : List ℕ) (c : Cursor) where
         pub morph-node : EndMeans s b a e out (morphEnd (spanOf x) (spanOf y)) r → LeafMeans s b a c out parseMorph r
         unfolding parseMorph string
         morph-node =
-            whole-node s parseMorph c e (morphEnd (spanOf x) (spanOf y)) (λ v u z. record { is = rw (t .is, o .is, w .is, z .is); low = omega (arith, t .low, o .low, w .low, z .low); ready = z .ready })
+            whole-node s parseMorph c e (morphEnd (spanOf x) (spanOf y))
+            (λ v u z.
+            record { is = rw (t .is, o .is, w .is, z .is); low = omega (arith, t .low, o .low, w .low, z .low); ready = z .ready })
             (λ r q h. rw (t .is, o .is, w .is, h)) (omega (arith, t .low, o .low, w .low)) b a out r
 
-        pub strings-end : (g : Span) → EndMeans s b a e out (colorEnd (spanOf g) (spanOf x) (spanOf y)) r → EndMeans s b a c out (colorStrings (spanOf g)) r
+        pub strings-end : (g : Span)
+            → EndMeans s b a e out (colorEnd (spanOf g) (spanOf x) (spanOf y)) r
+            → EndMeans s b a c out (colorStrings (spanOf g)) r
         unfolding string
         strings-end g =
-            whole-end s (colorStrings (spanOf g)) c e (colorEnd (spanOf g) (spanOf x) (spanOf y)) (λ v u z. record { is = rw (t .is, o .is, w .is, z .is); low = omega (arith, t .low, o .low, w .low, z .low); ready = z .ready })
+            whole-end s (colorStrings (spanOf g)) c e (colorEnd (spanOf g) (spanOf x) (spanOf y))
+            (λ v u z.
+            record { is = rw (t .is, o .is, w .is, z .is); low = omega (arith, t .low, o .low, w .low, z .low); ready = z .ready })
             (λ r q h. rw (t .is, o .is, w .is, h)) (omega (arith, t .low, o .low, w .low)) b a out r
 
 -- ---- color and path: a target first
@@ -92,10 +103,13 @@ module _ (s : List ℕ) (c : Cursor) where
     path-not-along r q h = rw (t .is, h)
 
     module _ (l : x .start + x .size ≤ length s) where
-      pub color-node : (n : Cursor) → Took 1 s m n (theByte 58) tt → (b a : List ℕ) (out : ℕ) (r : NodeRead) → EndMeans s b a n out (colorStrings (spanOf x)) r → LeafMeans s b a c out parseColor r
+      pub color-node : (n : Cursor) → Took 1 s m n (theByte 58) tt → (b a : List ℕ) (out : ℕ) (r : NodeRead)
+          → EndMeans s b a n out (colorStrings (spanOf x)) r → LeafMeans s b a c out parseColor r
       unfolding parseColor ident
       color-node n o =
-          whole-node s parseColor c n (colorStrings (spanOf x)) (λ v u z. record { is = rw (t .is, o .is, spelled-length s x l, z .is); low = omega (arith, t .low, o .low, z .low); ready = z .ready })
+          whole-node s parseColor c n (colorStrings (spanOf x))
+          (λ v u z.
+          record { is = rw (t .is, o .is, spelled-length s x l, z .is); low = omega (arith, t .low, o .low, z .low); ready = z .ready })
           (λ r q h. rw (t .is, o .is, spelled-length s x l, h)) (omega (arith, t .low, o .low))
 
       module _ (n : Cursor) (i : ℕ) (o : Took 1 s m n (choice Malformed ("along" ∷ [])) i) where
@@ -103,10 +117,19 @@ module _ (s : List ℕ) (c : Cursor) where
         unfolding parsePath ident string
         path-no-svg q h = rw (t .is, o .is, h)
 
-        pub path-node : (e : Cursor) (y : Span) → Took 1 s n e text (y .start, y .size) → (b a : List ℕ) (out : ℕ) (r : NodeRead) → EndMeans s b a e out (pathEnd (spanOf x) (spanOf y)) r → LeafMeans s b a c out parsePath r
+        pub path-node : (e : Cursor) (y : Span) → Took 1 s n e text (y .start, y .size)
+            → (b a : List ℕ) (out : ℕ) (r : NodeRead)
+            → EndMeans s b a e out (pathEnd (spanOf x) (spanOf y)) r
+            → LeafMeans s b a c out parsePath r
         unfolding parsePath ident string
         path-node e y w =
-            whole-node s parsePath c e (pathEnd (spanOf x) (spanOf y)) (λ v u z. record { is = rw (t .is, o .is, w .is, spelled-length s x l, z .is); low = omega (arith, t .low, o .low, w .low, z .low); ready = z .ready })
+            whole-node s parsePath c e (pathEnd (spanOf x) (spanOf y))
+            (λ v u z.
+            record {
+              is = rw (t .is, o .is, w .is, spelled-length s x l, z .is);
+              low = omega (arith, t .low, o .low, w .low, z .low);
+              ready = z .ready;
+            })
             (λ r q h. rw (t .is, o .is, w .is, spelled-length s x l, h)) (omega (arith, t .low, o .low, w .low))
 
 -- ---- waveform
@@ -116,6 +139,9 @@ module _ (s : List ℕ) (c : Cursor) where
   unfolding parseWaveform
   no-waveform r q h = rw h
 
-  pub waveform-node : (m : Cursor) (i : ℕ) → Took 1 s c m waveformKind i → (b a : List ℕ) (out : ℕ) (r : NodeRead) → EndMeans s b a m out (waveformEnd i) r → LeafMeans s b a c out parseWaveform r
+  pub waveform-node : (m : Cursor) (i : ℕ) → Took 1 s c m waveformKind i → (b a : List ℕ) (out : ℕ) (r : NodeRead)
+      → EndMeans s b a m out (waveformEnd i) r → LeafMeans s b a c out parseWaveform r
   unfolding parseWaveform
-  waveform-node m i t = whole-node s parseWaveform c m (waveformEnd i) (λ v u z. record { is = rw (t .is, z .is); low = omega (arith, t .low, z .low); ready = z .ready }) (λ r q h. rw (t .is, h)) (t .low)
+  waveform-node m i t =
+      whole-node s parseWaveform c m (waveformEnd i)
+      (λ v u z. record { is = rw (t .is, z .is); low = omega (arith, t .low, z .low); ready = z .ready }) (λ r q h. rw (t .is, h)) (t .low)

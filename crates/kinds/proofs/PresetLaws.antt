@@ -43,7 +43,11 @@ Kept s c e p xs o = (fs : Fields) × Took 0 s c e p fs × Held s (c .at) (e .at)
 
 module _ (s : List ℕ) (c : Cursor) (r : Ready s c) where
   pub no-pairs : seesByte 40 (tokens s c) ≡ false → EndMeans s (c .at) drawSorts c drawFields presetPairs noSlots noOthers (ended.Is c)
-  no-pairs e = ([], record { is = rw e; low = omega arith; ready = r }, none-held s (c .at) (c .at) (rowsOf drawFields) drawSorts drawFields draw-layout)
+  no-pairs e = (
+    [],
+    record { is = rw e; low = omega arith; ready = r },
+    none-held s (c .at) (c .at) (rowsOf drawFields) drawSorts drawFields draw-layout,
+  )
 
   module _ (m : Cursor) (f : Follows s c m) (e : seesByte 40 (tokens s c) ≡ true) where
     opened : Took 1 s c m (theByte 40) tt
@@ -52,7 +56,9 @@ module _ (s : List ℕ) (c : Cursor) (r : Ready s c) where
     pub pairs-refused : (a : Refusal) (q : ℕ) → run s m (pairs drawFields) ≡ refused a q → run s c presetPairs ≡ refused a q
     pairs-refused a q h = rw (e, opened .is, h)
 
-    pub pairs-taken : (n u : Cursor) (xs : List Slot) (o : Others) → EndMeans s (c .at) drawSorts m drawFields (pairs drawFields) xs o (ended.Is n) → Took 0 s n u leave tt
+    pub pairs-taken : (n u : Cursor) (xs : List Slot) (o : Others)
+        → EndMeans s (c .at) drawSorts m drawFields (pairs drawFields) xs o (ended.Is n)
+        → Took 0 s n u leave tt
         → EndMeans s (c .at) drawSorts c drawFields presetPairs xs o (ended.Is u)
     pairs-taken n u xs o h v = (
       h .0,
@@ -62,7 +68,8 @@ module _ (s : List ℕ) (c : Cursor) (r : Ready s c) where
 
 -- ---- behind a `,`
 
-module _ (s : List ℕ) (c e : Cursor) (xs : List Slot) (o : Others) (h : EndMeans s (c .at) drawSorts c drawFields presetPairs xs o (ended.Is e)) where
+module _ (s : List ℕ) (c e : Cursor) (xs : List Slot) (o : Others)
+    (h : EndMeans s (c .at) drawSorts c drawFields presetPairs xs o (ended.Is e)) where
   pub no-comma : seesByte 44 (tokens s e) ≡ false → EndMeans s (c .at) drawSorts c drawFields presetFields xs o (ended.Is e)
   no-comma z = (h .0, record { is = rw (h .1 .is, z); low = h .1 .low; ready = h .1 .ready }, h .2)
 
@@ -71,13 +78,24 @@ module _ (s : List ℕ) (c e : Cursor) (xs : List Slot) (o : Others) (h : EndMea
     comma = took-mark s e m (h .1 .ready) f 44 (omega arith) z
 
     pub held-there : Held s (c .at) (m .at) drawSorts drawFields xs o (h .0)
-    held-there = held-wider s (c .at) (e .at) (c .at) (m .at) (omega arith) (omega (arith, comma .low)) drawSorts drawFields xs o (h .0) (h .2)
+    held-there =
+        held-wider s (c .at) (e .at) (c .at) (m .at) (omega arith) (omega (arith, comma .low)) drawSorts drawFields xs o (h .0) (h .2)
 
     pub comma-low : c .at ≤ m .at
     comma-low = omega (arith, h .1 .low, comma .low)
 
-    pub list-end : (ys : List Slot) (p : Others) (y : Ended) → EndMeans s (c .at) drawSorts m drawFields (parseFieldList drawFields (h .0)) ys p y → EndMeans s (c .at) drawSorts c drawFields presetFields ys p y
-    list-end ys p (ended.Is u) w = (w .0, record { is = rw (h .1 .is, z, f .rest, sym (f .left), w .1 .is); low = omega (arith, h .1 .low, comma .low, w .1 .low); ready = w .1 .ready }, w .2)
+    pub list-end : (ys : List Slot) (p : Others) (y : Ended)
+        → EndMeans s (c .at) drawSorts m drawFields (parseFieldList drawFields (h .0)) ys p y
+        → EndMeans s (c .at) drawSorts c drawFields presetFields ys p y
+    list-end ys p (ended.Is u) w = (
+      w .0,
+      record {
+        is = rw (h .1 .is, z, f .rest, sym (f .left), w .1 .is);
+        low = omega (arith, h .1 .low, comma .low, w .1 .low);
+        ready = w .1 .ready;
+      },
+      w .2,
+    )
     list-end ys p (ended.Refused a q) w = rw (h .1 .is, z, f .rest, sym (f .left), w)
 
 -- a refusal in parentheses is one of all
@@ -96,6 +114,12 @@ module _ (s : List ℕ) (c : Cursor) where
     unfolding parsePresetCall ident
     behind-name = rw (t .is, spelled-length s x l) (assoc (run s m presetPairs) _ _)
 
-    pub preset-node : (b a : List ℕ) (out : ℕ) (y : NodeRead) → kinds.EndMeans s b a m out (presetEnd (spanOf x)) y → LeafMeans s b a c out parsePresetCall y
+    pub preset-node : (b a : List ℕ) (out : ℕ) (y : NodeRead)
+        → kinds.EndMeans s b a m out (presetEnd (spanOf x)) y
+        → LeafMeans s b a c out parsePresetCall y
     preset-node =
-        whole-node s parsePresetCall c m (presetEnd (spanOf x)) (λ v u z. record { is = behind-name ∙ z .is; low = omega (arith, t .low, z .low); ready = z .ready }) (λ r q h. behind-name ∙ h) (t .low)
+        whole-node s parsePresetCall c m
+        (presetEnd (spanOf x))
+        (λ v u z. record { is = behind-name ∙ z .is; low = omega (arith, t .low, z .low); ready = z .ready })
+        (λ r q h. behind-name ∙ h)
+        (t .low)

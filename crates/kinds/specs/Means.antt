@@ -61,7 +61,8 @@ abbrev pub morphSorts : List ℕ
 morphSorts = 1 ∷ 0 ∷ 7 ∷ []
 
 abbrev pub morphLeaf : tree.Span → tree.Span → Fields → ℕ → Leaf Key
-morphLeaf from to fs d = Leaf.morph (record { from = from; to = to; samples = default (numberOf "samples" fs) 32; duration = d; easing = easingOf fs })
+morphLeaf from to fs d =
+    Leaf.morph (record { from = from; to = to; samples = default (numberOf "samples" fs) 32; duration = d; easing = easingOf fs })
 
 abbrev pub morphEnd : tree.Span → tree.Span → Rule (Leaf Key)
 morphEnd from to = timedEnd morphFields (morphLeaf from to)
@@ -71,7 +72,9 @@ abbrev pub colorSorts : List ℕ
 colorSorts = 0 ∷ 2 ∷ 7 ∷ []
 
 abbrev pub colorLeaf : tree.Span → tree.Span → tree.Span → Fields → ℕ → Leaf Key
-colorLeaf target from to fs d = Leaf.color (record { target = target; from = from; to = to; duration = d; space = default (numberOf "space" fs) 0; easing = easingOf fs })
+colorLeaf target from to fs d =
+    Leaf.color
+    (record { target = target; from = from; to = to; duration = d; space = default (numberOf "space" fs) 0; easing = easingOf fs })
 
 abbrev pub colorEnd : tree.Span → tree.Span → tree.Span → Rule (Leaf Key)
 colorEnd target from to = timedEnd colorFields (colorLeaf target from to)

@@ -39,9 +39,11 @@ ten i h = go i 10 h
 
 module _ (s b a : List ℕ) (c : Cursor) (out : ℕ) (r : NodeRead) where
   -- the row at a known place
-  pub row-at : (i k : ℕ) (row : String × Rule (Leaf Key)) → getElem? leaves k ≡ some row → i ≡ k → LeafMeans s b a c out (row .1) r → LeafAtMeans s b a c out i r
+  pub row-at : (i k : ℕ) (row : String × Rule (Leaf Key)) → getElem? leaves k ≡ some row
+      → i ≡ k → LeafMeans s b a c out (row .1) r → LeafAtMeans s b a c out i r
   row-at i k row g e h other f =
-      subst (λ (x : String × Rule (Leaf Key)). LeafMeans s b a c out (x .1) r) (Option·some-injective row other (sym g ∙ subst (λ (n : ℕ). getElem? leaves n ≡ some other) e f)) h
+      subst (λ (x : String × Rule (Leaf Key)). LeafMeans s b a c out (x .1) r)
+      (Option·some-injective row other (sym g ∙ subst (λ (n : ℕ). getElem? leaves n ≡ some other) e f)) h
 
   -- the last row, behind which there is none
   pub last-row : (i : ℕ) → 10 ≤ i → LeafMeans s b a c out parseAt r → LeafAtMeans s b a c out i r

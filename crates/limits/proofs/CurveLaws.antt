@@ -49,17 +49,22 @@ use Rattle.limits.proofs.TakeLaws.{Word, a-word, the-mark, two-marks, i
 use Rattle.limits.proofs.ListLaws.{_also_, a-choice, by-word, by-word-or}
 use Rattle.limits.proofs.SizeLaws.{easing-most}
 use Rattle.limits.proofs.FieldLaws.{limit, Held, Row, Listed, pairs-run, word-or}
-use Rattle.limits.proofs.ValueLaws.{f32Of-small, span-fits, ident-runs, truth-runs, float-runs, uint-runs, uint-in-parens, Two, two-floats, value-runs}
+use Rattle.limits.proofs.ValueLaws.{f32Of-small, span-fits, ident-runs, truth-runs, float-runs}
+use Rattle.limits.proofs.ValueLaws.{uint-runs, uint-in-parens, Two, two-floats, value-runs}
 
 module _ (s : List ℕ) (short : length s ≤ 16384) where
   -- ---- numbers as fields
 
   number-held : (w : List ℕ) (q n m : ℕ) → 3 ≤ length w → n < limit w → q < m → Held s w q (aNumber n) m
-  number-held w q n m l h g = record { fair = record { long = l; number = h; easing = tt; loopMode = tt; value = tt; damping = tt; range = tt }; paid = omega arith }
+  number-held w q n m l h g = record {
+    fair = record { long = l; number = h; easing = tt; loopMode = tt; value = tt; damping = tt; range = tt };
+    paid = omega arith;
+  }
 
   pub number-row : (w : String) → 3 ≤ length (bytes w) → limit (bytes w) ≡ 4294967296 → Row s (w, number)
   unfolding number
-  number-row w l e q h = then (float-runs s short q h) (λ n m g x. gives g (number-held (bytes w) q n m l (omega (arith, x .ok)) (x .is .on)))
+  number-row w l e q h =
+      then (float-runs s short q h) (λ n m g x. gives g (number-held (bytes w) q n m l (omega (arith, x .ok)) (x .is .on)))
 
   pub count-row : (w : String) → 3 ≤ length (bytes w) → limit (bytes w) ≡ 4294967296 → Row s (w, count)
   unfolding count
@@ -77,17 +82,23 @@ module _ (s : List ℕ) (short : length s ≤ 16384) where
 
   four-floats : (q : ℕ) → q ≤ length s → Runs s fourFloats q (Curve q)
   unfolding fourFloats
-  four-floats q h = then (two-floats s short q h) (λ a m g x. then (comma-floats m g) (λ b n f y. gives f ((x .0 .0, (x .0 .1, (y .0 .0, y .0 .1))), omega (arith, x .1, y .1))))
+  four-floats q h =
+      then (two-floats s short q h)
+      (λ a m g x. then (comma-floats m g) (λ b n f y. gives f ((x .0 .0, (x .0 .1, (y .0 .0, y .0 .1))), omega (arith, x .1, y .1))))
 
   bezier-runs : (q : ℕ) → q ≤ length s → Runs s bezierCurve q (Curve q)
   unfolding bezierCurve
-  bezier-runs q h = weaken (in-group fourFloats Curve h 40 refl four-floats) (λ e m x. (x .inner .0, omega (arith, x .low, x .inner .1, x .left .low)))
+  bezier-runs q h =
+      weaken (in-group fourFloats Curve h 40 refl four-floats) (λ e m x. (x .inner .0, omega (arith, x .low, x .inner .1, x .left .low)))
 
   rough-runs : (q : ℕ) → q ≤ length s → Runs s roughCurve q (Curve q)
   unfolding roughCurve roughFields limit same
   rough-runs q h =
-      then (in-group (pairs roughFields) (Listed s []) h 40 refl (pairs-run s roughFields (number-row "strength" (omega arith) refl also count-row "points" (omega arith) refl also tt)))
-      (λ fs m g x. let i = x .inner in gives g (
+      then (in-group (pairs roughFields) (Listed s []) h 40 refl
+      (pairs-run s roughFields (number-row "strength" (omega arith) refl also count-row "points" (omega arith) refl also tt)))
+      (λ fs m g x.
+      let i = x .inner in
+      gives g (
         (
           word-or (length s) fs (i .fair) "strength" refl (f32Of 1 2) (f32Of-small 1 2),
           word-or (length s) fs (i .fair) "points" refl 8 refl,
@@ -98,8 +109,11 @@ module _ (s : List ℕ) (short : length s ≤ 16384) where
   slow-runs : (q : ℕ) → q ≤ length s → Runs s slowMoCurve q (Curve q)
   unfolding slowMoCurve slowMoFields limit same
   slow-runs q h =
-      then (in-group (pairs slowMoFields) (Listed s []) h 40 refl (pairs-run s slowMoFields (number-row "linear_ratio" (omega arith) refl also number-row "power" (omega arith) refl also tt)))
-      (λ fs m g x. let i = x .inner in gives g (
+      then (in-group (pairs slowMoFields) (Listed s []) h 40 refl
+      (pairs-run s slowMoFields (number-row "linear_ratio" (omega arith) refl also number-row "power" (omega arith) refl also tt)))
+      (λ fs m g x.
+      let i = x .inner in
+      gives g (
         (
           word-or (length s) fs (i .fair) "linear_ratio" refl (f32Of 7 10) (f32Of-small 7 10),
           word-or (length s) fs (i .fair) "power" refl (f32Of 2 1) (f32Of-small 2 1),
@@ -174,35 +188,66 @@ module _ (s : List ℕ) (short : length s ≤ 16384) where
 
   ping-pong-runs : (q : ℕ) → q ≤ length s → Runs s pingPongMode q (λ m n. loopL .ok m × (q ≤ n))
   unfolding pingPongMode
-  ping-pong-runs q h = tests (sees "(") (λ e. then (uint-in-parens s short q h) (λ k m g x. gives g (small 4 k (x .0), omega (arith, x .1)))) (λ e. gives h (tt, omega arith))
+  ping-pong-runs q h =
+      tests (sees "(") (λ e. then (uint-in-parens s short q h) (λ k m g x. gives g (small 4 k (x .0), omega (arith, x .1))))
+      (λ e. gives h (tt, omega arith))
 
   pub loop-runs : (q : ℕ) → q ≤ length s → Runs s parseLoopMode q (Looped q)
   unfolding parseLoopMode loopModes
   loop-runs q h =
-      then (a-word h) (λ w m g x. weaken
+      then (a-word h)
+      (λ w m g x. weaken
       (by-word {Q = λ l n. loopL .ok l × (m ≤ n)} Malformed loopModes (w .1) (λ p. p) g
-      ((λ e. gives g (tt, omega arith)) also (λ e. gives g (tt, omega arith)) also (λ e. ping-pong-runs m g) also (λ e. times-runs m g) also tt))
+      ((λ e. gives g (tt, omega arith)) also (λ e. gives g (tt, omega arith))
+      also (λ e. ping-pong-runs m g) also (λ e. times-runs m g)
+      also tt))
       (λ l n y. record { ok = y .0; on = omega (arith, x .low, x .end, x .some, y .1) }))
 
   -- ---- the other fields
 
   pub easing-row : (w : String) → 3 ≤ length (bytes w) → Row s (w, easing)
   unfolding easing
-  easing-row w l q h = then (easing-runs q h) (λ e m g x. gives g (record { fair = record { long = l; number = tt; easing = x .ok; loopMode = tt; value = tt; damping = tt; range = tt }; paid = omega (arith, x .on) }))
+  easing-row w l q h =
+      then (easing-runs q h)
+      (λ e m g x. gives g
+      (record {
+        fair = record { long = l; number = tt; easing = x .ok; loopMode = tt; value = tt; damping = tt; range = tt };
+        paid = omega (arith, x .on);
+      }))
 
   pub loop-row : (w : String) → 3 ≤ length (bytes w) → Row s (w, loopMode)
   unfolding loopMode
-  loop-row w l q h = then (loop-runs q h) (λ e m g x. gives g (record { fair = record { long = l; number = tt; easing = tt; loopMode = x .ok; value = tt; damping = tt; range = tt }; paid = omega (arith, x .on) }))
+  loop-row w l q h =
+      then (loop-runs q h)
+      (λ e m g x. gives g
+      (record {
+        fair = record { long = l; number = tt; easing = tt; loopMode = x .ok; value = tt; damping = tt; range = tt };
+        paid = omega (arith, x .on);
+      }))
 
   pub flag-row : (w : String) → 3 ≤ length (bytes w) → Row s (w, flag)
   unfolding flag
-  flag-row w l q h = then (truth-runs s short q h) (λ b m g x. gives g (record { fair = record { long = l; number = tt; easing = tt; loopMode = tt; value = tt; damping = tt; range = tt }; paid = omega (arith, x) }))
+  flag-row w l q h =
+      then (truth-runs s short q h)
+      (λ b m g x. gives g
+      (record {
+        fair = record { long = l; number = tt; easing = tt; loopMode = tt; value = tt; damping = tt; range = tt };
+        paid = omega (arith, x);
+      }))
 
   pub value-row : (w : String) → 8 ≤ length (bytes w) → Row s (w, value)
   unfolding value
-  value-row w l q h = then (value-runs s short q h) (λ v m g x. gives g (record { fair = record { long = omega arith; number = tt; easing = tt; loopMode = tt; value = (x .ok, l); damping = tt; range = tt }; paid = omega (arith, x .on, x .paid) }))
+  value-row w l q h =
+      then (value-runs s short q h)
+      (λ v m g x. gives g
+      (record {
+        fair = record { long = omega arith; number = tt; easing = tt; loopMode = tt; value = (x .ok, l); damping = tt; range = tt };
+        paid = omega (arith, x .on, x .paid);
+      }))
 
   -- ---- the position of a word
 
-  pub case-row : (w : String) (r : Refusal) (ns : List String) → 3 ≤ length (bytes w) → length (words ns) ≤ limit (bytes w) → Row s (w, (choice r ns >>= λ k. give (aNumber k)))
+  pub case-row : (w : String) (r : Refusal) (ns : List String) → 3 ≤ length (bytes w)
+      → length (words ns) ≤ limit (bytes w)
+      → Row s (w, (choice r ns >>= λ k. give (aNumber k)))
   case-row w r ns l g q h = then (a-choice h r (words ns)) (λ k m f x. gives f (number-held (bytes w) q k m l (omega (arith, x .0)) (x .1)))

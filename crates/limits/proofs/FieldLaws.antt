@@ -20,7 +20,9 @@ use Rattle.sheet.proofs.Laws.{wordL, valueL, easingL, loopL, dampingL}
 use Rattle.token.specs.Token.{Kind, name, number, quoted, mark, tokensFrom, kind, isMark}
 use Rattle.error.specs.declared.Refusal.the-variants.{UnknownKeyword}
 use Rattle.grammar.specs.Rule.{Rule, more, done, give, seesWord}
-use Rattle.grammar.specs.Fields.{Content, Entry, Fields, Table, rowOf, fieldHead, fieldValue, entry, pairName, onePair, pairs, Item, halts, closes, passes, starts, itemOf, fieldName, oneField, byItem, fieldsStep, parseFieldList, last, called, numberOf, easingOf, loopModeOf, valueOf, dampingOf, rangeOf}
+use Rattle.grammar.specs.Fields.{Content, Entry, Fields, Table, rowOf, fieldHead, fieldValue, entry, pairName, onePair}
+use Rattle.grammar.specs.Fields.{pairs, Item, halts, closes, passes, starts, itemOf, fieldName, oneField, byItem, fieldsStep}
+use Rattle.grammar.specs.Fields.{parseFieldList, last, called, numberOf, easingOf, loopModeOf, valueOf, dampingOf, rangeOf}
 use Rattle.limits.proofs.RunLaws.{Runs, gives, then, and, weaken, tests, needs, Onto, repeats}
 use Rattle.limits.proofs.TakeLaws.{a-word, the-mark, skips, skips-word}
 use Rattle.limits.proofs.ListLaws.{lists}
@@ -95,8 +97,12 @@ module _ (s : List ℕ) where
   row-in [] w f h e = absurd (let z : _≡_ {A = ℕ} 0 1 = cc in omega arith)
   row-in (g ∷ t) w f h e = go (same w (bytes (g .0))) refl e (λ x. row-in t w f (h .1) x)
     where
-      go : (b : Bool) → same w (bytes (g .0)) ≡ b → elim b as (λ x. Option (String × Rule Content)) [ true ↦ some g | false ↦ rowOf t w ] ≡ some f → (rowOf t w ≡ some f → (w ≡ bytes (f .0)) × Row f) → (w ≡ bytes (f .0)) × Row f
-      go true q x ih = subst (λ (y : String × Rule Content). (w ≡ bytes (y .0)) × Row y) (Option·some-injective g f x) (same-eq w (bytes (g .0)) q, h .0)
+      go : (b : Bool) → same w (bytes (g .0)) ≡ b
+          → elim b as (λ x. Option (String × Rule Content)) [ true ↦ some g | false ↦ rowOf t w ] ≡ some f
+          → (rowOf t w ≡ some f → (w ≡ bytes (f .0)) × Row f)
+          → (w ≡ bytes (f .0)) × Row f
+      go true q x ih =
+          subst (λ (y : String × Rule Content). (w ≡ bytes (y .0)) × Row y) (Option·some-injective g f x) (same-eq w (bytes (g .0)) q, h .0)
       go false q x ih = ih x
 
   -- a field's name, which takes as many bytes as it has
@@ -109,9 +115,13 @@ module _ (s : List ℕ) where
 
   field-name : Names fieldName
   unfolding fieldName
-  field-name q h = tests (seesWord "loop") (λ e. and {f = give (bytes "loop")} (skips-word h (bytes "loop") e) (λ m g u x. gives g x)) (λ e. pair-name q h)
+  field-name q h =
+      tests (seesWord "loop") (λ e. and {f = give (bytes "loop")} (skips-word h (bytes "loop") e) (λ m g u x. gives g x))
+      (λ e. pair-name q h)
 
-  entry-runs : (p : Rule (List ℕ)) (t : Table) → Names p → All Row t → (q : ℕ) → q ≤ length s → Runs s (entry p t) q (λ e m. Fair (length s) (e .0) (e .1) × (price e + 3 * q ≤ 3 * m))
+  entry-runs : (p : Rule (List ℕ)) (t : Table) → Names p → All Row t
+      → (q : ℕ) → q ≤ length s
+      → Runs s (entry p t) q (λ e m. Fair (length s) (e .0) (e .1) × (price e + 3 * q ≤ 3 * m))
   unfolding entry fieldHead fieldValue
   entry-runs p t names rows q h =
       then (head q h) (λ f m g x. then (x .1 m g) (λ c n i y. gives i (y .fair, omega (arith, x .0, y .paid))))
@@ -120,7 +130,11 @@ module _ (s : List ℕ) where
       Head q f m = (q + length (bytes (f .0)) < m) × Row f
 
       head : (q : ℕ) → q ≤ length s → Runs s (fieldHead p t) q (Head q)
-      head q h = then (names q h) (λ w m g x. and (the-mark g 58 refl) (λ n i u y. weaken (needs UnknownKeyword (rowOf t w) i) (λ f o z. let r = row-in t w f rows (z .1) in (let e = ap length (r .0) in let k = z .0 in omega arith, r .1))))
+      head q h =
+          then (names q h)
+          (λ w m g x. and (the-mark g 58 refl)
+          (λ n i u y. weaken (needs UnknownKeyword (rowOf t w) i)
+          (λ f o z. let r = row-in t w f rows (z .1) in (let e = ap length (r .0) in let k = z .0 in omega arith, r .1))))
 
   -- the fields fs, which were gs at q
   pub record Listed (gs : Fields) (q : ℕ) (fs : Fields) (m : ℕ) : Type 0 where
@@ -134,7 +148,9 @@ module _ (s : List ℕ) where
   later : (gs : Fields) (q : ℕ) (fs : Fields) (m n : ℕ) → m ≤ n → Listed gs q fs m → Listed gs q fs n
   later gs q fs m n h i = record { fair = i .fair; low = omega (arith, i .low); paid = omega (arith, i .paid) }
 
-  one-more : (gs : Fields) (q : ℕ) (fs : Fields) (m n : ℕ) (e : Entry) → Listed gs q fs m → Fair (length s) (e .0) (e .1) → price e + 3 * m ≤ 3 * n → Listed gs q (e ∷ fs) n
+  one-more : (gs : Fields) (q : ℕ) (fs : Fields) (m n : ℕ) (e : Entry)
+      → Listed gs q fs m → Fair (length s) (e .0) (e .1) → price e + 3 * m ≤ 3 * n
+      → Listed gs q (e ∷ fs) n
   one-more gs q fs m n e i f p = record { fair = (f, i .fair); low = omega (arith, i .low, p); paid = omega (arith, i .paid, p) }
 
   pub pairs-run : (t : Table) → All Row t → (q : ℕ) → q ≤ length s → Runs s (pairs t) q (Listed [] q)
@@ -171,8 +187,12 @@ module _ (s : List ℕ) where
       where
         by : (x : Item) → itemOf (kind (tokensFrom s m)) ≡ x → Runs s (byItem x t fs) m (Onto (Listed gs q) (Listed gs q))
         by halts e = gives g i
-        by closes e = and {f = give (done fs)} (skips g (goes (kind (tokensFrom s m)) closes e not-closes)) (λ n f u x. gives f (later gs q fs m n (omega (arith, x .on)) i))
-        by passes e = and {f = give (more fs)} (skips g (goes (kind (tokensFrom s m)) passes e not-passes)) (λ n f u x. gives f (later gs q fs m n (omega (arith, x .on)) i))
+        by closes e =
+            and {f = give (done fs)} (skips g (goes (kind (tokensFrom s m)) closes e not-closes))
+            (λ n f u x. gives f (later gs q fs m n (omega (arith, x .on)) i))
+        by passes e =
+            and {f = give (more fs)} (skips g (goes (kind (tokensFrom s m)) passes e not-passes))
+            (λ n f u x. gives f (later gs q fs m n (omega (arith, x .on)) i))
         by starts e = then (entry-runs fieldName t field-name rows m g) (λ e n f x. gives f (one-more gs q fs m n e i (x .0) (x .1)))
 
     pub fields-run : q ≤ length s → AllFair (length s) gs → Runs s (parseFieldList t gs) q (Listed gs q)
@@ -182,7 +202,9 @@ module _ (s : List ℕ) where
 -- ---- what a list says
 
 module _ (n : ℕ) where
-  last-in : {A : Type 0} (f : Entry → Option A) (P : A → Type 0) → ((e : Entry) → Fair n (e .0) (e .1) → On P (f e)) → (fs : Fields) → AllFair n fs → On P (last f fs)
+  last-in : {A : Type 0} (f : Entry → Option A) (P : A → Type 0)
+      → ((e : Entry) → Fair n (e .0) (e .1) → On P (f e))
+      → (fs : Fields) → AllFair n fs → On P (last f fs)
   unfolding last
   last-in f P k [] h = tt
   last-in f P k (e ∷ fs) h = go (f e) (k e (h .0)) (last-in f P k fs (h .1))
@@ -196,7 +218,9 @@ module _ (n : ℕ) where
     number-in w k l = last-in (called w (λ c. c .number)) (λ x. x < k) (λ e f. go e f (same (e .0) (bytes w)) refl) fs h
       where
         go : (e : Entry) → Fair n (e .0) (e .1) → (b : Bool) → same (e .0) (bytes w) ≡ b → On (λ x. x < k) (cond b (e .1 .number) none)
-        go e f true q = let z : limit (e .0) ≡ k = ap limit (same-eq (e .0) (bytes w) q) ∙ l in on-map (λ x. x < limit (e .0)) (λ x. x < k) (λ x y. omega arith) (e .1 .number) (f .number)
+        go e f true q =
+            let z : limit (e .0) ≡ k = ap limit (same-eq (e .0) (bytes w) q) ∙ l in
+            on-map (λ x. x < limit (e .0)) (λ x. x < k) (λ x y. omega arith) (e .1 .number) (f .number)
         go e f false q = tt
 
     word-in : (w : String) → limit (bytes w) ≡ 4294967296 → On (Small 4) (numberOf w fs)
@@ -226,18 +250,23 @@ module _ (n : ℕ) where
     pub value-opt : optL valueL .ok (valueOf fs)
     value-opt =
         on-ok valueL (valueOf fs)
-        (last-in (λ e. e .1 .value) (valueL .ok) (λ e f. on-map (λ v. valueL .ok v × (8 ≤ length (e .0))) (valueL .ok) (λ v x. x .0) (e .1 .value) (f .value)) fs h)
+        (last-in (λ e. e .1 .value) (valueL .ok)
+        (λ e f. on-map (λ v. valueL .ok v × (8 ≤ length (e .0))) (valueL .ok) (λ v x. x .0) (e .1 .value) (f .value)) fs h)
 
     pub damping-opt : optL dampingL .ok (dampingOf fs)
     damping-opt = on-ok dampingL (dampingOf fs) (last-in (λ e. e .1 .damping) (dampingL .ok) (λ e f. f .damping) fs h)
 
     pub range-opt : optL (wordL & wordL) .ok (rangeOf fs)
-    range-opt = on-ok (wordL & wordL) (rangeOf fs) (last-in (λ e. e .1 .range) (λ p. Small 4 (p .0) × Small 4 (p .1)) (λ e f. f .range) fs h)
+    range-opt =
+        on-ok (wordL & wordL) (rangeOf fs) (last-in (λ e. e .1 .range) (λ p. Small 4 (p .0) × Small 4 (p .1)) (λ e f. f .range) fs h)
 
   -- ---- what text a list takes at least
 
   -- what an entry that is selected takes, the list takes
-  total-last : {A : Type 0} (f : Entry → Option A) (cost : A → ℕ) → ((e : Entry) (a : A) → Fair n (e .0) (e .1) → f e ≡ some a → cost a ≤ price e) → (fs : Fields) → AllFair n fs → (a : A) → last f fs ≡ some a → cost a ≤ total fs
+  total-last : {A : Type 0} (f : Entry → Option A) (cost : A → ℕ)
+      → ((e : Entry) (a : A) → Fair n (e .0) (e .1) → f e ≡ some a → cost a ≤ price e)
+      → (fs : Fields) → AllFair n fs → (a : A) → last f fs ≡ some a
+      → cost a ≤ total fs
   unfolding last
   total-last f cost k [] h a e = absurd (let z : _≡_ {A = ℕ} 0 1 = cc in omega arith)
   total-last {A = A} f cost k (x ∷ fs) h a e = go (f x) refl e (λ g. total-last f cost k fs (h .1) a g)
@@ -248,16 +277,21 @@ module _ (n : ℕ) where
 
   module _ (fs : Fields) (h : AllFair n fs) where
     pub total-number : (w : String) (d : ℕ) → numberOf w fs ≡ some d → 3 * length (bytes w) + 6 ≤ total fs
-    total-number w d e = total-last (called w (λ c. c .number)) (λ x. 3 * length (bytes w) + 6) (λ x a f g. go x a (same (x .0) (bytes w)) refl g) fs h d e
+    total-number w d e =
+        total-last (called w (λ c. c .number)) (λ x. 3 * length (bytes w) + 6) (λ x a f g. go x a (same (x .0) (bytes w)) refl g) fs h d e
       where
-        go : (x : Entry) (a : ℕ) (b : Bool) → same (x .0) (bytes w) ≡ b → cond {A = Option ℕ} b (x .1 .number) none ≡ some a → 3 * length (bytes w) + 6 ≤ price x
+        go : (x : Entry) (a : ℕ) (b : Bool) → same (x .0) (bytes w) ≡ b
+            → cond {A = Option ℕ} b (x .1 .number) none ≡ some a
+            → 3 * length (bytes w) + 6 ≤ price x
         go x a true q g = let z = ap length (same-eq (x .0) (bytes w) q) in omega arith
         go x a false q g = absurd (let z : _≡_ {A = ℕ} 0 1 = cc in omega arith)
 
     pub total-value : (v : ValueExpr) → valueOf fs ≡ some v → 25 + length (valueForm .write v) ≤ total fs
     total-value v e = total-last (λ x. x .1 .value) (λ a. 25 + length (valueForm .write a)) (λ x a f g. go x a g (f .value)) fs h v e
       where
-        go : (x : Entry) (a : ValueExpr) → x .1 .value ≡ some a → On (λ b. valueL .ok b × (8 ≤ length (x .0))) (x .1 .value) → 25 + length (valueForm .write a) ≤ price x
+        go : (x : Entry) (a : ValueExpr) → x .1 .value ≡ some a
+            → On (λ b. valueL .ok b × (8 ≤ length (x .0))) (x .1 .value)
+            → 25 + length (valueForm .write a) ≤ price x
         go x a g f =
             let l = on-is (λ b. valueL .ok b × (8 ≤ length (x .0))) (x .1 .value) a g f .1 in
             let z = ap (λ (o : Option ValueExpr). length (opt valueForm .write o)) g in

@@ -58,13 +58,15 @@ headSize parallel = 1
 headSize (group mode) = 2
 headSize (stagger p d) = 20
 
-pub head-ok : (n : ℕ) {inner : Form Forest} (b : Law inner) (c : Container) (ns : Forest) → HeadOk c → b .ok ns → nodeL n b .ok (holding c ns)
+pub head-ok : (n : ℕ) {inner : Form Forest} (b : Law inner) (c : Container) (ns : Forest)
+    → HeadOk c → b .ok ns → nodeL n b .ok (holding c ns)
 head-ok n b sequence ns h o = o
 head-ok n b parallel ns h o = o
 head-ok n b (group mode) ns h o = (h, o)
 head-ok n b (stagger p d) ns h o = (h .0, (h .1, o))
 
-pub head-size : (n : ℕ) (inner : Form Forest) (c : Container) (ns : Forest) → length (nodeForm n inner .write (holding c ns)) ≤ headSize c + length (inner .write ns)
+pub head-size : (n : ℕ) (inner : Form Forest) (c : Container) (ns : Forest)
+    → length (nodeForm n inner .write (holding c ns)) ≤ headSize c + length (inner .write ns)
 head-size n inner sequence ns = omega arith
 head-size n inner parallel ns = omega arith
 head-size n inner (group mode) ns = omega arith
@@ -92,7 +94,9 @@ module _ (s : List ℕ) (short : length s ≤ 16384) where
 
   pub group-runs : HeadRule 5 parseGroup
   unfolding parseGroup
-  group-runs q h = then (a-choice h Malformed (words ("sequence" ∷ "parallel" ∷ []))) (λ k m g x. gives g (record { ok = x .0; paid = omega (arith, x .1) }))
+  group-runs q h =
+      then (a-choice h Malformed (words ("sequence" ∷ "parallel" ∷ [])))
+      (λ k m g x. gives g (record { ok = x .0; paid = omega (arith, x .1) }))
 
   -- ---- stagger
 
@@ -105,7 +109,9 @@ module _ (s : List ℕ) (short : length s ≤ 16384) where
   grid-rows =
       count-row s short "cols" (omega arith) refl
       also count-row s short "rows" (omega arith) refl
-      also case-row s short "origin" Malformed ("top_left" ∷ "top_right" ∷ "bottom_left" ∷ "bottom_right" ∷ "center" ∷ "top" ∷ "bottom" ∷ "left" ∷ "right" ∷ []) (omega arith) (omega arith)
+      also case-row s short "origin" Malformed
+      ("top_left" ∷ "top_right" ∷ "bottom_left" ∷ "bottom_right" ∷ "center" ∷ "top" ∷ "bottom" ∷ "left" ∷ "right" ∷ []) (omega arith)
+      (omega arith)
       also tt
 
   -- the rule in the parentheses of `grid`
@@ -134,7 +140,9 @@ module _ (s : List ℕ) (short : length s ≤ 16384) where
 
   grid-runs : (q : ℕ) → q ≤ length s → Runs s gridPattern q (Patterned q)
   unfolding gridPattern
-  grid-runs q h = weaken (in-group gridInside Patterned h 40 refl grid-inside) (λ p m x. (x .inner .0, omega (arith, x .low, x .inner .1, x .left .low)))
+  grid-runs q h =
+      weaken (in-group gridInside Patterned h 40 refl grid-inside)
+      (λ p m x. (x .inner .0, omega (arith, x .low, x .inner .1, x .left .low)))
 
   random-rows : All (Row s) randomFields
   unfolding randomFields limit same
@@ -161,8 +169,11 @@ module _ (s : List ℕ) (short : length s ≤ 16384) where
   pattern-runs : (q : ℕ) → q ≤ length s → Runs s parseStaggerPattern q (Patterned q)
   unfolding parseStaggerPattern patterns
   pattern-runs q h =
-      then (a-word h) (λ w m g x. weaken
-      (by-word {Q = Patterned m} Malformed patterns (w .1) (λ p. p) g ((λ e. grid-runs m g) also (λ e. random-runs m g) also (λ e. gives g (tt, omega arith)) also (λ e. gives g (tt, omega arith)) also tt))
+      then (a-word h)
+      (λ w m g x. weaken
+      (by-word {Q = Patterned m} Malformed patterns (w .1) (λ p. p) g
+      ((λ e. grid-runs m g) also (λ e. random-runs m g) also (λ e. gives g (tt, omega arith))
+      also (λ e. gives g (tt, omega arith)) also tt))
       (λ p n y. (y .0, omega (arith, x .low, x .end, y .1))))
 
   -- the pattern and the delay so far
@@ -172,8 +183,11 @@ module _ (s : List ℕ) (short : length s ≤ 16384) where
     low : q ≤ m
 
   module _ (q : ℕ) where
-    rest-runs : (x : Opening) (m : ℕ) → Opened q x m → m ≤ length s → Runs s (eat "," >>= λ c. give (goOn c x)) m (Onto (Opened q) (Opened q))
-    rest-runs x m o h = then (eats h 44 refl) (λ c n g y. on c n g (record { pattern = o .pattern; delay = o .delay; low = omega (arith, o .low, eaten m c n y) }))
+    rest-runs : (x : Opening) (m : ℕ) → Opened q x m → m ≤ length s
+        → Runs s (eat "," >>= λ c. give (goOn c x)) m (Onto (Opened q) (Opened q))
+    rest-runs x m o h =
+        then (eats h 44 refl)
+        (λ c n g y. on c n g (record { pattern = o .pattern; delay = o .delay; low = omega (arith, o .low, eaten m c n y) }))
       where
         on : (c : Bool) (n : ℕ) → n ≤ length s → Opened q x n → Runs s (give (goOn c x)) n (Onto (Opened q) (Opened q))
         on true n g z = gives g z
@@ -182,16 +196,26 @@ module _ (s : List ℕ) (short : length s ≤ 16384) where
     field-runs : (x : Opening) (m : ℕ) → m ≤ length s → Opened q x m → Runs s (openingField x) m (Onto (Opened q) (Opened q))
     unfolding openingField openingFields
     field-runs x m h o =
-        then (a-word h) (λ w m1 g1 x1.
+        then (a-word h)
+        (λ w m1 g1 x1.
         by-word UnknownKeyword (openingFields x) (w .1) (λ p. p >>= λ y. eat "," >>= λ c. give (goOn c y)) g1
-        ((λ e. then (and (the-mark g1 58 refl) (λ m2 g2 u x2. then (pattern-runs m2 g2) (λ p m3 g3 x3.
-        gives {Q = Opened q} g3 (record { pattern = x3 .0; delay = o .delay; low = omega (arith, o .low, x1 .low, x1 .end, x2, x3 .1) })))) (λ y n g z. rest-runs y n z g))
-        also (λ e. then (and (the-mark g1 58 refl) (λ m2 g2 u x2. then (float-runs s short m2 g2) (λ d m3 g3 x3.
-        gives {Q = Opened q} g3 (record { pattern = o .pattern; delay = small 4 d (x3 .ok); low = omega (arith, o .low, x1 .low, x1 .end, x2, x3 .is .on) })))) (λ y n g z. rest-runs y n z g))
+        ((λ e. then (and (the-mark g1 58 refl)
+        (λ m2 g2 u x2. then (pattern-runs m2 g2)
+        (λ p m3 g3 x3.
+        gives {Q = Opened q} g3 (record { pattern = x3 .0; delay = o .delay; low = omega (arith, o .low, x1 .low, x1 .end, x2, x3 .1) }))))
+        (λ y n g z. rest-runs y n z g))
+        also (λ e. then (and (the-mark g1 58 refl)
+        (λ m2 g2 u x2. then (float-runs s short m2 g2)
+        (λ d m3 g3 x3.
+        gives {Q = Opened q} g3
+        (record { pattern = o .pattern; delay = small 4 d (x3 .ok); low = omega (arith, o .low, x1 .low, x1 .end, x2, x3 .is .on) }))))
+        (λ y n g z. rest-runs y n z g))
         also tt))
 
   pub stagger-runs : HeadRule 7 parseStagger
   unfolding parseStagger openingStep
   stagger-runs q h =
-      then (repeats (Opened q) (Opened q) (λ x m o. o) openingStep (λ x m g o. tests (sees "{") (λ e. gives g o) (λ e. field-runs q x m g o)) h (record { pattern = tt; delay = tt; low = omega arith }))
-      (λ x m g o. gives g (record { ok = (on-ok patternL (x .0) (o .pattern), on-ok wordL (x .1) (o .delay)); paid = omega (arith, o .low) }))
+      then (repeats (Opened q) (Opened q) (λ x m o. o) openingStep
+      (λ x m g o. tests (sees "{") (λ e. gives g o) (λ e. field-runs q x m g o)) h (record { pattern = tt; delay = tt; low = omega arith }))
+      (λ x m g o. gives g
+      (record { ok = (on-ok patternL (x .0) (o .pattern), on-ok wordL (x .1) (o .delay)); paid = omega (arith, o .low) }))

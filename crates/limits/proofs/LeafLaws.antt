@@ -13,18 +13,25 @@ use Rattle.codec.proofs.Laws.{All, Law, optL}
 use Rattle.encode.proofs.FieldLaws.{small}
 use Rattle.number.proofs.Floats.{nearest-fits, bits-lt}
 use Rattle.number.specs.Time.{Key}
-use Rattle.ast.specs.Tree.{Span, ValueExpr, DampingMode, criticallyDamped, overdamped, underdamped, TweenSpec, SpringSpec, PathSpec, MorphSpec, DrawSpec, ColorSpec, WaveformSpec, PresetCall, Leaf, single, mapLeaf}
+use Rattle.ast.specs.Tree.{Span, ValueExpr, DampingMode, criticallyDamped, overdamped, underdamped, TweenSpec, SpringSpec}
+use Rattle.ast.specs.Tree.{PathSpec, MorphSpec, DrawSpec, ColorSpec, WaveformSpec, PresetCall, Leaf, single, mapLeaf}
 use Rattle.sheet.specs.Sheet.{Forest, valueForm, nodeForm, springForm, waveformForm, presetForm}
 use Rattle.sheet.proofs.Laws.{flagL, dampingL, tweenL, pathL, morphL, drawL, colorL, nodeL}
 use Rattle.error.specs.declared.Refusal.the-variants.{MissingDuration, Malformed, UnknownSpringPreset}
 use Rattle.grammar.specs.Rule.{Rule, _>>_, give, if, sees, skip, inside}
 use Rattle.grammar.specs.Fields.{Fields, aDamping, pairs, parseFieldList, numberOf, truthOf, easingOf, valueOf, dampingOf, ever, last}
-use Rattle.grammar.specs.Grammar.{stored, tweenFields, parseTween, springFields, parseSpringPreset, springPreset, integrator, critical, over, under, parseSpring, offset, pathFields, parsePath, morphFields, parseMorph, drawFields, parseDraw, space, colorFields, parseColor, waveformKind, waveformFields, parseWaveform, parsePresetCall, parseLabel, atSign, parseAt}
+use Rattle.grammar.specs.Grammar.{stored, tweenFields, parseTween, springFields, parseSpringPreset, springPreset}
+use Rattle.grammar.specs.Grammar.{integrator, critical, over, under, parseSpring, offset, pathFields, parsePath}
+use Rattle.grammar.specs.Grammar.{morphFields, parseMorph, drawFields, parseDraw, space, colorFields, parseColor}
+use Rattle.grammar.specs.Grammar.{waveformKind, waveformFields, parseWaveform, parsePresetCall, parseLabel, atSign, parseAt}
 use Rattle.limits.proofs.RunLaws.{Runs, gives, then, and, weaken, tests, conds, needs}
 use Rattle.limits.proofs.TakeLaws.{the-mark, two-marks, skips-mark, eats, eaten, a-number, in-group}
 use Rattle.limits.proofs.ListLaws.{_also_, a-choice}
-use Rattle.limits.proofs.SizeLaws.{Most, all, _⊕_, span-most, tween-size, spring-size, path-size, morph-size, draw-size, color-size, waveform-size, preset-size}
-use Rattle.limits.proofs.FieldLaws.{limit, AllFair, total, Held, Row, Listed, pairs-run, fields-run, word-is, word-or, case-or, word-opt, case-opt, easing-opt, loop-opt, value-opt, damping-opt, range-opt, total-number, total-value, total-some}
+use Rattle.limits.proofs.SizeLaws.{Most, all, _⊕_, span-most, tween-size, spring-size, path-size}
+use Rattle.limits.proofs.SizeLaws.{morph-size, draw-size, color-size, waveform-size, preset-size}
+use Rattle.limits.proofs.FieldLaws.{limit, AllFair, total, Held, Row, Listed, pairs-run, fields-run}
+use Rattle.limits.proofs.FieldLaws.{word-is, word-or, case-or, word-opt, case-opt, easing-opt, loop-opt}
+use Rattle.limits.proofs.FieldLaws.{value-opt, damping-opt, range-opt, total-number, total-value, total-some}
 use Rattle.limits.proofs.ValueLaws.{ident-runs, string-runs, float-runs, float-in-parens, two-in-parens, value-runs}
 use Rattle.limits.proofs.CurveLaws.{number-row, count-row, easing-row, loop-row, flag-row, value-row, case-row}
 
@@ -57,7 +64,9 @@ module _ (s : List ℕ) (short : length s ≤ 16384) {inner : Form Forest} (b : 
       also flag-row s short "reverse" (omega arith)
       also tt
 
-  tween-leafed : (x : TweenSpec) (q m : ℕ) → tweenL (length s) .ok x → 56 + length (valueForm .write (x .from)) + length (valueForm .write (x .to)) + 3 * q ≤ 3 * m + 15 → Leafed 5 q (Leaf.tween x) m
+  tween-leafed : (x : TweenSpec) (q m : ℕ) → tweenL (length s) .ok x
+      → 56 + length (valueForm .write (x .from)) + length (valueForm .write (x .to)) + 3 * q ≤ 3 * m + 15
+      → Leafed 5 q (Leaf.tween x) m
   tween-leafed x q m o p = record { ok = o; paid = omega (arith, tween-size (length s) x) }
 
   pub tween-runs : LeafRule 5 parseTween
@@ -89,7 +98,10 @@ module _ (s : List ℕ) (short : length s ≤ 16384) {inner : Form Forest} (b : 
   -- ---- spring
 
   damping-held : (w : List ℕ) (q m : ℕ) (d : DampingMode) → 3 ≤ length w → dampingL .ok d → q < m → Held s w q (aDamping d) m
-  damping-held w q m d l h g = record { fair = record { long = l; number = tt; easing = tt; loopMode = tt; value = tt; damping = h; range = tt }; paid = omega arith }
+  damping-held w q m d l h g = record {
+    fair = record { long = l; number = tt; easing = tt; loopMode = tt; value = tt; damping = h; range = tt };
+    paid = omega arith;
+  }
 
   spring-rows : All (Row s) springFields
   unfolding springFields springPreset parseSpringPreset integrator critical over under limit same
@@ -101,9 +113,12 @@ module _ (s : List ℕ) (short : length s ≤ 16384) {inner : Form Forest} (b : 
       also value-row s short "velocity" (omega arith)
       also number-row s short "epsilon" (omega arith) refl
       also case-row s short "integrator" Malformed ("semi_implicit_euler" ∷ "rk4" ∷ []) (omega arith) (omega arith)
-      also (λ q h. then (float-in-parens s short q h) (λ x m g y. gives g (damping-held (bytes "critically_damped") q m (criticallyDamped x) (omega arith) (y .0) (y .1))))
-      also (λ q h. then (two-in-parens s short q h) (λ p m g y. gives g (damping-held (bytes "overdamped") q m (overdamped (p .0) (p .1)) (omega arith) (y .0) (y .1))))
-      also (λ q h. then (two-in-parens s short q h) (λ p m g y. gives g (damping-held (bytes "underdamped") q m (underdamped (p .0) (p .1)) (omega arith) (y .0) (y .1))))
+      also (λ q h. then (float-in-parens s short q h)
+      (λ x m g y. gives g (damping-held (bytes "critically_damped") q m (criticallyDamped x) (omega arith) (y .0) (y .1))))
+      also (λ q h. then (two-in-parens s short q h)
+      (λ p m g y. gives g (damping-held (bytes "overdamped") q m (overdamped (p .0) (p .1)) (omega arith) (y .0) (y .1))))
+      also (λ q h. then (two-in-parens s short q h)
+      (λ p m g y. gives g (damping-held (bytes "underdamped") q m (underdamped (p .0) (p .1)) (omega arith) (y .0) (y .1))))
       also tt
 
   abbrev springOf : Span → ValueExpr → ValueExpr → Fields → SpringSpec
@@ -122,7 +137,9 @@ module _ (s : List ℕ) (short : length s ≤ 16384) {inner : Form Forest} (b : 
   }
 
   -- a spring without fields is short; with some, these pay
-  spring-total : (t : Span) (v w : ValueExpr) (fs : Fields) → AllFair (length s) fs → length (springForm (length s) .write (springOf t v w fs)) ≤ 26 + length (valueForm .write v) + length (valueForm .write w) + total fs
+  spring-total : (t : Span) (v w : ValueExpr) (fs : Fields) → AllFair (length s) fs
+      → length (springForm (length s) .write (springOf t v w fs))
+      ≤ 26 + length (valueForm .write v) + length (valueForm .write w) + total fs
   unfolding last
   spring-total t v w [] f = omega (arith, bare .most)
     where
@@ -130,9 +147,15 @@ module _ (s : List ℕ) (short : length s ≤ 16384) {inner : Form Forest} (b : 
       bare = span-most (length s) t ⊕ all (valueForm .write v) ⊕ all (valueForm .write w) ⊕ all (0 ∷ 0 ∷ 0 ∷ 0 ∷ 0 ∷ 0 ∷ 0 ∷ 0 ∷ [])
   spring-total t v w (e ∷ fs) f = go (valueOf (e ∷ fs)) refl
     where
-      go : (o : Option ValueExpr) → valueOf (e ∷ fs) ≡ o → length (springForm (length s) .write (springOf t v w (e ∷ fs))) ≤ 26 + length (valueForm .write v) + length (valueForm .write w) + total (e ∷ fs)
-      go none q = let z = ap (λ (o : Option ValueExpr). length (opt valueForm .write o)) q in omega (arith, spring-size (length s) (springOf t v w (e ∷ fs)), total-some (length s) e fs f)
-      go (some a) q = let z = ap (λ (o : Option ValueExpr). length (opt valueForm .write o)) q in omega (arith, spring-size (length s) (springOf t v w (e ∷ fs)), total-value (length s) (e ∷ fs) f a q)
+      go : (o : Option ValueExpr) → valueOf (e ∷ fs) ≡ o
+          → length (springForm (length s) .write (springOf t v w (e ∷ fs)))
+          ≤ 26 + length (valueForm .write v) + length (valueForm .write w) + total (e ∷ fs)
+      go none q =
+          let z = ap (λ (o : Option ValueExpr). length (opt valueForm .write o)) q in
+          omega (arith, spring-size (length s) (springOf t v w (e ∷ fs)), total-some (length s) e fs f)
+      go (some a) q =
+          let z = ap (λ (o : Option ValueExpr). length (opt valueForm .write o)) q in
+          omega (arith, spring-size (length s) (springOf t v w (e ∷ fs)), total-value (length s) (e ∷ fs) f a q)
 
   pub spring-runs : LeafRule 6 parseSpring
   unfolding parseSpring limit same
@@ -165,10 +188,25 @@ module _ (s : List ℕ) (short : length s ≤ 16384) {inner : Form Forest} (b : 
   offset-row : Row s ("offset", offset)
   unfolding offset
   offset-row q h =
-      then (float-runs s short q h) (λ a m g x.
-      and (two-marks g 46 46 refl refl) (λ n f u y.
-      then (float-runs s short n f) (λ c o i z.
-      gives i (record { fair = record { long = omega arith; number = tt; easing = tt; loopMode = tt; value = tt; damping = tt; range = (small 4 a (x .ok), small 4 c (z .ok)) }; paid = omega (arith, x .is .on, y, z .is .on) }))))
+      then (float-runs s short q h)
+      (λ a m g x.
+      and (two-marks g 46 46 refl refl)
+      (λ n f u y.
+      then (float-runs s short n f)
+      (λ c o i z.
+      gives i
+      (record {
+        fair = record {
+          long = omega arith;
+          number = tt;
+          easing = tt;
+          loopMode = tt;
+          value = tt;
+          damping = tt;
+          range = (small 4 a (x .ok), small 4 c (z .ok));
+        };
+        paid = omega (arith, x .is .on, y, z .is .on);
+      }))))
 
   path-rows : All (Row s) pathFields
   unfolding pathFields limit same
@@ -350,13 +388,22 @@ module _ (s : List ℕ) (short : length s ≤ 16384) {inner : Form Forest} (b : 
   in-parens : (q : ℕ) → q ≤ length s → Runs s (if (sees "(") (inside "(" (pairs drawFields)) (give [])) q (Listed s [] q)
   in-parens q h =
       tests (sees "(")
-      (λ e. weaken (in-group (pairs drawFields) (Listed s []) h 40 refl (pairs-run s drawFields draw-rows)) (λ fs m x. record { fair = x .inner .fair; low = omega (arith, x .low, x .inner .low, x .left .low); paid = omega (arith, x .low, x .inner .paid, x .left .low) }))
+      (λ e. weaken (in-group (pairs drawFields) (Listed s []) h 40 refl (pairs-run s drawFields draw-rows))
+      (λ fs m x.
+      record {
+        fair = x .inner .fair;
+        low = omega (arith, x .low, x .inner .low, x .left .low);
+        paid = omega (arith, x .low, x .inner .paid, x .left .low);
+      }))
       (λ e. gives h (record { fair = tt; low = omega arith; paid = omega arith }))
 
-  behind-comma : (fs : Fields) → AllFair (length s) fs → (q : ℕ) → q ≤ length s → Runs s (if (sees ",") (skip >> parseFieldList drawFields fs) (give fs)) q (Listed s fs q)
+  behind-comma : (fs : Fields) → AllFair (length s) fs → (q : ℕ) → q ≤ length s
+      → Runs s (if (sees ",") (skip >> parseFieldList drawFields fs) (give fs)) q (Listed s fs q)
   behind-comma fs f q h =
       tests (sees ",")
-      (λ e. and {f = parseFieldList drawFields fs} (skips-mark h 44 refl e) (λ m g u x. weaken (fields-run s drawFields draw-rows fs m g f) (λ gs n y. record { fair = y .fair; low = omega (arith, x .on, y .low); paid = omega (arith, x .on, y .paid) })))
+      (λ e. and {f = parseFieldList drawFields fs} (skips-mark h 44 refl e)
+      (λ m g u x. weaken (fields-run s drawFields draw-rows fs m g f)
+      (λ gs n y. record { fair = y .fair; low = omega (arith, x .on, y .low); paid = omega (arith, x .on, y .paid) })))
       (λ e. gives h (record { fair = f; low = omega arith; paid = omega arith }))
 
   pub preset-runs : LeafRule 6 parsePresetCall
@@ -374,7 +421,9 @@ module _ (s : List ℕ) (short : length s ≤ 16384) {inner : Form Forest} (b : 
 
   pub label-runs : LeafRule 5 parseLabel
   unfolding parseLabel
-  label-runs q h e = then (string-runs s short q h) (λ t m g x. and (the-mark g 59 refl) (λ n f u y. gives f (record { ok = x .0; paid = omega (arith, x .1, y) })))
+  label-runs q h e =
+      then (string-runs s short q h)
+      (λ t m g x. and (the-mark g 59 refl) (λ n f u y. gives f (record { ok = x .0; paid = omega (arith, x .1, y) })))
 
   sign-runs : (q : ℕ) → q ≤ length s → Runs s atSign q (λ v m. q ≤ m)
   unfolding atSign

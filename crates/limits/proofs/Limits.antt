@@ -40,12 +40,15 @@ parses : (t : List ℕ) (ns : Nodes Key) → parse t ≡ tree ns → Parses t ns
 unfolding parse
 parses t ns e = by (split t) refl e
   where
-    last : (ts : List Token) → split t ≡ tokens ts → (ms : Nodes Key) (l : Notes) (us : List Token) → animatoInput (record { leftover = none; bound = suc (length t) }) ts ≡ got ms l us
+    last : (ts : List Token) → split t ≡ tokens ts → (ms : Nodes Key) (l : Notes) (us : List Token)
+        → animatoInput (record { leftover = none; bound = suc (length t) }) ts ≡ got ms l us
         → (o : Option ℕ) → unlessLeft ms o ≡ tree ns → Parses t ns
     last ts f ms l us g none h = subst (Parses t) (ap treeOf h) (record { ts = ts; splits = f; notes = l; left = us; gives = g })
     last ts f ms l us g (some p) h = absurd (let z : _≡_ {A = ℕ} 0 1 = cc in omega arith)
 
-    on : (ts : List Token) → split t ≡ tokens ts → (x : Out (Nodes Key)) → animatoInput (record { leftover = none; bound = suc (length t) }) ts ≡ x → finished x ≡ tree ns → Parses t ns
+    on : (ts : List Token) → split t ≡ tokens ts → (x : Out (Nodes Key))
+        → animatoInput (record { leftover = none; bound = suc (length t) }) ts ≡ x
+        → finished x ≡ tree ns → Parses t ns
     on ts f (got ms l us) g h = last ts f ms l us g (l .leftover) h
     on ts f (refused r p) g h = absurd (let z : _≡_ {A = ℕ} 0 1 = cc in omega arith)
 
@@ -73,20 +76,24 @@ module _ (t : List ℕ) (ns : Nodes Key) (short : length t ≤ 16384) (e : parse
       let p = parses t ns e in
       subst (λ (o : Out (Nodes Key)). Outcome t o (Several t short (innerL (length t) 16) (block 16) (block-runs t short 16) 0))
       (ap (animatoInput (record { leftover = none; bound = suc (length t) })) (split-reads t (p .ts) (p .splits)) ∙ p .gives)
-      (nodes-run t short (innerL (length t) 16) (block 16) (block-runs t short 16) 0 (omega arith) .run (record { leftover = none; bound = suc (length t) }))
+      (nodes-run t short (innerL (length t) 16) (block 16) (block-runs t short 16) 0 (omega arith) .run
+      (record { leftover = none; bound = suc (length t) }))
 
 -- the counts, numbers, positions, spans and the nesting are within the sheet's limits
 pub parses-fits : (t : List ℕ) (ns : Nodes Key) → length t ≤ 16384 → parse t ≡ tree ns → Fits (length t) (mapTimes stored ns)
 unfolding Fits
-parses-fits t ns short e = let w = whole t ns short e in sized-ok t short 16 (mapTimes stored ns) (omega (arith, w .high, w .post .count)) (w .post .ok)
+parses-fits t ns short e =
+    let w = whole t ns short e in sized-ok t short 16 (mapTimes stored ns) (omega (arith, w .high, w .post .count)) (w .post .ok)
 
 -- at most 3 bytes of the sheet for each byte that a text may have
-pub parses-small : (t : List ℕ) (ns : Nodes Key) → length t ≤ 16384 → parse t ≡ tree ns → length (encode (length t) (mapTimes stored ns)) ≤ 49152
+pub parses-small : (t : List ℕ) (ns : Nodes Key) → length t ≤ 16384 → parse t ≡ tree ns
+    → length (encode (length t) (mapTimes stored ns)) ≤ 49152
 unfolding encode
 parses-small t ns short e = let w = whole t ns short e in top-small t short 16 (mapTimes stored ns) (w .at) (w .high) (w .post .paid)
 
 -- so checking and lining, given that text and its sheet, open it: none of 1, 2 and 20 is due
-pub parses-opens : (t : List ℕ) (ns : Nodes Key) → length t ≤ 16384 → parse t ≡ tree ns → opening t (encode (length t) (mapTimes stored ns)) ≡ opened (mapTimes stored ns)
+pub parses-opens : (t : List ℕ) (ns : Nodes Key) → length t ≤ 16384 → parse t ≡ tree ns
+    → opening t (encode (length t) (mapTimes stored ns)) ≡ opened (mapTimes stored ns)
 unfolding opening
 parses-opens t ns short e =
     let d = decodes (length t) (mapTimes stored ns) (parses-fits t ns short e) (omega (arith, parses-small t ns short e)) in

@@ -26,7 +26,8 @@ x also y = (x, y)
 
 -- ---- items with a `,` between them: I holds before an item, J behind one
 
-module _ {A : Type 0} {s : List ℕ} (I J : A → ℕ → Type 0) (end : (a : A) (m : ℕ) → I a m → J a m) (comma : (a : A) (m n : ℕ) → m < n → J a m → I a n) where
+module _ {A : Type 0} {s : List ℕ} (I J : A → ℕ → Type 0) (end : (a : A) (m : ℕ) → I a m → J a m)
+    (comma : (a : A) (m n : ℕ) → m < n → J a m → I a n) where
   on-comma : (b : A) (m : ℕ) → J b m → (c : Bool) (n : ℕ) → n ≤ length s → Eaten m c n → Runs s (give (goOn c b)) n (Onto I J)
   on-comma b m j true n h e = gives h (comma b m n e j)
   on-comma b m j false n h e = gives h (subst (J b) (sym e) j)
@@ -35,7 +36,8 @@ module _ {A : Type 0} {s : List ℕ} (I J : A → ℕ → Type 0) (end : (a : A)
       → {a : A} {q : ℕ} → q ≤ length s → I a q → Runs s (list item a) q J
   lists item k h i =
       repeats I J end (listStep item)
-      (λ a m g j. tests ends (λ e. gives g (end a m j)) (λ e. then (k a m g j) (λ b n f x. then (eats f 44 refl) (λ c o z y. on-comma b n x c o z y))))
+      (λ a m g j. tests ends (λ e. gives g (end a m j))
+      (λ e. then (k a m g j) (λ b n f x. then (eats f 44 refl) (λ c o z y. on-comma b n x c o z y))))
       h i
 
 -- ---- a word among some
@@ -45,31 +47,43 @@ unfolding find
 find-below [] i k w e = none≢some e
 find-below (n ∷ ns) i k w e = go (same w n) e (λ f. find-below ns (suc i) k w f)
   where
-    go : (b : Bool) → elim b [ true ↦ some i | false ↦ find ns (suc i) w ] ≡ some k → (find ns (suc i) w ≡ some k → k < suc i + length ns) → k < i + length (n ∷ ns)
+    go : (b : Bool)
+        → elim b [ true ↦ some i | false ↦ find ns (suc i) w ] ≡ some k
+        → (find ns (suc i) w ≡ some k → k < suc i + length ns)
+        → k < i + length (n ∷ ns)
     go true f ih = let z = Option·some-injective i k f in omega arith
     go false f ih = let z = ih f in omega arith
 
 -- its position, which is below their number
-pub a-choice : {s : List ℕ} {q : ℕ} → q ≤ length s → (r : Refusal) (ns : List (List ℕ)) → Runs s (choiceIn r ns) q (λ k m. (k < length ns) × (q < m))
+pub a-choice : {s : List ℕ} {q : ℕ} → q ≤ length s → (r : Refusal) (ns : List (List ℕ))
+    → Runs s (choiceIn r ns) q (λ k m. (k < length ns) × (q < m))
 a-choice h r ns =
-    then (a-word h) (λ w m g x. weaken (needs r (find ns 0 (w .1)) g) (λ k n y. (omega (arith, find-below ns 0 k (w .1) (y .1)), let z = y .0 in omega (arith, x .low, x .end, x .some))))
+    then (a-word h)
+    (λ w m g x. weaken (needs r (find ns 0 (w .1)) g)
+    (λ k n y. (omega (arith, find-below ns 0 k (w .1) (y .1)), let z = y .0 in omega (arith, x .low, x .end, x .some))))
 
 -- ---- a rule by its word
 
-pub under-row : {A : Type 0} (P : A → Type 0) (t : List (String × A)) (w : List ℕ) (a : A) → All (λ f. w ≡ bytes (f .0) → P (f .1)) t → under t w ≡ some a → P a
+pub under-row : {A : Type 0} (P : A → Type 0) (t : List (String × A)) (w : List ℕ) (a : A)
+    → All (λ f. w ≡ bytes (f .0) → P (f .1)) t → under t w ≡ some a
+    → P a
 unfolding under
 under-row P [] w a h e = none≢some e
 under-row {A = A} P (f ∷ t) w a h e = go (same w (bytes (f .0))) refl e (λ x. under-row P t w a (h .1) x)
   where
-    go : (b : Bool) → same w (bytes (f .0)) ≡ b → elim b as (λ x. Option A) [ true ↦ some (f .1) | false ↦ under t w ] ≡ some a → (under t w ≡ some a → P a) → P a
+    go : (b : Bool) → same w (bytes (f .0)) ≡ b
+        → elim b as (λ x. Option A) [ true ↦ some (f .1) | false ↦ under t w ] ≡ some a
+        → (under t w ≡ some a → P a) → P a
     go true q x ih = subst P (Option·some-injective (f .1) a x) (h .0 (same-eq w (bytes (f .0)) q))
     go false q x ih = ih x
 
 -- f goes on with the rule that is found
-pub by-word : {A B : Type 0} {s : List ℕ} {q : ℕ} {Q : B → ℕ → Type 0} (r : Refusal) (t : List (String × A)) (w : List ℕ) (f : A → Rule B) → q ≤ length s
+pub by-word : {A B : Type 0} {s : List ℕ} {q : ℕ} {Q : B → ℕ → Type 0} (r : Refusal) (t : List (String × A)) (w : List ℕ) (f : A → Rule B)
+    → q ≤ length s
     → All (λ g. w ≡ bytes (g .0) → Runs s (f (g .1)) q Q) t → Runs s (need r (under t w) >>= f) q Q
 by-word {s = s} {q = q} {Q = Q} r t w f h x =
-    then (needs r (under t w) h) (λ p m g e. subst (λ (n : ℕ). Runs s (f p) n Q) (sym (e .0)) (under-row (λ p. Runs s (f p) q Q) t w p x (e .1)))
+    then (needs r (under t w) h)
+    (λ p m g e. subst (λ (n : ℕ). Runs s (f p) n Q) (sym (e .0)) (under-row (λ p. Runs s (f p) q Q) t w p x (e .1)))
 
 pub by-word-or : {A : Type 0} {s : List ℕ} {q : ℕ} {Q : A → ℕ → Type 0} (t : List (String × Rule A)) (w : List ℕ) (p : Rule A)
     → All (λ f. w ≡ bytes (f .0) → Runs s (f .1) q Q) t → Runs s p q Q → Runs s (default (under t w) p) q Q

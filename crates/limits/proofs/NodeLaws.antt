@@ -18,11 +18,13 @@ use Rattle.sheet.specs.Sheet.{Forest, Node, nodeForm, forest}
 use Rattle.sheet.proofs.Laws.{nodeL, OkNodes, innerL}
 use Rattle.error.specs.declared.Refusal.the-variants.{Missing, TooManyNested}
 use Rattle.grammar.specs.Rule.{Rule, give, refuse, ends, sees, repeat, more}
-use Rattle.grammar.specs.Grammar.{stored, leaves, containers, aLeaf, aContainer, orContainer, beginning, nodeBy, parseNode, oneNode, nodesStep, block}
+use Rattle.grammar.specs.Grammar.{stored, leaves, containers, aLeaf, aContainer, orContainer}
+use Rattle.grammar.specs.Grammar.{beginning, nodeBy, parseNode, oneNode, nodesStep, block}
 use Rattle.limits.proofs.RunLaws.{Runs, gives, refuses, then, and, weaken-in, tests, Onto, repeats}
 use Rattle.limits.proofs.TakeLaws.{Word, a-word, skips-mark, in-group}
 use Rattle.limits.proofs.ListLaws.{_also_, under-row}
-use Rattle.limits.proofs.LeafLaws.{LeafRule, tween-runs, spring-runs, path-runs, morph-runs, draw-runs, color-runs, waveform-runs, preset-runs, label-runs, at-runs}
+use Rattle.limits.proofs.LeafLaws.{LeafRule, tween-runs, spring-runs, path-runs, morph-runs, draw-runs}
+use Rattle.limits.proofs.LeafLaws.{color-runs, waveform-runs, preset-runs, label-runs, at-runs}
 use Rattle.limits.proofs.FrameLaws.{keyframes-runs}
 use Rattle.limits.proofs.HeadLaws.{head-ok, head-size, HeadRule, sequence-runs, parallel-runs, group-runs, stagger-runs}
 
@@ -32,7 +34,8 @@ abbrev node : MotionNode Key → Node
 node (single l) = single (mapLeaf stored l)
 node (holding c ns) = holding c (mapTimes stored ns)
 
-map-more : (ns : Nodes Key) (x : MotionNode Key) → mapTimes stored (append ns (push x Nodes.none)) ≡ append (mapTimes stored ns) (push (node x) Nodes.none)
+map-more : (ns : Nodes Key) (x : MotionNode Key)
+    → mapTimes stored (append ns (push x Nodes.none)) ≡ append (mapTimes stored ns) (push (node x) Nodes.none)
 map-more Nodes.none (single l) = refl
 map-more Nodes.none (holding c ns) = refl
 map-more (leaf l rest) x = ap (leaf (mapLeaf stored l)) (map-more rest x)
@@ -62,11 +65,15 @@ module _ (n : ℕ) (inner : Form Forest) where
   bytes-more (leaf l rest) x =
       let e = bytes-more rest x in
       let f = length-append (nodeForm n inner .write (single l)) (forest n inner (width rest) .write rest) in
-      length-append (nodeForm n inner .write (single l)) (forest n inner (width (append rest (push x Nodes.none))) .write (append rest (push x Nodes.none))) ∙ omega arith
+      length-append (nodeForm n inner .write (single l))
+      (forest n inner (width (append rest (push x Nodes.none))) .write (append rest (push x Nodes.none)))
+      ∙ omega arith
   bytes-more (box c ns rest) x =
       let e = bytes-more rest x in
       let f = length-append (nodeForm n inner .write (holding c ns)) (forest n inner (width rest) .write rest) in
-      length-append (nodeForm n inner .write (holding c ns)) (forest n inner (width (append rest (push x Nodes.none))) .write (append rest (push x Nodes.none))) ∙ omega arith
+      length-append (nodeForm n inner .write (holding c ns))
+      (forest n inner (width (append rest (push x Nodes.none))) .write (append rest (push x Nodes.none)))
+      ∙ omega arith
 
 -- ---- a node
 
@@ -84,15 +91,25 @@ module _ (s : List ℕ) (short : length s ≤ 16384) {inner : Form Forest} (b : 
   module _ (p : Rule (Nodes Key)) (blocks : (q : ℕ) → q ≤ length s → Runs s p q (Blocked q)) where
     -- behind the keyword w, i is the place of what follows
     module _ (q i : ℕ) (w : ℕ × List ℕ) (x : Word s q w i) (h : i ≤ length s) where
-      leaf-by : (r : Rule (Leaf Key)) (v : String) (k : ℕ) → length (bytes v) ≡ k → LeafRule s short b k r → w .1 ≡ bytes v → Runs s (nodeBy p (aLeaf r)) i (Noded q)
-      leaf-by r v k l y e = then (y i h (x .behind)) (λ a m g z. let f = ap length e in gives g (record { ok = z .ok; paid = omega (arith, z .paid, x .low, x .end) }))
+      leaf-by : (r : Rule (Leaf Key)) (v : String) (k : ℕ) → length (bytes v) ≡ k
+          → LeafRule s short b k r → w .1 ≡ bytes v → Runs s (nodeBy p (aLeaf r)) i (Noded q)
+      leaf-by r v k l y e =
+          then (y i h (x .behind))
+          (λ a m g z. let f = ap length e in gives g (record { ok = z .ok; paid = omega (arith, z .paid, x .low, x .end) }))
 
-      box-by : (r : Rule Container) (v : String) (k : ℕ) → length (bytes v) ≡ k → HeadRule s short k r → w .1 ≡ bytes v → Runs s (nodeBy p (aContainer r)) i (Noded q)
+      box-by : (r : Rule Container) (v : String) (k : ℕ) → length (bytes v) ≡ k
+          → HeadRule s short k r → w .1 ≡ bytes v → Runs s (nodeBy p (aContainer r)) i (Noded q)
       box-by r v k l y e =
-          then (y i h) (λ c m1 g1 x1.
-          then (blocks m1 g1) (λ ns m2 g2 x2.
+          then (y i h)
+          (λ c m1 g1 x1.
+          then (blocks m1 g1)
+          (λ ns m2 g2 x2.
           let f = ap length e in
-          gives g2 (record { ok = head-ok (length s) b c (mapTimes stored ns) (x1 .ok) (x2 .ok); paid = omega (arith, head-size (length s) inner c (mapTimes stored ns), x .low, x .end, x1 .paid, x2 .paid) })))
+          gives g2
+          (record {
+            ok = head-ok (length s) b c (mapTimes stored ns) (x1 .ok) (x2 .ok);
+            paid = omega (arith, head-size (length s) inner c (mapTimes stored ns), x .low, x .end, x1 .paid, x2 .paid);
+          })))
 
       all-leaves : All (λ f. w .1 ≡ bytes (f .0) → Runs s (nodeBy p (aLeaf (f .1))) i (Noded q)) leaves
       unfolding leaves
@@ -123,7 +140,9 @@ module _ (s : List ℕ) (short : length s ≤ 16384) {inner : Form Forest} (b : 
       unfolding beginning
       begins = go (under leaves (w .1)) (under containers (w .1)) refl refl
         where
-          go : (o : Option (Rule (Leaf Key))) (c : Option (Rule Container)) → under leaves (w .1) ≡ o → under containers (w .1) ≡ c → Runs s (nodeBy p (orContainer o c)) i (Noded q)
+          go : (o : Option (Rule (Leaf Key))) (c : Option (Rule Container))
+              → under leaves (w .1) ≡ o → under containers (w .1) ≡ c
+              → Runs s (nodeBy p (orContainer o c)) i (Noded q)
           go (some r) c e f = under-row (λ r. Runs s (nodeBy p (aLeaf r)) i (Noded q)) leaves (w .1) r all-leaves e
           go none (some r) e f = under-row (λ r. Runs s (nodeBy p (aContainer r)) i (Noded q)) containers (w .1) r all-containers f
           go none none e f = refuses
@@ -140,7 +159,8 @@ module _ (s : List ℕ) (short : length s ≤ 16384) {inner : Form Forest} (b : 
       pub count : width (mapTimes stored ns) + q ≤ m
       pub paid : recordBytes (length s) inner (mapTimes stored ns) + 2 * width (mapTimes stored ns) + 3 * q ≤ 3 * m
 
-    several-more : (q : ℕ) (ns : Nodes Key) (m : ℕ) (x : MotionNode Key) (k : ℕ) → Several q ns m → Noded m x k → Several q (append ns (push x Nodes.none)) k
+    several-more : (q : ℕ) (ns : Nodes Key) (m : ℕ) (x : MotionNode Key) (k : ℕ)
+        → Several q ns m → Noded m x k → Several q (append ns (push x Nodes.none)) k
     several-more q ns m x k y z =
         let e = map-more ns x in
         let c = width-more (mapTimes stored ns) (node x) in
@@ -155,36 +175,57 @@ module _ (s : List ℕ) (short : length s ≤ 16384) {inner : Form Forest} (b : 
     step-runs q ns m g y =
         tests ends (λ e. gives g y)
         (λ e. tests (sees ";")
-        (λ f. and {f = give (more ns)} (skips-mark g 59 refl f) (λ k h u z. gives h (record { ok = y .ok; count = omega (arith, y .count, z .on); paid = omega (arith, y .paid, z .on) })))
+        (λ f. and {f = give (more ns)} (skips-mark g 59 refl f)
+        (λ k h u z. gives h (record { ok = y .ok; count = omega (arith, y .count, z .on); paid = omega (arith, y .paid, z .on) })))
         (λ f. then (node-runs m g) (λ x k h z. gives h (several-more q ns m x k y z))))
 
     pub nodes-run : (q : ℕ) → q ≤ length s → Runs s (repeat (nodesStep p) Nodes.none) q (Several q)
-    nodes-run q h = repeats (Several q) (Several q) (λ ns m y. y) (nodesStep p) (step-runs q) h (record { ok = tt; count = omega arith; paid = omega arith })
+    nodes-run q h =
+        repeats
+        (Several q)
+        (Several q)
+        (λ ns m y. y)
+        (nodesStep p)
+        (step-runs q)
+        h
+        (record { ok = tt; count = omega arith; paid = omega arith })
 
 -- ---- blocks
 
 module _ (s : List ℕ) (short : length s ≤ 16384) where
   -- nodes with their count
-  pub sized-ok : (d : ℕ) (ns : Forest) → width ns ≤ length s → OkNodes (length s) (innerL (length s) d) ns → innerL (length s) (suc d) .ok ns
+  pub sized-ok : (d : ℕ) (ns : Forest) → width ns ≤ length s → OkNodes (length s) (innerL (length s) d) ns
+      → innerL (length s) (suc d) .ok ns
   sized-ok d ns h o = (small 2 (width ns) (omega (arith, short)), o)
 
-  sized-length : (d : ℕ) (ns : Forest) → length (sheets.inner (length s) (suc d) .write ns) ≡ 2 + recordBytes (length s) (sheets.inner (length s) d) ns
-  sized-length d ns = length-append (big 2 .write (width ns)) (forest (length s) (sheets.inner (length s) d) (width ns) .write ns) ∙ (let e = length-big 2 (width ns) in omega arith)
+  sized-length : (d : ℕ) (ns : Forest)
+      → length (sheets.inner (length s) (suc d) .write ns) ≡ 2 + recordBytes (length s) (sheets.inner (length s) d) ns
+  sized-length d ns =
+      length-append (big 2 .write (width ns)) (forest (length s) (sheets.inner (length s) d) (width ns) .write ns)
+      ∙ (let e = length-big 2 (width ns) in omega arith)
 
   pub block-runs : (d : ℕ) (q : ℕ) → q ≤ length s → Runs s (block d) q (Blocked s short (innerL (length s) d) q)
   unfolding block
-  block-runs zero q h = record { run = λ l. tests {Q = Blocked s short (innerL (length s) 0) q} (sees "{") {p = refuse TooManyNested} {r = refuse Missing} (λ e. refuses) (λ e. refuses) .run l }
+  block-runs zero q h = record {
+    run = λ l. tests {Q = Blocked s short (innerL (length s) 0) q} (sees "{") {p = refuse TooManyNested} {r = refuse Missing}
+        (λ e. refuses) (λ e. refuses) .run l;
+  }
   block-runs (suc d) q h = record {
     run = λ l. weaken-in {Q = Blocked s short (innerL (length s) (suc d)) q}
-        (in-group (repeat (nodesStep (block d)) Nodes.none) (Several s short (innerL (length s) d) (block d) (block-runs d)) h 123 refl (nodes-run s short (innerL (length s) d) (block d) (block-runs d)))
-        (λ ns m g x. record {
+        (in-group (repeat (nodesStep (block d)) Nodes.none) (Several s short (innerL (length s) d) (block d) (block-runs d)) h 123 refl
+        (nodes-run s short (innerL (length s) d) (block d) (block-runs d)))
+        (λ ns m g x.
+        record {
           ok = sized-ok d (mapTimes stored ns) (omega (arith, x .inner .count, x .left .low)) (x .inner .ok);
           paid = rw (sized-length d (mapTimes stored ns)) (omega (arith, x .low, x .inner .paid, x .left .low));
-        }) .run l;
+        }) .run
+        l;
   }
 
   -- all the nodes of a text: each pays 2 bytes more than its records have, and one node's 2 are enough for the head
-  pub top-small : (d : ℕ) (ns : Forest) (m : ℕ) → m ≤ length s → recordBytes (length s) (sheets.inner (length s) d) ns + 2 * width ns + 3 * 0 ≤ 3 * m → length (sheets.inner (length s) (suc d) .write ns) ≤ 49152
+  pub top-small : (d : ℕ) (ns : Forest) (m : ℕ) → m ≤ length s
+      → recordBytes (length s) (sheets.inner (length s) d) ns + 2 * width ns + 3 * 0 ≤ 3 * m
+      → length (sheets.inner (length s) (suc d) .write ns) ≤ 49152
   top-small d Nodes.none m h p = omega arith
   top-small d (leaf l rest) m h p = omega (arith, short, sized-length d (leaf l rest))
   top-small d (box c ns rest) m h p = omega (arith, short, sized-length d (box c ns rest))

@@ -45,7 +45,8 @@ use Rattle.ast.specs.Tree.{
   centerOut,
   edgesIn,
 }
-use Rattle.sheet.specs.Sheet.{word, flag, spanForm, entryForm, tweenForm, springForm, keyframesForm, pathForm, morphForm, drawForm, colorForm, waveformForm, presetForm, valueForm, easingForm, loopForm, dampingForm, timeForm, patternForm}
+use Rattle.sheet.specs.Sheet.{word, flag, spanForm, entryForm, tweenForm, springForm, keyframesForm, pathForm, morphForm, drawForm}
+use Rattle.sheet.specs.Sheet.{colorForm, waveformForm, presetForm, valueForm, easingForm, loopForm, dampingForm, timeForm, patternForm}
 
 -- these are at most k bytes
 pub record Most (x : List ℕ) (k : ℕ) : Type 0 where
@@ -114,29 +115,45 @@ module _ (n : ℕ) where
   flag-most : (b : Bool) → Most (flag .write b) 1
   flag-most b = record { most = omega arith }
 
-  pub tween-size : (x : TweenSpec) → length (tweenForm n .write x) ≤ 53 + length (valueForm .write (x .from)) + length (valueForm .write (x .to))
+  pub tween-size : (x : TweenSpec)
+      → length (tweenForm n .write x) ≤ 53 + length (valueForm .write (x .from)) + length (valueForm .write (x .to))
   tween-size x = omega (arith, sum .most)
     where
       sum : Most (tweenForm n .write x) (4 + (length (valueForm .write (x .from)) + (length (valueForm .write (x .to)) + 49)))
-      sum = span-most (x .target) ⊕ all (valueForm .write (x .from)) ⊕ all (valueForm .write (x .to)) ⊕ word-most (x .duration) ⊕ opt-easing (x .easing) ⊕ opt-word (x .delay) ⊕ opt-word (x .timeScale) ⊕ opt-loop (x .loopMode) ⊕ opt-word (x .snap) ⊕ opt-word (x .round) ⊕ flag-most (x .reverse)
+      sum =
+          span-most (x .target) ⊕ all (valueForm .write (x .from))
+          ⊕ all (valueForm .write (x .to)) ⊕ word-most (x .duration)
+          ⊕ opt-easing (x .easing) ⊕ opt-word (x .delay) ⊕ opt-word (x .timeScale)
+          ⊕ opt-loop (x .loopMode) ⊕ opt-word (x .snap) ⊕ opt-word (x .round)
+          ⊕ flag-most (x .reverse)
 
   below-most : (k b : ℕ) → Most (below k .write b) 1
   below-most k b = record { most = omega arith }
 
-  pub spring-size : (x : SpringSpec) → length (springForm n .write x) ≤ 38 + length (valueForm .write (x .from)) + length (valueForm .write (x .to)) + length (opt valueForm .write (x .velocity))
+  pub spring-size : (x : SpringSpec)
+      → length (springForm n .write x)
+      ≤ 38 + length (valueForm .write (x .from)) + length (valueForm .write (x .to)) + length (opt valueForm .write (x .velocity))
   spring-size x = omega (arith, sum .most)
     where
-      sum : Most (springForm n .write x) (4 + (length (valueForm .write (x .from)) + (length (valueForm .write (x .to)) + (2 + (5 + (5 + (5 + (length (opt valueForm .write (x .velocity)) + 17))))))))
+      sum : Most (springForm n .write x)
+          (4
+          + (length (valueForm .write (x .from))
+          + (length (valueForm .write (x .to)) + (2 + (5 + (5 + (5 + (length (opt valueForm .write (x .velocity)) + 17))))))))
       sum =
-          span-most (x .target) ⊕ all (valueForm .write (x .from)) ⊕ all (valueForm .write (x .to)) ⊕ opt-most (below 5) 1 (below-most 5) (x .preset) ⊕ opt-word (x .stiffness) ⊕ opt-word (x .damping) ⊕ opt-word (x .mass)
-          ⊕ all (opt valueForm .write (x .velocity)) ⊕ opt-word (x .epsilon) ⊕ opt-most (below 2) 1 (below-most 2) (x .integrator) ⊕ opt-most dampingForm 9 damping-most (x .dampingMode)
+          span-most (x .target) ⊕ all (valueForm .write (x .from))
+          ⊕ all (valueForm .write (x .to)) ⊕ opt-most (below 5) 1 (below-most 5) (x .preset)
+          ⊕ opt-word (x .stiffness) ⊕ opt-word (x .damping) ⊕ opt-word (x .mass)
+          ⊕ all (opt valueForm .write (x .velocity)) ⊕ opt-word (x .epsilon)
+          ⊕ opt-most (below 2) 1 (below-most 2) (x .integrator)
+          ⊕ opt-most dampingForm 9 damping-most (x .dampingMode)
 
   pub path-size : (x : PathSpec) → length (pathForm n .write x) ≤ 47
   path-size x = sum .most
     where
       sum : Most (pathForm n .write x) 47
       sum =
-          span-most (x .target) ⊕ span-most (x .svg) ⊕ word-most (x .duration) ⊕ opt-easing (x .easing) ⊕ opt-most flag 1 flag-most (x .autoRotate)
+          span-most (x .target) ⊕ span-most (x .svg) ⊕ word-most (x .duration)
+          ⊕ opt-easing (x .easing) ⊕ opt-most flag 1 flag-most (x .autoRotate)
           ⊕ opt-most (word ▹ word) 8 (λ p. word-most (p .0) ⊕ word-most (p .1)) (x .offset) ⊕ opt-loop (x .loopMode)
 
   pub morph-size : (x : MorphSpec) → length (morphForm n .write x) ≤ 34
@@ -155,14 +172,19 @@ module _ (n : ℕ) where
   color-size x = sum .most
     where
       sum : Most (colorForm n .write x) 35
-      sum = span-most (x .target) ⊕ span-most (x .from) ⊕ span-most (x .to) ⊕ word-most (x .duration) ⊕ below-most 3 (x .space) ⊕ opt-easing (x .easing)
+      sum =
+          span-most (x .target) ⊕ span-most (x .from) ⊕ span-most (x .to)
+          ⊕ word-most (x .duration) ⊕ below-most 3 (x .space)
+          ⊕ opt-easing (x .easing)
 
   pub waveform-size : (x : WaveformSpec) → length (waveformForm .write x) ≤ 36
   waveform-size x = sum .most
     where
       sum : Most (waveformForm .write x) 36
       sum =
-          below-most 5 (x .kind) ⊕ opt-word (x .frequency) ⊕ opt-word (x .amplitude) ⊕ opt-word (x .phase) ⊕ opt-word (x .dutyCycle) ⊕ opt-word (x .seed) ⊕ opt-word (x .smoothness)
+          below-most 5 (x .kind) ⊕ opt-word (x .frequency) ⊕ opt-word (x .amplitude)
+          ⊕ opt-word (x .phase) ⊕ opt-word (x .dutyCycle) ⊕ opt-word (x .seed)
+          ⊕ opt-word (x .smoothness)
           ⊕ opt-word (x .duration)
 
   pub preset-size : (x : PresetCall) → length (presetForm n .write x) ≤ 27
@@ -171,13 +193,15 @@ module _ (n : ℕ) where
       sum : Most (presetForm n .write x) 27
       sum = span-most (x .name) ⊕ opt-word (x .duration) ⊕ opt-easing (x .easing)
 
-  pub entry-size : (x : KeyframeEntry KeyframeTime) → length (entryForm n .write x) ≤ 5 + length (valueForm .write (x .value)) + length (opt (easingForm n) .write (x .easing))
+  pub entry-size : (x : KeyframeEntry KeyframeTime)
+      → length (entryForm n .write x) ≤ 5 + length (valueForm .write (x .value)) + length (opt (easingForm n) .write (x .easing))
   entry-size x = omega (arith, sum .most)
     where
       sum : Most (entryForm n .write x) (5 + (length (valueForm .write (x .value)) + length (opt (easingForm n) .write (x .easing))))
       sum = time-most (x .time) ⊕ all (valueForm .write (x .value)) ⊕ all (opt (easingForm n) .write (x .easing))
 
-  pub keyframes-size : (x : KeyframeSpec KeyframeTime) → length (keyframesForm n .write x) ≤ 12 + length (eachOut (entryForm n .write) (x .frames))
+  pub keyframes-size : (x : KeyframeSpec KeyframeTime)
+      → length (keyframesForm n .write x) ≤ 12 + length (eachOut (entryForm n .write) (x .frames))
   keyframes-size x = omega (arith, sum .most)
     where
       count : Most (big 2 .write (length (x .frames))) 2

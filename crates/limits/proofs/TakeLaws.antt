@@ -77,7 +77,9 @@ by-front {A = A} s q p Q h x y = go (front s q h)
 
 -- ---- the next token is passed
 
-past : {A : Type 0} (s : List ℕ) (q : ℕ) (a : A) (l : Notes) (Q : A → ℕ → Type 0) (start : ℕ) (k : Kind) (n : ℕ) → Stands s q start k n → isMark k 0 ≡ false → Q a (start + n) → Outcome s (got a l (rest (token start k ∷ tokensFrom s (start + n)))) Q
+past : {A : Type 0} (s : List ℕ) (q : ℕ) (a : A) (l : Notes) (Q : A → ℕ → Type 0) (start : ℕ) (k : Kind) (n : ℕ)
+    → Stands s q start k n → isMark k 0 ≡ false → Q a (start + n)
+    → Outcome s (got a l (rest (token start k ∷ tokensFrom s (start + n)))) Q
 past s q a l Q start k n x e p = record { at = start + n; is = rw e; high = x .high; post = p }
 
 no-mark : (k : Kind) (b : ℕ) → eqb b 0 ≡ false → isMark k b ≡ true → isMark k 0 ≡ false
@@ -107,15 +109,24 @@ skips {s = s} {q = q} h e = record {
       (λ start k n x. let z = sym (rw (x .is)) ∙ e in past s q (tt {0}) l (λ u m. Skipped s q m) start k n x z (skipped x z));
 }
 
-pub skips-mark : {s : List ℕ} {q : ℕ} → q ≤ length s → (b : ℕ) → eqb b 0 ≡ false → seesByte b (tokensFrom s q) ≡ true → Runs s skip q (λ u m. Skipped s q m)
+pub skips-mark : {s : List ℕ} {q : ℕ} → q ≤ length s → (b : ℕ) → eqb b 0 ≡ false
+    → seesByte b (tokensFrom s q) ≡ true → Runs s skip q (λ u m. Skipped s q m)
 skips-mark {s = s} {q = q} h b e f = skips h (no-mark (kind (tokensFrom s q)) b e f)
 
 -- a word, which takes as many bytes as it has
-pub skips-word : {s : List ℕ} {q : ℕ} → q ≤ length s → (v : List ℕ) → seesBytes v (tokensFrom s q) ≡ true → Runs s skip q (λ u m. q + length v ≤ m)
-skips-word {s = s} {q = q} h v e = record { run = λ l. by-front s q (λ ts. skip l ts) (λ u m. q + length v ≤ m) h (λ b f. never (sym (rw f) ∙ e)) (λ start k n x. go l start k n x (sym (rw (x .is)) ∙ e)) }
+pub skips-word : {s : List ℕ} {q : ℕ} → q ≤ length s → (v : List ℕ) → seesBytes v (tokensFrom s q) ≡ true
+    → Runs s skip q (λ u m. q + length v ≤ m)
+skips-word {s = s} {q = q} h v e = record {
+  run = λ l. by-front s q (λ ts. skip l ts) (λ u m. q + length v ≤ m) h (λ b f. never (sym (rw f) ∙ e))
+      (λ start k n x. go l start k n x (sym (rw (x .is)) ∙ e));
+}
   where
-    go : (l : Notes) (start : ℕ) (k : Kind) (n : ℕ) → Stands s q start k n → isWord (wordOf k) v ≡ true → Outcome s (skip l (token start k ∷ tokensFrom s (start + n))) (λ u m. q + length v ≤ m)
-    go l start (name w) n x f = let z = ap length (same-eq w v f) in past s q (tt {0}) l (λ u m. q + length v ≤ m) start (name w) n x refl (omega (arith, x .low, x .whole .fits))
+    go : (l : Notes) (start : ℕ) (k : Kind) (n : ℕ) → Stands s q start k n
+        → isWord (wordOf k) v ≡ true
+        → Outcome s (skip l (token start k ∷ tokensFrom s (start + n))) (λ u m. q + length v ≤ m)
+    go l start (name w) n x f =
+        let z = ap length (same-eq w v f) in
+        past s q (tt {0}) l (λ u m. q + length v ≤ m) start (name w) n x refl (omega (arith, x .low, x .whole .fits))
     go l start (number w) n x f = never f
     go l start (quoted w) n x f = never f
     go l start (mark b) n x f = never f
@@ -125,7 +136,8 @@ skips-word {s = s} {q = q} h v e = record { run = λ l. by-front s q (λ ts. ski
 pub the-mark : {s : List ℕ} {q : ℕ} → q ≤ length s → (b : ℕ) → eqb b 0 ≡ false → Runs s (theByte b) q (λ u m. q < m)
 the-mark h b e = tests (seesByte b) (λ f. weaken (skips-mark h b e f) (λ u m x. x .on)) (λ f. refuses)
 
-pub two-marks : {s : List ℕ} {q : ℕ} → q ≤ length s → (b d : ℕ) → eqb b 0 ≡ false → eqb d 0 ≡ false → Runs s (bothBytes b d) q (λ u m. q + 2 ≤ m)
+pub two-marks : {s : List ℕ} {q : ℕ} → q ≤ length s → (b d : ℕ) → eqb b 0 ≡ false
+    → eqb d 0 ≡ false → Runs s (bothBytes b d) q (λ u m. q + 2 ≤ m)
 two-marks {s = s} {q = q} h b d e f = tests (seesPair b d) go (λ g. refuses)
   where
     first : (x y z : Bool) → (x && y && z) ≡ true → (x ≡ true) × (y ≡ true)
@@ -180,10 +192,13 @@ word-of {s = s} {q = q} {start = start} x = record {
 }
 
 -- where a name stands next
-pub next-name : (s : List ℕ) (m : ℕ) → m ≤ length s → (w : List ℕ) → kind (tokensFrom s m) ≡ name w → (m ≤ place (tokensFrom s m)) × (isName (getD s m 0) ≡ false → m < place (tokensFrom s m))
+pub next-name : (s : List ℕ) (m : ℕ) → m ≤ length s → (w : List ℕ) → kind (tokensFrom s m) ≡ name w
+    → (m ≤ place (tokensFrom s m)) × (isName (getD s m 0) ≡ false → m < place (tokensFrom s m))
 next-name s m h w e = go (front s m h)
   where
-    by : (start : ℕ) (k : Kind) (n : ℕ) → Stands s m start k n → k ≡ name w → (m ≤ place (tokensFrom s m)) × (isName (getD s m 0) ≡ false → m < place (tokensFrom s m))
+    by : (start : ℕ) (k : Kind) (n : ℕ) → Stands s m start k n
+        → k ≡ name w
+        → (m ≤ place (tokensFrom s m)) × (isName (getD s m 0) ≡ false → m < place (tokensFrom s m))
     by start (name v) n x f = let y = word-of x in (omega (arith, y .low, y .place), λ z. omega (arith, y .apart z, y .place))
     by start (number v) n x f = absurd (let z : _≡_ {A = ℕ} 0 1 = cc in omega arith)
     by start (quoted v) n x f = absurd (let z : _≡_ {A = ℕ} 0 1 = cc in omega arith)
@@ -201,7 +216,8 @@ a-word {s = s} {q = q} h = record { run = λ l. by-front s q (λ ts. word l ts) 
     by l start w n x true = tt
     by l start w n x false = past s q (start, w) l (Word s q) start (name w) n x refl (word-of x)
 
-    go : (l : Notes) (start : ℕ) (k : Kind) (n : ℕ) → Stands s q start k n → Outcome s (word l (token start k ∷ tokensFrom s (start + n))) (Word s q)
+    go : (l : Notes) (start : ℕ) (k : Kind) (n : ℕ) → Stands s q start k n
+        → Outcome s (word l (token start k ∷ tokensFrom s (start + n))) (Word s q)
     go l start (name w) n x = by l start w n x (isKeyword w)
     go l start (number w) n x = tt
     go l start (quoted w) n x = tt
@@ -215,10 +231,13 @@ pub record Text (s : List ℕ) (q : ℕ) (x : ℕ × ℕ) (m : ℕ) : Type 0 whe
 pub a-text : {s : List ℕ} {q : ℕ} → q ≤ length s → Runs s text q (Text s q)
 a-text {s = s} {q = q} h = record { run = λ l. by-front s q (λ ts. text l ts) (Text s q) h (λ b f. tt) (λ start k n x. go l start k n x) }
   where
-    go : (l : Notes) (start : ℕ) (k : Kind) (n : ℕ) → Stands s q start k n → Outcome s (text l (token start k ∷ tokensFrom s (start + n))) (Text s q)
+    go : (l : Notes) (start : ℕ) (k : Kind) (n : ℕ) → Stands s q start k n
+        → Outcome s (text l (token start k ∷ tokensFrom s (start + n))) (Text s q)
     go l start (name w) n x = tt
     go l start (number w) n x = tt
-    go l start (quoted w) n x = past s q (suc start, w) l (Text s q) start (quoted w) n x refl (record { low = omega (arith, x .low); end = let z = x .whole .fits in omega arith })
+    go l start (quoted w) n x =
+        past s q (suc start, w) l (Text s q) start (quoted w) n x refl
+        (record { low = omega (arith, x .low); end = let z = x .whole .fits in omega arith })
     go l start (mark b) n x = tt
 
 -- ---- numbers
@@ -228,7 +247,8 @@ pub record Number (s : List ℕ) (q m : ℕ) : Type 0 where
   pub behind : isName (getD s m 0) ≡ false
 
 -- one without a point is one
-no-point : (s : List ℕ) (r : Refusal) (v : Signed) (l : Notes) (ts : List Token) (Q : Bool × Written → ℕ → Type 0) → Outcome s (taken r v l ts) Q → Outcome s (taken r (pointless v) l ts) Q
+no-point : (s : List ℕ) (r : Refusal) (v : Signed) (l : Notes) (ts : List Token) (Q : Bool × Written → ℕ → Type 0)
+    → Outcome s (taken r v l ts) Q → Outcome s (taken r (pointless v) l ts) Q
 no-point s r absent l ts Q x = tt
 no-point s r (plus w) l ts Q x = go (w .point)
   where
@@ -242,12 +262,20 @@ no-point s r (minus w) l ts Q x = go (w .point)
     go false = x
 
 -- behind a `-`, which stands before i
-minus-number : (s : List ℕ) (q i : ℕ) (r : Refusal) (l : Notes) (ts : List Token) → q < i → i ≤ length s → rest ts ≡ tokensFrom s i → Outcome s (taken r (negated (plain (kind (rest ts)))) l ts) (λ w m. Number s q m)
-minus-number s q i r l ts h g e = subst (λ (us : List Token). Outcome s (taken r (negated (plain (kind us))) l ts) (λ w m. Number s q m)) (sym e) (go (front s i g))
+minus-number : (s : List ℕ) (q i : ℕ) (r : Refusal) (l : Notes) (ts : List Token)
+    → q < i → i ≤ length s → rest ts ≡ tokensFrom s i
+    → Outcome s (taken r (negated (plain (kind (rest ts)))) l ts) (λ w m. Number s q m)
+minus-number s q i r l ts h g e =
+    subst (λ (us : List Token). Outcome s (taken r (negated (plain (kind us))) l ts) (λ w m. Number s q m)) (sym e) (go (front s i g))
   where
     by : (start : ℕ) (k : Kind) (n : ℕ) → Stands s i start k n → Outcome s (taken r (negated (plain k)) l ts) (λ w m. Number s q m)
     by start (name w) n x = tt
-    by start (number w) n x = record { at = start + n; is = rw (e, x .is); high = x .high; post = record { on = omega (arith, x .low); behind = number-last x } }
+    by start (number w) n x = record {
+      at = start + n;
+      is = rw (e, x .is);
+      high = x .high;
+      post = record { on = omega (arith, x .low); behind = number-last x };
+    }
     by start (quoted w) n x = tt
     by start (mark b) n x = tt
 
@@ -256,21 +284,32 @@ minus-number s q i r l ts h g e = subst (λ (us : List Token). Outcome s (taken 
     go (next start k n x) = rw (x .is) (by start k n x)
 
 pub a-number : {s : List ℕ} {q : ℕ} → q ≤ length s → (r : Refusal) → Runs s (signed seesNumber r) q (λ w m. Number s q m)
-a-number {s = s} {q = q} h r = record { run = λ l. by-front s q (λ ts. taken r (seesNumber ts) l ts) (λ w m. Number s q m) h (λ b f. tt) (λ start k n x. go l start k n x) }
+a-number {s = s} {q = q} h r = record {
+  run = λ l. by-front s q (λ ts. taken r (seesNumber ts) l ts) (λ w m. Number s q m) h (λ b f. tt) (λ start k n x. go l start k n x);
+}
   where
-    by : (l : Notes) (start b n : ℕ) → Stands s q start (mark b) n → (c : Bool) → isMark (mark b) 0 ≡ false → (ts : List Token) → rest ts ≡ tokensFrom s (start + n)
+    by : (l : Notes) (start b n : ℕ) → Stands s q start (mark b) n
+        → (c : Bool) → isMark (mark b) 0 ≡ false → (ts : List Token)
+        → rest ts ≡ tokensFrom s (start + n)
         → Outcome s (taken r (cond c (negated (plain (kind (rest ts)))) absent) l ts) (λ w m. Number s q m)
     by l start b n x true e ts g = minus-number s q (start + n) r l ts (omega (arith, x .low, x .whole .some)) (x .high) g
     by l start b n x false e ts g = tt
 
-    go : (l : Notes) (start : ℕ) (k : Kind) (n : ℕ) → Stands s q start k n → Outcome s (taken r (seesNumber (token start k ∷ tokensFrom s (start + n))) l (token start k ∷ tokensFrom s (start + n))) (λ w m. Number s q m)
+    go : (l : Notes) (start : ℕ) (k : Kind) (n : ℕ) → Stands s q start k n
+        → Outcome s (taken r (seesNumber (token start k ∷ tokensFrom s (start + n))) l (token start k ∷ tokensFrom s (start + n)))
+        (λ w m. Number s q m)
     go l start (name w) n x = tt
-    go l start (number w) n x = past {A = Bool × Written} s q (false, w) l (λ w m. Number s q m) start (number w) n x refl (record { on = omega (arith, x .low, x .whole .some); behind = number-last x })
+    go l start (number w) n x =
+        past {A = Bool × Written} s q (false, w) l (λ w m. Number s q m) start (number w) n x refl
+        (record { on = omega (arith, x .low, x .whole .some); behind = number-last x })
     go l start (quoted w) n x = tt
-    go l start (mark b) n x = let z = x .whole .fits in by l start b n x (eqb b 45) z (token start (mark b) ∷ tokensFrom s (start + n)) (rw z)
+    go l start (mark b) n x =
+        let z = x .whole .fits in by l start b n x (eqb b 45) z (token start (mark b) ∷ tokensFrom s (start + n)) (rw z)
 
 pub a-whole : {s : List ℕ} {q : ℕ} → q ≤ length s → (r : Refusal) → Runs s (signed seesWhole r) q (λ w m. Number s q m)
-a-whole {s = s} {q = q} h r = record { run = λ l. no-point s r (seesNumber (tokensFrom s q)) l (tokensFrom s q) (λ w m. Number s q m) (a-number h r .run l) }
+a-whole {s = s} {q = q} h r = record {
+  run = λ l. no-point s r (seesNumber (tokensFrom s q)) l (tokensFrom s q) (λ w m. Number s q m) (a-number h r .run l);
+}
 
 -- ---- groups
 
@@ -307,16 +346,32 @@ unfolding behind weigh
 behind-from s [] q d e h = record { at = q; is = e; high = h; post = (omega arith, λ f. never (sym f)) }
 behind-from s (token p k ∷ ts) q d e h = go (front s q h) (λ m x f g. behind-from s ts m x f g)
   where
-    by : (start : ℕ) (j : Kind) (n : ℕ) → Stands s q start j n → ts ≡ tokensFrom s (start + n) → ((m x : ℕ) → ts ≡ tokensFrom s m → m ≤ length s → Ends s (behind x ts) (Behind (kind ts) m))
+    by : (start : ℕ) (j : Kind) (n : ℕ) → Stands s q start j n
+        → ts ≡ tokensFrom s (start + n)
+        → ((m x : ℕ) → ts ≡ tokensFrom s m → m ≤ length s → Ends s (behind x ts) (Behind (kind ts) m))
         → (x : Pass) → weigh k d ≡ x → Ends s (passed x (token p k ∷ ts) ts (behind (depth x) ts)) (Behind k q)
     by start j n y f ih halts g = record { at = q; is = e; high = h; post = (omega arith, λ z. never (sym z ∙ halts-at k d g)) }
-    by start j n y f ih closes g = record { at = start + n; is = f; high = y .high; post = (omega (arith, y .low), λ z. omega (arith, y .low, y .whole .some)) }
+    by start j n y f ih closes g = record {
+      at = start + n;
+      is = f;
+      high = y .high;
+      post = (omega (arith, y .low), λ z. omega (arith, y .low, y .whole .some));
+    }
     by start j n y f ih (goes x) g =
         let r = ih (start + n) x f (y .high) in
-        record { at = r .at; is = r .is; high = r .high; post = (omega (arith, y .low, r .post .0), λ z. omega (arith, y .low, y .whole .some, r .post .0)) }
+        record {
+          at = r .at;
+          is = r .is;
+          high = r .high;
+          post = (omega (arith, y .low, r .post .0), λ z. omega (arith, y .low, y .whole .some, r .post .0));
+        }
 
-    go : Front s q → ((m x : ℕ) → ts ≡ tokensFrom s m → m ≤ length s → Ends s (behind x ts) (Behind (kind ts) m)) → Ends s (behind d (token p k ∷ ts)) (Behind k q)
-    go (over b f) ih = subst (λ (us : List Token). Ends s (behind d us) (Behind (kind us) q)) (sym (e ∙ f)) (record { at = q; is = sym f; high = h; post = (omega arith, λ z. never (sym z)) })
+    go : Front s q
+        → ((m x : ℕ) → ts ≡ tokensFrom s m → m ≤ length s → Ends s (behind x ts) (Behind (kind ts) m))
+        → Ends s (behind d (token p k ∷ ts)) (Behind k q)
+    go (over b f) ih =
+        subst (λ (us : List Token). Ends s (behind d us) (Behind (kind us) q)) (sym (e ∙ f))
+        (record { at = q; is = sym f; high = h; post = (omega arith, λ z. never (sym z)) })
     go (next start j n y) ih = by start j n y (ap others (e ∙ y .is)) ih (weigh k d) refl
 
 at-end : (k : Kind) → isMark k 0 ≡ true → isEnd k ≡ true
@@ -343,7 +398,9 @@ leaves {s = s} {q = q} h = record { run = λ l. by l (ends (tokensFrom s q)) ref
         record { at = start + n; is = y .rest; high = x .high; post = record { low = omega (arith, y .on); on = λ f. y .on } }
 
     by : (l : Notes) (b : Bool) → ends (tokensFrom s q) ≡ b
-        → Outcome s (cond b (got (tt {0}) l (rest (tokensFrom s q))) (got (tt {0}) (noted l (place (tokensFrom s q))) (behind 0 (tokensFrom s q)))) (λ u m. Left s q m)
+        → Outcome s
+        (cond b (got (tt {0}) l (rest (tokensFrom s q))) (got (tt {0}) (noted l (place (tokensFrom s q))) (behind 0 (tokensFrom s q))))
+        (λ u m. Left s q m)
     by l true e = passes l (front s q h)
     by l false e =
         let r = behind-from s (tokensFrom s q) q 0 refl h in
@@ -361,4 +418,5 @@ pub record Inside {A : Type 0} (s : List ℕ) (R : ℕ → A → ℕ → Type 0)
 pub in-group : {A : Type 0} {s : List ℕ} {q : ℕ} (p : Rule A) (R : ℕ → A → ℕ → Type 0) → q ≤ length s → (b : ℕ) → eqb b 0 ≡ false
     → ((m : ℕ) → m ≤ length s → Runs s p m (R m)) → Runs s (insideByte b p) q (Inside s R q)
 in-group p R h b e k =
-    and (the-mark h b e) (λ m i u x. then (k m i) (λ a n j y. and (leaves j) (λ o f v z. gives f (record { start = m; mid = n; low = x; inner = y; left = z }))))
+    and (the-mark h b e)
+    (λ m i u x. then (k m i) (λ a n j y. and (leaves j) (λ o f v z. gives f (record { start = m; mid = n; low = x; inner = y; left = z }))))

@@ -22,7 +22,8 @@ use Rattle.sheet.proofs.Laws.{spanL, valueL}
 use Rattle.token.specs.Token.{name, tokensFrom, place, kind, isMark}
 use Rattle.error.specs.declared.Refusal.the-variants.{Missing, Malformed}
 use Rattle.grammar.specs.Rule.{sees, seesWord, give}
-use Rattle.grammar.specs.Values.{ident, string, truth, parseFloat, parseUint, parseFloatInParens, commaFloat, twoFloats, parseTwoFloatsInParens, parseUintInParens, arrayItem, arrayItems, parseValue, f32Of}
+use Rattle.grammar.specs.Values.{ident, string, truth, parseFloat, parseUint, parseFloatInParens, commaFloat, twoFloats}
+use Rattle.grammar.specs.Values.{parseTwoFloatsInParens, parseUintInParens, arrayItem, arrayItems, parseValue, f32Of}
 use Rattle.limits.proofs.RunLaws.{Runs, gives, refuses, then, and, weaken, tests, needs}
 use Rattle.limits.proofs.TakeLaws.{a-word, a-text, Number, a-number, a-whole, Inside, in-group, the-mark, skips-word, next-name}
 use Rattle.limits.proofs.ListLaws.{none≢some, lists}
@@ -76,7 +77,8 @@ module _ (s : List ℕ) (short : length s ≤ 16384) where
   unfolding truth
   truth-runs q h =
       tests (seesWord "true") (λ e. and {f = give true} (skips-word h (bytes "true") e) (λ m g u x. gives g (omega arith)))
-      (λ e. tests (seesWord "false") (λ e. and {f = give false} (skips-word h (bytes "false") e) (λ m g u x. gives g (omega arith))) (λ e. refuses))
+      (λ e. tests (seesWord "false") (λ e. and {f = give false} (skips-word h (bytes "false") e) (λ m g u x. gives g (omega arith)))
+      (λ e. refuses))
 
   -- ---- numbers
 
@@ -91,30 +93,41 @@ module _ (s : List ℕ) (short : length s ≤ 16384) where
 
   pub uint-runs : (q : ℕ) → q ≤ length s → Runs s parseUint q (λ n m. (n < 4294967296) × (q < m))
   unfolding parseUint
-  uint-runs q h = then (a-whole h Missing) (λ w m g x. weaken (needs Malformed (whole (w .0) (w .1)) g) (λ n o y. (whole-below (w .0) (w .1) n (y .1), let z = y .0 in omega (arith, x .on))))
+  uint-runs q h =
+      then (a-whole h Missing)
+      (λ w m g x. weaken (needs Malformed (whole (w .0) (w .1)) g)
+      (λ n o y. (whole-below (w .0) (w .1) n (y .1), let z = y .0 in omega (arith, x .on))))
 
   pub float-in-parens : (q : ℕ) → q ≤ length s → Runs s parseFloatInParens q (λ n m. Small 4 n × (q < m))
   unfolding parseFloatInParens
-  float-in-parens q h = weaken (in-group parseFloat Four h 40 refl float-runs) (λ n m x. (small 4 n (x .inner .ok), omega (arith, x .low, x .inner .is .on, x .left .low)))
+  float-in-parens q h =
+      weaken (in-group parseFloat Four h 40 refl float-runs)
+      (λ n m x. (small 4 n (x .inner .ok), omega (arith, x .low, x .inner .is .on, x .left .low)))
 
   pub uint-in-parens : (q : ℕ) → q ≤ length s → Runs s parseUintInParens q (λ n m. (n < 4294967296) × (q < m))
   unfolding parseUintInParens
-  uint-in-parens q h = weaken (in-group parseUint (λ i n m. (n < 4294967296) × (i < m)) h 40 refl uint-runs) (λ n m x. (x .inner .0, omega (arith, x .low, x .inner .1, x .left .low)))
+  uint-in-parens q h =
+      weaken (in-group parseUint (λ i n m. (n < 4294967296) × (i < m)) h 40 refl uint-runs)
+      (λ n m x. (x .inner .0, omega (arith, x .low, x .inner .1, x .left .low)))
 
   pub comma-float : (q : ℕ) → q ≤ length s → Runs s commaFloat q (λ n m. Small 4 n × (q < m))
   unfolding commaFloat
-  comma-float q h = and (the-mark h 44 refl) (λ m g u x. weaken (float-runs m g) (λ n o y. (small 4 n (y .ok), omega (arith, x, y .is .on))))
+  comma-float q h =
+      and (the-mark h 44 refl) (λ m g u x. weaken (float-runs m g) (λ n o y. (small 4 n (y .ok), omega (arith, x, y .is .on))))
 
   abbrev pub Two : ℕ → ℕ × ℕ → ℕ → Type 0
   Two q p m = (Small 4 (p .0) × Small 4 (p .1)) × (q < m)
 
   pub two-floats : (q : ℕ) → q ≤ length s → Runs s twoFloats q (Two q)
   unfolding twoFloats
-  two-floats q h = then (float-runs q h) (λ a m g x. then (comma-float m g) (λ b n f y. gives f ((small 4 a (x .ok), y .0), omega (arith, x .is .on, y .1))))
+  two-floats q h =
+      then (float-runs q h)
+      (λ a m g x. then (comma-float m g) (λ b n f y. gives f ((small 4 a (x .ok), y .0), omega (arith, x .is .on, y .1))))
 
   pub two-in-parens : (q : ℕ) → q ≤ length s → Runs s parseTwoFloatsInParens q (Two q)
   unfolding parseTwoFloatsInParens
-  two-in-parens q h = weaken (in-group twoFloats Two h 40 refl two-floats) (λ p m x. (x .inner .0, omega (arith, x .low, x .inner .1, x .left .low)))
+  two-in-parens q h =
+      weaken (in-group twoFloats Two h 40 refl two-floats) (λ p m x. (x .inner .0, omega (arith, x .low, x .inner .1, x .left .low)))
 
   -- ---- arrays
 
@@ -135,17 +148,25 @@ module _ (s : List ℕ) (short : length s ≤ 16384) where
       (λ xs m i. record { ok = i .ok; low = i .low; paid = omega (arith, i .paid) })
       (λ xs m n l i. record { ok = i .ok; low = omega (arith, i .low); paid = omega (arith, i .paid) })
       arrayItem
-      (λ xs m g i. then (float-runs m g) (λ x n f y. gives f (record { ok = all-more (Small 4) xs x (i .ok) (small 4 x (y .ok)); low = omega (arith, i .low, y .is .on); paid = rw (length-append xs (x ∷ [])) (omega (arith, i .paid, y .is .on)) })))
+      (λ xs m g i. then (float-runs m g)
+      (λ x n f y. gives f
+      (record {
+        ok = all-more (Small 4) xs x (i .ok) (small 4 x (y .ok));
+        low = omega (arith, i .low, y .is .on);
+        paid = rw (length-append xs (x ∷ [])) (omega (arith, i .paid, y .is .on));
+      })))
       h (record { ok = tt; low = omega arith; paid = omega arith })
 
   words-length : (xs : List ℕ) → length (eachOut (word .write) xs) ≡ 4 * length xs
   words-length [] = refl
-  words-length (x ∷ xs) = length-append (word .write x) (eachOut (word .write) xs) ∙ (let e = words-length xs in let f = length-word x in omega arith)
+  words-length (x ∷ xs) =
+      length-append (word .write x) (eachOut (word .write) xs) ∙ (let e = words-length xs in let f = length-word x in omega arith)
 
   array-length : (xs : List ℕ) → length (valueForm .write (array xs)) ≡ 3 + 4 * length xs
   array-length xs = let e = words-length xs in omega arith
 
-  -- a value from q to m. 3 bytes of the sheet are paid for by each byte of the text, but for 2 of a lone number; where a name follows, by what stands before that
+  -- a value from q to m. 3 bytes of the sheet are paid for by each byte of the text, but for 2 of a lone number; where a name follows, by
+  -- what stands before that
   pub record Valued (q : ℕ) (v : ValueExpr) (m : ℕ) : Type 0 where
     pub ok : valueL .ok v
     pub on : q < m
@@ -168,5 +189,7 @@ module _ (s : List ℕ) (short : length s ≤ 16384) where
         ok = (small 2 (length xs) (omega (arith, x .inner .paid, x .left .low, short)), x .inner .ok);
         on = omega (arith, x .low, x .inner .low, x .left .low);
         paid = rw (array-length xs) (omega (arith, x .low, x .inner .low, x .inner .paid, x .left .low));
-        before = λ w f. let y : isMark (kind (tokensFrom s m)) 0 ≡ false = rw f in rw (array-length xs) (omega (arith, next-name s m g w f .0, x .low, x .inner .low, x .inner .paid, x .left .on y));
+        before = λ w f.
+            let y : isMark (kind (tokensFrom s m)) 0 ≡ false = rw f in
+            rw (array-length xs) (omega (arith, next-name s m g w f .0, x .low, x .inner .low, x .inner .paid, x .left .on y));
       }

@@ -79,7 +79,8 @@ length-line r =
     omega (arith, length-hex (n ++ r ++ c))
 
 -- a line in the parts that are written one after the other
-pub line-parts : (r : List ℕ) → line r ≡ hex (length r / 256 % 256 ∷ []) ++ (hex (length r % 256 ∷ []) ++ (hex r ++ (hex (checkByte r ∷ []) ++ 10 ∷ [])))
+pub line-parts : (r : List ℕ)
+    → line r ≡ hex (length r / 256 % 256 ∷ []) ++ (hex (length r % 256 ∷ []) ++ (hex r ++ (hex (checkByte r ∷ []) ++ 10 ∷ [])))
 unfolding line hex
 line-parts r = rw (hex-append r (checkByte r ∷ []), append-assoc (hex r) (hex (checkByte r ∷ [])) (10 ∷ []))
 
@@ -94,7 +95,8 @@ room-for n room h = go (leb n ((room - 7) / 2)) refl
     go false e = sym (lt-leb (2 * n + 7) room (omega (arith, leb-false n ((room - 7) / 2) e)))
 
 module _ (i : ℕ) (out r : List ℕ) where
-  pub with-room : {after : List ℕ} {end : ℕ} → leb (2 * length r + 7) (length out) ≡ true → Puts out 0 (line r) after end → placed i out (line r) ≡ (Accepted end, after)
+  pub with-room : {after : List ℕ} {end : ℕ} → leb (2 * length r + 7) (length out) ≡ true
+      → Puts out 0 (line r) after end → placed i out (line r) ≡ (Accepted end, after)
   with-room {after} {end} e p =
       let h : length (line r) ≤ length out = omega (arith, length-line r, leb-true (2 * length r + 7) (length out) e) in
       let n : end ≡ length (line r) = p .place ∙ (rw (zero-add, sub-zero, take-all (length out) (line r) h)) in
@@ -102,7 +104,8 @@ module _ (i : ℕ) (out r : List ℕ) where
       rw (le-ltb _ _ h, n, p .bytes, b, zero-add)
 
   pub without-room : leb (2 * length r + 7) (length out) ≡ false → placed i out (line r) ≡ (Refused OutputTooShort i, out)
-  without-room e = let h : length out < length (line r) = omega (arith, length-line r, leb-false (2 * length r + 7) (length out) e) in rw (lt-ltb _ _ h)
+  without-room e =
+      let h : length out < length (line r) = omega (arith, length-line r, leb-false (2 * length r + 7) (length out) e) in rw (lt-ltb _ _ h)
 
 module _ (t s : List ℕ) (i : ℕ) (out : List ℕ) where
   pub refused : {r : Refusal} {p : ℕ} → Shut r p ≡ answerOf (opening t s) → lining t s i out ≡ (Refused r p, out)
@@ -122,7 +125,10 @@ given-fits t s i out {n} {after} e = opens (opening t s) e
     no : {r : Refusal} {p : ℕ} → Prim.Path (LineAnswer × List ℕ) (Refused r p, out) (Accepted n, after) → n ≤ length after
     no q = let z : _≡_ {A = ℕ} 0 1 = cc (ap (λ (a : LineAnswer × List ℕ). a .0) q) in absurd (omega arith)
 
-    room : (l : List ℕ) (b : Bool) → cond {A = LineAnswer × List ℕ} b (Refused OutputTooShort i, out) (Accepted (length l), l ++ drop (length l) out) ≡ (Accepted n, after) → n ≤ length after
+    room : (l : List ℕ) (b : Bool)
+        → cond {A = LineAnswer × List ℕ} b (Refused OutputTooShort i, out) (Accepted (length l), l ++ drop (length l) out)
+        ≡ (Accepted n, after)
+        → n ≤ length after
     room l true q = no q
     room l false q =
         let h : Accepted (length l) ≡ Accepted n = ap (λ (a : LineAnswer × List ℕ). a .0) q in

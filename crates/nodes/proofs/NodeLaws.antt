@@ -39,7 +39,9 @@ module _ (s : List ℕ) (c : Cursor) where
     unfolding parseLabel string
     no-semicolon q e = rw (t .is, e)
 
-    pub label-went : {b b′ a : List ℕ} {out f q : ℕ} (n : Cursor) → Took 1 s m n (theByte 59) tt → Writes b out (13 ∷ []) b′ f → Writes b′ f (spanForm (length s) .write (spanOf x)) a q
+    pub label-went : {b b′ a : List ℕ} {out f q : ℕ} (n : Cursor) → Took 1 s m n (theByte 59) tt
+        → Writes b out (13 ∷ []) b′ f
+        → Writes b′ f (spanForm (length s) .write (spanOf x)) a q
         → Went 1 s b a c n out q parseLabel (leafBytes (length s))
     unfolding parseLabel string
     label-went n u o w = record {
@@ -65,8 +67,11 @@ module _ (s : List ℕ) (c m : Cursor) where
     unfolding parseAt
     no-value q e = rw (t .is, e .0, e .1)
 
-    pub at-went : {b b₁ b₂ a : List ℕ} {out f g q : ℕ} (g? : Bool) (k : Number) (e n : Cursor) (d : Bool) → Numbers s m g? k e → Took 0 s e n (eatByte 59) d → Writes b out (14 ∷ []) b₁ f
-        → Writes b₁ f (word .write (bits (nearest (cond i (not g?) g?) (written k)))) b₂ g → Writes b₂ g (flag .write p) a q → Went 1 s b a c n out q parseAt (leafBytes (length s))
+    pub at-went : {b b₁ b₂ a : List ℕ} {out f g q : ℕ} (g? : Bool) (k : Number) (e n : Cursor) (d : Bool)
+        → Numbers s m g? k e → Took 0 s e n (eatByte 59) d → Writes b out (14 ∷ []) b₁ f
+        → Writes b₁ f (word .write (bits (nearest (cond i (not g?) g?) (written k)))) b₂ g
+        → Writes b₂ g (flag .write p) a q
+        → Went 1 s b a c n out q parseAt (leafBytes (length s))
     unfolding parseAt
     at-went {b} {b₁} {b₂} {a} {out} {f} {g} {q} g? k e n d v u o w z =
         let r = took-number s m _ _ _ v Malformed in
@@ -75,5 +80,9 @@ module _ (s : List ℕ) (c m : Cursor) where
           value = at (record { value = x; relative = p });
           took = record { is = rw (t .is, r .is, u .is); low = omega (arith, t .low, r .low, u .low); ready = u .ready };
           writes = writes-then o (writes-then w z);
-          paid = let a1 = o .place in let a2 = w .place in let a3 = z .place in let l = length-word x in omega (arith, t .low, r .low, u .low);
+          paid = let a1 = o .place in
+              let a2 = w .place in
+              let a3 = z .place in
+              let l = length-word x in
+              omega (arith, t .low, r .low, u .low);
         }

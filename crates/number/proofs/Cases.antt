@@ -45,6 +45,7 @@ unfolding near f32 ofBits lt sub
 infinities = refl
 
 -- whole numbers
-most : (whole false (written 4294967295 0) ≡ some 4294967295) × (whole false (written 4294967296 0) ≡ none) × (whole true (written 0 0) ≡ none)
+most : (whole false (written 4294967295 0) ≡ some 4294967295)
+    × (whole false (written 4294967296 0) ≡ none) × (whole true (written 0 0) ≡ none)
 unfolding whole
 most = (refl, refl, refl)

@@ -1,4 +1,5 @@
--- How far two signed fractions lie apart, as a whole number over their common denominator, and the f32 difference of two floats by it. Assumes nothing.
+-- How far two signed fractions lie apart, as a whole number over their common denominator, and the f32 difference of two floats by it.
+-- Assumes nothing.
 use mathlib.Core.Path.{_≡_, refl, sym, ap, _∙_, subst}
 use Prim.Native.Nat.{ℕ, zero, suc, _+_, _-_, _*_, _/_, _^_, _≤_, _<_}
 use native.Mathlib.Nat.{le-of-eq, mul-comm, mul-assoc, mul-right-comm, mul-le-mul-right, add-mul, mul-sub, mul-pos}
@@ -30,7 +31,9 @@ pub gap-scale : (s t : Bool) (a b c : ℕ) → gap s (a * c) t (b * c) ≡ gap s
 gap-scale s t a b c = go (Bool·beq s t)
   where
     go : (e : Bool) → cond e (a * c - b * c + (b * c - a * c)) (a * c + b * c) ≡ cond e (a - b + (b - a)) (a + b) * c
-    go true = sym (add-mul (a - b) (b - a) c ∙ ap (λ (x : ℕ). x + (b - a) * c) (sub-mul a b c) ∙ ap (λ (x : ℕ). a * c - b * c + x) (sub-mul b a c))
+    go true =
+        sym
+        (add-mul (a - b) (b - a) c ∙ ap (λ (x : ℕ). x + (b - a) * c) (sub-mul a b c) ∙ ap (λ (x : ℕ). a * c - b * c + x) (sub-mul b a c))
     go false = sym (add-mul a b c)
 
 -- what is near ±a' and ±b' is as far apart, up to the sum of the two errors
@@ -62,7 +65,8 @@ size-round s a c =
     ap Time.size (round-is binary32 s a c) ∙ size-units s (closest n (c * 2 ^ k)) k ∙ sym (round-is binary32 false a c)
 
 -- ---- the size of a difference
-apart : (x y : Bool) (a b c : ℕ) → Time.size (cond (ltb a b) (round binary32 x (b - a) c) (round binary32 y (a - b) c)) ≡ round binary32 false (a - b + (b - a)) c
+apart : (x y : Bool) (a b c : ℕ)
+    → Time.size (cond (ltb a b) (round binary32 x (b - a) c) (round binary32 y (a - b) c)) ≡ round binary32 false (a - b + (b - a)) c
 apart x y a b c = go (ltb a b) (ltb→lt a b) (nltb→le a b)
   where
     left : (a b : ℕ) → a < b → b - a ≡ a - b + (b - a)
@@ -71,7 +75,8 @@ apart x y a b c = go (ltb a b) (ltb→lt a b) (nltb→le a b)
     right : (a b : ℕ) → b ≤ a → a - b ≡ a - b + (b - a)
     right a b h = omega arith
 
-    go : (w : Bool) → (T w → a < b) → (T (not w) → b ≤ a) → Time.size (cond w (round binary32 x (b - a) c) (round binary32 y (a - b) c)) ≡ round binary32 false (a - b + (b - a)) c
+    go : (w : Bool) → (T w → a < b) → (T (not w) → b ≤ a)
+        → Time.size (cond w (round binary32 x (b - a) c) (round binary32 y (a - b) c)) ≡ round binary32 false (a - b + (b - a)) c
     go true h k = size-round x (b - a) c ∙ ap (λ (z : ℕ). round binary32 false z c) (left a b (h tt))
     go false h k = size-round y (a - b) c ∙ ap (λ (z : ℕ). round binary32 false z c) (right a b (k tt))
 
@@ -86,7 +91,9 @@ sum-size false true a b c = size-round false (a + b) c
 common : (m : ℕ) (u de dd a c : ℕ) → m * u * c ≡ a * de → m * u * dd * c ≡ a * (de * dd)
 common m u de dd a c h = mul-right-comm (m * u) dd c ∙ ap (λ (z : ℕ). z * dd) h ∙ mul-assoc a de dd
 
-pub sub-gap : (x y : Float) (s t : Bool) (a b c : ℕ) → 0 < c → HasValue x s a c → HasValue y t b c → Time.size (sub binary32 x y) ≡ round binary32 false (gap s a t b) c
+pub sub-gap : (x y : Float) (s t : Bool) (a b c : ℕ) → 0 < c → HasValue x s a c
+    → HasValue y t b c
+    → Time.size (sub binary32 x y) ≡ round binary32 false (gap s a t b) c
 unfolding sub
 sub-gap nan y s t a b c C v w = absurd v
 sub-gap (inf p) y s t a b c C v w = absurd v
@@ -123,7 +130,8 @@ unfolding le
 far nan t = absurd t
 far (inf true) t = absurd t
 far (inf false) t = unfold lt in refl
-far (fin true m e) t = absurd (no (down e) (down-pos e) (eqb→eq (1 * down e) 0 (and-r (eqb (1 * down e) (m * up e * 8388608)) (eqb (1 * down e) 0) t)))
+far (fin true m e) t =
+    absurd (no (down e) (down-pos e) (eqb→eq (1 * down e) 0 (and-r (eqb (1 * down e) (m * up e * 8388608)) (eqb (1 * down e) 0) t)))
   where
     no : (y : ℕ) → 0 < y → 1 * y ≡ 0 → ⊥
     no y h q = omega arith
@@ -139,7 +147,9 @@ close (fin true m e) t = unfold lt in lt-ltb 0 (m * up e * 8388608 + 1 * down e)
   where
     some : (x y : ℕ) → 0 < y → 0 < x + 1 * y
     some x y h = omega arith
-close (fin false m e) t = unfold lt in lt-ltb (m * up e * 8388608) (1 * down e) (less (m * up e) (down e) (down-pos e) (or-le (m * up e * 33554432) (3 * down e) true t))
+close (fin false m e) t =
+    unfold lt in lt-ltb (m * up e * 8388608) (1 * down e)
+    (less (m * up e) (down e) (down-pos e) (or-le (m * up e * 33554432) (3 * down e) true t))
   where
     less : (x y : ℕ) → 0 < y → x * 33554432 ≤ 3 * y → x * 8388608 < 1 * y
     less x y h k = omega arith

@@ -13,11 +13,13 @@ use lib.Ieee.Scale.{round-same}
 use Rattle.number.specs.Number.{percent}
 use Rattle.number.proofs.Floats.{hundred}
 
-by-hundred : (s : Bool) (m : ℕ) (e : ℤ) → div binary32 (fin s m e) (fin false 25 (pos 2)) ≡ round binary32 (unlike s false) (m * up e * 1) (100 * down e)
+by-hundred : (s : Bool) (m : ℕ) (e : ℤ)
+    → div binary32 (fin s m e) (fin false 25 (pos 2)) ≡ round binary32 (unlike s false) (m * up e * 1) (100 * down e)
 unfolding div
 by-hundred s m e = refl
 
-over : (s : Bool) (m : ℕ) (e : ℤ) (n : ℕ) → m * up e * 1 ≡ n * down e → round binary32 s (m * up e * 1) (100 * down e) ≡ round binary32 s n 100
+over : (s : Bool) (m : ℕ) (e : ℤ) (n : ℕ) → m * up e * 1 ≡ n * down e
+    → round binary32 s (m * up e * 1) (100 * down e) ≡ round binary32 s n 100
 over s m e n h =
     round-same binary32 s (m * up e * 1) (100 * down e) n 100 (mul-pos (lit< tt) (down-pos e)) (lit< tt)
     (ap (λ (z : ℕ). z * 100) h ∙ mul-assoc n (down e) 100 ∙ ap (λ (z : ℕ). n * z) (mul-comm (down e) 100))

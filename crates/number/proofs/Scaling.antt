@@ -1,9 +1,11 @@
--- A fraction n / d scaled by powers of two, found from the leading zeros of n and d, so that its whole part has 24 binary digits. Assumes nothing.
+-- A fraction n / d scaled by powers of two, found from the leading zeros of n and d, so that its whole part has 24 binary digits.
+-- Assumes nothing.
 use mathlib.Core.Path.{_≡_, sym, ap, _∙_, subst}
 use mathlib.Core.Logic.{inr}
 use mathlib.Core.Bool.{false}
 use Prim.Native.Nat.{ℕ, suc, _+_, _-_, _*_, _/_, _%_, _^_, _≤_, _<_}
-use native.Mathlib.Nat.{le-trans, le-of-eq, lt-of-not-le, suc-inj, add-suc, add-comm, zero-add, mul-assoc, mul-le-mul, mul-le-mul-right, mul-mul-mul-comm, mod-eq-of-lt, le-div-iff-mul-le, div-lt-iff-lt-mul}
+use native.Mathlib.Nat.{le-trans, le-of-eq, lt-of-not-le, suc-inj, add-suc, add-comm, zero-add, mul-assoc, mul-le-mul}
+use native.Mathlib.Nat.{mul-le-mul-right, mul-mul-mul-comm, mod-eq-of-lt, le-div-iff-mul-le, div-lt-iff-lt-mul}
 use native.Mathlib.Omega.{arith}
 use lib.Count.{leadingZeros, leading-top}
 use lib.Ieee.{binary32, round, toBits}
@@ -23,7 +25,8 @@ raised n h l =
     let z = leadingZeros 64 n in
     record {
       short = omega (arith, t .1);
-      low = subst (λ (x : ℕ). 2 ^ x ≤ n * 2 ^ z) (add-comm (t .0) z ∙ suc-inj (sym (add-suc z (t .0)) ∙ t .1)) (le-trans (le-of-eq (pow-add 2 (t .0) z)) (mul-le-mul-right (2 ^ z) (t .2)));
+      low = subst (λ (x : ℕ). 2 ^ x ≤ n * 2 ^ z) (add-comm (t .0) z ∙ suc-inj (sym (add-suc z (t .0)) ∙ t .1))
+          (le-trans (le-of-eq (pow-add 2 (t .0) z)) (mul-le-mul-right (2 ^ z) (t .2)));
       high = subst (λ (x : ℕ). n * 2 ^ z < 2 ^ x) (add-comm (suc (t .0)) z ∙ t .1) (shl-lt {a = n} (suc (t .0)) z (t .3));
     }
 
@@ -51,7 +54,9 @@ aligned n d N F D H =
     let r = raised n (omega arith) F in
     let s = raised d D (omega arith) in
     let m = many d l H s in
-    let e : d * 2 ^ (l - 24) * 2 ^ 24 ≡ d * 2 ^ l = mul-assoc d (2 ^ (l - 24)) (2 ^ 24) ∙ ap (λ (x : ℕ). d * x) (sym (pow-add 2 (l - 24) 24) ∙ ap (λ (x : ℕ). 2 ^ x) (rest l m)) in
+    let e : d * 2 ^ (l - 24) * 2 ^ 24 ≡ d * 2 ^ l = mul-assoc d (2 ^ (l - 24)) (2 ^ 24)
+    ∙ ap (λ (x : ℕ). d * x) (sym (pow-add 2 (l - 24) 24) ∙ ap (λ (x : ℕ). 2 ^ x) (rest l m))
+    in
     record {
       z-high = r .short;
       l-low = m;
@@ -86,10 +91,13 @@ scaled n d z y k e =
     ∙ mul-mul-mul-comm n d (2 ^ z) (2 ^ k)
 
 -- the bits, where the whole part of the scaled fraction has 24 digits
-pub scaled-bits : (n d z y k a b : ℕ) → 0 < d → a ≡ n * 2 ^ z → b ≡ d * 2 ^ y → z + k ≡ 149 + y → k ≤ 253 → 0 < b → 2 ^ 23 * b ≤ a → a < 2 ^ 24 * b
+pub scaled-bits : (n d z y k a b : ℕ) → 0 < d → a ≡ n * 2 ^ z → b ≡ d * 2 ^ y
+    → z + k ≡ 149 + y → k ≤ 253 → 0 < b → 2 ^ 23 * b ≤ a
+    → a < 2 ^ 24 * b
     → k * 2 ^ 23 + closest a b ≡ toBits binary32 (round binary32 false n d)
 scaled-bits n d z y k a b D p q e K B l h =
-    sym (bits-by false n d a b k D B (ap (λ (x : ℕ). n * 2 ^ 149 * x) q ∙ scaled n d z y k e ∙ ap (λ (x : ℕ). x * (d * 2 ^ k)) (sym p)) (div-lt-iff-lt-mul B .1 h, inr (le-div-iff-mul-le B .1 l)) K
+    sym (bits-by false n d a b k D B (ap (λ (x : ℕ). n * 2 ^ 149 * x) q ∙ scaled n d z y k e ∙ ap (λ (x : ℕ). x * (d * 2 ^ k)) (sym p))
+    (div-lt-iff-lt-mul B .1 h, inr (le-div-iff-mul-le B .1 l)) K
     ∙ zero-add (k * 2 ^ 23 + closest a b))
 
 pub whole-below : (a b m : ℕ) → 0 < b → a < m * b → a / b < m

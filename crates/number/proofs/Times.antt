@@ -33,13 +33,16 @@ both-ways : (x y e : ℕ) → Near x y e → (x - y) + (y - x) ≤ e
 both-ways x y e (p, q) = omega arith
 
 -- from units of 2 ^ -149 to the float's own numerator and denominator
-off : (s : Bool) (n d k g : ℕ) (x : Float) → HasValue x s g (2 ^ 149) → Near (g * d) (n * 2 ^ 149) (2 ^ (k + 124) * d) → Off k (record { negative = s; num = n; den = d }) x
+off : (s : Bool) (n d k g : ℕ) (x : Float) → HasValue x s g (2 ^ 149)
+    → Near (g * d) (n * 2 ^ 149) (2 ^ (k + 124) * d)
+    → Off k (record { negative = s; num = n; den = d }) x
 off s n d k g nan v h = absurd v
 off s n d k g (inf t) v h = absurd v
 off s n d k g (fin t m e) v h = (
   record { negative = t; num = m * up e; den = down e },
   refl,
-  subst (λ (b : Bool). gap b (m * up e * d) s (n * down e) * 2 ^ 25 ≤ 2 ^ k * (down e * d)) (sym (v .0)) (le-of-mul-le-mul-right (le-trans (le-of-eq left) (le-trans (mul-le-mul-right (down e) bound) (le-of-eq right))) (pow-pos 124)),
+  subst (λ (b : Bool). gap b (m * up e * d) s (n * down e) * 2 ^ 25 ≤ 2 ^ k * (down e * d)) (sym (v .0))
+      (le-of-mul-le-mul-right (le-trans (le-of-eq left) (le-trans (mul-le-mul-right (down e) bound) (le-of-eq right))) (pow-pos 124)),
 )
   where
     a-is : m * up e * d * 2 ^ 149 ≡ g * d * down e
@@ -63,11 +66,13 @@ off s n d k g (fin t m e) v h = (
         ∙ mul-right-comm (2 ^ k) (2 ^ 124) (d * down e)
         ∙ ap (λ (z : ℕ). 2 ^ k * z * 2 ^ 124) (mul-comm d (down e))
 
-pub round-error : (s : Bool) (n d k : ℕ) → 0 < d → k ≤ 34 → n ≤ 2 ^ k * d → Off k (record { negative = s; num = n; den = d }) (round binary32 s n d)
+pub round-error : (s : Bool) (n d k : ℕ) → 0 < d → k ≤ 34 → n ≤ 2 ^ k * d
+    → Off k (record { negative = s; num = n; den = d }) (round binary32 s n d)
 round-error s n d k D K h = off s n d k (grid binary32 n d) (round binary32 s n d) (held s k n d D K h) (within k n d D h)
 
 -- a whole percent's, up to 2 ^ 24: once it is below 2 ^ k
-pub percent-error : (s : Bool) (n k : ℕ) → n ≤ 16777216 → k ≤ 34 → n ≤ 2 ^ k * 100 → Off k (record { negative = s; num = n; den = 100 }) (percent s n)
+pub percent-error : (s : Bool) (n k : ℕ) → n ≤ 16777216 → k ≤ 34 → n ≤ 2 ^ k * 100
+    → Off k (record { negative = s; num = n; den = 100 }) (percent s n)
 percent-error s n k N K h = rw (percent-once s n N) (round-error s n 100 k (lit< tt) K h)
 
 -- ---- a key
@@ -84,7 +89,8 @@ unfolding storedTime nearest
 once t F = go (t .percent) F
   where
     go : (b : Bool) → (b ≡ true → t .written .digits ≤ 16777216)
-        → cond b (percent (t .negative) (t .written .digits)) (nearest (t .negative) (t .written)) ≡ round binary32 (t .negative) (t .written .digits) (cond b 100 (10 ^ t .written .places))
+        → cond b (percent (t .negative) (t .written .digits)) (nearest (t .negative) (t .written))
+        ≡ round binary32 (t .negative) (t .written .digits) (cond b 100 (10 ^ t .written .places))
     go true f = percent-once (t .negative) (t .written .digits) (f refl)
     go false f = refl
 
@@ -98,14 +104,17 @@ module _ (k : ℕ) (K : k ≤ 34) (t u : Key) (Ft : FairPercent t) (Fu : FairPer
   pub far-not-near : Far k t u → near (storedTime t) (storedTime u) ≡ false
   far-not-near f =
       rw (once t Ft, once u Fu)
-      (separated (t .negative) (u .negative) (t .written .digits) (writtenTime t .den) (u .written .digits) (writtenTime u .den) (den-pos t) (den-pos u) k K At Au f)
+      (separated (t .negative) (u .negative) (t .written .digits) (writtenTime t .den) (u .written .digits) (writtenTime u .den)
+      (den-pos t) (den-pos u) k K At Au f)
 
   -- "equal written times, or k = 0 and two differ by less than 2^-24": a duplicate
   pub same-near : Equal t u ⊎ ((k ≡ 0) × Close t u) → near (storedTime t) (storedTime u) ≡ true
   same-near (inl e) =
       rw (once t Ft, once u Fu)
-      (equal (t .negative) (u .negative) (t .written .digits) (writtenTime t .den) (u .written .digits) (writtenTime u .den) (den-pos t) (den-pos u) k K At Au e)
+      (equal (t .negative) (u .negative) (t .written .digits) (writtenTime t .den) (u .written .digits) (writtenTime u .den) (den-pos t)
+      (den-pos u) k K At Au e)
   same-near (inr (z, c)) =
       rw (once t Ft, once u Fu)
-      (close (t .negative) (u .negative) (t .written .digits) (writtenTime t .den) (u .written .digits) (writtenTime u .den) (den-pos t) (den-pos u)
+      (close (t .negative) (u .negative) (t .written .digits) (writtenTime t .den) (u .written .digits) (writtenTime u .den) (den-pos t)
+      (den-pos u)
       (subst (λ (z : ℕ). AtMost z t) z At) (subst (λ (z : ℕ). AtMost z u) z Au) c)

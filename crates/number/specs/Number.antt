@@ -5,7 +5,8 @@ use mathlib.Core.Option.{Option, none, some}
 use lib.Dec.{ltb}
 use lib.Ieee.{Float, binary32, round, div, toBits, ofBits}
 
--- 01: "a written number is a whole number over a power of ten", digits / 10 ^ places; `point` where one is written, `suffix` where an `s` follows
+-- 01: "a written number is a whole number over a power of ten", digits / 10 ^ places; `point` where one is written, `suffix` where an `s`
+-- follows
 pub record Written : Type 0 where
   pub digits : ℕ
   pub places : ℕ

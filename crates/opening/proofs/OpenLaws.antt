@@ -22,9 +22,12 @@ use Rattle.opening.specs.declared.Opening.the-variants.{Open, Shut}
 -- ---- the first foreign byte
 
 module _ (t : List ℕ) (i : ℕ) where
-  next : i < length t → {b : Bool} → isForeign (getD t i 0) ≡ b → foreignFrom i (drop i t) ≡ elim b [ true ↦ some i | false ↦ foreignFrom (suc i) (drop (suc i) t) ]
+  next : i < length t → {b : Bool} → isForeign (getD t i 0) ≡ b
+      → foreignFrom i (drop i t) ≡ elim b [ true ↦ some i | false ↦ foreignFrom (suc i) (drop (suc i) t) ]
   unfolding foreignFrom
-  next h e = ap (foreignFrom i) (drop-cons t i 0 h) ∙ ap {B = Option ℕ} (λ (b : Bool). elim b [ true ↦ some i | false ↦ foreignFrom (suc i) (drop (suc i) t) ]) e
+  next h e =
+      ap (foreignFrom i) (drop-cons t i 0 h)
+      ∙ ap {B = Option ℕ} (λ (b : Bool). elim b [ true ↦ some i | false ↦ foreignFrom (suc i) (drop (suc i) t) ]) e
 
   pub foreign-here : i < length t → isForeign (getD t i 0) ≡ true → foreignFrom i (drop i t) ≡ some i
   foreign-here h e = next h e
@@ -78,12 +81,16 @@ pub the-tree : (t s : List ℕ) → Open ≡ answerOf (opening t s) → Tree t s
 unfolding opening
 the-tree t s e = long (ltb 16384 (length t)) refl e
   where
-    tree : (f : Option ℕ) → foreignFrom 0 t ≡ f → (d : Option Forest) → decode (length t) s ≡ d → ltb 16384 (length t) ≡ false → Open ≡ answerOf (unlessForeign f (decoded d)) → Tree t s
+    tree : (f : Option ℕ) → foreignFrom 0 t ≡ f → (d : Option Forest)
+        → decode (length t) s ≡ d → ltb 16384 (length t) ≡ false
+        → Open ≡ answerOf (unlessForeign f (decoded d)) → Tree t s
     tree (some i) p d q l e = let z : _≡_ {A = ℕ} 0 1 = cc in absurd (omega arith)
     tree none p none q l e = let z : _≡_ {A = ℕ} 0 1 = cc in absurd (omega arith)
     tree none p (some ns) q l e = record { nodes = ns; opens = rw (l, p, q); decodes = q }
 
-    long : (b : Bool) → ltb 16384 (length t) ≡ b → Open ≡ answerOf (cond b (shut TextTooLong 0) (unlessForeign (foreignFrom 0 t) (decoded (decode (length t) s)))) → Tree t s
+    long : (b : Bool) → ltb 16384 (length t) ≡ b
+        → Open ≡ answerOf (cond b (shut TextTooLong 0) (unlessForeign (foreignFrom 0 t) (decoded (decode (length t) s))))
+        → Tree t s
     long true p e = let z : _≡_ {A = ℕ} 0 1 = cc in absurd (omega arith)
     long false p e = tree (foreignFrom 0 t) refl (decode (length t) s) refl p e
 

@@ -58,20 +58,24 @@ module _ (t : List ℕ) (c : Cursor) (e : c .at ≡ 0) (l : c .left ≡ left.Not
     input-done a′ f h o = record {
       nodes = g .went .value;
       is = input-run ∙ (rw (g .went .took .is, h));
-      writes = rw (← block-bytes (length t) 16 (g .went .value)) (writes-counted (width (g .went .value)) refl (g .went .writes) (rw (g .wide) at o));
+      writes = rw (← block-bytes (length t) 16 (g .went .value))
+          (writes-counted (width (g .went .value)) refl (g .went .writes) (rw (g .wide) at o));
       count = g .count;
     }
 
 -- ---- the sheet
 
 module _ (bs a : List ℕ) where
-  pub settled-refused : (r : Refusal) (p : ℕ) → a ≡ take 0 bs ++ replicate (length bs - 0) 0 → Prim.Path (ReadAnswer × List ℕ) (Refused r p, a) (settled (Refused r p) bs)
+  pub settled-refused : (r : Refusal) (p : ℕ) → a ≡ take 0 bs ++ replicate (length bs - 0) 0
+      → Prim.Path (ReadAnswer × List ℕ) (Refused r p, a) (settled (Refused r p) bs)
   settled-refused r p h = rw (h, sub-zero)
 
-  pub settled-short : (n k : ℕ) → length bs < n → a ≡ take 0 bs ++ replicate (length bs - 0) 0 → Prim.Path (ReadAnswer × List ℕ) (Refused SheetTooShort 0, a) (settled (Accepted n k) bs)
+  pub settled-short : (n k : ℕ) → length bs < n → a ≡ take 0 bs ++ replicate (length bs - 0) 0
+      → Prim.Path (ReadAnswer × List ℕ) (Refused SheetTooShort 0, a) (settled (Accepted n k) bs)
   settled-short n k l h = rw (lt-ltb (length bs) n l, h, sub-zero)
 
-  pub settled-accepted : (n k : ℕ) → n ≤ length bs → a ≡ take n bs ++ replicate (length bs - n) 0 → Prim.Path (ReadAnswer × List ℕ) (Accepted n k, a) (settled (Accepted n k) bs)
+  pub settled-accepted : (n k : ℕ) → n ≤ length bs → a ≡ take n bs ++ replicate (length bs - n) 0
+      → Prim.Path (ReadAnswer × List ℕ) (Accepted n k, a) (settled (Accepted n k) bs)
   settled-accepted n k l h = rw (le-ltb (length bs) n l, h)
 
 -- an encoding of the tree, as far as there is room for it
@@ -80,15 +84,19 @@ module _ (s b a bs : List ℕ) (n k : ℕ) (z : length a ≡ length b) (w : Writ
   size = w .place ∙ zero-add (length bs)
 
   by-room : (v : Bool) → ltb (length b) (length bs) ≡ v
-      → outcome (settled (Accepted n k) a .0) (replicate (length s) 0) (settled (Accepted n k) a .1) ≡ reads.cleared s b (reads.fitting (length b) bs k)
+      → outcome (settled (Accepted n k) a .0) (replicate (length s) 0) (settled (Accepted n k) a .1)
+      ≡ reads.cleared s b (reads.fitting (length b) bs k)
   by-room true e = rw (size, z, e, sub-zero)
   by-room false e = let c : take (length bs) a ≡ bs = rw size at (written w (ltb-false (length b) (length bs) e)) in rw (size, z, e, c)
 
 -- the settled answer to the tree
 tree-settled : (t s b a : List ℕ) (x : ReadAnswer) → length a ≡ length b → TreeMeans t b a x
-    → outcome (settled x a .0) (replicate (length s) 0) (settled x a .1) ≡ reads.cleared s b (reads.written (length t) (length b) (treeOf t))
+    → outcome (settled x a .0) (replicate (length s) 0) (settled x a .1)
+    ≡ reads.cleared s b (reads.written (length t) (length b) (treeOf t))
 tree-settled t s b a (Refused r p) z m = rw (m, z, sub-zero)
-tree-settled t s b a (Accepted n k) z m = let bs = encode (length t) (mapTimes stored (m .nodes)) in rw (m .is, ← m .count) (by-room s b a bs n k z (m .writes) (ltb (length b) (length bs)) refl)
+tree-settled t s b a (Accepted n k) z m =
+    let bs = encode (length t) (mapTimes stored (m .nodes)) in
+    rw (m .is, ← m .count) (by-room s b a bs n k z (m .writes) (ltb (length b) (length bs)) refl)
 
 -- ---- the text rules
 
@@ -139,8 +147,12 @@ module _ (t s b : List ℕ) where
 
       pub read-refused : (s′ b′ : List ℕ) (x : ReadAnswer) (r : Refusal) (p : ℕ) → s′ ≡ replicate (length s) 0 → parse t ≡ wrong r p
           → Prim.Path (ReadAnswer × List ℕ) (x, b′) (settled (Refused r p) b) → outcome x s′ b′ ≡ reading t s b
-      read-refused s′ b′ x r p z e q = rw (z, by-parse, e, sub-zero) (ap (λ (y : ReadAnswer × List ℕ). outcome (y .0) (replicate (length s) 0) (y .1)) q)
+      read-refused s′ b′ x r p z e q =
+          rw (z, by-parse, e, sub-zero) (ap (λ (y : ReadAnswer × List ℕ). outcome (y .0) (replicate (length s) 0) (y .1)) q)
 
-      pub read-tree : (s′ b′ a : List ℕ) (x y : ReadAnswer) → s′ ≡ replicate (length s) 0 → parse t ≡ treeOf t → length a ≡ length b → TreeMeans t b a y
+      pub read-tree : (s′ b′ a : List ℕ) (x y : ReadAnswer) → s′ ≡ replicate (length s) 0
+          → parse t ≡ treeOf t → length a ≡ length b → TreeMeans t b a y
           → Prim.Path (ReadAnswer × List ℕ) (x, b′) (settled y a) → outcome x s′ b′ ≡ reading t s b
-      read-tree s′ b′ a x y z e i m q = rw (z, by-parse, e) (ap (λ (v : ReadAnswer × List ℕ). outcome (v .0) (replicate (length s) 0) (v .1)) q ∙ tree-settled t s b a y i m)
+      read-tree s′ b′ a x y z e i m q =
+          rw (z, by-parse, e)
+          (ap (λ (v : ReadAnswer × List ℕ). outcome (v .0) (replicate (length s) 0) (v .1)) q ∙ tree-settled t s b a y i m)

@@ -39,7 +39,8 @@ TreeMeans t b a (Refused r p) = treeOf t ≡ wrong r p
 -- the answer and the sheet afterwards, where a is the answer so far and bs the sheet
 abbrev pub settled : ReadAnswer → List ℕ → ReadAnswer × List ℕ
 settled (Refused r p) bs = (Refused r p, replicate (length bs) 0)
-settled (Accepted n k) bs = cond (ltb (length bs) n) (Refused SheetTooShort 0, replicate (length bs) 0) (Accepted n k, take n bs ++ replicate (length bs - n) 0)
+settled (Accepted n k) bs =
+    cond (ltb (length bs) n) (Refused SheetTooShort 0, replicate (length bs) 0) (Accepted n k, take n bs ++ replicate (length bs - n) 0)
 
 -- ---- the operation
 

@@ -29,6 +29,7 @@ module _ (names : List (List ℕ)) (s : List ℕ) (b : ℕ) (e : b ≡ at s 0) w
       let d : digits ≡ drop 1 s = q ∙ take-all (length s) (drop 1 s) (rw length-drop (omega arith)) in
       rw (d, eq-eqb (at s 0) 35 (sym e ∙ h))
 
-  pub color-name : (front : List ℕ) → (b ≡ 35 → ⊥) → shorter 32 names ≡ true → front ≡ take 32 (lowered s) → isSome (find names 0 front) ≡ isColorOf names s
+  pub color-name : (front : List ℕ) → (b ≡ 35 → ⊥) → shorter 32 names ≡ true
+      → front ≡ take 32 (lowered s) → isSome (find names 0 front) ≡ isColorOf names s
   unfolding isColorOf
   color-name front h k q = rw (ne-eqb (at s 0) 35 (λ z. h (e ∙ z)), q) (ap isSome (find-clip names 0 32 (lowered s) k))

@@ -55,4 +55,5 @@ pub record Steps (t sheet out : List ℕ) (a : Stage) (after : List ℕ) (n : �
 -- steps from the stage a to the end, and their pieces in order
 abbrev pub Run : (t sheet out : List ℕ) → Stage → List (List ℕ) → Type 0
 Run t sheet out a [] = a ≡ Done
-Run t sheet out a (p ∷ ps) = (after : List ℕ) × (n : ℕ) × (b : Stage) × Steps t sheet out a after n b × (p ≡ take n after) × Run t sheet after b ps
+Run t sheet out a (p ∷ ps) =
+    (after : List ℕ) × (n : ℕ) × (b : Stage) × Steps t sheet out a after n b × (p ≡ take n after) × Run t sheet after b ps

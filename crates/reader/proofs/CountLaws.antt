@@ -6,7 +6,8 @@ use mathlib.Core.Path.{_≡_, refl, sym, ap, _∙_}
 use native.Mathlib.Omega.{arith}
 use lib.ListN.{length, drop}
 use Rattle.text.specs.Bytes.{isBlank}
-use Rattle.token.specs.Token.{Kind, name, number, quoted, mark, Token, token, Lexeme, bad, piece, lexeme, cutBy, further, cut, tokensFrom, isMark, rest}
+use Rattle.token.specs.Token.{Kind, name, number, quoted, mark, Token, token, Lexeme, bad}
+use Rattle.token.specs.Token.{piece, lexeme, cutBy, further, cut, tokensFrom, isMark, rest}
 use Rattle.token.specs.Split.{split}
 use Rattle.token.specs.Split as tokenized
 use Rattle.token.proofs.WholeLaws.{Fits, whole-of}
@@ -77,7 +78,9 @@ cut-counts [] k p = refl
 cut-counts (b ∷ l) (suc k) p = cut-counts l k (suc p)
 cut-counts (b ∷ l) zero p = go (isBlank b) (lexeme (b ∷ l)) refl _ (cut-counts l (further (isBlank b) (lexeme (b ∷ l))) (suc p))
   where
-    go : (x : Bool) (y : Lexeme) → lexeme (b ∷ l) ≡ y → (ts : List Token) → suc (tokenCount ts) ≡ length ts → suc (tokenCount (cutBy x y p ts)) ≡ length (cutBy x y p ts)
+    go : (x : Bool) (y : Lexeme) → lexeme (b ∷ l) ≡ y → (ts : List Token)
+        → suc (tokenCount ts) ≡ length ts
+        → suc (tokenCount (cutBy x y p ts)) ≡ length (cutBy x y p ts)
     go true y f ts h = h
     go false (bad r) f ts h = refl
     go false (piece k m) f ts h = rw (no-end k m (whole-of (b ∷ l) k m f .fits)) (ap suc h)

@@ -1,4 +1,5 @@
--- What a token reader owns: the text and the cursor together, and what they own had twice; and what a new one is. The walks cite these. Assumes nothing.
+-- What a token reader owns: the text and the cursor together, and what they own had twice; and what a new one is. The walks cite these.
+-- Assumes nothing.
 use Prim.Native.Nat.{ℕ}
 use mathlib.Core.Path.{_≡_, ap, _∙_, subst, subst⁻¹}
 use mathlib.Core.List.{List, [], _∷_}
@@ -84,20 +85,35 @@ module _ {M : Type 1} (𝓤 : URA M) (H : Heap 𝓤) (A : Atoms 𝓤) (W : Given
   -- a reader is Copy: its fields are had, and itself
   pub apart : (κ : Lft) (d : TokenReader) → ent 𝓤 (sem 𝓤 H A (Own κ d)) (sep 𝓤 (sem 𝓤 H A (Fields κ d)) (sem 𝓤 H A (Own κ d)))
   apart κ d =
-      qed W (‵ (Own κ d) ∷ []) ∵ use1 W (‵ (Own κ d) ⊛ ‵ (Own κ d)) (LL.copy (D κ) (T′.the-copy (namedLft 1 0 tt (κ, tt))) 𝓤 H A W .twice d (readerVal d ∷ [])) $ split ! $
-      use1 W (given (readerVal d ∷ [] ≡ readerVal d ∷ []) (‵ (Fields κ d))) (own-open 𝓤 H A W (D κ) (L κ) (d .text, (d .cursor, tt)) (readerVal d)) $ learn ! (λ _. done !)
+      qed W (‵ (Own κ d) ∷ []) ∵
+      use1 W (‵ (Own κ d) ⊛ ‵ (Own κ d)) (LL.copy (D κ) (T′.the-copy (namedLft 1 0 tt (κ, tt))) 𝓤 H A W .twice d (readerVal d ∷ [])) $
+      split ! $
+      use1 W (given (readerVal d ∷ [] ≡ readerVal d ∷ []) (‵ (Fields κ d)))
+      (own-open 𝓤 H A W (D κ) (L κ) (d .text, (d .cursor, tt)) (readerVal d)) $
+      learn ! (λ _. done !)
 
   -- a reader is made of a text and of a cursor with the machine value w
-  pub made-typed : (κ : Lft) (d : TokenReader) (w : Val) → Is (ShrSlice (named 0) κ u8) (d .text) (textVal d ∷ []) → Is C.the-row (d .cursor) (w ∷ []) → Holds (hasTy (T′.mir (named 0)) (madeVal d w)) × WT (madeVal d w)
+  pub made-typed : (κ : Lft) (d : TokenReader) (w : Val)
+      → Is (ShrSlice (named 0) κ u8) (d .text) (textVal d ∷ [])
+      → Is C.the-row (d .cursor) (w ∷ [])
+      → Holds (hasTy (T′.mir (named 0)) (madeVal d w)) × WT (madeVal d w)
   made-typed κ d w t is =
       let e = ap only (LL.tells C.the-type C′.the-laws (d .cursor) (w ∷ []) is) in
       subst⁻¹ (λ (z : Val). Holds (hasTy (T′.mir (named 0)) (madeVal d z)) × WT (madeVal d z)) e
-      (LL.lawful (D κ) (L κ) 𝓤 H A W .typed d (readerVal d ∷ []) (LL.owes (D κ) (L κ) d (t, (subst (λ (z : Val). Is C.the-row (d .cursor) (z ∷ [])) e is, tt))) .0)
+      (LL.lawful (D κ) (L κ) 𝓤 H A W .typed d (readerVal d ∷ [])
+      (LL.owes (D κ) (L κ) d (t, (subst (λ (z : Val). Is C.the-row (d .cursor) (z ∷ [])) e is, tt))) .0)
 
   pub made : (κ : Lft) (d : TokenReader) (w : Val) → Is C.the-row (d .cursor) (w ∷ [])
-      → ent 𝓤 (sep 𝓤 (sem 𝓤 H A (ShrSlice (named 0) κ u8 .own (d .text) (textVal d ∷ []))) (sem 𝓤 H A (C.the-row .own (d .cursor) (w ∷ [])))) (sem 𝓤 H A (B (κ, tt) .own d (madeVal d w ∷ [])))
+      → ent 𝓤
+      (sep 𝓤 (sem 𝓤 H A (ShrSlice (named 0) κ u8 .own (d .text) (textVal d ∷ []))) (sem 𝓤 H A (C.the-row .own (d .cursor) (w ∷ []))))
+      (sem 𝓤 H A (B (κ, tt) .own d (madeVal d w ∷ [])))
   made κ d w is =
-      subst⁻¹ (λ (z : Val). ent 𝓤 (sep 𝓤 (sem 𝓤 H A (ShrSlice (named 0) κ u8 .own (d .text) (textVal d ∷ []))) (sem 𝓤 H A (C.the-row .own (d .cursor) (z ∷ [])))) (sem 𝓤 H A (B (κ, tt) .own d (madeVal d z ∷ []))))
+      subst⁻¹ (λ (z : Val). ent 𝓤
+      (sep 𝓤 (sem 𝓤 H A (ShrSlice (named 0) κ u8 .own (d .text) (textVal d ∷ []))) (sem 𝓤 H A (C.the-row .own (d .cursor) (z ∷ []))))
+      (sem 𝓤 H A (B (κ, tt) .own d (madeVal d z ∷ []))))
       (ap only (LL.tells C.the-type C′.the-laws (d .cursor) (w ∷ []) is))
-      (qed W (‵ (ShrSlice (named 0) κ u8 .own (d .text) (textVal d ∷ [])) ∷ ‵ (C.the-row .own (d .cursor) (cursorVal (d .cursor) ∷ [])) ∷ []) ∵
-      nothing ! $ move ! (2 ∷ 0 ∷ []) $ fjoin ! $ move ! (1 ∷ 0 ∷ []) $ fjoin ! $ by ! (own-shut 𝓤 H A W (D κ) (L κ) (d .text, (d .cursor, tt))))
+      (qed W
+      (‵ (ShrSlice (named 0) κ u8 .own (d .text) (textVal d ∷ [])) ∷ ‵ (C.the-row .own (d .cursor) (cursorVal (d .cursor) ∷ [])) ∷ []) ∵
+      nothing ! $ move ! (2 ∷ 0 ∷ []) $ fjoin ! $ move ! (1 ∷ 0 ∷ []) $
+      fjoin ! $
+      by ! (own-shut 𝓤 H A W (D κ) (L κ) (d .text, (d .cursor, tt))))

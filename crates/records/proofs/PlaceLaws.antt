@@ -50,11 +50,16 @@ all-append P (r ∷ rs) qs h g = (h .0, all-append P rs qs (h .1) g)
 
 all-alone : (n d : ℕ) (ns : Forest) → OkNodes n (innerL n d) ns → All (Alone n) (recordsOf n ns)
 all-alone n d Nodes.none h = tt
-all-alone n d (leaf l rest) h = (written n (single l) (leaf-ok n (innerL n d) countL l (h .0)) (sym (leaf-same n countForm l)), all-alone n d rest (h .1))
+all-alone n d (leaf l rest) h = (
+  written n (single l) (leaf-ok n (innerL n d) countL l (h .0)) (sym (leaf-same n countForm l)),
+  all-alone n d rest (h .1),
+)
 all-alone n zero (box k ns rest) h = absurd (inside n 0 k ns (h .0))
 all-alone n (suc d) (box k ns rest) h = (
-  written n (holding k (blank (width ns))) (box-ok n (suc d) k ns (h .0)) (same-count n k ns (blank (width ns)) (sym (width-blank (width ns)))),
-  all-append (Alone n) (recordsOf n ns) (recordsOf n rest) (all-alone n d ns (inside n (suc d) k ns (h .0) .1)) (all-alone n (suc d) rest (h .1)),
+  written n (holding k (blank (width ns))) (box-ok n (suc d) k ns (h .0))
+      (same-count n k ns (blank (width ns)) (sym (width-blank (width ns)))),
+  all-append (Alone n) (recordsOf n ns) (recordsOf n rest) (all-alone n d ns (inside n (suc d) k ns (h .0) .1))
+      (all-alone n (suc d) rest (h .1)),
 )
 
 -- ---- a place behind some records
@@ -70,7 +75,8 @@ pub record Stands (n : ℕ) (s : List ℕ) (rs : List (List ℕ)) (k start end :
   pub alone : All (Alone n) those
 
 -- what is read where something stands that is read back
-landed : {A X : Type 0} (c : Form A) {f : A → X} {s : List ℕ} {start m : ℕ} {v : X} (r rest : List ℕ) → start ≤ length s → drop start s ≡ r ++ rest
+landed : {A X : Type 0} (c : Form A) {f : A → X} {s : List ℕ} {start m : ℕ} {v : X} (r rest : List ℕ)
+    → start ≤ length s → drop start s ≡ r ++ rest
     → (y : A) × (c .read (r ++ rest) ≡ some (y, rest)) → Reads c f s start v m → (m ≡ start + length r) × (m ≤ length s)
 landed {A} c {s = s} {start = start} {m = m} r rest h e b (got a g q i l) =
     let z : Prim.Path (Option (A × List ℕ)) (some (a, drop m s)) (some (b .0, rest)) = sym g ∙ ap (c .read) e ∙ b .1 in
@@ -94,7 +100,9 @@ module _ (n : ℕ) (s : List ℕ) where
       let d = decoded n s ns e in
       let w = big 2 .write (width ns) in
       let h : s ≡ w ++ concat (recordsOf n ns) = d .encodes ∙ sheet-flat n ns (d .fits) in
-      let z = landed (big 2) w (concat (recordsOf n ns)) (omega arith) h (width ns, big-lawful 2 .back (width ns) (d .fits .0) (concat (recordsOf n ns))) r in
+      let z = landed (big 2) w (concat (recordsOf n ns)) (omega arith) h
+      (width ns, big-lawful 2 .back (width ns) (d .fits .0) (concat (recordsOf n ns))) r
+      in
       record {
         this = w;
         those = recordsOf n ns;
@@ -136,13 +144,15 @@ module _ (n : ℕ) (s : List ℕ) where
         go : (qs : List (List ℕ)) → drop (k + 1) rs ≡ qs → drop end s ≡ concat qs → All (Alone n) qs → none ≡ getElem? rs o
         go [] d b a = let z : length (drop (k + 1) rs) ≡ 0 = ap length d in past rs o (omega (arith, length-drop (k + 1) rs))
         go ([] ∷ qs) d b a = let e = a .0 [] .1 in let z : _≡_ {A = ℕ} 0 1 = cc in absurd (omega arith)
-        go ((x ∷ q) ∷ qs) d b a = absurd (let z : length (drop end s) ≡ suc (length (q ++ concat qs)) = ap length b in omega (arith, length-drop end s))
+        go ((x ∷ q) ∷ qs) d b a =
+            absurd (let z : length (drop end s) ≡ suc (length (q ++ concat qs)) = ap length b in omega (arith, length-drop end s))
 
     -- this one
     pub this-one : (o : ℕ) → o ≡ k → some (take (end - start) (drop start s)) ≡ getElem? rs o
     this-one o e =
         let l : length (t .this) ≡ end - start = let z = t .long in omega arith in
-        ap some (ap (take (end - start)) (t .here) ∙ take-at (t .this) (concat (t .those)) (end - start) l) ∙ sym (ap (getElem? rs) e ∙ at-drop rs k ∙ ap (λ (l : List (List ℕ)). getElem? l 0) (t .listed))
+        ap some (ap (take (end - start)) (t .here) ∙ take-at (t .this) (concat (t .those)) (end - start) l)
+        ∙ sym (ap (getElem? rs) e ∙ at-drop rs k ∙ ap (λ (l : List (List ℕ)). getElem? l 0) (t .listed))
       where
         at-drop : (rs : List (List ℕ)) (k : ℕ) → getElem? rs k ≡ getElem? (drop k rs) 0
         at-drop rs zero = refl

@@ -13,7 +13,8 @@ use Rattle.codec.proofs.Laws.{Law, Small, via-lawful, big-lawful}
 use Rattle.sheet.proofs.Laws.{nodeL}
 use Rattle.ast.specs.Tree as tree
 use Rattle.ast.specs.Tree.{Leaf, Container, KeyframeTime, single, holding, width}
-use Rattle.sheet.specs.Sheet.{word, spanForm, patternForm, tweenForm, springForm, keyframesForm, pathForm, morphForm, drawForm, colorForm, waveformForm, presetForm, atForm, Node, Forest, nodeForm, kinds, splitNode}
+use Rattle.sheet.specs.Sheet.{word, spanForm, patternForm, tweenForm, springForm, keyframesForm, pathForm, morphForm}
+use Rattle.sheet.specs.Sheet.{drawForm, colorForm, waveformForm, presetForm, atForm, Node, Forest, nodeForm, kinds, splitNode}
 use Rattle.records.specs.Record.{blank, countForm, recordForm}
 
 pub width-blank : (c : ℕ) → width (blank c) ≡ c
@@ -25,19 +26,22 @@ abbrev pub behind : (ℕ → Reader Forest) → Node → Reader Node
 behind K (single l) bs = some (single l, bs)
 behind K (holding k ns) bs = andThen (K (width ns) bs) (λ ms r. some (holding k ms, r))
 
-fuse : {A B C : Type 0} (o : Option (A × List ℕ)) (f : A → B) (g : B → C) → andThen (andThen o (λ a r. some (f a, r))) (λ b r. some (g b, r)) ≡ andThen o (λ a r. some (g (f a), r))
+fuse : {A B C : Type 0} (o : Option (A × List ℕ)) (f : A → B) (g : B → C)
+    → andThen (andThen o (λ a r. some (f a, r))) (λ b r. some (g b, r)) ≡ andThen o (λ a r. some (g (f a), r))
 fuse none f g = refl
 fuse (some z) f g = refl
 
 module _ (inside : Form Forest) (K : ℕ → Reader Forest) (splits : (bs : List ℕ) → inside .read bs ≡ andThen (big 2 .read bs) K) where
   -- d reads what c reads, then what stands behind it
   abbrev Goes : {A : Type 0} → Form A → Form A → (A → Node) → Type 0
-  Goes c d f = (bs : List ℕ) → andThen (d .read bs) (λ x r. some (f x, r)) ≡ andThen (andThen (c .read bs) (λ x r. some (f x, r))) (behind K)
+  Goes c d f =
+      (bs : List ℕ) → andThen (d .read bs) (λ x r. some (f x, r)) ≡ andThen (andThen (c .read bs) (λ x r. some (f x, r))) (behind K)
 
   plain : {A : Type 0} (c : Form A) (l : A → Leaf KeyframeTime) → Goes c c (λ x. single (l x))
   plain {A} c l bs = go (c .read bs)
     where
-      go : (o : Option (A × List ℕ)) → andThen o (λ x r. some (single (l x), r)) ≡ andThen (andThen o (λ x r. some (single (l x), r))) (behind K)
+      go : (o : Option (A × List ℕ))
+          → andThen o (λ x r. some (single (l x), r)) ≡ andThen (andThen o (λ x r. some (single (l x), r))) (behind K)
       go none = refl
       go (some z) = refl
 
@@ -45,7 +49,8 @@ module _ (inside : Form Forest) (K : ℕ → Reader Forest) (splits : (bs : List
   nested k bs = ap (λ (o : Option (Forest × List ℕ)). andThen o (λ x r. some (holding k x, r))) (splits bs) ∙ go (big 2 .read bs)
     where
       go : (o : Option (ℕ × List ℕ))
-          → andThen (andThen o K) (λ x r. some (holding k x, r)) ≡ andThen (andThen (andThen o (λ c r. some (blank c, r))) (λ x r. some (holding k x, r))) (behind K)
+          → andThen (andThen o K) (λ x r. some (holding k x, r))
+          ≡ andThen (andThen (andThen o (λ c r. some (blank c, r))) (λ x r. some (holding k x, r))) (behind K)
       go none = refl
       go (some z) = ap (λ (c : ℕ). andThen (K c (z .1)) (λ x r. some (holding k x, r))) (sym (width-blank (z .0)))
 
@@ -67,7 +72,10 @@ module _ (inside : Form Forest) (K : ℕ → Reader Forest) (splits : (bs : List
   Cases [] (d ∷ ds) = ⊥
   Cases (c ∷ cs) [] = ⊥
   Cases (c ∷ cs) (d ∷ ds) =
-      ((bs : List ℕ) → andThen (d .form .read bs) (λ x r. some (d .make x, r)) ≡ andThen (andThen (c .form .read bs) (λ x r. some (c .make x, r))) (behind K)) × Cases cs ds
+      ((bs : List ℕ)
+      → andThen (d .form .read bs) (λ x r. some (d .make x, r))
+      ≡ andThen (andThen (c .form .read bs) (λ x r. some (c .make x, r))) (behind K))
+      × Cases cs ds
 
   each-case : (cs ds : List (Case Node)) → Cases cs ds → (i : ℕ) (bs : List ℕ) → readAt ds i bs ≡ andThen (readAt cs i bs) (behind K)
   each-case [] [] h i bs = refl
@@ -83,13 +91,50 @@ module _ (inside : Form Forest) (K : ℕ → Reader Forest) (splits : (bs : List
       group : Goes (below 2 ▹ countForm) (below 2 ▹ inside) (λ p. holding (tree.group (p .0)) (p .1))
       group = ahead (below 2) countForm inside (λ p. holding (tree.group (p .0)) (p .1)) (λ m. nested (tree.group m))
 
-      stagger : Goes (opt patternForm ▹ opt word ▹ countForm) (opt patternForm ▹ opt word ▹ inside) (λ p. holding (tree.stagger (p .0) (p .1 .0)) (p .1 .1))
+      stagger : Goes (opt patternForm ▹ opt word ▹ countForm) (opt patternForm ▹ opt word ▹ inside)
+          (λ p. holding (tree.stagger (p .0) (p .1 .0)) (p .1 .1))
       stagger =
           ahead (opt patternForm) (opt word ▹ countForm) (opt word ▹ inside) (λ p. holding (tree.stagger (p .0) (p .1 .0)) (p .1 .1))
           (λ p. ahead (opt word) countForm inside (λ q. holding (tree.stagger p (q .0)) (q .1)) (λ d. nested (tree.stagger p d)))
 
       all : Cases (kinds n countForm) (kinds n inside)
-      all = (plain (tweenForm n) tree.tween, (plain (springForm n) tree.spring, (plain (keyframesForm n) tree.keyframes, (nested tree.sequence, (nested tree.parallel, (group, (stagger, (plain (pathForm n) tree.path, (plain (morphForm n) tree.morph, (plain (drawForm n) tree.draw, (plain (colorForm n) tree.color, (plain waveformForm tree.waveform, (plain (presetForm n) tree.preset, (plain (spanForm n) tree.label, (plain atForm tree.at, tt)))))))))))))))
+      all = (
+        plain (tweenForm n) tree.tween,
+        (
+          plain (springForm n) tree.spring,
+          (
+            plain (keyframesForm n) tree.keyframes,
+            (
+              nested tree.sequence,
+              (
+                nested tree.parallel,
+                (
+                  group,
+                  (
+                    stagger,
+                    (
+                      plain (pathForm n) tree.path,
+                      (
+                        plain (morphForm n) tree.morph,
+                        (
+                          plain (drawForm n) tree.draw,
+                          (
+                            plain (colorForm n) tree.color,
+                            (
+                              plain waveformForm tree.waveform,
+                              (plain (presetForm n) tree.preset, (plain (spanForm n) tree.label, (plain atForm tree.at, tt))),
+                            ),
+                          ),
+                        ),
+                      ),
+                    ),
+                  ),
+                ),
+              ),
+            ),
+          ),
+        ),
+      )
 
 -- ---- a count for the nodes in a container
 
@@ -100,7 +145,8 @@ Makes c d h = (bs : List ℕ) → d .read bs ≡ andThen (c .read bs) (λ x r. s
 pub counts : Makes (big 2) countForm blank
 counts bs = refl
 
-pub after : {A B C : Type 0} (e : Form A) (c : Form B) (d : Form C) (h : B → C) → Makes c d h → Makes (e ▹ c) (e ▹ d) (λ p. (p .0, h (p .1)))
+pub after : {A B C : Type 0} (e : Form A) (c : Form B) (d : Form C) (h : B → C)
+    → Makes c d h → Makes (e ▹ c) (e ▹ d) (λ p. (p .0, h (p .1)))
 after {A} {B} {C} e c d h m bs = go (e .read bs)
   where
     pair : {D : Type 0} → A → D → Reader (A × D)
@@ -131,7 +177,9 @@ pub three-or-four : (b : ℕ) → b < 5 → (b ≡ 0 → ⊥) → (b ≡ 1 → �
 three-or-four b h n0 n1 n2 = ⊎-elim (λ l. inl (omega arith)) (λ l. inr (omega arith)) (le-or-lt b 3)
 
 -- of the kinds from 5 on, the only one that is none of these
-pub only-at : (b : ℕ) → 5 ≤ b → b < 15 → (b ≡ 5 → ⊥) → (b ≡ 6 → ⊥) → (b ≡ 7 → ⊥) → (b ≡ 8 → ⊥) → (b ≡ 9 → ⊥) → (b ≡ 10 → ⊥) → (b ≡ 11 → ⊥) → (b ≡ 12 → ⊥) → (b ≡ 13 → ⊥) → b ≡ 14
+pub only-at : (b : ℕ) → 5 ≤ b → b < 15 → (b ≡ 5 → ⊥) → (b ≡ 6 → ⊥)
+    → (b ≡ 7 → ⊥) → (b ≡ 8 → ⊥) → (b ≡ 9 → ⊥) → (b ≡ 10 → ⊥)
+    → (b ≡ 11 → ⊥) → (b ≡ 12 → ⊥) → (b ≡ 13 → ⊥) → b ≡ 14
 only-at b l h n5 n6 n7 n8 n9 n10 n11 n12 n13 = upper b h (lower b l n5 n6 n7 n8 n9) n10 n11 n12 n13
   where
     lower : (b : ℕ) → 5 ≤ b → (b ≡ 5 → ⊥) → (b ≡ 6 → ⊥) → (b ≡ 7 → ⊥) → (b ≡ 8 → ⊥) → (b ≡ 9 → ⊥) → 10 ≤ b
@@ -145,8 +193,14 @@ only-at b l h n5 n6 n7 n8 n9 n10 n11 n12 n13 = upper b h (lower b l n5 n6 n7 n8 
 abbrev pub countL : Law countForm
 countL = record {
   ok = λ ns. Small 2 (width ns) × (blank (width ns) ≡ ns);
-  law =
-      via-lawful (big 2) blank width (Small 2) (λ ns. Small 2 (width ns) × (blank (width ns) ≡ ns)) (big-lawful 2) (λ ns h. h .0) (λ ns h. h .1)
+  law = via-lawful
+      (big 2)
+      blank width
+      (Small 2)
+      (λ ns. Small 2 (width ns) × (blank (width ns) ≡ ns))
+      (big-lawful 2)
+      (λ ns h. h .0)
+      (λ ns h. h .1)
       (λ c h. (subst⁻¹ (Small 2) (width-blank c) h, ap blank (width-blank c))) (λ c h. width-blank c);
 }
 

@@ -53,7 +53,9 @@ abbrev pub Holds : {U Y : Type 0} → ℕ → (Forest → U) → U → (Node →
 Holds c h u g w (single l) = ⊥
 Holds c h u g w (holding k ns) = (width ns ≡ c) × ((ms : Forest) → h ms ≡ u → g (holding k ms) ≡ w)
 
-reading : (n d : ℕ) (bs : List ℕ) {o : Option (Node × List ℕ)} → recordForm n .read bs ≡ o → nodeForm n (inner n d) .read bs ≡ andThen o (behind (nodesIn n d))
+reading : (n d : ℕ) (bs : List ℕ) {o : Option (Node × List ℕ)}
+    → recordForm n .read bs ≡ o
+    → nodeForm n (inner n d) .read bs ≡ andThen o (behind (nodesIn n d))
 reading n d bs e =
     node-read (inner n d) (nodesIn n d) (inner-read n d) n bs ∙ ap (λ (o : Option (Node × List ℕ)). andThen o (behind (nodesIn n d))) e
 
@@ -80,13 +82,18 @@ module _ (n : ℕ) {X Y : Type 0} {f : Node → X} {g : Node → Y} {s : List �
       go (bad p j) = bad o (λ i. reading n 0 (drop at s) (j i))
 
   pub a-container : (d : ℕ) {k : ℕ} {U : Type 0} (c : ℕ) (h : Forest → U) (u : U) → 0 < d → Reads (recordForm n) f s at v m
-      → ((x : Node) → f x ≡ v → Holds c h u g w x) → Reads (forest n (inner n (d - 1)) c) h s m u k → Reads (nodeForm n (inner n d)) g s at w k
-  a-container d {k} {U} c h u p r t q = let e : suc (d - 1) ≡ d = omega arith in subst (λ (d : ℕ). Reads (nodeForm n (inner n d)) g s at w k) e (go (d - 1) r q)
+      → ((x : Node) → f x ≡ v → Holds c h u g w x) → Reads (forest n (inner n (d - 1)) c) h s m u k
+      → Reads (nodeForm n (inner n d)) g s at w k
+  a-container d {k} {U} c h u p r t q =
+      let e : suc (d - 1) ≡ d = omega arith in subst (λ (d : ℕ). Reads (nodeForm n (inner n d)) g s at w k) e (go (d - 1) r q)
     where
-      go : (d : ℕ) → Reads (recordForm n) f s at v m → Reads (forest n (inner n d) c) h s m u k → Reads (nodeForm n (inner n (suc d))) g s at w k
+      go : (d : ℕ) → Reads (recordForm n) f s at v m → Reads (forest n (inner n d) c) h s m u k
+          → Reads (nodeForm n (inner n (suc d))) g s at w k
       go d (got x e q a l) (got ms e′ q′ a′ l′) = held x e (t x q)
         where
-          held : (x : Node) → recordForm n .read (drop at s) ≡ some (x, drop m s) → Holds c h u g w x → Reads (nodeForm n (inner n (suc d))) g s at w k
+          held : (x : Node)
+              → recordForm n .read (drop at s) ≡ some (x, drop m s)
+              → Holds c h u g w x → Reads (nodeForm n (inner n (suc d))) g s at w k
           held (single y) e r = absurd r
           held (holding b ns) e r = got (holding b ms) (reading n (suc d) (drop at s) e ∙ rw (r .0, e′)) (r .1 ms q′) (le-trans a a′) l′
       go d (got x e q a l) (bad o j) = bad o (λ i. reading n (suc d) (drop at s) e ∙ lost-in x (t x q))
@@ -106,16 +113,20 @@ pub is-container : (c : ℕ) (x : Node) → kindView x ≡ Container c → Holds
 is-container c (single l) e = let z : _≡_ {A = ℕ} 0 1 = cc in absurd (omega arith)
 is-container c (holding k ns) e = (cc, λ ms h. refl)
 
-pub node-end : {X : Type 0} (n : ℕ) (blk : Form Forest) {g : Node → X} (s : List ℕ) (at : ℕ) {k : ℕ} {w : X} → length s ≤ at → Lost s k → Reads (nodeForm n blk) g s at w k
+pub node-end : {X : Type 0} (n : ℕ) (blk : Form Forest) {g : Node → X} (s : List ℕ) (at : ℕ) {k : ℕ} {w : X}
+    → length s ≤ at → Lost s k → Reads (nodeForm n blk) g s at w k
 node-end n blk s at h o = bad o (λ i. rw (drop-of-length-le s {i = at} h))
 
 -- ---- nodes beside each other
 
-pub forest-none : {X : Type 0} (n : ℕ) (blk : Form Forest) (view : Forest → X) (s : List ℕ) (at : ℕ) → Reads (forest n blk 0) view s at (view Nodes.none) at
+pub forest-none : {X : Type 0} (n : ℕ) (blk : Form Forest) (view : Forest → X) (s : List ℕ) (at : ℕ)
+    → Reads (forest n blk 0) view s at (view Nodes.none) at
 forest-none n blk view s at = laws.through (λ u. Nodes.none) (λ ns. tt) (laws.nothing s at)
 
-pub forest-next : {X Y Z : Type 0} (n : ℕ) (blk : Form Forest) (j : ℕ) {f : Node → X} {g : Forest → Y} {h : Forest → Z} {s : List ℕ} {at m k : ℕ} {v : X} {w : Y} {z : Z}
-    → Reads (nodeForm n blk) f s at v m → Reads (forest n blk j) g s m w k → ((x : Node) (rest : Forest) → f x ≡ v → g rest ≡ w → h (push x rest) ≡ z)
+pub forest-next : {X Y Z : Type 0} (n : ℕ) (blk : Form Forest) (j : ℕ) {f : Node → X} {g : Forest → Y} {h : Forest → Z} {s : List ℕ}
+    {at m k : ℕ} {v : X} {w : Y} {z : Z}
+    → Reads (nodeForm n blk) f s at v m → Reads (forest n blk j) g s m w k
+    → ((x : Node) (rest : Forest) → f x ≡ v → g rest ≡ w → h (push x rest) ≡ z)
     → Reads (forest n blk (suc j)) h s at z k
 forest-next n blk j r q t = laws.through toForest ofForest (laws.seen (r & q) (λ p e. t (p .0) (p .1) (λ i. e i .0) (λ i. e i .1)))
 
@@ -143,10 +154,12 @@ module _ (n : ℕ) (s : List ℕ) where
   too-long h = sym (ap (λ (b : Bool). isSome (cond {A = Option Forest} b none (whole (sheet n .read s)))) (lt-ltb 65535 (length s) h))
 
   -- the head's count, and so many nodes to the end
-  pub decides : {c b m : ℕ} → length s ≤ 65535 → Reads (big 2) same s 0 c b → Reads (forest n (inner n 16) c) passed s b tt m → eqb m (length s) ≡ isSome (decode n s)
+  pub decides : {c b m : ℕ} → length s ≤ 65535 → Reads (big 2) same s 0 c b
+      → Reads (forest n (inner n 16) c) passed s b tt m → eqb m (length s) ≡ isSome (decode n s)
   unfolding decode
   decides {m = m} short r q =
-      sym (ap (λ (b : Bool). isSome (cond {A = Option Forest} b none (whole (sheet n .read s)))) (le-ltb 65535 (length s) short) ∙ go (laws.counted width (forest n (inner n 16)) r q))
+      sym (ap (λ (b : Bool). isSome (cond {A = Option Forest} b none (whole (sheet n .read s)))) (le-ltb 65535 (length s) short)
+      ∙ go (laws.counted width (forest n (inner n 16)) r q))
     where
       go : Reads (sheet n) passed s 0 tt m → isSome (whole (sheet n .read s)) ≡ eqb m (length s)
       go (got ns e i h l) = ⊎-elim (λ x. ends e x) (λ x. goes-on e x) (laws.le-or-lt (length s) m)

@@ -28,9 +28,19 @@ sheetOf t ns = encode (length t) (mapTimes stored ns)
 module _ (t scratch sheet : List ℕ) (ns : Nodes Key) (h : Unrefused t (length scratch) (length sheet) ns) where
   -- reading accepts, and the sheet is the tree's encoding and zeros behind it
   pub accepts : reading t scratch sheet
-      ≡ (Accepted (length (sheetOf t ns)) (records ns), replicate (length scratch) 0, sheetOf t ns ++ replicate (length sheet - length (sheetOf t ns)) 0)
+      ≡ (
+        Accepted (length (sheetOf t ns)) (records ns),
+        replicate (length scratch) 0,
+        sheetOf t ns ++ replicate (length sheet - length (sheetOf t ns)) 0,
+      )
   unfolding reading early
-  accepts = rw (le-ltb 16384 (length t) (h .short), le-ltb (length scratch) 16384 (h .scratch), h .parses, le-ltb (length sheet) (length (sheetOf t ns)) (h .fits))
+  accepts =
+      rw (
+        le-ltb 16384 (length t) (h .short),
+        le-ltb (length scratch) 16384 (h .scratch),
+        h .parses,
+        le-ltb (length sheet) (length (sheetOf t ns)) (h .fits),
+      )
 
 -- ---- where reading accepts, no refusal is due
 
@@ -42,7 +52,9 @@ early-due : (size words : ℕ) → early size words ≡ none → (size ≤ 16384
 unfolding early
 early-due size words e = go (ltb 16384 size) (ltb words 16384) refl refl e
   where
-    go : (b c : Bool) → ltb 16384 size ≡ b → ltb words 16384 ≡ c → cond {A = Option Refusal} b (some TextTooLong) (cond c (some ScratchTooShort) none) ≡ none → (size ≤ 16384) × (16384 ≤ words)
+    go : (b c : Bool) → ltb 16384 size ≡ b → ltb words 16384 ≡ c
+        → cond {A = Option Refusal} b (some TextTooLong) (cond c (some ScratchTooShort) none) ≡ none
+        → (size ≤ 16384) × (16384 ≤ words)
     go true c p q e = none≢some (sym e)
     go false true p q e = none≢some (sym e)
     go false false p q e = (ltb-false 16384 size p, ltb-false words 16384 q)
@@ -50,19 +62,25 @@ early-due size words e = go (ltb 16384 size) (ltb words 16384) refl refl e
 fit-due : (room n : ℕ) (bs : List ℕ) → IsAccepted (fitting room bs n .0) → length bs ≤ room
 fit-due room n bs h = go (ltb room (length bs)) refl h
   where
-    go : (b : Bool) → ltb room (length bs) ≡ b → IsAccepted (cond {A = ReadAnswer × List ℕ} b (Refused SheetTooShort 0, []) (Accepted (length bs) n, bs) .0) → length bs ≤ room
+    go : (b : Bool) → ltb room (length bs) ≡ b
+        → IsAccepted (cond {A = ReadAnswer × List ℕ} b (Refused SheetTooShort 0, []) (Accepted (length bs) n, bs) .0)
+        → length bs ≤ room
     go true p h = absurd h
     go false p h = ltb-false room (length bs) p
 
-parsed-due : (t : List ℕ) (room : ℕ) (p : Parsed) → IsAccepted (written (length t) room p .0) → (ns : Nodes Key) × (p ≡ tree ns) × (length (sheetOf t ns) ≤ room)
+parsed-due : (t : List ℕ) (room : ℕ) (p : Parsed) → IsAccepted (written (length t) room p .0)
+    → (ns : Nodes Key) × (p ≡ tree ns) × (length (sheetOf t ns) ≤ room)
 parsed-due t room (wrong r q) h = absurd h
 parsed-due t room (tree ns) h = (ns, refl, fit-due room (records ns) (sheetOf t ns) h)
 
-pub due : (t scratch sheet : List ℕ) (n c : ℕ) → reading t scratch sheet .0 ≡ Accepted n c → (ns : Nodes Key) × Unrefused t (length scratch) (length sheet) ns
+pub due : (t scratch sheet : List ℕ) (n c : ℕ) → reading t scratch sheet .0 ≡ Accepted n c
+    → (ns : Nodes Key) × Unrefused t (length scratch) (length sheet) ns
 unfolding reading
 due t scratch sheet n c e = go (early (length t) (length scratch)) refl (subst IsAccepted (sym e) tt)
   where
-    go : (o : Option Refusal) → early (length t) (length scratch) ≡ o → IsAccepted (unlessEarly t scratch sheet o .0) → (ns : Nodes Key) × Unrefused t (length scratch) (length sheet) ns
+    go : (o : Option Refusal) → early (length t) (length scratch) ≡ o
+        → IsAccepted (unlessEarly t scratch sheet o .0)
+        → (ns : Nodes Key) × Unrefused t (length scratch) (length sheet) ns
     go (some r) q h = absurd h
     go none q h =
         let d = early-due (length t) (length scratch) q in

@@ -12,7 +12,8 @@ use Rattle.number.specs.Time.{Key, storedTime, duplicates}
 use Rattle.number.proofs.Floats.{f32-bits, stored-fits}
 use Rattle.number.proofs.Times.{stored-within}
 use Rattle.number.proofs.Tracks.{never, always}
-use Rattle.ast.specs.Tree.{KeyframeTime, percent, seconds, KeyframeEntry, KeyframeSpec, Leaf, keyframes, Nodes, leaf, box, mapFrames, mapLeaf, mapTimes, preorder}
+use Rattle.ast.specs.Tree.{KeyframeTime, percent, seconds, KeyframeEntry, KeyframeSpec, Leaf}
+use Rattle.ast.specs.Tree.{keyframes, Nodes, leaf, box, mapFrames, mapLeaf, mapTimes, preorder}
 use Rattle.grammar.specs.Grammar.{stored}
 use Rattle.presets.specs.Colors.{colors}
 use Rattle.validate.specs.Rules.{timeOf}
@@ -39,7 +40,8 @@ stored-is t = go (t .percent)
     go true = f32-bits (storedTime t) (stored-fits t)
     go false = f32-bits (storedTime t) (stored-fits t)
 
-stored-at : (fs : List (KeyframeEntry Key)) (i : ℕ) (t : Key) → getElem? (times fs) i ≡ some t → getElem? (times (mapFrames stored fs)) i ≡ some (stored t)
+stored-at : (fs : List (KeyframeEntry Key)) (i : ℕ) (t : Key) → getElem? (times fs) i ≡ some t
+    → getElem? (times (mapFrames stored fs)) i ≡ some (stored t)
 stored-at [] i t e = none≢some e
 stored-at (x ∷ fs) zero t e = ap (λ (k : Key). some (stored k)) (Option·some-injective (x .time) t e)
 stored-at (x ∷ fs) (suc i) t e = stored-at fs i t e
@@ -58,9 +60,12 @@ storedNode (some l) = some (mapLeaf stored l)
 preorder-stored : (ns : Nodes Key) → preorder (mapTimes stored ns) ≡ map storedNode (preorder ns)
 preorder-stored Nodes.none = refl
 preorder-stored (leaf l rest) = rw (preorder-stored rest)
-preorder-stored (box b inner rest) = rw (preorder-stored inner, preorder-stored rest, map-append storedNode (preorder inner) (preorder rest))
+preorder-stored (box b inner rest) =
+    rw (preorder-stored inner, preorder-stored rest, map-append storedNode (preorder inner) (preorder rest))
 
-node-at : (ns : List (Option (Leaf Key))) (i : ℕ) (n : Option (Leaf Key)) → getElem? ns i ≡ some n → getElem? (map storedNode ns) i ≡ some (storedNode n)
+node-at : (ns : List (Option (Leaf Key))) (i : ℕ) (n : Option (Leaf Key))
+    → getElem? ns i ≡ some n
+    → getElem? (map storedNode ns) i ≡ some (storedNode n)
 node-at [] i n e = none≢some e
 node-at (m ∷ ns) zero n e = ap (λ (x : Option (Leaf Key)). some (storedNode x)) (Option·some-injective m n e)
 node-at (m ∷ ns) (suc i) n e = node-at ns i n e
@@ -85,7 +90,9 @@ module _ (t : List ℕ) (ns : Nodes Key) (i : ℕ) (x : KeyframeSpec Key) (e : g
   -- the track has no duplicates where checking accepts, and some where it refuses the track for one
   accepted-clear : judged t (mapTimes stored ns) ≡ Accepted → duplicates [] (map storedTime (times (x .frames))) ≡ false
   unfolding judged
-  accepted-clear a = rw (sym (stored-stamps (x .frames))) (track-clear t colors (storedTrack x) (clear colors t 1 (mapTimes stored ns) (answered-none _ a) i _ track-at))
+  accepted-clear a =
+      rw (sym (stored-stamps (x .frames)))
+      (track-clear t colors (storedTrack x) (clear colors t 1 (mapTimes stored ns) (answered-none _ a) i _ track-at))
 
   refused-near : judged t (mapTimes stored ns) ≡ Refused DuplicateTime (suc i) → duplicates [] (map storedTime (times (x .frames))) ≡ true
   unfolding judged
@@ -105,5 +112,7 @@ module _ (t : List ℕ) (ns : Nodes Key) (i : ℕ) (x : KeyframeSpec Key) (e : g
 
 -- every track of a tree: it stands at the same place in the sheet's tree, with what demand 3 says of it
 pub tracks : (t : List ℕ) (ns : Nodes Key) (i : ℕ) (x : KeyframeSpec Key) → getElem? (preorder ns) i ≡ some (some (keyframes x))
-    → (y : KeyframeSpec KeyframeTime) × (getElem? (preorder (mapTimes stored ns)) i ≡ some (some (keyframes y))) × TrackClaim x y (suc i) (judged t (mapTimes stored ns))
+    → (y : KeyframeSpec KeyframeTime)
+    × (getElem? (preorder (mapTimes stored ns)) i ≡ some (some (keyframes y)))
+    × TrackClaim x y (suc i) (judged t (mapTimes stored ns))
 tracks t ns i x e = (storedTrack x, track-at t ns i x e, track-claim t ns i x e)

@@ -23,7 +23,10 @@ use Rattle.script.proofs.Reading.{sheetOf, accepts, due}
 use Rattle.script.proofs.Tracks.{tracks}
 
 -- checking a tree's own sheet
-checks : (t : List ℕ) (ns : Nodes KeyframeTime) → length t ≤ 16384 → foreignFrom 0 t ≡ none → decode (length t) (encode (length t) ns) ≡ some ns → checking t (encode (length t) ns) ≡ judged t ns
+checks : (t : List ℕ) (ns : Nodes KeyframeTime) → length t ≤ 16384
+    → foreignFrom 0 t ≡ none
+    → decode (length t) (encode (length t) ns) ≡ some ns
+    → checking t (encode (length t) ns) ≡ judged t ns
 unfolding checking opening
 checks t ns h f d = rw (le-ltb 16384 (length t) h, f, d)
 
@@ -32,12 +35,14 @@ checks t ns h f d = rw (le-ltb 16384 (length t) h, f, d)
 abbrev pub Claimed : Type 0
 Claimed =
     (t scratch sheet : List ℕ) (left : ReadAnswer × List ℕ × List ℕ) (v : CheckAnswer) → left ≡ reading t scratch sheet
-    → ((n c : ℕ) → left .0 ≡ read.Accepted n c → v ≡ checking t (take n (left .2))) → Claim t (length scratch) (length sheet) (left .0) (left .2) v
+    → ((n c : ℕ) → left .0 ≡ read.Accepted n c → v ≡ checking t (take n (left .2)))
+    → Claim t (length scratch) (length sheet) (left .0) (left .2) v
 
 module _
     (clean : (t : List ℕ) (ns : Nodes Key) → parse t ≡ tree ns → foreignFrom 0 t ≡ none)
     (fits : (t : List ℕ) (ns : Nodes Key) → length t ≤ 16384 → parse t ≡ tree ns → Fits (length t) (mapTimes stored ns))
-    (small : (t : List ℕ) (ns : Nodes Key) → length t ≤ 16384 → parse t ≡ tree ns → length (encode (length t) (mapTimes stored ns)) ≤ 49152) where
+    (small : (t : List ℕ) (ns : Nodes Key) → length t ≤ 16384 → parse t ≡ tree ns
+    → length (encode (length t) (mapTimes stored ns)) ≤ 49152) where
   back : (t : List ℕ) (ns : Nodes Key) → length t ≤ 16384 → parse t ≡ tree ns → decode (length t) (sheetOf t ns) ≡ some (mapTimes stored ns)
   back t ns h p = decodes (length t) (mapTimes stored ns) (fits t ns h p) (let s = small t ns h p in omega arith)
 
@@ -48,13 +53,20 @@ module _
   }
     where
       agreed : (ns : Nodes Key) → Unrefused t (length scratch) (length sheet) ns
-          → left ≡ (read.Accepted (length (sheetOf t ns)) (records ns), replicate (length scratch) 0, sheetOf t ns ++ replicate (length sheet - length (sheetOf t ns)) 0) → Agreed t (left .0) (left .2) v ns
+          → left
+          ≡ (
+            read.Accepted (length (sheetOf t ns)) (records ns),
+            replicate (length scratch) 0,
+            sheetOf t ns ++ replicate (length sheet - length (sheetOf t ns)) 0,
+          )
+          → Agreed t (left .0) (left .2) v ns
       agreed ns h q =
           let bs : List ℕ = sheetOf t ns in
           let a : left .0 ≡ read.Accepted (length bs) (records ns) = ap (λ (r : ReadAnswer × List ℕ × List ℕ). r .0) q in
           let s : take (length bs) (left .2) ≡ bs = rw q (take-at bs (replicate (length sheet - length bs) 0) (length bs) refl) in
           let d = back t ns (h .short) (h .parses) in
-          let w : v ≡ judged t (mapTimes stored ns) = g _ _ a ∙ (rw s (checks t (mapTimes stored ns) (h .short) (clean t ns (h .parses)) d)) in
+          let w : v ≡ judged t (mapTimes stored ns) = g _ _ a ∙ (rw s (checks t (mapTimes stored ns) (h .short) (clean t ns (h .parses)) d))
+          in
           record {
             size = length bs;
             held = mapTimes stored ns;

@@ -27,7 +27,8 @@ times (x ∷ xs) = x .time ∷ times xs
 
 -- "each time stored for the track is within 2^(k-25) of the written one": every key has its stored time, which is that near
 abbrev pub StoredWithin : ℕ → List Key → List KeyframeTime → Type 0
-StoredWithin k keys ts = (i : ℕ) (t : Key) → getElem? keys i ≡ some t → (u : KeyframeTime) × (getElem? ts i ≡ some u) × Within k t (f32 (timeOf u))
+StoredWithin k keys ts =
+    (i : ℕ) (t : Key) → getElem? keys i ≡ some t → (u : KeyframeTime) × (getElem? ts i ≡ some u) × Within k t (f32 (timeOf u))
 
 -- what holds of the track x, which the sheet has as y, at the ordinal n, where checking answers v
 abbrev pub TrackClaim : KeyframeSpec Key → KeyframeSpec KeyframeTime → ℕ → CheckAnswer → Type 0
@@ -61,7 +62,8 @@ pub record Agreed (t : List ℕ) (a : ReadAnswer) (s : List ℕ) (v : CheckAnswe
   pub tracks : (i : ℕ) (x : KeyframeSpec Key) → getElem? (preorder ns) i ≡ some (some (keyframes x))
       → (y : KeyframeSpec KeyframeTime) × (getElem? (preorder held) i ≡ some (some (keyframes y))) × TrackClaim x y (suc i) v
 
--- t is the text, words and room the lengths of scratch and sheet; a is what reading answered, s the sheet's bytes then, v what checking answered
+-- t is the text, words and room the lengths of scratch and sheet; a is what reading answered, s the sheet's bytes then, v what checking
+-- answered
 pub record Claim (t : List ℕ) (words room : ℕ) (a : ReadAnswer) (s : List ℕ) (v : CheckAnswer) : Type 0 where
   -- "Reading accepts exactly where none of its refusals is due"
   pub only : (n c : ℕ) → a ≡ read.Accepted n c → (ns : Nodes Key) × Unrefused t words room ns

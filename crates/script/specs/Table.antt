@@ -14,8 +14,8 @@ use Rattle.error.specs.Refusal.{numberOf}
 use Rattle.error.specs.declared.ReadAnswer.{ReadAnswer}
 use Rattle.error.specs.declared.ReadAnswer.the-variants.{Accepted, Refused}
 
--- for a script: what the program prints; the sheet that reading gives; reading's refusal and its place; checking's values for reading's sheet;
--- and checking's values for a sheet that is given
+-- for a script: what the program prints; the sheet that reading gives; reading's refusal and its place; checking's values for reading's
+-- sheet; and checking's values for a sheet that is given
 pub data Case : Type 0 where
   prints : String → String → Case
   gives : String → String → Case
@@ -84,5 +84,66 @@ table =
     ∷ []
 
 pub lemma : T (every table)
-unfolding Rattle.text.specs.Bytes.same Rattle.text.specs.Bytes.oneOf Rattle.text.specs.Bytes.lowered Rattle.text.specs.Bytes.run Rattle.text.specs.Bytes.decimal Rattle.text.specs.Words.find Rattle.text.specs.Words.under Rattle.text.specs.Words.entries Rattle.text.specs.Words.shorter Rattle.number.specs.Number.nearest Rattle.number.specs.Number.percent Rattle.number.specs.Number.whole Rattle.number.specs.Number.bits Rattle.number.specs.Number.f32 Rattle.number.specs.Time.storedTime Rattle.number.specs.Time.near Rattle.number.specs.Time.anyNear Rattle.number.specs.Time.duplicates Rattle.token.specs.Means.held Rattle.token.specs.Means.splitting Rattle.token.specs.Names.isKeyword Rattle.token.specs.Split.closed Rattle.token.specs.Split.nestMark Rattle.token.specs.Split.step Rattle.token.specs.Split.splitFrom Rattle.token.specs.Split.split Rattle.token.specs.Token.nameAt Rattle.token.specs.Token.pointAt Rattle.token.specs.Token.pastFraction Rattle.token.specs.Token.suffixAt Rattle.token.specs.Token.pastSuffix Rattle.token.specs.Token.clings Rattle.token.specs.Token.placesOf Rattle.token.specs.Token.numberBy Rattle.token.specs.Token.numberAt Rattle.token.specs.Token.quotedAt Rattle.token.specs.Token.lexeme Rattle.token.specs.Token.cut Rattle.token.specs.Token.tokensFrom Rattle.sheet.specs.Opening.foreignFrom Rattle.sheet.specs.Opening.opening Rattle.sheet.specs.Records.allRecords Rattle.sheet.specs.Sheet.encode Rattle.sheet.specs.Sheet.decode Rattle.easing.specs.Names.snakeRest Rattle.easing.specs.Names.snake Rattle.easing.specs.Names.isEasing Rattle.presets.specs.Colors.isHexColor Rattle.presets.specs.Colors.isColorOf Rattle.presets.specs.Presets.isPreset Rattle.grammar.specs.Fields.rowOf Rattle.grammar.specs.Fields.fieldHead Rattle.grammar.specs.Fields.fieldValue Rattle.grammar.specs.Fields.entry Rattle.grammar.specs.Fields.pairName Rattle.grammar.specs.Fields.onePair Rattle.grammar.specs.Fields.pairs Rattle.grammar.specs.Fields.itemOf Rattle.grammar.specs.Fields.fieldName Rattle.grammar.specs.Fields.oneField Rattle.grammar.specs.Fields.fieldsStep Rattle.grammar.specs.Fields.parseFieldList Rattle.grammar.specs.Fields.last Rattle.grammar.specs.Fields.ever Rattle.grammar.specs.Grammar.tweenFields Rattle.grammar.specs.Grammar.parseTween Rattle.grammar.specs.Grammar.parseSpringPreset Rattle.grammar.specs.Grammar.springPreset Rattle.grammar.specs.Grammar.integrator Rattle.grammar.specs.Grammar.critical Rattle.grammar.specs.Grammar.over Rattle.grammar.specs.Grammar.under Rattle.grammar.specs.Grammar.springFields Rattle.grammar.specs.Grammar.parseSpring Rattle.grammar.specs.Grammar.stored Rattle.grammar.specs.Grammar.parseKeyframeTime Rattle.grammar.specs.Grammar.keyframeEntry Rattle.grammar.specs.Grammar.trackLoop Rattle.grammar.specs.Grammar.trackFrame Rattle.grammar.specs.Grammar.trackStep Rattle.grammar.specs.Grammar.parseKeyframes Rattle.grammar.specs.Grammar.parseSequence Rattle.grammar.specs.Grammar.parseParallel Rattle.grammar.specs.Grammar.parseGroup Rattle.grammar.specs.Grammar.parseGridOrigin Rattle.grammar.specs.Grammar.origin Rattle.grammar.specs.Grammar.gridFields Rattle.grammar.specs.Grammar.gridPattern Rattle.grammar.specs.Grammar.randomFields Rattle.grammar.specs.Grammar.randomPattern Rattle.grammar.specs.Grammar.patterns Rattle.grammar.specs.Grammar.parseStaggerPattern Rattle.grammar.specs.Grammar.openingFields Rattle.grammar.specs.Grammar.openingField Rattle.grammar.specs.Grammar.openingStep Rattle.grammar.specs.Grammar.parseStagger Rattle.grammar.specs.Grammar.offset Rattle.grammar.specs.Grammar.pathFields Rattle.grammar.specs.Grammar.parsePath Rattle.grammar.specs.Grammar.morphFields Rattle.grammar.specs.Grammar.parseMorph Rattle.grammar.specs.Grammar.drawFields Rattle.grammar.specs.Grammar.parseDraw Rattle.grammar.specs.Grammar.space Rattle.grammar.specs.Grammar.colorFields Rattle.grammar.specs.Grammar.parseColor Rattle.grammar.specs.Grammar.waveformKind Rattle.grammar.specs.Grammar.waveformFields Rattle.grammar.specs.Grammar.parseWaveform Rattle.grammar.specs.Grammar.parsePresetCall Rattle.grammar.specs.Grammar.parseLabel Rattle.grammar.specs.Grammar.atSign Rattle.grammar.specs.Grammar.parseAt Rattle.grammar.specs.Grammar.leaves Rattle.grammar.specs.Grammar.containers Rattle.grammar.specs.Grammar.beginning Rattle.grammar.specs.Grammar.parseNode Rattle.grammar.specs.Grammar.oneNode Rattle.grammar.specs.Grammar.nodesStep Rattle.grammar.specs.Grammar.block Rattle.grammar.specs.Grammar.animatoInput Rattle.grammar.specs.Rule.weigh Rattle.grammar.specs.Rule.behind Rattle.grammar.specs.Rule.steps Rattle.grammar.specs.Values.ident Rattle.grammar.specs.Values.string Rattle.grammar.specs.Values.truth Rattle.grammar.specs.Values.parseFloat Rattle.grammar.specs.Values.parseUint Rattle.grammar.specs.Values.parseFloatInParens Rattle.grammar.specs.Values.commaFloat Rattle.grammar.specs.Values.twoFloats Rattle.grammar.specs.Values.parseTwoFloatsInParens Rattle.grammar.specs.Values.parseUintInParens Rattle.grammar.specs.Values.arrayItem Rattle.grammar.specs.Values.arrayItems Rattle.grammar.specs.Values.parseValue Rattle.grammar.specs.Values.number Rattle.grammar.specs.Values.count Rattle.grammar.specs.Values.flag Rattle.grammar.specs.Values.value Rattle.grammar.specs.Values.f32Of Rattle.grammar.specs.Values.commaFloats Rattle.grammar.specs.Values.fourFloats Rattle.grammar.specs.Values.bezierCurve Rattle.grammar.specs.Values.roughFields Rattle.grammar.specs.Values.roughCurve Rattle.grammar.specs.Values.slowMoFields Rattle.grammar.specs.Values.slowMoCurve Rattle.grammar.specs.Values.stepsCurve Rattle.grammar.specs.Values.wiggleCurve Rattle.grammar.specs.Values.curves Rattle.grammar.specs.Values.variantEasing Rattle.grammar.specs.Values.namedEasing Rattle.grammar.specs.Values.curveOr Rattle.grammar.specs.Values.parseEasing Rattle.grammar.specs.Values.timesMode Rattle.grammar.specs.Values.pingPongMode Rattle.grammar.specs.Values.loopModes Rattle.grammar.specs.Values.parseLoopMode Rattle.grammar.specs.Values.easing Rattle.grammar.specs.Values.loopMode Rattle.parser.specs.Reading.parse Rattle.parser.specs.Reading.early Rattle.parser.specs.Reading.reading Rattle.validate.specs.Checking.judged Rattle.validate.specs.Checking.checking Rattle.validate.specs.Rules.negative Rattle.validate.specs.Rules.notPositive Rattle.validate.specs.Rules.outsideUnit Rattle.validate.specs.Rules.unknownEasing Rattle.validate.specs.Rules.first Rattle.validate.specs.Rules.validateTween Rattle.validate.specs.Rules.validateSpring Rattle.validate.specs.Rules.validateFrames Rattle.validate.specs.Rules.validateKeyframes Rattle.validate.specs.Rules.validatePath Rattle.validate.specs.Rules.validateMorph Rattle.validate.specs.Rules.validateDraw Rattle.validate.specs.Rules.validateColor Rattle.validate.specs.Rules.validateWaveform Rattle.validate.specs.Rules.validatePresetCall Rattle.validate.specs.Rules.validateLeaf Rattle.validate.specs.Rules.emptyGrid Rattle.validate.specs.Rules.validateContainer Rattle.validate.specs.Rules.validateNodes Rattle.line.specs.Line.hex Rattle.line.specs.Line.total Rattle.line.specs.Line.checkByte Rattle.line.specs.Line.line Rattle.line.specs.Lining.lining Rattle.script.specs.Output.decimalOut Rattle.script.specs.Output.refusal Rattle.script.specs.Output.accept Rattle.script.specs.Output.lines Rattle.script.specs.Output.output holds every table lib.Ieee.round lib.Ieee.div lib.Ieee.toBits lib.Ieee.ofBits lib.Ieee.lt lib.Ieee.le lib.Ieee.sub
+unfolding Rattle.text.specs.Bytes.same Rattle.text.specs.Bytes.oneOf Rattle.text.specs.Bytes.lowered Rattle.text.specs.Bytes.run
+    Rattle.text.specs.Bytes.decimal Rattle.text.specs.Words.find Rattle.text.specs.Words.under Rattle.text.specs.Words.entries
+    Rattle.text.specs.Words.shorter Rattle.number.specs.Number.nearest Rattle.number.specs.Number.percent Rattle.number.specs.Number.whole
+    Rattle.number.specs.Number.bits Rattle.number.specs.Number.f32 Rattle.number.specs.Time.storedTime Rattle.number.specs.Time.near
+    Rattle.number.specs.Time.anyNear Rattle.number.specs.Time.duplicates Rattle.token.specs.Means.held Rattle.token.specs.Means.splitting
+    Rattle.token.specs.Names.isKeyword Rattle.token.specs.Split.closed Rattle.token.specs.Split.nestMark Rattle.token.specs.Split.step
+    Rattle.token.specs.Split.splitFrom Rattle.token.specs.Split.split Rattle.token.specs.Token.nameAt Rattle.token.specs.Token.pointAt
+    Rattle.token.specs.Token.pastFraction Rattle.token.specs.Token.suffixAt Rattle.token.specs.Token.pastSuffix
+    Rattle.token.specs.Token.clings Rattle.token.specs.Token.placesOf Rattle.token.specs.Token.numberBy Rattle.token.specs.Token.numberAt
+    Rattle.token.specs.Token.quotedAt Rattle.token.specs.Token.lexeme Rattle.token.specs.Token.cut Rattle.token.specs.Token.tokensFrom
+    Rattle.sheet.specs.Opening.foreignFrom Rattle.sheet.specs.Opening.opening Rattle.sheet.specs.Records.allRecords
+    Rattle.sheet.specs.Sheet.encode Rattle.sheet.specs.Sheet.decode Rattle.easing.specs.Names.snakeRest Rattle.easing.specs.Names.snake
+    Rattle.easing.specs.Names.isEasing Rattle.presets.specs.Colors.isHexColor Rattle.presets.specs.Colors.isColorOf
+    Rattle.presets.specs.Presets.isPreset Rattle.grammar.specs.Fields.rowOf Rattle.grammar.specs.Fields.fieldHead
+    Rattle.grammar.specs.Fields.fieldValue Rattle.grammar.specs.Fields.entry Rattle.grammar.specs.Fields.pairName
+    Rattle.grammar.specs.Fields.onePair Rattle.grammar.specs.Fields.pairs Rattle.grammar.specs.Fields.itemOf
+    Rattle.grammar.specs.Fields.fieldName Rattle.grammar.specs.Fields.oneField Rattle.grammar.specs.Fields.fieldsStep
+    Rattle.grammar.specs.Fields.parseFieldList Rattle.grammar.specs.Fields.last Rattle.grammar.specs.Fields.ever
+    Rattle.grammar.specs.Grammar.tweenFields Rattle.grammar.specs.Grammar.parseTween Rattle.grammar.specs.Grammar.parseSpringPreset
+    Rattle.grammar.specs.Grammar.springPreset Rattle.grammar.specs.Grammar.integrator Rattle.grammar.specs.Grammar.critical
+    Rattle.grammar.specs.Grammar.over Rattle.grammar.specs.Grammar.under Rattle.grammar.specs.Grammar.springFields
+    Rattle.grammar.specs.Grammar.parseSpring Rattle.grammar.specs.Grammar.stored Rattle.grammar.specs.Grammar.parseKeyframeTime
+    Rattle.grammar.specs.Grammar.keyframeEntry Rattle.grammar.specs.Grammar.trackLoop Rattle.grammar.specs.Grammar.trackFrame
+    Rattle.grammar.specs.Grammar.trackStep Rattle.grammar.specs.Grammar.parseKeyframes Rattle.grammar.specs.Grammar.parseSequence
+    Rattle.grammar.specs.Grammar.parseParallel Rattle.grammar.specs.Grammar.parseGroup Rattle.grammar.specs.Grammar.parseGridOrigin
+    Rattle.grammar.specs.Grammar.origin Rattle.grammar.specs.Grammar.gridFields Rattle.grammar.specs.Grammar.gridPattern
+    Rattle.grammar.specs.Grammar.randomFields Rattle.grammar.specs.Grammar.randomPattern Rattle.grammar.specs.Grammar.patterns
+    Rattle.grammar.specs.Grammar.parseStaggerPattern Rattle.grammar.specs.Grammar.openingFields Rattle.grammar.specs.Grammar.openingField
+    Rattle.grammar.specs.Grammar.openingStep Rattle.grammar.specs.Grammar.parseStagger Rattle.grammar.specs.Grammar.offset
+    Rattle.grammar.specs.Grammar.pathFields Rattle.grammar.specs.Grammar.parsePath Rattle.grammar.specs.Grammar.morphFields
+    Rattle.grammar.specs.Grammar.parseMorph Rattle.grammar.specs.Grammar.drawFields Rattle.grammar.specs.Grammar.parseDraw
+    Rattle.grammar.specs.Grammar.space Rattle.grammar.specs.Grammar.colorFields Rattle.grammar.specs.Grammar.parseColor
+    Rattle.grammar.specs.Grammar.waveformKind Rattle.grammar.specs.Grammar.waveformFields Rattle.grammar.specs.Grammar.parseWaveform
+    Rattle.grammar.specs.Grammar.parsePresetCall Rattle.grammar.specs.Grammar.parseLabel Rattle.grammar.specs.Grammar.atSign
+    Rattle.grammar.specs.Grammar.parseAt Rattle.grammar.specs.Grammar.leaves Rattle.grammar.specs.Grammar.containers
+    Rattle.grammar.specs.Grammar.beginning Rattle.grammar.specs.Grammar.parseNode Rattle.grammar.specs.Grammar.oneNode
+    Rattle.grammar.specs.Grammar.nodesStep Rattle.grammar.specs.Grammar.block Rattle.grammar.specs.Grammar.animatoInput
+    Rattle.grammar.specs.Rule.weigh Rattle.grammar.specs.Rule.behind Rattle.grammar.specs.Rule.steps Rattle.grammar.specs.Values.ident
+    Rattle.grammar.specs.Values.string Rattle.grammar.specs.Values.truth Rattle.grammar.specs.Values.parseFloat
+    Rattle.grammar.specs.Values.parseUint Rattle.grammar.specs.Values.parseFloatInParens Rattle.grammar.specs.Values.commaFloat
+    Rattle.grammar.specs.Values.twoFloats Rattle.grammar.specs.Values.parseTwoFloatsInParens Rattle.grammar.specs.Values.parseUintInParens
+    Rattle.grammar.specs.Values.arrayItem Rattle.grammar.specs.Values.arrayItems Rattle.grammar.specs.Values.parseValue
+    Rattle.grammar.specs.Values.number Rattle.grammar.specs.Values.count Rattle.grammar.specs.Values.flag Rattle.grammar.specs.Values.value
+    Rattle.grammar.specs.Values.f32Of Rattle.grammar.specs.Values.commaFloats Rattle.grammar.specs.Values.fourFloats
+    Rattle.grammar.specs.Values.bezierCurve Rattle.grammar.specs.Values.roughFields Rattle.grammar.specs.Values.roughCurve
+    Rattle.grammar.specs.Values.slowMoFields Rattle.grammar.specs.Values.slowMoCurve Rattle.grammar.specs.Values.stepsCurve
+    Rattle.grammar.specs.Values.wiggleCurve Rattle.grammar.specs.Values.curves Rattle.grammar.specs.Values.variantEasing
+    Rattle.grammar.specs.Values.namedEasing Rattle.grammar.specs.Values.curveOr Rattle.grammar.specs.Values.parseEasing
+    Rattle.grammar.specs.Values.timesMode Rattle.grammar.specs.Values.pingPongMode Rattle.grammar.specs.Values.loopModes
+    Rattle.grammar.specs.Values.parseLoopMode Rattle.grammar.specs.Values.easing Rattle.grammar.specs.Values.loopMode
+    Rattle.parser.specs.Reading.parse Rattle.parser.specs.Reading.early Rattle.parser.specs.Reading.reading
+    Rattle.validate.specs.Checking.judged Rattle.validate.specs.Checking.checking Rattle.validate.specs.Rules.negative
+    Rattle.validate.specs.Rules.notPositive Rattle.validate.specs.Rules.outsideUnit Rattle.validate.specs.Rules.unknownEasing
+    Rattle.validate.specs.Rules.first Rattle.validate.specs.Rules.validateTween Rattle.validate.specs.Rules.validateSpring
+    Rattle.validate.specs.Rules.validateFrames Rattle.validate.specs.Rules.validateKeyframes Rattle.validate.specs.Rules.validatePath
+    Rattle.validate.specs.Rules.validateMorph Rattle.validate.specs.Rules.validateDraw Rattle.validate.specs.Rules.validateColor
+    Rattle.validate.specs.Rules.validateWaveform Rattle.validate.specs.Rules.validatePresetCall Rattle.validate.specs.Rules.validateLeaf
+    Rattle.validate.specs.Rules.emptyGrid Rattle.validate.specs.Rules.validateContainer Rattle.validate.specs.Rules.validateNodes
+    Rattle.line.specs.Line.hex Rattle.line.specs.Line.total Rattle.line.specs.Line.checkByte Rattle.line.specs.Line.line
+    Rattle.line.specs.Lining.lining Rattle.script.specs.Output.decimalOut Rattle.script.specs.Output.refusal
+    Rattle.script.specs.Output.accept Rattle.script.specs.Output.lines Rattle.script.specs.Output.output holds every table
+    lib.Ieee.round lib.Ieee.div lib.Ieee.toBits lib.Ieee.ofBits lib.Ieee.lt lib.Ieee.le lib.Ieee.sub
 lemma = tt

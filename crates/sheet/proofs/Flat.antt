@@ -42,7 +42,9 @@ box-same n blk (tree.stagger p d) ns x e =
     let P = opt patternForm .write p in
     let D = opt word .write d in
     let C = big 2 .write (width ns) in
-    ap (λ (l : List ℕ). 6 ∷ P ++ (D ++ l)) e ∙ ap (λ (l : List ℕ). 6 ∷ P ++ l) (sym (append-assoc D C x)) ∙ ap (λ (l : List ℕ). 6 ∷ l) (sym (append-assoc P (D ++ C) x))
+    ap (λ (l : List ℕ). 6 ∷ P ++ (D ++ l)) e
+    ∙ ap (λ (l : List ℕ). 6 ∷ P ++ l) (sym (append-assoc D C x))
+    ∙ ap (λ (l : List ℕ). 6 ∷ l) (sym (append-assoc P (D ++ C) x))
 
 -- the nodes in a container are within the limits where it is
 pub inside : (n d : ℕ) (k : Container) (ns : Forest) → nodeL n (innerL n d) .ok (holding k ns) → innerL n d .ok ns
@@ -56,7 +58,9 @@ flat n d Nodes.none h = refl
 flat n d (leaf l rest) h = (λ i. leaf-same n (inner n d) l i ++ flat n d rest (h .1) i)
 flat n zero (box k ns rest) h = absurd (inside n 0 k ns (h .0))
 flat n (suc d) (box k ns rest) h =
-    let e = box-same n (inner n (suc d)) k ns (concat (recordsOf n ns)) (ap (λ (l : List ℕ). big 2 .write (width ns) ++ l) (flat n d ns (inside n (suc d) k ns (h .0) .1))) in
+    let e = box-same n (inner n (suc d)) k ns (concat (recordsOf n ns))
+    (ap (λ (l : List ℕ). big 2 .write (width ns) ++ l) (flat n d ns (inside n (suc d) k ns (h .0) .1)))
+    in
     (λ i. e i ++ flat n (suc d) rest (h .1) i)
     ∙ append-assoc (recordOf n (holding k ns)) (concat (recordsOf n ns)) (concat (recordsOf n rest))
     ∙ ap (λ (l : List ℕ). recordOf n (holding k ns) ++ l) (sym (concat-append (recordsOf n ns) (recordsOf n rest)))
@@ -66,7 +70,8 @@ unfolding Fits encode allRecords
 sheet-flat n ns h = ap (λ (l : List ℕ). big 2 .write (width ns) ++ l) (flat n 16 ns (h .1))
 
 -- whether a leaf is within the limits does not depend on how the nodes in a container are written
-pub leaf-ok : (n : ℕ) {c d : Form Forest} (a : Law c) (b : Law d) (l : Leaf KeyframeTime) → nodeL n a .ok (single l) → nodeL n b .ok (single l)
+pub leaf-ok : (n : ℕ) {c d : Form Forest} (a : Law c) (b : Law d) (l : Leaf KeyframeTime)
+    → nodeL n a .ok (single l) → nodeL n b .ok (single l)
 leaf-ok n a b (tree.tween x) h = h
 leaf-ok n a b (tree.spring x) h = h
 leaf-ok n a b (tree.keyframes x) h = h

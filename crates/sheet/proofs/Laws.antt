@@ -10,7 +10,8 @@ use borrow.Author.Tests.{eqb-true, le-ltb, ltb-false}
 use lib.Dec.{ltb, eqb}
 use lib.ListN.{length}
 use Rattle.codec.specs.Codec.{Form, empty, below, _▹_, via, big, sized, Case, FieldsAt}
-use Rattle.codec.proofs.Laws.{Lawful, Law, Small, makeAt, EachCase, emptyL, neverL, belowL, bigL, _&_, suchL, manyL, optL, structL, enumL, same-lawful, via-lawful, both-lawful, sized-lawful, empty-lawful, below-lawful}
+use Rattle.codec.proofs.Laws.{Lawful, Law, Small, makeAt, EachCase, emptyL, neverL, belowL, bigL, _&_, suchL, manyL, optL}
+use Rattle.codec.proofs.Laws.{structL, enumL, same-lawful, via-lawful, both-lawful, sized-lawful, empty-lawful, below-lawful}
 use Rattle.ast.specs.Tree.{
   Span,
   ValueExpr,
@@ -112,7 +113,8 @@ easing-same n (slowMo r p) = refl
 
 abbrev pub easingL : (n : ℕ) → Law (Sheet.easingForm n)
 easingL n =
-    enumL (Sheet.easings n) (Sheet.splitEasing n) (flagL & spanL n, (wordL & wordL & wordL & wordL, (wordL, (wordL, (wordL & wordL, (wordL & wordL, tt)))))) (easing-same n)
+    enumL (Sheet.easings n) (Sheet.splitEasing n)
+    (flagL & spanL n, (wordL & wordL & wordL & wordL, (wordL, (wordL, (wordL & wordL, (wordL & wordL, tt)))))) (easing-same n)
     ((λ x. refl), ((λ x. refl), ((λ x. refl), ((λ x. refl), ((λ x. refl), ((λ x. refl), tt))))))
 
 pub loop-same : (m : LoopSpec) → makeAt Sheet.loops (Sheet.splitLoop m .0) (Sheet.splitLoop m .1) ≡ m
@@ -133,7 +135,9 @@ damping-same (overdamped s r) = refl
 damping-same (underdamped s r) = refl
 
 abbrev pub dampingL : Law Sheet.dampingForm
-dampingL = enumL Sheet.dampings Sheet.splitDamping (wordL, (wordL & wordL, (wordL & wordL, tt))) damping-same ((λ x. refl), ((λ x. refl), ((λ x. refl), tt)))
+dampingL =
+    enumL Sheet.dampings Sheet.splitDamping (wordL, (wordL & wordL, (wordL & wordL, tt))) damping-same
+    ((λ x. refl), ((λ x. refl), ((λ x. refl), tt)))
 
 pub time-same : (t : KeyframeTime) → makeAt Sheet.timeCases (Sheet.splitTime t .0) (Sheet.splitTime t .1) ≡ t
 time-same (percent x) = refl
@@ -160,12 +164,16 @@ entryL n = structL Sheet.toEntry Sheet.ofEntry (timeL & valueL & optL (easingL n
 
 abbrev pub tweenL : (n : ℕ) → Law (Sheet.tweenForm n)
 tweenL n =
-    structL Sheet.toTween Sheet.ofTween (spanL n & valueL & valueL & wordL & optL (easingL n) & optL wordL & optL wordL & optL loopL & optL wordL & optL wordL & flagL)
+    structL Sheet.toTween Sheet.ofTween
+    (spanL n & valueL & valueL & wordL & optL (easingL n) & optL wordL & optL wordL & optL loopL & optL wordL & optL wordL & flagL)
     (λ b. refl) (λ a. refl)
 
 abbrev pub springL : (n : ℕ) → Law (Sheet.springForm n)
 springL n =
-    structL Sheet.toSpring Sheet.ofSpring (spanL n & valueL & valueL & optL (belowL 5) & optL wordL & optL wordL & optL wordL & optL valueL & optL wordL & optL (belowL 2) & optL dampingL)
+    structL Sheet.toSpring Sheet.ofSpring
+    (spanL n & valueL & valueL & optL (belowL 5) & optL wordL
+    & optL wordL & optL wordL & optL valueL & optL wordL
+    & optL (belowL 2) & optL dampingL)
     (λ b. refl) (λ a. refl)
 
 abbrev pub keyframesL : (n : ℕ) → Law (Sheet.keyframesForm n)
@@ -187,7 +195,8 @@ colorL n = structL Sheet.toColor Sheet.ofColor (spanL n & spanL n & spanL n & wo
 
 abbrev pub waveformL : Law Sheet.waveformForm
 waveformL =
-    structL Sheet.toWaveform Sheet.ofWaveform (belowL 5 & optL wordL & optL wordL & optL wordL & optL wordL & optL wordL & optL wordL & optL wordL)
+    structL Sheet.toWaveform Sheet.ofWaveform
+    (belowL 5 & optL wordL & optL wordL & optL wordL & optL wordL & optL wordL & optL wordL & optL wordL)
     (λ b. refl) (λ a. refl)
 
 abbrev pub presetL : (n : ℕ) → Law (Sheet.presetForm n)
@@ -198,7 +207,8 @@ atL = structL Sheet.toAt Sheet.ofAt (wordL & flagL) (λ b. refl) (λ a. refl)
 
 -- ---- nodes
 
-pub node-same : (n : ℕ) (inner : Form Sheet.Forest) (x : Sheet.Node) → makeAt (Sheet.kinds n inner) (Sheet.splitNode n inner x .0) (Sheet.splitNode n inner x .1) ≡ x
+pub node-same : (n : ℕ) (inner : Form Sheet.Forest) (x : Sheet.Node)
+    → makeAt (Sheet.kinds n inner) (Sheet.splitNode n inner x .0) (Sheet.splitNode n inner x .1) ≡ x
 node-same n inner (single (tween x)) = refl
 node-same n inner (single (spring x)) = refl
 node-same n inner (single (keyframes x)) = refl
@@ -219,10 +229,53 @@ node-same n inner (single (at x)) = refl
 module _ (n : ℕ) {inner : Form Sheet.Forest} (b : Law inner) where
   abbrev pub nodeL : Law (Sheet.nodeForm n inner)
   nodeL =
-      enumL (Sheet.kinds n inner) (Sheet.splitNode n inner)
-      (tweenL n, (springL n, (keyframesL n, (b, (b, (belowL 2 & b, (optL patternL & optL wordL & b, (pathL n, (morphL n, (drawL n, (colorL n, (waveformL, (presetL n, (spanL n, (atL, tt)))))))))))))))
-      (node-same n inner)
-      ((λ x. refl), ((λ x. refl), ((λ x. refl), ((λ x. refl), ((λ x. refl), ((λ x. refl), ((λ x. refl), ((λ x. refl), ((λ x. refl), ((λ x. refl), ((λ x. refl), ((λ x. refl), ((λ x. refl), ((λ x. refl), ((λ x. refl), tt)))))))))))))))
+      enumL (Sheet.kinds n inner) (Sheet.splitNode n inner) (
+        tweenL n,
+        (
+          springL n,
+          (
+            keyframesL n,
+            (
+              b,
+              (
+                b,
+                (
+                  belowL 2 & b,
+                  (
+                    optL patternL & optL wordL & b,
+                    (pathL n, (morphL n, (drawL n, (colorL n, (waveformL, (presetL n, (spanL n, (atL, tt)))))))),
+                  ),
+                ),
+              ),
+            ),
+          ),
+        ),
+      )
+      (node-same n inner) (
+        (λ x. refl),
+        (
+          (λ x. refl),
+          (
+            (λ x. refl),
+            (
+              (λ x. refl),
+              (
+                (λ x. refl),
+                (
+                  (λ x. refl),
+                  (
+                    (λ x. refl),
+                    (
+                      (λ x. refl),
+                      ((λ x. refl), ((λ x. refl), ((λ x. refl), ((λ x. refl), ((λ x. refl), ((λ x. refl), ((λ x. refl), tt))))))),
+                    ),
+                  ),
+                ),
+              ),
+            ),
+          ),
+        ),
+      )
 
   -- every one of some nodes
   abbrev pub OkNodes : Sheet.Forest → Type 0
@@ -264,9 +317,19 @@ module _ (n : ℕ) {inner : Form Sheet.Forest} (b : Law inner) where
 
   forest-lawful : (c : ℕ) → Lawful (Sheet.forest n inner c) (Some c)
   forest-lawful zero =
-      via-lawful empty (λ u. Nodes.none) (λ ns. tt) (λ u. Unit {0}) (Some 0) empty-lawful (λ ns h. tt) (λ ns h. no-nodes ns (h .0)) (λ u h. (refl, tt)) (λ u h. refl)
+      via-lawful empty
+      (λ u. Nodes.none)
+      (λ ns. tt)
+      (λ u. Unit {0})
+      (Some 0)
+      empty-lawful
+      (λ ns h. tt)
+      (λ ns h. no-nodes ns (h .0))
+      (λ u h. (refl, tt))
+      (λ u h. refl)
   forest-lawful (suc c) =
-      via-lawful (Sheet.nodeForm n inner ▹ Sheet.forest n inner c) Sheet.toForest Sheet.ofForest (λ p. nodeL .ok (p .0) × Some c (p .1)) (Some (suc c))
+      via-lawful (Sheet.nodeForm n inner ▹ Sheet.forest n inner c) Sheet.toForest Sheet.ofForest (λ p. nodeL .ok (p .0) × Some c (p .1))
+      (Some (suc c))
       (both-lawful (Sheet.nodeForm n inner) (Sheet.forest n inner c) (nodeL .ok) (Some c) (nodeL .law) (forest-lawful c))
       (there c) (same c) (λ p h. fine c (p .0) (p .1) (h .0) (h .1)) (λ p h. again (p .0) (p .1))
 
@@ -295,7 +358,8 @@ pub decodes : (n : ℕ) (ns : Sheet.Forest) → Fits n ns → length (Sheet.enco
 unfolding Sheet.encode Sheet.decode
 decodes n ns h g =
     rw (le-ltb 65535 (length (Sheet.sheet n .write ns)) g)
-    (ap Sheet.whole (ap (λ (l : List ℕ). Sheet.sheet n .read l) (sym (append-nil (Sheet.sheet n .write ns))) ∙ sheet-lawful n .back ns h []))
+    (ap Sheet.whole
+    (ap (λ (l : List ℕ). Sheet.sheet n .read l) (sym (append-nil (Sheet.sheet n .write ns))) ∙ sheet-lawful n .back ns h []))
 
 -- and only encodings are decoded
 pub record Decoded (n : ℕ) (bs : List ℕ) (ns : Sheet.Forest) : Type 0 where
@@ -310,11 +374,14 @@ no-bytes : (bs : List ℕ) → eqb (length bs) 0 ≡ true → bs ≡ []
 no-bytes [] e = refl
 no-bytes (b ∷ bs) e = absurd (let z = eqb-true (suc (length bs)) 0 e in omega arith)
 
-whole-of : {A : Type 0} (o : Option (A × List ℕ)) (a : A) → Sheet.whole o ≡ some a → (r : A × List ℕ) × (o ≡ some r) × (r .0 ≡ a) × (r .1 ≡ [])
+whole-of : {A : Type 0} (o : Option (A × List ℕ)) (a : A) → Sheet.whole o ≡ some a
+    → (r : A × List ℕ) × (o ≡ some r) × (r .0 ≡ a) × (r .1 ≡ [])
 whole-of none a e = none≢some e
 whole-of {A = A} (some r) a e = go (eqb (length (r .1)) 0) refl e
   where
-    go : (b : Bool) → eqb (length (r .1)) 0 ≡ b → cond {A = Option A} b (some (r .0)) none ≡ some a → (q : A × List ℕ) × (some r ≡ some q) × (q .0 ≡ a) × (q .1 ≡ [])
+    go : (b : Bool) → eqb (length (r .1)) 0 ≡ b
+        → cond {A = Option A} b (some (r .0)) none ≡ some a
+        → (q : A × List ℕ) × (some r ≡ some q) × (q .0 ≡ a) × (q .1 ≡ [])
     go true p q = (r, refl, Option·some-injective (r .0) a q, no-bytes (r .1) p)
     go false p q = none≢some q
 
@@ -322,9 +389,17 @@ pub decoded : (n : ℕ) (bs : List ℕ) (ns : Sheet.Forest) → Sheet.decode n b
 unfolding Sheet.encode Sheet.decode
 decoded n bs ns e = go (ltb 65535 (length bs)) refl e
   where
-    go : (b : Bool) → ltb 65535 (length bs) ≡ b → cond {A = Option Sheet.Forest} b none (Sheet.whole (Sheet.sheet n .read bs)) ≡ some ns → Decoded n bs ns
+    go : (b : Bool) → ltb 65535 (length bs) ≡ b
+        → cond {A = Option Sheet.Forest} b none (Sheet.whole (Sheet.sheet n .read bs)) ≡ some ns
+        → Decoded n bs ns
     go true p q = none≢some q
     go false p q =
         let (r, o, x, y) = whole-of (Sheet.sheet n .read bs) ns q in
         let f = sheet-lawful n .forth bs r o in
-        record { short = ltb-false 65535 (length bs) p; encodes = f .0 ∙ ap (λ (l : List ℕ). Sheet.sheet n .write (r .0) ++ l) y ∙ append-nil (Sheet.sheet n .write (r .0)) ∙ ap (Sheet.sheet n .write) x; fits = subst (Fits n) x (f .1) }
+        record {
+          short = ltb-false 65535 (length bs) p;
+          encodes = f .0
+              ∙ ap (λ (l : List ℕ). Sheet.sheet n .write (r .0) ++ l) y
+              ∙ append-nil (Sheet.sheet n .write (r .0)) ∙ ap (Sheet.sheet n .write) x;
+          fits = subst (Fits n) x (f .1);
+        }

@@ -144,7 +144,10 @@ loopForm = enum loops splitLoop
 
 abbrev pub dampings : List (Case DampingMode)
 dampings =
-    case word criticallyDamped ∷ case (word ▹ word) (λ p. overdamped (p .0) (p .1)) ∷ case (word ▹ word) (λ p. underdamped (p .0) (p .1)) ∷ []
+    case word criticallyDamped
+    ∷ case (word ▹ word) (λ p. overdamped (p .0) (p .1))
+    ∷ case (word ▹ word) (λ p. underdamped (p .0) (p .1))
+    ∷ []
 
 abbrev pub splitDamping : DampingMode → (i : ℕ) × FieldsAt dampings i
 splitDamping (criticallyDamped s) = (0, s)
@@ -194,7 +197,8 @@ entryForm n = via (timeForm ▹ valueForm ▹ opt (easingForm n)) toEntry ofEntr
 
 abbrev pub TweenFields : Type 0
 TweenFields =
-    Span × (ValueExpr × (ValueExpr × (ℕ × (Option EasingSpec × (Option ℕ × (Option ℕ × (Option LoopSpec × (Option ℕ × (Option ℕ × Bool)))))))))
+    Span
+    × (ValueExpr × (ValueExpr × (ℕ × (Option EasingSpec × (Option ℕ × (Option ℕ × (Option LoopSpec × (Option ℕ × (Option ℕ × Bool)))))))))
 
 abbrev pub toTween : TweenFields → TweenSpec
 toTween (target, (from, (to, (duration, (easing, (delay, (timeScale, (loopMode, (snap, (round, reverse)))))))))) = record {
@@ -212,7 +216,10 @@ toTween (target, (from, (to, (duration, (easing, (delay, (timeScale, (loopMode, 
 }
 
 abbrev pub ofTween : TweenSpec → TweenFields
-ofTween x = (x .target, (x .from, (x .to, (x .duration, (x .easing, (x .delay, (x .timeScale, (x .loopMode, (x .snap, (x .round, x .reverse))))))))))
+ofTween x = (
+  x .target,
+  (x .from, (x .to, (x .duration, (x .easing, (x .delay, (x .timeScale, (x .loopMode, (x .snap, (x .round, x .reverse))))))))),
+)
 
 abbrev pub tweenForm : ℕ → Form TweenSpec
 tweenForm n =
@@ -222,7 +229,9 @@ tweenForm n =
 
 abbrev pub SpringFields : Type 0
 SpringFields =
-    Span × (ValueExpr × (ValueExpr × (Option ℕ × (Option ℕ × (Option ℕ × (Option ℕ × (Option ValueExpr × (Option ℕ × (Option ℕ × Option DampingMode)))))))))
+    Span
+    × (ValueExpr
+    × (ValueExpr × (Option ℕ × (Option ℕ × (Option ℕ × (Option ℕ × (Option ValueExpr × (Option ℕ × (Option ℕ × Option DampingMode)))))))))
 
 abbrev pub toSpring : SpringFields → SpringSpec
 toSpring (target, (from, (to, (springPreset, (stiffness, (damping, (mass, (velocity, (epsilon, (integrator, dampingMode)))))))))) = record {
@@ -240,7 +249,10 @@ toSpring (target, (from, (to, (springPreset, (stiffness, (damping, (mass, (veloc
 }
 
 abbrev pub ofSpring : SpringSpec → SpringFields
-ofSpring x = (x .target, (x .from, (x .to, (x .preset, (x .stiffness, (x .damping, (x .mass, (x .velocity, (x .epsilon, (x .integrator, x .dampingMode))))))))))
+ofSpring x = (
+  x .target,
+  (x .from, (x .to, (x .preset, (x .stiffness, (x .damping, (x .mass, (x .velocity, (x .epsilon, (x .integrator, x .dampingMode))))))))),
+)
 
 abbrev pub springForm : ℕ → Form SpringSpec
 springForm n =
@@ -279,7 +291,13 @@ abbrev pub pathForm : ℕ → Form PathSpec
 pathForm n = via (spanForm n ▹ spanForm n ▹ word ▹ opt (easingForm n) ▹ opt flag ▹ opt (word ▹ word) ▹ opt loopForm) toPath ofPath
 
 abbrev pub toMorph : Span × (Span × (ℕ × (ℕ × Option EasingSpec))) → MorphSpec
-toMorph (from, (to, (samples, (duration, easing)))) = record { from = from; to = to; samples = samples; duration = duration; easing = easing }
+toMorph (from, (to, (samples, (duration, easing)))) = record {
+  from = from;
+  to = to;
+  samples = samples;
+  duration = duration;
+  easing = easing;
+}
 
 abbrev pub ofMorph : MorphSpec → Span × (Span × (ℕ × (ℕ × Option EasingSpec)))
 ofMorph x = (x .from, (x .to, (x .samples, (x .duration, x .easing))))
@@ -300,7 +318,14 @@ abbrev pub ColorFields : Type 0
 ColorFields = Span × (Span × (Span × (ℕ × (ℕ × Option EasingSpec))))
 
 abbrev pub toColor : ColorFields → ColorSpec
-toColor (target, (from, (to, (duration, (space, easing))))) = record { target = target; from = from; to = to; duration = duration; space = space; easing = easing }
+toColor (target, (from, (to, (duration, (space, easing))))) = record {
+  target = target;
+  from = from;
+  to = to;
+  duration = duration;
+  space = space;
+  easing = easing;
+}
 
 abbrev pub ofColor : ColorSpec → ColorFields
 ofColor x = (x .target, (x .from, (x .to, (x .duration, (x .space, x .easing)))))

@@ -15,7 +15,8 @@ use Rattle.grammar.specs.Rule.{Rule}
 use Rattle.grammar.specs.Fields as fields
 use Rattle.grammar.specs.Fields.{Table, Fields, last, ever, valueOf}
 use Rattle.fields.specs.Means.{names}
-use Rattle.slots.specs.Means.{sortRule, sortRank, rankOf, ValueAt, PlaceSays, KeptIs, ApartIs, ContentIs, everOf, keptOver, slotWith, othersWith, noSlot, keptAt, rulesOf, rulesBy, noneSame, differ, Layout, Says, Said, Beside, Held}
+use Rattle.slots.specs.Means.{sortRule, sortRank, rankOf, ValueAt, PlaceSays, KeptIs, ApartIs, ContentIs, everOf, keptOver, slotWith}
+use Rattle.slots.specs.Means.{othersWith, noSlot, keptAt, rulesOf, rulesBy, noneSame, differ, Layout, Says, Said, Beside, Held}
 use Rattle.slots.specs.declared.Kept.{Kept}
 use Rattle.slots.specs.declared.Kept.the-variants as kept
 use Rattle.slots.specs.declared.Slot.{Slot}
@@ -36,7 +37,8 @@ order : (j i : ℕ) → (j < i) ⊎ ((j ≡ i) ⊎ (i < j))
 order zero zero = inr (inl refl)
 order zero (suc i) = inl (omega arith)
 order (suc j) zero = inr (inr (omega arith))
-order (suc j) (suc i) = ⊎-elim (λ h. inl (omega (arith, h))) (λ h. ⊎-elim (λ e. inr (inl (ap suc e))) (λ g. inr (inr (omega (arith, g)))) h) (order j i)
+order (suc j) (suc i) =
+    ⊎-elim (λ h. inl (omega (arith, h))) (λ h. ⊎-elim (λ e. inr (inl (ap suc e))) (λ g. inr (inr (omega (arith, g)))) h) (order j i)
 
 same-sym : (a b : List ℕ) → same a b ≡ false → same b a ≡ false
 same-sym a b e = go (same b a) refl
@@ -68,7 +70,8 @@ module _ (n : String) (fs : Fields) where
   was-ever (kept.Truth b) r h = absurd (⊎-elim (λ e. omega arith) (λ e. omega arith) r)
   was-ever (kept.Ever b) r h = h
 
-  pub new-says : (r : ℕ) (old x : Kept) (y : fields.Content) → Said r old n fs → rankOf x ≡ r → KeptIs x y → Says (keptOver old x) n ((bytes n, y) ∷ fs)
+  pub new-says : (r : ℕ) (old x : Kept) (y : fields.Content) → Said r old n fs
+      → rankOf x ≡ r → KeptIs x y → Says (keptOver old x) n ((bytes n, y) ∷ fs)
   unfolding last ever
   new-says r old kept.Absent y s e h = absurd h
   new-says r old (kept.Float f) y s e h = (rw (h .0, same-refl (bytes n)), h .1)
@@ -78,9 +81,14 @@ module _ (n : String) (fs : Fields) where
   new-says r old (kept.Ever b) y s e h = rw (h, same-refl (bytes n), was-ever old (rw (sym e) at (s .rank)) (s .says))
 
   -- a value beside the slots says nothing of one in a slot
-  beside-says : (x : Kept) → rankOf x ≡ 0 → (y : fields.Content) → y .number ≡ none → y .truth ≡ none → Says x n fs → Says x n ((bytes n, y) ∷ fs)
+  beside-says : (x : Kept) → rankOf x ≡ 0 → (y : fields.Content) → y .number ≡ none
+      → y .truth ≡ none → Says x n fs → Says x n ((bytes n, y) ∷ fs)
   unfolding last ever
-  beside-says kept.Absent r y a b h = (rw (same-refl (bytes n), a, h .0), rw (same-refl (bytes n), b, h .1), rw (same-refl (bytes n), b, h .2))
+  beside-says kept.Absent r y a b h = (
+    rw (same-refl (bytes n), a, h .0),
+    rw (same-refl (bytes n), b, h .1),
+    rw (same-refl (bytes n), b, h .2),
+  )
   beside-says (kept.Float f) r y a b h = absurd (omega arith)
   beside-says (kept.Whole k) r y a b h = absurd (omega arith)
   beside-says (kept.Case k) r y a b h = absurd (omega arith)
@@ -118,7 +126,8 @@ no-truth s lo hi (apart.Damping d) y h = rw (h .0)
 no-truth s lo hi (apart.Value c) y h = rw (h .1)
 
 -- the slot of the field's own row
-pub this-said : (s : List ℕ) (lo hi k : ℕ) (old : Slot) (x : Content) (y : fields.Content) (n : String) (fs : Fields) → ContentIs s lo hi k x y → Said (sortRank k) (old .kept) n fs
+pub this-said : (s : List ℕ) (lo hi k : ℕ) (old : Slot) (x : Content) (y : fields.Content) (n : String) (fs : Fields)
+    → ContentIs s lo hi k x y → Said (sortRank k) (old .kept) n fs
     → Said (sortRank k) (slotWith old x .kept) n ((bytes n, y) ∷ fs)
 this-said s lo hi k old (content.InSlot x) y n fs h w = record {
   rank = inr (rank-over (old .kept) x ∙ h .0);
@@ -130,29 +139,148 @@ this-said s lo hi k old (content.Beside x) y n fs h w =
 
 -- ---- beside the slots
 
-kept-beside : (s : List ℕ) (lo hi : ℕ) (o : Others) (m : List ℕ) (x : Kept) (y : fields.Content) (fs : Fields) → KeptIs x y → Beside s lo hi o fs → Beside s lo hi o ((m, y) ∷ fs)
+kept-beside : (s : List ℕ) (lo hi : ℕ) (o : Others) (m : List ℕ) (x : Kept) (y : fields.Content) (fs : Fields)
+    → KeptIs x y → Beside s lo hi o fs → Beside s lo hi o ((m, y) ∷ fs)
 unfolding last
 kept-beside s lo hi o m kept.Absent y fs h b = absurd h
-kept-beside s lo hi o m (kept.Float f) y fs h b = rw (h .0) (record { easing = b .easing; plainEasing = b .plainEasing; loopMode = b .loopMode; range = b .range; plainRange = b .plainRange; damping = b .damping; plainDamping = b .plainDamping; velocity = b .velocity })
-kept-beside s lo hi o m (kept.Whole k) y fs h b = rw h (record { easing = b .easing; plainEasing = b .plainEasing; loopMode = b .loopMode; range = b .range; plainRange = b .plainRange; damping = b .damping; plainDamping = b .plainDamping; velocity = b .velocity })
-kept-beside s lo hi o m (kept.Case k) y fs h b = rw h (record { easing = b .easing; plainEasing = b .plainEasing; loopMode = b .loopMode; range = b .range; plainRange = b .plainRange; damping = b .damping; plainDamping = b .plainDamping; velocity = b .velocity })
-kept-beside s lo hi o m (kept.Truth t) y fs h b = rw h (record { easing = b .easing; plainEasing = b .plainEasing; loopMode = b .loopMode; range = b .range; plainRange = b .plainRange; damping = b .damping; plainDamping = b .plainDamping; velocity = b .velocity })
-kept-beside s lo hi o m (kept.Ever t) y fs h b = rw h (record { easing = b .easing; plainEasing = b .plainEasing; loopMode = b .loopMode; range = b .range; plainRange = b .plainRange; damping = b .damping; plainDamping = b .plainDamping; velocity = b .velocity })
+kept-beside s lo hi o m (kept.Float f) y fs h b =
+    rw (h .0)
+    (record {
+      easing = b .easing;
+      plainEasing = b .plainEasing;
+      loopMode = b .loopMode;
+      range = b .range;
+      plainRange = b .plainRange;
+      damping = b .damping;
+      plainDamping = b .plainDamping;
+      velocity = b .velocity;
+    })
+kept-beside s lo hi o m (kept.Whole k) y fs h b =
+    rw h
+    (record {
+      easing = b .easing;
+      plainEasing = b .plainEasing;
+      loopMode = b .loopMode;
+      range = b .range;
+      plainRange = b .plainRange;
+      damping = b .damping;
+      plainDamping = b .plainDamping;
+      velocity = b .velocity;
+    })
+kept-beside s lo hi o m (kept.Case k) y fs h b =
+    rw h
+    (record {
+      easing = b .easing;
+      plainEasing = b .plainEasing;
+      loopMode = b .loopMode;
+      range = b .range;
+      plainRange = b .plainRange;
+      damping = b .damping;
+      plainDamping = b .plainDamping;
+      velocity = b .velocity;
+    })
+kept-beside s lo hi o m (kept.Truth t) y fs h b =
+    rw h
+    (record {
+      easing = b .easing;
+      plainEasing = b .plainEasing;
+      loopMode = b .loopMode;
+      range = b .range;
+      plainRange = b .plainRange;
+      damping = b .damping;
+      plainDamping = b .plainDamping;
+      velocity = b .velocity;
+    })
+kept-beside s lo hi o m (kept.Ever t) y fs h b =
+    rw h
+    (record {
+      easing = b .easing;
+      plainEasing = b .plainEasing;
+      loopMode = b .loopMode;
+      range = b .range;
+      plainRange = b .plainRange;
+      damping = b .damping;
+      plainDamping = b .plainDamping;
+      velocity = b .velocity;
+    })
 
-pub beside-with : (s : List ℕ) (lo hi k : ℕ) (o : Others) (m : List ℕ) (x : Content) (y : fields.Content) (fs : Fields) → ContentIs s lo hi k x y → Beside s lo hi o fs → Beside s lo hi (othersWith o x) ((m, y) ∷ fs)
+pub beside-with : (s : List ℕ) (lo hi k : ℕ) (o : Others) (m : List ℕ) (x : Content) (y : fields.Content) (fs : Fields)
+    → ContentIs s lo hi k x y → Beside s lo hi o fs → Beside s lo hi (othersWith o x) ((m, y) ∷ fs)
 unfolding last
 beside-with s lo hi k o m (content.InSlot x) y fs h b = kept-beside s lo hi o m x y fs (h .1) b
-beside-with s lo hi k o m (content.Beside (apart.Easing e)) y fs h b = rw (h .1 .0) (record { easing = refl; plainEasing = h .1 .1; loopMode = b .loopMode; range = b .range; plainRange = b .plainRange; damping = b .damping; plainDamping = b .plainDamping; velocity = b .velocity })
-beside-with s lo hi k o m (content.Beside (apart.Loop l)) y fs h b = rw (h .1) (record { easing = b .easing; plainEasing = b .plainEasing; loopMode = refl; range = b .range; plainRange = b .plainRange; damping = b .damping; plainDamping = b .plainDamping; velocity = b .velocity })
-beside-with s lo hi k o m (content.Beside (apart.Range x z)) y fs h b = rw (h .1 .0) (record { easing = b .easing; plainEasing = b .plainEasing; loopMode = b .loopMode; range = refl; plainRange = (h .1 .1, h .1 .2); damping = b .damping; plainDamping = b .plainDamping; velocity = b .velocity })
-beside-with s lo hi k o m (content.Beside (apart.Damping d)) y fs h b = rw (h .1 .0) (record { easing = b .easing; plainEasing = b .plainEasing; loopMode = b .loopMode; range = b .range; plainRange = b .plainRange; damping = refl; plainDamping = h .1 .1; velocity = b .velocity })
-beside-with s lo hi k o m (content.Beside (apart.Value c)) y fs h b = rw (h .1 .1) (record { easing = b .easing; plainEasing = b .plainEasing; loopMode = b .loopMode; range = b .range; plainRange = b .plainRange; damping = b .damping; plainDamping = b .plainDamping; velocity = (h .1 .0, refl, h .1 .2) })
+beside-with s lo hi k o m (content.Beside (apart.Easing e)) y fs h b =
+    rw (h .1 .0)
+    (record {
+      easing = refl;
+      plainEasing = h .1 .1;
+      loopMode = b .loopMode;
+      range = b .range;
+      plainRange = b .plainRange;
+      damping = b .damping;
+      plainDamping = b .plainDamping;
+      velocity = b .velocity;
+    })
+beside-with s lo hi k o m (content.Beside (apart.Loop l)) y fs h b =
+    rw (h .1)
+    (record {
+      easing = b .easing;
+      plainEasing = b .plainEasing;
+      loopMode = refl;
+      range = b .range;
+      plainRange = b .plainRange;
+      damping = b .damping;
+      plainDamping = b .plainDamping;
+      velocity = b .velocity;
+    })
+beside-with s lo hi k o m (content.Beside (apart.Range x z)) y fs h b =
+    rw (h .1 .0)
+    (record {
+      easing = b .easing;
+      plainEasing = b .plainEasing;
+      loopMode = b .loopMode;
+      range = refl;
+      plainRange = (h .1 .1, h .1 .2);
+      damping = b .damping;
+      plainDamping = b .plainDamping;
+      velocity = b .velocity;
+    })
+beside-with s lo hi k o m (content.Beside (apart.Damping d)) y fs h b =
+    rw (h .1 .0)
+    (record {
+      easing = b .easing;
+      plainEasing = b .plainEasing;
+      loopMode = b .loopMode;
+      range = b .range;
+      plainRange = b .plainRange;
+      damping = refl;
+      plainDamping = h .1 .1;
+      velocity = b .velocity;
+    })
+beside-with s lo hi k o m (content.Beside (apart.Value c)) y fs h b =
+    rw (h .1 .1)
+    (record {
+      easing = b .easing;
+      plainEasing = b .plainEasing;
+      loopMode = b .loopMode;
+      range = b .range;
+      plainRange = b .plainRange;
+      damping = b .damping;
+      plainDamping = b .plainDamping;
+      velocity = (h .1 .0, refl, h .1 .2);
+    })
 
 -- ---- between wider places
 
 module _ (s : List ℕ) (lo hi lo′ hi′ : ℕ) (a : lo′ ≤ lo) (b : hi ≤ hi′) where
   value-wider : (c : Cursor) (v : ValueExpr) → ValueAt s lo hi c v → ValueAt s lo′ hi′ c v
-  value-wider c v h = record { ready = h .ready; next = h .next; took = h .took; low = omega (arith, a, h .low); high = omega (arith, b, h .high); paid = h .paid }
+  value-wider c v h = record {
+    ready = h .ready;
+    next = h .next;
+    took = h .took;
+    low = omega (arith, a, h .low);
+    high = omega (arith, b, h .high);
+    paid = h .paid;
+  }
 
   apart-wider : (x : Apart) (y : fields.Content) → ApartIs s lo hi x y → ApartIs s lo′ hi′ x y
   apart-wider (apart.Easing e) y h = h
@@ -169,12 +297,24 @@ module _ (s : List ℕ) (lo hi lo′ hi′ : ℕ) (a : lo′ ≤ lo) (b : hi ≤
   place-wider optPlace.Absent v h = h
   place-wider (optPlace.Present c) v h = (h .0, h .1, value-wider c (h .0) (h .2))
 
-  pub held-wider : (sorts : List ℕ) (t : Table) (xs : List Slot) (o : Others) (fs : Fields) → Held s lo hi sorts t xs o fs → Held s lo′ hi′ sorts t xs o fs
-  held-wider sorts t xs o fs h = let z = h .beside in record {
-    slots = h .slots;
-    size = h .size;
-    beside = record { easing = z .easing; plainEasing = z .plainEasing; loopMode = z .loopMode; range = z .range; plainRange = z .plainRange; damping = z .damping; plainDamping = z .plainDamping; velocity = place-wider (o .velocity) (valueOf fs) (z .velocity) };
-  }
+  pub held-wider : (sorts : List ℕ) (t : Table) (xs : List Slot) (o : Others) (fs : Fields)
+      → Held s lo hi sorts t xs o fs → Held s lo′ hi′ sorts t xs o fs
+  held-wider sorts t xs o fs h =
+      let z = h .beside in
+      record {
+        slots = h .slots;
+        size = h .size;
+        beside = record {
+          easing = z .easing;
+          plainEasing = z .plainEasing;
+          loopMode = z .loopMode;
+          range = z .range;
+          plainRange = z .plainRange;
+          damping = z .damping;
+          plainDamping = z .plainDamping;
+          velocity = place-wider (o .velocity) (valueOf fs) (z .velocity);
+        };
+      }
 
 -- ---- rows of a table
 
@@ -190,24 +330,39 @@ unlike : (b : Bool) → not b ≡ true → b ≡ false
 unlike true e = absurd (let z : _≡_ {A = ℕ} 0 1 = cc in omega arith)
 unlike false e = refl
 
-none-same : (w : List ℕ) (t : Table) (j : ℕ) (row : String × Rule fields.Content) → noneSame w (names t) ≡ true → getElem? t j ≡ some row → same w (bytes (row .0)) ≡ false
+none-same : (w : List ℕ) (t : Table) (j : ℕ) (row : String × Rule fields.Content)
+    → noneSame w (names t) ≡ true → getElem? t j ≡ some row
+    → same w (bytes (row .0)) ≡ false
 none-same w [] j row e g = none≢some g
-none-same w (a ∷ t) zero row e g = subst (λ (r : String × Rule fields.Content). same w (bytes (r .0)) ≡ false) (Option·some-injective a row g) (unlike (same w (bytes (a .0))) (and-left (not (same w (bytes (a .0)))) (noneSame w (names t)) e))
+none-same w (a ∷ t) zero row e g =
+    subst (λ (r : String × Rule fields.Content). same w (bytes (r .0)) ≡ false) (Option·some-injective a row g)
+    (unlike (same w (bytes (a .0))) (and-left (not (same w (bytes (a .0)))) (noneSame w (names t)) e))
 none-same w (a ∷ t) (suc j) row e g = none-same w t j row (and-right (not (same w (bytes (a .0)))) (noneSame w (names t)) e) g
 
 -- the names of two rows differ
-pub rows-differ : (t : Table) (i j : ℕ) (a b : String × Rule fields.Content) → differ (names t) ≡ true → i < j → getElem? t i ≡ some a → getElem? t j ≡ some b → same (bytes (a .0)) (bytes (b .0)) ≡ false
+pub rows-differ : (t : Table) (i j : ℕ) (a b : String × Rule fields.Content)
+    → differ (names t) ≡ true → i < j → getElem? t i ≡ some a
+    → getElem? t j ≡ some b → same (bytes (a .0)) (bytes (b .0)) ≡ false
 rows-differ [] i j a b e l g h = none≢some g
 rows-differ (f ∷ t) i zero a b e l g h = absurd (omega (arith, l))
-rows-differ (f ∷ t) zero (suc j) a b e l g h = subst (λ (r : String × Rule fields.Content). same (bytes (r .0)) (bytes (b .0)) ≡ false) (Option·some-injective f a g) (none-same (bytes (f .0)) t j b (and-left (noneSame (bytes (f .0)) (names t)) (differ (names t)) e) h)
-rows-differ (f ∷ t) (suc i) (suc j) a b e l g h = rows-differ t i j a b (and-right (noneSame (bytes (f .0)) (names t)) (differ (names t)) e) (omega (arith, l)) g h
+rows-differ (f ∷ t) zero (suc j) a b e l g h =
+    subst (λ (r : String × Rule fields.Content). same (bytes (r .0)) (bytes (b .0)) ≡ false) (Option·some-injective f a g)
+    (none-same (bytes (f .0)) t j b (and-left (noneSame (bytes (f .0)) (names t)) (differ (names t)) e) h)
+rows-differ (f ∷ t) (suc i) (suc j) a b e l g h =
+    rows-differ t i j a b (and-right (noneSame (bytes (f .0)) (names t)) (differ (names t)) e) (omega (arith, l)) g h
 
 -- the row at a place has the rule of its sort, and is one of ten
 module _ (rows sorts : List ℕ) where
-  row-sort : (t : Table) (ks : List ℕ) (i : ℕ) (row : String × Rule fields.Content) → rulesOf t ≡ rulesBy ks → getElem? t i ≡ some row → (row .1 ≡ sortRule (getD ks i 0)) × (i < length ks) × (i < length t)
+  row-sort : (t : Table) (ks : List ℕ) (i : ℕ) (row : String × Rule fields.Content)
+      → rulesOf t ≡ rulesBy ks → getElem? t i ≡ some row
+      → (row .1 ≡ sortRule (getD ks i 0)) × (i < length ks) × (i < length t)
   row-sort [] ks i row e g = none≢some g
   row-sort (f ∷ t) [] i row e g = absurd (let z : _≡_ {A = ℕ} 0 1 = cc in omega arith)
-  row-sort (f ∷ t) (k ∷ ks) zero row e g = (subst (λ (r : String × Rule fields.Content). r .1 ≡ sortRule k) (Option·some-injective f row g) cc, omega arith, omega arith)
+  row-sort (f ∷ t) (k ∷ ks) zero row e g = (
+    subst (λ (r : String × Rule fields.Content). r .1 ≡ sortRule k) (Option·some-injective f row g) cc,
+    omega arith,
+    omega arith,
+  )
   row-sort (f ∷ t) (k ∷ ks) (suc i) row e g = let h = row-sort t ks i row (cc) g in (h .0, omega (arith, h .1), omega (arith, h .2))
 
   module _ (t : Table) (l : Layout rows sorts t) (i : ℕ) (row : String × Rule fields.Content) (g : getElem? t i ≡ some row) where
@@ -222,23 +377,32 @@ module _ (rows sorts : List ℕ) where
 
 -- ---- a field, onto what is kept
 
-module _ (s : List ℕ) (lo hi : ℕ) (rows sorts : List ℕ) (t : Table) (l : Layout rows sorts t) (xs : List Slot) (o : Others) (fs : Fields) (h : Held s lo hi sorts t xs o fs)
-    (i : ℕ) (row : String × Rule fields.Content) (g : getElem? t i ≡ some row) (x : Content) (y : fields.Content) (z : ContentIs s lo hi (getD sorts i 0) x y) where
-  same-slot : (j : ℕ) (b : String × Rule fields.Content) → getElem? t j ≡ some b → j ≡ i → Said (sortRank (getD sorts j 0)) (keptAt (set xs i (slotWith (getD xs i noSlot) x)) j) (b .0) ((bytes (row .0), y) ∷ fs)
+module _ (s : List ℕ) (lo hi : ℕ) (rows sorts : List ℕ) (t : Table) (l : Layout rows sorts t) (xs : List Slot) (o : Others)
+    (fs : Fields) (h : Held s lo hi sorts t xs o fs)
+    (i : ℕ) (row : String × Rule fields.Content) (g : getElem? t i ≡ some row) (x : Content) (y : fields.Content)
+    (z : ContentIs s lo hi (getD sorts i 0) x y) where
+  same-slot : (j : ℕ) (b : String × Rule fields.Content) → getElem? t j ≡ some b
+      → j ≡ i
+      → Said (sortRank (getD sorts j 0)) (keptAt (set xs i (slotWith (getD xs i noSlot) x)) j) (b .0) ((bytes (row .0), y) ∷ fs)
   same-slot j b e q =
       let w = getD-set-same xs i (slotWith (getD xs i noSlot) x) noSlot (omega (arith, h .size, row-ten rows sorts t l i row g)) in
       let r : row ≡ b = Option·some-injective row b (sym g ∙ subst (λ (n : ℕ). getElem? t n ≡ some b) q e) in
       let fs′ : Fields = (bytes (row .0), y) ∷ fs in
       let k : List Slot = set xs i (slotWith (getD xs i noSlot) x) in
-      let u = subst (λ (v : Slot). Said (sortRank (getD sorts i 0)) (v .kept) (row .0) fs′) (sym w) (this-said s lo hi (getD sorts i 0) (getD xs i noSlot) x y (row .0) fs z (h .slots i row g)) in
+      let u = subst (λ (v : Slot). Said (sortRank (getD sorts i 0)) (v .kept) (row .0) fs′) (sym w)
+      (this-said s lo hi (getD sorts i 0) (getD xs i noSlot) x y (row .0) fs z (h .slots i row g))
+      in
       let v = subst (λ (p : String × Rule fields.Content). Said (sortRank (getD sorts i 0)) (keptAt k i) (p .0) fs′) r u in
       subst (λ (n : ℕ). Said (sortRank (getD sorts n 0)) (keptAt k n) (b .0) fs′) (sym q) v
 
-  other-slot : (j : ℕ) (b : String × Rule fields.Content) → getElem? t j ≡ some b → same (bytes (row .0)) (bytes (b .0)) ≡ false → (j ≡ i → ⊥) → Said (sortRank (getD sorts j 0)) (keptAt (set xs i (slotWith (getD xs i noSlot) x)) j) (b .0) ((bytes (row .0), y) ∷ fs)
+  other-slot : (j : ℕ) (b : String × Rule fields.Content) → getElem? t j ≡ some b
+      → same (bytes (row .0)) (bytes (b .0)) ≡ false → (j ≡ i → ⊥)
+      → Said (sortRank (getD sorts j 0)) (keptAt (set xs i (slotWith (getD xs i noSlot) x)) j) (b .0) ((bytes (row .0), y) ∷ fs)
   other-slot j b e d n =
       let w = getD-set-other xs i j (slotWith (getD xs i noSlot) x) noSlot n in
       let u = h .slots j b e in
-      subst (λ (v : Slot). Said (sortRank (getD sorts j 0)) (v .kept) (b .0) ((bytes (row .0), y) ∷ fs)) (sym w) (record { rank = u .rank; says = other-says (bytes (row .0)) y (b .0) fs d (keptAt xs j) (u .says) })
+      subst (λ (v : Slot). Said (sortRank (getD sorts j 0)) (v .kept) (b .0) ((bytes (row .0), y) ∷ fs)) (sym w)
+      (record { rank = u .rank; says = other-says (bytes (row .0)) y (b .0) fs d (keptAt xs j) (u .says) })
 
   pub held-with : Held s lo hi sorts t (set xs i (slotWith (getD xs i noSlot) x)) (othersWith o x) ((bytes (row .0), y) ∷ fs)
   held-with = record {
@@ -247,7 +411,10 @@ module _ (s : List ℕ) (lo hi : ℕ) (rows sorts : List ℕ) (t : Table) (l : L
     beside = beside-with s lo hi (getD sorts i 0) o (bytes (row .0)) x y fs z (h .beside);
   }
     where
-      slot : (j : ℕ) (b : String × Rule fields.Content) → getElem? t j ≡ some b → (j < i) ⊎ ((j ≡ i) ⊎ (i < j)) → Said (sortRank (getD sorts j 0)) (keptAt (set xs i (slotWith (getD xs i noSlot) x)) j) (b .0) ((bytes (row .0), y) ∷ fs)
-      slot j b e (inl q) = other-slot j b e (same-sym (bytes (b .0)) (bytes (row .0)) (rows-differ t j i b row (l .apart) q e g)) (λ p. omega (arith, p, q))
+      slot : (j : ℕ) (b : String × Rule fields.Content) → getElem? t j ≡ some b
+          → (j < i) ⊎ ((j ≡ i) ⊎ (i < j))
+          → Said (sortRank (getD sorts j 0)) (keptAt (set xs i (slotWith (getD xs i noSlot) x)) j) (b .0) ((bytes (row .0), y) ∷ fs)
+      slot j b e (inl q) =
+          other-slot j b e (same-sym (bytes (b .0)) (bytes (row .0)) (rows-differ t j i b row (l .apart) q e g)) (λ p. omega (arith, p, q))
       slot j b e (inr (inl q)) = same-slot j b e q
       slot j b e (inr (inr q)) = other-slot j b e (rows-differ t i j row b (l .apart) q g e) (λ p. omega (arith, p, q))

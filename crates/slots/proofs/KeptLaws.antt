@@ -8,7 +8,8 @@ use native.Mathlib.Omega.{arith}
 use lib.ListN.{getD, getD-replicate, length-replicate}
 use Rattle.grammar.specs.Fields.{Table, Fields, numberOf, truthOf, last, ever}
 use Rattle.encode.specs.Of.{optFloatOf, optWordOf, optCaseOf, optBoolOf, PlainOptFloat}
-use Rattle.slots.specs.Means.{sortRank, everOf, floatIn, wholeIn, caseIn, truthIn, noSlot, noSlots, noOthers, Layout, Says, Said, Held}
+use Rattle.slots.specs.Means.{sortRank, everOf, floatIn, wholeIn, caseIn, truthIn}
+use Rattle.slots.specs.Means.{noSlot, noSlots, noOthers, Layout, Says, Said, Held}
 use Rattle.slots.specs.declared.Kept.{Kept}
 use Rattle.slots.specs.declared.Slot.{Slot}
 use Rattle.slots.specs.declared.Kept.the-variants as kept
@@ -70,7 +71,17 @@ no-says n = (refl, refl, refl)
 pub none-held : (s : List ℕ) (lo hi : ℕ) (rows sorts : List ℕ) (t : Table) → Layout rows sorts t → Held s lo hi sorts t noSlots noOthers []
 unfolding last
 none-held s lo hi rows sorts t l = record {
-  slots = λ i row g. subst (λ (v : Slot). Said (sortRank (getD sorts i 0)) (v .kept) (row .0) []) (sym (getD-replicate 10 i noSlot noSlot (row-ten rows sorts t l i row g))) (record { rank = inl refl; says = no-says (row .0) });
+  slots = λ i row g. subst (λ (v : Slot). Said (sortRank (getD sorts i 0)) (v .kept) (row .0) [])
+      (sym (getD-replicate 10 i noSlot noSlot (row-ten rows sorts t l i row g))) (record { rank = inl refl; says = no-says (row .0) });
   size = length-replicate 10 noSlot;
-  beside = record { easing = refl; plainEasing = tt; loopMode = refl; range = refl; plainRange = tt; damping = refl; plainDamping = tt; velocity = refl };
+  beside = record {
+    easing = refl;
+    plainEasing = tt;
+    loopMode = refl;
+    range = refl;
+    plainRange = tt;
+    damping = refl;
+    plainDamping = tt;
+    velocity = refl;
+  };
 }

@@ -63,7 +63,15 @@ unfolding sortRank
 past-rank k h = List·getD-eq-default (1 ∷ 2 ∷ 3 ∷ 3 ∷ 3 ∷ 4 ∷ 5 ∷ []) 6 {n = k} (omega (arith, h))
 
 pub past-sorts : (s : List ℕ) (c : Cursor) (k : ℕ) → 13 ≤ k → (r : ContentRead) → ContentMeans s c 13 r → ContentMeans s c k r
-past-sorts s c k h (contents.Is (content.InSlot x) m) t =
-    (t .0, subst (λ (p : Rule Content). Took 1 s c m p (t .0)) (past-rule 13 (omega arith) ∙ sym (past-rule k h)) (t .1), (t .2 .0 ∙ past-rank 13 (omega arith) ∙ sym (past-rank k h), t .2 .1))
-past-sorts s c k h (contents.Is (content.Beside x) m) t = (t .0, subst (λ (p : Rule Content). Took 1 s c m p (t .0)) (past-rule 13 (omega arith) ∙ sym (past-rule k h)) (t .1), (past-rank k h, t .2 .1))
-past-sorts s c k h (contents.Refused r q) t = subst (λ (p : Rule Content). run s c p ≡ refused r q) (past-rule 13 (omega arith) ∙ sym (past-rule k h)) t
+past-sorts s c k h (contents.Is (content.InSlot x) m) t = (
+  t .0,
+  subst (λ (p : Rule Content). Took 1 s c m p (t .0)) (past-rule 13 (omega arith) ∙ sym (past-rule k h)) (t .1),
+  (t .2 .0 ∙ past-rank 13 (omega arith) ∙ sym (past-rank k h), t .2 .1),
+)
+past-sorts s c k h (contents.Is (content.Beside x) m) t = (
+  t .0,
+  subst (λ (p : Rule Content). Took 1 s c m p (t .0)) (past-rule 13 (omega arith) ∙ sym (past-rule k h)) (t .1),
+  (past-rank k h, t .2 .1),
+)
+past-sorts s c k h (contents.Refused r q) t =
+    subst (λ (p : Rule Content). run s c p ≡ refused r q) (past-rule 13 (omega arith) ∙ sym (past-rule k h)) t

@@ -36,11 +36,13 @@ pub record TimedAt (s : List ℕ) (lo : ℕ) (sorts : List ℕ) (c e : Cursor) (
 abbrev pub timely : Table → Rule ℕ
 timely t = parseFieldList t [] >>= λ fs. need MissingDuration (numberOf "duration" fs)
 
-module _ (s : List ℕ) (lo : ℕ) (sorts : List ℕ) (c : Cursor) (t : Table) (i : ℕ) (p : Rule Content) (at : getElem? t i ≡ some ("duration", p)) (r : sortRank (getD sorts i 0) ≡ 1) (g : Gathered) (l : ListMeans s lo sorts c t [] g) where
+module _ (s : List ℕ) (lo : ℕ) (sorts : List ℕ) (c : Cursor) (t : Table) (i : ℕ) (p : Rule Content)
+    (at : getElem? t i ≡ some ("duration", p)) (r : sortRank (getD sorts i 0) ≡ 1) (g : Gathered) (l : ListMeans s lo sorts c t [] g) where
   ended-as : (e : Ended) → g .end ≡ e → EndMeans s lo sorts c t (parseFieldList t []) (g .slots) (g .others) e
   ended-as e q = subst (λ (z : Ended). EndMeans s lo sorts c t (parseFieldList t []) (g .slots) (g .others) z) q l
 
-  said : (e : Cursor) (h : EndMeans s lo sorts c t (parseFieldList t []) (g .slots) (g .others) (ended.Is e)) → Said 1 (keptAt (g .slots) i) "duration" (h .0)
+  said : (e : Cursor) (h : EndMeans s lo sorts c t (parseFieldList t []) (g .slots) (g .others) (ended.Is e))
+      → Said 1 (keptAt (g .slots) i) "duration" (h .0)
   said e h = subst (λ (k : ℕ). Said k (keptAt (g .slots) i) "duration" (h .0)) r (h .2 .slots i ("duration", p) at)
 
   pub timed-at : (e : Cursor) (x : Float) → TimedMeans g i (timed.Is x e) → TimedAt s lo sorts c e t g x
@@ -64,15 +66,19 @@ module _ (s : List ℕ) (lo : ℕ) (sorts : List ℕ) (c : Cursor) (t : Table) (
       rw (h .1 .is, z, h .1 .ready .head .place, m .3, m .4)
 
 -- the same refusal of another rule
-refused-too : {A B : Type 0} (r a : Refusal) (p q : ℕ) → Prim.Path (Out A) (refused r p) (refused a q) → Prim.Path (Out B) (refused r p) (refused a q)
+refused-too : {A B : Type 0} (r a : Refusal) (p q : ℕ) → Prim.Path (Out A) (refused r p) (refused a q)
+    → Prim.Path (Out B) (refused r p) (refused a q)
 refused-too r a p q h = let x : r ≡ a = cc in let y : p ≡ q = cc in rw (x, y)
 
 -- what is refused up to the duration is refused
-pub timely-refused : {A : Type 0} (s : List ℕ) (c : Cursor) (t : Table) (k : Fields → ℕ → Rule A) (a : Refusal) (q : ℕ) → run s c (timely t) ≡ refused a q
+pub timely-refused : {A : Type 0} (s : List ℕ) (c : Cursor) (t : Table) (k : Fields → ℕ → Rule A) (a : Refusal) (q : ℕ)
+    → run s c (timely t) ≡ refused a q
     → run s c (parseFieldList t [] >>= λ fs. need MissingDuration (numberOf "duration" fs) >>= λ d. k fs d) ≡ refused a q
 timely-refused s c t k a q h = go (run s c (parseFieldList t [])) h
   where
-    go : (o : Out Fields) → after o (λ fs. need MissingDuration (numberOf "duration" fs)) ≡ refused a q → after o (λ fs. need MissingDuration (numberOf "duration" fs) >>= λ d. k fs d) ≡ refused a q
+    go : (o : Out Fields)
+        → after o (λ fs. need MissingDuration (numberOf "duration" fs)) ≡ refused a q
+        → after o (λ fs. need MissingDuration (numberOf "duration" fs) >>= λ d. k fs d) ≡ refused a q
     go (got fs l ts) e = by (numberOf "duration" fs) e
       where
         by : (n : Option ℕ) → need MissingDuration n l ts ≡ refused a q → after (need MissingDuration n l ts) (λ d. k fs d) ≡ refused a q

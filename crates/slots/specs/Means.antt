@@ -27,7 +27,8 @@ use Rattle.sheet.specs.Sheet.{valueForm}
 use Rattle.encode.specs.Of as of
 use Rattle.grammar.specs.Rule.{Rule, refused}
 use Rattle.grammar.specs.Fields as fields
-use Rattle.grammar.specs.Fields.{Table, Fields, numberOf, truthOf, easingOf, loopModeOf, valueOf, dampingOf, rangeOf, ever, parseFieldList, pairs}
+use Rattle.grammar.specs.Fields.{Table, Fields, numberOf, truthOf, easingOf, loopModeOf}
+use Rattle.grammar.specs.Fields.{valueOf, dampingOf, rangeOf, ever, parseFieldList, pairs}
 use Rattle.grammar.specs.Values.{number, count, flag, value, easing, loopMode, parseValue}
 use Rattle.grammar.specs.Grammar.{springPreset, integrator, critical, over, under, offset, space}
 use Rattle.cursor.specs.Means.{Ready, run, Took}
@@ -137,11 +138,41 @@ slotWith old (content.InSlot x) = record { kept = keptOver (old .kept) x }
 slotWith old (content.Beside x) = record { kept = old .kept }
 
 abbrev pub besides : Others → Apart → Others
-besides o (apart.Easing e) = record { easing = optEasing.Present e; «loop_mode» = o .«loop_mode»; range = o .range; damping = o .damping; velocity = o .velocity }
-besides o (apart.Loop m) = record { easing = o .easing; «loop_mode» = optLoop.Present m; range = o .range; damping = o .damping; velocity = o .velocity }
-besides o (apart.Range a b) = record { easing = o .easing; «loop_mode» = o .«loop_mode»; range = optRange.Present a b; damping = o .damping; velocity = o .velocity }
-besides o (apart.Damping d) = record { easing = o .easing; «loop_mode» = o .«loop_mode»; range = o .range; damping = optDamping.Present d; velocity = o .velocity }
-besides o (apart.Value c) = record { easing = o .easing; «loop_mode» = o .«loop_mode»; range = o .range; damping = o .damping; velocity = optPlace.Present c }
+besides o (apart.Easing e) = record {
+  easing = optEasing.Present e;
+  «loop_mode» = o .«loop_mode»;
+  range = o .range;
+  damping = o .damping;
+  velocity = o .velocity;
+}
+besides o (apart.Loop m) = record {
+  easing = o .easing;
+  «loop_mode» = optLoop.Present m;
+  range = o .range;
+  damping = o .damping;
+  velocity = o .velocity;
+}
+besides o (apart.Range a b) = record {
+  easing = o .easing;
+  «loop_mode» = o .«loop_mode»;
+  range = optRange.Present a b;
+  damping = o .damping;
+  velocity = o .velocity;
+}
+besides o (apart.Damping d) = record {
+  easing = o .easing;
+  «loop_mode» = o .«loop_mode»;
+  range = o .range;
+  damping = optDamping.Present d;
+  velocity = o .velocity;
+}
+besides o (apart.Value c) = record {
+  easing = o .easing;
+  «loop_mode» = o .«loop_mode»;
+  range = o .range;
+  damping = o .damping;
+  velocity = optPlace.Present c;
+}
 
 abbrev pub othersWith : Others → Content → Others
 othersWith o (content.InSlot x) = o
@@ -154,7 +185,13 @@ abbrev pub noSlots : List Slot
 noSlots = replicate 10 noSlot
 
 abbrev pub noOthers : Others
-noOthers = record { easing = optEasing.Absent; «loop_mode» = optLoop.Absent; range = optRange.Absent; damping = optDamping.Absent; velocity = optPlace.Absent }
+noOthers = record {
+  easing = optEasing.Absent;
+  «loop_mode» = optLoop.Absent;
+  range = optRange.Absent;
+  damping = optDamping.Absent;
+  velocity = optPlace.Absent;
+}
 
 abbrev pub keptAt : List Slot → ℕ → Kept
 keptAt xs i = getD xs i noSlot .kept
@@ -221,7 +258,8 @@ pub record Beside (s : List ℕ) (lo hi : ℕ) (o : Others) (fs : Fields) : Type
 
 -- the slots xs and the values o beside them are what the fields fs of a table say, which stand between the places lo and hi
 pub record Held (s : List ℕ) (lo hi : ℕ) (sorts : List ℕ) (t : Table) (xs : List Slot) (o : Others) (fs : Fields) : Type 0 where
-  pub slots : (i : ℕ) (row : String × Rule fields.Content) → getElem? t i ≡ some row → Said (sortRank (getD sorts i 0)) (keptAt xs i) (row .0) fs
+  pub slots : (i : ℕ) (row : String × Rule fields.Content) → getElem? t i ≡ some row
+      → Said (sortRank (getD sorts i 0)) (keptAt xs i) (row .0) fs
   pub size : length xs ≡ 10
   pub beside : Beside s lo hi o fs
 
@@ -279,4 +317,6 @@ abbrev pub TimedMeans : Gathered → ℕ → Timed → Type 0
 TimedMeans g i (timed.Is x e) = (g .end ≡ ended.Is e) × (floatIn (keptAt (g .slots) i) ≡ optFloat.Present x)
 TimedMeans g i (timed.Refused r q) =
     (g .end ≡ ended.Refused r q)
-    ⊎ ((e : Cursor) × (g .end ≡ ended.Is e) × (floatIn (keptAt (g .slots) i) ≡ optFloat.Absent) × (r ≡ MissingDuration) × (q ≡ e .head .start))
+    ⊎ ((e : Cursor) × (g .end ≡ ended.Is e)
+    × (floatIn (keptAt (g .slots) i) ≡ optFloat.Absent)
+    × (r ≡ MissingDuration) × (q ≡ e .head .start))

@@ -11,7 +11,8 @@ use Rattle.error.specs.declared.CheckAnswer.{CheckAnswer}
 use Rattle.error.specs.declared.CheckAnswer.the-variants as check
 use Rattle.error.specs.declared.LineAnswer.{LineAnswer}
 use Rattle.error.specs.declared.LineAnswer.the-variants as line
-use Rattle.strip.specs.Packed.{packedRefusal, packedSheet, packedRead, packedCheck, packedLine, numberIn, valueIn, lengthIn, recordsIn}
+use Rattle.strip.specs.Packed.{packedRefusal, packedSheet, packedRead, packedCheck}
+use Rattle.strip.specs.Packed.{packedLine, numberIn, valueIn, lengthIn, recordsIn}
 
 -- ---- a refusal's number: at least 1, at most 32
 

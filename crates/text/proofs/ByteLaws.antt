@@ -61,7 +61,8 @@ unfolding run
 run-in p [] j h = absurd (omega arith)
 run-in p (b ∷ bs) j h = go (run-in p bs) j (p b) refl h
   where
-    go : ((j : ℕ) → j < run p bs → p (getD bs j 0) ≡ true) → (j : ℕ) (t : Bool) → p b ≡ t → j < run p (b ∷ bs) → p (getD (b ∷ bs) j 0) ≡ true
+    go : ((j : ℕ) → j < run p bs → p (getD bs j 0) ≡ true) → (j : ℕ) (t : Bool)
+        → p b ≡ t → j < run p (b ∷ bs) → p (getD (b ∷ bs) j 0) ≡ true
     go r zero true e h = e
     go r (suc j) true e h = r j (let h′ : suc j < suc (run p bs) = rw (run-yes p b bs e) at h in omega arith)
     go r j false e h = absurd (let h′ : j < 0 = rw (run-no p b bs e) at h in omega arith)
@@ -85,7 +86,8 @@ pub part-off : (t : List ℕ) (start size : ℕ) → length t ≤ start → [] �
 part-off t start size h = rw (drop-of-length-le t {i = start} h, take-nil)
 
 pub part-all : (t : List ℕ) (start size : ℕ) → length t - start ≤ size → take (length t - start) (drop start t) ≡ part t start size
-part-all t start size h = take-all (length t - start) (drop start t) (rw length-drop (omega arith)) ∙ sym (take-all size (drop start t) (rw length-drop h))
+part-all t start size h =
+    take-all (length t - start) (drop start t) (rw length-drop (omega arith)) ∙ sym (take-all size (drop start t) (rw length-drop h))
 
 pub part-in : (t : List ℕ) (start size : ℕ) → take (start + size - start) (drop start t) ≡ part t start size
 part-in t start size = let e : start + size - start ≡ size = omega arith in rw e

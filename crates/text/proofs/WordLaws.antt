@@ -15,7 +15,9 @@ use Rattle.text.specs.Words.{find, shorter, entries}
 
 -- ---- equal words
 
-pub same-next : (a b : List ℕ) (i : ℕ) → i < length a → i < length b → getD a i 0 ≡ getD b i 0 → same (drop i a) (drop i b) ≡ same (drop (i + 1) a) (drop (i + 1) b)
+pub same-next : (a b : List ℕ) (i : ℕ) → i < length a → i < length b
+    → getD a i 0 ≡ getD b i 0
+    → same (drop i a) (drop i b) ≡ same (drop (i + 1) a) (drop (i + 1) b)
 unfolding same
 same-next a b i h g e = rw (add-one, drop-cons a i 0, drop-cons b i 0, eq-eqb _ _ e)
 
@@ -66,7 +68,8 @@ unfolding find
 find-past w n ns i h = rw (h, find)
 
 -- two words that agree on each entry are found at the same place
-find-alike : (v w n : List ℕ) (ns : List (List ℕ)) (i : ℕ) → same v n ≡ same w n → find ns (suc i) v ≡ find ns (suc i) w → find (n ∷ ns) i v ≡ find (n ∷ ns) i w
+find-alike : (v w n : List ℕ) (ns : List (List ℕ)) (i : ℕ) → same v n ≡ same w n
+    → find ns (suc i) v ≡ find ns (suc i) w → find (n ∷ ns) i v ≡ find (n ∷ ns) i w
 find-alike v w n ns i e q = go (same w n) refl
   where
     go : (t : Bool) → same w n ≡ t → find (n ∷ ns) i v ≡ find (n ∷ ns) i w
@@ -108,17 +111,20 @@ entries-skip zero t = refl
 entries-skip (suc k) [] = refl
 entries-skip (suc k) (b ∷ t) = entries-skip k t
 
-entries-at : (t : List ℕ) (at : ℕ) → at < length t → entries 0 (drop at t) ≡ part t (at + 1) (getD t at 0) ∷ entries 0 (drop (at + (1 + getD t at 0)) t)
+entries-at : (t : List ℕ) (at : ℕ) → at < length t
+    → entries 0 (drop at t) ≡ part t (at + 1) (getD t at 0) ∷ entries 0 (drop (at + (1 + getD t at 0)) t)
 unfolding entries
 entries-at t at h =
     let e : at + (1 + getD t at 0) ≡ suc at + getD t at 0 = omega arith in
-    rw (e, add-one, drop-cons t at 0) (ap (λ (ns : List (List ℕ)). take (getD t at 0) (drop (suc at) t) ∷ ns) (entries-skip (getD t at 0) (drop (suc at) t) ∙ (rw drop-drop)))
+    rw (e, add-one, drop-cons t at 0)
+    (ap (λ (ns : List (List ℕ)). take (getD t at 0) (drop (suc at) t) ∷ ns) (entries-skip (getD t at 0) (drop (suc at) t) ∙ (rw drop-drop)))
 
 module _ (t : List ℕ) (at i : ℕ) (w : List ℕ) (h : at < length t) where
   pub table-here : same w (part t (at + 1) (getD t at 0)) ≡ true → find (entries 0 (drop at t)) i w ≡ some i
   table-here e = rw (entries-at t at h) (find-here w _ _ i e)
 
-  pub table-past : same w (part t (at + 1) (getD t at 0)) ≡ false → find (entries 0 (drop at t)) i w ≡ find (entries 0 (drop (at + (1 + getD t at 0)) t)) (i + 1) w
+  pub table-past : same w (part t (at + 1) (getD t at 0)) ≡ false
+      → find (entries 0 (drop at t)) i w ≡ find (entries 0 (drop (at + (1 + getD t at 0)) t)) (i + 1) w
   table-past e = rw (entries-at t at h, add-one i) (find-past w _ _ i e)
 
 pub table-end : (t : List ℕ) (at i : ℕ) (w : List ℕ) → length t ≤ at → find (entries 0 (drop at t)) i w ≡ none

@@ -49,7 +49,8 @@ module _ (out : List ℕ) (n : ℕ) where
   puts-one b h = record { bytes = refl; place = rw length-take (omega arith) }
 
 -- bytes, and others behind them
-pub puts-then : {out mid after : List ℕ} {n m end : ℕ} {bs cs : List ℕ} → Puts out n bs mid m → Puts mid m cs after end → Puts out n (bs ++ cs) after end
+pub puts-then : {out mid after : List ℕ} {n m end : ℕ} {bs cs : List ℕ}
+    → Puts out n bs mid m → Puts mid m cs after end → Puts out n (bs ++ cs) after end
 puts-then {out} {mid} {after} {n} {m} {end} {bs} {cs} p q =
     let l : length mid ≡ length out = ap length (p .bytes) ∙ length-sets out n bs in
     let k : m ≡ n + min (length out - n) (length bs) = rw length-take at (p .place) in
@@ -59,7 +60,9 @@ puts-then {out} {mid} {after} {n} {m} {end} {bs} {cs} p q =
       place = rw (length-take, length-append) (omega arith);
     }
   where
-    go : length mid ≡ length out → m ≡ n + min (length out - n) (length bs) → (t : Bool) → leb (length bs) (length out - n) ≡ t → sets (sets out n bs) m cs ≡ sets (sets out n bs) (n + length bs) cs
+    go : length mid ≡ length out → m ≡ n + min (length out - n) (length bs)
+        → (t : Bool) → leb (length bs) (length out - n) ≡ t
+        → sets (sets out n bs) m cs ≡ sets (sets out n bs) (n + length bs) cs
     go l k true e = let z : m ≡ n + length bs = omega (arith, leb-true (length bs) (length out - n) e) in rw z
     go l k false e =
         let h = leb-false (length bs) (length out - n) e in

@@ -11,7 +11,8 @@ use borrow.Author.Tests.{ltb-true, ltb-false, le-ltb, eqb-true}
 use Rattle.text.specs.Bytes.{run, part, among, decimal, isName, isDigit, isLetter, isInside}
 use Rattle.text.proofs.ByteLaws.{run-le}
 use Rattle.error.specs.declared.Refusal.the-variants.{BadForm}
-use Rattle.token.specs.Token.{name, number, quoted, mark, Lexeme, bad, piece, nameAt, quotedAt, pointAt, pastFraction, suffixAt, pastSuffix, clings, placesOf, numberBy, numberAt, lexeme}
+use Rattle.token.specs.Token.{name, number, quoted, mark, Lexeme, bad, piece, nameAt, quotedAt, pointAt}
+use Rattle.token.specs.Token.{pastFraction, suffixAt, pastSuffix, clings, placesOf, numberBy, numberAt, lexeme}
 use Rattle.token.specs.Means.{excessOf, CutMeans}
 use Rattle.token.specs.declared.Cut.{Cut}
 
@@ -29,16 +30,21 @@ run-fits p t from h = omega (arith, run-le p (drop from t), length-drop from t)
 
 -- ---- names and strings
 
-pub name-is : (t : List ℕ) (n : ℕ) (b : Bool) → n ≡ run isName t → eqb (getD t n 0) 34 ≡ b → nameAt t ≡ cond b (bad BadForm) (piece (name (take n t)) n)
+pub name-is : (t : List ℕ) (n : ℕ) (b : Bool) → n ≡ run isName t → eqb (getD t n 0) 34 ≡ b
+    → nameAt t ≡ cond b (bad BadForm) (piece (name (take n t)) n)
 unfolding nameAt
 name-is t n b e h = rw (sym e, h)
 
-pub quoted-is : (t : List ℕ) (n : ℕ) (b c : Bool) → n ≡ run isInside (drop 1 t) → eqb (getD t (suc n) 0) 34 ≡ b → isName (getD t (n + 2) 0) ≡ c → quotedAt t ≡ cond (b && not c) (piece (quoted n) (n + 2)) (bad BadForm)
+pub quoted-is : (t : List ℕ) (n : ℕ) (b c : Bool) → n ≡ run isInside (drop 1 t)
+    → eqb (getD t (suc n) 0) 34 ≡ b → isName (getD t (n + 2) 0) ≡ c
+    → quotedAt t ≡ cond (b && not c) (piece (quoted n) (n + 2)) (bad BadForm)
 unfolding quotedAt
 quoted-is t n b c e h g = rw (sym e, h, g)
 
 -- r is the place of the closing `"`
-pub quoted-at-is : (t : List ℕ) (r : ℕ) (b c : Bool) → r ≡ 1 + run isInside (drop 1 t) → eqb (getD t r 0) 34 ≡ b → isName (getD t (r + 1) 0) ≡ c → quotedAt t ≡ cond (b && not c) (piece (quoted (r - 1)) (r + 1)) (bad BadForm)
+pub quoted-at-is : (t : List ℕ) (r : ℕ) (b c : Bool) → r ≡ 1 + run isInside (drop 1 t)
+    → eqb (getD t r 0) 34 ≡ b → isName (getD t (r + 1) 0) ≡ c
+    → quotedAt t ≡ cond (b && not c) (piece (quoted (r - 1)) (r + 1)) (bad BadForm)
 quoted-at-is t r b c e h g =
     let n : r - 1 ≡ run isInside (drop 1 t) = omega arith in
     let s : suc (r - 1) ≡ r = omega arith in
@@ -76,7 +82,10 @@ module _ (t : List ℕ) (w e q : ℕ) where
   fraction-is true k l = let z : e - q ≡ suc w = omega arith in rw z
   fraction-is false k l = rw l
 
-pub clings-is : (t : List ℕ) (point s : Bool) (n : ℕ) (a b c d e : Bool) → isName (getD t n 0) ≡ a → point ≡ b → s ≡ c → eqb (getD t n 0) 46 ≡ d → eqb (getD t (n + 1) 0) 46 ≡ e → (a || (not (b || c) && d && not e)) ≡ clings t (not (point || s)) n
+pub clings-is : (t : List ℕ) (point s : Bool) (n : ℕ) (a b c d e : Bool)
+    → isName (getD t n 0) ≡ a → point ≡ b → s ≡ c → eqb (getD t n 0) 46 ≡ d
+    → eqb (getD t (n + 1) 0) 46 ≡ e
+    → (a || (not (b || c) && d && not e)) ≡ clings t (not (point || s)) n
 unfolding clings
 clings-is t point s n a b c d e h p q g k = rw (h, p, q, g, sym (add-one n), k)
 
@@ -102,13 +111,19 @@ module _ {t : List ℕ} {w : ℕ} {x : Bool} {e : ℕ} {z : Bool} {n : ℕ} (p :
   number-long true h g = number-clings h
   number-long false h g = number-is ∙ (rw (h, g))
 
-  pub number-fine : (v q : ℕ) → clings t (not (x || z)) n ≡ false → w ≤ 10 → q ≡ placesOf x w e → q ≤ 9 → v ≡ decimal (decimal 0 (take w t)) (part t (suc w) q) → numberAt t ≡ piece (number (record { digits = v; places = q; point = x; suffix = z })) n
+  pub number-fine : (v q : ℕ) → clings t (not (x || z)) n ≡ false → w ≤ 10
+      → q ≡ placesOf x w e → q ≤ 9
+      → v ≡ decimal (decimal 0 (take w t)) (part t (suc w) q)
+      → numberAt t ≡ piece (number (record { digits = v; places = q; point = x; suffix = z })) n
   unfolding numberBy
   number-fine v q h a g b d = number-is ∙ (rw (h, sym g, le-ltb 10 w a, le-ltb 9 q b, sym d))
 
 -- ---- the first byte decides
 
-pub lex-is : (t : List ℕ) (a b c d : Bool) → isLetter (getD t 0 0) ≡ a → isDigit (getD t 0 0) ≡ b → eqb (getD t 0 0) 34 ≡ c → among ":;,=>.+-%([{)]}" (getD t 0 0) ≡ d → lexeme t ≡ cond a (nameAt t) (cond b (numberAt t) (cond c (quotedAt t) (cond d (piece (mark (getD t 0 0)) 1) (bad BadForm))))
+pub lex-is : (t : List ℕ) (a b c d : Bool) → isLetter (getD t 0 0) ≡ a
+    → isDigit (getD t 0 0) ≡ b → eqb (getD t 0 0) 34 ≡ c
+    → among ":;,=>.+-%([{)]}" (getD t 0 0) ≡ d
+    → lexeme t ≡ cond a (nameAt t) (cond b (numberAt t) (cond c (quotedAt t) (cond d (piece (mark (getD t 0 0)) 1) (bad BadForm))))
 unfolding lexeme
 lex-is t a b c d h g k l = rw (h, g, k, l)
 

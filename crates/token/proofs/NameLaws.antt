@@ -22,7 +22,10 @@ unfolding find sized
 find-sized [] i j w = refl
 find-sized (n ∷ ns) i j w = go (eqb (length n) (length w)) refl (same w n) refl (λ k. find-sized ns (suc i) k w)
   where
-    go : (a : Bool) → eqb (length n) (length w) ≡ a → (b : Bool) → same w n ≡ b → ((k : ℕ) → isSome (find ns (suc i) w) ≡ isSome (find (sized (length w) ns) k w)) → isSome (find (n ∷ ns) i w) ≡ isSome (find (cond a (n ∷ sized (length w) ns) (sized (length w) ns)) j w)
+    go : (a : Bool) → eqb (length n) (length w) ≡ a → (b : Bool)
+        → same w n ≡ b
+        → ((k : ℕ) → isSome (find ns (suc i) w) ≡ isSome (find (sized (length w) ns) k w))
+        → isSome (find (n ∷ ns) i w) ≡ isSome (find (cond a (n ∷ sized (length w) ns) (sized (length w) ns)) j w)
     go true e true f ih = rw (find-here w n ns i f, find-here w n (sized (length w) ns) j f)
     go true e false f ih = rw (find-past w n ns i f, find-past w n (sized (length w) ns) j f) (ih (suc j))
     go false e b f ih = rw (find-past w n ns i (same-lengths w n (λ q. eqb-false (length n) (length w) e (sym q)))) (ih j)
@@ -33,7 +36,8 @@ module _ (w : List ℕ) (ms : List (List ℕ)) where
   unfolding isKeyword
   keyword-in n e h = find-sized ms 0 0 w ∙ (rw (e, h, sym e)) ∙ sym (find-sized (words keywords) 0 0 w)
 
-  pub keyword-short : length w ≤ 1 → sized 0 ms ≡ sized 0 (words keywords) → sized 1 ms ≡ sized 1 (words keywords) → isSome (find ms 0 w) ≡ isKeyword w
+  pub keyword-short : length w ≤ 1 → sized 0 ms ≡ sized 0 (words keywords)
+      → sized 1 ms ≡ sized 1 (words keywords) → isSome (find ms 0 w) ≡ isKeyword w
   keyword-short h none one = go (eqb (length w) 0) refl
     where
       go : (a : Bool) → eqb (length w) 0 ≡ a → isSome (find ms 0 w) ≡ isKeyword w

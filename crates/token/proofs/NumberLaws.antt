@@ -18,7 +18,10 @@ pub decimal-nil : (v : ℕ) (l : List ℕ) (n : ℕ) → n ≡ 0 → decimal v (
 unfolding decimal
 decimal-nil v l n e = rw e
 
-pub decimal-at : (v : ℕ) (s : List ℕ) (from n i : ℕ) → from + n ≤ length s → i < n → decimal v (take (n - i) (drop (from + i) s)) ≡ decimal (v * 10 + (getD s (from + i) 0 - 48)) (take (n - (i + 1)) (drop (from + (i + 1)) s))
+pub decimal-at : (v : ℕ) (s : List ℕ) (from n i : ℕ) → from + n ≤ length s
+    → i < n
+    → decimal v (take (n - i) (drop (from + i) s))
+    ≡ decimal (v * 10 + (getD s (from + i) 0 - 48)) (take (n - (i + 1)) (drop (from + (i + 1)) s))
 unfolding decimal
 decimal-at v s from n i h g =
     let e : n - i ≡ suc (n - (i + 1)) = omega arith in
@@ -42,7 +45,9 @@ digits-small l zero k v h g = rw add-zero h
 digits-small [] (suc n) k v h g = absurd (omega arith)
 digits-small (b ∷ l) (suc n) k v h g = go (λ d r. digits-small l n (k + 1) (v * 10 + (b - 48)) d r) (isDigit b) refl g
   where
-    go : (v * 10 + (b - 48) < 10 ^ (k + 1) → n ≤ run isDigit l → decimal (v * 10 + (b - 48)) (take n l) < 10 ^ (k + 1 + n)) → (x : Bool) → isDigit b ≡ x → suc n ≤ run isDigit (b ∷ l) → decimal (v * 10 + (b - 48)) (take n l) < 10 ^ (k + suc n)
+    go : (v * 10 + (b - 48) < 10 ^ (k + 1) → n ≤ run isDigit l → decimal (v * 10 + (b - 48)) (take n l) < 10 ^ (k + 1 + n))
+        → (x : Bool) → isDigit b ≡ x → suc n ≤ run isDigit (b ∷ l)
+        → decimal (v * 10 + (b - 48)) (take n l) < 10 ^ (k + suc n)
     go ih true e g′ =
         let q : k + 1 + n ≡ k + suc n = omega arith in
         let r = ih (ten-more v (b - 48) k h (omega (arith, within-is 48 57 b e))) (omega (arith, run-yes isDigit b l e)) in

@@ -13,7 +13,8 @@ use Rattle.text.specs.Bytes.{run, among, isBlank}
 use Rattle.error.specs.declared.Refusal.{Refusal}
 use Rattle.error.specs.declared.Refusal.the-variants.{Unbalanced, TooManyOpen, ScratchTooShort}
 use Rattle.token.specs.Token.{Kind, Token, token, bad, piece, lexeme}
-use Rattle.token.specs.Split.{Nest, unfit, awaits, closer, closed, nestMark, nest, halt, takes, nested, step, Split, unlexed, tokens, before, ended, splitFrom, split}
+use Rattle.token.specs.Split.{Nest, unfit, awaits, closer, closed, nestMark, nest, halt, takes}
+use Rattle.token.specs.Split.{nested, step, Split, unlexed, tokens, before, ended, splitFrom, split}
 use Rattle.token.specs.Means.{kindOf, Pieces, held, opened, Awaits, DepthMeans, answerOf, answerFrom, GoesOn, outcome, splitting}
 use Rattle.token.specs.declared.Depth.{Depth}
 use Rattle.token.specs.declared.SplitAnswer.{SplitAnswer}
@@ -61,11 +62,14 @@ module _ (s : List ℕ) (d b : ℕ) where
   unfolding closed
   closes-none h = rw (held-none s d h)
 
-  pub closes-by : (t : Bool) → (d ≡ 0 → ⊥) → eqb b (getD s (d - 1) 0) ≡ t → closed b (held s d) ≡ cond t (awaits (held s (d - 1))) (unfit Unbalanced)
+  pub closes-by : (t : Bool) → (d ≡ 0 → ⊥) → eqb b (getD s (d - 1) 0) ≡ t
+      → closed b (held s d) ≡ cond t (awaits (held s (d - 1))) (unfit Unbalanced)
   unfolding closed
   closes-by t h e = rw (held-some s d h, e)
 
-pub mark-is : (b : ℕ) (cs : List ℕ) (t u : Bool) → among "([{" b ≡ t → among ")]}" b ≡ u → nestMark b cs ≡ cond t (opened b cs) (cond u (closed b cs) (awaits cs))
+pub mark-is : (b : ℕ) (cs : List ℕ) (t u : Bool) → among "([{" b ≡ t
+    → among ")]}" b ≡ u
+    → nestMark b cs ≡ cond t (opened b cs) (cond u (closed b cs) (awaits cs))
 unfolding nestMark
 mark-is b cs t u h g = rw (h, g)
 
@@ -91,21 +95,27 @@ unfolding splitFrom
 step-halt p cs [] r h q = absurd (omega arith)
 step-halt p cs (b ∷ l) r h q = rw q
 
-step-takes : (p n : ℕ) (cs ds l : List ℕ) (k : Kind) → 0 < n → n ≤ length l → step cs l ≡ takes k n ds → splitFrom 0 p cs l ≡ before (token p k) (splitFrom 0 (p + n) ds (drop n l))
+step-takes : (p n : ℕ) (cs ds l : List ℕ) (k : Kind) → 0 < n → n ≤ length l
+    → step cs l ≡ takes k n ds
+    → splitFrom 0 p cs l ≡ before (token p k) (splitFrom 0 (p + n) ds (drop n l))
 unfolding splitFrom
 step-takes p n cs ds [] k z h q = absurd (omega arith)
 step-takes p n cs ds (b ∷ l) k z h q =
     let s : suc (n - 1) ≡ n = omega arith in
     let a : suc p + (n - 1) ≡ p + n = omega arith in
     let e : splitFrom 0 (p + n) ds (drop (suc (n - 1)) (b ∷ l)) ≡ splitFrom 0 (p + n) ds (drop n (b ∷ l)) = rw s in
-    let f : splitFrom (n - 1) (suc p) ds l ≡ splitFrom 0 (p + n) ds (drop (n - 1) l) = skips (λ i o t. splitFrom i o ds t) (split-skip ds) (n - 1) (suc p) l (omega arith) ∙ (rw a) in
+    let f : splitFrom (n - 1) (suc p) ds l ≡ splitFrom 0 (p + n) ds (drop (n - 1) l) = skips (λ i o t. splitFrom i o ds t) (split-skip ds)
+    (n - 1) (suc p) l (omega arith)
+    ∙ (rw a)
+    in
     rw q (rw f (ap (before (token p k)) e))
 
 step-bad : (cs l : List ℕ) (r : Refusal) → isBlank (getD l 0 0) ≡ false → lexeme l ≡ bad r → step cs l ≡ halt r
 unfolding step
 step-bad cs l r e q = rw (e, q)
 
-step-piece : (cs l : List ℕ) (k : Kind) (n : ℕ) (x : Nest) → isBlank (getD l 0 0) ≡ false → lexeme l ≡ piece k n → nest k cs ≡ x → step cs l ≡ nested k n x
+step-piece : (cs l : List ℕ) (k : Kind) (n : ℕ) (x : Nest) → isBlank (getD l 0 0) ≡ false
+    → lexeme l ≡ piece k n → nest k cs ≡ x → step cs l ≡ nested k n x
 unfolding step
 step-piece cs l k n x e q z = rw (e, q, z)
 
@@ -126,15 +136,20 @@ module _ (s : List ℕ) (p start : ℕ) (r : start ≡ p + run isBlank (drop p s
 
     module _ (k : Tok) (n : ℕ) (m : Pieces (drop start s) (lexeme (drop start s)) k n) where
       pub over-unfit : (x : Refusal) → nest (kindOf (drop start s) k) cs ≡ unfit x → answerFrom s p cs ≡ Refused x start
-      over-unfit x e = ap answerOf (to-start ∙ step-halt start cs _ x some-left (step-piece cs _ _ n _ (past-blanks s p start r h) (m .is) e))
+      over-unfit x e =
+          ap answerOf (to-start ∙ step-halt start cs _ x some-left (step-piece cs _ _ n _ (past-blanks s p start r h) (m .is) e))
 
-      pub goes-on : (words : List ℕ) (d : ℕ) → Awaits (nest (kindOf (drop start s) k) cs) words d → GoesOn s p (answerFrom s p cs) words (start + n) d
+      pub goes-on : (words : List ℕ) (d : ℕ)
+          → Awaits (nest (kindOf (drop start s) k) cs) words d
+          → GoesOn s p (answerFrom s p cs) words (start + n) d
       goes-on words d a =
           let x = whole-of (drop start s) _ n (m .is) in
           let g : n ≤ length s - start = rw length-drop at (x .high) in
           let q = step-takes start n cs _ _ _ (x .some) (x .high) (step-piece cs _ _ n _ (past-blanks s p start r h) (m .is) (a .is)) in
           record {
-            is = ap answerOf (to-start ∙ q) ∙ answer-before (token start (kindOf (drop start s) k)) (splitFrom 0 (start + n) (held words d) (drop n (drop start s))) ∙ (rw drop-drop);
+            is = ap answerOf (to-start ∙ q)
+                ∙ answer-before (token start (kindOf (drop start s) k)) (splitFrom 0 (start + n) (held words d) (drop n (drop start s)))
+                ∙ (rw drop-drop);
             low = omega (arith, x .some);
             high = omega arith;
             few = a .few;
@@ -142,7 +157,8 @@ module _ (s : List ℕ) (p start : ℕ) (r : start ≡ p + run isBlank (drop p s
 
 -- ---- the whole pass
 
-pub all-cleared : (i : ℕ) (d words : List ℕ) → length d ≤ i → i ≤ length d → words ≡ replicate i 0 ++ drop i d → words ≡ replicate (length d) 0
+pub all-cleared : (i : ℕ) (d words : List ℕ) → length d ≤ i → i ≤ length d
+    → words ≡ replicate i 0 ++ drop i d → words ≡ replicate (length d) 0
 all-cleared i d words h g e =
     let q : i ≡ length d = omega arith in
     e ∙ (rw (drop-of-length-le d h, q, append-nil))
@@ -156,6 +172,8 @@ module _ (t s : List ℕ) where
   unfolding splitting
   too-short h = rw (lt-ltb (length s) 64 h)
 
-  pub split-by : (a : SplitAnswer) (mid after : List ℕ) → 64 ≤ length s → a ≡ answerOf (split t) → length mid ≡ length s → after ≡ replicate (length mid) 0 → outcome a after ≡ splitting t s
+  pub split-by : (a : SplitAnswer) (mid after : List ℕ) → 64 ≤ length s
+      → a ≡ answerOf (split t) → length mid ≡ length s → after ≡ replicate (length mid) 0
+      → outcome a after ≡ splitting t s
   unfolding splitting
   split-by a mid after h e l q = rw (le-ltb (length s) 64 h, e, q, l)

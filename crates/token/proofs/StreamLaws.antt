@@ -1,4 +1,5 @@
--- What the grammar's proofs stand on: the tokens of a text that is split are those that a reader comes to, its bytes are none of the foreign ones, and tokens lie in the text. Assumes nothing.
+-- What the grammar's proofs stand on: the tokens of a text that is split are those that a reader comes to, its bytes are none of the
+-- foreign ones, and tokens lie in the text. Assumes nothing.
 use Prim.Native.Nat.{ℕ, zero, suc, _+_, _-_, _^_, _≤_, _<_}
 use mathlib.Core.List.{List, [], _∷_}
 use mathlib.Core.Bool.{Bool, true, false, cond}
@@ -6,8 +7,10 @@ use mathlib.Core.Path.{_≡_, refl, sym, ap, _∙_, subst}
 use native.Mathlib.Omega.{arith}
 use lib.ListN.{length, getD, drop, length-drop}
 use Rattle.text.specs.Bytes.{isBlank, isForeign}
-use Rattle.token.specs.Token.{Kind, name, number, quoted, mark, Token, token, Lexeme, bad, piece, lexeme, cutBy, further, cut, tokensFrom, isMark, rest}
-use Rattle.token.specs.Split.{Nest, unfit, awaits, nest, blank, nested, lexed, step, Split, unlexed, tokens, before, stepped, more, awaited, splitFrom, split}
+use Rattle.token.specs.Token.{Kind, name, number, quoted, mark, Token, token, Lexeme, bad}
+use Rattle.token.specs.Token.{piece, lexeme, cutBy, further, cut, tokensFrom, isMark, rest}
+use Rattle.token.specs.Split.{Nest, unfit, awaits, nest, blank, nested, lexed, step, Split}
+use Rattle.token.specs.Split.{unlexed, tokens, before, stepped, more, awaited, splitFrom, split}
 use Rattle.token.proofs.WholeLaws.{Whole, whole-of, blank-clean}
 
 abbrev split-tokens : Split → List Token
@@ -30,13 +33,17 @@ join-step p true x cs y us ih h = ih h
 join-step p false (bad r) cs y us ih h = absurd h
 join-step p false (piece k n) cs y us ih h = on (nest k cs) y ih h
   where
-    on : (z : Nest) (y : Split) → (IsTokens y → us ≡ split-tokens y) → IsTokens (stepped (nested k n z) p y) → token p k ∷ us ≡ split-tokens (stepped (nested k n z) p y)
+    on : (z : Nest) (y : Split) → (IsTokens y → us ≡ split-tokens y)
+        → IsTokens (stepped (nested k n z) p y)
+        → token p k ∷ us ≡ split-tokens (stepped (nested k n z) p y)
     on (unfit r) y ih h = absurd h
     on (awaits ds) (unlexed r q) ih h = absurd h
     on (awaits ds) (tokens ts) ih h = ap (λ (vs : List Token). token p k ∷ vs) (ih h)
 
 -- the bytes that a step takes beyond the first are the same
-join-more : (b : Bool) (x : Lexeme) (cs : List ℕ) (y : Split) (p : ℕ) → IsTokens (stepped (cond b blank (lexed cs x)) p y) → further b x ≡ more (cond b blank (lexed cs x))
+join-more : (b : Bool) (x : Lexeme) (cs : List ℕ) (y : Split) (p : ℕ)
+    → IsTokens (stepped (cond b blank (lexed cs x)) p y)
+    → further b x ≡ more (cond b blank (lexed cs x))
 join-more true x cs y p h = refl
 join-more false (bad r) cs y p h = absurd h
 join-more false (piece k n) cs y p h = on (nest k cs) h
@@ -74,7 +81,9 @@ before-tokens t (unlexed r p) h = h
 before-tokens t (tokens ts) h = tt
 
 -- the first k bytes belong to a token before
-clean-from : (t : List ℕ) (k p : ℕ) (cs : List ℕ) → IsTokens (splitFrom k p cs t) → ((j : ℕ) → j < k → isForeign (getD t j 0) ≡ false) → Clean t
+clean-from : (t : List ℕ) (k p : ℕ) (cs : List ℕ) → IsTokens (splitFrom k p cs t)
+    → ((j : ℕ) → j < k → isForeign (getD t j 0) ≡ false)
+    → Clean t
 unfolding splitFrom step
 clean-from [] k p cs g h = λ i l. absurd (omega arith)
 clean-from (b ∷ t) (suc k) p cs g h = clean-cons b t (h 0 (omega arith)) (clean-from t k (suc p) cs g (λ j q. h (suc j) (omega arith)))
@@ -82,16 +91,21 @@ clean-from (b ∷ t) zero p cs g h = by (isBlank b) refl (lexeme (b ∷ t)) refl
   where
     by : (x : Bool) → isBlank b ≡ x → (y : Lexeme) → lexeme (b ∷ t) ≡ y
         → ((k p : ℕ) (cs : List ℕ) → IsTokens (splitFrom k p cs t) → ((j : ℕ) → j < k → isForeign (getD t j 0) ≡ false) → Clean t)
-        → IsTokens (stepped (cond x blank (lexed cs y)) p (splitFrom (more (cond x blank (lexed cs y))) (suc p) (awaited cs (cond x blank (lexed cs y))) t)) → Clean (b ∷ t)
+        → IsTokens (stepped (cond x blank (lexed cs y)) p
+        (splitFrom (more (cond x blank (lexed cs y))) (suc p) (awaited cs (cond x blank (lexed cs y))) t))
+        → Clean (b ∷ t)
     by true e y f ih g = clean-cons b t (blank-clean b e) (ih 0 (suc p) cs g (λ j q. absurd (omega arith)))
     by false e (bad r) f ih g = absurd g
     by false e (piece k n) f ih g = on (nest k cs) g
       where
-        on : (z : Nest) → IsTokens (stepped (nested k n z) p (splitFrom (more (nested k n z)) (suc p) (awaited cs (nested k n z)) t)) → Clean (b ∷ t)
+        on : (z : Nest)
+            → IsTokens (stepped (nested k n z) p (splitFrom (more (nested k n z)) (suc p) (awaited cs (nested k n z)) t))
+            → Clean (b ∷ t)
         on (unfit r) g = absurd g
         on (awaits ds) g =
             let w = whole-of (b ∷ t) k n f in
-            clean-cons b t (w .clean 0 (w .some)) (ih (n - 1) (suc p) ds (before-tokens (token p k) (splitFrom (n - 1) (suc p) ds t) g) (λ j q. w .clean (suc j) (omega arith)))
+            clean-cons b t (w .clean 0 (w .some))
+            (ih (n - 1) (suc p) ds (before-tokens (token p k) (splitFrom (n - 1) (suc p) ds t) g) (λ j q. w .clean (suc j) (omega arith)))
 
 pub clean : (t : List ℕ) (ts : List Token) → split t ≡ tokens ts → (i : ℕ) → i < length t → isForeign (getD t i 0) ≡ false
 unfolding split

@@ -24,7 +24,9 @@ rest-of s i = ap (λ (n : ℕ). take n (drop i s)) (sym (length-drop i s)) ∙ t
 -- ---- the token at the front
 
 -- what passes over the bytes of a token before one at a time passes over them all
-pub skips : {A : Type 0} (f : ℕ → ℕ → List ℕ → A) → ((k p b : ℕ) (bs : List ℕ) → f (suc k) p (b ∷ bs) ≡ f k (suc p) bs) → (k p : ℕ) (l : List ℕ) → k ≤ length l → f k p l ≡ f 0 (p + k) (drop k l)
+pub skips : {A : Type 0} (f : ℕ → ℕ → List ℕ → A)
+    → ((k p b : ℕ) (bs : List ℕ) → f (suc k) p (b ∷ bs) ≡ f k (suc p) bs)
+    → (k p : ℕ) (l : List ℕ) → k ≤ length l → f k p l ≡ f 0 (p + k) (drop k l)
 skips f h zero p l g = rw (add-zero p)
 skips f h (suc k) p [] g = absurd (omega arith)
 skips f h (suc k) p (b ∷ bs) g = h k p b bs ∙ skips f h k (suc p) bs (omega arith) ∙ ap (λ (n : ℕ). f 0 n (drop k bs)) (omega arith)
@@ -38,30 +40,40 @@ unfolding cut
 cut-blank p b bs e = rw e
 
 -- what is passed one blank at a time is passed a run at a time
-pub blanks : {A : Type 0} (f : ℕ → List ℕ → A) → ((p b : ℕ) (bs : List ℕ) → isBlank b ≡ true → f p (b ∷ bs) ≡ f (suc p) bs) → (p : ℕ) (l : List ℕ) → f p l ≡ f (p + run isBlank l) (drop (run isBlank l) l)
+pub blanks : {A : Type 0} (f : ℕ → List ℕ → A)
+    → ((p b : ℕ) (bs : List ℕ) → isBlank b ≡ true → f p (b ∷ bs) ≡ f (suc p) bs)
+    → (p : ℕ) (l : List ℕ)
+    → f p l ≡ f (p + run isBlank l) (drop (run isBlank l) l)
 unfolding run
 blanks f h p [] = rw (add-zero p)
 blanks {A} f h p (b ∷ bs) = go (blanks f h (suc p) bs) (isBlank b) refl
   where
-    by : (n : ℕ) → run isBlank (b ∷ bs) ≡ n → f p (b ∷ bs) ≡ f (p + n) (drop n (b ∷ bs)) → f p (b ∷ bs) ≡ f (p + run isBlank (b ∷ bs)) (drop (run isBlank (b ∷ bs)) (b ∷ bs))
+    by : (n : ℕ) → run isBlank (b ∷ bs) ≡ n → f p (b ∷ bs) ≡ f (p + n) (drop n (b ∷ bs))
+        → f p (b ∷ bs) ≡ f (p + run isBlank (b ∷ bs)) (drop (run isBlank (b ∷ bs)) (b ∷ bs))
     by n e q = q ∙ sym (ap (λ (k : ℕ). f (p + k) (drop k (b ∷ bs))) e)
 
-    go : f (suc p) bs ≡ f (suc p + run isBlank bs) (drop (run isBlank bs) bs) → (t : Bool) → isBlank b ≡ t → f p (b ∷ bs) ≡ f (p + run isBlank (b ∷ bs)) (drop (run isBlank (b ∷ bs)) (b ∷ bs))
+    go : f (suc p) bs ≡ f (suc p + run isBlank bs) (drop (run isBlank bs) bs)
+        → (t : Bool) → isBlank b ≡ t
+        → f p (b ∷ bs) ≡ f (p + run isBlank (b ∷ bs)) (drop (run isBlank (b ∷ bs)) (b ∷ bs))
     go r true e = by _ (run-yes isBlank b bs e) (h p b bs e ∙ r ∙ ap (λ (n : ℕ). f n (drop (run isBlank bs) bs)) (omega arith))
     go r false e = by _ (run-no isBlank b bs e) (ap (λ (n : ℕ). f n (b ∷ bs)) (omega arith))
 
-cut-bad : (p : ℕ) (r : Refusal) (l : List ℕ) → 0 < length l → isBlank (getD l 0 0) ≡ false → lexeme l ≡ bad r → cut 0 p l ≡ token p (mark 0) ∷ []
+cut-bad : (p : ℕ) (r : Refusal) (l : List ℕ) → 0 < length l → isBlank (getD l 0 0) ≡ false
+    → lexeme l ≡ bad r → cut 0 p l ≡ token p (mark 0) ∷ []
 unfolding cut
 cut-bad p r [] h e q = absurd (omega arith)
 cut-bad p r (b ∷ l) h e q = rw (e, q)
 
-cut-piece : (p n : ℕ) (k : Kind) (l : List ℕ) → 0 < length l → isBlank (getD l 0 0) ≡ false → lexeme l ≡ piece k n → 0 < n → n ≤ length l → cut 0 p l ≡ token p k ∷ cut 0 (p + n) (drop n l)
+cut-piece : (p n : ℕ) (k : Kind) (l : List ℕ) → 0 < length l → isBlank (getD l 0 0) ≡ false
+    → lexeme l ≡ piece k n → 0 < n → n ≤ length l → cut 0 p l ≡ token p k ∷ cut 0 (p + n) (drop n l)
 unfolding cut
 cut-piece p n k [] h e q z m = absurd (omega arith)
 cut-piece p n k (b ∷ l) h e q z m =
     let s : suc (n - 1) ≡ n = omega arith in
     let a : suc p + (n - 1) ≡ p + n = omega arith in
-    rw (e, q) (ap (λ (ts : List Token). token p k ∷ ts) (skips cut cut-skip (n - 1) (suc p) l (omega arith) ∙ (rw a (ap (λ (m : ℕ). cut 0 (p + n) (drop m (b ∷ l))) s))))
+    rw (e, q)
+    (ap (λ (ts : List Token). token p k ∷ ts)
+    (skips cut cut-skip (n - 1) (suc p) l (omega arith) ∙ (rw a (ap (λ (m : ℕ). cut 0 (p + n) (drop m (b ∷ l))) s))))
 
 -- ---- Lexes
 
@@ -81,7 +93,8 @@ stood (Quoted m) start n t e h = rw h
 stood (Mark b) start n t e h = tt
 
 -- no blank stands behind a run of blanks
-pub past-blanks : (s : List ℕ) (p start : ℕ) → start ≡ p + run isBlank (drop p s) → start < length s → isBlank (getD (drop start s) 0 0) ≡ false
+pub past-blanks : (s : List ℕ) (p start : ℕ) → start ≡ p + run isBlank (drop p s)
+    → start < length s → isBlank (getD (drop start s) 0 0) ≡ false
 past-blanks s p start e h =
     let g : run isBlank (drop p s) < length (drop p s) = rw length-drop (omega arith) in
     rw (getD-drop, add-zero, e) (rw getD-drop at (run-stop isBlank (drop p s) g))
@@ -100,7 +113,16 @@ module _ (s : List ℕ) (p start : ℕ) (r : start ≡ p + run isBlank (drop p s
   none-at : tokensFrom s start ≡ token start (mark 0) ∷ [] → Lexes s p (endAt start)
   none-at q′ =
       let q : tokensFrom s p ≡ token start (mark 0) ∷ [] = from-start ∙ q′ in
-      record { kind = rw q; place = rw q; rest = rw (q, q′); low = omega arith; some = omega arith; high = λ h. omega (arith, run-fits isBlank s p h); moved = λ e. absurd (no e); stands = tt }
+      record {
+        kind = rw q;
+        place = rw q;
+        rest = rw (q, q′);
+        low = omega arith;
+        some = omega arith;
+        high = λ h. omega (arith, run-fits isBlank s p h);
+        moved = λ e. absurd (no e);
+        stands = tt;
+      }
 
   pub lexes-end : length s ≤ start → Lexes s p (endAt start)
   lexes-end h = none-at (past-end s start h)
@@ -109,10 +131,24 @@ module _ (s : List ℕ) (p start : ℕ) (r : start ≡ p + run isBlank (drop p s
   unfolding tokensFrom
   lexes-bad h x e = none-at (cut-bad start x (drop start s) (rw length-drop (omega arith)) (past-blanks s p start r h) e)
 
-  pub lexes-piece : start < length s → (k : Tok) (n : ℕ) → Pieces (drop start s) (lexeme (drop start s)) k n → Lexes s p (record { start = start; tok = k; next = start + n })
+  pub lexes-piece : start < length s → (k : Tok) (n : ℕ)
+      → Pieces (drop start s) (lexeme (drop start s)) k n
+      → Lexes s p (record { start = start; tok = k; next = start + n })
   unfolding tokensFrom
   lexes-piece h k n m =
       let x = whole-of (drop start s) _ n (m .is) in
       let g : n ≤ length s - start = rw length-drop at (x .high) in
-      let q : tokensFrom s p ≡ token start (kindOf (drop start s) k) ∷ tokensFrom s (start + n) = from-start ∙ cut-piece start n _ (drop start s) (rw length-drop (omega arith)) (past-blanks s p start r h) (m .is) (x .some) (x .high) ∙ (rw drop-drop) in
-      record { kind = rw q; place = rw q; rest = rw (q, no-end (kindOf (drop start s) k) n (x .fits)); low = omega arith; some = omega arith; high = λ h. omega arith; moved = λ e. omega (arith, x .some); stands = stood k start n (drop start s) (m .sized) (x .fits) }
+      let q : tokensFrom s p ≡ token start (kindOf (drop start s) k) ∷ tokensFrom s (start + n) = from-start
+      ∙ cut-piece start n _ (drop start s) (rw length-drop (omega arith)) (past-blanks s p start r h) (m .is) (x .some) (x .high)
+      ∙ (rw drop-drop)
+      in
+      record {
+        kind = rw q;
+        place = rw q;
+        rest = rw (q, no-end (kindOf (drop start s) k) n (x .fits));
+        low = omega arith;
+        some = omega arith;
+        high = λ h. omega arith;
+        moved = λ e. omega (arith, x .some);
+        stands = stood k start n (drop start s) (m .sized) (x .fits);
+      }

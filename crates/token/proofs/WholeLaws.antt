@@ -1,4 +1,5 @@
--- What holds of each token that a text begins with: its bytes stand in the text, none of them is foreign, and its kind has its size. Assumes nothing.
+-- What holds of each token that a text begins with: its bytes stand in the text, none of them is foreign, and its kind has its size.
+-- Assumes nothing.
 use Prim.Native.Nat.{ℕ, suc, _+_, _-_, _^_, _≤_, _<_}
 use mathlib.Core.List.{List, [], _∷_}
 use mathlib.Core.Bool.{Bool, true, false, _&&_, _||_, not}
@@ -8,11 +9,14 @@ use lib.Dec.{eqb, ltb}
 use lib.ListN.{length, getD, take, drop}
 use lib.Seq.{length-take-le}
 use borrow.Author.Tests.{le-leb, eqb-true, ne-eqb, eqb-false, ltb-true, ltb-false, not-true}
-use Rattle.text.specs.Bytes.{bytes, run, part, oneOf, within, isUpper, isLetter, isDigit, isName, isInside, isBlank, isForeign, decimal, among}
+use Rattle.text.specs.Bytes.{bytes, run, part, oneOf, within, isUpper, isLetter, isDigit}
+use Rattle.text.specs.Bytes.{isName, isInside, isBlank, isForeign, decimal, among}
 use Rattle.text.proofs.ByteLaws.{run-at, run-le, run-in, within-is}
-use Rattle.token.specs.Token.{Kind, name, number, quoted, mark, Lexeme, bad, piece, nameAt, pointAt, pastFraction, suffixAt, pastSuffix, clings, placesOf, numberAt, quotedAt, lexeme}
+use Rattle.token.specs.Token.{Kind, name, number, quoted, mark, Lexeme, bad, piece, nameAt, pointAt}
+use Rattle.token.specs.Token.{pastFraction, suffixAt, pastSuffix, clings, placesOf, numberAt, quotedAt, lexeme}
 use Rattle.token.proofs.NumberLaws.{run-in-at, digits-small, ten-fits, whole-small}
-use Rattle.token.proofs.LexLaws.{Parts, inside, run-fits, name-is, quoted-is, point-inside, suffix-inside, fraction-run, fraction-is, number-clings, number-long, number-fine, lex-is}
+use Rattle.token.proofs.LexLaws.{Parts, inside, run-fits, name-is, quoted-is, point-inside, suffix-inside}
+use Rattle.token.proofs.LexLaws.{fraction-run, fraction-is, number-clings, number-long, number-fine, lex-is}
 
 -- ---- classes of bytes with no foreign byte
 
@@ -61,7 +65,10 @@ name-clean : (b : ℕ) → isName b ≡ true → isForeign b ≡ false
 unfolding oneOf
 name-clean b h =
     either (isLetter b) (isDigit b)
-    (λ l. either (within 97 122 b || isUpper b) (eqb b 95) (λ k. either (within 97 122 b) (isUpper b) (λ e. range-clean 97 122 b (omega arith) (omega arith) e) (λ e. range-clean 65 90 b (omega arith) (omega arith) e) k) (λ e. is-clean b 95 refl e) l)
+    (λ l. either (within 97 122 b || isUpper b) (eqb b 95)
+    (λ k. either (within 97 122 b) (isUpper b) (λ e. range-clean 97 122 b (omega arith) (omega arith) e)
+    (λ e. range-clean 65 90 b (omega arith) (omega arith) e) k)
+    (λ e. is-clean b 95 refl e) l)
     (λ d. digit-clean b d)
     h
 
@@ -118,19 +125,26 @@ name-whole t h z = go (eqb (getD t (run isName t) 0) 34) refl
         })
 
 quoted-whole : (t : List ℕ) → eqb (getD t 0 0) 34 ≡ true → WholeOf t (quotedAt t)
-quoted-whole t h = go (run isInside (drop 1 t)) refl (eqb (getD t (suc (run isInside (drop 1 t))) 0) 34) refl (isName (getD t (run isInside (drop 1 t) + 2) 0)) refl
+quoted-whole t h =
+    go (run isInside (drop 1 t)) refl (eqb (getD t (suc (run isInside (drop 1 t))) 0) 34) refl
+    (isName (getD t (run isInside (drop 1 t) + 2) 0)) refl
   where
-    go : (n : ℕ) → n ≡ run isInside (drop 1 t) → (x : Bool) → eqb (getD t (suc n) 0) 34 ≡ x → (y : Bool) → isName (getD t (n + 2) 0) ≡ y → WholeOf t (quotedAt t)
+    go : (n : ℕ) → n ≡ run isInside (drop 1 t) → (x : Bool) → eqb (getD t (suc n) 0) 34 ≡ x
+        → (y : Bool) → isName (getD t (n + 2) 0) ≡ y → WholeOf t (quotedAt t)
     go n k false e y f = rw (quoted-is t n false y k e f) tt
     go n k true e true f = rw (quoted-is t n true true k e f) tt
     go n k true e false f =
-        let run-clean : (i : ℕ) → i < n → Clean t (1 + i) = λ i q. inside-clean (getD t (1 + i) 0) (run-in-at isInside t 1 i (omega arith)) in
-        let front : (j : ℕ) → j < 1 + n → Clean t j = upto (Clean t) 0 n (λ j q. absurd (omega arith)) (is-clean (getD t 0 0) 34 refl h) run-clean in
+        let run-clean : (i : ℕ) → i < n → Clean t (1 + i) = λ i q. inside-clean (getD t (1 + i) 0) (run-in-at isInside t 1 i (omega arith))
+        in
+        let front : (j : ℕ) → j < 1 + n → Clean t j = upto (Clean t) 0 n (λ j q. absurd (omega arith)) (is-clean (getD t 0 0) 34 refl h)
+        run-clean
+        in
         rw (quoted-is t n true false k e f)
         (record {
           some = omega arith;
           high = omega (arith, inside t (suc n) 34 (eqb-true (getD t (suc n) 0) 34 e) (omega arith));
-          clean = λ j q. upto (Clean t) (suc n) 0 (λ i g. front i (omega arith)) (is-clean (getD t (suc n) 0) 34 refl e) (λ i g. absurd (omega arith)) j (omega arith);
+          clean = λ j q. upto (Clean t) (suc n) 0 (λ i g. front i (omega arith)) (is-clean (getD t (suc n) 0) 34 refl e)
+              (λ i g. absurd (omega arith)) j (omega arith);
           fits = refl;
         })
 
@@ -155,12 +169,17 @@ module _ (t : List ℕ) (w : ℕ) (fits : w ≤ length t) (digits : (j : ℕ) �
   fraction-whole : (x : Bool) → pointAt t w ≡ x → Fraction (pastFraction x t w)
   unfolding pastFraction pointAt
   fraction-whole false h = record { low = omega arith; high = fits; clean = digits }
-  fraction-whole true h =
-      record {
-        low = omega arith;
-        high = run-fits isDigit t (suc w) (point-inside t w h);
-        clean = upto (Clean t) w (run isDigit (drop (suc w) t)) digits (is-clean (getD t w 0) 46 refl (both (eqb (getD t w 0) 46) (isDigit (getD t (suc w) 0)) h .0)) (λ i q. digit-clean (getD t (suc w + i) 0) (run-in-at isDigit t (suc w) i q));
-      }
+  fraction-whole true h = record {
+    low = omega arith;
+    high = run-fits isDigit t (suc w) (point-inside t w h);
+    clean = upto
+        (Clean t)
+        w
+        (run isDigit (drop (suc w) t))
+        digits
+        (is-clean (getD t w 0) 46 refl (both (eqb (getD t w 0) 46) (isDigit (getD t (suc w) 0)) h .0))
+        (λ i q. digit-clean (getD t (suc w + i) 0) (run-in-at isDigit t (suc w) i q));
+  }
 
   suffix-whole : (e : ℕ) → Fraction e → (z : Bool) → suffixAt t e ≡ z → Fraction (pastSuffix z e)
   unfolding pastSuffix suffixAt
@@ -173,9 +192,13 @@ module _ (t : List ℕ) (w : ℕ) (fits : w ≤ length t) (digits : (j : ℕ) �
       }
 
 -- the digits of a number, q of them after the point, up to e
-digits-below : (t : List ℕ) (w e q : ℕ) (x : Bool) → e ≡ pastFraction x t w → q ≡ placesOf x w e → w ≤ run isDigit t → w ≤ 10 → q ≤ 9 → decimal (decimal 0 (take w t)) (part t (suc w) q) < 10 ^ 19
+digits-below : (t : List ℕ) (w e q : ℕ) (x : Bool) → e ≡ pastFraction x t w
+    → q ≡ placesOf x w e → w ≤ run isDigit t → w ≤ 10 → q ≤ 9
+    → decimal (decimal 0 (take w t)) (part t (suc w) q) < 10 ^ 19
 digits-below t w e q x k l h g b =
-    let d = digits-small (drop (e - q) t) q 10 (decimal 0 (take w t)) (whole-small t w (decimal 0 (take w t)) refl h g) (fraction-run t w e q x k l) in
+    let d = digits-small (drop (e - q) t) q 10 (decimal 0 (take w t)) (whole-small t w (decimal 0 (take w t)) refl h g)
+    (fraction-run t w e q x k l)
+    in
     ten-fits _ _ 19 (rw (fraction-is t w e q x k l) at d) (omega arith)
 
 number-whole : (t : List ℕ) → isDigit (getD t 0 0) ≡ true → 0 < length t → WholeOf t (numberAt t)
@@ -193,14 +216,21 @@ number-whole t h z = go (run isDigit t) refl (pointAt t (run isDigit t)) refl
         parts : Parts t w x e (suffixAt t e) n
         parts = record { whole = k; point = l; end = refl; suffix = refl; next = refl }
 
-        by : (a : Bool) → clings t (not (x || suffixAt t e)) n ≡ a → (b : Bool) → (ltb 10 w || ltb 9 (placesOf x w e)) ≡ b → WholeOf t (numberAt t)
+        by : (a : Bool) → clings t (not (x || suffixAt t e)) n ≡ a
+            → (b : Bool) → (ltb 10 w || ltb 9 (placesOf x w e)) ≡ b
+            → WholeOf t (numberAt t)
         by true p b q = rw (number-clings parts p) tt
         by false p true q = rw (number-long parts false p q) tt
         by false p false q =
             let few = neither (ltb 10 w) (ltb 9 (placesOf x w e)) q in
             let a = ltb-false 10 w (few .0) in
             let b = ltb-false 9 (placesOf x w e) (few .1) in
-            let f = suffix-whole t w (omega (arith, run-le isDigit t)) (λ j g. digit-clean (getD t j 0) (run-in isDigit t j (omega arith))) e (fraction-whole t w (omega (arith, run-le isDigit t)) (λ j g. digit-clean (getD t j 0) (run-in isDigit t j (omega arith))) x (sym l)) (suffixAt t e) refl in
+            let f = suffix-whole t w (omega (arith, run-le isDigit t)) (λ j g. digit-clean (getD t j 0) (run-in isDigit t j (omega arith)))
+            e
+            (fraction-whole t w (omega (arith, run-le isDigit t)) (λ j g. digit-clean (getD t j 0) (run-in isDigit t j (omega arith))) x
+            (sym l))
+            (suffixAt t e) refl
+            in
             rw (number-fine parts _ _ p a refl b refl)
             (record {
               some = omega (arith, f .low, run-at isDigit t 0 z h);
@@ -217,13 +247,18 @@ letter-some (b ∷ t) p h e = omega arith
 
 lexeme-whole : (t : List ℕ) → WholeOf t (lexeme t)
 unfolding oneOf
-lexeme-whole t = go (isLetter (getD t 0 0)) refl (isDigit (getD t 0 0)) refl (eqb (getD t 0 0) 34) refl (among ":;,=>.+-%([{)]}" (getD t 0 0)) refl
+lexeme-whole t =
+    go (isLetter (getD t 0 0)) refl (isDigit (getD t 0 0)) refl (eqb (getD t 0 0) 34) refl (among ":;,=>.+-%([{)]}" (getD t 0 0)) refl
   where
-    go : (a : Bool) → isLetter (getD t 0 0) ≡ a → (b : Bool) → isDigit (getD t 0 0) ≡ b → (c : Bool) → eqb (getD t 0 0) 34 ≡ c → (d : Bool) → among ":;,=>.+-%([{)]}" (getD t 0 0) ≡ d → WholeOf t (lexeme t)
+    go : (a : Bool) → isLetter (getD t 0 0) ≡ a → (b : Bool)
+        → isDigit (getD t 0 0) ≡ b → (c : Bool) → eqb (getD t 0 0) 34 ≡ c
+        → (d : Bool) → among ":;,=>.+-%([{)]}" (getD t 0 0) ≡ d
+        → WholeOf t (lexeme t)
     go true e b f c g d h = rw (lex-is t true b c d e f g h) (name-whole t e (letter-some t isLetter refl e))
     go false e true f c g d h = rw (lex-is t false true c d e f g h) (number-whole t f (letter-some t isDigit refl f))
     go false e false f true g d h = rw (lex-is t false false true d e f g h) (quoted-whole t g)
-    go false e false f false g true h = rw (lex-is t false false false true e f g h) (mark-whole t h (letter-some t (among ":;,=>.+-%([{)]}") refl h))
+    go false e false f false g true h =
+        rw (lex-is t false false false true e f g h) (mark-whole t h (letter-some t (among ":;,=>.+-%([{)]}") refl h))
     go false e false f false g false h = rw (lex-is t false false false false e f g h) tt
 
 pub whole-of : (t : List ℕ) (k : Kind) (n : ℕ) → lexeme t ≡ piece k n → Whole t k n

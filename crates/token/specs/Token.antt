@@ -9,7 +9,8 @@ use Rattle.number.specs.Number.{Written}
 use Rattle.error.specs.declared.Refusal.{Refusal}
 use Rattle.error.specs.declared.Refusal.the-variants.{BadForm, TooManyDigits}
 
--- A name has its bytes, a string the length of what stands between its quotes. A mark is its byte, each delimiter too; the text's end is the mark 0.
+-- A name has its bytes, a string the length of what stands between its quotes. A mark is its byte, each delimiter too; the text's end is
+-- the mark 0.
 pub data Kind : Type 0 where
   name : List ℕ → Kind
   number : Written → Kind
@@ -62,7 +63,13 @@ unfoldable pub numberBy : List ℕ → ℕ → Bool → ℕ → Bool → ℕ →
 numberBy t w point end s n =
     cond (clings t (not (point || s)) n) (bad BadForm)
     (cond (ltb 10 w || ltb 9 (placesOf point w end)) (bad TooManyDigits)
-    (piece (number (record { digits = decimal (decimal 0 (take w t)) (part t (suc w) (placesOf point w end)); places = placesOf point w end; point = point; suffix = s })) n))
+    (piece (number (record {
+      digits = decimal (decimal 0 (take w t)) (part t (suc w) (placesOf point w end));
+      places = placesOf point w end;
+      point = point;
+      suffix = s;
+    }))
+    n))
 
 -- "A number is 1 or more digits, then possibly a point and 1 or more digits, then possibly a single `s`."
 unfoldable pub numberAt : List ℕ → Lexeme
@@ -73,7 +80,8 @@ numberAt t =
     let s = suffixAt t end in
     numberBy t w point end s (pastSuffix s end)
 
--- "A string holds printable ASCII without `"` and `\`. Any other byte, no closing `"` or a name character right after it: 2, at its opening `"`."
+-- "A string holds printable ASCII without `"` and `\`. Any other byte, no closing `"` or a name character right after it: 2, at its opening
+-- `"`."
 unfoldable pub quotedAt : List ℕ → Lexeme
 quotedAt t =
     let n = run isInside (drop 1 t) in

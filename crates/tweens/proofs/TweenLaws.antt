@@ -65,8 +65,22 @@ tween-no-ends s c r q h = tween-run s c ∙ (rw h)
 -- its fields have so many bytes at most
 tween-most : (n : ℕ) (x : TweenFields) → length (tweenBytes n x) ≤ 64
 tween-most n x =
-    let all = eight (word .write (bits (x .duration))) (opt (easingForm n) .write (optEasingOf (x .easing))) (opt word .write (optFloatOf (x .delay))) (opt word .write (optFloatOf (x .«time_scale»))) (opt loopForm .write (optLoopOf (x .«loop_mode»))) (opt word .write (optFloatOf (x .snap))) (opt word .write (optWordOf (x .round))) (flag .write (x .reverse)) in
-    omega (arith, all, length-word (bits (x .duration)), opt-most (easingForm n) 17 (easing-most n) (optEasingOf (x .easing)), word-most (optFloatOf (x .delay)), word-most (optFloatOf (x .«time_scale»)), opt-most loopForm 5 loop-most (optLoopOf (x .«loop_mode»)), word-most (optFloatOf (x .snap)), word-most (optWordOf (x .round)))
+    let all = eight (word .write (bits (x .duration))) (opt (easingForm n) .write (optEasingOf (x .easing)))
+    (opt word .write (optFloatOf (x .delay))) (opt word .write (optFloatOf (x .«time_scale»)))
+    (opt loopForm .write (optLoopOf (x .«loop_mode»))) (opt word .write (optFloatOf (x .snap))) (opt word .write (optWordOf (x .round)))
+    (flag .write (x .reverse))
+    in
+    omega (
+      arith,
+      all,
+      length-word (bits (x .duration)),
+      opt-most (easingForm n) 17 (easing-most n) (optEasingOf (x .easing)),
+      word-most (optFloatOf (x .delay)),
+      word-most (optFloatOf (x .«time_scale»)),
+      opt-most loopForm 5 loop-most (optLoopOf (x .«loop_mode»)),
+      word-most (optFloatOf (x .snap)),
+      word-most (optWordOf (x .round)),
+    )
 
 module _ (s b a : List ℕ) (c m : Cursor) (out at : ℕ) (e : EndsWent s b a c m 0 out at) where
   pub tween-refused : (r : Refusal) (q : ℕ) → run s m (timely tweenFields) ≡ refused r q → run s c parseTween ≡ refused r q
@@ -94,14 +108,43 @@ module _ (s b a : List ℕ) (c m : Cursor) (out at : ℕ) (e : EndsWent s b a c 
     reverse-said = t .held .slots 7 ("reverse", flagRule) refl
 
     pub tween-plain : PlainTween (tweenFrom (g .slots) (g .others) x)
-    tween-plain = (t .plain, t .held .beside .plainEasing, float-plain _ _ _ delay-said, float-plain _ _ _ scale-said, float-plain _ _ _ snap-said)
+    tween-plain = (
+      t .plain,
+      t .held .beside .plainEasing,
+      float-plain _ _ _ delay-said,
+      float-plain _ _ _ scale-said,
+      float-plain _ _ _ snap-said,
+    )
 
-    pub tween-went : (a′ : List ℕ) (q : ℕ) → ((n : ℕ) → Writes a at (tweenBytes n (tweenFrom (g .slots) (g .others) x)) a′ q) → Went 1 s b a′ c u out q parseTween (leafBytes (length s))
+    pub tween-went : (a′ : List ℕ) (q : ℕ)
+        → ((n : ℕ) → Writes a at (tweenBytes n (tweenFrom (g .slots) (g .others) x)) a′ q)
+        → Went 1 s b a′ c u out q parseTween (leafBytes (length s))
     tween-went a′ q w = record {
       value = tweenLeaf (e .value) (t .fields) (bits x);
-      took = record { is = tween-run s c ∙ (rw (e .took .is, t .took .is, t .duration)); low = omega (arith, e .took .low, t .took .low); ready = t .took .ready };
-      writes = record-written 0 (spanForm (length s) .write (e .value .0)) (valueForm .write (e .value .1 .0)) (valueForm .write (e .value .1 .1)) _ (e .writes) (rw (t .held .beside .easing, float-held _ _ _ delay-said, float-held _ _ _ scale-said, t .held .beside .loopMode, float-held _ _ _ snap-said, whole-held _ _ _ round-said, ever-held _ _ _ reverse-said) at (w (length s)));
-      paid = let z = tween-most (length s) (tweenFrom (g .slots) (g .others) x) in let y = w (length s) .place in omega (arith, e .paid, e .took .low, t .took .low);
+      took = record {
+        is = tween-run s c ∙ (rw (e .took .is, t .took .is, t .duration));
+        low = omega (arith, e .took .low, t .took .low);
+        ready = t .took .ready;
+      };
+      writes = record-written 0
+          (spanForm (length s) .write (e .value .0))
+          (valueForm .write (e .value .1 .0))
+          (valueForm .write (e .value .1 .1))
+          _
+          (e .writes)
+          (rw (
+            t .held .beside .easing,
+            float-held _ _ _ delay-said,
+            float-held _ _ _ scale-said,
+            t .held .beside .loopMode,
+            float-held _ _ _ snap-said,
+            whole-held _ _ _ round-said,
+            ever-held _ _ _ reverse-said,
+          )
+          at (w (length s)));
+      paid = let z = tween-most (length s) (tweenFrom (g .slots) (g .others) x) in
+          let y = w (length s) .place in
+          omega (arith, e .paid, e .took .low, t .took .low);
     }
 
 -- ---- the table

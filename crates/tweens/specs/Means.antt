@@ -9,7 +9,8 @@ use Rattle.number.specs.Number.{bits}
 use Rattle.codec.specs.Codec.{opt, below}
 use Rattle.ast.specs.Tree.{Span, ValueExpr}
 use Rattle.sheet.specs.Sheet.{word, flag, spanForm, valueForm, easingForm, loopForm, dampingForm}
-use Rattle.encode.specs.Of.{Plain, PlainOptFloat, PlainOptEasing, PlainOptDamping, spanOf, optFloatOf, optWordOf, optCaseOf, optEasingOf, optLoopOf, optDampingOf}
+use Rattle.encode.specs.Of.{Plain, PlainOptFloat, PlainOptEasing, PlainOptDamping, spanOf}
+use Rattle.encode.specs.Of.{optFloatOf, optWordOf, optCaseOf, optEasingOf, optLoopOf, optDampingOf}
 use Rattle.encode.specs.Writes.{Writes}
 use Rattle.error.specs.declared.Refusal.the-variants.{Missing}
 use Rattle.grammar.specs.Rule.{Rule, refused, give, the, both, _>>=_, _>>_}
@@ -94,7 +95,8 @@ tweenFrom xs o d = record {
 }
 
 abbrev pub PlainTween : TweenFields → Type 0
-PlainTween x = Plain (x .duration) × PlainOptEasing (x .easing) × PlainOptFloat (x .delay) × PlainOptFloat (x .«time_scale») × PlainOptFloat (x .snap)
+PlainTween x =
+    Plain (x .duration) × PlainOptEasing (x .easing) × PlainOptFloat (x .delay) × PlainOptFloat (x .«time_scale») × PlainOptFloat (x .snap)
 
 -- the end of a tween's record, for a text of n bytes
 abbrev pub tweenBytes : ℕ → TweenFields → List ℕ
@@ -138,7 +140,9 @@ pub record VelocityPut (b a : List ℕ) (at : ℕ) (v : Option ValueExpr) (q : �
 
 abbrev pub PlainSpring : SpringFields → Type 0
 PlainSpring x =
-    PlainOptFloat (x .stiffness) × PlainOptFloat (x .damping) × PlainOptFloat (x .mass) × PlainOptFloat (x .epsilon) × PlainOptDamping (x .«damping_mode»)
+    PlainOptFloat (x .stiffness) × PlainOptFloat (x .damping)
+    × PlainOptFloat (x .mass) × PlainOptFloat (x .epsilon)
+    × PlainOptDamping (x .«damping_mode»)
 
 -- the end of a spring's record, v being the velocity
 abbrev pub springBytes : SpringFields → Option ValueExpr → List ℕ

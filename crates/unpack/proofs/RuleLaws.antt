@@ -10,14 +10,30 @@ use Rattle.number.specs.Number.{whole}
 use Rattle.number.specs.Time.{Key}
 use Rattle.token.specs.Token.{kind}
 use Rattle.ast.specs.Tree.{Nodes, Leaf, Container}
-use Rattle.error.specs.declared.Refusal.the-variants.{Missing, UnknownKeyword, Malformed, UnknownSpringPreset, MissingDuration, StaggerGridIncomplete, TooManyNested}
-use Rattle.grammar.specs.Rule.{Rule, give, need, refuse, _>>=_, _>>_, sees, seesTwo, seesWord, seesName, seesNumber, seesWhole, ends, the, eat, more, done, goOn}
-use Rattle.grammar.specs.Fields.{Content, Fields, Table, Item, halts, closes, passes, starts, rowOf, fieldHead, fieldValue, entry, pairName, onePair, pairs, itemOf, fieldName, oneField, byItem, fieldsStep, parseFieldList, numberOf}
-use Rattle.grammar.specs.Values.{ident, string, truth, parseFloat, parseUint, parseFloatInParens, commaFloat, twoFloats, parseTwoFloatsInParens, parseUintInParens, arrayItem, arrayItems, parseValue, number, count, flag, value, commaFloats, fourFloats, bezierCurve, roughFields, roughCurve, slowMoFields, slowMoCurve, stepsCurve, wiggleCurve, curves, variantEasing, namedEasing, curveOr, parseEasing, timesMode, pingPongMode, loopModes, parseLoopMode, easing, loopMode}
-use Rattle.grammar.specs.Grammar.{tweenFields, parseTween, parseSpringPreset, springPreset, integrator, critical, over, springFields, parseSpring, parseKeyframeTime, keyframeEntry, Track, trackLoop, trackFrame, trackStep, parseKeyframes, parseSequence, parseParallel, parseGroup, parseGridOrigin, origin, gridFields, gridPattern, randomFields, randomPattern, patterns, parseStaggerPattern, Opening, openingFields, openingField, openingStep, parseStagger, offset, pathFields, parsePath, morphFields, parseMorph, drawFields, parseDraw, space, colorFields, parseColor, waveformKind, waveformFields, parseWaveform, parsePresetCall, parseLabel, atSign, parseAt, leaves, containers, orContainer, beginning, nodeBy, parseNode, oneNode, nodesStep, block, animatoInput}
+use Rattle.error.specs.declared.Refusal.the-variants.{Missing, UnknownKeyword, Malformed, UnknownSpringPreset}
+use Rattle.error.specs.declared.Refusal.the-variants.{MissingDuration, StaggerGridIncomplete, TooManyNested}
+use Rattle.grammar.specs.Rule.{Rule, give, need, refuse, _>>=_, _>>_, sees, seesTwo, seesWord}
+use Rattle.grammar.specs.Rule.{seesName, seesNumber, seesWhole, ends, the, eat, more, done, goOn}
+use Rattle.grammar.specs.Fields.{Content, Fields, Table, Item, halts, closes, passes, starts, rowOf, fieldHead, fieldValue, entry}
+use Rattle.grammar.specs.Fields.{pairName, onePair, pairs, itemOf, fieldName, oneField, byItem, fieldsStep, parseFieldList, numberOf}
+use Rattle.grammar.specs.Values.{ident, string, truth, parseFloat, parseUint, parseFloatInParens, commaFloat, twoFloats}
+use Rattle.grammar.specs.Values.{parseTwoFloatsInParens, parseUintInParens, arrayItem, arrayItems, parseValue, number}
+use Rattle.grammar.specs.Values.{count, flag, value, commaFloats, fourFloats, bezierCurve, roughFields, roughCurve}
+use Rattle.grammar.specs.Values.{slowMoFields, slowMoCurve, stepsCurve, wiggleCurve, curves, variantEasing, namedEasing}
+use Rattle.grammar.specs.Values.{curveOr, parseEasing, timesMode, pingPongMode, loopModes, parseLoopMode, easing, loopMode}
+use Rattle.grammar.specs.Grammar.{tweenFields, parseTween, parseSpringPreset, springPreset, integrator, critical, over}
+use Rattle.grammar.specs.Grammar.{springFields, parseSpring, parseKeyframeTime, keyframeEntry, Track, trackLoop, trackFrame}
+use Rattle.grammar.specs.Grammar.{trackStep, parseKeyframes, parseSequence, parseParallel, parseGroup, parseGridOrigin, origin}
+use Rattle.grammar.specs.Grammar.{gridFields, gridPattern, randomFields, randomPattern, patterns, parseStaggerPattern, Opening}
+use Rattle.grammar.specs.Grammar.{openingFields, openingField, openingStep, parseStagger, offset, pathFields, parsePath}
+use Rattle.grammar.specs.Grammar.{morphFields, parseMorph, drawFields, parseDraw, space, colorFields, parseColor, waveformKind}
+use Rattle.grammar.specs.Grammar.{waveformFields, parseWaveform, parsePresetCall, parseLabel, atSign, parseAt, leaves}
+use Rattle.grammar.specs.Grammar.{containers, orContainer, beginning, nodeBy, parseNode, oneNode, nodesStep, block, animatoInput}
 use Rattle.grammar.specs.Grammar.{under as underdamping}
 use Rattle.limits.proofs.ListLaws.{_also_}
-use Rattle.unpack.proofs.StepLaws.{Stays, Found, Rows, gives, refuses, then, and, grouped, conds, tests, needs, skips, the-mark, two-marks, eats, a-word, a-text, a-choice, a-number, in-group, repeats, lists, under-found, by-word, by-word-or}
+use Rattle.unpack.proofs.StepLaws.{Stays, Found, Rows, gives, refuses, then, and, grouped, conds, tests}
+use Rattle.unpack.proofs.StepLaws.{needs, skips, the-mark, two-marks, eats, a-word, a-text, a-choice}
+use Rattle.unpack.proofs.StepLaws.{a-number, in-group, repeats, lists, under-found, by-word, by-word-or}
 
 module _ (n : ℕ) where
   -- ---- fields
@@ -26,7 +42,8 @@ module _ (n : ℕ) where
   RowFound none = Unit {0}
   RowFound (some f) = Stays n (f .1)
 
-  row-pick : (b : Bool) (f : String × Rule Content) (o : Option (String × Rule Content)) → Stays n (f .1) → RowFound o → RowFound (elim b [ true ↦ some f | false ↦ o ])
+  row-pick : (b : Bool) (f : String × Rule Content) (o : Option (String × Rule Content))
+      → Stays n (f .1) → RowFound o → RowFound (elim b [ true ↦ some f | false ↦ o ])
   row-pick true f o x y = x
   row-pick false f o x y = y
 
@@ -44,7 +61,9 @@ module _ (n : ℕ) where
   unfolding entry fieldHead
   entry-stays p t x rows =
       grouped p (λ w. the ":" >> need UnknownKeyword (rowOf t w)) fieldValue
-      (then x (λ w. grouped (the ":") (λ u. need UnknownKeyword (rowOf t w)) fieldValue (then (the-mark 58) (λ u. needs-row (rowOf t w) (row-found t w rows)))))
+      (then x
+      (λ w. grouped (the ":") (λ u. need UnknownKeyword (rowOf t w)) fieldValue
+      (then (the-mark 58) (λ u. needs-row (rowOf t w) (row-found t w rows)))))
 
   pair-name : Stays n pairName
   unfolding pairName
@@ -199,8 +218,15 @@ module _ (n : ℕ) where
   tween-stays : Stays n parseTween
   unfolding parseTween tweenFields
   tween-stays =
-      then ident-stays (λ t. and (the-mark 58) (then value-stays (λ v. and (two-marks 61 62) (then value-stays (λ w.
-      then (fields-stay tweenFields (number-row also easing-row also number-row also number-row also loop-row also number-row also count-row also flag-row also tt) []) (λ fs.
+      then ident-stays
+      (λ t. and (the-mark 58)
+      (then value-stays
+      (λ v. and (two-marks 61 62)
+      (then value-stays
+      (λ w.
+      then (fields-stay tweenFields
+      (number-row also easing-row also number-row also number-row also loop-row also number-row also count-row also flag-row also tt) [])
+      (λ fs.
       then (needs MissingDuration (numberOf "duration" fs)) (λ d. gives)))))))
 
   spring-rows : Rows n springFields
@@ -257,7 +283,9 @@ module _ (n : ℕ) where
   origin-row : Stays n origin
   unfolding origin parseGridOrigin
   origin-row =
-      then (a-choice Malformed (words ("top_left" ∷ "top_right" ∷ "bottom_left" ∷ "bottom_right" ∷ "center" ∷ "top" ∷ "bottom" ∷ "left" ∷ "right" ∷ []))) (λ k. gives)
+      then (a-choice Malformed
+      (words ("top_left" ∷ "top_right" ∷ "bottom_left" ∷ "bottom_right" ∷ "center" ∷ "top" ∷ "bottom" ∷ "left" ∷ "right" ∷ [])))
+      (λ k. gives)
 
   grid-stays : Stays n gridPattern
   unfolding gridPattern gridFields
@@ -284,8 +312,11 @@ module _ (n : ℕ) where
   opening-stays : (s : Opening) → Stays n (openingStep s)
   unfolding openingStep openingField
   opening-stays s =
-      tests (sees "{") gives (then a-word (λ w.
-      by-word UnknownKeyword (openingFields s) (w .1) (λ p. p >>= λ s′. eat "," >>= λ c. give (goOn c s′)) (opening-rows s) (λ p x. then x (λ s′. then (eats 44) (λ c. gives)))))
+      tests (sees "{") gives
+      (then a-word
+      (λ w.
+      by-word UnknownKeyword (openingFields s) (w .1) (λ p. p >>= λ s′. eat "," >>= λ c. give (goOn c s′)) (opening-rows s)
+      (λ p x. then x (λ s′. then (eats 44) (λ c. gives)))))
 
   stagger-stays : Stays n parseStagger
   unfolding parseStagger
@@ -318,7 +349,8 @@ module _ (n : ℕ) where
   draw-stays : Stays n parseDraw
   unfolding parseDraw
   draw-stays =
-      then string-stays (λ s. then (fields-stay drawFields draw-rows []) (λ fs. then (needs MissingDuration (numberOf "duration" fs)) (λ d. gives)))
+      then string-stays
+      (λ s. then (fields-stay drawFields draw-rows []) (λ fs. then (needs MissingDuration (numberOf "duration" fs)) (λ d. gives)))
 
   space-row : Stays n space
   unfolding space
@@ -334,8 +366,11 @@ module _ (n : ℕ) where
   waveform-stays : Stays n parseWaveform
   unfolding parseWaveform waveformKind waveformFields
   waveform-stays =
-      then (a-choice Malformed (words ("sine" ∷ "sawtooth" ∷ "square" ∷ "triangle" ∷ "noise" ∷ []))) (λ k.
-      then (fields-stay waveformFields (number-row also number-row also number-row also number-row also count-row also number-row also number-row also tt) []) (λ fs. gives))
+      then (a-choice Malformed (words ("sine" ∷ "sawtooth" ∷ "square" ∷ "triangle" ∷ "noise" ∷ [])))
+      (λ k.
+      then (fields-stay waveformFields
+      (number-row also number-row also number-row also number-row also count-row also number-row also number-row also tt) [])
+      (λ fs. gives))
 
   -- ---- preset, label, at
 
@@ -352,7 +387,8 @@ module _ (n : ℕ) where
   at-stays : Stays n parseAt
   unfolding parseAt atSign
   at-stays =
-      then (then (eats 43) (λ p. then (conds p gives (eats 45)) (λ m. gives))) (λ s. then (a-number seesNumber Malformed) (λ w. and (eats 59) gives))
+      then (then (eats 43) (λ p. then (conds p gives (eats 45)) (λ m. gives)))
+      (λ s. then (a-number seesNumber Malformed) (λ w. and (eats 59) gives))
 
   -- ---- nodes
 
@@ -368,14 +404,18 @@ module _ (n : ℕ) where
   container-rows = gives also gives also group-stays also stagger-stays also tt
 
   module _ (b : Rule (Nodes Key)) (inner : Stays n b) where
-    begun-stays : (x : Option (Rule (Leaf Key))) (y : Option (Rule Container)) → Found n x → Found n y → Stays n (nodeBy b (orContainer x y))
+    begun-stays : (x : Option (Rule (Leaf Key))) (y : Option (Rule Container))
+        → Found n x → Found n y → Stays n (nodeBy b (orContainer x y))
     begun-stays (some p) y f g = then f (λ l. gives)
     begun-stays none (some p) f g = then g (λ c. then inner (λ ns. gives))
     begun-stays none none f g = refuses
 
     node-stays : Stays n (parseNode b)
     unfolding parseNode beginning
-    node-stays = then a-word (λ w. begun-stays (under leaves (w .1)) (under containers (w .1)) (under-found n leaves (w .1) leaf-rows) (under-found n containers (w .1) container-rows))
+    node-stays =
+        then a-word
+        (λ w. begun-stays (under leaves (w .1)) (under containers (w .1)) (under-found n leaves (w .1) leaf-rows)
+        (under-found n containers (w .1) container-rows))
 
     nodes-stay : (ns : Nodes Key) → Stays n (nodesStep b ns)
     unfolding nodesStep oneNode
@@ -384,7 +424,9 @@ module _ (n : ℕ) where
   block-stays : (d : ℕ) → Stays n (block d)
   unfolding block
   block-stays zero = record { run = λ l ts h. tests (sees "{") {p = refuse TooManyNested} {q = refuse Missing} refuses refuses .run l ts h }
-  block-stays (suc d) = record { run = λ l ts h. in-group 123 (repeats (nodesStep (block d)) (nodes-stay (block d) (block-stays d)) Nodes.none) .run l ts h }
+  block-stays (suc d) = record {
+    run = λ l ts h. in-group 123 (repeats (nodesStep (block d)) (nodes-stay (block d) (block-stays d)) Nodes.none) .run l ts h;
+  }
 
   pub input-stays : Stays n animatoInput
   unfolding animatoInput

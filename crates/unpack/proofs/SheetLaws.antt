@@ -50,8 +50,17 @@ nodes-some n Nodes.none = omega arith
 nodes-some n (leaf l rest) =
     omega (arith, leaf-some n l, nodes-some n rest, length-append (recordOf n (single l)) (concat (recordsOf n rest)))
 nodes-some n (box k ns rest) =
-    let e = ap length (concat-append (recordsOf n ns) (recordsOf n rest)) ∙ length-append (concat (recordsOf n ns)) (concat (recordsOf n rest)) in
-    omega (arith, box-some n k ns, nodes-some n ns, nodes-some n rest, e, length-append (recordOf n (holding k ns)) (concat (recordsOf n ns ++ recordsOf n rest)))
+    let e = ap length (concat-append (recordsOf n ns) (recordsOf n rest))
+    ∙ length-append (concat (recordsOf n ns)) (concat (recordsOf n rest))
+    in
+    omega (
+      arith,
+      box-some n k ns,
+      nodes-some n ns,
+      nodes-some n rest,
+      e,
+      length-append (recordOf n (holding k ns)) (concat (recordsOf n ns ++ recordsOf n rest)),
+    )
 
 pub sheet-some : (n : ℕ) (ns : Forest) → Fits n ns → records ns ≤ length (encode n ns)
 unfolding allRecords
@@ -64,7 +73,8 @@ one-of [] i r e = absurd (let z : _≡_ {A = ℕ} 0 1 = cc in omega arith)
 one-of (q ∷ rs) zero r e = let z : q ≡ r = cc in omega (arith, ap length z, length-append q (concat rs))
 one-of (q ∷ rs) (suc i) r e = omega (arith, one-of rs i r e, length-append q (concat rs))
 
-pub sheet-one : (n : ℕ) (ns : Forest) → Fits n ns → (i : ℕ) (r : List ℕ) → getElem? (allRecords n ns) i ≡ some r → length r ≤ length (encode n ns)
+pub sheet-one : (n : ℕ) (ns : Forest) → Fits n ns → (i : ℕ) (r : List ℕ)
+    → getElem? (allRecords n ns) i ≡ some r → length r ≤ length (encode n ns)
 sheet-one n ns h i r e = omega (arith, one-of (allRecords n ns) i r e, ap length (sheet-flat n ns h))
 
 pub records-same : {A B : Type 0} (f : A → B) (ns : Nodes A) → records (mapTimes f ns) ≡ records ns
@@ -138,18 +148,25 @@ slight : (n : ℕ) (s : List ℕ) (ns : Forest) → decode n s ≡ some ns → S
 slight n s ns e =
     let d = decoded n s ns e in
     let h = ap length (d .encodes) in
-    record { few = omega (arith, d .short, h, sheet-some n ns (d .fits)); short = λ i r g. omega (arith, d .short, h, sheet-one n ns (d .fits) i r g) }
+    record {
+      few = omega (arith, d .short, h, sheet-some n ns (d .fits));
+      short = λ i r g. omega (arith, d .short, h, sheet-one n ns (d .fits) i r g);
+    }
 
 pub opening-within : (t s : List ℕ) → Within (length t) (opening t s)
 unfolding opening
 opening-within t s = long (ltb 16384 (length t)) refl
   where
-    tree-of : (f : Option ℕ) → Before (length t) f → (d : Option Forest) → decode (length t) s ≡ d → length t ≤ 16384 → Within (length t) (unlessForeign f (begins.decoded d))
+    tree-of : (f : Option ℕ) → Before (length t) f → (d : Option Forest)
+        → decode (length t) s ≡ d → length t ≤ 16384
+        → Within (length t) (unlessForeign f (begins.decoded d))
     tree-of (some p) h d e l = omega arith
     tree-of none h none e l = omega arith
     tree-of none h (some ns) e l = slight (length t) s ns e
 
-    long : (b : Bool) → ltb 16384 (length t) ≡ b → Within (length t) (cond b (shut TextTooLong 0) (unlessForeign (foreignFrom 0 t) (begins.decoded (decode (length t) s))))
+    long : (b : Bool) → ltb 16384 (length t) ≡ b
+        → Within (length t) (cond b (shut TextTooLong 0) (unlessForeign (foreignFrom 0 t) (begins.decoded (decode (length t) s))))
     long true e = omega arith
     long false e =
-        tree-of (foreignFrom 0 t) (before-more (foreignFrom 0 t) (0 + length t) (length t) (omega arith) (foreign-before 0 t)) (decode (length t) s) refl (omega (arith, ltb-false 16384 (length t) e))
+        tree-of (foreignFrom 0 t) (before-more (foreignFrom 0 t) (0 + length t) (length t) (omega arith) (foreign-before 0 t))
+        (decode (length t) s) refl (omega (arith, ltb-false 16384 (length t) e))

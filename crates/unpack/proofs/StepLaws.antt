@@ -11,7 +11,10 @@ use Rattle.codec.proofs.Laws.{All}
 use Rattle.token.specs.Token.{Token, token, place, kind, isMark, rest}
 use Rattle.token.specs.Names.{nameOf, quoteOf}
 use Rattle.error.specs.declared.Refusal.{Refusal}
-use Rattle.grammar.specs.Rule.{Notes, Out, got, refused, Rule, after, give, need, refuse, if, _>>=_, _>>_, ends, skip, seesByte, seesPair, theByte, bothBytes, eatByte, found, word, text, choiceIn, Signed, absent, plus, minus, taken, signed, Pass, halts, closes, goes, weigh, depth, passed, behind, firstOf, noted, leave, insideByte, Next, more, done, steps, repeat, listStep, list}
+use Rattle.grammar.specs.Rule.{Notes, Out, got, refused, Rule, after, give, need, refuse, if, _>>=_, _>>_, ends, skip}
+use Rattle.grammar.specs.Rule.{seesByte, seesPair, theByte, bothBytes, eatByte, found, word, text, choiceIn, Signed}
+use Rattle.grammar.specs.Rule.{absent, plus, minus, taken, signed, Pass, halts, closes, goes, weigh, depth, passed}
+use Rattle.grammar.specs.Rule.{behind, firstOf, noted, leave, insideByte, Next, more, done, steps, repeat, listStep, list}
 use Rattle.grammar.specs.Rule.{next as following}
 
 -- ---- tokens at places up to n
@@ -85,11 +88,13 @@ pub and : {A B : Type 0} {n : ℕ} {p : Rule A} {f : Rule B} → Stays n p → S
 and {n = n} {p = p} {f = f} x k = record { run = λ l ts h. goes-on n (λ a. f) (λ a. k) (p l ts) (x .run l ts h) }
 
 -- two rules as one, and a third behind them
-regroup : {A B C : Type 0} (n : ℕ) (f : A → Rule B) (g : B → Rule C) (o : Out A) → OutNear n (after o (λ a. f a >>= g)) → OutNear n (after (after o f) g)
+regroup : {A B C : Type 0} (n : ℕ) (f : A → Rule B) (g : B → Rule C) (o : Out A)
+    → OutNear n (after o (λ a. f a >>= g)) → OutNear n (after (after o f) g)
 regroup n f g (got a l ts) h = h
 regroup n f g (refused r p) h = h
 
-pub grouped : {A B C : Type 0} {n : ℕ} (p : Rule A) (f : A → Rule B) (g : B → Rule C) → Stays n (p >>= λ a. f a >>= g) → Stays n (p >>= f >>= g)
+pub grouped : {A B C : Type 0} {n : ℕ} (p : Rule A) (f : A → Rule B) (g : B → Rule C)
+    → Stays n (p >>= λ a. f a >>= g) → Stays n (p >>= f >>= g)
 grouped {n = n} p f g x = record { run = λ l ts h. regroup n f g (p l ts) (x .run l ts h) }
 
 pub conds : {A : Type 0} {n : ℕ} (b : Bool) {p q : Rule A} → Stays n p → Stays n q → Stays n (cond b p q)
@@ -147,9 +152,13 @@ first-near n (some q) p h g = h
 pub leaves : {n : ℕ} → Stays n leave
 leaves {n = n} = record { run = λ l ts h. go l ts h (ends ts) }
   where
-    go : (l : Notes) (ts : List Token) → State n l ts → (b : Bool) → OutNear n (cond {A = Out Unit} b (got tt l (rest ts)) (got tt (noted l (place ts)) (behind 0 ts)))
+    go : (l : Notes) (ts : List Token) → State n l ts → (b : Bool)
+        → OutNear n (cond {A = Out Unit} b (got tt l (rest ts)) (got tt (noted l (place ts)) (behind 0 ts)))
     go l ts h true = moved n l ts h
-    go l ts h false = record { left = first-near n (l .leftover) (place ts) (h .left) (place-near n ts (h .near)); near = behind-near n 0 ts (h .near) }
+    go l ts h false = record {
+      left = first-near n (l .leftover) (place ts) (h .left) (place-near n ts (h .near));
+      near = behind-near n 0 ts (h .near);
+    }
 
 pub in-group : {A : Type 0} {n : ℕ} {p : Rule A} (b : ℕ) → Stays n p → Stays n (insideByte b p)
 in-group {p = p} b x = and {f = p >>= λ a. leave >> give a} (the-mark b) (then x (λ a. and {f = give a} leaves gives))
@@ -163,8 +172,10 @@ on n again k (done b) = gives
 steps-stay : {A : Type 0} (n : ℕ) (step : A → Rule (Next A)) → ((a : A) → Stays n (step a)) → (k : ℕ) (a : A) → Stays n (steps step k a)
 unfolding steps
 steps-stay n step h zero a = record { run = λ l ts g. g }
-steps-stay n step h (suc k) a =
-    record { run = λ l ts g. goes-on n (following (λ b. steps step k b)) (on n (λ b. steps step k b) (λ b. steps-stay n step h k b)) (step a l ts) (h a .run l ts g) }
+steps-stay n step h (suc k) a = record {
+  run = λ l ts g. goes-on n (following (λ b. steps step k b)) (on n (λ b. steps step k b) (λ b. steps-stay n step h k b)) (step a l ts)
+      (h a .run l ts g);
+}
 
 pub repeats : {A : Type 0} {n : ℕ} (step : A → Rule (Next A)) → ((a : A) → Stays n (step a)) → (a : A) → Stays n (repeat step a)
 repeats {n = n} step h a = record { run = λ l ts g. steps-stay n step h (l .bound) a .run l ts g }
@@ -181,7 +192,9 @@ Found n (some p) = Stays n p
 abbrev pub Rows : {A : Type 0} → ℕ → List (String × Rule A) → Type 0
 Rows n t = All (λ f. Stays n (f .1)) t
 
-picks : {A : Type 0} (n : ℕ) (b : Bool) (p : Rule A) (o : Option (Rule A)) → Stays n p → Found n o → Found {A = A} n (elim b [ true ↦ some p | false ↦ o ])
+picks : {A : Type 0} (n : ℕ) (b : Bool) (p : Rule A) (o : Option (Rule A))
+    → Stays n p → Found n o
+    → Found {A = A} n (elim b [ true ↦ some p | false ↦ o ])
 picks n true p o x y = x
 picks n false p o x y = y
 
@@ -190,17 +203,22 @@ unfolding under
 under-found n [] w h = tt
 under-found n (f ∷ t) w h = picks n (same w (bytes (f .0))) (f .1) (under t w) (h .0) (under-found n t w (h .1))
 
-needs-rule : {A B : Type 0} (n : ℕ) (r : Refusal) (o : Option (Rule A)) (f : Rule A → Rule B) → Found n o → ((p : Rule A) → Stays n p → Stays n (f p)) → Stays n (need r o >>= f)
+needs-rule : {A B : Type 0} (n : ℕ) (r : Refusal) (o : Option (Rule A)) (f : Rule A → Rule B)
+    → Found n o → ((p : Rule A) → Stays n p → Stays n (f p))
+    → Stays n (need r o >>= f)
 needs-rule n r none f x k = record { run = λ l ts h. place-near n ts (h .near) }
 needs-rule n r (some p) f x k = record { run = λ l ts h. k p x .run l ts h }
 
 -- f goes on with the rule that is found
-pub by-word : {A B : Type 0} {n : ℕ} (r : Refusal) (t : List (String × Rule A)) (w : List ℕ) (f : Rule A → Rule B) → Rows n t → ((p : Rule A) → Stays n p → Stays n (f p)) → Stays n (need r (under t w) >>= f)
+pub by-word : {A B : Type 0} {n : ℕ} (r : Refusal) (t : List (String × Rule A)) (w : List ℕ) (f : Rule A → Rule B)
+    → Rows n t → ((p : Rule A) → Stays n p → Stays n (f p))
+    → Stays n (need r (under t w) >>= f)
 by-word {n = n} r t w f rows k = needs-rule n r (under t w) f (under-found n t w rows) k
 
 or-rule : {A : Type 0} (n : ℕ) (o : Option (Rule A)) (p : Rule A) → Found n o → Stays n p → Stays n (default o p)
 or-rule n none p x y = y
 or-rule n (some q) p x y = x
 
-pub by-word-or : {A : Type 0} {n : ℕ} (t : List (String × Rule A)) (w : List ℕ) (p : Rule A) → Rows n t → Stays n p → Stays n (default (under t w) p)
+pub by-word-or : {A : Type 0} {n : ℕ} (t : List (String × Rule A)) (w : List ℕ) (p : Rule A)
+    → Rows n t → Stays n p → Stays n (default (under t w) p)
 by-word-or {n = n} t w p rows x = or-rule n (under t w) p (under-found n t w rows) x

@@ -56,5 +56,6 @@ line-back i g (line.Accepted n) h = (line-number n, line-length n (omega arith))
 line-back i g (line.Refused r p) (inl h) = (refusal-number r p, refusal-place r p (omega arith))
 line-back i g (line.Refused r p) (inr h) = (refusal-number r p, refusal-place r p (omega arith))
 
-pub line-parts : (t sheet : List ℕ) (i : ℕ) (out : List ℕ) → i < 2 ^ 32 → LineParts (lining t sheet i out .0) (packedLine (lining t sheet i out .0))
+pub line-parts : (t sheet : List ℕ) (i : ℕ) (out : List ℕ) → i < 2 ^ 32
+    → LineParts (lining t sheet i out .0) (packedLine (lining t sheet i out .0))
 line-parts t sheet i out g = line-back i g (lining t sheet i out .0) (line-within t sheet i out)

@@ -66,7 +66,8 @@ split-near n k p cs [] h = ended-near n p cs (omega arith)
 split-near n (suc k) p cs (b ∷ t) h = split-near n k (suc p) cs t (omega arith)
 split-near n zero p cs (b ∷ t) h =
     let s = step cs (b ∷ t) in
-    stepped-near n p s (splitFrom (splitting.more s) (suc p) (awaited cs s) t) (omega arith) (split-near n (splitting.more s) (suc p) (awaited cs s) t (omega arith))
+    stepped-near n p s (splitFrom (splitting.more s) (suc p) (awaited cs s) t) (omega arith)
+    (split-near n (splitting.more s) (suc p) (awaited cs s) t (omega arith))
 
 -- ---- and the grammar's
 
@@ -102,7 +103,9 @@ short-text : (size words : ℕ) → early size words ≡ none → size ≤ 16384
 unfolding early
 short-text size words e = go (ltb 16384 size) refl e
   where
-    go : (b : Bool) → ltb 16384 size ≡ b → cond b (some TextTooLong) (cond (ltb words 16384) (some ScratchTooShort) none) ≡ none → size ≤ 16384
+    go : (b : Bool) → ltb 16384 size ≡ b
+        → cond b (some TextTooLong) (cond (ltb words 16384) (some ScratchTooShort) none) ≡ none
+        → size ≤ 16384
     go true f e = absurd (let z : _≡_ {A = ℕ} 0 1 = cc in omega arith)
     go false f e = omega (arith, ltb-false 16384 size f)
 
@@ -111,7 +114,8 @@ fitting-within : (b : Bool) (bs : List ℕ) (k : ℕ) → length bs ≤ 49152 �
 fitting-within true bs k h g = omega arith
 fitting-within false bs k h g = (h, omega arith)
 
-written-within : (t : List ℕ) (room : ℕ) (x : Parsed) → parse t ≡ x → length t ≤ 16384 → ParsedNear (length t) x → ReadWithin (written (length t) room x .0)
+written-within : (t : List ℕ) (room : ℕ) (x : Parsed) → parse t ≡ x → length t ≤ 16384
+    → ParsedNear (length t) x → ReadWithin (written (length t) room x .0)
 written-within t room (wrong r p) e l h = omega arith
 written-within t room (tree ns) e l h =
     let bs = encode (length t) (mapTimes stored ns) in
@@ -139,7 +143,8 @@ answer-within (some f) m h b = omega arith
 verdict-within : (t : List ℕ) (o : Opened) → Within (length t) o → CheckWithin (verdict t o)
 unfolding judged
 verdict-within t (shut r p) h = omega arith
-verdict-within t (opened ns) h = answer-within (validateNodes colors t 1 ns) (1 + records ns) (omega (arith, h .few)) (nodes-below colors t 1 ns)
+verdict-within t (opened ns) h =
+    answer-within (validateNodes colors t 1 ns) (1 + records ns) (omega (arith, h .few)) (nodes-below colors t 1 ns)
 
 pub check-within : (t sheet : List ℕ) → CheckWithin (checking t sheet)
 unfolding checking
@@ -152,11 +157,13 @@ LineWithin i (lines.Accepted n) = n ≤ 131077
 LineWithin i (lines.Refused r p) = (p ≡ i) ⊎ (p ≤ 16384)
 
 placed-within : (i : ℕ) (out l : List ℕ) (b : Bool) → length l ≤ 131077
-    → LineWithin i (cond {A = LineAnswer × List ℕ} b (lines.Refused OutputTooShort i, out) (lines.Accepted (length l), l ++ drop (length l) out) .0)
+    → LineWithin i
+    (cond {A = LineAnswer × List ℕ} b (lines.Refused OutputTooShort i, out) (lines.Accepted (length l), l ++ drop (length l) out) .0)
 placed-within i out l true h = inl refl
 placed-within i out l false h = h
 
-record-within : (i : ℕ) (out : List ℕ) (o : Option (List ℕ)) → ((r : List ℕ) → o ≡ some r → length r ≤ 65535) → LineWithin i (ofRecord i out o .0)
+record-within : (i : ℕ) (out : List ℕ) (o : Option (List ℕ)) → ((r : List ℕ) → o ≡ some r → length r ≤ 65535)
+    → LineWithin i (ofRecord i out o .0)
 record-within i out none h = inl refl
 record-within i out (some r) h = placed-within i out (line r) (ltb (length out) (length (line r))) (omega (arith, h r refl, length-line r))
 

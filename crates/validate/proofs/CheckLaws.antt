@@ -25,7 +25,8 @@ use Rattle.validate.specs.declared.nodes.Walk.the-variants as walk
 use Rattle.validate.proofs.FrameLaws.{none≢some}
 
 -- the nodes of a sheet stand behind its head
-head : (n : ℕ) (s : List ℕ) (ns : Forest) {c m : ℕ} → decode n s ≡ some ns → Reads (big 2) same s 0 c m → Stands (forest n (inner n 16) c) s m ns
+head : (n : ℕ) (s : List ℕ) (ns : Forest) {c m : ℕ} → decode n s ≡ some ns
+    → Reads (big 2) same s 0 c m → Stands (forest n (inner n 16) c) s m ns
 unfolding encode
 head n s ns e r = go r all
   where
@@ -49,7 +50,11 @@ module _ (t s : List ℕ) where
     judges = rw (the-tree t s o .opens)
 
     pub refused : {q : Refusal} {p : ℕ} → NodesWalk t s m c 1 (walk.Refused q p) → Refused q p ≡ checking t s
-    refused w = sym (judges ∙ ap verdictOf (w .is 16 (the-tree t s o .nodes) (head (length t) s (the-tree t s o .nodes) (the-tree t s o .decodes) r)))
+    refused w =
+        sym
+        (judges ∙ ap verdictOf (w .is 16 (the-tree t s o .nodes) (head (length t) s (the-tree t s o .nodes) (the-tree t s o .decodes) r)))
 
     pub accepted : {next after : ℕ} → NodesWalk t s m c 1 (walk.Passed next after) → Accepted ≡ checking t s
-    accepted w = sym (judges ∙ ap verdictOf (w .is 16 (the-tree t s o .nodes) (head (length t) s (the-tree t s o .nodes) (the-tree t s o .decodes) r) .accepted))
+    accepted w =
+        sym (judges
+        ∙ ap verdictOf (w .is 16 (the-tree t s o .nodes) (head (length t) s (the-tree t s o .nodes) (the-tree t s o .decodes) r) .accepted))

@@ -49,7 +49,9 @@ module _ {A : Type 0} (c : Form A) (s : List ℕ) (n : ℕ) (xs : List A) where
   pub left-next : {X : Type 0} {f : A → X} {v : X} (k a b : ℕ) → k < n → Left k a → Reads c f s a v b → Next f v k b
   left-next k a b l w (got x e q h r) =
       let z : n - k ≡ suc (n - (k + 1)) = omega arith in
-      let e₁ : andThen (eachIn (c .read) (n - (k + 1)) (drop b s)) (λ ys cs. some (x ∷ ys, cs)) ≡ some (drop k xs, w .rest) = rw (z, e) at (w .reads) in
+      let e₁ : andThen (eachIn (c .read) (n - (k + 1)) (drop b s)) (λ ys cs. some (x ∷ ys, cs)) ≡ some (drop k xs, w .rest) = rw (z, e)
+      at (w .reads)
+      in
       let (y, o, e₂) = inverse (eachIn (c .read) (n - (k + 1)) (drop b s)) (λ ys cs. some (x ∷ ys, cs)) (drop k xs, w .rest) e₁ in
       let p = Option·some-injective (x ∷ y .0, y .1) (drop k xs, w .rest) e₂ in
       let d : drop k xs ≡ x ∷ y .0 = sym (ap (λ (z : List A × List ℕ). z .0) p) in
@@ -113,7 +115,8 @@ module _ (t s : List ℕ) (n : ℕ) (fs : List Entry) where
 
   module _ (time : Float) (i j : ℕ) {v : entries.KeyframeEntry} {b : ℕ} (l : j < i) (w : Next form s n fs entryView v j b) where
     -- one more of them
-    unroll : anyNear time (stamps (take (i - j) (drop j fs))) ≡ (near (stamp (w .value)) time || anyNear time (stamps (take (i - (j + 1)) (drop (j + 1) fs))))
+    unroll : anyNear time (stamps (take (i - j) (drop j fs)))
+        ≡ (near (stamp (w .value)) time || anyNear time (stamps (take (i - (j + 1)) (drop (j + 1) fs))))
     unroll =
         let z : i - j ≡ suc (i - (j + 1)) = omega arith in
         ap (λ (l : List Entry). anyNear time (stamps (take (i - j) l))) (w .list)
@@ -127,7 +130,8 @@ module _ (t s : List ℕ) (n : ℕ) (fs : List Entry) where
     tried-hit e g = g ∙ unroll ∙ or-first (near (stamp (w .value)) time) _ e
 
   pub tried-end : (time : Float) (i j : ℕ) → i ≤ j → Tried time i j → anyNear time (stamps (take i fs)) ≡ false
-  tried-end time i j l g = let z : i - j ≡ 0 = omega arith in g ∙ ap (λ (m : ℕ). anyNear time (stamps (take m (drop j fs)))) z ∙ any-nil time
+  tried-end time i j l g =
+      let z : i - j ≡ 0 = omega arith in g ∙ ap (λ (m : ℕ). anyNear time (stamps (take m (drop j fs)))) z ∙ any-nil time
 
   -- the frames before i are passed
   abbrev pub Passed : ℕ → Type 0
@@ -138,7 +142,10 @@ module _ (t s : List ℕ) (n : ℕ) (fs : List Entry) where
   no-frames us = refl
 
   pub passed-end : (i a : ℕ) → n ≤ i → Left form s n fs i a → Passed i → none ≡ validateFrames t [] fs
-  passed-end i a l w g = no-frames (stamps (take i fs)) ∙ ap (λ (l : List Entry). validateFrames t (stamps (take i fs)) l) (sym (left-end form s n fs i a l w)) ∙ g
+  passed-end i a l w g =
+      no-frames (stamps (take i fs))
+      ∙ ap (λ (l : List Entry). validateFrames t (stamps (take i fs)) l) (sym (left-end form s n fs i a l w))
+      ∙ g
 
   module _ (i : ℕ) {v : entries.KeyframeEntry} {b : ℕ} (w : Next form s n fs entryView v i b) where
     abbrev near-one : Bool
@@ -150,7 +157,8 @@ module _ (t s : List ℕ) (n : ℕ) (fs : List Entry) where
     abbrev onward : Option Refusal
     onward = validateFrames t (stamps (take i fs) ++ stamp (w .value) ∷ []) (drop (i + 1) fs)
 
-    head : validateFrames t (stamps (take i fs)) (drop i fs) ≡ orElse (first ((near-one, DuplicateTime) ∷ (no-easing, UnknownEasing) ∷ [])) onward
+    head : validateFrames t (stamps (take i fs)) (drop i fs)
+        ≡ orElse (first ((near-one, DuplicateTime) ∷ (no-easing, UnknownEasing) ∷ [])) onward
     unfolding validateFrames
     head = ap (λ (l : List Entry). validateFrames t (stamps (take i fs)) l) (w .list)
 
@@ -166,30 +174,44 @@ module _ (t s : List ℕ) (n : ℕ) (fs : List Entry) where
     unfolding first
     passed-next e q g =
         let k : take (i + 1) fs ≡ take i fs ++ w .value ∷ [] = take-add i 1 fs ∙ ap (λ (l : List Entry). take i fs ++ take 1 l) (w .list) in
-        ap (λ (l : List Float). validateFrames t l (drop (i + 1) fs)) (ap stamps k ∙ stamps-append (take i fs) (w .value ∷ [])) ∙ sym (rw (e, q) at head) ∙ g
+        ap (λ (l : List Float). validateFrames t l (drop (i + 1) fs)) (ap stamps k ∙ stamps-append (take i fs) (w .value ∷ []))
+        ∙ sym (rw (e, q) at head) ∙ g
 
 -- ---- a track
 
 -- its frames stand behind its target and their count
-pub frames-at : (n : ℕ) {X : Type 0} {view : Span → X} {s : List ℕ} {at b c m : ℕ} {v : X} → Reads (spanForm n) view s at v b → Reads (big 2) same s b c m → FramesAt n s at m
+pub frames-at : (n : ℕ) {X : Type 0} {view : Span → X} {s : List ℕ} {at b c m : ℕ} {v : X}
+    → Reads (spanForm n) view s at v b → Reads (big 2) same s b c m
+    → FramesAt n s at m
 frames-at n (bad o k) q x h = none≢some (rw (k (h .within)) at (h .reads))
 frames-at n (got a e i g l) (bad o k) x h = none≢some (rw (e, k l) at (h .reads))
-frames-at n {s = s} {m = m} (got a e i g l) (got c e′ i′ g′ l′) x h = go (each (entryForm n) c .read (drop m s)) refl (rw (e, e′) at (h .reads))
+frames-at n {s = s} {m = m} (got a e i g l) (got c e′ i′ g′ l′) x h =
+    go (each (entryForm n) c .read (drop m s)) refl (rw (e, e′) at (h .reads))
   where
     go : (o : Option (List Entry × List ℕ)) → each (entryForm n) c .read (drop m s) ≡ o
-        → andThen (andThen (andThen o (λ fs r. andThen (opt loopForm .read r) (λ mode r. some ((fs, mode), r)))) (λ p r. some ((a, p), r))) (λ z r. some (toKeyframes z, r)) ≡ some (x, h .rest)
+        → andThen (andThen (andThen o (λ fs r. andThen (opt loopForm .read r) (λ mode r. some ((fs, mode), r)))) (λ p r. some ((a, p), r)))
+        (λ z r. some (toKeyframes z, r))
+        ≡ some (x, h .rest)
         → Stands (each (entryForm n) (length (x .frames))) s m (x .frames)
     go none p q = none≢some q
     go (some z) p q = more (opt loopForm .read (z .1)) q
       where
         more : (o : Option (Option LoopSpec × List ℕ))
-            → andThen (andThen (andThen o (λ mode r. some ((z .0, mode), r))) (λ p r. some ((a, p), r))) (λ z r. some (toKeyframes z, r)) ≡ some (x, h .rest)
+            → andThen (andThen (andThen o (λ mode r. some ((z .0, mode), r))) (λ p r. some ((a, p), r))) (λ z r. some (toKeyframes z, r))
+            ≡ some (x, h .rest)
             → Stands (each (entryForm n) (length (x .frames))) s m (x .frames)
         more none q = none≢some q
         more (some y) q =
-            let e : z .0 ≡ x .frames = ap (λ (w : KeyframeSpec KeyframeTime × List ℕ). w .0 .frames) (Option·some-injective (toKeyframes (a, (z .0, y .0)), y .1) (x, h .rest) q) in
+            let e : z .0 ≡ x .frames = ap (λ (w : KeyframeSpec KeyframeTime × List ℕ). w .0 .frames)
+            (Option·some-injective (toKeyframes (a, (z .0, y .0)), y .1) (x, h .rest) q)
+            in
             let k : length (z .0) ≡ c = each-lawful (entryForm n) (entryL n .ok) (entryL n .law) c .forth (drop m s) z p .1 .0 in
-            record { within = l′; rest = z .1; reads = ap (λ (j : ℕ). each (entryForm n) j .read (drop m s)) (ap length (sym e) ∙ k) ∙ p ∙ ap (λ (fs : List Entry). some (fs, z .1)) e }
+            record {
+              within = l′;
+              rest = z .1;
+              reads = ap (λ (j : ℕ). each (entryForm n) j .read (drop m s)) (ap length (sym e) ∙ k)
+                  ∙ p ∙ ap (λ (fs : List Entry). some (fs, z .1)) e;
+            }
 
 module _ (t : List ℕ) (x : KeyframeSpec KeyframeTime) (v : tracks.KeyframeSpec) (e : keyframesView x ≡ v) where
   pub few : v .frames < 2 → some TooFewFrames ≡ validateKeyframes t x

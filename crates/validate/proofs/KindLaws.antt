@@ -35,12 +35,18 @@ known (bad o n) k = bad o n
 
 -- ---- a leaf
 
-pub leaf-is : (t : List ℕ) (l : Leaf KeyframeTime) {o : Option Refusal} → o ≡ validateLeaf colors t l → Prim.Path (Option Refusal × Kind) (recordView t (single l)) (o, kind.Leaf)
+pub leaf-is : (t : List ℕ) (l : Leaf KeyframeTime) {o : Option Refusal}
+    → o ≡ validateLeaf colors t l
+    → Prim.Path (Option Refusal × Kind) (recordView t (single l)) (o, kind.Leaf)
 leaf-is t l e = λ i. (sym e i, kind.Leaf)
 
 -- what neither is before nor a container is an `at`
-pub last-kind : (k : ℕ) → LeafKind k → (k ≡ 0 → ⊥) → (k ≡ 1 → ⊥) → (k ≡ 2 → ⊥) → (k ≡ 7 → ⊥) → (k ≡ 8 → ⊥) → (k ≡ 9 → ⊥) → (k ≡ 10 → ⊥) → (k ≡ 11 → ⊥) → (k ≡ 12 → ⊥) → (k ≡ 13 → ⊥) → k ≡ 14
-last-kind k h n0 n1 n2 n7 n8 n9 n10 n11 n12 n13 = ⊎-elim (λ l. absurd (low k l n0 n1 n2)) (λ l. only-at k (omega arith) (h .1) (no k 5 l (omega arith)) (no k 6 l (omega arith)) n7 n8 n9 n10 n11 n12 n13) (h .0)
+pub last-kind : (k : ℕ) → LeafKind k → (k ≡ 0 → ⊥) → (k ≡ 1 → ⊥) → (k ≡ 2 → ⊥)
+    → (k ≡ 7 → ⊥) → (k ≡ 8 → ⊥) → (k ≡ 9 → ⊥) → (k ≡ 10 → ⊥)
+    → (k ≡ 11 → ⊥) → (k ≡ 12 → ⊥) → (k ≡ 13 → ⊥) → k ≡ 14
+last-kind k h n0 n1 n2 n7 n8 n9 n10 n11 n12 n13 =
+    ⊎-elim (λ l. absurd (low k l n0 n1 n2))
+    (λ l. only-at k (omega arith) (h .1) (no k 5 l (omega arith)) (no k 6 l (omega arith)) n7 n8 n9 n10 n11 n12 n13) (h .0)
   where
     low : (k : ℕ) → k < 3 → (k ≡ 0 → ⊥) → (k ≡ 1 → ⊥) → (k ≡ 2 → ⊥) → ⊥
     low k h n0 n1 n2 = omega arith
@@ -60,7 +66,10 @@ Holding t s start m o c = Reads {X = Option Refusal × Kind} (recordForm (length
 module _ (t : List ℕ) {s : List ℕ} {start at k : ℕ} (b : Reads (below 15) same s start k at) where
   pub count-record : {c m : ℕ} → ContainerKind k → (k ≡ 5 → ⊥) → (k ≡ 6 → ⊥) → Reads (big 2) same s at c m → Holding t s start m none c
   unfolding validateContainer
-  count-record {c} {m} h n5 n6 r = ⊎-elim (λ e. laws.chosen (cases t) (splitNode _ _) 3 b e nodes (λ ns e. e)) (λ e. laws.chosen (cases t) (splitNode _ _) 4 b e nodes (λ ns e. e)) (three-or-four k (omega arith) (no k 0 (h .0) (omega arith)) (no k 1 (h .0) (omega arith)) (no k 2 (h .0) (omega arith)))
+  count-record {c} {m} h n5 n6 r =
+      ⊎-elim (λ e. laws.chosen (cases t) (splitNode _ _) 3 b e nodes (λ ns e. e))
+      (λ e. laws.chosen (cases t) (splitNode _ _) 4 b e nodes (λ ns e. e))
+      (three-or-four k (omega arith) (no k 0 (h .0) (omega arith)) (no k 1 (h .0) (omega arith)) (no k 2 (h .0) (omega arith)))
     where
       no : (k j : ℕ) → 3 ≤ k → j < 3 → k ≡ j → ⊥
       no k j h l e = omega arith
@@ -68,7 +77,9 @@ module _ (t : List ℕ) {s : List ℕ} {start at k : ℕ} (b : Reads (below 15) 
       nodes : Reads {X = Option Refusal × Kind} countForm (λ ns. (none, kind.Container (width ns))) s at (none, kind.Container c) m
       nodes = made (big 2) countForm blank counts r (λ a e i. (none, kind.Container ((width-blank a ∙ e) i)))
 
-  pub group-record : {m : ℕ} {v : groups.GroupSpec} → k ≡ 5 → Reads (below 2 ▹ big 2) (λ p. groupView (p .0) (p .1)) s at v m → Holding t s start m none (v .nodes)
+  pub group-record : {m : ℕ} {v : groups.GroupSpec} → k ≡ 5
+      → Reads (below 2 ▹ big 2) (λ p. groupView (p .0) (p .1)) s at v m
+      → Holding t s start m none (v .nodes)
   unfolding validateContainer
   group-record e r =
       laws.chosen (cases t) (splitNode _ _) 5 b e
@@ -77,11 +88,16 @@ module _ (t : List ℕ) {s : List ℕ} {start at k : ℕ} (b : Reads (below 15) 
       (λ p e i. (none, kind.Container ((width-blank (p .1) ∙ ap (λ (g : groups.GroupSpec). g .nodes) e) i))))
       (λ x e. e)
 
-  pub stagger-record : (f : Fault) {m : ℕ} {v : staggers.StaggerSpec} → k ≡ 6 → Reads (opt patternForm ▹ opt word ▹ big 2) (λ p. staggerView (p .0) (p .1 .0) (p .1 .1)) s at v m
+  pub stagger-record : (f : Fault) {m : ℕ} {v : staggers.StaggerSpec} → k ≡ 6
+      → Reads (opt patternForm ▹ opt word ▹ big 2) (λ p. staggerView (p .0) (p .1 .0) (p .1 .1)) s at v m
       → StaggerTells v f → Holding t s start m (faultOf f) (v .nodes)
   stagger-record f e r g =
       laws.chosen (cases t) (splitNode _ _) 6 b e
-      (made (opt patternForm ▹ opt word ▹ big 2) (opt patternForm ▹ opt word ▹ countForm) (λ p. (p .0, (p .1 .0, blank (p .1 .1)))) {g = λ p. recordView t (holding (tree.stagger (p .0) (p .1 .0)) (p .1 .1))}
-      (after (opt patternForm) (opt word ▹ big 2) (opt word ▹ countForm) (λ q. (q .0, blank (q .1))) (after (opt word) (big 2) countForm blank counts)) r
-      (λ p e i. (sym (g (p .0) (p .1 .0) (p .1 .1) e) i, kind.Container ((width-blank (p .1 .1) ∙ ap (λ (g : staggers.StaggerSpec). g .nodes) e) i))))
+      (made (opt patternForm ▹ opt word ▹ big 2) (opt patternForm ▹ opt word ▹ countForm) (λ p. (p .0, (p .1 .0, blank (p .1 .1))))
+      {g = λ p. recordView t (holding (tree.stagger (p .0) (p .1 .0)) (p .1 .1))}
+      (after (opt patternForm) (opt word ▹ big 2) (opt word ▹ countForm) (λ q. (q .0, blank (q .1)))
+      (after (opt word) (big 2) countForm blank counts))
+      r
+      (λ p e i.
+      (sym (g (p .0) (p .1 .0) (p .1 .1) e) i, kind.Container ((width-blank (p .1 .1) ∙ ap (λ (g : staggers.StaggerSpec). g .nodes) e) i))))
       (λ x e. e)

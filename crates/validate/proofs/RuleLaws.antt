@@ -14,7 +14,8 @@ first-append ((true, r) ∷ cs) ds = refl
 first-append ((false, r) ∷ cs) ds = first-append cs ds
 
 -- the first rule
-pub one : (refusal : Refusal) {r : Option Refusal} {broken b : Bool} → broken ≡ b → r ≡ first ((broken, refusal) ∷ []) → r ≡ first ((b, refusal) ∷ [])
+pub one : (refusal : Refusal) {r : Option Refusal} {broken b : Bool}
+    → broken ≡ b → r ≡ first ((broken, refusal) ∷ []) → r ≡ first ((b, refusal) ∷ [])
 one refusal q h = h ∙ (λ i. first ((q i, refusal) ∷ []))
 
 -- one more

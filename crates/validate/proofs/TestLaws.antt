@@ -71,11 +71,14 @@ range-absent none e = refl
 range-absent (some p) e = let z : _≡_ {A = ℕ} 0 1 = cc in absurd (omega arith)
 
 -- the start is outside; it is not, and the end decides
-pub range-start : {x y : Float} {q : Bool} → q ≡ true → Tells f32 outsideUnit x q → Tells optRangeView (given outside) (optRange.Present x y) true
+pub range-start : {x y : Float} {q : Bool} → q ≡ true → Tells f32 outsideUnit x q
+    → Tells optRangeView (given outside) (optRange.Present x y) true
 range-start h t none e = let z : _≡_ {A = ℕ} 0 1 = cc in absurd (omega arith)
 range-start h t (some p) e = let z = sym (t (p .0) (cc)) ∙ h in rw z
 
-pub range-end : {x y : Float} {q r : Bool} → q ≡ false → Tells f32 outsideUnit x q → Tells f32 outsideUnit y r → Tells optRangeView (given outside) (optRange.Present x y) r
+pub range-end : {x y : Float} {q r : Bool} → q ≡ false → Tells f32 outsideUnit x q
+    → Tells f32 outsideUnit y r
+    → Tells optRangeView (given outside) (optRange.Present x y) r
 range-end h t u none e = let z : _≡_ {A = ℕ} 0 1 = cc in absurd (omega arith)
 range-end h t u (some p) e = let z = sym (t (p .0) (cc)) ∙ h in rw z (u (p .1) (cc))
 
@@ -85,7 +88,9 @@ count-is : (v : tree.ValueExpr) → tree.componentCount v ≡ countOf (valueView
 count-is (tree.scalar x) = refl
 count-is (tree.array xs) = refl
 
-pub mismatch-tells : {v w : values.ValueExpr} (a b : tree.ValueExpr) → valueView a ≡ v → valueView b ≡ w → not (eqb (countOf v) (countOf w)) ≡ mismatched a b
+pub mismatch-tells : {v w : values.ValueExpr} (a b : tree.ValueExpr) → valueView a ≡ v
+    → valueView b ≡ w
+    → not (eqb (countOf v) (countOf w)) ≡ mismatched a b
 mismatch-tells a b e q = sym (λ i. not (eqb ((count-is a ∙ ap countOf e) i) ((count-is b ∙ ap countOf q) i)))
 
 -- ---- times
@@ -162,6 +167,7 @@ module _ (q : tree.StaggerPatternSpec → Bool) where
   pattern-absent none e = refl
   pattern-absent (some a) e = let z : _≡_ {A = ℕ} 0 1 = cc in absurd (omega arith)
 
-  pub pattern-present : {y : patterns.StaggerPatternSpec} {r : Bool} → Tells patternView q y r → Tells optPatternView (given q) (optPattern.Present y) r
+  pub pattern-present : {y : patterns.StaggerPatternSpec} {r : Bool} → Tells patternView q y r
+      → Tells optPatternView (given q) (optPattern.Present y) r
   pattern-present t none e = let z : _≡_ {A = ℕ} 0 1 = cc in absurd (omega arith)
   pattern-present t (some a) e = t a (cc)

@@ -50,7 +50,9 @@ read-node n (suc d) bs = node-read (inner n (suc d)) (insides n (suc d)) (λ bs.
 
 -- what stands where a record with the fault o was read: a leaf, or a container whose nodes stand behind
 pub data Opened (t s : List ℕ) (m : ℕ) (o : Option Refusal) (k : Kind) (x : Node) (rest : List ℕ) : Type 0 where
-  plain : (l : Leaf KeyframeTime) → x ≡ single l → k ≡ kind.Leaf → validateLeaf colors t l ≡ o → rest ≡ drop m s → m ≤ length s → Opened t s m o k x rest
+  plain : (l : Leaf KeyframeTime) → x ≡ single l → k ≡ kind.Leaf
+      → validateLeaf colors t l ≡ o → rest ≡ drop m s → m ≤ length s
+      → Opened t s m o k x rest
   boxed : (b : Container) (ns : Forest) (c d : ℕ) → x ≡ holding b ns → k ≡ kind.Container c → validateContainer b ≡ o
       → (g : Stands (forest (length t) (inner (length t) d) c) s m ns) → g .rest ≡ rest → Opened t s m o k x rest
 
@@ -60,20 +62,28 @@ module _ (t s : List ℕ) {at m : ℕ} {o : Option Refusal} {k : Kind} where
   opens (bad p j) d x h = none≢some (sym (read-node (length t) d (drop at s) ∙ rw (j (h .within))) ∙ h .reads)
   opens (got y e q a l) d x h = go y q d (sym (read-node (length t) d (drop at s) ∙ rw e) ∙ h .reads)
     where
-      go : (y : Node) → Prim.Path (Option Refusal × Kind) (recordView t y) (o, k) → (d : ℕ) → behind (insides (length t) d) y (drop m s) ≡ some (x, h .rest)
+      go : (y : Node)
+          → Prim.Path (Option Refusal × Kind) (recordView t y) (o, k)
+          → (d : ℕ)
+          → behind (insides (length t) d) y (drop m s) ≡ some (x, h .rest)
           → Opened t s m o k x (h .rest)
       go (single y) q d e =
           let p = Option·some-injective (single y, drop m s) (x, h .rest) e in
           plain y (sym (ap (λ (z : Node × List ℕ). z .0) p)) (sym (λ i. q i .1)) (λ i. q i .0) (sym (ap (λ (z : Node × List ℕ). z .1) p)) l
       go (holding b ns) q zero e = none≢some e
       go (holding b ns) q (suc d) e =
-          let (z, e₁, e₂) = inverse (forest (length t) (inner (length t) d) (width ns) .read (drop m s)) (λ ms r. some (holding b ms, r)) (x, h .rest) e in
+          let (z, e₁, e₂) = inverse (forest (length t) (inner (length t) d) (width ns) .read (drop m s)) (λ ms r. some (holding b ms, r))
+          (x, h .rest) e
+          in
           let p = Option·some-injective (holding b (z .0), z .1) (x, h .rest) e₂ in
           boxed b (z .0) (width ns) d (sym (ap (λ (z : Node × List ℕ). z .0) p)) (sym (λ i. q i .1)) (λ i. q i .0)
           (record { within = l; rest = z .1; reads = e₁ }) (ap (λ (z : Node × List ℕ). z .1) p)
 
 -- none stands at the end
-pub no-node : (t s : List ℕ) {at : ℕ} {B : Type 0} → length s ≤ at → (d : ℕ) (x : Node) → Stands (nodeForm (length t) (inner (length t) d)) s at x → B
+pub no-node : (t s : List ℕ) {at : ℕ} {B : Type 0} → length s ≤ at
+    → (d : ℕ) (x : Node)
+    → Stands (nodeForm (length t) (inner (length t) d)) s at x
+    → B
 no-node t s {at} e d x h = none≢some (rw (drop-of-length-le s {i = at} e) at (h .reads))
 
 -- a walk from a later place
@@ -95,7 +105,8 @@ module _ (t s : List ℕ) (i : ℕ) {m : ℕ} {x : Node} {rest : List ℕ} where
   clean-leaf (boxed b ns c d p q e g u) = let z : _≡_ {A = ℕ} 0 1 = cc in absurd (omega arith)
 
 module _ (t s : List ℕ) (i : ℕ) (rest : List ℕ) where
-  inside-says : (b : Container) (ns : Forest) (w : Walk) → validateContainer b ≡ none → Says t s (i + 1) ns rest w → Says t s i (box b ns Nodes.none) rest w
+  inside-says : (b : Container) (ns : Forest) (w : Walk) → validateContainer b ≡ none
+      → Says t s (i + 1) ns rest w → Says t s i (box b ns Nodes.none) rest w
   unfolding validateNodes
   inside-says b ns (Refused r p) e h = rw (e, or-none, ← add-one) h
   inside-says b ns (Passed next after) e h = record {
@@ -109,18 +120,23 @@ module _ (t s : List ℕ) (i : ℕ) (rest : List ℕ) where
       more r = omega arith
 
   pub clean-box : {m c : ℕ} {x : Node} (w : Walk) → Opened t s m none (kind.Container c) x rest
-      → ((d : ℕ) (ns : Forest) (g : Stands (forest (length t) (inner (length t) d) c) s m ns) → Says t s (i + 1) ns (g .rest) w) → Says t s i (push x Nodes.none) rest w
+      → ((d : ℕ) (ns : Forest) (g : Stands (forest (length t) (inner (length t) d) c) s m ns) → Says t s (i + 1) ns (g .rest) w)
+      → Says t s i (push x Nodes.none) rest w
   clean-box w (plain l p q e b h) f = let z : _≡_ {A = ℕ} 0 1 = cc in absurd (omega arith)
   clean-box {m} {c} w (boxed b ns j d p q e g u) f =
       let z : c ≡ j = cc in
-      let f′ = subst (λ (c : ℕ). (d : ℕ) (ns : Forest) (g : Stands (forest (length t) (inner (length t) d) c) s m ns) → Says t s (i + 1) ns (g .rest) w) z f in
+      let f′ = subst
+      (λ (c : ℕ). (d : ℕ) (ns : Forest) (g : Stands (forest (length t) (inner (length t) d) c) s m ns) → Says t s (i + 1) ns (g .rest) w) z
+      f
+      in
       rw p (inside-says b ns w e (subst (λ (r : List ℕ). Says t s (i + 1) ns r w) u (f′ d ns g)))
 
 -- ---- nodes beside each other
 
 -- the first of some nodes decides, or else those behind it
 split : (t : List ℕ) (i : ℕ) (x : Node) (ns : Forest)
-    → (validateNodes colors t i (push x ns) ≡ orElse (validateNodes colors t i (push x Nodes.none)) (validateNodes colors t (i + records (push x Nodes.none)) ns))
+    → (validateNodes colors t i (push x ns)
+    ≡ orElse (validateNodes colors t i (push x Nodes.none)) (validateNodes colors t (i + records (push x Nodes.none)) ns))
     × (records (push x ns) ≡ records (push x Nodes.none) + records ns)
 unfolding validateNodes
 split t i (single l) ns = (rw (or-none, add-one), omega arith)
@@ -136,15 +152,21 @@ record Front (n : ℕ) (blk : Form Forest) (j : ℕ) (s : List ℕ) (a : ℕ) (n
   stands : Stands (nodeForm n blk) s a node
   reads : forest n blk j .read (stands .rest) ≡ some (others, rest)
 
-front : (n : ℕ) (blk : Form Forest) (j : ℕ) (s : List ℕ) (a : ℕ) (ns : Forest) (g : Stands (forest n blk (suc j)) s a ns) → Front n blk j s a ns (g .rest)
+front : (n : ℕ) (blk : Form Forest) (j : ℕ) (s : List ℕ) (a : ℕ) (ns : Forest) (g : Stands (forest n blk (suc j)) s a ns)
+    → Front n blk j s a ns (g .rest)
 front n blk j s a ns g =
-    let (p, e, q) = inverse (andThen (nodeForm n blk .read (drop a s)) (λ x. step (forest n blk j .read) (λ xs r. some ((x, xs), r)))) (λ p r. some (toForest p, r)) (ns, g .rest) (g .reads) in
+    let (p, e, q) = inverse (andThen (nodeForm n blk .read (drop a s)) (λ x. step (forest n blk j .read) (λ xs r. some ((x, xs), r))))
+    (λ p r. some (toForest p, r)) (ns, g .rest) (g .reads)
+    in
     let (x, e₁, q₁) = inverse (nodeForm n blk .read (drop a s)) (λ x. step (forest n blk j .read) (λ xs r. some ((x, xs), r))) p e in
     let (y, e₂, q₂) = inverse (forest n blk j .read (x .1)) (λ xs r. some ((x .0, xs), r)) p q₁ in
     made x y p e₁ e₂ (Option·some-injective ((x .0, y .0), y .1) p q₂) (Option·some-injective (toForest (p .0), p .1) (ns, g .rest) q)
   where
-    made : (x : Node × List ℕ) (y : Forest × List ℕ) (p : (Node × Forest) × List ℕ) → nodeForm n blk .read (drop a s) ≡ some x → forest n blk j .read (x .1) ≡ some y
-        → Prim.Path ((Node × Forest) × List ℕ) ((x .0, y .0), y .1) p → Prim.Path (Forest × List ℕ) (toForest (p .0), p .1) (ns, g .rest) → Front n blk j s a ns (g .rest)
+    made : (x : Node × List ℕ) (y : Forest × List ℕ) (p : (Node × Forest) × List ℕ)
+        → nodeForm n blk .read (drop a s) ≡ some x → forest n blk j .read (x .1) ≡ some y
+        → Prim.Path ((Node × Forest) × List ℕ) ((x .0, y .0), y .1) p
+        → Prim.Path (Forest × List ℕ) (toForest (p .0), p .1) (ns, g .rest)
+        → Front n blk j s a ns (g .rest)
     made x y p e₁ e₂ v u = record {
       node = x .0;
       others = y .0;
@@ -162,20 +184,31 @@ module _ (t s : List ℕ) (i₀ : ℕ) where
     pub ends : stand .rest ≡ rest
     pub tells : (w : Walk) → Says t s i nodes rest w → Says t s i₀ ns rest w
 
-  left-refused : {d j a i : ℕ} {ns : Forest} {rest : List ℕ} {r : Refusal} {p : ℕ} → Left d (suc j) a i ns rest → NodeWalk t s a i (Refused r p) → Says t s i₀ ns rest (Refused r p)
+  left-refused : {d j a i : ℕ} {ns : Forest} {rest : List ℕ} {r : Refusal} {p : ℕ}
+      → Left d (suc j) a i ns rest → NodeWalk t s a i (Refused r p)
+      → Says t s i₀ ns rest (Refused r p)
   left-refused {d} {j} {a} {i} {r = r} {p = p} l w =
       let f = front (length t) (inner (length t) d) j s a (l .nodes) (l .stand) in
-      l .tells (Refused r p) (ap (λ (ns : Forest). validateNodes colors t i ns) (sym (f .these)) ∙ split t i (f .node) (f .others) .0 ∙ rw (w .is d (f .node) (f .stands)))
+      l .tells (Refused r p)
+      (ap (λ (ns : Forest). validateNodes colors t i ns) (sym (f .these))
+      ∙ split t i (f .node) (f .others) .0 ∙ rw (w .is d (f .node) (f .stands)))
 
-  left-next : {d j a i : ℕ} {ns : Forest} {rest : List ℕ} {next after : ℕ} → Left d (suc j) a i ns rest → NodeWalk t s a i (Passed next after) → Left d j next after ns rest
+  left-next : {d j a i : ℕ} {ns : Forest} {rest : List ℕ} {next after : ℕ}
+      → Left d (suc j) a i ns rest → NodeWalk t s a i (Passed next after)
+      → Left d j next after ns rest
   left-next {d} {j} {a} {i} {rest = rest} {next = next} {after = after} l w =
       let f = front (length t) (inner (length t) d) j s a (l .nodes) (l .stand) in
       let c = w .is d (f .node) (f .stands) in
       record {
         nodes = f .others;
-        stand = record { within = c .within; rest = l .stand .rest; reads = ap (λ (r : List ℕ). forest (length t) (inner (length t) d) j .read r) (sym (c .behind)) ∙ f .reads };
+        stand = record {
+          within = c .within;
+          rest = l .stand .rest;
+          reads = ap (λ (r : List ℕ). forest (length t) (inner (length t) d) j .read r) (sym (c .behind)) ∙ f .reads;
+        };
         ends = l .ends;
-        tells = λ u q. l .tells u (subst (λ (ns : Forest). Says t s i ns rest u) (f .these) (joined (f .node) (f .others) (c .accepted) (c .counted) u q));
+        tells = λ u q. l .tells u
+            (subst (λ (ns : Forest). Says t s i ns rest u) (f .these) (joined (f .node) (f .others) (c .accepted) (c .counted) u q));
       }
     where
       joined : (x : Node) (others : Forest) → validateNodes colors t i (push x Nodes.none) ≡ none → after ≡ i + records (push x Nodes.none)
@@ -199,7 +232,8 @@ module _ (t s : List ℕ) (i₀ : ℕ) where
 
   -- the walk has come to a behind k of `count` nodes
   abbrev pub Going : ℕ → ℕ → ℕ → ℕ → ℕ → Type 0
-  Going at count a i k = (d : ℕ) (ns : Forest) (h : Stands (forest (length t) (inner (length t) d) count) s at ns) → Left d (count - k) a i ns (h .rest)
+  Going at count a i k =
+      (d : ℕ) (ns : Forest) (h : Stands (forest (length t) (inner (length t) d) count) s at ns) → Left d (count - k) a i ns (h .rest)
 
   module _ (at count : ℕ) where
     pub going-start : Going at count at i₀ 0
@@ -208,15 +242,21 @@ module _ (t s : List ℕ) (i₀ : ℕ) where
         subst (λ (j : ℕ). Left d j at i₀ ns (h .rest)) e (record { nodes = ns; stand = h; ends = refl; tells = λ w q. q })
 
     module _ {a i k : ℕ} (g : Going at count a i k) where
-      one-more : k < count → (d : ℕ) (ns : Forest) (h : Stands (forest (length t) (inner (length t) d) count) s at ns) → Left d (suc (count - (k + 1))) a i ns (h .rest)
-      one-more l d ns h = let e : count - k ≡ suc (count - (k + 1)) = omega arith in subst (λ (j : ℕ). Left d j a i ns (h .rest)) e (g d ns h)
+      one-more : k < count
+          → (d : ℕ) (ns : Forest) (h : Stands (forest (length t) (inner (length t) d) count) s at ns)
+          → Left d (suc (count - (k + 1))) a i ns (h .rest)
+      one-more l d ns h =
+          let e : count - k ≡ suc (count - (k + 1)) = omega arith in subst (λ (j : ℕ). Left d j a i ns (h .rest)) e (g d ns h)
 
-      pub going-refused : {r : Refusal} {p : ℕ} → k < count → NodeWalk t s a i (Refused r p) → (d : ℕ) (ns : Forest) (h : Stands (forest (length t) (inner (length t) d) count) s at ns)
+      pub going-refused : {r : Refusal} {p : ℕ} → k < count → NodeWalk t s a i (Refused r p)
+          → (d : ℕ) (ns : Forest) (h : Stands (forest (length t) (inner (length t) d) count) s at ns)
           → Says t s i₀ ns (h .rest) (Refused r p)
       going-refused l w d ns h = left-refused (one-more l d ns h) w
 
       pub going-next : {next after : ℕ} → k < count → NodeWalk t s a i (Passed next after) → Going at count next after (k + 1)
       going-next l w d ns h = left-next (one-more l d ns h) w
 
-      pub going-done : count ≤ k → (d : ℕ) (ns : Forest) (h : Stands (forest (length t) (inner (length t) d) count) s at ns) → Says t s i₀ ns (h .rest) (Passed a i)
+      pub going-done : count ≤ k
+          → (d : ℕ) (ns : Forest) (h : Stands (forest (length t) (inner (length t) d) count) s at ns)
+          → Says t s i₀ ns (h .rest) (Passed a i)
       going-done l d ns h = let e : count - k ≡ 0 = omega arith in left-done (subst (λ (j : ℕ). Left d j a i ns (h .rest)) e (g d ns h))

@@ -33,7 +33,8 @@ pub record Stands {A : Type 0} (c : Form A) (s : List ℕ) (at : ℕ) (a : A) : 
 
 -- whichever stagger is shown as v, r is the fault of its own fields
 abbrev pub StaggerTells : staggers.StaggerSpec → Fault → Type 0
-StaggerTells v r = (p : Option StaggerPatternSpec) (d : Option ℕ) (c : ℕ) → staggerView p d c ≡ v → faultOf r ≡ validateContainer (stagger p d)
+StaggerTells v r =
+    (p : Option StaggerPatternSpec) (d : Option ℕ) (c : ℕ) → staggerView p d c ≡ v → faultOf r ≡ validateContainer (stagger p d)
 
 -- whichever frames stand there, r is their first fault
 abbrev pub FramesTell : List ℕ → List ℕ → ℕ → ℕ → Fault → Type 0
@@ -42,8 +43,10 @@ FramesTell t s at count r =
 
 -- the frames of the track that stands at a place stand at r
 abbrev pub FramesAt : ℕ → List ℕ → ℕ → ℕ → Type 0
-FramesAt n s at r = (x : KeyframeSpec KeyframeTime) → Stands (keyframesForm n) s at x → Stands (each (entryForm n) (length (x .frames))) s r (x .frames)
+FramesAt n s at r =
+    (x : KeyframeSpec KeyframeTime) → Stands (keyframesForm n) s at x → Stands (each (entryForm n) (length (x .frames))) s r (x .frames)
 
 -- whichever track stands there, shown as v, r is its fault
 abbrev pub TrackTells : List ℕ → List ℕ → ℕ → tracks.KeyframeSpec → Fault → Type 0
-TrackTells t s at v r = (x : KeyframeSpec KeyframeTime) → Stands (keyframesForm (length t)) s at x → keyframesView x ≡ v → faultOf r ≡ validateKeyframes t x
+TrackTells t s at v r =
+    (x : KeyframeSpec KeyframeTime) → Stands (keyframesForm (length t)) s at x → keyframesView x ≡ v → faultOf r ≡ validateKeyframes t x

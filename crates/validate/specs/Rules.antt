@@ -67,7 +67,8 @@ use Rattle.ast.specs.Tree.{
   records,
 }
 use Rattle.error.specs.declared.Refusal.{Refusal}
-use Rattle.error.specs.declared.Refusal.the-variants.{OutOfRange, ValueTypeMismatch, UnknownEasing, UnknownPreset, InvalidColor, DuplicateTime, TooFewFrames}
+use Rattle.error.specs.declared.Refusal.the-variants.{OutOfRange, ValueTypeMismatch, UnknownEasing}
+use Rattle.error.specs.declared.Refusal.the-variants.{UnknownPreset, InvalidColor, DuplicateTime, TooFewFrames}
 
 -- ---- tests: comparisons as IEEE 754 has them
 

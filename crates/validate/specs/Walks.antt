@@ -38,7 +38,8 @@ checkView r = (faultOf (r .fault), r .kind)
 
 -- r tells of the record whose kind stands before the place
 abbrev pub FieldsTell : List ℕ → List ℕ → ℕ → ℕ → RecordCheck → Type 0
-FieldsTell t s kind at r = (start : ℕ) → Reads (below 15) same s start kind at → Reads (recordForm (length t)) (recordView t) s start (checkView r) (r .next)
+FieldsTell t s kind at r =
+    (start : ℕ) → Reads (below 15) same s start kind at → Reads (recordForm (length t)) (recordView t) s start (checkView r) (r .next)
 
 -- 01: "Containers are sequence, parallel, group and stagger"
 abbrev pub ContainerKind : ℕ → Type 0

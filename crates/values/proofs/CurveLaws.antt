@@ -21,11 +21,13 @@ pub rough-none : RoughHeld (record { strength = optFloat.Absent; points = optWor
 unfolding last
 rough-none = record { strength = refl; plain = tt; points = refl }
 
-pub rough-strength : (f : RoughFields) (x : Float) → Plain x → Holds RoughHeld f (record { strength = optFloat.Present x; points = f .points }) (bytes "strength") (aNumber (bits x))
+pub rough-strength : (f : RoughFields) (x : Float) → Plain x
+    → Holds RoughHeld f (record { strength = optFloat.Present x; points = f .points }) (bytes "strength") (aNumber (bits x))
 unfolding last same
 rough-strength f x p fs h = record { strength = refl; plain = p; points = h .points }
 
-pub rough-points : (f : RoughFields) (n : ℕ) → Holds RoughHeld f (record { strength = f .strength; points = optWord.Present n }) (bytes "points") (aNumber n)
+pub rough-points : (f : RoughFields) (n : ℕ)
+    → Holds RoughHeld f (record { strength = f .strength; points = optWord.Present n }) (bytes "points") (aNumber n)
 unfolding last same
 rough-points f n fs h = record { strength = h .strength; plain = h .plain; points = refl }
 
@@ -33,11 +35,13 @@ pub slow-none : SlowMoHeld (record { «linear_ratio» = optFloat.Absent; power =
 unfolding last
 slow-none = record { linearRatio = refl; plainRatio = tt; power = refl; plainPower = tt }
 
-pub slow-ratio : (f : SlowMoFields) (x : Float) → Plain x → Holds SlowMoHeld f (record { «linear_ratio» = optFloat.Present x; power = f .power }) (bytes "linear_ratio") (aNumber (bits x))
+pub slow-ratio : (f : SlowMoFields) (x : Float) → Plain x
+    → Holds SlowMoHeld f (record { «linear_ratio» = optFloat.Present x; power = f .power }) (bytes "linear_ratio") (aNumber (bits x))
 unfolding last same
 slow-ratio f x p fs h = record { linearRatio = refl; plainRatio = p; power = h .power; plainPower = h .plainPower }
 
-pub slow-power : (f : SlowMoFields) (x : Float) → Plain x → Holds SlowMoHeld f (record { «linear_ratio» = f .«linear_ratio»; power = optFloat.Present x }) (bytes "power") (aNumber (bits x))
+pub slow-power : (f : SlowMoFields) (x : Float) → Plain x
+    → Holds SlowMoHeld f (record { «linear_ratio» = f .«linear_ratio»; power = optFloat.Present x }) (bytes "power") (aNumber (bits x))
 unfolding last same
 slow-power f x p fs h = record { linearRatio = h .linearRatio; plainRatio = h .plainRatio; power = refl; plainPower = p }
 

@@ -59,12 +59,19 @@ module _ (s : List ℕ) (c : Cursor) (x : Span) (l : x .start + x .size ≤ leng
   unfolding namedEasing
   plain-name h = rw (not-both _ _ h, spelled-length s x l)
 
-  pub variant-took : same (spelled s x) (bytes "Easing") ≡ true → (m n : Cursor) (v : Span) → Took 1 s c m (bothBytes 58 58) tt → Took 1 s m n word (v .start, spelled s v) → v .start + v .size ≤ length s
+  pub variant-took : same (spelled s x) (bytes "Easing") ≡ true → (m n : Cursor) (v : Span)
+      → Took 1 s c m (bothBytes 58 58) tt → Took 1 s m n word (v .start, spelled s v)
+      → v .start + v .size ≤ length s
       → Took 0 s c n (namedEasing (x .start, spelled s x)) (named true (spanOf v))
   unfolding namedEasing variantEasing ident
-  variant-took e m n v o t k = record { is = rw (e, pair-took s c m 58 58 o, o .is, t .is, spelled-length s v k); low = omega (arith, o .low, t .low); ready = t .ready }
+  variant-took e m n v o t k = record {
+    is = rw (e, pair-took s c m 58 58 o, o .is, t .is, spelled-length s v k);
+    low = omega (arith, o .low, t .low);
+    ready = t .ready;
+  }
 
-  pub variant-refused : same (spelled s x) (bytes "Easing") ≡ true → (m : Cursor) (q : ℕ) → Took 1 s c m (bothBytes 58 58) tt → run s m word ≡ refused Missing q
+  pub variant-refused : same (spelled s x) (bytes "Easing") ≡ true → (m : Cursor) (q : ℕ)
+      → Took 1 s c m (bothBytes 58 58) tt → run s m word ≡ refused Missing q
       → run s c (namedEasing (x .start, spelled s x)) ≡ refused Missing q
   unfolding namedEasing variantEasing ident
   variant-refused e m q o h = rw (e, pair-took s c m 58 58 o, o .is, h)
@@ -75,19 +82,25 @@ tested w v k b e h = rw (← e) (sym h)
 
 -- ---- a curve by its word, or a name
 
-pub no-curve : (s : List ℕ) (c : Cursor) (w : ℕ × List ℕ) (a : EasingRead) → under curves (w .1) ≡ none → NamedMeans s c (namedEasing w) a → NamedMeans s c (curveOr w) a
+pub no-curve : (s : List ℕ) (c : Cursor) (w : ℕ × List ℕ) (a : EasingRead)
+    → under curves (w .1) ≡ none → NamedMeans s c (namedEasing w) a
+    → NamedMeans s c (curveOr w) a
 unfolding curveOr
 no-curve s c w (easing.Is e m) u h = rw u h
 no-curve s c w (easing.Refused r q) u h = rw u h
 
-pub some-curve : (s : List ℕ) (c : Cursor) (w : ℕ × List ℕ) (p : Rule EasingSpec) (a : EasingRead) → under curves (w .1) ≡ some p → EasingMeans s c p a → NamedMeans s c (curveOr w) a
+pub some-curve : (s : List ℕ) (c : Cursor) (w : ℕ × List ℕ) (p : Rule EasingSpec) (a : EasingRead)
+    → under curves (w .1) ≡ some p → EasingMeans s c p a
+    → NamedMeans s c (curveOr w) a
 unfolding curveOr
 some-curve s c w p (easing.Is e m) u h = (rw u (fewer (h .0)), h .1)
 some-curve s c w p (easing.Refused r q) u h = rw u h
 
 -- ---- a loop mode by its word
 
-pub mode-found : (s : List ℕ) (c m : Cursor) (a : ℕ) (w : List ℕ) (p : Rule LoopSpec) (x : LoopRead) → Took 1 s c m word (a, w) → under loopModes w ≡ some p → ModeMeans s m p x → LoopMeans s c parseLoopMode x
+pub mode-found : (s : List ℕ) (c m : Cursor) (a : ℕ) (w : List ℕ) (p : Rule LoopSpec) (x : LoopRead)
+    → Took 1 s c m word (a, w) → under loopModes w ≡ some p
+    → ModeMeans s m p x → LoopMeans s c parseLoopMode x
 unfolding parseLoopMode
 mode-found s c m a w p (loop.Is v n) t u h = record { is = rw (t .is, u, h .is); low = omega (arith, t .low, h .low); ready = h .ready }
 mode-found s c m a w p (loop.Refused r q) t u h = rw (t .is, u, h)
@@ -99,7 +112,12 @@ mode-some s c p (loop.Refused r q) h = h
 
 -- ---- an easing
 
-pub easing-behind : (s : List ℕ) (c m : Cursor) (w : ℕ × List ℕ) (a : EasingRead) → seesByte 40 (tokens s c) ≡ false → Took 1 s c m word w → NamedMeans s m (curveOr w) a → EasingMeans s c parseEasing a
+pub easing-behind : (s : List ℕ) (c m : Cursor) (w : ℕ × List ℕ) (a : EasingRead)
+    → seesByte 40 (tokens s c) ≡ false → Took 1 s c m word w
+    → NamedMeans s m (curveOr w) a → EasingMeans s c parseEasing a
 unfolding parseEasing
-easing-behind s c m w (easing.Is e n) b t h = (record { is = rw (b, t .is, h .0 .is); low = omega (arith, t .low, h .0 .low); ready = h .0 .ready }, h .1)
+easing-behind s c m w (easing.Is e n) b t h = (
+  record { is = rw (b, t .is, h .0 .is); low = omega (arith, t .low, h .0 .low); ready = h .0 .ready },
+  h .1,
+)
 easing-behind s c m w (easing.Refused r q) b t h = rw (b, t .is, h)

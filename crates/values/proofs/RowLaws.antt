@@ -28,11 +28,14 @@ second-row a b row (suc zero) n e = Option·some-injective b row e
 second-row a b row (suc (suc i)) n e = absurd (let z : _≡_ {A = ℕ} 0 1 = cc in omega arith)
 
 -- what a step takes of a row, for the row that stands there
-pub by-row : {F : Type 0} (held : F → Fields → Type 0) (s : List ℕ) (c m : Cursor) (f g : F) (r row : String × Rule Content) (x : Content) → r ≡ row
+pub by-row : {F : Type 0} (held : F → Fields → Type 0) (s : List ℕ) (c m : Cursor) (f g : F) (r row : String × Rule Content) (x : Content)
+    → r ≡ row
     → Took 1 s c m (r .1) x → Holds held f g (bytes (r .0)) x → (y : Content) × Took 1 s c m (row .1) y × Holds held f g (bytes (row .0)) y
-by-row held s c m f g r row x e t h = subst (λ (w : String × Rule Content). (y : Content) × Took 1 s c m (w .1) y × Holds held f g (bytes (w .0)) y) e (x, t, h)
+by-row held s c m f g r row x e t h =
+    subst (λ (w : String × Rule Content). (y : Content) × Took 1 s c m (w .1) y × Holds held f g (bytes (w .0)) y) e (x, t, h)
 
-pub refused-row : (s : List ℕ) (c : Cursor) (r row : String × Rule Content) (a : Refusal) (q : ℕ) → r ≡ row → run s c (r .1) ≡ refused a q → run s c (row .1) ≡ refused a q
+pub refused-row : (s : List ℕ) (c : Cursor) (r row : String × Rule Content) (a : Refusal) (q : ℕ)
+    → r ≡ row → run s c (r .1) ≡ refused a q → run s c (row .1) ≡ refused a q
 refused-row s c r row a q e h = subst (λ (w : String × Rule Content). run s c (w .1) ≡ refused a q) e h
 
 -- ---- an f32, a u32
@@ -71,13 +74,17 @@ under-by : {A : Type 0} (f : String × A) (fs : List (String × A)) (i m : ℕ) 
     → (find (wordsOf fs) (suc i) w ≡ some m → (d : ℕ) × (m ≡ suc i + d) × Under fs w d)
     → (b : Bool) → same w (bytes (f .0)) ≡ b → (d : ℕ) × (m ≡ i + d) × Under (f ∷ fs) w d
 unfolding under
-under-by f fs i m w e ih true q =
-    (0, let z = Option·some-injective i m (sym (find-here w (bytes (f .0)) (wordsOf fs) i q) ∙ e) in omega arith, record { row = f; is = refl; under = rw (q, under) })
+under-by f fs i m w e ih true q = (
+  0,
+  let z = Option·some-injective i m (sym (find-here w (bytes (f .0)) (wordsOf fs) i q) ∙ e) in omega arith,
+  record { row = f; is = refl; under = rw (q, under) },
+)
 under-by f fs i m w e ih false q =
     let (d, p, r) = ih (sym (find-past w (bytes (f .0)) (wordsOf fs) i q) ∙ e) in
     (suc d, omega arith, record { row = r .row; is = r .is; under = rw (q, under) (r .under) })
 
-under-from : {A : Type 0} (t : List (String × A)) (i m : ℕ) (w : List ℕ) → find (wordsOf t) i w ≡ some m → (d : ℕ) × (m ≡ i + d) × Under t w d
+under-from : {A : Type 0} (t : List (String × A)) (i m : ℕ) (w : List ℕ)
+    → find (wordsOf t) i w ≡ some m → (d : ℕ) × (m ≡ i + d) × Under t w d
 unfolding find
 under-from [] i m w e = absurd (let z : _≡_ {A = ℕ} 0 1 = cc in omega arith)
 under-from (f ∷ fs) i m w e = under-by f fs i m w e (λ q. under-from fs (suc i) m w q) (same w (bytes (f .0))) refl
@@ -88,7 +95,8 @@ under-found t m w e = let (d, p, r) = under-from t 0 m w e in let q : m ≡ d = 
 under-none-by : {A : Type 0} (f : String × A) (fs : List (String × A)) (i : ℕ) (w : List ℕ) → find (wordsOf (f ∷ fs)) i w ≡ none
     → (find (wordsOf fs) (suc i) w ≡ none → under fs w ≡ none) → (b : Bool) → same w (bytes (f .0)) ≡ b → under (f ∷ fs) w ≡ none
 unfolding under
-under-none-by f fs i w e ih true q = absurd (let z = sym e ∙ find-here w (bytes (f .0)) (wordsOf fs) i q in let y : _≡_ {A = ℕ} 0 1 = cc in omega arith)
+under-none-by f fs i w e ih true q =
+    absurd (let z = sym e ∙ find-here w (bytes (f .0)) (wordsOf fs) i q in let y : _≡_ {A = ℕ} 0 1 = cc in omega arith)
 under-none-by f fs i w e ih false q = rw (q, under) (ih (sym (find-past w (bytes (f .0)) (wordsOf fs) i q) ∙ e))
 
 under-none-from : {A : Type 0} (t : List (String × A)) (i : ℕ) (w : List ℕ) → find (wordsOf t) i w ≡ none → under t w ≡ none

@@ -26,20 +26,26 @@ module _ {A : Type 0} (s : List ℕ) (b : ℕ) (p : Rule A) (c m : Cursor) (o : 
   pub inside-refused : (r : Refusal) (q : ℕ) → run s m p ≡ refused r q → run s c (insideByte b p) ≡ refused r q
   inside-refused r q h = rw (o .is, h)
 
-pub inside-missing : {A : Type 0} (s : List ℕ) (b : ℕ) (p : Rule A) (c : Cursor) (q : ℕ) → run s c (theByte b) ≡ refused Missing q → run s c (insideByte b p) ≡ refused Missing q
+pub inside-missing : {A : Type 0} (s : List ℕ) (b : ℕ) (p : Rule A) (c : Cursor) (q : ℕ)
+    → run s c (theByte b) ≡ refused Missing q → run s c (insideByte b p) ≡ refused Missing q
 inside-missing s b p c q h = rw h
 
 -- a rule behind a mark
-behind-took : {A : Type 0} (s : List ℕ) (b : ℕ) (p : Rule A) (c m n : Cursor) (x : A) → Took 1 s c m (theByte b) tt → Took 1 s m n p x → Took 1 s c n (theByte b >> p) x
+behind-took : {A : Type 0} (s : List ℕ) (b : ℕ) (p : Rule A) (c m n : Cursor) (x : A)
+    → Took 1 s c m (theByte b) tt → Took 1 s m n p x → Took 1 s c n (theByte b >> p) x
 behind-took s b p c m n x o t = record { is = rw (o .is, t .is); low = omega (arith, o .low, t .low); ready = t .ready }
 
-behind-refused : {A : Type 0} (s : List ℕ) (b : ℕ) (p : Rule A) (c m : Cursor) (r : Refusal) (q : ℕ) → Took 1 s c m (theByte b) tt → run s m p ≡ refused r q → run s c (theByte b >> p) ≡ refused r q
+behind-refused : {A : Type 0} (s : List ℕ) (b : ℕ) (p : Rule A) (c m : Cursor) (r : Refusal) (q : ℕ)
+    → Took 1 s c m (theByte b) tt → run s m p ≡ refused r q
+    → run s c (theByte b >> p) ≡ refused r q
 behind-refused s b p c m r q o h = rw (o .is, h)
 
-pub float-behind : (s : List ℕ) (b : ℕ) (p : Rule ℕ) (c m : Cursor) (a : FloatRead) → Took 1 s c m (theByte b) tt → FloatMeans s m p a → FloatMeans s c (theByte b >> p) a
+pub float-behind : (s : List ℕ) (b : ℕ) (p : Rule ℕ) (c m : Cursor) (a : FloatRead)
+    → Took 1 s c m (theByte b) tt → FloatMeans s m p a → FloatMeans s c (theByte b >> p) a
 float-behind s b p c m (float.Is v n) o t = (behind-took s b p c m n _ o (t .0), t .1)
 float-behind s b p c m (float.Refused r q) o h = behind-refused s b p c m r q o h
 
-pub pair-behind : (s : List ℕ) (b : ℕ) (p : Rule (ℕ × ℕ)) (c m : Cursor) (a : PairRead) → Took 1 s c m (theByte b) tt → PairMeans s m p a → PairMeans s c (theByte b >> p) a
+pub pair-behind : (s : List ℕ) (b : ℕ) (p : Rule (ℕ × ℕ)) (c m : Cursor) (a : PairRead)
+    → Took 1 s c m (theByte b) tt → PairMeans s m p a → PairMeans s c (theByte b >> p) a
 pair-behind s b p c m (pair.Is x y n) o t = record { took = behind-took s b p c m n _ o (t .took); first = t .first; second = t .second }
 pair-behind s b p c m (pair.Refused r q) o h = behind-refused s b p c m r q o h

@@ -92,8 +92,11 @@ pub record RoughHeld (f : RoughFields) (fs : Fields) : Type 0 where
   pub points : optWordOf (f .points) ≡ numberOf "points" fs
 
 abbrev pub RoughFieldMeans : List ℕ → Cursor → RoughFields → ℕ → RoughRead → Type 0
-RoughFieldMeans s c f i (rough.Is g m) = (row : String × Rule Content) → getElem? roughFields i ≡ some row → (x : Content) × Took 1 s c m (row .1) x × Holds RoughHeld f g (bytes (row .0)) x
-RoughFieldMeans s c f i (rough.Refused r q) = (row : String × Rule Content) → getElem? roughFields i ≡ some row → run s c (row .1) ≡ refused r q
+RoughFieldMeans s c f i (rough.Is g m) =
+    (row : String × Rule Content) → getElem? roughFields i ≡ some row
+    → (x : Content) × Took 1 s c m (row .1) x × Holds RoughHeld f g (bytes (row .0)) x
+RoughFieldMeans s c f i (rough.Refused r q) =
+    (row : String × Rule Content) → getElem? roughFields i ≡ some row → run s c (row .1) ≡ refused r q
 
 abbrev pub RoughMeans : List ℕ → Cursor → RoughRead → Type 0
 RoughMeans s c (rough.Is g m) = (gs : Fields) × Took 0 s c m (pairs roughFields) gs × RoughHeld g gs
@@ -107,8 +110,11 @@ pub record SlowMoHeld (f : SlowMoFields) (fs : Fields) : Type 0 where
   pub plainPower : PlainOptFloat (f .power)
 
 abbrev pub SlowMoFieldMeans : List ℕ → Cursor → SlowMoFields → ℕ → SlowMoRead → Type 0
-SlowMoFieldMeans s c f i (slowMo.Is g m) = (row : String × Rule Content) → getElem? slowMoFields i ≡ some row → (x : Content) × Took 1 s c m (row .1) x × Holds SlowMoHeld f g (bytes (row .0)) x
-SlowMoFieldMeans s c f i (slowMo.Refused r q) = (row : String × Rule Content) → getElem? slowMoFields i ≡ some row → run s c (row .1) ≡ refused r q
+SlowMoFieldMeans s c f i (slowMo.Is g m) =
+    (row : String × Rule Content) → getElem? slowMoFields i ≡ some row
+    → (x : Content) × Took 1 s c m (row .1) x × Holds SlowMoHeld f g (bytes (row .0)) x
+SlowMoFieldMeans s c f i (slowMo.Refused r q) =
+    (row : String × Rule Content) → getElem? slowMoFields i ≡ some row → run s c (row .1) ≡ refused r q
 
 abbrev pub SlowMoMeans : List ℕ → Cursor → SlowMoRead → Type 0
 SlowMoMeans s c (slowMo.Is g m) = (gs : Fields) × Took 0 s c m (pairs slowMoFields) gs × SlowMoHeld g gs

@@ -15,7 +15,9 @@ use Rattle.verdict.specs.Verdict.{Claims}
 use Rattle.verdict.specs.declared.Verdict.the-variants.{Unread, Checked}
 
 module _ (t scratch sheet words s : List ℕ) where
-  pub unread : (r : Refusal) (p : ℕ) → outcome (read.Refused r p) words s ≡ reading t scratch sheet → Claims t (length scratch) (length sheet) s (Unread r p)
+  pub unread : (r : Refusal) (p : ℕ)
+      → outcome (read.Refused r p) words s ≡ reading t scratch sheet
+      → Claims t (length scratch) (length sheet) s (Unread r p)
   unread r p e v = claim t scratch sheet (read.Refused r p, words, s) v e (λ n c q. absurd (let z : _≡_ {A = ℕ} 0 1 = cc in omega arith))
 
   pub checked : (n c : ℕ) (v : CheckAnswer) → outcome (read.Accepted n c) words s ≡ reading t scratch sheet → v ≡ checking t (take n s)

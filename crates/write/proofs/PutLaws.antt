@@ -17,7 +17,16 @@ pub opt-flag : (o : Option Bool) → length (opt flag .write o) ≤ 2
 opt-flag o = opt-most flag 1 (λ b. let l = length-flag b in omega arith) o
 
 pub opt-range : (o : Option (ℕ × ℕ)) → length (opt (word ▹ word) .write o) ≤ 9
-opt-range o = opt-most (word ▹ word) 8 (λ p. let a = length-word (p .0) in let b = length-word (p .1) in let c = length-append (word .write (p .0)) (word .write (p .1)) in omega arith) o
+opt-range o =
+    opt-most
+    (word ▹ word)
+    8
+    (λ p.
+    let a = length-word (p .0) in
+    let b = length-word (p .1) in
+    let c = length-append (word .write (p .0)) (word .write (p .1)) in
+    omega arith)
+    o
 
 pub opt-easing : (n : ℕ) (o : Option EasingSpec) → length (opt (easingForm n) .write o) ≤ 18
 opt-easing n o = opt-most (easingForm n) 17 (easing-most n) o

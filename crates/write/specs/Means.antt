@@ -10,7 +10,8 @@ use Rattle.ast.specs.declared.ColorSpec.{ColorSpec}
 use Rattle.ast.specs.declared.PathSpec.{PathSpec}
 use Rattle.ast.specs.declared.WaveformSpec.{WaveformSpec}
 use Rattle.ast.specs.declared.PresetCall.{PresetCall}
-use Rattle.encode.specs.Of.{Plain, PlainOptFloat, PlainOptRange, PlainOptEasing, spanOf, optFloatOf, optWordOf, optBoolOf, optRangeOf, optEasingOf, optLoopOf}
+use Rattle.encode.specs.Of.{Plain, PlainOptFloat, PlainOptRange, PlainOptEasing, spanOf}
+use Rattle.encode.specs.Of.{optFloatOf, optWordOf, optBoolOf, optRangeOf, optEasingOf, optLoopOf}
 use Rattle.encode.specs.Writes.{Writes}
 use Rattle.nodes.specs.Means.{leafBytes}
 
@@ -31,7 +32,14 @@ abbrev pub PlainMorph : MorphSpec → Type 0
 PlainMorph x = Plain (x .duration) × PlainOptEasing (x .easing)
 
 abbrev pub morphOf : MorphSpec → Leaf Key
-morphOf x = Leaf.morph (record { from = spanOf (x .from); to = spanOf (x .to); samples = x .samples; duration = bits (x .duration); easing = optEasingOf (x .easing) })
+morphOf x =
+    Leaf.morph (record {
+      from = spanOf (x .from);
+      to = spanOf (x .to);
+      samples = x .samples;
+      duration = bits (x .duration);
+      easing = optEasingOf (x .easing);
+    })
 
 abbrev pub PlainColor : ColorSpec → Type 0
 PlainColor x = Plain (x .duration) × PlainOptEasing (x .easing)
@@ -62,7 +70,9 @@ pathOf x = Leaf.path (record {
 
 abbrev pub PlainWaveform : WaveformSpec → Type 0
 PlainWaveform x =
-    PlainOptFloat (x .frequency) × PlainOptFloat (x .amplitude) × PlainOptFloat (x .phase) × PlainOptFloat (x .«duty_cycle») × PlainOptFloat (x .smoothness)
+    PlainOptFloat (x .frequency) × PlainOptFloat (x .amplitude)
+    × PlainOptFloat (x .phase) × PlainOptFloat (x .«duty_cycle»)
+    × PlainOptFloat (x .smoothness)
     × PlainOptFloat (x .duration)
 
 abbrev pub waveformOf : WaveformSpec → Leaf Key

@@ -13,7 +13,10 @@ add-array-items : tie.Need-add-array-items
 add-array-items c = search needs
 
 array-items-requires : tie.Need-array-items-requires
-array-items-requires c κs = (c .before .before .before .before .before .before .before .pre .0, record { short = c .before .before .before .before .before .before .before .pre .1 .short; low = omega (arith, c .before .before .before .put-byte .ensures .place, c .before .before .before .before .before .before .before .pre .1 .low) })
+array-items-requires c κs =
+    let at-put-byte = c .before .before .before in
+    let pre = at-put-byte .before .before .before .before .pre in
+    (pre .0, record { short = pre .1 .short; low = omega (arith, at-put-byte .put-byte .ensures .place, pre .1 .low) })
 
 enum-known-r : tie.Need-enum-known-r
 enum-known-r c = search needs
@@ -25,21 +28,53 @@ patch-count-requires : tie.Need-patch-count-requires
 patch-count-requires c κs = search needs
 
 leave-group-requires : tie.Need-leave-group-requires
-leave-group-requires c κs = (rw (c .before .before .before .before .before .n .given .1) at (c .before .before .before .before .before .before .before .before .before .array-items .ensures)) .0 .took .ready
+leave-group-requires c κs =
+    let c4 = c .before .before .before .before in
+    let at-n = c4 .before in
+    let at-array-items = at-n .before .before .before .before in
+    (rw (at-n .n .given .1) at (at-array-items .array-items .ensures)) .0 .took .ready
 
 same-length : tie.Need-same-length
 same-length c = search needs
 
 returns : tie.Need-returns
-returns c = array-refused (c .before .before .before .before .before .before .before .before .before .before .before .before .before .args .text .now) (c .before .before .before .before .before .before .before .before .before .before .before .before .before .args .c) _ _ (rw (c .before .r .given .1) at (c .before .before .before .before .before .array-items .ensures))
+returns c =
+    let at-r = c .before in
+    let at-array-items = at-r .before .before .before .before in
+    let c9 = at-array-items .before .before .before .before in
+    let args = c9 .before .before .before .before .args in
+    array-refused (args .text .now) (args .c) _ _ (rw (at-r .r .given .1) at (at-array-items .array-items .ensures))
 
 same-length-2 : tie.Need-same-length-2
 same-length-2 c = search needs
 
 returns-2 : tie.Need-returns-2
 returns-2 c =
-    let w = rw (c .before .before .before .before .before .before .n .given .1) at (c .before .before .before .before .before .before .before .before .before .before .array-items .ensures) in
-    array-went (c .before .before .before .before .before .before .before .before .before .before .before .before .before .before .before .before .before .before .args .text .now) (c .before .before .before .before .before .before .before .before .before .before .before .before .before .before .before .before .before .before .args .sheet .now) (c .before .before .before .before .before .before .before .before .before .before .before .before .before .before .put-byte .last .0) (c .before .before .before .before .before .before .before .before .before .before .array-items .last .1 .0) (c .before .before .before .patch-count .last .0) (c .before .before .before .before .before .before .before .before .before .before .before .before .before .before .before .before .before .before .args .c) _ (c .leave-group .result) (c .before .before .before .before .before .before .before .before .before .before .before .before .before .before .before .before .before .before .args .out) (c .before .before .before .before .before .before .before .before .before .before .before .before .before .before .put-byte .result) _ (c .before .before .before .patch-count .result) _ (c .before .before .before .before .before .before .before .before .before .before .before .before .before .before .put-byte .ensures) (w .0) (w .1) (c .before .before .before .patch-count .ensures) (c .leave-group .ensures)
+    let at-patch-count = c .before .before .before in
+    let at-n = at-patch-count .before .before .before in
+    let at-array-items = at-n .before .before .before .before in
+    let at-put-byte = at-array-items .before .before .before .before in
+    let args = at-put-byte .before .before .before .before .args in
+    let w = rw (at-n .n .given .1) at (at-array-items .array-items .ensures) in
+    array-went
+    (args .text .now)
+    (args .sheet .now)
+    (at-put-byte .put-byte .last .0)
+    (at-array-items .array-items .last .1 .0)
+    (at-patch-count .patch-count .last .0)
+    (args .c)
+    _
+    (c .leave-group .result)
+    (args .out)
+    (at-put-byte .put-byte .result)
+    _
+    (at-patch-count .patch-count .result)
+    _
+    (at-put-byte .put-byte .ensures)
+    (w .0)
+    (w .1)
+    (at-patch-count .patch-count .ensures)
+    (c .leave-group .ensures)
 
 pub array-value-spec : {M : Type 1} → statement M
 array-value-spec =

@@ -14,16 +14,38 @@ enum-known-word : tie.Need-enum-known-word
 enum-known-word c = search needs
 
 begin-word-requires : tie.Need-begin-word-requires
-begin-word-requires c κs = ((rw (c .before .before .word2 .given .1) at (c .before .before .before .before .word .ensures)) .0 .ready, c .before .before .before .before .before .before .before .pre .1)
+begin-word-requires c κs =
+    let at-word2 = c .before .before in
+    let at-word = at-word2 .before .before in
+    let start = at-word .before .before .before in
+    ((rw (at-word2 .word2 .given .1) at (at-word .word .ensures)) .0 .ready, start .pre .1)
 
 returns : tie.Need-returns
-returns c = no-keyword (c .before .before .before .before .before .before .args .text .now) (c .before .before .before .before .before .before .args .c) _ _ (rw (c .before .p .given .1) at (c .before .before .before .word .ensures))
+returns c =
+    let at-word = c .before .before .before in
+    let args = at-word .before .before .before .args in
+    no-keyword (args .text .now) (args .c) _ _ (rw (c .before .p .given .1) at (at-word .word .ensures))
 
 same-length : tie.Need-same-length
 same-length c = search needs
 
 returns-2 : tie.Need-returns-2
-returns-2 c = from-keyword (c .before .before .before .before .before .before .before .before .before .before .args .text .now) (c .before .before .before .before .before .before .before .before .before .before .args .sheet .now) (c .before .before .begin-word .last .1 .0) (c .before .before .before .before .before .before .before .before .before .before .args .c) _ (c .before .before .before .before .before .before .before .before .before .before .args .out) _ _ (c .before .before .begin-word .result) ((rw (c .before .before .before .before .before .word2 .given .1) at (c .before .before .before .before .before .before .before .word .ensures)) .0) (c .before .before .begin-word .ensures)
+returns-2 c =
+    let at-begin-word = c .before .before in
+    let at-word2 = at-begin-word .before .before .before in
+    let at-word = at-word2 .before .before in
+    let args = at-word .before .before .before .args in
+    from-keyword
+    (args .text .now)
+    (args .sheet .now)
+    (at-begin-word .begin-word .last .1 .0)
+    (args .c)
+    _
+    (args .out)
+    _ _
+    (at-begin-word .begin-word .result)
+    ((rw (at-word2 .word2 .given .1) at (at-word .word .ensures)) .0)
+    (at-begin-word .begin-word .ensures)
 
 pub begin-node-spec : {M : Type 1} → statement M
 begin-node-spec =

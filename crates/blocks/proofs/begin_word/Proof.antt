@@ -41,28 +41,93 @@ same-length : tie.Need-same-length
 same-length c = search needs
 
 returns : tie.Need-returns
-returns c = leaf-refused (c .before .before .before .before .before .before .before .before .before .before .before .before .before .before .args .text .now) (c .before .before .before .before .before .before .before .before .before .before .before .before .before .before .args .sheet .now) (c .before .before .before .before .before .parse-leaf .last .1 .0) (c .before .before .before .before .before .before .before .before .before .before .before .before .before .before .args .c) (c .before .before .before .before .before .before .before .before .before .before .before .before .before .before .args .out) _ _ _ _ (rw (c .before .before .before .before .before .before .before .before .i .given .1, c .before .before .before .before .before .before .before .before .before .before .before .part .ensures) at (c .before .before .before .before .before .before .before .before .before .before .keyword-of .ensures)) (rw (c .before .r .given .1) at (c .before .before .before .before .before .parse-leaf .ensures))
+returns c =
+    let at-r = c .before in
+    let at-parse-leaf = at-r .before .before .before .before in
+    let at-i = at-parse-leaf .before .before .before in
+    let at-keyword-of = at-i .before .before in
+    let at-part = at-keyword-of .before in
+    let args = at-part .before .before .before .args in
+    leaf-refused
+    (args .text .now)
+    (args .sheet .now)
+    (at-parse-leaf .parse-leaf .last .1 .0)
+    (args .c)
+    (args .out)
+    _ _ _ _
+    (rw (at-i .i .given .1, at-part .part .ensures) at (at-keyword-of .keyword-of .ensures))
+    (rw (at-r .r .given .1) at (at-parse-leaf .parse-leaf .ensures))
 
 same-length-2 : tie.Need-same-length-2
 same-length-2 c = search needs
 
 returns-2 : tie.Need-returns-2
-returns-2 c = leaf-begun (c .before .before .before .before .before .before .before .before .before .before .before .before .before .before .args .text .now) (c .before .before .before .before .before .before .before .before .before .before .before .before .before .before .args .sheet .now) (c .before .before .before .before .before .parse-leaf .last .1 .0) (c .before .before .before .before .before .before .before .before .before .before .before .before .before .before .args .c) (c .before .before .before .before .before .before .before .before .before .before .before .before .before .before .args .out) _ _ _ _ (rw (c .before .before .before .before .before .before .before .before .i .given .1, c .before .before .before .before .before .before .before .before .before .before .before .part .ensures) at (c .before .before .before .before .before .before .before .before .before .before .keyword-of .ensures)) (rw (c .before .q .given .1) at (c .before .before .before .before .before .parse-leaf .ensures))
+returns-2 c =
+    let at-q = c .before in
+    let at-parse-leaf = at-q .before .before .before .before in
+    let at-i = at-parse-leaf .before .before .before in
+    let at-keyword-of = at-i .before .before in
+    let at-part = at-keyword-of .before in
+    let args = at-part .before .before .before .args in
+    leaf-begun
+    (args .text .now)
+    (args .sheet .now)
+    (at-parse-leaf .parse-leaf .last .1 .0)
+    (args .c)
+    (args .out)
+    _ _ _ _
+    (rw (at-i .i .given .1, at-part .part .ensures) at (at-keyword-of .keyword-of .ensures))
+    (rw (at-q .q .given .1) at (at-parse-leaf .parse-leaf .ensures))
 
 same-length-3 : tie.Need-same-length-3
 same-length-3 c = search needs
 
 returns-3 : tie.Need-returns-3
-returns-3 c = open-refused (c .before .before .before .before .before .before .before .before .before .before .before .before .before .before .args .text .now) (c .before .before .before .before .before .before .before .before .before .before .before .before .before .before .args .sheet .now) (c .before .before .before .before .before .parse-head .last .1 .0) (c .before .before .before .before .before .before .before .before .before .before .before .before .before .before .args .c) (c .before .before .before .before .before .before .before .before .before .before .before .before .before .before .args .out) _ _ _ _ (rw (c .before .before .before .before .before .before .before .before .i2 .given .1, c .before .before .before .before .before .before .before .before .before .before .before .part .ensures) at (c .before .before .before .before .before .before .before .before .before .before .keyword-of .ensures)) (rw (c .before .r2 .given .1) at (c .before .before .before .before .before .parse-head .ensures))
+returns-3 c =
+    let at-r2 = c .before in
+    let at-parse-head = at-r2 .before .before .before .before in
+    let at-i2 = at-parse-head .before .before .before in
+    let at-keyword-of = at-i2 .before .before in
+    let at-part = at-keyword-of .before in
+    let args = at-part .before .before .before .args in
+    open-refused
+    (args .text .now)
+    (args .sheet .now)
+    (at-parse-head .parse-head .last .1 .0)
+    (args .c)
+    (args .out)
+    _ _ _ _
+    (rw (at-i2 .i2 .given .1, at-part .part .ensures) at (at-keyword-of .keyword-of .ensures))
+    (rw (at-r2 .r2 .given .1) at (at-parse-head .parse-head .ensures))
 
 same-length-4 : tie.Need-same-length-4
 same-length-4 c = search needs
 
 returns-4 : tie.Need-returns-4
-returns-4 c = open-begun (c .before .before .before .before .before .before .before .before .before .before .before .before .before .before .args .text .now) (c .before .before .before .before .before .before .before .before .before .before .before .before .before .before .args .sheet .now) (c .before .before .before .before .before .parse-head .last .1 .0) (c .before .before .before .before .before .before .before .before .before .before .before .before .before .before .args .c) (c .before .before .before .before .before .before .before .before .before .before .before .before .before .before .args .out) _ _ _ _ (rw (c .before .before .before .before .before .before .before .before .i2 .given .1, c .before .before .before .before .before .before .before .before .before .before .before .part .ensures) at (c .before .before .before .before .before .before .before .before .before .before .keyword-of .ensures)) (rw (c .before .q2 .given .1) at (c .before .before .before .before .before .parse-head .ensures))
+returns-4 c =
+    let at-q2 = c .before in
+    let at-parse-head = at-q2 .before .before .before .before in
+    let at-i2 = at-parse-head .before .before .before in
+    let at-keyword-of = at-i2 .before .before in
+    let at-part = at-keyword-of .before in
+    let args = at-part .before .before .before .args in
+    open-begun
+    (args .text .now)
+    (args .sheet .now)
+    (at-parse-head .parse-head .last .1 .0)
+    (args .c)
+    (args .out)
+    _ _ _ _
+    (rw (at-i2 .i2 .given .1, at-part .part .ensures) at (at-keyword-of .keyword-of .ensures))
+    (rw (at-q2 .q2 .given .1) at (at-parse-head .parse-head .ensures))
 
 returns-5 : tie.Need-returns-5
-returns-5 c = unknown-refused (c .before .before .before .before .before .before .before .args .text .now) (c .before .before .before .before .before .before .before .args .c) _ (c .before .before .before .before .before .before .before .pre .0) (rw (c .before .enum-told .given .1, c .before .before .before .before .part .ensures) at (c .before .before .before .keyword-of .ensures))
+returns-5 c =
+    let at-keyword-of = c .before .before .before in
+    let at-part = at-keyword-of .before in
+    let start = at-part .before .before .before in
+    unknown-refused (start .args .text .now) (start .args .c) _ (start .pre .0)
+    (rw (c .before .enum-told .given .1, at-part .part .ensures) at (at-keyword-of .keyword-of .ensures))
 
 pub begin-word-spec : {M : Type 1} → statement M
 begin-word-spec =

@@ -15,10 +15,24 @@ enum-known-m : tie.Need-enum-known-m
 enum-known-m c = search needs
 
 returns : tie.Need-returns
-returns c = too-deep (c .before .before .before .before .before .before .before .args .text .now) (c .before .before .before .before .before .before .before .args .c) _ (c .before .before .before .before .before .before .before .args .depth) (c .before .before .before .before .before .before .before .pre) (rw (c .before .before .before .m .given .1) at (c .before .before .before .before .before .mark .ensures)) (c .before .if1 .taken)
+returns c =
+    let at-m = c .before .before .before in
+    let at-mark = at-m .before .before in
+    let start = at-mark .before .before in
+    too-deep
+    (start .args .text .now)
+    (start .args .c)
+    _
+    (start .args .depth)
+    (start .pre)
+    (rw (at-m .m .given .1) at (at-mark .mark .ensures))
+    (c .before .if1 .taken)
 
 returns-2 : tie.Need-returns-2
-returns-2 c = no-brace (c .before .before .before .before .before .args .text .now) (c .before .before .before .before .before .args .c) (c .before .before .before .before .before .args .depth) _ (rw (c .before .p .given .1) at (c .before .before .before .mark .ensures))
+returns-2 c =
+    let at-mark = c .before .before .before in
+    let args = at-mark .before .before .args in
+    no-brace (args .text .now) (args .c) (args .depth) _ (rw (c .before .p .given .1) at (at-mark .mark .ensures))
 
 returns-3 : tie.Need-returns-3
 returns-3 c = (rw (c .before .before .m .given .1) at (c .before .before .before .before .mark .ensures), omega (arith, c .if1 .left))

@@ -26,7 +26,13 @@ same-length : tie.Need-same-length
 same-length c = search needs
 
 returns-2 : tie.Need-returns-2
-returns-2 c = group-went ((rw (c .before .before .before .before .before .before .before .before .before .mode .given .1) at (c .before .before .before .before .before .before .before .before .before .before .before .parse-group .ensures)) .0) (c .before .before .before .before .before .before .put-byte .ensures) (c .before .before .put-byte2 .ensures)
+returns-2 c =
+    let at-put-byte2 = c .before .before in
+    let at-put-byte = at-put-byte2 .before .before .before .before in
+    let at-mode = at-put-byte .before .before .before in
+    let at-parse-group = at-mode .before .before in
+    group-went ((rw (at-mode .mode .given .1) at (at-parse-group .parse-group .ensures)) .0) (at-put-byte .put-byte .ensures)
+    (at-put-byte2 .put-byte2 .ensures)
 
 pub parse-group-spec : {M : Type 1} → statement M
 parse-group-spec =

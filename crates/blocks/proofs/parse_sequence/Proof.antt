@@ -11,7 +11,10 @@ same-length : tie.Need-same-length
 same-length c = search needs
 
 returns : tie.Need-returns
-returns c = sequence-went (c .before .before .before .before .before .before .pre .0) (c .before .before .put-byte .ensures)
+returns c =
+    let at-put-byte = c .before .before in
+    let start = at-put-byte .before .before .before .before in
+    sequence-went (start .pre .0) (at-put-byte .put-byte .ensures)
 
 pub parse-sequence-spec : {M : Type 1} → statement M
 parse-sequence-spec = tie.close (tie.spec put-byte-requires same-length returns)

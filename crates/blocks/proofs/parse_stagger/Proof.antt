@@ -19,10 +19,31 @@ put-byte-requires : tie.Need-put-byte-requires
 put-byte-requires c κs = search needs
 
 put-opt-pattern-requires : tie.Need-put-opt-pattern-requires
-put-opt-pattern-requires c κs = (omega (arith, c .before .before .before .before .before .before .before .before .before .before .before .pre .1 .low, c .before .before .before .put-byte .ensures .place), (rw (c .before .before .before .before .before .before .pattern .given .1) at (c .before .before .before .before .before .before .before .before .parse-stagger .ensures)) .1)
+put-opt-pattern-requires c κs =
+    let at-put-byte = c .before .before .before in
+    let at-pattern = at-put-byte .before .before .before in
+    let at-parse-stagger = at-pattern .before .before in
+    let start = at-parse-stagger .before .before .before in (
+      omega (arith, start .pre .1 .low, at-put-byte .put-byte .ensures .place),
+      (rw (at-pattern .pattern .given .1) at (at-parse-stagger .parse-stagger .ensures)) .1,
+    )
 
 put-opt-float-requires : tie.Need-put-opt-float-requires
-put-opt-float-requires c κs = (omega (arith, c .before .before .before .before .before .before .before .before .before .before .before .before .before .before .before .pre .1 .low, c .before .before .before .before .before .before .before .put-byte .ensures .place, c .before .before .before .put-opt-pattern .ensures .place, length-pattern (optPatternOf (c .before .before .before .before .before .before .before .before .before .before .pattern .given .0 .0))), (rw (c .before .before .before .before .before .before .before .before .before .before .pattern .given .1) at (c .before .before .before .before .before .before .before .before .before .before .before .before .parse-stagger .ensures)) .2)
+put-opt-float-requires c κs =
+    let at-put-opt-pattern = c .before .before .before in
+    let at-put-byte = at-put-opt-pattern .before .before .before .before in
+    let at-pattern = at-put-byte .before .before .before in
+    let at-parse-stagger = at-pattern .before .before in
+    let start = at-parse-stagger .before .before .before in (
+      omega (
+        arith,
+        start .pre .1 .low,
+        at-put-byte .put-byte .ensures .place,
+        at-put-opt-pattern .put-opt-pattern .ensures .place,
+        length-pattern (optPatternOf (at-pattern .pattern .given .0 .0)),
+      ),
+      (rw (at-pattern .pattern .given .1) at (at-parse-stagger .parse-stagger .ensures)) .2,
+    )
 
 returns : tie.Need-returns
 returns c = rw (c .before .r .given .1) at (c .before .before .before .parse-stagger .ensures)
@@ -31,7 +52,14 @@ same-length : tie.Need-same-length
 same-length c = search needs
 
 returns-2 : tie.Need-returns-2
-returns-2 c = stagger-went _ _ ((rw (c .before .before .before .before .before .before .before .before .before .before .before .before .before .pattern .given .1) at (c .before .before .before .before .before .before .before .before .before .before .before .before .before .before .before .parse-stagger .ensures)) .0) (c .before .before .before .before .before .before .before .before .before .before .put-byte .ensures) (c .before .before .before .before .before .before .put-opt-pattern .ensures) (c .before .before .put-opt-float .ensures)
+returns-2 c =
+    let at-put-opt-float = c .before .before in
+    let at-put-opt-pattern = at-put-opt-float .before .before .before .before in
+    let at-put-byte = at-put-opt-pattern .before .before .before .before in
+    let at-pattern = at-put-byte .before .before .before in
+    let at-parse-stagger = at-pattern .before .before in
+    stagger-went _ _ ((rw (at-pattern .pattern .given .1) at (at-parse-stagger .parse-stagger .ensures)) .0)
+    (at-put-byte .put-byte .ensures) (at-put-opt-pattern .put-opt-pattern .ensures) (at-put-opt-float .put-opt-float .ensures)
 
 pub parse-stagger-spec : {M : Type 1} → statement M
 parse-stagger-spec =

@@ -45,7 +45,10 @@ array-share-prefix-text : tie.Need-array-share-prefix-text
 array-share-prefix-text c = search needs
 
 slice-aggregate-check : tie.Need-slice-aggregate-check
-slice-aggregate-check c = sym (length-take-le _ _ (c .before .before .before .before .before .before .unhex .ensures))
+slice-aggregate-check c =
+    let c4 = c .before .before .before .before in
+    let at-unhex = c4 .before .before in
+    sym (length-take-le _ _ (at-unhex .unhex .ensures))
 
 array-share-prefix-sheet : tie.Need-array-share-prefix-sheet
 array-share-prefix-sheet c = search needs

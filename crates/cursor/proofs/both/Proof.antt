@@ -21,16 +21,72 @@ advance-requires-2 : tie.Need-advance-requires-2
 advance-requires-2 c κs = search needs
 
 returns : tie.Need-returns
-returns c = took-both (c .before .before .before .before .before .before .before .before .before .before .before .before .args .text .now) (c .before .before .before .before .before .before .before .before .before .before .before .before .args .c) (c .before .before .before .before .before .before .before .advance .result) (c .advance2 .result) (c .before .before .before .before .before .before .before .before .before .before .before .before .pre .0) (c .before .before .before .before .before .before .before .advance .ensures) (c .advance2 .ensures) (c .before .before .before .before .before .before .before .before .before .before .before .before .args .a) (c .before .before .before .before .before .before .before .before .before .before .before .before .args .b) (c .before .before .before .before .before .before .before .before .before .before .before .before .pre .1) (sym (c .before .before .before .before .before .before .before .before .before .sees .ensures (c .before .before .before .before .before .before .before .before .before .before .before .before .args .text .now) (c .before .before .before .before .before .before .before .before .before .before .before .before .pre .0)) ∙ c .before .before .before .before .before .before .before .before .if1 .taken) (sym (c .before .before .before .before .before .sees2 .ensures (c .before .before .before .before .before .before .before .before .before .before .before .before .args .text .now) (c .before .before .before .before .before .before .before .advance .ensures .ready)) ∙ c .before .before .before .before .if2 .taken) (c .before .if3 .taken)
+returns c =
+    let at-if2 = c .before .before .before .before in
+    let at-sees2 = at-if2 .before in
+    let at-advance = at-sees2 .before .before in
+    let at-if1 = at-advance .before in
+    let at-sees = at-if1 .before in
+    let start = at-sees .before .before .before in
+    let args = start .args in
+    took-both
+    (args .text .now)
+    (args .c)
+    (at-advance .advance .result)
+    (c .advance2 .result)
+    (start .pre .0)
+    (at-advance .advance .ensures)
+    (c .advance2 .ensures)
+    (args .a)
+    (args .b)
+    (start .pre .1)
+    (sym (at-sees .sees .ensures (args .text .now) (start .pre .0)) ∙ at-if1 .if1 .taken)
+    (sym (at-sees2 .sees2 .ensures (args .text .now) (at-advance .advance .ensures .ready)) ∙ at-if2 .if2 .taken)
+    (c .before .if3 .taken)
 
 returns-2 : tie.Need-returns-2
-returns-2 c = both-missing (c .before .before .before .before .before .before .before .before .before .before .before .args .text .now) (c .before .before .before .before .before .before .before .before .before .before .before .args .c) (c .before .before .before .before .before .before .before .before .before .before .before .pre .0) (c .before .before .before .before .before .before .before .before .before .before .before .args .a) (c .before .before .before .before .before .before .before .before .before .before .before .args .b) (pair-apart (c .before .before .before .before .before .before .before .before .before .before .before .args .text .now) (c .before .before .before .before .before .before .before .before .before .before .before .args .c) (c .before .before .before .before .before .before .advance .result) (c .before .before .before .before .before .before .before .before .before .before .before .pre .0) (c .before .before .before .before .before .before .advance .ensures) (c .before .before .before .before .before .before .before .before .before .before .before .args .a) (c .before .before .before .before .before .before .before .before .before .before .before .args .b) (c .if3 .left))
+returns-2 c =
+    let c4 = c .before .before .before .before in
+    let at-advance = c4 .before .before in
+    let c10 = at-advance .before .before .before .before in
+    let start = c10 .before in
+    let args = start .args in
+    both-missing
+    (args .text .now)
+    (args .c)
+    (start .pre .0)
+    (args .a)
+    (args .b)
+    (pair-apart (args .text .now) (args .c) (at-advance .advance .result) (start .pre .0) (at-advance .advance .ensures) (args .a)
+    (args .b) (c .if3 .left))
 
 returns-3 : tie.Need-returns-3
-returns-3 c = both-missing (c .before .before .before .before .before .before .before .before .args .text .now) (c .before .before .before .before .before .before .before .before .args .c) (c .before .before .before .before .before .before .before .before .pre .0) (c .before .before .before .before .before .before .before .before .args .a) (c .before .before .before .before .before .before .before .before .args .b) (pair-second (c .before .before .before .before .before .before .before .before .args .text .now) (c .before .before .before .before .before .before .before .before .args .c) (c .before .before .before .advance .result) (c .before .before .before .advance .ensures) (c .before .before .before .before .before .before .before .before .args .a) (c .before .before .before .before .before .before .before .before .args .b) (sym (c .before .sees2 .ensures (c .before .before .before .before .before .before .before .before .args .text .now) (c .before .before .before .advance .ensures .ready)) ∙ c .if2 .left))
+returns-3 c =
+    let at-advance = c .before .before .before in
+    let c7 = at-advance .before .before .before .before in
+    let start = c7 .before in
+    let args = start .args in
+    both-missing
+    (args .text .now)
+    (args .c)
+    (start .pre .0)
+    (args .a)
+    (args .b)
+    (pair-second (args .text .now) (args .c) (at-advance .advance .result) (at-advance .advance .ensures) (args .a) (args .b)
+    (sym (c .before .sees2 .ensures (args .text .now) (at-advance .advance .ensures .ready)) ∙ c .if2 .left))
 
 returns-4 : tie.Need-returns-4
-returns-4 c = both-missing (c .before .before .before .before .args .text .now) (c .before .before .before .before .args .c) (c .before .before .before .before .pre .0) (c .before .before .before .before .args .a) (c .before .before .before .before .args .b) (pair-first (c .before .before .before .before .args .text .now) (c .before .before .before .before .args .c) (c .before .before .before .before .args .a) (c .before .before .before .before .args .b) (sym (c .before .sees .ensures (c .before .before .before .before .args .text .now) (c .before .before .before .before .pre .0)) ∙ c .if1 .left))
+returns-4 c =
+    let start = c .before .before .before .before in
+    let args = start .args in
+    both-missing
+    (args .text .now)
+    (args .c)
+    (start .pre .0)
+    (args .a)
+    (args .b)
+    (pair-first (args .text .now) (args .c) (args .a) (args .b)
+    (sym (c .before .sees .ensures (args .text .now) (start .pre .0)) ∙ c .if1 .left))
 
 pub both-spec : {M : Type 1} → statement M
 both-spec =

@@ -34,14 +34,26 @@ returns c = let e = rw (c .before .p .given .1) at (c .before .before .before .w
 
 returns-2 : tie.Need-returns-2
 returns-2 c =
-    let t = rw (c .before .before .before .before .before .before .w .given .1) at (c .before .before .before .before .before .before .before .before .word .ensures) in
-    let f : find _ 0 _ ≡ some _ = sym (c .before .before .before .find .ensures ∙ ap (find _ 0) (c .before .before .before .before .part .ensures)) ∙ ap placeOf (c .before .i .given .1) in
+    let at-find = c .before .before .before in
+    let at-part = at-find .before in
+    let at-w = at-part .before .before in
+    let at-word = at-w .before .before in
+    let t = rw (at-w .w .given .1) at (at-word .word .ensures) in
+    let f : find _ 0 _ ≡ some _ = sym (at-find .find .ensures ∙ ap (find _ 0) (at-part .part .ensures))
+    ∙ ap placeOf (c .before .i .given .1)
+    in
     record { is = rw (t .0 .is, f); low = t .0 .low; ready = t .0 .ready }
 
 returns-3 : tie.Need-returns-3
 returns-3 c =
-    let t = rw (c .before .before .before .before .before .before .w .given .1) at (c .before .before .before .before .before .before .before .before .word .ensures) in
-    let f : find _ 0 _ ≡ none = sym (c .before .before .before .find .ensures ∙ ap (find _ 0) (c .before .before .before .before .part .ensures)) ∙ ap placeOf (c .before .enum-told .given .1) in
+    let at-find = c .before .before .before in
+    let at-part = at-find .before in
+    let at-w = at-part .before .before in
+    let at-word = at-w .before .before in
+    let t = rw (at-w .w .given .1) at (at-word .word .ensures) in
+    let f : find _ 0 _ ≡ none = sym (at-find .find .ensures ∙ ap (find _ 0) (at-part .part .ensures))
+    ∙ ap placeOf (c .before .enum-told .given .1)
+    in
     rw (t .0 .is, f, t .0 .ready .head .place)
 
 pub choice-spec : {M : Type 1} → statement M

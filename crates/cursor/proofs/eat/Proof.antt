@@ -15,10 +15,19 @@ advance-requires : tie.Need-advance-requires
 advance-requires c κs = search needs
 
 returns : tie.Need-returns
-returns c = fewer (took-eaten (c .before .before .before .before .args .text .now) (c .before .before .before .before .args .c) (c .advance .result) (c .before .before .before .before .pre .0) (c .advance .ensures) (c .before .before .before .before .args .b) (c .before .before .before .before .pre .1) (sym (c .before .before .sees .ensures (c .before .before .before .before .args .text .now) (c .before .before .before .before .pre .0)) ∙ c .before .if1 .taken))
+returns c =
+    let at-sees = c .before .before in
+    let start = at-sees .before .before in
+    let args = start .args in
+    fewer (took-eaten (args .text .now) (args .c) (c .advance .result) (start .pre .0) (c .advance .ensures) (args .b) (start .pre .1)
+    (sym (at-sees .sees .ensures (args .text .now) (start .pre .0)) ∙ c .before .if1 .taken))
 
 returns-2 : tie.Need-returns-2
-returns-2 c = stays (c .before .before .before .args .text .now) (c .before .before .before .args .c) (c .before .before .before .pre .0) (eatByte (c .before .before .before .args .b)) false (rw (sym (c .before .sees .ensures (c .before .before .before .args .text .now) (c .before .before .before .pre .0)) ∙ c .if1 .left))
+returns-2 c =
+    let start = c .before .before .before in
+    let args = start .args in
+    stays (args .text .now) (args .c) (start .pre .0) (eatByte (args .b)) false
+    (rw (sym (c .before .sees .ensures (args .text .now) (start .pre .0)) ∙ c .if1 .left))
 
 pub eat-spec : {M : Type 1} → statement M
 eat-spec = tie.close (tie.spec sees-requires advance-requires returns returns-2)

@@ -12,7 +12,9 @@ is-end-requires : tie.Need-is-end-requires
 is-end-requires c κs = search needs
 
 returns : tie.Need-returns
-returns c s r = c .is-end .ensures (drop (c .before .before .args .c .head .start) s) ∙ ap (λ (k : Kind). isEnd k) (sym (head-kind s (c .before .before .args .c) r))
+returns c s r =
+    let args = c .before .before .args in
+    c .is-end .ensures (drop (args .c .head .start) s) ∙ ap (λ (k : Kind). isEnd k) (sym (head-kind s (args .c) r))
 
 pub ends-spec : {M : Type 1} → statement M
 ends-spec = tie.close (tie.spec is-end-requires returns)

@@ -12,7 +12,16 @@ advance-requires : tie.Need-advance-requires
 advance-requires c κs = search needs
 
 returns : tie.Need-returns
-returns c = leave-end (c .before .before .before .before .args .text .now) (c .before .before .before .before .args .c) (c .advance .result) (c .before .before .before .before .pre) (c .advance .ensures) (sym (c .before .before .ends .ensures (c .before .before .before .before .args .text .now) (c .before .before .before .before .pre)) ∙ c .before .if1 .taken)
+returns c =
+    let at-ends = c .before .before in
+    let start = at-ends .before .before in
+    leave-end
+    (start .args .text .now)
+    (start .args .c)
+    (c .advance .result)
+    (start .pre)
+    (c .advance .ensures)
+    (sym (at-ends .ends .ensures (start .args .text .now) (start .pre)) ∙ c .before .if1 .taken)
 
 first-of-requires : tie.Need-first-of-requires
 first-of-requires c κs = search needs
@@ -21,7 +30,21 @@ past-group-requires : tie.Need-past-group-requires
 past-group-requires c κs = search needs
 
 returns-2 : tie.Need-returns-2
-returns-2 c = leave-left (c .before .before .before .before .before .before .before .args .text .now) (c .before .before .before .before .before .before .before .args .c) (c .before .past-group .result) _ (c .before .before .before .before .before .before .before .pre) (c .before .past-group .ensures) (sym (c .before .before .before .before .before .ends .ensures (c .before .before .before .before .before .before .before .args .text .now) (c .before .before .before .before .before .before .before .pre)) ∙ c .before .before .before .before .if1 .left) refl refl (c .before .before .first-of .ensures)
+returns-2 c =
+    let at-first-of = c .before .before in
+    let at-if1 = at-first-of .before .before in
+    let at-ends = at-if1 .before in
+    let start = at-ends .before .before in
+    leave-left
+    (start .args .text .now)
+    (start .args .c)
+    (c .before .past-group .result)
+    _
+    (start .pre)
+    (c .before .past-group .ensures)
+    (sym (at-ends .ends .ensures (start .args .text .now) (start .pre)) ∙ at-if1 .if1 .left)
+    refl refl
+    (at-first-of .first-of .ensures)
 
 pub leave-group-spec : {M : Type 1} → statement M
 leave-group-spec =

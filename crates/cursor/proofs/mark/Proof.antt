@@ -13,10 +13,27 @@ advance-requires : tie.Need-advance-requires
 advance-requires c κs = search needs
 
 returns : tie.Need-returns
-returns c = took-mark (c .before .before .before .before .args .text .now) (c .before .before .before .before .args .c) (c .advance .result) (c .before .before .before .before .pre .0) (c .advance .ensures) (c .before .before .before .before .args .b) (c .before .before .before .before .pre .1) (sym (c .before .before .sees .ensures (c .before .before .before .before .args .text .now) (c .before .before .before .before .pre .0)) ∙ c .before .if1 .taken)
+returns c =
+    let at-sees = c .before .before in
+    let start = at-sees .before .before in
+    let args = start .args in
+    took-mark
+    (args .text .now)
+    (args .c)
+    (c .advance .result)
+    (start .pre .0)
+    (c .advance .ensures)
+    (args .b)
+    (start .pre .1)
+    (sym (at-sees .sees .ensures (args .text .now) (start .pre .0)) ∙ c .before .if1 .taken)
 
 returns-2 : tie.Need-returns-2
-returns-2 c = mark-missing (c .before .before .before .before .args .text .now) (c .before .before .before .before .args .c) (c .before .before .before .before .pre .0) (c .before .before .before .before .args .b) (sym (c .before .before .sees .ensures (c .before .before .before .before .args .text .now) (c .before .before .before .before .pre .0)) ∙ c .before .if1 .left)
+returns-2 c =
+    let at-sees = c .before .before in
+    let start = at-sees .before .before in
+    let args = start .args in
+    mark-missing (args .text .now) (args .c) (start .pre .0) (args .b)
+    (sym (at-sees .sees .ensures (args .text .now) (start .pre .0)) ∙ c .before .if1 .left)
 
 pub mark-spec : {M : Type 1} → statement M
 mark-spec = tie.close (tie.spec sees-requires advance-requires returns returns-2)

@@ -24,10 +24,47 @@ enum-told : tie.Need-enum-told
 enum-told c = search needs
 
 returns : tie.Need-returns
-returns c = minus-number (c .before .before .before .before .before .before .before .before .before .before .before .args .text .now) (c .before .before .before .before .before .before .before .before .before .before .before .args .c) (c .before .before .before .before .before .before .advance .result) (c .before .before .before .before .before .before .before .before .before .before .before .pre) (c .before .before .before .before .before .before .advance .ensures) (c .advance2 .result) (c .advance2 .ensures) _ (sym (c .before .before .before .before .before .before .before .before .sees .ensures (c .before .before .before .before .before .before .before .before .before .before .before .args .text .now) (c .before .before .before .before .before .before .before .before .before .before .before .pre)) ∙ c .before .before .before .before .before .before .before .if1 .taken) (rw (c .before .before .n .given .1) at (c .before .before .before .before .number-of .ensures)) (small-number (c .before .before .before .before .before .before .before .before .before .before .before .args .text .now) (c .before .before .before .before .before .before .advance .result) _ (c .before .before .before .before .before .before .advance .ensures .ready) (rw (c .before .before .n .given .1) at (c .before .before .before .before .number-of .ensures)))
+returns c =
+    let at-n = c .before .before in
+    let at-number-of = at-n .before .before in
+    let at-advance = at-number-of .before .before in
+    let advance = at-advance .advance in
+    let at-if1 = at-advance .before in
+    let at-sees = at-if1 .before in
+    let start = at-sees .before .before .before in
+    let args = start .args in
+    minus-number
+    (args .text .now)
+    (args .c)
+    (advance .result)
+    (start .pre)
+    (advance .ensures)
+    (c .advance2 .result)
+    (c .advance2 .ensures)
+    _
+    (sym (at-sees .sees .ensures (args .text .now) (start .pre)) ∙ at-if1 .if1 .taken)
+    (rw (at-n .n .given .1) at (at-number-of .number-of .ensures))
+    (small-number (args .text .now) (advance .result) _ (advance .ensures .ready)
+    (rw (at-n .n .given .1) at (at-number-of .number-of .ensures)))
 
 returns-2 : tie.Need-returns-2
-returns-2 c = (no-minus (c .before .before .before .before .before .before .before .before .before .args .text .now) (c .before .before .before .before .before .before .before .before .before .args .c) (c .before .before .before .before .advance .result) (c .before .before .before .before .before .before .before .before .before .pre) (c .before .before .before .before .advance .ensures) (sym (c .before .before .before .before .before .before .sees .ensures (c .before .before .before .before .before .before .before .before .before .args .text .now) (c .before .before .before .before .before .before .before .before .before .pre)) ∙ c .before .before .before .before .before .if1 .taken) (rw (c .enum-told .given .1) at (c .before .before .number-of .ensures)), head-place (c .before .before .before .before .before .before .before .before .before .args .text .now) (c .before .before .before .before .before .before .before .before .before .args .c) (c .before .before .before .before .before .before .before .before .before .pre))
+returns-2 c =
+    let at-number-of = c .before .before in
+    let at-advance = at-number-of .before .before in
+    let at-if1 = at-advance .before in
+    let at-sees = at-if1 .before in
+    let start = at-sees .before .before .before in
+    let args = start .args in (
+      no-minus
+          (args .text .now)
+          (args .c)
+          (at-advance .advance .result)
+          (start .pre)
+          (at-advance .advance .ensures)
+          (sym (at-sees .sees .ensures (args .text .now) (start .pre)) ∙ at-if1 .if1 .taken)
+          (rw (c .enum-told .given .1) at (at-number-of .number-of .ensures)),
+      head-place (args .text .now) (args .c) (start .pre),
+    )
 
 number-of-requires-2 : tie.Need-number-of-requires-2
 number-of-requires-2 c κs = search needs
@@ -42,10 +79,39 @@ enum-told-2 : tie.Need-enum-told-2
 enum-told-2 c = search needs
 
 returns-3 : tie.Need-returns-3
-returns-3 c = plus-number (c .before .before .before .before .before .before .before .before .before .args .text .now) (c .before .before .before .before .before .before .before .before .before .args .c) (c .advance3 .result) (c .before .before .before .before .before .before .before .before .before .pre) (c .advance3 .ensures) _ (sym (c .before .before .before .before .before .before .sees .ensures (c .before .before .before .before .before .before .before .before .before .args .text .now) (c .before .before .before .before .before .before .before .before .before .pre)) ∙ c .before .before .before .before .before .if1 .left) (rw (c .before .before .n2 .given .1) at (c .before .before .before .before .number-of2 .ensures)) (small-number (c .before .before .before .before .before .before .before .before .before .args .text .now) (c .before .before .before .before .before .before .before .before .before .args .c) _ (c .before .before .before .before .before .before .before .before .before .pre) (rw (c .before .before .n2 .given .1) at (c .before .before .before .before .number-of2 .ensures)))
+returns-3 c =
+    let at-n2 = c .before .before in
+    let at-number-of2 = at-n2 .before .before in
+    let at-if1 = at-number-of2 .before in
+    let at-sees = at-if1 .before in
+    let start = at-sees .before .before .before in
+    let args = start .args in
+    plus-number
+    (args .text .now)
+    (args .c)
+    (c .advance3 .result)
+    (start .pre)
+    (c .advance3 .ensures)
+    _
+    (sym (at-sees .sees .ensures (args .text .now) (start .pre)) ∙ at-if1 .if1 .left)
+    (rw (at-n2 .n2 .given .1) at (at-number-of2 .number-of2 .ensures))
+    (small-number (args .text .now) (args .c) _ (start .pre) (rw (at-n2 .n2 .given .1) at (at-number-of2 .number-of2 .ensures)))
 
 returns-4 : tie.Need-returns-4
-returns-4 c = (no-number (c .before .before .before .before .before .before .before .args .text .now) (c .before .before .before .before .before .before .before .args .c) (c .before .before .before .before .before .before .before .pre) (sym (c .before .before .before .before .sees .ensures (c .before .before .before .before .before .before .before .args .text .now) (c .before .before .before .before .before .before .before .pre)) ∙ c .before .before .before .if1 .left) (rw (c .enum-told2 .given .1) at (c .before .before .number-of2 .ensures)), head-place (c .before .before .before .before .before .before .before .args .text .now) (c .before .before .before .before .before .before .before .args .c) (c .before .before .before .before .before .before .before .pre))
+returns-4 c =
+    let at-number-of2 = c .before .before in
+    let at-if1 = at-number-of2 .before in
+    let at-sees = at-if1 .before in
+    let start = at-sees .before .before .before in
+    let args = start .args in (
+      no-number
+          (args .text .now)
+          (args .c)
+          (start .pre)
+          (sym (at-sees .sees .ensures (args .text .now) (start .pre)) ∙ at-if1 .if1 .left)
+          (rw (c .enum-told2 .given .1) at (at-number-of2 .number-of2 .ensures)),
+      head-place (args .text .now) (args .c) (start .pre),
+    )
 
 pub number-spec : {M : Type 1} → statement M
 number-spec =

@@ -29,8 +29,11 @@ returns c = let n = rw (c .before .p .given .1) at (c .before .before .before .n
 returns-2 : tie.Need-returns-2
 unfolding parseFloat nearest
 returns-2 c =
-    let n = rw (c .before .before .negative .given .1) at (c .before .before .before .before .number .ensures) in
-    let t = took-number (c .before .before .before .before .before .before .args .text .now) (c .before .before .before .before .before .before .args .c) _ _ _ n Malformed in
+    let at-negative = c .before .before in
+    let at-number = at-negative .before .before in
+    let args = at-number .before .before .args in
+    let n = rw (at-negative .negative .given .1) at (at-number .number .ensures) in
+    let t = took-number (args .text .now) (args .c) _ _ _ n Malformed in
     (record { is = rw (t .is, c .decimal .ensures); low = t .low; ready = t .ready }, rw (c .decimal .ensures) (round-number _ _ _))
 
 pub parse-float-spec : {M : Type 1} → statement M

@@ -21,9 +21,13 @@ enum-known-negative c = search needs
 returns : tie.Need-returns
 unfolding parseUint
 returns c =
-    let n = rw (c .before .before .before .negative .given .1) at (c .before .before .before .before .before .number .ensures) in
-    let e = whole-missing (c .before .before .before .before .before .before .before .args .text .now) (c .before .before .before .before .before .before .before .args .c) _ _ _ n Missing (c .before .if1 .taken) in
-    rw (e, head-place (c .before .before .before .before .before .before .before .args .text .now) (c .before .before .before .before .before .before .before .args .c) (c .before .before .before .before .before .before .before .pre))
+    let at-negative = c .before .before .before in
+    let at-number = at-negative .before .before in
+    let start = at-number .before .before in
+    let args = start .args in
+    let n = rw (at-negative .negative .given .1) at (at-number .number .ensures) in
+    let e = whole-missing (args .text .now) (args .c) _ _ _ n Missing (c .before .if1 .taken) in
+    rw (e, head-place (args .text .now) (args .c) (start .pre))
 
 whole-requires : tie.Need-whole-requires
 whole-requires c κs = search needs
@@ -41,17 +45,27 @@ returns-2 c = let n = rw (c .before .p .given .1) at (c .before .before .before 
 returns-3 : tie.Need-returns-3
 unfolding parseUint
 returns-3 c =
-    let n = rw (c .before .before .before .before .before .before .negative .given .1) at (c .before .before .before .before .before .before .before .before .number .ensures) in
-    let t = took-whole (c .before .before .before .before .before .before .before .before .before .before .args .text .now) (c .before .before .before .before .before .before .before .before .before .before .args .c) _ _ _ n Missing (c .before .before .before .before .if1 .left) in
-    let v = rw (c .before .v .given .1) at (c .before .before .before .whole .ensures (written (c .before .before .before .before .before .before .negative .given .0 .1 .0)) refl) in
+    let at-whole = c .before .before .before in
+    let at-if1 = at-whole .before in
+    let at-negative = at-if1 .before .before in
+    let at-number = at-negative .before .before in
+    let args = at-number .before .before .args in
+    let n = rw (at-negative .negative .given .1) at (at-number .number .ensures) in
+    let t = took-whole (args .text .now) (args .c) _ _ _ n Missing (at-if1 .if1 .left) in
+    let v = rw (c .before .v .given .1) at (at-whole .whole .ensures (written (at-negative .negative .given .0 .1 .0)) refl) in
     record { is = rw (t .is, sym v); low = t .low; ready = t .ready }
 
 returns-4 : tie.Need-returns-4
 unfolding parseUint
 returns-4 c =
-    let n = rw (c .before .before .before .before .before .before .negative .given .1) at (c .before .before .before .before .before .before .before .before .number .ensures) in
-    let t = took-whole (c .before .before .before .before .before .before .before .before .before .before .args .text .now) (c .before .before .before .before .before .before .before .before .before .before .args .c) _ _ _ n Missing (c .before .before .before .before .if1 .left) in
-    let v = rw (c .before .enum-told .given .1) at (c .before .before .before .whole .ensures (written (c .before .before .before .before .before .before .negative .given .0 .1 .0)) refl) in
+    let at-whole = c .before .before .before in
+    let at-if1 = at-whole .before in
+    let at-negative = at-if1 .before .before in
+    let at-number = at-negative .before .before in
+    let args = at-number .before .before .args in
+    let n = rw (at-negative .negative .given .1) at (at-number .number .ensures) in
+    let t = took-whole (args .text .now) (args .c) _ _ _ n Missing (at-if1 .if1 .left) in
+    let v = rw (c .before .enum-told .given .1) at (at-whole .whole .ensures (written (at-negative .negative .given .0 .1 .0)) refl) in
     rw (t .is, sym v, n .ready .head .place)
 
 pub parse-uint-spec : {M : Type 1} → statement M

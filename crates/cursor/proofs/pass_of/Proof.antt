@@ -23,14 +23,23 @@ has-requires c κs = search needs
 
 returns-2 : tie.Need-returns-2
 unfolding weigh
-returns-2 c t = rw (c .before .before .before .before .before .before .k .given .1, ne-eqb _ _ (c .before .before .before .before .if1 .left), sym (c .before .before .has .ensures) ∙ c .before .if2 .taken, c .if3 .taken)
+returns-2 c t =
+    let at-has = c .before .before in
+    let at-if1 = at-has .before .before in
+    let at-k = at-if1 .before .before in
+    rw (at-k .k .given .1, ne-eqb _ _ (at-if1 .if1 .left), sym (at-has .has .ensures) ∙ c .before .if2 .taken, c .if3 .taken)
 
 sub-t12 : tie.Need-sub-t12
 sub-t12 c = search needs
 
 returns-3 : tie.Need-returns-3
 unfolding weigh
-returns-3 c t = rw (c .before .before .before .before .before .before .k .given .1, ne-eqb _ _ (c .before .before .before .before .if1 .left), sym (c .before .before .has .ensures) ∙ c .before .if2 .taken, closing-some _ (c .if3 .left))
+returns-3 c t =
+    let at-has = c .before .before in
+    let at-if1 = at-has .before .before in
+    let at-k = at-if1 .before .before in
+    rw
+    (at-k .k .given .1, ne-eqb _ _ (at-if1 .if1 .left), sym (at-has .has .ensures) ∙ c .before .if2 .taken, closing-some _ (c .if3 .left))
 
 slice-aggregate-has-2 : tie.Need-slice-aggregate-has-2
 slice-aggregate-has-2 c = search needs
@@ -43,7 +52,18 @@ add-t16 c = search needs
 
 returns-4 : tie.Need-returns-4
 unfolding weigh
-returns-4 c t = rw (c .before .before .before .before .before .before .before .before .k .given .1, ne-eqb _ _ (c .before .before .before .before .before .before .if1 .left), sym (c .before .before .before .before .has .ensures) ∙ c .before .before .before .if2 .left, sym (c .before .has2 .ensures) ∙ c .if4 .taken, add-one)
+returns-4 c t =
+    let at-if2 = c .before .before .before in
+    let at-has = at-if2 .before in
+    let at-if1 = at-has .before .before in
+    let at-k = at-if1 .before .before in
+    rw (
+      at-k .k .given .1,
+      ne-eqb _ _ (at-if1 .if1 .left),
+      sym (at-has .has .ensures) ∙ at-if2 .if2 .left,
+      sym (c .before .has2 .ensures) ∙ c .if4 .taken,
+      add-one,
+    )
 
 enum-told : tie.Need-enum-told
 enum-told c = search needs
@@ -56,7 +76,17 @@ enum-told-3 c = search needs
 
 returns-5 : tie.Need-returns-5
 unfolding weigh
-returns-5 c t = rw (c .before .before .before .before .before .before .before .before .k .given .1, ne-eqb _ _ (c .before .before .before .before .before .before .if1 .left), sym (c .before .before .before .before .has .ensures) ∙ c .before .before .before .if2 .left, sym (c .before .has2 .ensures) ∙ c .if4 .left)
+returns-5 c t =
+    let at-if2 = c .before .before .before in
+    let at-has = at-if2 .before in
+    let at-if1 = at-has .before .before in
+    let at-k = at-if1 .before .before in
+    rw (
+      at-k .k .given .1,
+      ne-eqb _ _ (at-if1 .if1 .left),
+      sym (at-has .has .ensures) ∙ at-if2 .if2 .left,
+      sym (c .before .has2 .ensures) ∙ c .if4 .left,
+    )
 
 returns-6 : tie.Need-returns-6
 unfolding weigh

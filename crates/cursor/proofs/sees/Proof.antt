@@ -11,7 +11,9 @@ is-mark-requires : tie.Need-is-mark-requires
 is-mark-requires c κs = search needs
 
 returns : tie.Need-returns
-returns c s r = c .is-mark .ensures (drop (c .before .before .args .c .head .start) s) ∙ ap (λ (k : Kind). isMark k (c .before .before .args .b)) (sym (head-kind s (c .before .before .args .c) r))
+returns c s r =
+    let args = c .before .before .args in
+    c .is-mark .ensures (drop (args .c .head .start) s) ∙ ap (λ (k : Kind). isMark k (args .b)) (sym (head-kind s (args .c) r))
 
 pub sees-spec : {M : Type 1} → statement M
 sees-spec = tie.close (tie.spec is-mark-requires returns)

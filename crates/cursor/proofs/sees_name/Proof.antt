@@ -26,7 +26,10 @@ enum-told-3 : tie.Need-enum-told-3
 enum-told-3 c = search needs
 
 returns : tie.Need-returns
-returns c r = ap not (c .is-keyword .ensures ∙ ap isKeyword (c .before .part .ensures)) ∙ (rw (r .head .kind, c .before .before .before .k .given .1) (some-unless (isKeyword _) _))
+returns c r =
+    let at-k = c .before .before .before in
+    ap not (c .is-keyword .ensures ∙ ap isKeyword (c .before .part .ensures))
+    ∙ (rw (r .head .kind, at-k .k .given .1) (some-unless (isKeyword _) _))
 
 returns-2 : tie.Need-returns-2
 returns-2 c r = rw (r .head .kind, c .enum-told .given .1)

@@ -15,7 +15,16 @@ advance-requires : tie.Need-advance-requires
 advance-requires c κs = search needs
 
 returns : tie.Need-returns
-returns c = took-true (c .before .before .before .before .before .args .text .now) (c .before .before .before .before .before .args .c) (c .advance .result) (c .before .before .before .before .before .pre) (c .advance .ensures) (sym (c .before .before .sees-word .ensures (c .before .before .before .before .before .pre)) ∙ c .before .if1 .taken)
+returns c =
+    let at-sees-word = c .before .before in
+    let start = at-sees-word .before .before .before in
+    took-true
+    (start .args .text .now)
+    (start .args .c)
+    (c .advance .result)
+    (start .pre)
+    (c .advance .ensures)
+    (sym (at-sees-word .sees-word .ensures (start .pre)) ∙ c .before .if1 .taken)
 
 slice-aggregate-sees-word-2 : tie.Need-slice-aggregate-sees-word-2
 slice-aggregate-sees-word-2 c = search needs
@@ -27,10 +36,32 @@ advance-requires-2 : tie.Need-advance-requires-2
 advance-requires-2 c κs = search needs
 
 returns-2 : tie.Need-returns-2
-returns-2 c = took-false (c .before .before .before .before .before .before .before .before .args .text .now) (c .before .before .before .before .before .before .before .before .args .c) (c .advance2 .result) (c .before .before .before .before .before .before .before .before .pre) (c .advance2 .ensures) (sym (c .before .before .before .before .before .sees-word .ensures (c .before .before .before .before .before .before .before .before .pre)) ∙ c .before .before .before .before .if1 .left) (sym (c .before .before .sees-word2 .ensures (c .before .before .before .before .before .before .before .before .pre)) ∙ c .before .if2 .taken)
+returns-2 c =
+    let at-sees-word2 = c .before .before in
+    let at-if1 = at-sees-word2 .before .before in
+    let at-sees-word = at-if1 .before in
+    let start = at-sees-word .before .before .before in
+    took-false
+    (start .args .text .now)
+    (start .args .c)
+    (c .advance2 .result)
+    (start .pre)
+    (c .advance2 .ensures)
+    (sym (at-sees-word .sees-word .ensures (start .pre)) ∙ at-if1 .if1 .left)
+    (sym (at-sees-word2 .sees-word2 .ensures (start .pre)) ∙ c .before .if2 .taken)
 
 returns-3 : tie.Need-returns-3
-returns-3 c = no-truth (c .before .before .before .before .before .before .before .before .args .text .now) (c .before .before .before .before .before .before .before .before .args .c) (c .before .before .before .before .before .before .before .before .pre) (sym (c .before .before .before .before .before .sees-word .ensures (c .before .before .before .before .before .before .before .before .pre)) ∙ c .before .before .before .before .if1 .left) (sym (c .before .before .sees-word2 .ensures (c .before .before .before .before .before .before .before .before .pre)) ∙ c .before .if2 .left)
+returns-3 c =
+    let at-sees-word2 = c .before .before in
+    let at-if1 = at-sees-word2 .before .before in
+    let at-sees-word = at-if1 .before in
+    let start = at-sees-word .before .before .before in
+    no-truth
+    (start .args .text .now)
+    (start .args .c)
+    (start .pre)
+    (sym (at-sees-word .sees-word .ensures (start .pre)) ∙ at-if1 .if1 .left)
+    (sym (at-sees-word2 .sees-word2 .ensures (start .pre)) ∙ c .before .if2 .left)
 
 pub truth-spec : {M : Type 1} → statement M
 truth-spec =

@@ -16,7 +16,16 @@ is-keyword-requires : tie.Need-is-keyword-requires
 is-keyword-requires c κs = search needs
 
 returns : tie.Need-returns
-returns c = no-word (c .before .before .before .before .before .before .before .before .args .text .now) (c .before .before .before .before .before .before .before .before .args .c) (c .before .before .before .before .before .before .before .before .pre) (rw (c .before .before .before .before .before .before .before .before .pre .head .kind, c .before .before .before .before .k .given .1, sym (c .before .is-keyword .ensures ∙ ap isKeyword (c .before .before .part .ensures)) ∙ c .if1 .taken))
+returns c =
+    let at-part = c .before .before in
+    let at-k = at-part .before .before in
+    let start = at-k .before .before .before .before in
+    no-word (start .args .text .now) (start .args .c) (start .pre)
+    (rw (
+      start .pre .head .kind,
+      at-k .k .given .1,
+      sym (c .before .is-keyword .ensures ∙ ap isKeyword (at-part .part .ensures)) ∙ c .if1 .taken,
+    ))
 
 advance-requires : tie.Need-advance-requires
 advance-requires c κs = search needs
@@ -31,16 +40,38 @@ enum-told-3 : tie.Need-enum-told-3
 enum-told-3 c = search needs
 
 returns-2 : tie.Need-returns-2
-returns-2 c = (took-word (c .before .before .before .before .before .before .before .before .before .args .text .now) (c .before .before .before .before .before .before .before .before .before .args .c) (c .advance .result) (c .before .before .before .before .before .before .before .before .before .pre) (c .advance .ensures) _ (c .before .before .before .before .before .k .given .1) (sym (c .before .before .is-keyword .ensures ∙ ap isKeyword (c .before .before .before .part .ensures)) ∙ c .before .if1 .left), name-in (c .before .before .before .before .before .before .before .before .before .args .text .now) (c .before .before .before .before .before .before .before .before .before .args .c) _ (c .before .before .before .before .before .before .before .before .before .pre) (c .before .before .before .before .before .k .given .1))
+returns-2 c =
+    let at-is-keyword = c .before .before in
+    let at-part = at-is-keyword .before in
+    let at-k = at-part .before .before in
+    let start = at-k .before .before .before .before in
+    let args = start .args in (
+      took-word
+          (args .text .now)
+          (args .c)
+          (c .advance .result)
+          (start .pre)
+          (c .advance .ensures)
+          _
+          (at-k .k .given .1)
+          (sym (at-is-keyword .is-keyword .ensures ∙ ap isKeyword (at-part .part .ensures)) ∙ c .before .if1 .left),
+      name-in (args .text .now) (args .c) _ (start .pre) (at-k .k .given .1),
+    )
 
 returns-3 : tie.Need-returns-3
-returns-3 c = no-word (c .before .before .before .before .args .text .now) (c .before .before .before .before .args .c) (c .before .before .before .before .pre) (rw (c .before .before .before .before .pre .head .kind, c .enum-told .given .1))
+returns-3 c =
+    let start = c .before .before .before .before in
+    no-word (start .args .text .now) (start .args .c) (start .pre) (rw (start .pre .head .kind, c .enum-told .given .1))
 
 returns-4 : tie.Need-returns-4
-returns-4 c = no-word (c .before .before .before .before .args .text .now) (c .before .before .before .before .args .c) (c .before .before .before .before .pre) (rw (c .before .before .before .before .pre .head .kind, c .enum-told2 .given .1))
+returns-4 c =
+    let start = c .before .before .before .before in
+    no-word (start .args .text .now) (start .args .c) (start .pre) (rw (start .pre .head .kind, c .enum-told2 .given .1))
 
 returns-5 : tie.Need-returns-5
-returns-5 c = no-word (c .before .before .before .before .args .text .now) (c .before .before .before .before .args .c) (c .before .before .before .before .pre) (rw (c .before .before .before .before .pre .head .kind, c .enum-told3 .given .1))
+returns-5 c =
+    let start = c .before .before .before .before in
+    no-word (start .args .text .now) (start .args .c) (start .pre) (rw (start .pre .head .kind, c .enum-told3 .given .1))
 
 pub word-spec : {M : Type 1} → statement M
 word-spec =

@@ -14,7 +14,10 @@ is-listed-requires : tie.Need-is-listed-requires
 is-listed-requires c κs = search needs
 
 returns : tie.Need-returns
-returns c = c .is-listed .ensures ∙ easing-plain (c .before .before .before .before .args .variant) _ _ (c .before .before .part .ensures) (c .before .if1 .taken)
+returns c =
+    let at-part = c .before .before in
+    let start = at-part .before .before in
+    c .is-listed .ensures ∙ easing-plain (start .args .variant) _ _ (at-part .part .ensures) (c .before .if1 .taken)
 
 slice-aggregate-to-snake-case : tie.Need-slice-aggregate-to-snake-case
 slice-aggregate-to-snake-case c = search needs
@@ -26,7 +29,9 @@ array-share-prefix-name : tie.Need-array-share-prefix-name
 array-share-prefix-name c = puts-fits (c .before .to-snake-case .ensures)
 
 slice-aggregate-is-listed : tie.Need-slice-aggregate-is-listed
-slice-aggregate-is-listed c = sym (length-take-le (c .before .before .to-snake-case .result) (c .before .before .to-snake-case .last .1 .0) (puts-fits (c .before .before .to-snake-case .ensures)))
+slice-aggregate-is-listed c =
+    let to-snake-case = c .before .before .to-snake-case in
+    sym (length-take-le (to-snake-case .result) (to-snake-case .last .1 .0) (puts-fits (to-snake-case .ensures)))
 
 is-listed-requires-2 : tie.Need-is-listed-requires-2
 is-listed-requires-2 c κs = search needs
@@ -37,7 +42,9 @@ returns-2 c =
     let at-if1 = at-to-snake-case .before .before in
     let at-part = at-if1 .before in
     let start = at-part .before .before in
-    c .is-listed2 .ensures ∙ easing-variant (start .args .variant) _ _ (at-part .part .ensures) _ (at-if1 .if1 .left) (puts-front (at-to-snake-case .to-snake-case .ensures))
+    c .is-listed2 .ensures
+    ∙ easing-variant (start .args .variant) _ _ (at-part .part .ensures) _ (at-if1 .if1 .left)
+    (puts-front (at-to-snake-case .to-snake-case .ensures))
 
 pub is-named-easing-spec : {M : Type 1} → statement M
 is-named-easing-spec =

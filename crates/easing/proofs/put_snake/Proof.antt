@@ -29,7 +29,9 @@ returns c =
     let at-if1 = at-put .before .before in
     let at-is-upper = at-if1 .before in
     let start = at-is-upper .before .before in
-    rw (byte-capital (start .args .b) (at-lower .lower .result) (sym (at-is-upper .is-upper .ensures) ∙ at-if1 .if1 .taken) (at-lower .lower .ensures)) (puts-then (at-put .put .ensures) (at-put2 .put2 .ensures))
+    rw (byte-capital (start .args .b) (at-lower .lower .result) (sym (at-is-upper .is-upper .ensures) ∙ at-if1 .if1 .taken)
+    (at-lower .lower .ensures))
+    (puts-then (at-put .put .ensures) (at-put2 .put2 .ensures))
 
 put-requires-3 : tie.Need-put-requires-3
 put-requires-3 c κs = search needs

@@ -31,8 +31,8 @@ loop-less c = search needs
 
 loop-again : tie.Need-loop-again Inv-loop μ-loop
 loop-again c =
-    let l = c .before .loop in
     let args = c .before .before .args in
+    let l = c .before .loop in
     let n : l .i + 1 - args .from ≡ l .i - args .from + 1 = omega arith in (
       omega arith,
       omega arith,
@@ -45,8 +45,8 @@ same-length c = c .before .loop .inv .2
 
 returns : tie.Need-returns Inv-loop μ-loop
 returns c =
-    let l = c .before .loop in
     let args = c .before .before .args in
+    let l = c .before .loop in
     let n : l .i - args .from ≡ length (args .sheet .now) - args .from = omega arith in
     l .inv .3 ∙ (rw n (zeros-all (args .sheet .now) (args .from)))
 

@@ -21,7 +21,8 @@ returns c =
     let at-put-float2 = c .before .before in
     let at-put-float = at-put-float2 .before .before .before .before in
     let at-put-case-floats = at-put-float .before .before .before .before in
-    λ n. writes-then (at-put-case-floats .put-case-floats .ensures) (writes-then (at-put-float .put-float .ensures) (at-put-float2 .put-float2 .ensures))
+    λ n. writes-then (at-put-case-floats .put-case-floats .ensures)
+    (writes-then (at-put-float .put-float .ensures) (at-put-float2 .put-float2 .ensures))
 
 pub put-bezier-spec : {M : Type 1} → statement M
 put-bezier-spec =

@@ -1,4 +1,5 @@
--- `encode::put_field` meets its contract: the loop writes the last byte first; with what is left of the field written over it, the sheet is that of the whole field. Assumes nothing.
+-- `encode::put_field` meets its contract: the loop writes the last byte first; with what is left of the field written over it, the sheet is
+-- that of the whole field. Assumes nothing.
 use Prim.Native.Nat.{_≤_}
 use mathlib.Core.Path.{sym, _∙_, _≡_}
 use native.Mathlib.Omega.{arith}
@@ -39,11 +40,12 @@ loop-again : tie.Need-loop-again Inv-loop μ-loop
 loop-again c =
     let at-put = c .before .before in
     let at-loop = at-put .before .before .before in
+    let loop = at-loop .loop in
     let start = at-loop .before .before in
     let p = at-put .put .ensures .bytes in (
       omega arith,
-      rw (p, length-set) (at-loop .loop .inv .1),
-      rw p (sym (big-last (at-loop .loop .sheet) (start .args .at) (at-loop .loop .k) (at-loop .loop .w) (omega arith)) ∙ at-loop .loop .inv .2),
+      rw (p, length-set) (loop .inv .1),
+      rw p (sym (big-last (loop .sheet) (start .args .at) (loop .k) (loop .w) (omega arith)) ∙ loop .inv .2),
     )
 
 add-result : tie.Need-add-result Inv-loop μ-loop

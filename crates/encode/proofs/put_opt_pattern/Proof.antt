@@ -19,7 +19,8 @@ put-byte-requires-2 c κs = search needs
 
 put-pattern-requires : tie.Need-put-pattern-requires
 put-pattern-requires c κs =
-    let at-o = c .before .before .before .before .before .before in
+    let c4 = c .before .before .before .before in
+    let at-o = c4 .before .before in
     let start = at-o .before .before .before in
     (omega arith, rw (at-o .o .given .1) at (start .pre .1))
 

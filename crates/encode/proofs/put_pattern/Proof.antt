@@ -25,14 +25,17 @@ put-case-word-requires-2 c κs = search needs
 
 put-float-requires : tie.Need-put-float-requires
 put-float-requires c κs =
-    let at-p2 = c .before .before .before .before .before .before in
+    let c4 = c .before .before .before .before in
+    let at-p2 = c4 .before .before in
     let start = at-p2 .before .before .before in
     let q = rw (at-p2 .p2 .given .1) at (start .pre .1) in
     (omega arith, q .0)
 
 put-float-requires-2 : tie.Need-put-float-requires-2
 put-float-requires-2 c κs =
-    let at-p2 = c .before .before .before .before .before .before .before .before .before .before in
+    let c4 = c .before .before .before .before in
+    let c8 = c4 .before .before .before .before in
+    let at-p2 = c8 .before .before in
     let start = at-p2 .before .before .before in
     let q = rw (at-p2 .p2 .given .1) at (start .pre .1) in
     (omega arith, q .1)
@@ -58,7 +61,8 @@ returns c =
     let at-put-word = at-put-byte .before .before .before .before in
     let at-put-case-word = at-put-word .before .before .before .before in
     let at-p = at-put-case-word .before .before .before in
-    rw (at-p .p .given .1) (writes-then (at-put-case-word .put-case-word .ensures) (writes-then (at-put-word .put-word .ensures) (at-put-byte .put-byte .ensures)))
+    rw (at-p .p .given .1)
+    (writes-then (at-put-case-word .put-case-word .ensures) (writes-then (at-put-word .put-word .ensures) (at-put-byte .put-byte .ensures)))
 
 same-length-2 : tie.Need-same-length-2
 same-length-2 c = search needs
@@ -69,7 +73,9 @@ returns-2 c =
     let at-put-float = at-put-float2 .before .before .before .before in
     let at-put-case-word2 = at-put-float .before .before .before .before in
     let at-p2 = at-put-case-word2 .before .before .before in
-    rw (at-p2 .p2 .given .1) (writes-then (at-put-case-word2 .put-case-word2 .ensures) (writes-then (at-put-float .put-float .ensures) (at-put-float2 .put-float2 .ensures)))
+    rw (at-p2 .p2 .given .1)
+    (writes-then (at-put-case-word2 .put-case-word2 .ensures)
+    (writes-then (at-put-float .put-float .ensures) (at-put-float2 .put-float2 .ensures)))
 
 same-length-3 : tie.Need-same-length-3
 same-length-3 c = search needs

@@ -35,14 +35,25 @@ returns c t e = let h = rw (c .before .p .given .1) at (c .before .before .befor
 
 returns-2 : tie.Need-returns-2
 returns-2 c t e =
-    let m = rw (c .before .before .before .before .before .before .m .given .1) at (c .before .before .before .before .before .before .before .before .mark .ensures) in
-    let f = row-found t _ _ (looked-up t _ _ _ _ e (c .before .before .before .before .part .ensures) (c .before .before .before .find .ensures) ∙ ap placeOf (c .before .i .given .1)) in
+    let at-find = c .before .before .before in
+    let at-part = at-find .before in
+    let at-m = at-part .before .before in
+    let at-mark = at-m .before .before in
+    let m = rw (at-m .m .given .1) at (at-mark .mark .ensures) in
+    let f = row-found t _ _ (looked-up t _ _ _ _ e (at-part .part .ensures) (at-find .find .ensures) ∙ ap placeOf (c .before .i .given .1))
+    in
     record { row = f .row; is = f .is; took = record { is = rw (m .is, f .under); low = m .low; ready = m .ready } }
 
 returns-3 : tie.Need-returns-3
 returns-3 c t e =
-    let m = rw (c .before .before .before .before .before .before .m .given .1) at (c .before .before .before .before .before .before .before .before .mark .ensures) in
-    let f = row-none t _ (looked-up t _ _ _ _ e (c .before .before .before .before .part .ensures) (c .before .before .before .find .ensures) ∙ ap placeOf (c .before .enum-told .given .1)) in
+    let at-find = c .before .before .before in
+    let at-part = at-find .before in
+    let at-m = at-part .before .before in
+    let at-mark = at-m .before .before in
+    let m = rw (at-m .m .given .1) at (at-mark .mark .ensures) in
+    let f = row-none t _
+    (looked-up t _ _ _ _ e (at-part .part .ensures) (at-find .find .ensures) ∙ ap placeOf (c .before .enum-told .given .1))
+    in
     rw (m .is, f, m .ready .head .place)
 
 pub after-name-spec : {M : Type 1} → statement M

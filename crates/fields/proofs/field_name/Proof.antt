@@ -16,13 +16,27 @@ advance-requires : tie.Need-advance-requires
 advance-requires c κs = search needs
 
 returns : tie.Need-returns
-returns c = took-loop (c .before .before .before .before .before .before .args .text .now) (c .before .before .before .before .before .before .args .c) (c .advance .result) (c .before .before .before .before .before .before .pre) (c .advance .ensures) (sym (c .before .before .before .sees-word .ensures (c .before .before .before .before .before .before .pre)) ∙ c .before .before .if1 .taken)
+returns c =
+    let at-if1 = c .before .before in
+    let at-sees-word = at-if1 .before in
+    let start = at-sees-word .before .before .before in
+    took-loop
+    (start .args .text .now)
+    (start .args .c)
+    (c .advance .result)
+    (start .pre)
+    (c .advance .ensures)
+    (sym (at-sees-word .sees-word .ensures (start .pre)) ∙ at-if1 .if1 .taken)
 
 word-requires : tie.Need-word-requires
 word-requires c κs = search needs
 
 returns-2 : tie.Need-returns-2
-returns-2 c = named (c .before .before .before .before .before .args .text .now) (c .before .before .before .before .before .args .c) (c .word .result) (sym (c .before .before .sees-word .ensures (c .before .before .before .before .before .pre)) ∙ c .before .if1 .left) (c .word .ensures)
+returns-2 c =
+    let at-sees-word = c .before .before in
+    let start = at-sees-word .before .before .before in
+    named (start .args .text .now) (start .args .c) (c .word .result)
+    (sym (at-sees-word .sees-word .ensures (start .pre)) ∙ c .before .if1 .left) (c .word .ensures)
 
 pub field-name-spec : {M : Type 1} → statement M
 field-name-spec =

@@ -21,11 +21,18 @@ returns c t = rw (c .before .before .before .before .k .given .1, sym (c .before
 
 returns-2 : tie.Need-returns-2
 unfolding itemOf
-returns-2 c t = rw (c .before .before .before .before .before .k .given .1, sym (c .before .before .has .ensures) ∙ c .before .if1 .left, c .if2 .taken)
+returns-2 c t =
+    let at-has = c .before .before in
+    let at-k = at-has .before .before .before in
+    rw (at-k .k .given .1, sym (at-has .has .ensures) ∙ c .before .if1 .left, c .if2 .taken)
 
 returns-3 : tie.Need-returns-3
 unfolding itemOf
-returns-3 c t = rw (c .before .before .before .before .before .before .k .given .1, sym (c .before .before .before .has .ensures) ∙ c .before .before .if1 .left, ne-eqb _ _ (c .before .if2 .left), c .if3 .taken)
+returns-3 c t =
+    let at-if1 = c .before .before in
+    let at-has = at-if1 .before in
+    let at-k = at-has .before .before .before in
+    rw (at-k .k .given .1, sym (at-has .has .ensures) ∙ at-if1 .if1 .left, ne-eqb _ _ (c .before .if2 .left), c .if3 .taken)
 
 enum-told : tie.Need-enum-told
 enum-told c = search needs
@@ -38,7 +45,11 @@ enum-told-3 c = search needs
 
 returns-4 : tie.Need-returns-4
 unfolding itemOf
-returns-4 c t = rw (c .before .before .before .before .before .before .k .given .1, sym (c .before .before .before .has .ensures) ∙ c .before .before .if1 .left, ne-eqb _ _ (c .before .if2 .left), ne-eqb _ _ (c .if3 .left))
+returns-4 c t =
+    let at-if1 = c .before .before in
+    let at-has = at-if1 .before in
+    let at-k = at-has .before .before .before in
+    rw (at-k .k .given .1, sym (at-has .has .ensures) ∙ at-if1 .if1 .left, ne-eqb _ _ (c .before .if2 .left), ne-eqb _ _ (c .if3 .left))
 
 returns-5 : tie.Need-returns-5
 unfolding itemOf

@@ -12,7 +12,12 @@ ends-requires : tie.Need-ends-requires
 ends-requires c κs = search needs
 
 returns : tie.Need-returns
-returns c t e = (refl, pairs-end (c .before .before .before .before .args .text .now) t (c .before .before .before .before .args .c) (c .before .before .before .before .pre) (sym (c .before .ends .ensures (c .before .before .before .before .args .text .now) (c .before .before .before .before .pre)) ∙ c .if1 .taken))
+returns c t e =
+    let start = c .before .before .before .before in (
+      refl,
+      pairs-end (start .args .text .now) t (start .args .c) (start .pre)
+          (sym (c .before .ends .ensures (start .args .text .now) (start .pre)) ∙ c .if1 .taken),
+    )
 
 word-requires : tie.Need-word-requires
 word-requires c κs = search needs
@@ -27,10 +32,40 @@ after-name-requires : tie.Need-after-name-requires
 after-name-requires c κs = (rw (c .before .name .given .1) at (c .before .before .before .word .ensures)) .0 .ready
 
 returns-2 : tie.Need-returns-2
-returns-2 c t e = pairs-refused (c .before .before .before .before .before .before .before .before .args .text .now) t (c .before .before .before .before .before .before .before .before .args .c) (c .before .before .before .before .before .before .before .before .pre) _ _ (sym (c .before .before .before .before .before .ends .ensures (c .before .before .before .before .before .before .before .before .args .text .now) (c .before .before .before .before .before .before .before .before .pre)) ∙ c .before .before .before .before .if1 .left) (head-missing (c .before .before .before .before .before .before .before .before .args .text .now) pairName (c .before .before .before .before .before .before .before .before .args .c) t _ _ (no-plain (c .before .before .before .before .before .before .before .before .args .text .now) (c .before .before .before .before .before .before .before .before .args .c) _ _ (rw (c .before .p .given .1) at (c .before .before .before .word .ensures))))
+returns-2 c t e =
+    let at-word = c .before .before .before in
+    let at-if1 = at-word .before in
+    let at-ends = at-if1 .before in
+    let start = at-ends .before .before .before in
+    let args = start .args in
+    pairs-refused
+    (args .text .now)
+    t
+    (args .c)
+    (start .pre)
+    _ _
+    (sym (at-ends .ends .ensures (args .text .now) (start .pre)) ∙ at-if1 .if1 .left)
+    (head-missing (args .text .now) pairName (args .c) t _ _
+    (no-plain (args .text .now) (args .c) _ _ (rw (c .before .p .given .1) at (at-word .word .ensures))))
 
 returns-3 : tie.Need-returns-3
-returns-3 c t e = paired (c .before .before .before .before .before .before .before .before .before .args .text .now) t (c .before .before .before .before .before .before .before .before .before .args .c) (c .before .before .before .before .before .before .before .before .before .pre) (sym (c .before .before .before .before .before .before .ends .ensures (c .before .before .before .before .before .before .before .before .before .args .text .now) (c .before .before .before .before .before .before .before .before .before .pre)) ∙ c .before .before .before .before .before .if1 .left) (c .after-name .result) (started (c .before .before .before .before .before .before .before .before .before .args .text .now) pairName (c .before .before .before .before .before .before .before .before .before .args .c) _ _ t (c .after-name .result) (took-plain (c .before .before .before .before .before .before .before .before .before .args .text .now) (c .before .before .before .before .before .before .before .before .before .args .c) _ _ _ ((rw (c .before .before .name .given .1) at (c .before .before .before .before .word .ensures)) .0)) (c .after-name .ensures t e))
+returns-3 c t e =
+    let at-name = c .before .before in
+    let at-word = at-name .before .before in
+    let at-if1 = at-word .before in
+    let at-ends = at-if1 .before in
+    let start = at-ends .before .before .before in
+    let args = start .args in
+    paired
+    (args .text .now)
+    t
+    (args .c)
+    (start .pre)
+    (sym (at-ends .ends .ensures (args .text .now) (start .pre)) ∙ at-if1 .if1 .left)
+    (c .after-name .result)
+    (started (args .text .now) pairName (args .c) _ _ t (c .after-name .result)
+    (took-plain (args .text .now) (args .c) _ _ _ ((rw (at-name .name .given .1) at (at-word .word .ensures)) .0))
+    (c .after-name .ensures t e))
 
 pub next-pair-spec : {M : Type 1} → statement M
 next-pair-spec =

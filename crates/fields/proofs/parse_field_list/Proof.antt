@@ -20,7 +20,9 @@ use Rattle.fields.proofs.parse_field_list.Statement.{statement}
 use Rattle.fields.proofs.parse_field_list.Tie as tie
 
 -- what the head of m is to the list
-item : (s : List ℕ) (m : Cursor) (r : Ready s m) (x y : Item) → ((t : List ℕ) → itemIs x ≡ itemOf (kindOf t (m .head .tok))) → x ≡ y → itemOf (kind (tokens s m)) ≡ itemIs y
+item : (s : List ℕ) (m : Cursor) (r : Ready s m) (x y : Item)
+    → ((t : List ℕ) → itemIs x ≡ itemOf (kindOf t (m .head .tok)))
+    → x ≡ y → itemOf (kind (tokens s m)) ≡ itemIs y
 item s m r x y h e = ap itemOf (r .head .kind) ∙ sym (h _) ∙ ap itemIs e
 
 abbrev Inv-loop : tie.InvT-loop
@@ -30,7 +32,9 @@ abbrev μ-loop : tie.MeasureT-loop
 μ-loop text rows m₀ m = length text - m .at
 
 loop-holds : tie.Need-loop-holds Inv-loop μ-loop
-loop-holds c = passed-start (c .before .before .args .text .now) (c .before .before .args .c) (c .before .before .pre)
+loop-holds c =
+    let start = c .before .before in
+    passed-start (start .args .text .now) (start .args .c) (start .pre)
 
 item-of-requires : tie.Need-item-of-requires Inv-loop μ-loop
 item-of-requires c κs = search needs
@@ -39,7 +43,17 @@ enum-told : tie.Need-enum-told Inv-loop μ-loop
 enum-told c = search needs
 
 returns : tie.Need-returns Inv-loop μ-loop
-returns c t e = (c .before .before .before .before .loop .inv .ready, c .before .before .before .before .loop .inv .low, λ fs. c .before .before .before .before .loop .inv .goes t fs _ (gives-halts (c .before .before .before .before .before .before .before .args .text .now) t (c .before .before .before .before .loop .m) (c .before .before .before .before .loop .inv .ready) (item (c .before .before .before .before .before .before .before .args .text .now) (c .before .before .before .before .loop .m) (c .before .before .before .before .loop .inv .ready) _ _ (c .before .before .item-of .ensures) (c .enum-told .given .1)) fs))
+returns c t e =
+    let at-item-of = c .before .before in
+    let at-loop = at-item-of .before .before in
+    let loop = at-loop .loop in
+    let args = at-loop .before .before .before .args in (
+      loop .inv .ready,
+      loop .inv .low,
+      λ fs. loop .inv .goes t fs _
+          (gives-halts (args .text .now) t (loop .m) (loop .inv .ready)
+          (item (args .text .now) (loop .m) (loop .inv .ready) _ _ (at-item-of .item-of .ensures) (c .enum-told .given .1)) fs),
+    )
 
 enum-told-2 : tie.Need-enum-told-2 Inv-loop μ-loop
 enum-told-2 c = search needs
@@ -48,7 +62,18 @@ advance-requires : tie.Need-advance-requires Inv-loop μ-loop
 advance-requires c κs = c .before .before .before .before .loop .inv .ready
 
 returns-2 : tie.Need-returns-2 Inv-loop μ-loop
-returns-2 c t e = (c .advance .ensures .ready, (let a = moved-low (c .before .before .before .before .before .before .before .before .args .text .now) (c .before .before .before .before .before .loop .m) (c .advance .result) (c .before .before .before .before .before .loop .inv .ready) (c .advance .ensures) in omega (arith, c .before .before .before .before .before .loop .inv .low)), λ fs. c .before .before .before .before .before .loop .inv .goes t fs _ (gives-closes (c .before .before .before .before .before .before .before .before .args .text .now) t (c .before .before .before .before .before .loop .m) (c .before .before .before .before .before .loop .inv .ready) (c .advance .result) (c .advance .ensures) (item (c .before .before .before .before .before .before .before .before .args .text .now) (c .before .before .before .before .before .loop .m) (c .before .before .before .before .before .loop .inv .ready) _ _ (c .before .before .before .item-of .ensures) (c .before .enum-told2 .given .1)) fs))
+returns-2 c t e =
+    let at-item-of = c .before .before .before in
+    let at-loop = at-item-of .before .before in
+    let loop = at-loop .loop in
+    let args = at-loop .before .before .before .args in (
+      c .advance .ensures .ready,
+      (let a = moved-low (args .text .now) (loop .m) (c .advance .result) (loop .inv .ready) (c .advance .ensures) in
+          omega (arith, loop .inv .low)),
+      λ fs. loop .inv .goes t fs _
+          (gives-closes (args .text .now) t (loop .m) (loop .inv .ready) (c .advance .result) (c .advance .ensures)
+          (item (args .text .now) (loop .m) (loop .inv .ready) _ _ (at-item-of .item-of .ensures) (c .before .enum-told2 .given .1)) fs),
+    )
 
 enum-told-3 : tie.Need-enum-told-3 Inv-loop μ-loop
 enum-told-3 c = search needs
@@ -57,10 +82,30 @@ advance-requires-2 : tie.Need-advance-requires-2 Inv-loop μ-loop
 advance-requires-2 c κs = c .before .before .before .before .loop .inv .ready
 
 loop-less : tie.Need-loop-less Inv-loop μ-loop
-loop-less c = let a = passes-moves (c .before .before .before .before .before .before .before .before .args .text .now) [] (c .before .before .before .before .before .loop .m) (c .before .before .before .before .before .loop .inv .ready) (c .advance2 .result) (c .advance2 .ensures) (item (c .before .before .before .before .before .before .before .before .args .text .now) (c .before .before .before .before .before .loop .m) (c .before .before .before .before .before .loop .inv .ready) _ _ (c .before .before .before .item-of .ensures) (c .before .enum-told3 .given .1)) in omega (arith, c .advance2 .ensures .ready .high)
+loop-less c =
+    let at-item-of = c .before .before .before in
+    let at-loop = at-item-of .before .before in
+    let loop = at-loop .loop in
+    let args = at-loop .before .before .before .args in
+    let a = passes-moves (args .text .now) [] (loop .m) (loop .inv .ready) (c .advance2 .result) (c .advance2 .ensures)
+    (item (args .text .now) (loop .m) (loop .inv .ready) _ _ (at-item-of .item-of .ensures) (c .before .enum-told3 .given .1))
+    in
+    omega (arith, c .advance2 .ensures .ready .high)
 
 loop-again : tie.Need-loop-again Inv-loop μ-loop
-loop-again c = passed-on (c .before .before .before .before .before .before .before .before .args .text .now) (c .before .before .before .before .before .before .before .before .args .c) (c .before .before .before .before .before .loop .m) (c .advance2 .result) (c .before .before .before .before .before .loop .inv) (c .advance2 .ensures) (item (c .before .before .before .before .before .before .before .before .args .text .now) (c .before .before .before .before .before .loop .m) (c .before .before .before .before .before .loop .inv .ready) _ _ (c .before .before .before .item-of .ensures) (c .before .enum-told3 .given .1))
+loop-again c =
+    let at-item-of = c .before .before .before in
+    let at-loop = at-item-of .before .before in
+    let loop = at-loop .loop in
+    let args = at-loop .before .before .before .args in
+    passed-on
+    (args .text .now)
+    (args .c)
+    (loop .m)
+    (c .advance2 .result)
+    (loop .inv)
+    (c .advance2 .ensures)
+    (item (args .text .now) (loop .m) (loop .inv .ready) _ _ (at-item-of .item-of .ensures) (c .before .enum-told3 .given .1))
 
 enum-told-4 : tie.Need-enum-told-4 Inv-loop μ-loop
 enum-told-4 c = search needs
@@ -69,7 +114,20 @@ start-field-requires : tie.Need-start-field-requires Inv-loop μ-loop
 start-field-requires c κs = c .before .before .before .before .loop .inv .ready
 
 returns-3 : tie.Need-returns-3 Inv-loop μ-loop
-returns-3 c t e = passed-field (c .before .before .before .before .before .before .before .before .args .text .now) t (c .before .before .before .before .before .before .before .before .args .c) (c .before .before .before .before .before .loop .m) (c .before .before .before .before .before .loop .inv) (item (c .before .before .before .before .before .before .before .before .args .text .now) (c .before .before .before .before .before .loop .m) (c .before .before .before .before .before .loop .inv .ready) _ _ (c .before .before .before .item-of .ensures) (c .before .enum-told4 .given .1)) (c .start-field .result) (c .start-field .ensures t e)
+returns-3 c t e =
+    let at-item-of = c .before .before .before in
+    let at-loop = at-item-of .before .before in
+    let loop = at-loop .loop in
+    let args = at-loop .before .before .before .args in
+    passed-field
+    (args .text .now)
+    t
+    (args .c)
+    (loop .m)
+    (loop .inv)
+    (item (args .text .now) (loop .m) (loop .inv .ready) _ _ (at-item-of .item-of .ensures) (c .before .enum-told4 .given .1))
+    (c .start-field .result)
+    (c .start-field .ensures t e)
 
 pub parse-field-list-spec : {M : Type 1} → statement M
 parse-field-list-spec =

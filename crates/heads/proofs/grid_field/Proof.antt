@@ -24,13 +24,34 @@ enum-known-k c = search needs
 
 returns : tie.Need-returns
 unfolding gridFields
-returns c = refused-row gridFields (c .before .before .before .before .before .before .args .text .now) (c .before .before .before .before .before .before .args .c) (c .before .before .before .before .before .before .args .i) _ _ (λ z. absurd (omega arith), (λ z. absurd (omega arith), (λ z. no-origin (c .before .before .before .before .before .before .args .text .now) (c .before .before .before .before .before .before .args .c) _ _ (rw (c .before .r .given .1) at (c .before .before .before .parse-grid-origin .ensures)), tt)))
+returns c =
+    let at-parse-grid-origin = c .before .before .before in
+    let args = at-parse-grid-origin .before .before .before .args in
+    refused-row gridFields (args .text .now) (args .c) (args .i) _ _ (
+      λ z. absurd (omega arith),
+      (
+        λ z. absurd (omega arith),
+        (
+          λ z. no-origin (args .text .now) (args .c) _ _
+              (rw (c .before .r .given .1) at (at-parse-grid-origin .parse-grid-origin .ensures)),
+          tt,
+        ),
+      ),
+    )
 
 returns-2 : tie.Need-returns-2
 unfolding gridFields
 returns-2 c =
-    let t = rw (c .before .k .given .1) at (c .before .before .before .parse-grid-origin .ensures) in
-    took-row gridFields (c .before .before .before .before .before .before .args .text .now) (c .before .before .before .before .before .before .args .c) (c .before .before .before .before .before .before .args .i) GridHeld _ (c .before .before .before .before .before .before .args .f) _ (λ z. absurd (omega arith), (λ z. absurd (omega arith), (λ z. (aNumber (c .before .k .given .0 .0), took-origin (c .before .before .before .before .before .before .args .text .now) (c .before .before .before .before .before .before .args .c) _ _ (t .0), grid-origin (c .before .before .before .before .before .before .args .f) _), tt)))
+    let at-parse-grid-origin = c .before .before .before in
+    let args = at-parse-grid-origin .before .before .before .args in
+    let t = rw (c .before .k .given .1) at (at-parse-grid-origin .parse-grid-origin .ensures) in
+    took-row gridFields (args .text .now) (args .c) (args .i) GridHeld _ (args .f) _ (
+      λ z. absurd (omega arith),
+      (
+        λ z. absurd (omega arith),
+        (λ z. (aNumber (c .before .k .given .0 .0), took-origin (args .text .now) (args .c) _ _ (t .0), grid-origin (args .f) _), tt),
+      ),
+    )
 
 parse-uint-requires : tie.Need-parse-uint-requires
 parse-uint-requires c κs = search needs
@@ -44,20 +65,39 @@ enum-known-n c = search needs
 returns-3 : tie.Need-returns-3
 unfolding gridFields
 returns-3 c =
-    let t = rw (c .before .before .n .given .1) at (c .before .before .before .before .parse-uint .ensures) in
-    took-row gridFields (c .before .before .before .before .before .before .before .args .text .now) (c .before .before .before .before .before .before .before .args .c) (c .before .before .before .before .before .before .before .args .i) GridHeld _ (c .before .before .before .before .before .before .before .args .f) _ (λ z. (aNumber (c .before .before .n .given .0 .0), took-count (c .before .before .before .before .before .before .before .args .text .now) (c .before .before .before .before .before .before .before .args .c) _ _ t, grid-cols (c .before .before .before .before .before .before .before .args .f) _), (λ z. absurd (omega arith), (λ z. absurd (omega arith), tt)))
+    let at-n = c .before .before in
+    let at-parse-uint = at-n .before .before in
+    let args = at-parse-uint .before .before .before .args in
+    let t = rw (at-n .n .given .1) at (at-parse-uint .parse-uint .ensures) in
+    took-row gridFields (args .text .now) (args .c) (args .i) GridHeld _ (args .f) _ (
+      λ z. (aNumber (at-n .n .given .0 .0), took-count (args .text .now) (args .c) _ _ t, grid-cols (args .f) _),
+      (λ z. absurd (omega arith), (λ z. absurd (omega arith), tt)),
+    )
 
 returns-4 : tie.Need-returns-4
 unfolding gridFields
 returns-4 c =
-    let h = no-count (c .before .before .before .before .before .before .args .text .now) (c .before .before .before .before .before .before .args .c) _ _ (rw (c .before .r2 .given .1) at (c .before .before .before .parse-uint .ensures)) in
-    refused-row gridFields (c .before .before .before .before .before .before .args .text .now) (c .before .before .before .before .before .before .args .c) (c .before .before .before .before .before .before .args .i) _ _ (λ z. h, (λ z. h, (λ z. absurd (c .before .before .before .before .if1 .left z), tt)))
+    let at-parse-uint = c .before .before .before in
+    let at-if1 = at-parse-uint .before in
+    let args = at-if1 .before .before .args in
+    let h = no-count (args .text .now) (args .c) _ _ (rw (c .before .r2 .given .1) at (at-parse-uint .parse-uint .ensures)) in
+    refused-row gridFields (args .text .now) (args .c) (args .i) _ _ (λ z. h, (λ z. h, (λ z. absurd (at-if1 .if1 .left z), tt)))
 
 returns-5 : tie.Need-returns-5
 unfolding gridFields
 returns-5 c =
-    let t = rw (c .before .before .n .given .1) at (c .before .before .before .before .parse-uint .ensures) in
-    took-row gridFields (c .before .before .before .before .before .before .before .args .text .now) (c .before .before .before .before .before .before .before .args .c) (c .before .before .before .before .before .before .before .args .i) GridHeld _ (c .before .before .before .before .before .before .before .args .f) _ (λ z. absurd (c .if2 .left z), (λ z. (aNumber (c .before .before .n .given .0 .0), took-count (c .before .before .before .before .before .before .before .args .text .now) (c .before .before .before .before .before .before .before .args .c) _ _ t, grid-rows (c .before .before .before .before .before .before .before .args .f) _), (λ z. absurd (c .before .before .before .before .before .if1 .left z), tt)))
+    let at-n = c .before .before in
+    let at-parse-uint = at-n .before .before in
+    let at-if1 = at-parse-uint .before in
+    let args = at-if1 .before .before .args in
+    let t = rw (at-n .n .given .1) at (at-parse-uint .parse-uint .ensures) in
+    took-row gridFields (args .text .now) (args .c) (args .i) GridHeld _ (args .f) _ (
+      λ z. absurd (c .if2 .left z),
+      (
+        λ z. (aNumber (at-n .n .given .0 .0), took-count (args .text .now) (args .c) _ _ t, grid-rows (args .f) _),
+        (λ z. absurd (at-if1 .if1 .left z), tt),
+      ),
+    )
 
 pub grid-field-spec : {M : Type 1} → statement M
 grid-field-spec =

@@ -32,13 +32,35 @@ enum-known-r : tie.Need-enum-known-r Inv-loop μ-loop
 enum-known-r c = search needs
 
 returns : tie.Need-returns Inv-loop μ-loop
-returns c = kept-refused GridHeld gridFields (c .before .before .before .before .before .before .args .text .now) (c .before .before .before .before .before .before .args .c) (c .before .before .before .before .loop .m) (c .before .before .before .before .loop .f) (c .before .before .before .before .loop .inv) _ _ (rw (c .before .r .given .1) at (c .before .before .before .next-grid .ensures))
+returns c =
+    let at-next-grid = c .before .before .before in
+    let at-loop = at-next-grid .before in
+    let args = at-loop .before .before .args in
+    kept-refused GridHeld gridFields
+    (args .text .now)
+    (args .c)
+    (at-loop .loop .m)
+    (at-loop .loop .f)
+    (at-loop .loop .inv)
+    _ _
+    (rw (c .before .r .given .1) at (at-next-grid .next-grid .ensures))
 
 enum-known-e : tie.Need-enum-known-e Inv-loop μ-loop
 enum-known-e c = search needs
 
 returns-2 : tie.Need-returns-2 Inv-loop μ-loop
-returns-2 c = kept-done GridHeld gridFields (c .before .before .before .before .before .before .args .text .now) (c .before .before .before .before .before .before .args .c) (c .before .before .before .before .loop .m) (c .before .before .before .before .loop .f) (c .before .before .before .before .loop .inv) _ (rw (c .before .e .given .1) at (c .before .before .before .next-grid .ensures))
+returns-2 c =
+    let at-next-grid = c .before .before .before in
+    let at-loop = at-next-grid .before in
+    let args = at-loop .before .before .args in
+    kept-done GridHeld gridFields
+    (args .text .now)
+    (args .c)
+    (at-loop .loop .m)
+    (at-loop .loop .f)
+    (at-loop .loop .inv)
+    _
+    (rw (c .before .e .given .1) at (at-next-grid .next-grid .ensures))
 
 enum-known-i : tie.Need-enum-known-i Inv-loop μ-loop
 enum-known-i c = search needs
@@ -50,32 +72,98 @@ enum-known-r-2 : tie.Need-enum-known-r-2 Inv-loop μ-loop
 enum-known-r-2 c = search needs
 
 returns-3 : tie.Need-returns-3 Inv-loop μ-loop
-returns-3 c = value-refused GridHeld gridFields (c .before .before .before .before .before .before .before .before .before .before .args .text .now) (c .before .before .before .before .before .before .before .before .before .before .args .c) (c .before .before .before .before .before .before .before .before .loop .m) (c .before .before .before .before .before .before .before .before .loop .f) (c .before .before .before .before .before .before .before .before .loop .inv) _ _ (rw (c .before .before .before .before .before .i .given .1) at (c .before .before .before .before .before .before .before .next-grid .ensures)) _ _ (rw (c .before .r2 .given .1) at (c .before .before .before .grid-field .ensures))
+returns-3 c =
+    let at-grid-field = c .before .before .before in
+    let at-i = at-grid-field .before .before in
+    let at-next-grid = at-i .before .before in
+    let at-loop = at-next-grid .before in
+    let args = at-loop .before .before .args in
+    value-refused GridHeld gridFields
+    (args .text .now)
+    (args .c)
+    (at-loop .loop .m)
+    (at-loop .loop .f)
+    (at-loop .loop .inv)
+    _ _
+    (rw (at-i .i .given .1) at (at-next-grid .next-grid .ensures))
+    _ _
+    (rw (c .before .r2 .given .1) at (at-grid-field .grid-field .ensures))
 
 enum-known-g : tie.Need-enum-known-g Inv-loop μ-loop
 enum-known-g c = search needs
 
 eat-requires : tie.Need-eat-requires Inv-loop μ-loop
 eat-requires c κs =
-    let n = rw (c .before .before .before .before .before .i .given .1) at (c .before .before .before .before .before .before .before .next-grid .ensures) in
-    let h = rw (c .before .g .given .1) at (c .before .before .before .grid-field .ensures) in
+    let at-grid-field = c .before .before .before in
+    let at-i = at-grid-field .before .before in
+    let at-next-grid = at-i .before .before in
+    let n = rw (at-i .i .given .1) at (at-next-grid .next-grid .ensures) in
+    let h = rw (c .before .g .given .1) at (at-grid-field .grid-field .ensures) in
     (h (n .row) (n .is) .1 .ready, lit< tt)
 
 returns-4 : tie.Need-returns-4 Inv-loop μ-loop
 returns-4 c =
-    let z = rw (not-true (c .before .before .before .eat .result .taken) (c .if1 .taken)) at (c .before .before .before .eat .ensures) in
-    value-last GridHeld gridFields (c .before .before .before .before .before .before .before .before .before .before .before .before .before .before .args .text .now) (c .before .before .before .before .before .before .before .before .before .before .before .before .before .before .args .c) (c .before .before .before .before .before .before .before .before .before .before .before .before .loop .m) (c .before .before .before .before .before .before .before .before .before .before .before .before .loop .f) (c .before .before .before .before .before .before .before .before .before .before .before .before .loop .inv) _ _ (rw (c .before .before .before .before .before .before .before .before .before .i .given .1) at (c .before .before .before .before .before .before .before .before .before .before .before .next-grid .ensures)) _ (c .before .before .before .eat .result .next) _ (rw (c .before .before .before .before .before .g .given .1) at (c .before .before .before .before .before .before .before .grid-field .ensures)) z
+    let at-eat = c .before .before .before in
+    let at-g = at-eat .before .before in
+    let at-grid-field = at-g .before .before in
+    let at-i = at-grid-field .before .before in
+    let at-next-grid = at-i .before .before in
+    let at-loop = at-next-grid .before in
+    let args = at-loop .before .before .args in
+    let z = rw (not-true (at-eat .eat .result .taken) (c .if1 .taken)) at (at-eat .eat .ensures) in
+    value-last GridHeld gridFields
+    (args .text .now)
+    (args .c)
+    (at-loop .loop .m)
+    (at-loop .loop .f)
+    (at-loop .loop .inv)
+    _ _
+    (rw (at-i .i .given .1) at (at-next-grid .next-grid .ensures))
+    _
+    (at-eat .eat .result .next)
+    _
+    (rw (at-g .g .given .1) at (at-grid-field .grid-field .ensures))
+    z
 
 loop-less : tie.Need-loop-less Inv-loop μ-loop
 loop-less c =
-    let z = rw (not-false (c .before .before .before .eat .result .taken) (c .if1 .left)) at (c .before .before .before .eat .ensures) in
-    let a = value-moves GridHeld gridFields (c .before .before .before .before .before .before .before .before .before .before .before .before .before .before .args .text .now) (c .before .before .before .before .before .before .before .before .before .before .before .before .before .before .args .c) (c .before .before .before .before .before .before .before .before .before .before .before .before .loop .m) (c .before .before .before .before .before .before .before .before .before .before .before .before .loop .f) (c .before .before .before .before .before .before .before .before .before .before .before .before .loop .inv) _ _ (rw (c .before .before .before .before .before .before .before .before .before .i .given .1) at (c .before .before .before .before .before .before .before .before .before .before .before .next-grid .ensures)) _ (c .before .before .before .eat .result .next) _ (rw (c .before .before .before .before .before .g .given .1) at (c .before .before .before .before .before .before .before .grid-field .ensures)) z in
+    let at-eat = c .before .before .before in
+    let at-g = at-eat .before .before in
+    let at-grid-field = at-g .before .before in
+    let at-i = at-grid-field .before .before in
+    let at-next-grid = at-i .before .before in
+    let at-loop = at-next-grid .before in
+    let args = at-loop .before .before .args in
+    let z = rw (not-false (at-eat .eat .result .taken) (c .if1 .left)) at (at-eat .eat .ensures) in
+    let a = value-moves GridHeld gridFields (args .text .now) (args .c) (at-loop .loop .m) (at-loop .loop .f) (at-loop .loop .inv) _ _
+    (rw (at-i .i .given .1) at (at-next-grid .next-grid .ensures)) _ (at-eat .eat .result .next) _
+    (rw (at-g .g .given .1) at (at-grid-field .grid-field .ensures)) z
+    in
     omega (arith, z .ready .high)
 
 loop-again : tie.Need-loop-again Inv-loop μ-loop
 loop-again c =
-    let z = rw (not-false (c .before .before .before .eat .result .taken) (c .if1 .left)) at (c .before .before .before .eat .ensures) in
-    value-more GridHeld gridFields (c .before .before .before .before .before .before .before .before .before .before .before .before .before .before .args .text .now) (c .before .before .before .before .before .before .before .before .before .before .before .before .before .before .args .c) (c .before .before .before .before .before .before .before .before .before .before .before .before .loop .m) (c .before .before .before .before .before .before .before .before .before .before .before .before .loop .f) (c .before .before .before .before .before .before .before .before .before .before .before .before .loop .inv) _ _ (rw (c .before .before .before .before .before .before .before .before .before .i .given .1) at (c .before .before .before .before .before .before .before .before .before .before .before .next-grid .ensures)) _ (c .before .before .before .eat .result .next) _ (rw (c .before .before .before .before .before .g .given .1) at (c .before .before .before .before .before .before .before .grid-field .ensures)) z
+    let at-eat = c .before .before .before in
+    let at-g = at-eat .before .before in
+    let at-grid-field = at-g .before .before in
+    let at-i = at-grid-field .before .before in
+    let at-next-grid = at-i .before .before in
+    let at-loop = at-next-grid .before in
+    let args = at-loop .before .before .args in
+    let z = rw (not-false (at-eat .eat .result .taken) (c .if1 .left)) at (at-eat .eat .ensures) in
+    value-more GridHeld gridFields
+    (args .text .now)
+    (args .c)
+    (at-loop .loop .m)
+    (at-loop .loop .f)
+    (at-loop .loop .inv)
+    _ _
+    (rw (at-i .i .given .1) at (at-next-grid .next-grid .ensures))
+    _
+    (at-eat .eat .result .next)
+    _
+    (rw (at-g .g .given .1) at (at-grid-field .grid-field .ensures))
+    z
 
 pub grid-fields-spec : {M : Type 1} → statement M
 grid-fields-spec =

@@ -24,7 +24,12 @@ enum-told : tie.Need-enum-told
 enum-told c = search needs
 
 returns : tie.Need-returns
-returns c = no-cols (c .before .before .before .before .before .before .before .before .args .text .now) (c .before .before .before .before .before .before .before .before .args .c) _ (c .before .before .before .before .f .given .0 .0) (rw (c .before .before .before .before .f .given .1) at (c .before .before .before .before .before .before .grid-fields .ensures)) (c .enum-told .given .1)
+returns c =
+    let at-f = c .before .before .before .before in
+    let at-grid-fields = at-f .before .before in
+    let args = at-grid-fields .before .before .args in
+    no-cols (args .text .now) (args .c) _ (at-f .f .given .0 .0) (rw (at-f .f .given .1) at (at-grid-fields .grid-fields .ensures))
+    (c .enum-told .given .1)
 
 enum-known-counted-rows : tie.Need-enum-known-counted-rows
 enum-known-counted-rows c = search needs
@@ -33,7 +38,20 @@ enum-told-2 : tie.Need-enum-told-2
 enum-told-2 c = search needs
 
 returns-2 : tie.Need-returns-2
-returns-2 c = no-rows (c .before .before .before .before .before .before .before .before .before .before .before .args .text .now) (c .before .before .before .before .before .before .before .before .before .before .before .args .c) _ (c .before .before .before .before .before .before .before .f .given .0 .0) (rw (c .before .before .before .before .before .before .before .f .given .1) at (c .before .before .before .before .before .before .before .before .before .grid-fields .ensures)) _ (c .before .before .before .counted .given .1) (c .enum-told2 .given .1)
+returns-2 c =
+    let at-counted = c .before .before .before in
+    let at-f = at-counted .before .before .before .before in
+    let at-grid-fields = at-f .before .before in
+    let args = at-grid-fields .before .before .args in
+    no-rows
+    (args .text .now)
+    (args .c)
+    _
+    (at-f .f .given .0 .0)
+    (rw (at-f .f .given .1) at (at-grid-fields .grid-fields .ensures))
+    _
+    (at-counted .counted .given .1)
+    (c .enum-told2 .given .1)
 
 case-or-requires : tie.Need-case-or-requires
 case-or-requires c κs = search needs
@@ -43,7 +61,24 @@ unfolding gridInside
 returns-3 c = let h = rw (c .before .r .given .1) at (c .before .before .before .grid-fields .ensures) in rw h
 
 returns-4 : tie.Need-returns-4
-returns-4 c = (took-grid (c .before .before .before .before .before .before .before .before .before .before .before .before .before .args .text .now) (c .before .before .before .before .before .before .before .before .before .before .before .before .before .args .c) _ (c .before .before .before .before .before .before .before .before .before .f .given .0 .0) (rw (c .before .before .before .before .before .before .before .before .before .f .given .1) at (c .before .before .before .before .before .before .before .before .before .before .before .grid-fields .ensures)) _ _ _ (c .before .before .before .before .before .counted .given .1) (c .before .before .counted-rows .given .1) (c .case-or .ensures), tt)
+returns-4 c =
+    let at-counted-rows = c .before .before in
+    let at-counted = at-counted-rows .before .before .before in
+    let at-f = at-counted .before .before .before .before in
+    let at-grid-fields = at-f .before .before in
+    let args = at-grid-fields .before .before .args in (
+      took-grid
+          (args .text .now)
+          (args .c)
+          _
+          (at-f .f .given .0 .0)
+          (rw (at-f .f .given .1) at (at-grid-fields .grid-fields .ensures))
+          _ _ _
+          (at-counted .counted .given .1)
+          (at-counted-rows .counted-rows .given .1)
+          (c .case-or .ensures),
+      tt,
+    )
 
 pub grid-inside-spec : {M : Type 1} → statement M
 grid-inside-spec =

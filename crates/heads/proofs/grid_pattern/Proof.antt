@@ -33,17 +33,34 @@ leave-group-requires c κs = (rw (c .before .x .given .1) at (c .before .before 
 
 returns : tie.Need-returns
 unfolding gridPattern gridInside
-returns c = inside-missing (c .before .before .before .before .before .args .text .now) 40 gridInside (c .before .before .before .before .before .args .c) _ (rw (c .before .p .given .1) at (c .before .before .before .mark .ensures))
+returns c =
+    let at-mark = c .before .before .before in
+    let args = at-mark .before .before .args in
+    inside-missing (args .text .now) 40 gridInside (args .c) _ (rw (c .before .p .given .1) at (at-mark .mark .ensures))
 
 returns-2 : tie.Need-returns-2
 unfolding gridPattern gridInside
-returns-2 c = inside-refused (c .before .before .before .before .before .before .before .before .before .args .text .now) 40 gridInside (c .before .before .before .before .before .before .before .before .before .args .c) _ (rw (c .before .before .before .before .before .m .given .1) at (c .before .before .before .before .before .before .before .mark .ensures)) _ _ (rw (c .before .r .given .1) at (c .before .before .before .grid-inside .ensures))
+returns-2 c =
+    let at-grid-inside = c .before .before .before in
+    let at-m = at-grid-inside .before .before in
+    let at-mark = at-m .before .before in
+    let args = at-mark .before .before .args in
+    inside-refused (args .text .now) 40 gridInside (args .c) _ (rw (at-m .m .given .1) at (at-mark .mark .ensures)) _ _
+    (rw (c .before .r .given .1) at (at-grid-inside .grid-inside .ensures))
 
 returns-3 : tie.Need-returns-3
 unfolding gridPattern gridInside
 returns-3 c =
-    let t = rw (c .before .before .x .given .1) at (c .before .before .before .before .grid-inside .ensures) in
-    (inside-any (c .before .before .before .before .before .before .before .before .before .before .args .text .now) 40 gridInside (c .before .before .before .before .before .before .before .before .before .before .args .c) _ (rw (c .before .before .before .before .before .before .m .given .1) at (c .before .before .before .before .before .before .before .before .mark .ensures)) _ _ _ (t .0) (c .leave-group .ensures), t .1)
+    let at-x = c .before .before in
+    let at-grid-inside = at-x .before .before in
+    let at-m = at-grid-inside .before .before in
+    let at-mark = at-m .before .before in
+    let args = at-mark .before .before .args in
+    let t = rw (at-x .x .given .1) at (at-grid-inside .grid-inside .ensures) in (
+      inside-any (args .text .now) 40 gridInside (args .c) _ (rw (at-m .m .given .1) at (at-mark .mark .ensures)) _ _ _ (t .0)
+          (c .leave-group .ensures),
+      t .1,
+    )
 
 pub grid-pattern-spec : {M : Type 1} → statement M
 grid-pattern-spec =

@@ -23,19 +23,50 @@ random-pattern-requires c κs = search needs
 
 returns : tie.Need-returns
 unfolding patterns
-returns c = by-pattern (c .before .before .before .args .text .now) (c .before .before .before .args .c) (c .before .before .before .args .i) (c .grid-pattern .result) (λ z. any-pattern (c .before .before .before .args .text .now) (c .before .before .before .args .c) gridPattern (c .grid-pattern .result) (c .grid-pattern .ensures), (λ z. absurd (omega arith), (λ z. absurd (omega arith), (λ z. absurd (omega arith), tt))))
+returns c =
+    let args = c .before .before .before .args in
+    by-pattern (args .text .now) (args .c) (args .i) (c .grid-pattern .result) (
+      λ z. any-pattern (args .text .now) (args .c) gridPattern (c .grid-pattern .result) (c .grid-pattern .ensures),
+      (λ z. absurd (omega arith), (λ z. absurd (omega arith), (λ z. absurd (omega arith), tt))),
+    )
 
 returns-2 : tie.Need-returns-2
 unfolding patterns
-returns-2 c = by-pattern (c .before .before .before .args .text .now) (c .before .before .before .args .c) (c .before .before .before .args .i) (c .random-pattern .result) (λ z. absurd (omega arith), (λ z. any-pattern (c .before .before .before .args .text .now) (c .before .before .before .args .c) randomPattern (c .random-pattern .result) (c .random-pattern .ensures), (λ z. absurd (omega arith), (λ z. absurd (omega arith), tt))))
+returns-2 c =
+    let args = c .before .before .before .args in
+    by-pattern (args .text .now) (args .c) (args .i) (c .random-pattern .result) (
+      λ z. absurd (omega arith),
+      (
+        λ z. any-pattern (args .text .now) (args .c) randomPattern (c .random-pattern .result) (c .random-pattern .ensures),
+        (λ z. absurd (omega arith), (λ z. absurd (omega arith), tt)),
+      ),
+    )
 
 returns-3 : tie.Need-returns-3
 unfolding patterns
-returns-3 c = by-pattern (c .before .before .args .text .now) (c .before .before .args .c) (c .before .before .args .i) (Is CenterOut (c .before .before .args .c)) (λ z. absurd (omega arith), (λ z. absurd (omega arith), (λ z. (stays (c .before .before .args .text .now) (c .before .before .args .c) (c .before .before .pre) (give centerOut) centerOut refl, tt), (λ z. absurd (omega arith), tt))))
+returns-3 c =
+    let start = c .before .before in
+    let args = start .args in
+    by-pattern (args .text .now) (args .c) (args .i) (Is CenterOut (args .c)) (
+      λ z. absurd (omega arith),
+      (
+        λ z. absurd (omega arith),
+        (λ z. (stays (args .text .now) (args .c) (start .pre) (give centerOut) centerOut refl, tt), (λ z. absurd (omega arith), tt)),
+      ),
+    )
 
 returns-4 : tie.Need-returns-4
 unfolding patterns
-returns-4 c = by-pattern (c .before .before .args .text .now) (c .before .before .args .c) (c .before .before .args .i) (Is EdgesIn (c .before .before .args .c)) (λ z. absurd (omega arith), (λ z. absurd (omega arith), (λ z. absurd (omega arith), (λ z. (stays (c .before .before .args .text .now) (c .before .before .args .c) (c .before .before .pre) (give edgesIn) edgesIn refl, tt), tt))))
+returns-4 c =
+    let start = c .before .before in
+    let args = start .args in
+    by-pattern (args .text .now) (args .c) (args .i) (Is EdgesIn (args .c)) (
+      λ z. absurd (omega arith),
+      (
+        λ z. absurd (omega arith),
+        (λ z. absurd (omega arith), (λ z. (stays (args .text .now) (args .c) (start .pre) (give edgesIn) edgesIn refl, tt), tt)),
+      ),
+    )
 
 pub named-pattern-spec : {M : Type 1} → statement M
 named-pattern-spec =

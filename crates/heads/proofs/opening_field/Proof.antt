@@ -25,15 +25,34 @@ enum-known-i : tie.Need-enum-known-i
 enum-known-i c = search needs
 
 opening-value-requires : tie.Need-opening-value-requires
-opening-value-requires c κs = ((rw (c .before .i .given .1) at (c .before .before .before .choice .ensures)) .ready, c .before .before .before .before .before .before .pre .1)
+opening-value-requires c κs =
+    let at-choice = c .before .before .before in
+    let start = at-choice .before .before .before in
+    ((rw (c .before .i .given .1) at (at-choice .choice .ensures)) .ready, start .pre .1)
 
 returns : tie.Need-returns
 unfolding openingFields entries
-returns c = unnamed (c .before .before .before .before .before .before .args .text .now) (c .before .before .before .before .before .before .args .c) UnknownKeyword (openingFields (openingOf (c .before .before .before .before .before .before .args .f))) _ _ (rw (c .before .r .given .1) at (c .before .before .before .choice .ensures))
+returns c =
+    let at-choice = c .before .before .before in
+    let args = at-choice .before .before .before .args in
+    unnamed (args .text .now) (args .c) UnknownKeyword (openingFields (openingOf (args .f))) _ _
+    (rw (c .before .r .given .1) at (at-choice .choice .ensures))
 
 returns-2 : tie.Need-returns-2
 unfolding openingFields entries
-returns-2 c = named-opening (c .before .before .before .before .before .before .before .args .text .now) (c .before .before .before .before .before .before .before .args .c) _ (c .before .before .before .before .before .before .before .args .f) _ (c .opening-value .result) (rw (c .before .before .i .given .1) at (c .before .before .before .before .choice .ensures)) (c .opening-value .ensures)
+returns-2 c =
+    let at-i = c .before .before in
+    let at-choice = at-i .before .before in
+    let args = at-choice .before .before .before .args in
+    named-opening
+    (args .text .now)
+    (args .c)
+    _
+    (args .f)
+    _
+    (c .opening-value .result)
+    (rw (at-i .i .given .1) at (at-choice .choice .ensures))
+    (c .opening-value .ensures)
 
 pub opening-field-spec : {M : Type 1} → statement M
 opening-field-spec =

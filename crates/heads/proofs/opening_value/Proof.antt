@@ -37,15 +37,36 @@ enum-known-x c = search needs
 returns : tie.Need-returns
 unfolding openingFields
 returns c =
-    let h = marked-refused (c .before .before .before .before .before .before .before .before .before .before .args .text .now) 58 parseStaggerPattern (withPattern (openingOf (c .before .before .before .before .before .before .before .before .before .before .args .f))) (c .before .before .before .before .before .before .before .before .before .before .args .c) _ (rw (c .before .before .before .before .before .before .m .given .1) at (c .before .before .before .before .before .before .before .before .mark .ensures)) _ _ (rw (c .before .r .given .1) at (c .before .before .before .parse-stagger-pattern .ensures)) in
-    by-opening (c .before .before .before .before .before .before .before .before .before .before .args .text .now) (c .before .before .before .before .before .before .before .before .before .before .args .c) (c .before .before .before .before .before .before .before .before .before .before .args .f) (c .before .before .before .before .before .before .before .before .before .before .args .i) (Refused (c .before .r .given .0 .0) (c .before .r .given .0 .1 .0)) (λ z. h, (λ z. absurd (omega arith), tt))
+    let at-parse-stagger-pattern = c .before .before .before in
+    let at-m = at-parse-stagger-pattern .before .before .before in
+    let at-mark = at-m .before .before in
+    let args = at-mark .before .before .args in
+    let h = marked-refused (args .text .now) 58 parseStaggerPattern (withPattern (openingOf (args .f))) (args .c) _
+    (rw (at-m .m .given .1) at (at-mark .mark .ensures)) _ _
+    (rw (c .before .r .given .1) at (at-parse-stagger-pattern .parse-stagger-pattern .ensures))
+    in
+    by-opening (args .text .now) (args .c) (args .f) (args .i) (Refused (c .before .r .given .0 .0) (c .before .r .given .0 .1 .0))
+    (λ z. h, (λ z. absurd (omega arith), tt))
 
 returns-2 : tie.Need-returns-2
 unfolding openingFields
 returns-2 c =
-    let t = rw (c .before .x .given .1) at (c .before .before .before .parse-stagger-pattern .ensures) in
-    let h = marked-took (c .before .before .before .before .before .before .before .before .before .before .args .text .now) 58 parseStaggerPattern (withPattern (openingOf (c .before .before .before .before .before .before .before .before .before .before .args .f))) (c .before .before .before .before .before .before .before .before .before .before .args .c) _ (rw (c .before .before .before .before .before .before .m .given .1) at (c .before .before .before .before .before .before .before .before .mark .ensures)) _ _ (t .0) in
-    by-opening (c .before .before .before .before .before .before .before .before .before .before .args .text .now) (c .before .before .before .before .before .before .before .before .before .before .args .c) (c .before .before .before .before .before .before .before .before .before .before .args .f) (c .before .before .before .before .before .before .before .before .before .before .args .i) (Is (record { pattern = optPattern.Present (c .before .x .given .0 .0); delay = c .before .before .before .before .before .before .before .before .before .before .args .f .delay }) (c .before .x .given .0 .1 .0)) (λ z. (h, (t .1, c .before .before .before .before .before .before .before .before .before .before .pre .1 .1)), (λ z. absurd (omega arith), tt))
+    let at-parse-stagger-pattern = c .before .before .before in
+    let at-m = at-parse-stagger-pattern .before .before .before in
+    let at-mark = at-m .before .before in
+    let start = at-mark .before .before in
+    let args = start .args in
+    let t = rw (c .before .x .given .1) at (at-parse-stagger-pattern .parse-stagger-pattern .ensures) in
+    let h = marked-took (args .text .now) 58 parseStaggerPattern (withPattern (openingOf (args .f))) (args .c) _
+    (rw (at-m .m .given .1) at (at-mark .mark .ensures)) _ _ (t .0)
+    in
+    by-opening
+    (args .text .now)
+    (args .c)
+    (args .f)
+    (args .i)
+    (Is (record { pattern = optPattern.Present (c .before .x .given .0 .0); delay = args .f .delay }) (c .before .x .given .0 .1 .0))
+    (λ z. (h, (t .1, start .pre .1 .1)), (λ z. absurd (omega arith), tt))
 
 parse-float-requires : tie.Need-parse-float-requires
 parse-float-requires c κs = (rw (c .before .before .m .given .1) at (c .before .before .before .before .mark .ensures)) .ready
@@ -59,21 +80,45 @@ enum-known-x-2 c = search needs
 returns-3 : tie.Need-returns-3
 unfolding openingFields
 returns-3 c =
-    let h = rw (c .before .p .given .1) at (c .before .before .before .mark .ensures) in
-    by-opening (c .before .before .before .before .before .args .text .now) (c .before .before .before .before .before .args .c) (c .before .before .before .before .before .args .f) (c .before .before .before .before .before .args .i) (Refused Missing (c .before .p .given .0 .0)) (λ z. rw h, (λ z. rw h, tt))
+    let at-mark = c .before .before .before in
+    let args = at-mark .before .before .args in
+    let h = rw (c .before .p .given .1) at (at-mark .mark .ensures) in
+    by-opening (args .text .now) (args .c) (args .f) (args .i) (Refused Missing (c .before .p .given .0 .0)) (λ z. rw h, (λ z. rw h, tt))
 
 returns-4 : tie.Need-returns-4
 unfolding openingFields
 returns-4 c =
-    let h = marked-refused (c .before .before .before .before .before .before .before .before .before .before .args .text .now) 58 parseFloat (withDelay (openingOf (c .before .before .before .before .before .before .before .before .before .before .args .f))) (c .before .before .before .before .before .before .before .before .before .before .args .c) _ (rw (c .before .before .before .before .before .before .m .given .1) at (c .before .before .before .before .before .before .before .before .mark .ensures)) _ _ (rw (c .before .r2 .given .1) at (c .before .before .before .parse-float .ensures)) in
-    by-opening (c .before .before .before .before .before .before .before .before .before .before .args .text .now) (c .before .before .before .before .before .before .before .before .before .before .args .c) (c .before .before .before .before .before .before .before .before .before .before .args .f) (c .before .before .before .before .before .before .before .before .before .before .args .i) (Refused (c .before .r2 .given .0 .0) (c .before .r2 .given .0 .1 .0)) (λ z. absurd (c .before .before .before .before .if1 .left z), (λ z. h, tt))
+    let at-parse-float = c .before .before .before in
+    let at-if1 = at-parse-float .before in
+    let at-m = at-if1 .before .before in
+    let at-mark = at-m .before .before in
+    let args = at-mark .before .before .args in
+    let h = marked-refused (args .text .now) 58 parseFloat (withDelay (openingOf (args .f))) (args .c) _
+    (rw (at-m .m .given .1) at (at-mark .mark .ensures)) _ _ (rw (c .before .r2 .given .1) at (at-parse-float .parse-float .ensures))
+    in
+    by-opening (args .text .now) (args .c) (args .f) (args .i) (Refused (c .before .r2 .given .0 .0) (c .before .r2 .given .0 .1 .0))
+    (λ z. absurd (at-if1 .if1 .left z), (λ z. h, tt))
 
 returns-5 : tie.Need-returns-5
 unfolding openingFields
 returns-5 c =
-    let t = rw (c .before .x2 .given .1) at (c .before .before .before .parse-float .ensures) in
-    let h = marked-took (c .before .before .before .before .before .before .before .before .before .before .args .text .now) 58 parseFloat (withDelay (openingOf (c .before .before .before .before .before .before .before .before .before .before .args .f))) (c .before .before .before .before .before .before .before .before .before .before .args .c) _ (rw (c .before .before .before .before .before .before .m .given .1) at (c .before .before .before .before .before .before .before .before .mark .ensures)) _ _ (t .0) in
-    by-opening (c .before .before .before .before .before .before .before .before .before .before .args .text .now) (c .before .before .before .before .before .before .before .before .before .before .args .c) (c .before .before .before .before .before .before .before .before .before .before .args .f) (c .before .before .before .before .before .before .before .before .before .before .args .i) (Is (record { pattern = c .before .before .before .before .before .before .before .before .before .before .args .f .pattern; delay = optFloat.Present (c .before .x2 .given .0 .0) }) (c .before .x2 .given .0 .1 .0)) (λ z. absurd (c .before .before .before .before .if1 .left z), (λ z. (h, (c .before .before .before .before .before .before .before .before .before .before .pre .1 .0, t .1)), tt))
+    let at-parse-float = c .before .before .before in
+    let at-if1 = at-parse-float .before in
+    let at-m = at-if1 .before .before in
+    let at-mark = at-m .before .before in
+    let start = at-mark .before .before in
+    let args = start .args in
+    let t = rw (c .before .x2 .given .1) at (at-parse-float .parse-float .ensures) in
+    let h = marked-took (args .text .now) 58 parseFloat (withDelay (openingOf (args .f))) (args .c) _
+    (rw (at-m .m .given .1) at (at-mark .mark .ensures)) _ _ (t .0)
+    in
+    by-opening
+    (args .text .now)
+    (args .c)
+    (args .f)
+    (args .i)
+    (Is (record { pattern = args .f .pattern; delay = optFloat.Present (c .before .x2 .given .0 .0) }) (c .before .x2 .given .0 .1 .0))
+    (λ z. absurd (at-if1 .if1 .left z), (λ z. (h, (start .pre .1 .0, t .1)), tt))
 
 pub opening-value-spec : {M : Type 1} → statement M
 opening-value-spec =

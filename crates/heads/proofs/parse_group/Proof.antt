@@ -24,7 +24,11 @@ enum-known-i c = search needs
 
 cast-t13 : tie.Need-cast-t13
 unfolding entries
-cast-t13 c = let b = choice-below (c .before .before .before .before .before .before .args .text .now) (c .before .before .before .before .before .before .args .c) _ Malformed _ _ (rw (c .before .i .given .1) at (c .before .before .before .choice .ensures)) in omega arith
+cast-t13 c =
+    let at-choice = c .before .before .before in
+    let args = at-choice .before .before .before .args in
+    let b = choice-below (args .text .now) (args .c) _ Malformed _ _ (rw (c .before .i .given .1) at (at-choice .choice .ensures)) in
+    omega arith
 
 returns : tie.Need-returns
 unfolding parseGroup entries
@@ -33,8 +37,10 @@ returns c = let h = rw (c .before .r .given .1) at (c .before .before .before .c
 returns-2 : tie.Need-returns-2
 unfolding parseGroup entries
 returns-2 c =
-    let t = rw (c .before .i .given .1) at (c .before .before .before .choice .ensures) in
-    (record { is = rw (t .is); low = t .low; ready = t .ready }, choice-below (c .before .before .before .before .before .before .args .text .now) (c .before .before .before .before .before .before .args .c) _ Malformed _ _ t)
+    let at-choice = c .before .before .before in
+    let args = at-choice .before .before .before .args in
+    let t = rw (c .before .i .given .1) at (at-choice .choice .ensures) in
+    (record { is = rw (t .is); low = t .low; ready = t .ready }, choice-below (args .text .now) (args .c) _ Malformed _ _ t)
 
 pub parse-group-spec : {M : Type 1} → statement M
 parse-group-spec =

@@ -29,19 +29,37 @@ sees-requires c κs = search needs
 
 returns : tie.Need-returns Inv-loop μ-loop
 returns c =
-    let e = sym (c .before .sees .ensures (c .before .before .before .before .args .text .now) (c .before .before .loop .inv .0 .ready)) ∙ c .if1 .taken in
-    (opened-block (c .before .before .before .before .args .text .now) (c .before .before .before .before .args .c) (c .before .before .loop .m) (openingOf (c .before .before .loop .f)) (c .before .before .loop .inv .0) e, c .before .before .loop .inv .1 .0, c .before .before .loop .inv .1 .1)
+    let at-loop = c .before .before in
+    let loop = at-loop .loop in
+    let args = at-loop .before .before .args in
+    let e = sym (c .before .sees .ensures (args .text .now) (loop .inv .0 .ready)) ∙ c .if1 .taken in
+    (opened-block (args .text .now) (args .c) (loop .m) (openingOf (loop .f)) (loop .inv .0) e, loop .inv .1 .0, loop .inv .1 .1)
 
 opening-field-requires : tie.Need-opening-field-requires Inv-loop μ-loop
-opening-field-requires c κs = (c .before .before .loop .inv .0 .ready, c .before .before .loop .inv .1)
+opening-field-requires c κs =
+    let loop = c .before .before .loop in
+    (loop .inv .0 .ready, loop .inv .1)
 
 enum-known-r : tie.Need-enum-known-r Inv-loop μ-loop
 enum-known-r c = search needs
 
 returns-2 : tie.Need-returns-2 Inv-loop μ-loop
 returns-2 c =
-    let e = sym (c .before .before .before .before .before .sees .ensures (c .before .before .before .before .before .before .before .before .args .text .now) (c .before .before .before .before .before .before .loop .inv .0 .ready)) ∙ c .before .before .before .before .if1 .left in
-    opened-refused (c .before .before .before .before .before .before .before .before .args .text .now) (c .before .before .before .before .before .before .before .before .args .c) (c .before .before .before .before .before .before .loop .m) (openingOf (c .before .before .before .before .before .before .loop .f)) (c .before .before .before .before .before .before .loop .inv .0) e _ _ (rw (c .before .r .given .1) at (c .before .before .before .opening-field .ensures))
+    let at-opening-field = c .before .before .before in
+    let at-if1 = at-opening-field .before in
+    let at-sees = at-if1 .before in
+    let at-loop = at-sees .before in
+    let loop = at-loop .loop in
+    let args = at-loop .before .before .args in
+    let e = sym (at-sees .sees .ensures (args .text .now) (loop .inv .0 .ready)) ∙ at-if1 .if1 .left in
+    opened-refused
+    (args .text .now)
+    (args .c)
+    (loop .m)
+    (openingOf (loop .f))
+    (loop .inv .0)
+    e _ _
+    (rw (c .before .r .given .1) at (at-opening-field .opening-field .ensures))
 
 enum-known-g : tie.Need-enum-known-g Inv-loop μ-loop
 enum-known-g c = search needs
@@ -51,25 +69,56 @@ eat-requires c κs = ((rw (c .before .g .given .1) at (c .before .before .before
 
 returns-3 : tie.Need-returns-3 Inv-loop μ-loop
 returns-3 c =
-    let e = sym (c .before .before .before .before .before .before .before .before .before .sees .ensures (c .before .before .before .before .before .before .before .before .before .before .before .before .args .text .now) (c .before .before .before .before .before .before .before .before .before .before .loop .inv .0 .ready)) ∙ c .before .before .before .before .before .before .before .before .if1 .left in
-    let y = rw (c .before .before .before .before .before .g .given .1) at (c .before .before .before .before .before .before .before .opening-field .ensures) in
-    let z = rw (not-true (c .before .before .before .eat .result .taken) (c .if2 .taken)) at (c .before .before .before .eat .ensures) in
-    (opened-last (c .before .before .before .before .before .before .before .before .before .before .before .before .args .text .now) (c .before .before .before .before .before .before .before .before .before .before .before .before .args .c) (c .before .before .before .before .before .before .before .before .before .before .loop .m) (openingOf (c .before .before .before .before .before .before .before .before .before .before .loop .f)) (c .before .before .before .before .before .before .before .before .before .before .loop .inv .0) e _ (c .before .before .before .eat .result .next) _ (y .0) z, y .1 .0, y .1 .1)
+    let at-eat = c .before .before .before in
+    let at-g = at-eat .before .before in
+    let at-opening-field = at-g .before .before in
+    let at-if1 = at-opening-field .before in
+    let at-sees = at-if1 .before in
+    let at-loop = at-sees .before in
+    let loop = at-loop .loop in
+    let args = at-loop .before .before .args in
+    let e = sym (at-sees .sees .ensures (args .text .now) (loop .inv .0 .ready)) ∙ at-if1 .if1 .left in
+    let y = rw (at-g .g .given .1) at (at-opening-field .opening-field .ensures) in
+    let z = rw (not-true (at-eat .eat .result .taken) (c .if2 .taken)) at (at-eat .eat .ensures) in (
+      opened-last (args .text .now) (args .c) (loop .m) (openingOf (loop .f)) (loop .inv .0) e _ (at-eat .eat .result .next) _ (y .0) z,
+      y .1 .0,
+      y .1 .1,
+    )
 
 loop-less : tie.Need-loop-less Inv-loop μ-loop
 loop-less c =
-    let e = sym (c .before .before .before .before .before .before .before .before .before .sees .ensures (c .before .before .before .before .before .before .before .before .before .before .before .before .args .text .now) (c .before .before .before .before .before .before .before .before .before .before .loop .inv .0 .ready)) ∙ c .before .before .before .before .before .before .before .before .if1 .left in
-    let y = rw (c .before .before .before .before .before .g .given .1) at (c .before .before .before .before .before .before .before .opening-field .ensures) in
-    let z = rw (not-false (c .before .before .before .eat .result .taken) (c .if2 .left)) at (c .before .before .before .eat .ensures) in
-    let a = opened-moves (c .before .before .before .before .before .before .before .before .before .before .before .before .args .text .now) (c .before .before .before .before .before .before .before .before .before .before .before .before .args .c) (c .before .before .before .before .before .before .before .before .before .before .loop .m) (openingOf (c .before .before .before .before .before .before .before .before .before .before .loop .f)) (c .before .before .before .before .before .before .before .before .before .before .loop .inv .0) e _ (c .before .before .before .eat .result .next) _ (y .0) z in
+    let at-eat = c .before .before .before in
+    let at-g = at-eat .before .before in
+    let at-opening-field = at-g .before .before in
+    let at-if1 = at-opening-field .before in
+    let at-sees = at-if1 .before in
+    let at-loop = at-sees .before in
+    let loop = at-loop .loop in
+    let args = at-loop .before .before .args in
+    let e = sym (at-sees .sees .ensures (args .text .now) (loop .inv .0 .ready)) ∙ at-if1 .if1 .left in
+    let y = rw (at-g .g .given .1) at (at-opening-field .opening-field .ensures) in
+    let z = rw (not-false (at-eat .eat .result .taken) (c .if2 .left)) at (at-eat .eat .ensures) in
+    let a = opened-moves (args .text .now) (args .c) (loop .m) (openingOf (loop .f)) (loop .inv .0) e _ (at-eat .eat .result .next) _ (y .0)
+    z
+    in
     omega (arith, z .ready .high)
 
 loop-again : tie.Need-loop-again Inv-loop μ-loop
 loop-again c =
-    let e = sym (c .before .before .before .before .before .before .before .before .before .sees .ensures (c .before .before .before .before .before .before .before .before .before .before .before .before .args .text .now) (c .before .before .before .before .before .before .before .before .before .before .loop .inv .0 .ready)) ∙ c .before .before .before .before .before .before .before .before .if1 .left in
-    let y = rw (c .before .before .before .before .before .g .given .1) at (c .before .before .before .before .before .before .before .opening-field .ensures) in
-    let z = rw (not-false (c .before .before .before .eat .result .taken) (c .if2 .left)) at (c .before .before .before .eat .ensures) in
-    (opened-more (c .before .before .before .before .before .before .before .before .before .before .before .before .args .text .now) (c .before .before .before .before .before .before .before .before .before .before .before .before .args .c) (c .before .before .before .before .before .before .before .before .before .before .loop .m) (openingOf (c .before .before .before .before .before .before .before .before .before .before .loop .f)) (c .before .before .before .before .before .before .before .before .before .before .loop .inv .0) e _ (c .before .before .before .eat .result .next) _ (y .0) z, y .1)
+    let at-eat = c .before .before .before in
+    let at-g = at-eat .before .before in
+    let at-opening-field = at-g .before .before in
+    let at-if1 = at-opening-field .before in
+    let at-sees = at-if1 .before in
+    let at-loop = at-sees .before in
+    let loop = at-loop .loop in
+    let args = at-loop .before .before .args in
+    let e = sym (at-sees .sees .ensures (args .text .now) (loop .inv .0 .ready)) ∙ at-if1 .if1 .left in
+    let y = rw (at-g .g .given .1) at (at-opening-field .opening-field .ensures) in
+    let z = rw (not-false (at-eat .eat .result .taken) (c .if2 .left)) at (at-eat .eat .ensures) in (
+      opened-more (args .text .now) (args .c) (loop .m) (openingOf (loop .f)) (loop .inv .0) e _ (at-eat .eat .result .next) _ (y .0) z,
+      y .1,
+    )
 
 pub parse-stagger-spec : {M : Type 1} → statement M
 parse-stagger-spec =

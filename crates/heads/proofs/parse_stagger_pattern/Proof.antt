@@ -28,11 +28,19 @@ named-pattern-requires c κs = (rw (c .before .i .given .1) at (c .before .befor
 
 returns : tie.Need-returns
 unfolding parseStaggerPattern patterns entries
-returns c = unnamed (c .before .before .before .before .before .before .args .text .now) (c .before .before .before .before .before .before .args .c) Malformed patterns _ _ (rw (c .before .r .given .1) at (c .before .before .before .choice .ensures))
+returns c =
+    let at-choice = c .before .before .before in
+    let args = at-choice .before .before .before .args in
+    unnamed (args .text .now) (args .c) Malformed patterns _ _ (rw (c .before .r .given .1) at (at-choice .choice .ensures))
 
 returns-2 : tie.Need-returns-2
 unfolding patterns entries
-returns-2 c = named-pattern (c .before .before .before .before .before .before .before .args .text .now) (c .before .before .before .before .before .before .before .args .c) _ _ (c .named-pattern .result) (rw (c .before .before .i .given .1) at (c .before .before .before .before .choice .ensures)) (c .named-pattern .ensures)
+returns-2 c =
+    let at-i = c .before .before in
+    let at-choice = at-i .before .before in
+    let args = at-choice .before .before .before .args in
+    named-pattern (args .text .now) (args .c) _ _ (c .named-pattern .result) (rw (at-i .i .given .1) at (at-choice .choice .ensures))
+    (c .named-pattern .ensures)
 
 pub parse-stagger-pattern-spec : {M : Type 1} → statement M
 parse-stagger-pattern-spec =

@@ -32,13 +32,35 @@ enum-known-r : tie.Need-enum-known-r Inv-loop μ-loop
 enum-known-r c = search needs
 
 returns : tie.Need-returns Inv-loop μ-loop
-returns c = kept-refused RandomHeld randomFields (c .before .before .before .before .before .before .args .text .now) (c .before .before .before .before .before .before .args .c) (c .before .before .before .before .loop .m) (c .before .before .before .before .loop .f) (c .before .before .before .before .loop .inv) _ _ (rw (c .before .r .given .1) at (c .before .before .before .next-random .ensures))
+returns c =
+    let at-next-random = c .before .before .before in
+    let at-loop = at-next-random .before in
+    let args = at-loop .before .before .args in
+    kept-refused RandomHeld randomFields
+    (args .text .now)
+    (args .c)
+    (at-loop .loop .m)
+    (at-loop .loop .f)
+    (at-loop .loop .inv)
+    _ _
+    (rw (c .before .r .given .1) at (at-next-random .next-random .ensures))
 
 enum-known-e : tie.Need-enum-known-e Inv-loop μ-loop
 enum-known-e c = search needs
 
 returns-2 : tie.Need-returns-2 Inv-loop μ-loop
-returns-2 c = kept-done RandomHeld randomFields (c .before .before .before .before .before .before .args .text .now) (c .before .before .before .before .before .before .args .c) (c .before .before .before .before .loop .m) (c .before .before .before .before .loop .f) (c .before .before .before .before .loop .inv) _ (rw (c .before .e .given .1) at (c .before .before .before .next-random .ensures))
+returns-2 c =
+    let at-next-random = c .before .before .before in
+    let at-loop = at-next-random .before in
+    let args = at-loop .before .before .args in
+    kept-done RandomHeld randomFields
+    (args .text .now)
+    (args .c)
+    (at-loop .loop .m)
+    (at-loop .loop .f)
+    (at-loop .loop .inv)
+    _
+    (rw (c .before .e .given .1) at (at-next-random .next-random .ensures))
 
 enum-known-i : tie.Need-enum-known-i Inv-loop μ-loop
 enum-known-i c = search needs
@@ -50,32 +72,98 @@ enum-known-r-2 : tie.Need-enum-known-r-2 Inv-loop μ-loop
 enum-known-r-2 c = search needs
 
 returns-3 : tie.Need-returns-3 Inv-loop μ-loop
-returns-3 c = value-refused RandomHeld randomFields (c .before .before .before .before .before .before .before .before .before .before .args .text .now) (c .before .before .before .before .before .before .before .before .before .before .args .c) (c .before .before .before .before .before .before .before .before .loop .m) (c .before .before .before .before .before .before .before .before .loop .f) (c .before .before .before .before .before .before .before .before .loop .inv) _ _ (rw (c .before .before .before .before .before .i .given .1) at (c .before .before .before .before .before .before .before .next-random .ensures)) _ _ (rw (c .before .r2 .given .1) at (c .before .before .before .random-field .ensures))
+returns-3 c =
+    let at-random-field = c .before .before .before in
+    let at-i = at-random-field .before .before in
+    let at-next-random = at-i .before .before in
+    let at-loop = at-next-random .before in
+    let args = at-loop .before .before .args in
+    value-refused RandomHeld randomFields
+    (args .text .now)
+    (args .c)
+    (at-loop .loop .m)
+    (at-loop .loop .f)
+    (at-loop .loop .inv)
+    _ _
+    (rw (at-i .i .given .1) at (at-next-random .next-random .ensures))
+    _ _
+    (rw (c .before .r2 .given .1) at (at-random-field .random-field .ensures))
 
 enum-known-g : tie.Need-enum-known-g Inv-loop μ-loop
 enum-known-g c = search needs
 
 eat-requires : tie.Need-eat-requires Inv-loop μ-loop
 eat-requires c κs =
-    let n = rw (c .before .before .before .before .before .i .given .1) at (c .before .before .before .before .before .before .before .next-random .ensures) in
-    let h = rw (c .before .g .given .1) at (c .before .before .before .random-field .ensures) in
+    let at-random-field = c .before .before .before in
+    let at-i = at-random-field .before .before in
+    let at-next-random = at-i .before .before in
+    let n = rw (at-i .i .given .1) at (at-next-random .next-random .ensures) in
+    let h = rw (c .before .g .given .1) at (at-random-field .random-field .ensures) in
     (h (n .row) (n .is) .1 .ready, lit< tt)
 
 returns-4 : tie.Need-returns-4 Inv-loop μ-loop
 returns-4 c =
-    let z = rw (not-true (c .before .before .before .eat .result .taken) (c .if1 .taken)) at (c .before .before .before .eat .ensures) in
-    value-last RandomHeld randomFields (c .before .before .before .before .before .before .before .before .before .before .before .before .before .before .args .text .now) (c .before .before .before .before .before .before .before .before .before .before .before .before .before .before .args .c) (c .before .before .before .before .before .before .before .before .before .before .before .before .loop .m) (c .before .before .before .before .before .before .before .before .before .before .before .before .loop .f) (c .before .before .before .before .before .before .before .before .before .before .before .before .loop .inv) _ _ (rw (c .before .before .before .before .before .before .before .before .before .i .given .1) at (c .before .before .before .before .before .before .before .before .before .before .before .next-random .ensures)) _ (c .before .before .before .eat .result .next) _ (rw (c .before .before .before .before .before .g .given .1) at (c .before .before .before .before .before .before .before .random-field .ensures)) z
+    let at-eat = c .before .before .before in
+    let at-g = at-eat .before .before in
+    let at-random-field = at-g .before .before in
+    let at-i = at-random-field .before .before in
+    let at-next-random = at-i .before .before in
+    let at-loop = at-next-random .before in
+    let args = at-loop .before .before .args in
+    let z = rw (not-true (at-eat .eat .result .taken) (c .if1 .taken)) at (at-eat .eat .ensures) in
+    value-last RandomHeld randomFields
+    (args .text .now)
+    (args .c)
+    (at-loop .loop .m)
+    (at-loop .loop .f)
+    (at-loop .loop .inv)
+    _ _
+    (rw (at-i .i .given .1) at (at-next-random .next-random .ensures))
+    _
+    (at-eat .eat .result .next)
+    _
+    (rw (at-g .g .given .1) at (at-random-field .random-field .ensures))
+    z
 
 loop-less : tie.Need-loop-less Inv-loop μ-loop
 loop-less c =
-    let z = rw (not-false (c .before .before .before .eat .result .taken) (c .if1 .left)) at (c .before .before .before .eat .ensures) in
-    let a = value-moves RandomHeld randomFields (c .before .before .before .before .before .before .before .before .before .before .before .before .before .before .args .text .now) (c .before .before .before .before .before .before .before .before .before .before .before .before .before .before .args .c) (c .before .before .before .before .before .before .before .before .before .before .before .before .loop .m) (c .before .before .before .before .before .before .before .before .before .before .before .before .loop .f) (c .before .before .before .before .before .before .before .before .before .before .before .before .loop .inv) _ _ (rw (c .before .before .before .before .before .before .before .before .before .i .given .1) at (c .before .before .before .before .before .before .before .before .before .before .before .next-random .ensures)) _ (c .before .before .before .eat .result .next) _ (rw (c .before .before .before .before .before .g .given .1) at (c .before .before .before .before .before .before .before .random-field .ensures)) z in
+    let at-eat = c .before .before .before in
+    let at-g = at-eat .before .before in
+    let at-random-field = at-g .before .before in
+    let at-i = at-random-field .before .before in
+    let at-next-random = at-i .before .before in
+    let at-loop = at-next-random .before in
+    let args = at-loop .before .before .args in
+    let z = rw (not-false (at-eat .eat .result .taken) (c .if1 .left)) at (at-eat .eat .ensures) in
+    let a = value-moves RandomHeld randomFields (args .text .now) (args .c) (at-loop .loop .m) (at-loop .loop .f) (at-loop .loop .inv) _ _
+    (rw (at-i .i .given .1) at (at-next-random .next-random .ensures)) _ (at-eat .eat .result .next) _
+    (rw (at-g .g .given .1) at (at-random-field .random-field .ensures)) z
+    in
     omega (arith, z .ready .high)
 
 loop-again : tie.Need-loop-again Inv-loop μ-loop
 loop-again c =
-    let z = rw (not-false (c .before .before .before .eat .result .taken) (c .if1 .left)) at (c .before .before .before .eat .ensures) in
-    value-more RandomHeld randomFields (c .before .before .before .before .before .before .before .before .before .before .before .before .before .before .args .text .now) (c .before .before .before .before .before .before .before .before .before .before .before .before .before .before .args .c) (c .before .before .before .before .before .before .before .before .before .before .before .before .loop .m) (c .before .before .before .before .before .before .before .before .before .before .before .before .loop .f) (c .before .before .before .before .before .before .before .before .before .before .before .before .loop .inv) _ _ (rw (c .before .before .before .before .before .before .before .before .before .i .given .1) at (c .before .before .before .before .before .before .before .before .before .before .before .next-random .ensures)) _ (c .before .before .before .eat .result .next) _ (rw (c .before .before .before .before .before .g .given .1) at (c .before .before .before .before .before .before .before .random-field .ensures)) z
+    let at-eat = c .before .before .before in
+    let at-g = at-eat .before .before in
+    let at-random-field = at-g .before .before in
+    let at-i = at-random-field .before .before in
+    let at-next-random = at-i .before .before in
+    let at-loop = at-next-random .before in
+    let args = at-loop .before .before .args in
+    let z = rw (not-false (at-eat .eat .result .taken) (c .if1 .left)) at (at-eat .eat .ensures) in
+    value-more RandomHeld randomFields
+    (args .text .now)
+    (args .c)
+    (at-loop .loop .m)
+    (at-loop .loop .f)
+    (at-loop .loop .inv)
+    _ _
+    (rw (at-i .i .given .1) at (at-next-random .next-random .ensures))
+    _
+    (at-eat .eat .result .next)
+    _
+    (rw (at-g .g .given .1) at (at-random-field .random-field .ensures))
+    z
 
 pub random-fields-spec : {M : Type 1} → statement M
 random-fields-spec =

@@ -42,17 +42,51 @@ float-or-requires-2 : tie.Need-float-or-requires-2
 float-or-requires-2 c κs = search needs
 
 leave-group-requires : tie.Need-leave-group-requires
-leave-group-requires c κs = (rw (c .before .before .before .before .f .given .1) at (c .before .before .before .before .before .before .random-fields .ensures)) .1 .ready
+leave-group-requires c κs =
+    let at-f = c .before .before .before .before in
+    let at-random-fields = at-f .before .before in
+    (rw (at-f .f .given .1) at (at-random-fields .random-fields .ensures)) .1 .ready
 
 returns : tie.Need-returns
-returns c = no-random (c .before .before .before .before .before .args .text .now) (c .before .before .before .before .before .args .c) _ _ (inside-missing (c .before .before .before .before .before .args .text .now) 40 (pairs randomFields) (c .before .before .before .before .before .args .c) _ (rw (c .before .p .given .1) at (c .before .before .before .mark .ensures)))
+returns c =
+    let at-mark = c .before .before .before in
+    let args = at-mark .before .before .args in
+    no-random (args .text .now) (args .c) _ _
+    (inside-missing (args .text .now) 40 (pairs randomFields) (args .c) _ (rw (c .before .p .given .1) at (at-mark .mark .ensures)))
 
 returns-2 : tie.Need-returns-2
-returns-2 c = no-random (c .before .before .before .before .before .before .before .before .before .args .text .now) (c .before .before .before .before .before .before .before .before .before .args .c) _ _ (inside-refused (c .before .before .before .before .before .before .before .before .before .args .text .now) 40 (pairs randomFields) (c .before .before .before .before .before .before .before .before .before .args .c) _ (rw (c .before .before .before .before .before .m .given .1) at (c .before .before .before .before .before .before .before .mark .ensures)) _ _ (rw (c .before .r .given .1) at (c .before .before .before .random-fields .ensures)))
+returns-2 c =
+    let at-random-fields = c .before .before .before in
+    let at-m = at-random-fields .before .before in
+    let at-mark = at-m .before .before in
+    let args = at-mark .before .before .args in
+    no-random (args .text .now) (args .c) _ _
+    (inside-refused (args .text .now) 40 (pairs randomFields) (args .c) _ (rw (at-m .m .given .1) at (at-mark .mark .ensures)) _ _
+    (rw (c .before .r .given .1) at (at-random-fields .random-fields .ensures)))
 
 returns-3 : tie.Need-returns-3
 unfolding isNan ofBits
-returns-3 c = took-random (c .before .before .before .before .before .before .before .before .before .before .before .before .before .args .text .now) (c .before .before .before .before .before .before .before .before .before .before .before .before .before .args .c) _ _ _ (c .before .before .before .before .before .f .given .0 .0) (rw (c .before .before .before .before .before .before .before .before .before .m .given .1) at (c .before .before .before .before .before .before .before .before .before .before .before .mark .ensures)) (rw (c .before .before .before .before .before .f .given .1) at (c .before .before .before .before .before .before .before .random-fields .ensures)) (c .leave-group .ensures) _ _ _ _ _ (c .before .before .before .word-or .ensures) (c .before .before .float-or .ensures) (c .before .float-or2 .ensures) nought tenth tt tt
+returns-3 c =
+    let at-float-or = c .before .before in
+    let at-word-or = at-float-or .before in
+    let at-f = at-word-or .before .before in
+    let at-random-fields = at-f .before .before in
+    let at-m = at-random-fields .before .before in
+    let at-mark = at-m .before .before in
+    let args = at-mark .before .before .args in
+    took-random
+    (args .text .now)
+    (args .c)
+    _ _ _
+    (at-f .f .given .0 .0)
+    (rw (at-m .m .given .1) at (at-mark .mark .ensures))
+    (rw (at-f .f .given .1) at (at-random-fields .random-fields .ensures))
+    (c .leave-group .ensures)
+    _ _ _ _ _
+    (at-word-or .word-or .ensures)
+    (at-float-or .float-or .ensures)
+    (c .before .float-or2 .ensures)
+    nought tenth tt tt
 
 pub random-pattern-spec : {M : Type 1} → statement M
 random-pattern-spec =

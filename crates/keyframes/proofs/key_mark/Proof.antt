@@ -24,13 +24,26 @@ enum-known-n : tie.Need-enum-known-n
 enum-known-n c = search needs
 
 returns : tie.Need-returns
-returns c = no-key (c .before .before .before .before .before .args .text .now) (c .before .before .before .before .before .args .c) _ _ (rw (c .before .r .given .1) at (c .before .before .before .parse-keyframe-time .ensures))
+returns c =
+    let at-parse-keyframe-time = c .before .before .before in
+    let args = at-parse-keyframe-time .before .before .args in
+    no-key (args .text .now) (args .c) _ _ (rw (c .before .r .given .1) at (at-parse-keyframe-time .parse-keyframe-time .ensures))
 
 returns-2 : tie.Need-returns-2
-returns-2 c = no-colon _ _ _ _ (rw (c .before .before .before .before .before .t .given .1) at (c .before .before .before .before .before .before .before .parse-keyframe-time .ensures)) _ (rw (c .before .p .given .1) at (c .before .before .before .mark .ensures))
+returns-2 c =
+    let at-mark = c .before .before .before in
+    let at-t = at-mark .before .before in
+    let at-parse-keyframe-time = at-t .before .before in
+    no-colon _ _ _ _ (rw (at-t .t .given .1) at (at-parse-keyframe-time .parse-keyframe-time .ensures)) _
+    (rw (c .before .p .given .1) at (at-mark .mark .ensures))
 
 returns-3 : tie.Need-returns-3
-returns-3 c = took-key _ _ _ _ (rw (c .before .before .before .before .before .t .given .1) at (c .before .before .before .before .before .before .before .parse-keyframe-time .ensures)) _ (rw (c .before .n .given .1) at (c .before .before .before .mark .ensures))
+returns-3 c =
+    let at-mark = c .before .before .before in
+    let at-t = at-mark .before .before in
+    let at-parse-keyframe-time = at-t .before .before in
+    took-key _ _ _ _ (rw (at-t .t .given .1) at (at-parse-keyframe-time .parse-keyframe-time .ensures)) _
+    (rw (c .before .n .given .1) at (at-mark .mark .ensures))
 
 pub key-mark-spec : {M : Type 1} → statement M
 key-mark-spec =

@@ -10,7 +10,12 @@ sees-name-requires : tie.Need-sees-name-requires
 sees-name-requires c κs = search needs
 
 returns : tie.Need-returns
-returns c = (no-easing (c .before .before .before .args .text .now) (c .before .before .before .args .c) (c .before .before .before .pre) (sym (c .before .sees-name .ensures (c .before .before .before .pre)) ∙ not-true (c .before .sees-name .result) (c .if1 .taken)), tt)
+returns c =
+    let start = c .before .before .before in (
+      no-easing (start .args .text .now) (start .args .c) (start .pre)
+          (sym (c .before .sees-name .ensures (start .pre)) ∙ not-true (c .before .sees-name .result) (c .if1 .taken)),
+      tt,
+    )
 
 parse-easing-requires : tie.Need-parse-easing-requires
 parse-easing-requires c κs = search needs
@@ -22,10 +27,33 @@ enum-known-e : tie.Need-enum-known-e
 enum-known-e c = search needs
 
 returns-2 : tie.Need-returns-2
-returns-2 c = easing-refused (c .before .before .before .before .before .before .before .args .text .now) (c .before .before .before .before .before .before .before .args .c) (sym (c .before .before .before .before .before .sees-name .ensures (c .before .before .before .before .before .before .before .pre)) ∙ not-false (c .before .before .before .before .before .sees-name .result) (c .before .before .before .before .if1 .left)) _ _ (rw (c .before .r .given .1) at (c .before .before .before .parse-easing .ensures))
+returns-2 c =
+    let at-parse-easing = c .before .before .before in
+    let at-if1 = at-parse-easing .before in
+    let at-sees-name = at-if1 .before in
+    let start = at-sees-name .before .before in
+    easing-refused
+    (start .args .text .now)
+    (start .args .c)
+    (sym (at-sees-name .sees-name .ensures (start .pre)) ∙ not-false (at-sees-name .sees-name .result) (at-if1 .if1 .left))
+    _ _
+    (rw (c .before .r .given .1) at (at-parse-easing .parse-easing .ensures))
 
 returns-3 : tie.Need-returns-3
-returns-3 c = let t = rw (c .before .e .given .1) at (c .before .before .before .parse-easing .ensures) in (easing-took (c .before .before .before .before .before .before .before .args .text .now) (c .before .before .before .before .before .before .before .args .c) (sym (c .before .before .before .before .before .sees-name .ensures (c .before .before .before .before .before .before .before .pre)) ∙ not-false (c .before .before .before .before .before .sees-name .result) (c .before .before .before .before .if1 .left)) _ _ (t .0), t .1)
+returns-3 c =
+    let at-parse-easing = c .before .before .before in
+    let at-if1 = at-parse-easing .before in
+    let at-sees-name = at-if1 .before in
+    let start = at-sees-name .before .before in
+    let t = rw (c .before .e .given .1) at (at-parse-easing .parse-easing .ensures) in (
+      easing-took
+          (start .args .text .now)
+          (start .args .c)
+          (sym (at-sees-name .sees-name .ensures (start .pre)) ∙ not-false (at-sees-name .sees-name .result) (at-if1 .if1 .left))
+          _ _
+          (t .0),
+      t .1,
+    )
 
 pub keyframe-easing-spec : {M : Type 1} → statement M
 keyframe-easing-spec =

@@ -19,7 +19,13 @@ add-parse-value : tie.Need-add-parse-value
 add-parse-value c = search needs
 
 parse-value-requires : tie.Need-parse-value-requires
-parse-value-requires c κs = ((rw (c .before .before .time .given .1) at (c .before .before .before .before .key-mark .ensures)) .took .ready, record { short = c .before .before .before .before .before .before .before .pre .1 .short; low = omega (arith, c .before .before .before .before .before .before .before .pre .1 .low) })
+parse-value-requires c κs =
+    let at-time = c .before .before in
+    let at-key-mark = at-time .before .before in
+    let pre = at-key-mark .before .before .before .pre in (
+      (rw (at-time .time .given .1) at (at-key-mark .key-mark .ensures)) .took .ready,
+      record { short = pre .1 .short; low = omega (arith, pre .1 .low) },
+    )
 
 enum-known-r-2 : tie.Need-enum-known-r-2
 enum-known-r-2 c = search needs
@@ -28,7 +34,10 @@ enum-known-end : tie.Need-enum-known-end
 enum-known-end c = search needs
 
 keyframe-easing-requires : tie.Need-keyframe-easing-requires
-keyframe-easing-requires c κs = (rw (c .before .end .given .1) at (c .before .before .before .before .before .parse-value .ensures)) .took .ready
+keyframe-easing-requires c κs =
+    let at-end = c .before in
+    let at-parse-value = at-end .before .before .before .before in
+    (rw (at-end .end .given .1) at (at-parse-value .parse-value .ensures)) .took .ready
 
 enum-known-r-3 : tie.Need-enum-known-r-3
 enum-known-r-3 c = search needs
@@ -38,35 +47,80 @@ enum-known-easing c = search needs
 
 put-entry-requires : tie.Need-put-entry-requires
 put-entry-requires c κs =
-    let t = rw (c .before .before .before .before .before .before .before .before .before .before .before .before .before .time .given .1) at (c .before .before .before .before .before .before .before .before .before .before .before .before .before .before .before .key-mark .ensures) in
-    let w = rw (c .before .before .before .before .before .before .end .given .1) at (c .before .before .before .before .before .before .before .before .before .before .parse-value .ensures) in
-    let e = rw (c .before .before .easing .given .1) at (c .before .before .before .before .keyframe-easing .ensures) in
-    (omega (arith, c .before .before .before .before .before .before .before .before .before .before .before .before .before .before .before .before .before .before .pre .1 .low), omega (arith, c .before .before .before .before .before .before .before .before .before .before .before .before .before .before .before .before .before .before .pre .1 .low, c .before .before .before .before .before .before .before .before .before .before .before .before .before .before .before .before .before .before .pre .1 .short, w .paid, w .took .ready .high), t .stores .plain, e .1)
+    let at-easing = c .before .before in
+    let at-keyframe-easing = at-easing .before .before in
+    let at-end = at-keyframe-easing .before .before in
+    let at-parse-value = at-end .before .before .before .before in
+    let at-time = at-parse-value .before .before .before in
+    let at-key-mark = at-time .before .before in
+    let pre = at-key-mark .before .before .before .pre in
+    let t = rw (at-time .time .given .1) at (at-key-mark .key-mark .ensures) in
+    let w = rw (at-end .end .given .1) at (at-parse-value .parse-value .ensures) in
+    let e = rw (at-easing .easing .given .1) at (at-keyframe-easing .keyframe-easing .ensures) in
+    (omega (arith, pre .1 .low), omega (arith, pre .1 .low, pre .1 .short, w .paid, w .took .ready .high), t .stores .plain, e .1)
 
 returns : tie.Need-returns
-returns c = frame-no-key (c .before .before .before .before .before .before .args .text .now) (c .before .before .before .before .before .before .args .c) _ _ (rw (c .before .r .given .1) at (c .before .before .before .key-mark .ensures))
+returns c =
+    let at-key-mark = c .before .before .before in
+    let args = at-key-mark .before .before .before .args in
+    frame-no-key (args .text .now) (args .c) _ _ (rw (c .before .r .given .1) at (at-key-mark .key-mark .ensures))
 
 same-length : tie.Need-same-length
 same-length c = search needs
 
 returns-2 : tie.Need-returns-2
-returns-2 c = frame-no-value _ _ _ _ (rw (c .before .before .before .before .before .before .before .before .time .given .1) at (c .before .before .before .before .before .before .before .before .before .before .key-mark .ensures)) _ _ (rw (c .before .r2 .given .1) at (c .before .before .before .before .before .parse-value .ensures))
+returns-2 c =
+    let at-r2 = c .before in
+    let at-parse-value = at-r2 .before .before .before .before in
+    let at-time = at-parse-value .before .before .before in
+    let at-key-mark = at-time .before .before in
+    frame-no-value _ _ _ _ (rw (at-time .time .given .1) at (at-key-mark .key-mark .ensures)) _ _
+    (rw (at-r2 .r2 .given .1) at (at-parse-value .parse-value .ensures))
 
 same-length-2 : tie.Need-same-length-2
 same-length-2 c = search needs
 
 returns-3 : tie.Need-returns-3
-returns-3 c = frame-no-easing _ _ _ _ (rw (c .before .before .before .before .before .before .before .before .before .before .before .before .time .given .1) at (c .before .before .before .before .before .before .before .before .before .before .before .before .before .before .key-mark .ensures)) _ _ _ _ _ (rw (c .before .before .before .before .before .end .given .1) at (c .before .before .before .before .before .before .before .before .before .parse-value .ensures)) _ _ (rw (c .before .r3 .given .1) at (c .before .before .before .keyframe-easing .ensures))
+returns-3 c =
+    let at-keyframe-easing = c .before .before .before in
+    let at-end = at-keyframe-easing .before .before in
+    let at-parse-value = at-end .before .before .before .before in
+    let at-time = at-parse-value .before .before .before in
+    let at-key-mark = at-time .before .before in
+    frame-no-easing _ _ _ _
+    (rw (at-time .time .given .1) at (at-key-mark .key-mark .ensures))
+    _ _ _ _ _
+    (rw (at-end .end .given .1) at (at-parse-value .parse-value .ensures))
+    _ _
+    (rw (c .before .r3 .given .1) at (at-keyframe-easing .keyframe-easing .ensures))
 
 same-length-3 : tie.Need-same-length-3
 same-length-3 c = search needs
 
 returns-4 : tie.Need-returns-4
 returns-4 c =
-    let t = rw (c .before .before .before .before .before .before .before .before .before .before .before .before .before .before .before .before .time .given .1) at (c .before .before .before .before .before .before .before .before .before .before .before .before .before .before .before .before .before .before .key-mark .ensures) in
-    let w = rw (c .before .before .before .before .before .before .before .before .before .end .given .1) at (c .before .before .before .before .before .before .before .before .before .before .before .before .before .parse-value .ensures) in
-    let e = rw (c .before .before .before .before .before .easing .given .1) at (c .before .before .before .before .before .before .before .keyframe-easing .ensures) in
-    frame-went (c .before .before .before .before .before .before .before .before .before .before .before .before .before .before .before .before .before .before .before .before .before .args .text .now) (c .before .before .before .before .before .before .before .before .before .before .before .before .before .before .before .before .before .before .before .before .before .args .c) _ _ t (c .before .before .before .before .before .before .before .before .before .before .before .before .before .before .before .before .before .before .before .before .before .args .sheet .now) _ _ _ _ w (c .before .before .before .before .before .before .before .before .before .before .before .before .before .before .before .before .before .before .before .before .before .args .out) refl _ _ refl (e .0) _ _ (c .before .before .put-entry .ensures)
+    let at-put-entry = c .before .before in
+    let at-easing = at-put-entry .before .before .before in
+    let at-keyframe-easing = at-easing .before .before in
+    let at-end = at-keyframe-easing .before .before in
+    let at-parse-value = at-end .before .before .before .before in
+    let at-time = at-parse-value .before .before .before in
+    let at-key-mark = at-time .before .before in
+    let args = at-key-mark .before .before .before .args in
+    let t = rw (at-time .time .given .1) at (at-key-mark .key-mark .ensures) in
+    let w = rw (at-end .end .given .1) at (at-parse-value .parse-value .ensures) in
+    let e = rw (at-easing .easing .given .1) at (at-keyframe-easing .keyframe-easing .ensures) in
+    frame-went
+    (args .text .now)
+    (args .c)
+    _ _ t
+    (args .sheet .now)
+    _ _ _ _ w
+    (args .out)
+    refl _ _ refl
+    (e .0)
+    _ _
+    (at-put-entry .put-entry .ensures)
 
 pub keyframe-entry-spec : {M : Type 1} → statement M
 keyframe-entry-spec =

@@ -21,16 +21,45 @@ all-requires : tie.Need-all-requires
 all-requires c κs = search needs
 
 returns : tie.Need-returns
-returns c = percent-suffix (c .before .before .before .before .before .before .before .before .before .before .args .text .now) (c .before .before .before .before .before .before .before .before .before .before .args .c) _ _ _ _ (rw (c .before .before .before .before .before .before .negative .given .1) at (c .before .before .before .before .before .before .before .before .number .ensures)) _ (c .before .before .before .before .percent-sign .ensures) (sym (c .before .before .all .ensures) ∙ c .before .if1 .taken)
+returns c =
+    let at-all = c .before .before in
+    let at-percent-sign = at-all .before .before in
+    let at-negative = at-percent-sign .before .before in
+    let at-number = at-negative .before .before in
+    let args = at-number .before .before .args in
+    percent-suffix (args .text .now) (args .c) _ _ _ _ (rw (at-negative .negative .given .1) at (at-number .number .ensures)) _
+    (at-percent-sign .percent-sign .ensures) (sym (at-all .all .ensures) ∙ c .before .if1 .taken)
 
 time-of-requires : tie.Need-time-of-requires
-time-of-requires c κs = (rw (c .before .before .before .before .before .negative .given .1) at (c .before .before .before .before .before .before .before .number .ensures)) .small
+time-of-requires c κs =
+    let c4 = c .before .before .before .before in
+    let at-negative = c4 .before in
+    let at-number = at-negative .before .before in
+    (rw (at-negative .negative .given .1) at (at-number .number .ensures)) .small
 
 returns-2 : tie.Need-returns-2
-returns-2 c = no-time (c .before .before .before .before .before .args .text .now) (c .before .before .before .before .before .args .c) _ (rw (c .before .p .given .1) at (c .before .before .before .number .ensures))
+returns-2 c =
+    let at-number = c .before .before .before in
+    let args = at-number .before .before .args in
+    no-time (args .text .now) (args .c) _ (rw (c .before .p .given .1) at (at-number .number .ensures))
 
 returns-3 : tie.Need-returns-3
-returns-3 c = took-time (c .before .before .before .before .before .before .before .before .before .before .args .text .now) (c .before .before .before .before .before .before .before .before .before .before .args .c) _ _ _ _ (rw (c .before .before .before .before .before .before .negative .given .1) at (c .before .before .before .before .before .before .before .before .number .ensures)) _ (c .before .before .before .before .percent-sign .ensures) (sym (c .before .before .all .ensures) ∙ c .before .if1 .left) _ (c .time-of .ensures)
+returns-3 c =
+    let at-all = c .before .before in
+    let at-percent-sign = at-all .before .before in
+    let at-negative = at-percent-sign .before .before in
+    let at-number = at-negative .before .before in
+    let args = at-number .before .before .args in
+    took-time
+    (args .text .now)
+    (args .c)
+    _ _ _ _
+    (rw (at-negative .negative .given .1) at (at-number .number .ensures))
+    _
+    (at-percent-sign .percent-sign .ensures)
+    (sym (at-all .all .ensures) ∙ c .before .if1 .left)
+    _
+    (c .time-of .ensures)
 
 pub parse-keyframe-time-spec : {M : Type 1} → statement M
 parse-keyframe-time-spec =

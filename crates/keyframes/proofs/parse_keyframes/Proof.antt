@@ -31,21 +31,65 @@ put-span-requires : tie.Need-put-span-requires
 put-span-requires c κs = search needs
 
 track-value-requires : tie.Need-track-value-requires
-track-value-requires c κs = ((rw (c .before .before .before .before .before .before .before .before .before .before .n .given .1) at (c .before .before .before .before .before .before .before .before .before .before .before .before .mark .ensures)) .ready, record { short = c .before .before .before .before .before .before .before .before .before .before .before .before .before .before .before .before .before .before .before .pre .1 .short; low = let p = c .before .before .before .put-span .ensures 0 .place in omega (arith, c .before .before .before .before .before .before .before .before .before .before .before .before .before .before .before .before .before .before .before .pre .1 .low, c .before .before .before .before .before .before .before .put-byte .ensures .place) })
+track-value-requires c κs =
+    let at-put-span = c .before .before .before in
+    let at-put-byte = at-put-span .before .before .before .before in
+    let at-n = at-put-byte .before .before .before in
+    let at-mark = at-n .before .before in
+    let c16 = at-mark .before .before .before .before in
+    let pre = c16 .before .before .before .pre in (
+      (rw (at-n .n .given .1) at (at-mark .mark .ensures)) .ready,
+      record {
+        short = pre .1 .short;
+        low = let p = at-put-span .put-span .ensures 0 .place in omega (arith, pre .1 .low, at-put-byte .put-byte .ensures .place);
+      },
+    )
 
 returns : tie.Need-returns
-returns c = no-target (c .before .before .before .before .before .before .args .text .now) (c .before .before .before .before .before .before .args .c) _ (rw (c .before .p .given .1) at (c .before .before .before .word .ensures))
+returns c =
+    let at-word = c .before .before .before in
+    let args = at-word .before .before .before .args in
+    no-target (args .text .now) (args .c) _ (rw (c .before .p .given .1) at (at-word .word .ensures))
 
 returns-2 : tie.Need-returns-2
-returns-2 c = no-brace _ _ _ _ _ ((rw (c .before .before .before .before .before .target .given .1) at (c .before .before .before .before .before .before .before .word .ensures)) .0) _ (rw (c .before .p2 .given .1) at (c .before .before .before .mark .ensures))
+returns-2 c =
+    let at-mark = c .before .before .before in
+    let at-target = at-mark .before .before in
+    let at-word = at-target .before .before in
+    no-brace _ _ _ _ _ ((rw (at-target .target .given .1) at (at-word .word .ensures)) .0) _
+    (rw (c .before .p2 .given .1) at (at-mark .mark .ensures))
 
 same-length : tie.Need-same-length
 same-length c = search needs
 
 returns-3 : tie.Need-returns-3
 returns-3 c =
-    let t = rw (c .before .before .before .before .before .before .before .before .before .before .before .before .before .before .before .before .before .target .given .1) at (c .before .before .before .before .before .before .before .before .before .before .before .before .before .before .before .before .before .before .before .word .ensures) in
-    behind-opener (c .before .before .before .before .before .before .before .before .before .before .before .before .before .before .before .before .before .before .before .before .before .before .args .text .now) (c .before .before .before .before .before .before .before .before .before .before .before .before .before .before .before .before .before .before .before .before .before .before .args .c) _ _ (c .before .before .before .before .before .before .before .before .before .before .before .before .before .before .before .before .before .target .given .0 .0) (t .0) (t .1) (rw (c .before .before .before .before .before .before .before .before .before .before .before .before .before .n .given .1) at (c .before .before .before .before .before .before .before .before .before .before .before .before .before .before .before .mark .ensures)) (c .before .before .before .before .before .before .before .before .before .before .before .before .before .before .before .before .before .before .before .before .before .before .args .sheet .now) _ _ (c .before .before .track-value .last .1 .0) (c .before .before .before .before .before .before .before .before .before .before .before .before .before .before .before .before .before .before .before .before .before .before .args .out) _ _ (c .before .before .before .before .before .before .before .before .before .before .put-byte .ensures) (c .before .before .before .before .before .before .put-span .ensures (length (c .before .before .before .before .before .before .before .before .before .before .before .before .before .before .before .before .before .before .before .before .before .before .args .text .now))) (c .before .before .track-value .result) (c .before .before .track-value .ensures)
+    let at-track-value = c .before .before in
+    let at-put-span = at-track-value .before .before .before .before in
+    let at-put-byte = at-put-span .before .before .before .before in
+    let at-n = at-put-byte .before .before .before in
+    let at-mark = at-n .before .before in
+    let at-target = at-mark .before .before in
+    let at-word = at-target .before .before in
+    let args = at-word .before .before .before .args in
+    let t = rw (at-target .target .given .1) at (at-word .word .ensures) in
+    behind-opener
+    (args .text .now)
+    (args .c)
+    _ _
+    (at-target .target .given .0 .0)
+    (t .0)
+    (t .1)
+    (rw (at-n .n .given .1) at (at-mark .mark .ensures))
+    (args .sheet .now)
+    _ _
+    (at-track-value .track-value .last .1 .0)
+    (args .out)
+    _ _
+    (at-put-byte .put-byte .ensures)
+    (at-put-span .put-span .ensures (length (args .text .now)))
+    (at-track-value .track-value .result)
+    (at-track-value .track-value .ensures)
 
 pub parse-keyframes-spec : {M : Type 1} → statement M
 parse-keyframes-spec =

@@ -5,13 +5,17 @@ use Rattle.keyframes.proofs.percent_sign.Statement.{statement}
 use Rattle.keyframes.proofs.percent_sign.Tie as tie
 
 returns : tie.Need-returns
-returns c = no-sign (c .before .before .args .text .now) (c .before .before .args .c) (c .before .before .pre) (c .before .before .args .point) (c .if1 .taken)
+returns c =
+    let start = c .before .before in
+    no-sign (start .args .text .now) (start .args .c) (start .pre) (start .args .point) (c .if1 .taken)
 
 eat-requires : tie.Need-eat-requires
 eat-requires c κs = search needs
 
 returns-2 : tie.Need-returns-2
-returns-2 c = a-sign (c .before .before .before .args .text .now) (c .before .before .before .args .c) _ (c .before .before .before .args .point) _ (c .before .if1 .left) (c .eat .ensures)
+returns-2 c =
+    let args = c .before .before .before .args in
+    a-sign (args .text .now) (args .c) _ (args .point) _ (c .before .if1 .left) (c .eat .ensures)
 
 pub percent-sign-spec : {M : Type 1} → statement M
 percent-sign-spec = tie.close (tie.spec returns eat-requires returns-2)

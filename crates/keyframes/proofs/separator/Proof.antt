@@ -12,13 +12,21 @@ eat-requires : tie.Need-eat-requires
 eat-requires c κs = search needs
 
 returns : tie.Need-returns
-returns c = by-comma (c .before .before .before .before .args .text .now) (c .before .before .before .before .args .c) _ _ (sym (c .before .before .sees .ensures (c .before .before .before .before .args .text .now) (c .before .before .before .before .pre)) ∙ c .before .if1 .taken) (c .eat .ensures)
+returns c =
+    let at-sees = c .before .before in
+    let start = at-sees .before .before in
+    by-comma (start .args .text .now) (start .args .c) _ _
+    (sym (at-sees .sees .ensures (start .args .text .now) (start .pre)) ∙ c .before .if1 .taken) (c .eat .ensures)
 
 eat-requires-2 : tie.Need-eat-requires-2
 eat-requires-2 c κs = search needs
 
 returns-2 : tie.Need-returns-2
-returns-2 c = by-semicolon (c .before .before .before .before .args .text .now) (c .before .before .before .before .args .c) _ _ (sym (c .before .before .sees .ensures (c .before .before .before .before .args .text .now) (c .before .before .before .before .pre)) ∙ c .before .if1 .left) (c .eat2 .ensures)
+returns-2 c =
+    let at-sees = c .before .before in
+    let start = at-sees .before .before in
+    by-semicolon (start .args .text .now) (start .args .c) _ _
+    (sym (at-sees .sees .ensures (start .args .text .now) (start .pre)) ∙ c .before .if1 .left) (c .eat2 .ensures)
 
 pub separator-spec : {M : Type 1} → statement M
 separator-spec = tie.close (tie.spec sees-requires eat-requires returns eat-requires-2 returns-2)

@@ -8,13 +8,17 @@ percent-requires : tie.Need-percent-requires
 percent-requires c κs = search needs
 
 returns : tie.Need-returns
-returns c = stores-percent (c .before .before .args .percent) (c .before .before .args .negative) (c .before .before .args .n) _ (c .before .if1 .taken) (c .percent .ensures)
+returns c =
+    let args = c .before .before .args in
+    stores-percent (args .percent) (args .negative) (args .n) _ (c .before .if1 .taken) (c .percent .ensures)
 
 decimal-requires : tie.Need-decimal-requires
 decimal-requires c κs = search needs
 
 returns-2 : tie.Need-returns-2
-returns-2 c = stores-seconds (c .before .before .args .percent) (c .before .before .args .negative) (c .before .before .args .n) _ (c .before .if1 .left) (c .decimal .ensures)
+returns-2 c =
+    let args = c .before .before .args in
+    stores-seconds (args .percent) (args .negative) (args .n) _ (c .before .if1 .left) (c .decimal .ensures)
 
 pub time-of-spec : {M : Type 1} → statement M
 time-of-spec = tie.close (tie.spec percent-requires returns decimal-requires returns-2)

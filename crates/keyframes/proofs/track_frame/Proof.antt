@@ -16,28 +16,75 @@ enum-known-end : tie.Need-enum-known-end
 enum-known-end c = search needs
 
 separator-requires : tie.Need-separator-requires
-separator-requires c κs = (rw (c .before .end .given .1) at (c .before .before .before .before .before .keyframe-entry .ensures)) .took .ready
+separator-requires c κs =
+    let at-end = c .before in
+    let at-keyframe-entry = at-end .before .before .before .before in
+    (rw (at-end .end .given .1) at (at-keyframe-entry .keyframe-entry .ensures)) .took .ready
 
 add-t17 : tie.Need-add-t17
-add-t17 c = omega (arith, c .before .before .before .before .before .before .before .before .before .before .before .before .before .pre .few, c .before .before .before .before .before .before .before .before .before .before .before .before .before .pre .inner .low)
+add-t17 c =
+    let c4 = c .before .before .before .before in
+    let c8 = c4 .before .before .before .before in
+    let c12 = c8 .before .before .before .before in
+    let pre = c12 .before .pre in
+    omega (arith, pre .few, pre .inner .low)
 
 same-length : tie.Need-same-length
 same-length c = search needs
 
 returns : tie.Need-returns
-returns c = frame-step (c .before .before .before .before .before .before .before .before .before .before .before .before .before .before .args .text .now) (c .before .before .before .before .before .before .before .before .before .before .before .before .before .before .args .t) (c .before .before .before .before .before .before .before .before .before .before .before .before .before .before .args .sheet .now) _ _ _ _ (rw (c .before .before .before .before .before .end .given .1) at (c .before .before .before .before .before .before .before .before .before .keyframe-entry .ensures)) _ (c .before .before .before .separator .ensures) 1 (omega arith) true (c .if1 .taken)
+returns c =
+    let at-separator = c .before .before .before in
+    let at-end = at-separator .before .before in
+    let at-keyframe-entry = at-end .before .before .before .before in
+    let c13 = at-keyframe-entry .before .before .before .before in
+    let args = c13 .before .args in
+    frame-step
+    (args .text .now)
+    (args .t)
+    (args .sheet .now)
+    _ _ _ _
+    (rw (at-end .end .given .1) at (at-keyframe-entry .keyframe-entry .ensures))
+    _
+    (at-separator .separator .ensures)
+    1
+    (omega arith)
+    true
+    (c .if1 .taken)
 
 same-length-2 : tie.Need-same-length-2
 same-length-2 c = search needs
 
 returns-2 : tie.Need-returns-2
-returns-2 c = frame-refused (c .before .before .before .before .before .before .before .before .before .before .args .text .now) (c .before .before .before .before .before .before .before .before .before .before .args .t) _ _ (rw (c .before .r .given .1) at (c .before .before .before .before .before .keyframe-entry .ensures))
+returns-2 c =
+    let at-r = c .before in
+    let at-keyframe-entry = at-r .before .before .before .before in
+    let c9 = at-keyframe-entry .before .before .before .before in
+    let args = c9 .before .args in
+    frame-refused (args .text .now) (args .t) _ _ (rw (at-r .r .given .1) at (at-keyframe-entry .keyframe-entry .ensures))
 
 same-length-3 : tie.Need-same-length-3
 same-length-3 c = search needs
 
 returns-3 : tie.Need-returns-3
-returns-3 c = frame-step (c .before .before .before .before .before .before .before .before .before .before .before .before .before .before .args .text .now) (c .before .before .before .before .before .before .before .before .before .before .before .before .before .before .args .t) (c .before .before .before .before .before .before .before .before .before .before .before .before .before .before .args .sheet .now) _ _ _ _ (rw (c .before .before .before .before .before .end .given .1) at (c .before .before .before .before .before .before .before .before .before .keyframe-entry .ensures)) _ (c .before .before .before .separator .ensures) 0 (omega arith) false (c .if1 .left)
+returns-3 c =
+    let at-separator = c .before .before .before in
+    let at-end = at-separator .before .before in
+    let at-keyframe-entry = at-end .before .before .before .before in
+    let c13 = at-keyframe-entry .before .before .before .before in
+    let args = c13 .before .args in
+    frame-step
+    (args .text .now)
+    (args .t)
+    (args .sheet .now)
+    _ _ _ _
+    (rw (at-end .end .given .1) at (at-keyframe-entry .keyframe-entry .ensures))
+    _
+    (at-separator .separator .ensures)
+    0
+    (omega arith)
+    false
+    (c .if1 .left)
 
 pub track-frame-spec : {M : Type 1} → statement M
 track-frame-spec =

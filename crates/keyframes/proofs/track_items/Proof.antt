@@ -16,37 +16,105 @@ abbrev μ-loop : tie.MeasureT-loop
 μ-loop text sheet₀ out t₀ sheet t = length text - t .next .at
 
 loop-holds : tie.Need-loop-holds Inv-loop μ-loop
-loop-holds c = tracked-start (c .before .before .args .text .now) (c .before .before .args .sheet .now) (c .before .before .args .c) (c .before .before .args .out) (c .before .before .pre .0)
+loop-holds c =
+    let start = c .before .before in
+    let args = start .args in
+    tracked-start (args .text .now) (args .sheet .now) (args .c) (args .out) (start .pre .0)
 
 track-step-requires : tie.Need-track-step-requires Inv-loop μ-loop
-track-step-requires c κs = tracked-standing (c .before .before .before .before .args .text .now) (c .before .before .before .before .args .sheet .now) (c .before .loop .sheet) (c .before .before .before .before .args .c) (c .before .before .before .before .args .out) (c .before .loop .t) (c .before .loop .inv) (c .before .before .before .before .pre .1)
+track-step-requires c κs =
+    let start = c .before .before .before .before in
+    let args = start .args in
+    tracked-standing
+    (args .text .now)
+    (args .sheet .now)
+    (c .before .loop .sheet)
+    (args .c)
+    (args .out)
+    (c .before .loop .t)
+    (c .before .loop .inv)
+    (start .pre .1)
 
 enum-known-r : tie.Need-enum-known-r Inv-loop μ-loop
 enum-known-r c = search needs
 
 same-length : tie.Need-same-length Inv-loop μ-loop
-same-length c = c .before .before .before .before .before .track-step .kept .1 .0 ∙ writes-keeps (c .before .before .before .before .before .before .before .loop .inv .writes)
+same-length c =
+    let c4 = c .before .before .before .before in
+    let at-track-step = c4 .before in
+    let at-loop = at-track-step .before .before in
+    at-track-step .track-step .kept .1 .0 ∙ writes-keeps (at-loop .loop .inv .writes)
 
 returns : tie.Need-returns Inv-loop μ-loop
-returns c = tracked-refused (c .before .before .before .before .before .before .before .before .before .before .args .text .now) (c .before .before .before .before .before .before .before .before .before .before .args .sheet .now) (c .before .before .before .before .before .before .before .loop .sheet) (c .before .before .before .before .before .before .before .before .before .before .args .c) (c .before .before .before .before .before .before .before .before .before .before .args .out) (c .before .before .before .before .before .before .before .loop .t) (c .before .before .before .before .before .before .before .loop .inv) _ _ (rw (c .before .r .given .1) at (c .before .before .before .before .before .track-step .ensures))
+returns c =
+    let at-r = c .before in
+    let at-track-step = at-r .before .before .before .before in
+    let at-loop = at-track-step .before .before in
+    let args = at-loop .before .before .before .args in
+    tracked-refused
+    (args .text .now)
+    (args .sheet .now)
+    (at-loop .loop .sheet)
+    (args .c)
+    (args .out)
+    (at-loop .loop .t)
+    (at-loop .loop .inv)
+    _ _
+    (rw (at-r .r .given .1) at (at-track-step .track-step .ensures))
 
 enum-known-u : tie.Need-enum-known-u Inv-loop μ-loop
 enum-known-u c = search needs
 
 same-length-2 : tie.Need-same-length-2 Inv-loop μ-loop
-same-length-2 c = c .before .before .before .before .before .track-step .kept .1 .0 ∙ writes-keeps (c .before .before .before .before .before .before .before .loop .inv .writes)
+same-length-2 c =
+    let c4 = c .before .before .before .before in
+    let at-track-step = c4 .before in
+    let at-loop = at-track-step .before .before in
+    at-track-step .track-step .kept .1 .0 ∙ writes-keeps (at-loop .loop .inv .writes)
 
 returns-2 : tie.Need-returns-2 Inv-loop μ-loop
-returns-2 c = tracked-last (c .before .before .before .before .before .before .before .before .before .before .args .text .now) (c .before .before .before .before .before .before .before .before .before .before .args .sheet .now) (c .before .before .before .before .before .before .before .loop .sheet) (c .before .before .before .before .before .before .before .before .before .before .args .c) (c .before .before .before .before .before .before .before .before .before .before .args .out) (c .before .before .before .before .before .before .before .loop .t) (c .before .before .before .before .before .before .before .loop .inv) _ _ (rw (c .before .u .given .1) at (c .before .before .before .before .before .track-step .ensures))
+returns-2 c =
+    let at-u = c .before in
+    let at-track-step = at-u .before .before .before .before in
+    let at-loop = at-track-step .before .before in
+    let args = at-loop .before .before .before .args in
+    tracked-last
+    (args .text .now)
+    (args .sheet .now)
+    (at-loop .loop .sheet)
+    (args .c)
+    (args .out)
+    (at-loop .loop .t)
+    (at-loop .loop .inv)
+    _ _
+    (rw (at-u .u .given .1) at (at-track-step .track-step .ensures))
 
 enum-known-u-2 : tie.Need-enum-known-u-2 Inv-loop μ-loop
 enum-known-u-2 c = search needs
 
 loop-less : tie.Need-loop-less Inv-loop μ-loop
-loop-less c = let z = rw (c .before .u2 .given .1) at (c .before .before .before .before .before .track-step .ensures) in omega (arith, z .low, z .ready .high)
+loop-less c =
+    let at-u2 = c .before in
+    let at-track-step = at-u2 .before .before .before .before in
+    let z = rw (at-u2 .u2 .given .1) at (at-track-step .track-step .ensures) in
+    omega (arith, z .low, z .ready .high)
 
 loop-again : tie.Need-loop-again Inv-loop μ-loop
-loop-again c = tracked-more (c .before .before .before .before .before .before .before .before .before .before .args .text .now) (c .before .before .before .before .before .before .before .before .before .before .args .sheet .now) (c .before .before .before .before .before .before .before .loop .sheet) (c .before .before .before .before .before .before .before .before .before .before .args .c) (c .before .before .before .before .before .before .before .before .before .before .args .out) (c .before .before .before .before .before .before .before .loop .t) (c .before .before .before .before .before .before .before .loop .inv) _ _ (rw (c .before .u2 .given .1) at (c .before .before .before .before .before .track-step .ensures))
+loop-again c =
+    let at-u2 = c .before in
+    let at-track-step = at-u2 .before .before .before .before in
+    let at-loop = at-track-step .before .before in
+    let args = at-loop .before .before .before .args in
+    tracked-more
+    (args .text .now)
+    (args .sheet .now)
+    (at-loop .loop .sheet)
+    (args .c)
+    (args .out)
+    (at-loop .loop .t)
+    (at-loop .loop .inv)
+    _ _
+    (rw (at-u2 .u2 .given .1) at (at-track-step .track-step .ensures))
 
 pub track-items-spec : {M : Type 1} → statement M
 track-items-spec =

@@ -30,13 +30,42 @@ eat-requires : tie.Need-eat-requires
 eat-requires c κs = ((rw (c .before .mode .given .1) at (c .before .before .before .parse-loop-mode .ensures)) .ready, omega arith)
 
 returns : tie.Need-returns
-returns c b = loop-no-colon (c .before .before .before .before .before .before .before .args .text .now) b (c .before .before .before .before .before .before .before .args .t) _ (c .before .before .before .before .advance .ensures) _ (rw (c .before .p .given .1) at (c .before .before .before .mark .ensures))
+returns c b =
+    let at-mark = c .before .before .before in
+    let at-advance = at-mark .before in
+    let args = at-advance .before .before .before .args in
+    loop-no-colon (args .text .now) b (args .t) _ (at-advance .advance .ensures) _ (rw (c .before .p .given .1) at (at-mark .mark .ensures))
 
 returns-2 : tie.Need-returns-2
-returns-2 c b = loop-refused (c .before .before .before .before .before .before .before .before .before .before .before .args .text .now) b (c .before .before .before .before .before .before .before .before .before .before .before .args .t) _ (c .before .before .before .before .before .before .before .before .advance .ensures) _ (rw (c .before .before .before .before .before .m .given .1) at (c .before .before .before .before .before .before .before .mark .ensures)) _ _ (rw (c .before .r .given .1) at (c .before .before .before .parse-loop-mode .ensures))
+returns-2 c b =
+    let at-parse-loop-mode = c .before .before .before in
+    let at-m = at-parse-loop-mode .before .before in
+    let at-mark = at-m .before .before in
+    let at-advance = at-mark .before in
+    let args = at-advance .before .before .before .args in
+    loop-refused (args .text .now) b (args .t) _ (at-advance .advance .ensures) _ (rw (at-m .m .given .1) at (at-mark .mark .ensures)) _ _
+    (rw (c .before .r .given .1) at (at-parse-loop-mode .parse-loop-mode .ensures))
 
 returns-3 : tie.Need-returns-3
-returns-3 c b = loop-step (c .before .before .before .before .before .before .before .before .before .before .before .before .before .args .text .now) b (c .before .before .before .before .before .before .before .before .before .before .before .before .before .args .t) _ (c .before .before .before .before .before .before .before .before .before .before .advance .ensures) _ (rw (c .before .before .before .before .before .before .before .m .given .1) at (c .before .before .before .before .before .before .before .before .before .mark .ensures)) (c .before .before .before .before .before .before .before .before .before .before .before .before .before .pre) _ _ _ _ (rw (c .before .before .before .mode .given .1) at (c .before .before .before .before .before .parse-loop-mode .ensures)) (c .before .eat .ensures)
+returns-3 c b =
+    let at-mode = c .before .before .before in
+    let at-parse-loop-mode = at-mode .before .before in
+    let at-m = at-parse-loop-mode .before .before in
+    let at-mark = at-m .before .before in
+    let at-advance = at-mark .before in
+    let start = at-advance .before .before .before in
+    loop-step
+    (start .args .text .now)
+    b
+    (start .args .t)
+    _
+    (at-advance .advance .ensures)
+    _
+    (rw (at-m .m .given .1) at (at-mark .mark .ensures))
+    (start .pre)
+    _ _ _ _
+    (rw (at-mode .mode .given .1) at (at-parse-loop-mode .parse-loop-mode .ensures))
+    (c .before .eat .ensures)
 
 pub track-loop-spec : {M : Type 1} → statement M
 track-loop-spec =

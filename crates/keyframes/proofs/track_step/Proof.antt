@@ -9,7 +9,12 @@ ends-requires : tie.Need-ends-requires
 ends-requires c κs = search needs
 
 returns : tie.Need-returns
-returns c = step-end (c .before .before .before .before .before .args .text .now) (c .before .before .before .before .before .args .sheet .now) (c .before .before .before .before .before .args .t) (c .before .before .before .before .before .pre .ready) (sym (c .before .ends .ensures (c .before .before .before .before .before .args .text .now) (c .before .before .before .before .before .pre .ready)) ∙ c .if1 .taken)
+returns c =
+    let at-ends = c .before in
+    let start = at-ends .before .before .before .before in
+    let args = start .args in
+    step-end (args .text .now) (args .sheet .now) (args .t) (start .pre .ready)
+    (sym (at-ends .ends .ensures (args .text .now) (start .pre .ready)) ∙ c .if1 .taken)
 
 slice-aggregate-sees-word : tie.Need-slice-aggregate-sees-word
 slice-aggregate-sees-word c = search needs
@@ -21,7 +26,21 @@ track-loop-requires : tie.Need-track-loop-requires
 track-loop-requires c κs = search needs
 
 returns-2 : tie.Need-returns-2
-returns-2 c = step-loop (c .before .before .before .before .before .before .before .before .before .args .text .now) (c .before .before .before .before .before .before .before .before .before .args .sheet .now) (c .before .before .before .before .before .before .before .before .before .args .sheet .now) (c .before .before .before .before .before .before .before .before .before .args .t) (sym (c .before .before .before .before .before .ends .ensures (c .before .before .before .before .before .before .before .before .before .args .text .now) (c .before .before .before .before .before .before .before .before .before .pre .ready)) ∙ c .before .before .before .before .if1 .left) (c .track-loop .result) (sym (c .before .before .sees-word .ensures (c .before .before .before .before .before .before .before .before .before .pre .ready)) ∙ c .before .if2 .taken) (c .track-loop .ensures (c .before .before .before .before .before .before .before .before .before .args .sheet .now))
+returns-2 c =
+    let at-sees-word = c .before .before in
+    let at-if1 = at-sees-word .before .before in
+    let at-ends = at-if1 .before in
+    let start = at-ends .before .before .before .before in
+    let args = start .args in
+    step-loop
+    (args .text .now)
+    (args .sheet .now)
+    (args .sheet .now)
+    (args .t)
+    (sym (at-ends .ends .ensures (args .text .now) (start .pre .ready)) ∙ at-if1 .if1 .left)
+    (c .track-loop .result)
+    (sym (at-sees-word .sees-word .ensures (start .pre .ready)) ∙ c .before .if2 .taken)
+    (c .track-loop .ensures (args .sheet .now))
 
 track-frame-requires : tie.Need-track-frame-requires
 track-frame-requires c κs = search needs
@@ -30,7 +49,23 @@ same-length : tie.Need-same-length
 same-length c = search needs
 
 returns-3 : tie.Need-returns-3
-returns-3 c = step-frame (c .before .before .before .before .before .before .before .before .before .before .before .before .args .text .now) (c .before .before .before .before .before .before .before .before .before .before .before .before .args .sheet .now) (c .before .before .track-frame .last .1 .0) (c .before .before .before .before .before .before .before .before .before .before .before .before .args .t) (sym (c .before .before .before .before .before .before .before .before .ends .ensures (c .before .before .before .before .before .before .before .before .before .before .before .before .args .text .now) (c .before .before .before .before .before .before .before .before .before .before .before .before .pre .ready)) ∙ c .before .before .before .before .before .before .before .if1 .left) (c .before .before .track-frame .result) (sym (c .before .before .before .before .before .sees-word .ensures (c .before .before .before .before .before .before .before .before .before .before .before .before .pre .ready)) ∙ c .before .before .before .before .if2 .left) (c .before .before .track-frame .ensures)
+returns-3 c =
+    let at-track-frame = c .before .before in
+    let at-if2 = at-track-frame .before .before in
+    let at-sees-word = at-if2 .before in
+    let at-if1 = at-sees-word .before .before in
+    let at-ends = at-if1 .before in
+    let start = at-ends .before .before .before .before in
+    let args = start .args in
+    step-frame
+    (args .text .now)
+    (args .sheet .now)
+    (at-track-frame .track-frame .last .1 .0)
+    (args .t)
+    (sym (at-ends .ends .ensures (args .text .now) (start .pre .ready)) ∙ at-if1 .if1 .left)
+    (at-track-frame .track-frame .result)
+    (sym (at-sees-word .sees-word .ensures (start .pre .ready)) ∙ at-if2 .if2 .left)
+    (at-track-frame .track-frame .ensures)
 
 pub track-step-spec : {M : Type 1} → statement M
 track-step-spec =

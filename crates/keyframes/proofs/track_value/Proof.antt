@@ -21,22 +21,54 @@ patch-count-requires : tie.Need-patch-count-requires
 patch-count-requires c κs = search needs
 
 put-opt-loop-requires : tie.Need-put-opt-loop-requires
-put-opt-loop-requires c κs = let w = rw (c .before .before .before .before .before .before .before .t .given .1) at (c .before .before .before .before .before .before .before .before .before .before .before .track-items .ensures) in omega (arith, w .paid, w .took .ready .high, c .before .before .before .before .before .before .before .before .before .before .before .before .before .before .before .pre .1 .low, c .before .before .before .before .before .before .before .before .before .before .before .before .before .before .before .pre .1 .short)
+put-opt-loop-requires c κs =
+    let c4 = c .before .before .before .before in
+    let at-t = c4 .before .before .before in
+    let at-track-items = at-t .before .before .before .before in
+    let pre = at-track-items .before .before .before .before .pre in
+    let w = rw (at-t .t .given .1) at (at-track-items .track-items .ensures) in
+    omega (arith, w .paid, w .took .ready .high, pre .1 .low, pre .1 .short)
 
 leave-group-requires : tie.Need-leave-group-requires
-leave-group-requires c κs = (rw (c .before .before .before .before .before .before .before .before .before .before .t .given .1) at (c .before .before .before .before .before .before .before .before .before .before .before .before .before .before .track-items .ensures)) .took .ready
+leave-group-requires c κs =
+    let c4 = c .before .before .before .before in
+    let c8 = c4 .before .before .before .before in
+    let at-t = c8 .before .before in
+    let at-track-items = at-t .before .before .before .before in
+    (rw (at-t .t .given .1) at (at-track-items .track-items .ensures)) .took .ready
 
 same-length : tie.Need-same-length
 same-length c = search needs
 
 returns : tie.Need-returns
-returns c = block-refused (c .before .before .before .before .before .before .before .before .before .args .text .now) (c .before .before .before .before .before .before .before .before .before .args .c) _ _ (rw (c .before .r .given .1) at (c .before .before .before .before .before .track-items .ensures))
+returns c =
+    let at-r = c .before in
+    let at-track-items = at-r .before .before .before .before in
+    let args = at-track-items .before .before .before .before .args in
+    block-refused (args .text .now) (args .c) _ _ (rw (at-r .r .given .1) at (at-track-items .track-items .ensures))
 
 same-length-2 : tie.Need-same-length-2
 same-length-2 c = search needs
 
 returns-2 : tie.Need-returns-2
-returns-2 c = block-went (c .before .before .before .before .before .before .before .before .before .before .before .before .before .before .before .before .before .before .before .args .text .now) (c .before .before .before .before .before .before .before .before .before .before .before .before .before .before .before .before .before .before .before .args .sheet .now) _ _ _ (c .before .before .before .before .before .before .before .before .before .before .before .before .before .before .before .before .before .before .before .args .c) _ (c .before .before .before .before .before .before .before .before .before .before .before .before .before .before .before .before .before .before .before .args .out) _ _ _ (rw (c .before .before .before .before .before .before .before .before .before .before .before .t .given .1) at (c .before .before .before .before .before .before .before .before .before .before .before .before .before .before .before .track-items .ensures)) (c .before .before .before .before .before .before .before .patch-count .ensures) (c .before .before .before .put-opt-loop .ensures) (c .leave-group .ensures)
+returns-2 c =
+    let at-put-opt-loop = c .before .before .before in
+    let at-patch-count = at-put-opt-loop .before .before .before .before in
+    let at-t = at-patch-count .before .before .before .before in
+    let at-track-items = at-t .before .before .before .before in
+    let args = at-track-items .before .before .before .before .args in
+    block-went
+    (args .text .now)
+    (args .sheet .now)
+    _ _ _
+    (args .c)
+    _
+    (args .out)
+    _ _ _
+    (rw (at-t .t .given .1) at (at-track-items .track-items .ensures))
+    (at-patch-count .patch-count .ensures)
+    (at-put-opt-loop .put-opt-loop .ensures)
+    (c .leave-group .ensures)
 
 pub track-value-spec : {M : Type 1} → statement M
 track-value-spec =

@@ -15,7 +15,9 @@ enum-known-from : tie.Need-enum-known-from
 enum-known-from c = search needs
 
 both-requires : tie.Need-both-requires
-both-requires c κs = (((rw (c .before .from .given .1) at (c .before .before .before .string .ensures)) .0) .ready, omega arith, omega arith)
+both-requires c κs =
+    let at-string = c .before .before .before in
+    (((rw (c .before .from .given .1) at (at-string .string .ensures)) .0) .ready, omega arith, omega arith)
 
 enum-known-p-2 : tie.Need-enum-known-p-2
 enum-known-p-2 c = search needs
@@ -33,22 +35,74 @@ enum-known-to : tie.Need-enum-known-to
 enum-known-to c = search needs
 
 color-end-requires : tie.Need-color-end-requires
-color-end-requires c κs = ((rw (c .before .before .to .given .1) at (c .before .before .before .before .string2 .ensures)) .0 .ready, c .before .before .before .before .before .before .before .before .before .before .before .before .before .before .before .pre .1)
+color-end-requires c κs =
+    let at-to = c .before .before in
+    let at-string2 = at-to .before .before in
+    let c8 = at-string2 .before .before .before .before in
+    let c12 = c8 .before .before .before .before in
+    let start = c12 .before .before .before in
+    ((rw (at-to .to .given .1) at (at-string2 .string2 .ensures)) .0 .ready, start .pre .1)
 
 returns : tie.Need-returns
-returns c = no-color (c .before .before .before .before .before .before .args .text .now) (c .before .before .before .before .before .before .args .c) (c .before .before .before .before .before .before .args .target) _ (rw (c .before .p .given .1) at (c .before .before .before .string .ensures))
+returns c =
+    let at-string = c .before .before .before in
+    let args = at-string .before .before .before .args in
+    no-color (args .text .now) (args .c) (args .target) _ (rw (c .before .p .given .1) at (at-string .string .ensures))
 
 returns-2 : tie.Need-returns-2
-returns-2 c = no-color-arrow (c .before .before .before .before .before .before .before .before .before .before .args .text .now) (c .before .before .before .before .before .before .before .before .before .before .args .c) _ _ ((rw (c .before .before .before .before .before .from .given .1) at (c .before .before .before .before .before .before .before .string .ensures)) .0) (c .before .before .before .before .before .before .before .before .before .before .args .target) _ (rw (c .before .p2 .given .1) at (c .before .before .before .both .ensures))
+returns-2 c =
+    let at-both = c .before .before .before in
+    let at-from = at-both .before .before in
+    let at-string = at-from .before .before in
+    let args = at-string .before .before .before .args in
+    no-color-arrow (args .text .now) (args .c) _ _ ((rw (at-from .from .given .1) at (at-string .string .ensures)) .0) (args .target) _
+    (rw (c .before .p2 .given .1) at (at-both .both .ensures))
 
 returns-3 : tie.Need-returns-3
-returns-3 c = no-color-to (c .before .before .before .before .before .before .before .before .before .before .before .before .before .before .args .text .now) (c .before .before .before .before .before .before .before .before .before .before .before .before .before .before .args .c) _ _ ((rw (c .before .before .before .before .before .before .before .before .before .from .given .1) at (c .before .before .before .before .before .before .before .before .before .before .before .string .ensures)) .0) _ (rw (c .before .before .before .before .before .n .given .1) at (c .before .before .before .before .before .before .before .both .ensures)) (c .before .before .before .before .before .before .before .before .before .before .before .before .before .before .args .target) _ (rw (c .before .p3 .given .1) at (c .before .before .before .string2 .ensures))
+returns-3 c =
+    let at-string2 = c .before .before .before in
+    let at-n = at-string2 .before .before in
+    let at-both = at-n .before .before in
+    let at-from = at-both .before .before in
+    let at-string = at-from .before .before in
+    let args = at-string .before .before .before .args in
+    no-color-to
+    (args .text .now)
+    (args .c)
+    _ _
+    ((rw (at-from .from .given .1) at (at-string .string .ensures)) .0)
+    _
+    (rw (at-n .n .given .1) at (at-both .both .ensures))
+    (args .target)
+    _
+    (rw (c .before .p3 .given .1) at (at-string2 .string2 .ensures))
 
 same-length : tie.Need-same-length
 same-length c = search needs
 
 returns-4 : tie.Need-returns-4
-returns-4 c = strings-end (c .before .before .before .before .before .before .before .before .before .before .before .before .before .before .before .before .before .before .args .text .now) (c .before .before .before .before .before .before .before .before .before .before .before .before .before .before .before .before .before .before .args .c) _ _ ((rw (c .before .before .before .before .before .before .before .before .before .before .before .before .before .from .given .1) at (c .before .before .before .before .before .before .before .before .before .before .before .before .before .before .before .string .ensures)) .0) _ (rw (c .before .before .before .before .before .before .before .before .before .n .given .1) at (c .before .before .before .before .before .before .before .before .before .before .before .both .ensures)) _ _ ((rw (c .before .before .before .before .before .to .given .1) at (c .before .before .before .before .before .before .before .string2 .ensures)) .0) _ _ _ (c .before .before .color-end .result) (c .before .before .before .before .before .before .before .before .before .before .before .before .before .before .before .before .before .before .args .target) (c .before .before .color-end .ensures)
+returns-4 c =
+    let at-color-end = c .before .before in
+    let at-to = at-color-end .before .before .before in
+    let at-string2 = at-to .before .before in
+    let at-n = at-string2 .before .before in
+    let at-both = at-n .before .before in
+    let at-from = at-both .before .before in
+    let at-string = at-from .before .before in
+    let args = at-string .before .before .before .args in
+    strings-end
+    (args .text .now)
+    (args .c)
+    _ _
+    ((rw (at-from .from .given .1) at (at-string .string .ensures)) .0)
+    _
+    (rw (at-n .n .given .1) at (at-both .both .ensures))
+    _ _
+    ((rw (at-to .to .given .1) at (at-string2 .string2 .ensures)) .0)
+    _ _ _
+    (at-color-end .color-end .result)
+    (args .target)
+    (at-color-end .color-end .ensures)
 
 pub color-strings-spec : {M : Type 1} → statement M
 color-strings-spec =

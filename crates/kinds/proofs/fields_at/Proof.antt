@@ -16,7 +16,12 @@ field-list-requires : tie.Need-field-list-requires
 field-list-requires c κs = search needs
 
 returns : tie.Need-returns
-returns c = λ t l. c .field-list .ensures t l [] (c .before .before .before .before .before .before .args .c .at) (omega arith) (rw (c .before .before .no-slots .ensures, c .before .no-others .ensures) (none-held (c .before .before .before .before .before .before .args .text .now) (c .before .before .before .before .before .before .args .c .at) (c .before .before .before .before .before .before .args .c .at) (c .before .before .before .before .before .before .args .rows .now) (c .before .before .before .before .before .before .args .sorts .now) t l))
+returns c =
+    let at-no-slots = c .before .before in
+    let args = at-no-slots .before .before .before .before .args in
+    λ t l. c .field-list .ensures t l [] (args .c .at) (omega arith)
+    (rw (at-no-slots .no-slots .ensures, c .before .no-others .ensures)
+    (none-held (args .text .now) (args .c .at) (args .c .at) (args .rows .now) (args .sorts .now) t l))
 
 pub fields-at-spec : {M : Type 1} → statement M
 fields-at-spec =

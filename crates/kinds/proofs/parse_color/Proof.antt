@@ -24,19 +24,51 @@ enum-known-n : tie.Need-enum-known-n
 enum-known-n c = search needs
 
 color-strings-requires : tie.Need-color-strings-requires
-color-strings-requires c κs = ((rw (c .before .before .n .given .1) at (c .before .before .before .before .mark .ensures)) .ready, c .before .before .before .before .before .before .before .before .before .before .before .pre .1)
+color-strings-requires c κs =
+    let at-n = c .before .before in
+    let at-mark = at-n .before .before in
+    let c8 = at-mark .before .before .before .before in
+    let start = c8 .before .before .before in
+    ((rw (at-n .n .given .1) at (at-mark .mark .ensures)) .ready, start .pre .1)
 
 returns : tie.Need-returns
-returns c = color-no-target (c .before .before .before .before .before .before .args .text .now) (c .before .before .before .before .before .before .args .c) _ (rw (c .before .p .given .1) at (c .before .before .before .word .ensures))
+returns c =
+    let at-word = c .before .before .before in
+    let args = at-word .before .before .before .args in
+    color-no-target (args .text .now) (args .c) _ (rw (c .before .p .given .1) at (at-word .word .ensures))
 
 returns-2 : tie.Need-returns-2
-returns-2 c = color-no-colon (c .before .before .before .before .before .before .before .before .before .before .args .text .now) (c .before .before .before .before .before .before .before .before .before .before .args .c) _ (c .before .before .before .before .before .target .given .0 .0) ((rw (c .before .before .before .before .before .target .given .1) at (c .before .before .before .before .before .before .before .word .ensures)) .0) _ (rw (c .before .p2 .given .1) at (c .before .before .before .mark .ensures))
+returns-2 c =
+    let at-mark = c .before .before .before in
+    let at-target = at-mark .before .before in
+    let at-word = at-target .before .before in
+    let args = at-word .before .before .before .args in
+    color-no-colon (args .text .now) (args .c) _ (at-target .target .given .0 .0)
+    ((rw (at-target .target .given .1) at (at-word .word .ensures)) .0) _ (rw (c .before .p2 .given .1) at (at-mark .mark .ensures))
 
 same-length : tie.Need-same-length
 same-length c = search needs
 
 returns-3 : tie.Need-returns-3
-returns-3 c = let w = rw (c .before .before .before .before .before .before .before .before .before .target .given .1) at (c .before .before .before .before .before .before .before .before .before .before .before .word .ensures) in color-node (c .before .before .before .before .before .before .before .before .before .before .before .before .before .before .args .text .now) (c .before .before .before .before .before .before .before .before .before .before .before .before .before .before .args .c) _ _ (w .0) (w .1) _ (rw (c .before .before .before .before .before .n .given .1) at (c .before .before .before .before .before .before .before .mark .ensures)) _ _ _ (c .before .before .color-strings .result) (c .before .before .color-strings .ensures)
+returns-3 c =
+    let at-color-strings = c .before .before in
+    let at-n = at-color-strings .before .before .before in
+    let at-mark = at-n .before .before in
+    let at-target = at-mark .before .before in
+    let at-word = at-target .before .before in
+    let args = at-word .before .before .before .args in
+    let w = rw (at-target .target .given .1) at (at-word .word .ensures) in
+    color-node
+    (args .text .now)
+    (args .c)
+    _ _
+    (w .0)
+    (w .1)
+    _
+    (rw (at-n .n .given .1) at (at-mark .mark .ensures))
+    _ _ _
+    (at-color-strings .color-strings .result)
+    (at-color-strings .color-strings .ensures)
 
 pub parse-color-spec : {M : Type 1} → statement M
 parse-color-spec =

@@ -14,16 +14,29 @@ enum-known-svg : tie.Need-enum-known-svg
 enum-known-svg c = search needs
 
 draw-end-requires : tie.Need-draw-end-requires
-draw-end-requires c κs = ((rw (c .before .before .svg .given .1) at (c .before .before .before .before .string .ensures)) .0 .ready, c .before .before .before .before .before .before .before .pre .1)
+draw-end-requires c κs =
+    let at-svg = c .before .before in
+    let at-string = at-svg .before .before in
+    let start = at-string .before .before .before in
+    ((rw (at-svg .svg .given .1) at (at-string .string .ensures)) .0 .ready, start .pre .1)
 
 returns : tie.Need-returns
-returns c = no-svg (c .before .before .before .before .before .before .args .text .now) (c .before .before .before .before .before .before .args .c) _ (rw (c .before .p .given .1) at (c .before .before .before .string .ensures))
+returns c =
+    let at-string = c .before .before .before in
+    let args = at-string .before .before .before .args in
+    no-svg (args .text .now) (args .c) _ (rw (c .before .p .given .1) at (at-string .string .ensures))
 
 same-length : tie.Need-same-length
 same-length c = search needs
 
 returns-2 : tie.Need-returns-2
-returns-2 c = draw-node (c .before .before .before .before .before .before .before .before .before .before .args .text .now) (c .before .before .before .before .before .before .before .before .before .before .args .c) _ _ ((rw (c .before .before .before .before .before .svg .given .1) at (c .before .before .before .before .before .before .before .string .ensures)) .0) _ _ _ (c .before .before .draw-end .result) (c .before .before .draw-end .ensures)
+returns-2 c =
+    let at-draw-end = c .before .before in
+    let at-svg = at-draw-end .before .before .before in
+    let at-string = at-svg .before .before in
+    let args = at-string .before .before .before .args in
+    draw-node (args .text .now) (args .c) _ _ ((rw (at-svg .svg .given .1) at (at-string .string .ensures)) .0) _ _ _
+    (at-draw-end .draw-end .result) (at-draw-end .draw-end .ensures)
 
 pub parse-draw-spec : {M : Type 1} → statement M
 parse-draw-spec =

@@ -36,25 +36,79 @@ enum-known-svg : tie.Need-enum-known-svg
 enum-known-svg c = search needs
 
 path-end-requires : tie.Need-path-end-requires
-path-end-requires c κs = ((rw (c .before .before .svg .given .1) at (c .before .before .before .before .string .ensures)) .0 .ready, c .before .before .before .before .before .before .before .before .before .before .before .before .before .before .before .before .pre .1)
+path-end-requires c κs =
+    let at-svg = c .before .before in
+    let at-string = at-svg .before .before in
+    let c8 = at-string .before .before .before .before in
+    let c12 = c8 .before .before .before .before in
+    let start = c12 .before .before .before .before in
+    ((rw (at-svg .svg .given .1) at (at-string .string .ensures)) .0 .ready, start .pre .1)
 
 returns : tie.Need-returns
-returns c = path-no-target (c .before .before .before .before .before .before .args .text .now) (c .before .before .before .before .before .before .args .c) _ (rw (c .before .p .given .1) at (c .before .before .before .word .ensures))
+returns c =
+    let at-word = c .before .before .before in
+    let args = at-word .before .before .before .args in
+    path-no-target (args .text .now) (args .c) _ (rw (c .before .p .given .1) at (at-word .word .ensures))
 
 returns-2 : tie.Need-returns-2
 unfolding entries
-returns-2 c = path-not-along (c .before .before .before .before .before .before .before .before .before .before .before .args .text .now) (c .before .before .before .before .before .before .before .before .before .before .before .args .c) _ (c .before .before .before .before .before .before .target .given .0 .0) ((rw (c .before .before .before .before .before .before .target .given .1) at (c .before .before .before .before .before .before .before .before .word .ensures)) .0) _ _ (rw (c .before .r .given .1) at (c .before .before .before .choice .ensures))
+returns-2 c =
+    let at-choice = c .before .before .before in
+    let at-target = at-choice .before .before .before in
+    let at-word = at-target .before .before in
+    let args = at-word .before .before .before .args in
+    path-not-along (args .text .now) (args .c) _ (at-target .target .given .0 .0)
+    ((rw (at-target .target .given .1) at (at-word .word .ensures)) .0) _ _ (rw (c .before .r .given .1) at (at-choice .choice .ensures))
 
 returns-3 : tie.Need-returns-3
 unfolding entries
-returns-3 c = let w = rw (c .before .before .before .before .before .before .before .before .before .before .target .given .1) at (c .before .before .before .before .before .before .before .before .before .before .before .before .word .ensures) in path-no-svg (c .before .before .before .before .before .before .before .before .before .before .before .before .before .before .before .args .text .now) (c .before .before .before .before .before .before .before .before .before .before .before .before .before .before .before .args .c) _ _ (w .0) (w .1) _ _ (rw (c .before .before .before .before .before .n .given .1) at (c .before .before .before .before .before .before .before .choice .ensures)) _ (rw (c .before .p2 .given .1) at (c .before .before .before .string .ensures))
+returns-3 c =
+    let at-string = c .before .before .before in
+    let at-n = at-string .before .before in
+    let at-choice = at-n .before .before in
+    let at-target = at-choice .before .before .before in
+    let at-word = at-target .before .before in
+    let args = at-word .before .before .before .args in
+    let w = rw (at-target .target .given .1) at (at-word .word .ensures) in
+    path-no-svg
+    (args .text .now)
+    (args .c)
+    _ _
+    (w .0)
+    (w .1)
+    _ _
+    (rw (at-n .n .given .1) at (at-choice .choice .ensures))
+    _
+    (rw (c .before .p2 .given .1) at (at-string .string .ensures))
 
 same-length : tie.Need-same-length
 same-length c = search needs
 
 returns-4 : tie.Need-returns-4
 unfolding entries
-returns-4 c = let w = rw (c .before .before .before .before .before .before .before .before .before .before .before .before .before .before .target .given .1) at (c .before .before .before .before .before .before .before .before .before .before .before .before .before .before .before .before .word .ensures) in path-node (c .before .before .before .before .before .before .before .before .before .before .before .before .before .before .before .before .before .before .before .args .text .now) (c .before .before .before .before .before .before .before .before .before .before .before .before .before .before .before .before .before .before .before .args .c) _ _ (w .0) (w .1) _ _ (rw (c .before .before .before .before .before .before .before .before .before .n .given .1) at (c .before .before .before .before .before .before .before .before .before .before .before .choice .ensures)) _ _ ((rw (c .before .before .before .before .before .svg .given .1) at (c .before .before .before .before .before .before .before .string .ensures)) .0) _ _ _ (c .before .before .path-end .result) (c .before .before .path-end .ensures)
+returns-4 c =
+    let at-path-end = c .before .before in
+    let at-svg = at-path-end .before .before .before in
+    let at-string = at-svg .before .before in
+    let at-n = at-string .before .before in
+    let at-choice = at-n .before .before in
+    let at-target = at-choice .before .before .before in
+    let at-word = at-target .before .before in
+    let args = at-word .before .before .before .args in
+    let w = rw (at-target .target .given .1) at (at-word .word .ensures) in
+    path-node
+    (args .text .now)
+    (args .c)
+    _ _
+    (w .0)
+    (w .1)
+    _ _
+    (rw (at-n .n .given .1) at (at-choice .choice .ensures))
+    _ _
+    ((rw (at-svg .svg .given .1) at (at-string .string .ensures)) .0)
+    _ _ _
+    (at-path-end .path-end .result)
+    (at-path-end .path-end .ensures)
 
 pub parse-path-spec : {M : Type 1} → statement M
 parse-path-spec =

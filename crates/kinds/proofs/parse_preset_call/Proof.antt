@@ -14,16 +14,38 @@ enum-known-name : tie.Need-enum-known-name
 enum-known-name c = search needs
 
 preset-end-requires : tie.Need-preset-end-requires
-preset-end-requires c κs = ((rw (c .before .before .name .given .1) at (c .before .before .before .before .word .ensures)) .0 .ready, c .before .before .before .before .before .before .before .pre .1)
+preset-end-requires c κs =
+    let at-name = c .before .before in
+    let at-word = at-name .before .before in
+    let start = at-word .before .before .before in
+    ((rw (at-name .name .given .1) at (at-word .word .ensures)) .0 .ready, start .pre .1)
 
 returns : tie.Need-returns
-returns c = no-preset (c .before .before .before .before .before .before .args .text .now) (c .before .before .before .before .before .before .args .c) _ (rw (c .before .p .given .1) at (c .before .before .before .word .ensures))
+returns c =
+    let at-word = c .before .before .before in
+    let args = at-word .before .before .before .args in
+    no-preset (args .text .now) (args .c) _ (rw (c .before .p .given .1) at (at-word .word .ensures))
 
 same-length : tie.Need-same-length
 same-length c = search needs
 
 returns-2 : tie.Need-returns-2
-returns-2 c = let w = rw (c .before .before .before .before .before .name .given .1) at (c .before .before .before .before .before .before .before .word .ensures) in preset-node (c .before .before .before .before .before .before .before .before .before .before .args .text .now) (c .before .before .before .before .before .before .before .before .before .before .args .c) _ (c .before .before .before .before .before .name .given .0 .0) (w .0) (w .1) _ _ _ (c .before .before .preset-end .result) (c .before .before .preset-end .ensures)
+returns-2 c =
+    let at-preset-end = c .before .before in
+    let at-name = at-preset-end .before .before .before in
+    let at-word = at-name .before .before in
+    let args = at-word .before .before .before .args in
+    let w = rw (at-name .name .given .1) at (at-word .word .ensures) in
+    preset-node
+    (args .text .now)
+    (args .c)
+    _
+    (at-name .name .given .0 .0)
+    (w .0)
+    (w .1)
+    _ _ _
+    (at-preset-end .preset-end .result)
+    (at-preset-end .preset-end .ensures)
 
 pub parse-preset-call-spec : {M : Type 1} → statement M
 parse-preset-call-spec =

@@ -23,21 +23,39 @@ enum-known-i c = search needs
 
 cast-waveform-end : tie.Need-cast-waveform-end
 unfolding entries
-cast-waveform-end c = let b = choice-below (c .before .before .before .before .before .before .before .before .args .text .now) (c .before .before .before .before .before .before .before .before .args .c) _ Malformed _ _ (rw (c .before .before .i .given .1) at (c .before .before .before .before .choice .ensures)) in omega arith
+cast-waveform-end c =
+    let at-i = c .before .before in
+    let at-choice = at-i .before .before in
+    let args = at-choice .before .before .before .before .args in
+    let b = choice-below (args .text .now) (args .c) _ Malformed _ _ (rw (at-i .i .given .1) at (at-choice .choice .ensures)) in
+    omega arith
 
 waveform-end-requires : tie.Need-waveform-end-requires
-waveform-end-requires c κs = ((rw (c .before .before .i .given .1) at (c .before .before .before .before .choice .ensures)) .ready, c .before .before .before .before .before .before .before .before .pre .1)
+waveform-end-requires c κs =
+    let at-i = c .before .before in
+    let at-choice = at-i .before .before in
+    let start = at-choice .before .before .before .before in
+    ((rw (at-i .i .given .1) at (at-choice .choice .ensures)) .ready, start .pre .1)
 
 returns : tie.Need-returns
 unfolding entries waveformKind
-returns c = no-waveform (c .before .before .before .before .before .before .before .args .text .now) (c .before .before .before .before .before .before .before .args .c) _ _ (rw (c .before .r .given .1) at (c .before .before .before .choice .ensures))
+returns c =
+    let at-choice = c .before .before .before in
+    let args = at-choice .before .before .before .before .args in
+    no-waveform (args .text .now) (args .c) _ _ (rw (c .before .r .given .1) at (at-choice .choice .ensures))
 
 same-length : tie.Need-same-length
 same-length c = search needs
 
 returns-2 : tie.Need-returns-2
 unfolding entries waveformKind
-returns-2 c = waveform-node (c .before .before .before .before .before .before .before .before .before .before .before .args .text .now) (c .before .before .before .before .before .before .before .before .before .before .before .args .c) _ _ (rw (c .before .before .before .before .before .i .given .1) at (c .before .before .before .before .before .before .before .choice .ensures)) _ _ _ (c .before .before .waveform-end .result) (c .before .before .waveform-end .ensures)
+returns-2 c =
+    let at-waveform-end = c .before .before in
+    let at-i = at-waveform-end .before .before .before in
+    let at-choice = at-i .before .before in
+    let args = at-choice .before .before .before .before .args in
+    waveform-node (args .text .now) (args .c) _ _ (rw (at-i .i .given .1) at (at-choice .choice .ensures)) _ _ _
+    (at-waveform-end .waveform-end .result) (at-waveform-end .waveform-end .ensures)
 
 pub parse-waveform-spec : {M : Type 1} → statement M
 parse-waveform-spec =

@@ -12,7 +12,9 @@ use Rattle.kinds.proofs.preset_end.Statement.{statement}
 use Rattle.kinds.proofs.preset_end.Tie as tie
 
 preset-fields-requires : tie.Need-preset-fields-requires
-preset-fields-requires c κs = (c .before .before .pre .0, c .before .before .pre .1 .short)
+preset-fields-requires c κs =
+    let pre = c .before .before .pre in
+    (pre .0, pre .1 .short)
 
 enum-known-end : tie.Need-enum-known-end
 enum-known-end c = search needs
@@ -25,17 +27,56 @@ float-at-requires c κs = search needs
 
 put-preset-requires : tie.Need-put-preset-requires
 unfolding drawFields sortRank
-put-preset-requires c κs = let h = rw (c .before .before .before .end2 .given .1) at (c .before .before .before .before .before .before .before .preset-fields .ensures) in (c .before .before .before .before .before .before .before .before .before .before .pre .1 .low, (rw (c .before .float-at .ensures) (float-plain "duration" (h .0) (keptAt (c .before .before .before .before .before .before .before .preset-fields .result .slots) 0) (h .2 .slots 0 ("duration", number) refl)), h .2 .beside .plainEasing))
+put-preset-requires c κs =
+    let at-end2 = c .before .before .before in
+    let at-preset-fields = at-end2 .before .before .before .before in
+    let start = at-preset-fields .before .before .before in
+    let h = rw (at-end2 .end2 .given .1) at (at-preset-fields .preset-fields .ensures) in (
+      start .pre .1 .low,
+      (
+        rw (c .before .float-at .ensures)
+            (float-plain "duration" (h .0) (keptAt (at-preset-fields .preset-fields .result .slots) 0)
+            (h .2 .slots 0 ("duration", number) refl)),
+        h .2 .beside .plainEasing,
+      ),
+    )
 
 returns : tie.Need-returns
-returns c = free-refused (c .before .before .before .before .before .before .before .before .args .text .now) (c .before .before .before .before .before .before .before .before .args .c) presetFields (presetLeaf (spanOf (c .before .before .before .before .before .before .before .before .args .name))) _ _ (rw (c .before .end .given .1) at (c .before .before .before .before .before .preset-fields .ensures))
+returns c =
+    let at-end = c .before in
+    let at-preset-fields = at-end .before .before .before .before in
+    let args = at-preset-fields .before .before .before .args in
+    free-refused (args .text .now) (args .c) presetFields (presetLeaf (spanOf (args .name))) _ _
+    (rw (at-end .end .given .1) at (at-preset-fields .preset-fields .ensures))
 
 same-length : tie.Need-same-length
 same-length c = search needs
 
 returns-2 : tie.Need-returns-2
 unfolding drawFields sortRank
-returns-2 c = let h = rw (c .before .before .before .before .before .before .end2 .given .1) at (c .before .before .before .before .before .before .before .before .before .before .preset-fields .ensures) in free-went (c .before .before .before .before .before .before .before .before .before .before .before .before .before .args .text .now) (c .before .before .before .before .before .before .before .before .before .before .before .before .before .args .c) presetFields (presetLeaf (spanOf (c .before .before .before .before .before .before .before .before .before .before .before .before .before .args .name))) _ (h .0) (h .1) _ (rw (c .before .before .before .before .float-at .ensures, float-held "duration" (h .0) (keptAt (c .before .before .before .before .before .before .before .before .before .before .preset-fields .result .slots) 0) (h .2 .slots 0 ("duration", number) refl), h .2 .beside .easing)) _ _ _ _ (c .before .before .put-preset .ensures)
+returns-2 c =
+    let at-put-preset = c .before .before in
+    let at-float-at = at-put-preset .before .before in
+    let at-end2 = at-float-at .before .before in
+    let at-preset-fields = at-end2 .before .before .before .before in
+    let args = at-preset-fields .before .before .before .args in
+    let h = rw (at-end2 .end2 .given .1) at (at-preset-fields .preset-fields .ensures) in
+    free-went
+    (args .text .now)
+    (args .c)
+    presetFields
+    (presetLeaf (spanOf (args .name)))
+    _
+    (h .0)
+    (h .1)
+    _
+    (rw (
+      at-float-at .float-at .ensures,
+      float-held "duration" (h .0) (keptAt (at-preset-fields .preset-fields .result .slots) 0) (h .2 .slots 0 ("duration", number) refl),
+      h .2 .beside .easing,
+    ))
+    _ _ _ _
+    (at-put-preset .put-preset .ensures)
 
 pub preset-end-spec : {M : Type 1} → statement M
 preset-end-spec =

@@ -21,10 +21,20 @@ sees-requires : tie.Need-sees-requires
 sees-requires c κs = search needs
 
 returns : tie.Need-returns
-returns c = let h = (rw (c .before .before .before .read .given .1) at (c .before .before .before .before .before .preset-pairs .ensures)) in rw (c .before .before .before .read .given .1) (no-comma (c .before .before .before .before .before .before .before .args .text .now) (c .before .before .before .before .before .before .before .args .c) _ _ _ h (sym (c .before .sees .ensures (c .before .before .before .before .before .before .before .args .text .now) (h .1 .ready)) ∙ not-true (c .before .sees .result) (c .if1 .taken)))
+returns c =
+    let at-read = c .before .before .before in
+    let at-preset-pairs = at-read .before .before in
+    let args = at-preset-pairs .before .before .args in
+    let h = (rw (at-read .read .given .1) at (at-preset-pairs .preset-pairs .ensures)) in
+    rw (at-read .read .given .1)
+    (no-comma (args .text .now) (args .c) _ _ _ h
+    (sym (c .before .sees .ensures (args .text .now) (h .1 .ready)) ∙ not-true (c .before .sees .result) (c .if1 .taken)))
 
 advance-requires : tie.Need-advance-requires
-advance-requires c κs = (rw (c .before .before .before .read .given .1) at (c .before .before .before .before .before .preset-pairs .ensures)) .1 .ready
+advance-requires c κs =
+    let at-read = c .before .before .before in
+    let at-preset-pairs = at-read .before .before in
+    (rw (at-read .read .given .1) at (at-preset-pairs .preset-pairs .ensures)) .1 .ready
 
 slice-aggregate-field-list : tie.Need-slice-aggregate-field-list
 slice-aggregate-field-list c = search needs
@@ -34,14 +44,45 @@ slice-aggregate-field-list-2 c = search needs
 
 field-list-requires : tie.Need-field-list-requires
 unfolding drawFields
-field-list-requires c κs = (c .before .before .before .before .advance .ensures .ready, c .before .before .before .before .before .before .before .before .before .before .before .before .pre .1, (drawFields, draw-layout))
+field-list-requires c κs =
+    let at-advance = c .before .before .before .before in
+    let c8 = at-advance .before .before .before .before in
+    let start = c8 .before .before .before .before in
+    (at-advance .advance .ensures .ready, start .pre .1, (drawFields, draw-layout))
 
 returns-2 : tie.Need-returns-2
-returns-2 c = rw (c .enum-told .given .1) (all-refused (c .before .before .before .before .args .text .now) (c .before .before .before .before .args .c) _ _ (rw (c .enum-told .given .1) at (c .before .before .preset-pairs .ensures)))
+returns-2 c =
+    let at-preset-pairs = c .before .before in
+    let args = at-preset-pairs .before .before .args in
+    rw (c .enum-told .given .1)
+    (all-refused (args .text .now) (args .c) _ _ (rw (c .enum-told .given .1) at (at-preset-pairs .preset-pairs .ensures)))
 
 returns-3 : tie.Need-returns-3
 unfolding drawFields
-returns-3 c = let h = (rw (c .before .before .before .before .before .before .before .before .before .read .given .1) at (c .before .before .before .before .before .before .before .before .before .before .before .preset-pairs .ensures)) in let z = (sym (c .before .before .before .before .before .before .before .sees .ensures (c .before .before .before .before .before .before .before .before .before .before .before .before .before .args .text .now) (h .1 .ready)) ∙ not-false (c .before .before .before .before .before .before .before .sees .result) (c .before .before .before .before .before .before .if1 .left)) in list-end (c .before .before .before .before .before .before .before .before .before .before .before .before .before .args .text .now) (c .before .before .before .before .before .before .before .before .before .before .before .before .before .args .c) _ _ _ h (c .before .before .before .before .before .advance .result) (c .before .before .before .before .before .advance .ensures) z (c .field-list .result .slots) (c .field-list .result .others) (c .field-list .result .end) (c .field-list .ensures drawFields draw-layout (h .0) (c .before .before .before .before .before .before .before .before .before .before .before .before .before .args .c .at) (comma-low (c .before .before .before .before .before .before .before .before .before .before .before .before .before .args .text .now) (c .before .before .before .before .before .before .before .before .before .before .before .before .before .args .c) _ _ _ h (c .before .before .before .before .before .advance .result) (c .before .before .before .before .before .advance .ensures) z) (held-there (c .before .before .before .before .before .before .before .before .before .before .before .before .before .args .text .now) (c .before .before .before .before .before .before .before .before .before .before .before .before .before .args .c) _ _ _ h (c .before .before .before .before .before .advance .result) (c .before .before .before .before .before .advance .ensures) z))
+returns-3 c =
+    let c4 = c .before .before .before .before in
+    let at-advance = c4 .before in
+    let advance = at-advance .advance in
+    let at-if1 = at-advance .before in
+    let at-sees = at-if1 .before in
+    let at-read = at-sees .before .before in
+    let at-preset-pairs = at-read .before .before in
+    let args = at-preset-pairs .before .before .args in
+    let h = (rw (at-read .read .given .1) at (at-preset-pairs .preset-pairs .ensures)) in
+    let z = (sym (at-sees .sees .ensures (args .text .now) (h .1 .ready)) ∙ not-false (at-sees .sees .result) (at-if1 .if1 .left)) in
+    list-end
+    (args .text .now)
+    (args .c)
+    _ _ _ h
+    (advance .result)
+    (advance .ensures)
+    z
+    (c .field-list .result .slots)
+    (c .field-list .result .others)
+    (c .field-list .result .end)
+    (c .field-list .ensures drawFields draw-layout (h .0) (args .c .at)
+    (comma-low (args .text .now) (args .c) _ _ _ h (advance .result) (advance .ensures) z)
+    (held-there (args .text .now) (args .c) _ _ _ h (advance .result) (advance .ensures) z))
 
 pub preset-fields-spec : {M : Type 1} → statement M
 preset-fields-spec =

@@ -22,7 +22,13 @@ sees-requires : tie.Need-sees-requires
 sees-requires c κs = search needs
 
 returns : tie.Need-returns
-returns c = rw (c .before .before .before .no-slots .ensures, c .before .before .no-others .ensures) (no-pairs (c .before .before .before .before .before .args .text .now) (c .before .before .before .before .before .args .c) (c .before .before .before .before .before .pre .0) (sym (c .before .sees .ensures (c .before .before .before .before .before .args .text .now) (c .before .before .before .before .before .pre .0)) ∙ not-true (c .before .sees .result) (c .if1 .taken)))
+returns c =
+    let at-no-others = c .before .before in
+    let at-no-slots = at-no-others .before in
+    let start = at-no-slots .before .before in
+    rw (at-no-slots .no-slots .ensures, at-no-others .no-others .ensures)
+    (no-pairs (start .args .text .now) (start .args .c) (start .pre .0)
+    (sym (c .before .sees .ensures (start .args .text .now) (start .pre .0)) ∙ not-true (c .before .sees .result) (c .if1 .taken)))
 
 advance-requires : tie.Need-advance-requires
 advance-requires c κs = search needs
@@ -35,7 +41,11 @@ slice-aggregate-pair-list-2 c = search needs
 
 pair-list-requires : tie.Need-pair-list-requires
 unfolding drawFields
-pair-list-requires c κs = (c .before .before .advance .ensures .ready, c .before .before .before .before .before .before .before .before .pre .1, (drawFields, draw-layout))
+pair-list-requires c κs =
+    let at-advance = c .before .before in
+    let c6 = at-advance .before .before .before .before in
+    let start = c6 .before .before in
+    (at-advance .advance .ensures .ready, start .pre .1, (drawFields, draw-layout))
 
 enum-told : tie.Need-enum-told
 enum-told c = search needs
@@ -45,15 +55,69 @@ enum-known-read c = search needs
 
 leave-group-requires : tie.Need-leave-group-requires
 unfolding drawFields
-leave-group-requires c κs = (rw (c .before .before .before .read .given .1) at (c .before .before .before .before .before .pair-list .ensures drawFields draw-layout (c .before .before .before .before .before .before .before .before .before .before .before .before .before .before .args .c .at) (omega (arith, moved-low (c .before .before .before .before .before .before .before .before .before .before .before .before .before .before .args .text .now) (c .before .before .before .before .before .before .before .before .before .before .before .before .before .before .args .c) (c .before .before .before .before .before .before .before .before .advance .result) (c .before .before .before .before .before .before .before .before .before .before .before .before .before .before .pre .0) (c .before .before .before .before .before .before .before .before .advance .ensures))) (rw (c .before .before .before .before .before .before .before .before .before .before .before .before .no-slots .ensures, c .before .before .before .before .before .before .before .before .before .before .before .no-others .ensures) (none-held (c .before .before .before .before .before .before .before .before .before .before .before .before .before .before .args .text .now) (c .before .before .before .before .before .before .before .before .before .before .before .before .before .before .args .c .at) (c .before .before .before .before .before .before .before .before .advance .result .at) (rowsOf drawFields) drawSorts drawFields draw-layout)))) .1 .ready
+leave-group-requires c κs =
+    let at-read = c .before .before .before in
+    let at-pair-list = at-read .before .before in
+    let at-advance = at-pair-list .before .before .before in
+    let at-no-others = at-advance .before .before .before in
+    let at-no-slots = at-no-others .before in
+    let start = at-no-slots .before .before in
+    let args = start .args in
+    (rw (at-read .read .given .1)
+    at (at-pair-list .pair-list .ensures drawFields draw-layout (args .c .at)
+    (omega (arith, moved-low (args .text .now) (args .c) (at-advance .advance .result) (start .pre .0) (at-advance .advance .ensures)))
+    (rw (at-no-slots .no-slots .ensures, at-no-others .no-others .ensures)
+    (none-held (args .text .now) (args .c .at) (at-advance .advance .result .at) (rowsOf drawFields) drawSorts drawFields
+    draw-layout)))) .1 .ready
 
 returns-2 : tie.Need-returns-2
 unfolding drawFields
-returns-2 c = rw (c .enum-told .given .1) (pairs-refused (c .before .before .before .before .before .before .before .before .before .before .before .args .text .now) (c .before .before .before .before .before .before .before .before .before .before .before .args .c) (c .before .before .before .before .before .before .before .before .before .before .before .pre .0) (c .before .before .before .before .before .advance .result) (c .before .before .before .before .before .advance .ensures) (sym (c .before .before .before .before .before .before .before .sees .ensures (c .before .before .before .before .before .before .before .before .before .before .before .args .text .now) (c .before .before .before .before .before .before .before .before .before .before .before .pre .0)) ∙ not-false (c .before .before .before .before .before .before .before .sees .result) (c .before .before .before .before .before .before .if1 .left)) _ _ (rw (c .enum-told .given .1) at (c .before .before .pair-list .ensures drawFields draw-layout (c .before .before .before .before .before .before .before .before .before .before .before .args .c .at) (omega (arith, moved-low (c .before .before .before .before .before .before .before .before .before .before .before .args .text .now) (c .before .before .before .before .before .before .before .before .before .before .before .args .c) (c .before .before .before .before .before .advance .result) (c .before .before .before .before .before .before .before .before .before .before .before .pre .0) (c .before .before .before .before .before .advance .ensures))) (rw (c .before .before .before .before .before .before .before .before .before .no-slots .ensures, c .before .before .before .before .before .before .before .before .no-others .ensures) (none-held (c .before .before .before .before .before .before .before .before .before .before .before .args .text .now) (c .before .before .before .before .before .before .before .before .before .before .before .args .c .at) (c .before .before .before .before .before .advance .result .at) (rowsOf drawFields) drawSorts drawFields draw-layout)))))
+returns-2 c =
+    let at-pair-list = c .before .before in
+    let at-advance = at-pair-list .before .before .before in
+    let advance = at-advance .advance in
+    let at-if1 = at-advance .before in
+    let at-sees = at-if1 .before in
+    let at-no-others = at-sees .before in
+    let at-no-slots = at-no-others .before in
+    let start = at-no-slots .before .before in
+    let args = start .args in
+    rw (c .enum-told .given .1)
+    (pairs-refused (args .text .now) (args .c) (start .pre .0) (advance .result) (advance .ensures)
+    (sym (at-sees .sees .ensures (args .text .now) (start .pre .0)) ∙ not-false (at-sees .sees .result) (at-if1 .if1 .left)) _ _
+    (rw (c .enum-told .given .1)
+    at (at-pair-list .pair-list .ensures drawFields draw-layout (args .c .at)
+    (omega (arith, moved-low (args .text .now) (args .c) (advance .result) (start .pre .0) (advance .ensures)))
+    (rw (at-no-slots .no-slots .ensures, at-no-others .no-others .ensures)
+    (none-held (args .text .now) (args .c .at) (advance .result .at) (rowsOf drawFields) drawSorts drawFields draw-layout)))))
 
 returns-3 : tie.Need-returns-3
 unfolding drawFields
-returns-3 c = pairs-taken (c .before .before .before .before .before .before .before .before .before .before .before .before .before .before .before .args .text .now) (c .before .before .before .before .before .before .before .before .before .before .before .before .before .before .before .args .c) (c .before .before .before .before .before .before .before .before .before .before .before .before .before .before .before .pre .0) (c .before .before .before .before .before .before .before .before .before .advance .result) (c .before .before .before .before .before .before .before .before .before .advance .ensures) (sym (c .before .before .before .before .before .before .before .before .before .before .before .sees .ensures (c .before .before .before .before .before .before .before .before .before .before .before .before .before .before .before .args .text .now) (c .before .before .before .before .before .before .before .before .before .before .before .before .before .before .before .pre .0)) ∙ not-false (c .before .before .before .before .before .before .before .before .before .before .before .sees .result) (c .before .before .before .before .before .before .before .before .before .before .if1 .left)) _ _ _ _ (rw (c .before .before .before .before .read .given .1) at (c .before .before .before .before .before .before .pair-list .ensures drawFields draw-layout (c .before .before .before .before .before .before .before .before .before .before .before .before .before .before .before .args .c .at) (omega (arith, moved-low (c .before .before .before .before .before .before .before .before .before .before .before .before .before .before .before .args .text .now) (c .before .before .before .before .before .before .before .before .before .before .before .before .before .before .before .args .c) (c .before .before .before .before .before .before .before .before .before .advance .result) (c .before .before .before .before .before .before .before .before .before .before .before .before .before .before .before .pre .0) (c .before .before .before .before .before .before .before .before .before .advance .ensures))) (rw (c .before .before .before .before .before .before .before .before .before .before .before .before .before .no-slots .ensures, c .before .before .before .before .before .before .before .before .before .before .before .before .no-others .ensures) (none-held (c .before .before .before .before .before .before .before .before .before .before .before .before .before .before .before .args .text .now) (c .before .before .before .before .before .before .before .before .before .before .before .before .before .before .before .args .c .at) (c .before .before .before .before .before .before .before .before .before .advance .result .at) (rowsOf drawFields) drawSorts drawFields draw-layout)))) (c .leave-group .ensures)
+returns-3 c =
+    let at-read = c .before .before .before .before in
+    let at-pair-list = at-read .before .before in
+    let at-advance = at-pair-list .before .before .before in
+    let advance = at-advance .advance in
+    let at-if1 = at-advance .before in
+    let at-sees = at-if1 .before in
+    let at-no-others = at-sees .before in
+    let at-no-slots = at-no-others .before in
+    let start = at-no-slots .before .before in
+    let args = start .args in
+    pairs-taken
+    (args .text .now)
+    (args .c)
+    (start .pre .0)
+    (advance .result)
+    (advance .ensures)
+    (sym (at-sees .sees .ensures (args .text .now) (start .pre .0)) ∙ not-false (at-sees .sees .result) (at-if1 .if1 .left))
+    _ _ _ _
+    (rw (at-read .read .given .1)
+    at (at-pair-list .pair-list .ensures drawFields draw-layout (args .c .at)
+    (omega (arith, moved-low (args .text .now) (args .c) (advance .result) (start .pre .0) (advance .ensures)))
+    (rw (at-no-slots .no-slots .ensures, at-no-others .no-others .ensures)
+    (none-held (args .text .now) (args .c .at) (advance .result .at) (rowsOf drawFields) drawSorts drawFields draw-layout))))
+    (c .leave-group .ensures)
 
 pub preset-pairs-spec : {M : Type 1} → statement M
 preset-pairs-spec =

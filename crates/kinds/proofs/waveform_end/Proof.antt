@@ -21,7 +21,9 @@ slice-aggregate-fields-at-2 c = search needs
 
 fields-at-requires : tie.Need-fields-at-requires
 unfolding waveformFields
-fields-at-requires c κs = (c .before .before .before .before .pre .0, c .before .before .before .before .pre .1 .short, (waveformFields, waveform-layout))
+fields-at-requires c κs =
+    let pre = c .before .before .before .before .pre in
+    (pre .0, pre .1 .short, (waveformFields, waveform-layout))
 
 enum-known-end : tie.Need-enum-known-end
 enum-known-end c = search needs
@@ -52,18 +54,91 @@ float-at-requires-6 c κs = search needs
 
 put-waveform-requires : tie.Need-put-waveform-requires
 unfolding waveformFields sortRank
-put-waveform-requires c κs = let h = rw (c .before .before .before .before .before .before .before .before .before .end2 .given .1) at (c .before .before .before .before .before .before .before .before .before .before .before .before .fields-at .ensures waveformFields waveform-layout) in (c .before .before .before .before .before .before .before .before .before .before .before .before .before .before .before .before .before .pre .1 .low, (rw (c .before .before .before .before .before .before .before .float-at .ensures) (float-plain "frequency" (h .0) (keptAt (c .before .before .before .before .before .before .before .before .before .before .before .before .fields-at .result .slots) 0) (h .2 .slots 0 ("frequency", number) refl)), rw (c .before .before .before .before .before .before .float-at2 .ensures) (float-plain "amplitude" (h .0) (keptAt (c .before .before .before .before .before .before .before .before .before .before .before .before .fields-at .result .slots) 1) (h .2 .slots 1 ("amplitude", number) refl)), rw (c .before .before .before .before .before .float-at3 .ensures) (float-plain "phase" (h .0) (keptAt (c .before .before .before .before .before .before .before .before .before .before .before .before .fields-at .result .slots) 2) (h .2 .slots 2 ("phase", number) refl)), rw (c .before .before .before .before .float-at4 .ensures) (float-plain "duty_cycle" (h .0) (keptAt (c .before .before .before .before .before .before .before .before .before .before .before .before .fields-at .result .slots) 3) (h .2 .slots 3 ("duty_cycle", number) refl)), rw (c .before .before .float-at5 .ensures) (float-plain "smoothness" (h .0) (keptAt (c .before .before .before .before .before .before .before .before .before .before .before .before .fields-at .result .slots) 5) (h .2 .slots 5 ("smoothness", number) refl)), rw (c .before .float-at6 .ensures) (float-plain "duration" (h .0) (keptAt (c .before .before .before .before .before .before .before .before .before .before .before .before .fields-at .result .slots) 6) (h .2 .slots 6 ("duration", number) refl))))
+put-waveform-requires c κs =
+    let at-float-at5 = c .before .before in
+    let at-float-at4 = at-float-at5 .before .before in
+    let at-float-at3 = at-float-at4 .before in
+    let at-float-at2 = at-float-at3 .before in
+    let at-float-at = at-float-at2 .before in
+    let at-end2 = at-float-at .before .before in
+    let at-fields-at = at-end2 .before .before .before in
+    let fields-at = at-fields-at .fields-at in
+    let c16 = at-fields-at .before .before .before .before in
+    let start = c16 .before in
+    let h = rw (at-end2 .end2 .given .1) at (fields-at .ensures waveformFields waveform-layout) in (
+      start .pre .1 .low,
+      (
+        rw (at-float-at .float-at .ensures)
+            (float-plain "frequency" (h .0) (keptAt (fields-at .result .slots) 0) (h .2 .slots 0 ("frequency", number) refl)),
+        rw (at-float-at2 .float-at2 .ensures)
+            (float-plain "amplitude" (h .0) (keptAt (fields-at .result .slots) 1) (h .2 .slots 1 ("amplitude", number) refl)),
+        rw (at-float-at3 .float-at3 .ensures)
+            (float-plain "phase" (h .0) (keptAt (fields-at .result .slots) 2) (h .2 .slots 2 ("phase", number) refl)),
+        rw (at-float-at4 .float-at4 .ensures)
+            (float-plain "duty_cycle" (h .0) (keptAt (fields-at .result .slots) 3) (h .2 .slots 3 ("duty_cycle", number) refl)),
+        rw (at-float-at5 .float-at5 .ensures)
+            (float-plain "smoothness" (h .0) (keptAt (fields-at .result .slots) 5) (h .2 .slots 5 ("smoothness", number) refl)),
+        rw (c .before .float-at6 .ensures)
+            (float-plain "duration" (h .0) (keptAt (fields-at .result .slots) 6) (h .2 .slots 6 ("duration", number) refl)),
+      ),
+    )
 
 returns : tie.Need-returns
 unfolding waveformFields
-returns c = free-refused (c .before .before .before .before .before .before .before .before .before .args .text .now) (c .before .before .before .before .before .before .before .before .before .args .c) (parseFieldList waveformFields []) (waveformLeaf (c .before .before .before .before .before .before .before .before .before .args .kind)) _ _ (rw (c .before .end .given .1) at (c .before .before .before .before .fields-at .ensures waveformFields waveform-layout))
+returns c =
+    let at-fields-at = c .before .before .before .before in
+    let c8 = at-fields-at .before .before .before .before in
+    let args = c8 .before .args in
+    free-refused (args .text .now) (args .c) (parseFieldList waveformFields []) (waveformLeaf (args .kind)) _ _
+    (rw (c .before .end .given .1) at (at-fields-at .fields-at .ensures waveformFields waveform-layout))
 
 same-length : tie.Need-same-length
 same-length c = search needs
 
 returns-2 : tie.Need-returns-2
 unfolding waveformFields sortRank
-returns-2 c = let h = rw (c .before .before .before .before .before .before .before .before .before .before .before .before .end2 .given .1) at (c .before .before .before .before .before .before .before .before .before .before .before .before .before .before .before .fields-at .ensures waveformFields waveform-layout) in free-went (c .before .before .before .before .before .before .before .before .before .before .before .before .before .before .before .before .before .before .before .before .args .text .now) (c .before .before .before .before .before .before .before .before .before .before .before .before .before .before .before .before .before .before .before .before .args .c) (parseFieldList waveformFields []) (waveformLeaf (c .before .before .before .before .before .before .before .before .before .before .before .before .before .before .before .before .before .before .before .before .args .kind)) _ (h .0) (h .1) _ (rw (c .before .before .before .before .before .before .before .before .before .before .float-at .ensures, float-held "frequency" (h .0) (keptAt (c .before .before .before .before .before .before .before .before .before .before .before .before .before .before .before .fields-at .result .slots) 0) (h .2 .slots 0 ("frequency", number) refl), c .before .before .before .before .before .before .before .before .before .float-at2 .ensures, float-held "amplitude" (h .0) (keptAt (c .before .before .before .before .before .before .before .before .before .before .before .before .before .before .before .fields-at .result .slots) 1) (h .2 .slots 1 ("amplitude", number) refl), c .before .before .before .before .before .before .before .before .float-at3 .ensures, float-held "phase" (h .0) (keptAt (c .before .before .before .before .before .before .before .before .before .before .before .before .before .before .before .fields-at .result .slots) 2) (h .2 .slots 2 ("phase", number) refl), c .before .before .before .before .before .before .before .float-at4 .ensures, float-held "duty_cycle" (h .0) (keptAt (c .before .before .before .before .before .before .before .before .before .before .before .before .before .before .before .fields-at .result .slots) 3) (h .2 .slots 3 ("duty_cycle", number) refl), c .before .before .before .before .before .before .whole-at .ensures, whole-held "seed" (h .0) (keptAt (c .before .before .before .before .before .before .before .before .before .before .before .before .before .before .before .fields-at .result .slots) 4) (h .2 .slots 4 ("seed", count) refl), c .before .before .before .before .before .float-at5 .ensures, float-held "smoothness" (h .0) (keptAt (c .before .before .before .before .before .before .before .before .before .before .before .before .before .before .before .fields-at .result .slots) 5) (h .2 .slots 5 ("smoothness", number) refl), c .before .before .before .before .float-at6 .ensures, float-held "duration" (h .0) (keptAt (c .before .before .before .before .before .before .before .before .before .before .before .before .before .before .before .fields-at .result .slots) 6) (h .2 .slots 6 ("duration", number) refl))) _ _ _ _ (c .before .before .put-waveform .ensures)
+returns-2 c =
+    let at-put-waveform = c .before .before in
+    let at-float-at6 = at-put-waveform .before .before in
+    let at-float-at5 = at-float-at6 .before in
+    let at-whole-at = at-float-at5 .before in
+    let at-float-at4 = at-whole-at .before in
+    let at-float-at3 = at-float-at4 .before in
+    let at-float-at2 = at-float-at3 .before in
+    let at-float-at = at-float-at2 .before in
+    let at-end2 = at-float-at .before .before in
+    let at-fields-at = at-end2 .before .before .before in
+    let fields-at = at-fields-at .fields-at in
+    let c19 = at-fields-at .before .before .before .before in
+    let args = c19 .before .args in
+    let h = rw (at-end2 .end2 .given .1) at (fields-at .ensures waveformFields waveform-layout) in
+    free-went
+    (args .text .now)
+    (args .c)
+    (parseFieldList waveformFields [])
+    (waveformLeaf (args .kind))
+    _
+    (h .0)
+    (h .1)
+    _
+    (rw (
+      at-float-at .float-at .ensures,
+      float-held "frequency" (h .0) (keptAt (fields-at .result .slots) 0) (h .2 .slots 0 ("frequency", number) refl),
+      at-float-at2 .float-at2 .ensures,
+      float-held "amplitude" (h .0) (keptAt (fields-at .result .slots) 1) (h .2 .slots 1 ("amplitude", number) refl),
+      at-float-at3 .float-at3 .ensures,
+      float-held "phase" (h .0) (keptAt (fields-at .result .slots) 2) (h .2 .slots 2 ("phase", number) refl),
+      at-float-at4 .float-at4 .ensures,
+      float-held "duty_cycle" (h .0) (keptAt (fields-at .result .slots) 3) (h .2 .slots 3 ("duty_cycle", number) refl),
+      at-whole-at .whole-at .ensures,
+      whole-held "seed" (h .0) (keptAt (fields-at .result .slots) 4) (h .2 .slots 4 ("seed", count) refl),
+      at-float-at5 .float-at5 .ensures,
+      float-held "smoothness" (h .0) (keptAt (fields-at .result .slots) 5) (h .2 .slots 5 ("smoothness", number) refl),
+      at-float-at6 .float-at6 .ensures,
+      float-held "duration" (h .0) (keptAt (fields-at .result .slots) 6) (h .2 .slots 6 ("duration", number) refl),
+    ))
+    _ _ _ _
+    (at-put-waveform .put-waveform .ensures)
 
 pub waveform-end-spec : {M : Type 1} → statement M
 waveform-end-spec =

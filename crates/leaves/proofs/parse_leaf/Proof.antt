@@ -1,7 +1,8 @@
 -- `leaves::parse_leaf` meets its contract. Assumes nothing.
 use native.Mathlib.Omega.{arith}
 use mathlib.Core.Path.{refl}
-use Rattle.grammar.specs.Grammar.{leaves, parseTween, parseSpring, parseKeyframes, parsePath, parseMorph, parseDraw, parseColor, parseWaveform, parsePresetCall, parseLabel}
+use Rattle.grammar.specs.Grammar.{leaves, parseTween, parseSpring, parseKeyframes, parsePath, parseMorph}
+use Rattle.grammar.specs.Grammar.{parseDraw, parseColor, parseWaveform, parsePresetCall, parseLabel}
 use Rattle.slots.proofs.SortLaws.{not-here}
 use Rattle.leaves.proofs.LeafLaws.{row-at, last-row}
 use borrow.Author.Needs.{needs}
@@ -46,76 +47,267 @@ same-length c = search needs
 
 returns : tie.Need-returns
 unfolding leaves
-returns c = row-at (c .before .before .before .before .before .before .before .args .text .now) (c .before .before .before .before .before .before .before .args .sheet .now) (c .before .before .parse-tween .last .1 .0) (c .before .before .before .before .before .before .before .args .c) (c .before .before .before .before .before .before .before .args .out) (c .before .before .parse-tween .result) (c .before .before .before .before .before .before .before .args .i) 0 ("tween", parseTween) refl (c .before .before .before .before .match .keys1) (c .before .before .parse-tween .ensures)
+returns c =
+    let at-parse-tween = c .before .before in
+    let at-match = at-parse-tween .before .before in
+    let args = at-match .before .before .before .args in
+    row-at
+    (args .text .now)
+    (args .sheet .now)
+    (at-parse-tween .parse-tween .last .1 .0)
+    (args .c)
+    (args .out)
+    (at-parse-tween .parse-tween .result)
+    (args .i)
+    0
+    ("tween", parseTween)
+    refl
+    (at-match .match .keys1)
+    (at-parse-tween .parse-tween .ensures)
 
 same-length-2 : tie.Need-same-length-2
 same-length-2 c = search needs
 
 returns-2 : tie.Need-returns-2
 unfolding leaves
-returns-2 c = row-at (c .before .before .before .before .before .before .before .args .text .now) (c .before .before .before .before .before .before .before .args .sheet .now) (c .before .before .parse-spring .last .1 .0) (c .before .before .before .before .before .before .before .args .c) (c .before .before .before .before .before .before .before .args .out) (c .before .before .parse-spring .result) (c .before .before .before .before .before .before .before .args .i) 1 ("spring", parseSpring) refl (c .before .before .before .before .match .keys2) (c .before .before .parse-spring .ensures)
+returns-2 c =
+    let at-parse-spring = c .before .before in
+    let at-match = at-parse-spring .before .before in
+    let args = at-match .before .before .before .args in
+    row-at
+    (args .text .now)
+    (args .sheet .now)
+    (at-parse-spring .parse-spring .last .1 .0)
+    (args .c)
+    (args .out)
+    (at-parse-spring .parse-spring .result)
+    (args .i)
+    1
+    ("spring", parseSpring)
+    refl
+    (at-match .match .keys2)
+    (at-parse-spring .parse-spring .ensures)
 
 same-length-3 : tie.Need-same-length-3
 same-length-3 c = search needs
 
 returns-3 : tie.Need-returns-3
 unfolding leaves
-returns-3 c = row-at (c .before .before .before .before .before .before .before .args .text .now) (c .before .before .before .before .before .before .before .args .sheet .now) (c .before .before .parse-keyframes .last .1 .0) (c .before .before .before .before .before .before .before .args .c) (c .before .before .before .before .before .before .before .args .out) (c .before .before .parse-keyframes .result) (c .before .before .before .before .before .before .before .args .i) 2 ("keyframes", parseKeyframes) refl (c .before .before .before .before .match .keys3) (c .before .before .parse-keyframes .ensures)
+returns-3 c =
+    let at-parse-keyframes = c .before .before in
+    let at-match = at-parse-keyframes .before .before in
+    let args = at-match .before .before .before .args in
+    row-at
+    (args .text .now)
+    (args .sheet .now)
+    (at-parse-keyframes .parse-keyframes .last .1 .0)
+    (args .c)
+    (args .out)
+    (at-parse-keyframes .parse-keyframes .result)
+    (args .i)
+    2
+    ("keyframes", parseKeyframes)
+    refl
+    (at-match .match .keys3)
+    (at-parse-keyframes .parse-keyframes .ensures)
 
 same-length-4 : tie.Need-same-length-4
 same-length-4 c = search needs
 
 returns-4 : tie.Need-returns-4
 unfolding leaves
-returns-4 c = row-at (c .before .before .before .before .before .before .before .args .text .now) (c .before .before .before .before .before .before .before .args .sheet .now) (c .before .before .parse-path .last .1 .0) (c .before .before .before .before .before .before .before .args .c) (c .before .before .before .before .before .before .before .args .out) (c .before .before .parse-path .result) (c .before .before .before .before .before .before .before .args .i) 3 ("path", parsePath) refl (c .before .before .before .before .match .keys4) (c .before .before .parse-path .ensures)
+returns-4 c =
+    let at-parse-path = c .before .before in
+    let at-match = at-parse-path .before .before in
+    let args = at-match .before .before .before .args in
+    row-at
+    (args .text .now)
+    (args .sheet .now)
+    (at-parse-path .parse-path .last .1 .0)
+    (args .c)
+    (args .out)
+    (at-parse-path .parse-path .result)
+    (args .i)
+    3
+    ("path", parsePath)
+    refl
+    (at-match .match .keys4)
+    (at-parse-path .parse-path .ensures)
 
 same-length-5 : tie.Need-same-length-5
 same-length-5 c = search needs
 
 returns-5 : tie.Need-returns-5
 unfolding leaves
-returns-5 c = row-at (c .before .before .before .before .before .before .before .args .text .now) (c .before .before .before .before .before .before .before .args .sheet .now) (c .before .before .parse-morph .last .1 .0) (c .before .before .before .before .before .before .before .args .c) (c .before .before .before .before .before .before .before .args .out) (c .before .before .parse-morph .result) (c .before .before .before .before .before .before .before .args .i) 4 ("morph", parseMorph) refl (c .before .before .before .before .match .keys5) (c .before .before .parse-morph .ensures)
+returns-5 c =
+    let at-parse-morph = c .before .before in
+    let at-match = at-parse-morph .before .before in
+    let args = at-match .before .before .before .args in
+    row-at
+    (args .text .now)
+    (args .sheet .now)
+    (at-parse-morph .parse-morph .last .1 .0)
+    (args .c)
+    (args .out)
+    (at-parse-morph .parse-morph .result)
+    (args .i)
+    4
+    ("morph", parseMorph)
+    refl
+    (at-match .match .keys5)
+    (at-parse-morph .parse-morph .ensures)
 
 same-length-6 : tie.Need-same-length-6
 same-length-6 c = search needs
 
 returns-6 : tie.Need-returns-6
 unfolding leaves
-returns-6 c = row-at (c .before .before .before .before .before .before .before .args .text .now) (c .before .before .before .before .before .before .before .args .sheet .now) (c .before .before .parse-draw .last .1 .0) (c .before .before .before .before .before .before .before .args .c) (c .before .before .before .before .before .before .before .args .out) (c .before .before .parse-draw .result) (c .before .before .before .before .before .before .before .args .i) 5 ("draw", parseDraw) refl (c .before .before .before .before .match .keys6) (c .before .before .parse-draw .ensures)
+returns-6 c =
+    let at-parse-draw = c .before .before in
+    let at-match = at-parse-draw .before .before in
+    let args = at-match .before .before .before .args in
+    row-at
+    (args .text .now)
+    (args .sheet .now)
+    (at-parse-draw .parse-draw .last .1 .0)
+    (args .c)
+    (args .out)
+    (at-parse-draw .parse-draw .result)
+    (args .i)
+    5
+    ("draw", parseDraw)
+    refl
+    (at-match .match .keys6)
+    (at-parse-draw .parse-draw .ensures)
 
 same-length-7 : tie.Need-same-length-7
 same-length-7 c = search needs
 
 returns-7 : tie.Need-returns-7
 unfolding leaves
-returns-7 c = row-at (c .before .before .before .before .before .before .before .args .text .now) (c .before .before .before .before .before .before .before .args .sheet .now) (c .before .before .parse-color .last .1 .0) (c .before .before .before .before .before .before .before .args .c) (c .before .before .before .before .before .before .before .args .out) (c .before .before .parse-color .result) (c .before .before .before .before .before .before .before .args .i) 6 ("color", parseColor) refl (c .before .before .before .before .match .keys7) (c .before .before .parse-color .ensures)
+returns-7 c =
+    let at-parse-color = c .before .before in
+    let at-match = at-parse-color .before .before in
+    let args = at-match .before .before .before .args in
+    row-at
+    (args .text .now)
+    (args .sheet .now)
+    (at-parse-color .parse-color .last .1 .0)
+    (args .c)
+    (args .out)
+    (at-parse-color .parse-color .result)
+    (args .i)
+    6
+    ("color", parseColor)
+    refl
+    (at-match .match .keys7)
+    (at-parse-color .parse-color .ensures)
 
 same-length-8 : tie.Need-same-length-8
 same-length-8 c = search needs
 
 returns-8 : tie.Need-returns-8
 unfolding leaves
-returns-8 c = row-at (c .before .before .before .before .before .before .before .args .text .now) (c .before .before .before .before .before .before .before .args .sheet .now) (c .before .before .parse-waveform .last .1 .0) (c .before .before .before .before .before .before .before .args .c) (c .before .before .before .before .before .before .before .args .out) (c .before .before .parse-waveform .result) (c .before .before .before .before .before .before .before .args .i) 7 ("waveform", parseWaveform) refl (c .before .before .before .before .match .keys8) (c .before .before .parse-waveform .ensures)
+returns-8 c =
+    let at-parse-waveform = c .before .before in
+    let at-match = at-parse-waveform .before .before in
+    let args = at-match .before .before .before .args in
+    row-at
+    (args .text .now)
+    (args .sheet .now)
+    (at-parse-waveform .parse-waveform .last .1 .0)
+    (args .c)
+    (args .out)
+    (at-parse-waveform .parse-waveform .result)
+    (args .i)
+    7
+    ("waveform", parseWaveform)
+    refl
+    (at-match .match .keys8)
+    (at-parse-waveform .parse-waveform .ensures)
 
 same-length-9 : tie.Need-same-length-9
 same-length-9 c = search needs
 
 returns-9 : tie.Need-returns-9
 unfolding leaves
-returns-9 c = row-at (c .before .before .before .before .before .before .before .args .text .now) (c .before .before .before .before .before .before .before .args .sheet .now) (c .before .before .parse-preset-call .last .1 .0) (c .before .before .before .before .before .before .before .args .c) (c .before .before .before .before .before .before .before .args .out) (c .before .before .parse-preset-call .result) (c .before .before .before .before .before .before .before .args .i) 8 ("preset", parsePresetCall) refl (c .before .before .before .before .match .keys9) (c .before .before .parse-preset-call .ensures)
+returns-9 c =
+    let at-parse-preset-call = c .before .before in
+    let at-match = at-parse-preset-call .before .before in
+    let args = at-match .before .before .before .args in
+    row-at
+    (args .text .now)
+    (args .sheet .now)
+    (at-parse-preset-call .parse-preset-call .last .1 .0)
+    (args .c)
+    (args .out)
+    (at-parse-preset-call .parse-preset-call .result)
+    (args .i)
+    8
+    ("preset", parsePresetCall)
+    refl
+    (at-match .match .keys9)
+    (at-parse-preset-call .parse-preset-call .ensures)
 
 same-length-10 : tie.Need-same-length-10
 same-length-10 c = search needs
 
 returns-10 : tie.Need-returns-10
 unfolding leaves
-returns-10 c = row-at (c .before .before .before .before .before .before .before .args .text .now) (c .before .before .before .before .before .before .before .args .sheet .now) (c .before .before .parse-label .last .1 .0) (c .before .before .before .before .before .before .before .args .c) (c .before .before .before .before .before .before .before .args .out) (c .before .before .parse-label .result) (c .before .before .before .before .before .before .before .args .i) 9 ("label", parseLabel) refl (c .before .before .before .before .match .keys10) (c .before .before .parse-label .ensures)
+returns-10 c =
+    let at-parse-label = c .before .before in
+    let at-match = at-parse-label .before .before in
+    let args = at-match .before .before .before .args in
+    row-at
+    (args .text .now)
+    (args .sheet .now)
+    (at-parse-label .parse-label .last .1 .0)
+    (args .c)
+    (args .out)
+    (at-parse-label .parse-label .result)
+    (args .i)
+    9
+    ("label", parseLabel)
+    refl
+    (at-match .match .keys10)
+    (at-parse-label .parse-label .ensures)
 
 same-length-11 : tie.Need-same-length-11
 same-length-11 c = search needs
 
 returns-11 : tie.Need-returns-11
-returns-11 c = last-row (c .before .before .before .before .before .before .before .args .text .now) (c .before .before .before .before .before .before .before .args .sheet .now) (c .before .before .parse-at .last .1 .0) (c .before .before .before .before .before .before .before .args .c) (c .before .before .before .before .before .before .before .args .out) (c .before .before .parse-at .result) (c .before .before .before .before .before .before .before .args .i) (not-here 9 (c .before .before .before .before .before .before .before .args .i) (not-here 8 (c .before .before .before .before .before .before .before .args .i) (not-here 7 (c .before .before .before .before .before .before .before .args .i) (not-here 6 (c .before .before .before .before .before .before .before .args .i) (not-here 5 (c .before .before .before .before .before .before .before .args .i) (not-here 4 (c .before .before .before .before .before .before .before .args .i) (not-here 3 (c .before .before .before .before .before .before .before .args .i) (not-here 2 (c .before .before .before .before .before .before .before .args .i) (not-here 1 (c .before .before .before .before .before .before .before .args .i) (not-here 0 (c .before .before .before .before .before .before .before .args .i) (omega arith) (c .before .before .before .before .match .rest .0 .0 .0 .0 .0 .0 .0 .0 .0 .1)) (c .before .before .before .before .match .rest .0 .0 .0 .0 .0 .0 .0 .0 .1)) (c .before .before .before .before .match .rest .0 .0 .0 .0 .0 .0 .0 .1)) (c .before .before .before .before .match .rest .0 .0 .0 .0 .0 .0 .1)) (c .before .before .before .before .match .rest .0 .0 .0 .0 .0 .1)) (c .before .before .before .before .match .rest .0 .0 .0 .0 .1)) (c .before .before .before .before .match .rest .0 .0 .0 .1)) (c .before .before .before .before .match .rest .0 .0 .1)) (c .before .before .before .before .match .rest .0 .1)) (c .before .before .before .before .match .rest .1)) (c .before .before .parse-at .ensures)
+returns-11 c =
+    let at-parse-at = c .before .before in
+    let at-match = at-parse-at .before .before in
+    let match = at-match .match in
+    let args = at-match .before .before .before .args in
+    last-row
+    (args .text .now)
+    (args .sheet .now)
+    (at-parse-at .parse-at .last .1 .0)
+    (args .c)
+    (args .out)
+    (at-parse-at .parse-at .result)
+    (args .i)
+    (not-here 9 (args .i)
+    (not-here 8 (args .i)
+    (not-here 7 (args .i)
+    (not-here 6 (args .i)
+    (not-here 5 (args .i)
+    (not-here 4 (args .i)
+    (not-here 3 (args .i)
+    (not-here 2 (args .i)
+    (not-here 1 (args .i) (not-here 0 (args .i) (omega arith) (match .rest .0 .0 .0 .0 .0 .0 .0 .0 .0 .1))
+    (match .rest .0 .0 .0 .0 .0 .0 .0 .0 .1))
+    (match .rest .0 .0 .0 .0 .0 .0 .0 .1))
+    (match .rest .0 .0 .0 .0 .0 .0 .1))
+    (match .rest .0 .0 .0 .0 .0 .1))
+    (match .rest .0 .0 .0 .0 .1))
+    (match .rest .0 .0 .0 .1))
+    (match .rest .0 .0 .1))
+    (match .rest .0 .1))
+    (match .rest .1))
+    (at-parse-at .parse-at .ensures)
 
 pub parse-leaf-spec : {M : Type 1} → statement M
 parse-leaf-spec =

@@ -37,17 +37,20 @@ same-length c = search needs
 
 returns-2 : tie.Need-returns-2
 returns-2 c =
-    let at-start = c .before .before .before .before .before .before in
+    let at-part = c .before .before .before .before in
+    let at-start = at-part .before .before in
     let at-record = at-start .before .before in
     let told = at-record .before in
-    let o = sym (told .enum-told .given .1) ∙ told .before .before .open-sheet .ensures in
+    let at-open-sheet = told .before .before in
+    let o = sym (told .enum-told .given .1) ∙ at-open-sheet .open-sheet .ensures in
     let l = rw (at-start .start .given .1) at (at-record .record-at .ensures) in
-    (rw (c .before .before .before .before .part .ensures) at (c .before .before .place-line .ensures)) ∙ sym (found _ _ _ _ o l)
+    (rw (at-part .part .ensures) at (c .before .before .place-line .ensures)) ∙ sym (found _ _ _ _ o l)
 
 returns-3 : tie.Need-returns-3
 returns-3 c =
     let told = c .before .before .before in
-    let o = sym (told .enum-told .given .1) ∙ told .before .before .open-sheet .ensures in
+    let at-open-sheet = told .before .before in
+    let o = sym (told .enum-told .given .1) ∙ at-open-sheet .open-sheet .ensures in
     let l = rw (c .enum-told2 .given .1) at (c .before .before .record-at .ensures) in
     sym (found _ _ _ _ o l)
 

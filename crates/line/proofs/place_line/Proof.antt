@@ -15,7 +15,11 @@ same-length : tie.Need-same-length
 same-length c = search needs
 
 returns : tie.Need-returns
-returns c = sym (with-room _ _ _ (sym (c .before .before .before .before .before .has-room .ensures) ∙ c .before .before .before .before .if1 .taken) (c .before .before .put-line .ensures))
+returns c =
+    let at-put-line = c .before .before in
+    let at-if1 = at-put-line .before .before in
+    let at-has-room = at-if1 .before in
+    sym (with-room _ _ _ (sym (at-has-room .has-room .ensures) ∙ at-if1 .if1 .taken) (at-put-line .put-line .ensures))
 
 returns-2 : tie.Need-returns-2
 returns-2 c = sym (without-room _ _ _ (sym (c .before .has-room .ensures) ∙ c .if1 .left))

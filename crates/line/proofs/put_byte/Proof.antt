@@ -24,8 +24,10 @@ returns : tie.Need-returns
 unfolding hex
 returns c =
     let at-low = c .before .before in
-    let at-high = at-low .before .before .before .before .before in
-    rw (at-high .before .digit .ensures, at-low .before .digit2 .ensures) at (puts-then (at-high .put .ensures) (at-low .put2 .ensures))
+    let at-digit2 = at-low .before in
+    let at-high = at-digit2 .before .before .before .before in
+    let at-digit = at-high .before in
+    rw (at-digit .digit .ensures, at-digit2 .digit2 .ensures) at (puts-then (at-high .put .ensures) (at-low .put2 .ensures))
 
 pub put-byte-spec : {M : Type 1} → statement M
 put-byte-spec =

@@ -12,7 +12,8 @@ use Rattle.line.proofs.put_bytes.Statement.{statement}
 use Rattle.line.proofs.put_bytes.Tie as tie
 
 abbrev Inv-loop : tie.InvT-loop
-Inv-loop out₀ at bytes end₀ i₀ out end i = (length out ≡ length out₀) × ((after : List ℕ) (e : ℕ) → Puts out end (hex (drop i bytes)) after e → Puts out₀ at (hex bytes) after e)
+Inv-loop out₀ at bytes end₀ i₀ out end i =
+    (length out ≡ length out₀) × ((after : List ℕ) (e : ℕ) → Puts out end (hex (drop i bytes)) after e → Puts out₀ at (hex bytes) after e)
 
 abbrev μ-loop : tie.MeasureT-loop
 μ-loop out₀ at bytes end₀ i₀ out end i = length bytes - i
@@ -39,14 +40,17 @@ loop-again c =
     let at-loop = in-loop .before in
     let start = at-loop .before .before .before in (
       at-put .put-byte .kept .0 ∙ at-loop .loop .inv .0,
-      λ after e p. at-loop .loop .inv .1 after e (rw (hex-at (start .args .bytes .now) (at-loop .loop .i) (in-loop .loop-test .taken)) (puts-then (at-put .put-byte .ensures) p)),
+      λ after e p. at-loop .loop .inv .1 after e
+          (rw (hex-at (start .args .bytes .now) (at-loop .loop .i) (in-loop .loop-test .taken)) (puts-then (at-put .put-byte .ensures) p)),
     )
 
 same-length : tie.Need-same-length Inv-loop μ-loop
 same-length c = c .before .loop .inv .0
 
 returns : tie.Need-returns Inv-loop μ-loop
-returns c = c .before .loop .inv .1 _ _ (rw (hex-end (c .before .before .before .before .args .bytes .now) (c .before .loop .i) (c .loop-test .left)) (puts-none _ _))
+returns c =
+    let start = c .before .before .before .before in
+    c .before .loop .inv .1 _ _ (rw (hex-end (start .args .bytes .now) (c .before .loop .i) (c .loop-test .left)) (puts-none _ _))
 
 pub put-bytes-spec : {M : Type 1} → statement M
 put-bytes-spec =

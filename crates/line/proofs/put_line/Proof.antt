@@ -34,13 +34,17 @@ same-length c = search needs
 
 returns : tie.Need-returns
 returns c =
-    let at-check = c .before .before .before .before .before .before in
-    let at-body = at-check .before .before .before .before .before in
+    let at-put = c .before .before in
+    let at-check = at-put .before .before .before .before in
+    let at-check-byte = at-check .before in
+    let at-body = at-check-byte .before .before .before .before in
     let at-low = at-body .before .before .before .before in
     let at-high = at-low .before .before .before .before in
     let start = at-high .before .before .before .before in
-    rw (line-parts (start .args .bytes .now), ← at-check .before .check-byte .ensures)
-    (puts-then (at-high .put-byte .ensures) (puts-then (at-low .put-byte2 .ensures) (puts-then (at-body .put-bytes .ensures) (puts-then (at-check .put-byte3 .ensures) (c .before .before .put .ensures)))))
+    rw (line-parts (start .args .bytes .now), ← at-check-byte .check-byte .ensures)
+    (puts-then (at-high .put-byte .ensures)
+    (puts-then (at-low .put-byte2 .ensures)
+    (puts-then (at-body .put-bytes .ensures) (puts-then (at-check .put-byte3 .ensures) (at-put .put .ensures)))))
 
 pub put-line-spec : {M : Type 1} → statement M
 put-line-spec =

@@ -33,11 +33,15 @@ loop-less c = search needs
 loop-again : tie.Need-loop-again Inv-loop μ-loop
 loop-again c =
     let at-loop = c .before .before .before in
-    let start = at-loop .before .before in
-    (search needs, omega (arith, at-loop .loop .inv .1, c .wrapping-add-u8 .ensures, total-at (start .args .part .now) (at-loop .loop .i) (omega arith)))
+    let start = at-loop .before .before in (
+      search needs,
+      omega (arith, at-loop .loop .inv .1, c .wrapping-add-u8 .ensures, total-at (start .args .part .now) (at-loop .loop .i) (omega arith)),
+    )
 
 returns : tie.Need-returns Inv-loop μ-loop
-returns c = omega (arith, c .before .loop .inv, total-end (c .before .before .before .args .part .now) (c .before .loop .i) (c .loop-test .left))
+returns c =
+    let start = c .before .before .before in
+    omega (arith, c .before .loop .inv, total-end (start .args .part .now) (c .before .loop .i) (c .loop-test .left))
 
 pub total-spec : {M : Type 1} → statement M
 total-spec =

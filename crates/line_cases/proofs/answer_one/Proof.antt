@@ -55,10 +55,16 @@ unhex-requires-2 : tie.Need-unhex-requires-2
 unhex-requires-2 c κs = search needs
 
 array-share-prefix-text : tie.Need-array-share-prefix-text
-array-share-prefix-text c = c .before .before .before .before .before .unhex .ensures
+array-share-prefix-text c =
+    let c4 = c .before .before .before .before in
+    let at-unhex = c4 .before in
+    at-unhex .unhex .ensures
 
 slice-aggregate-answer : tie.Need-slice-aggregate-answer
-slice-aggregate-answer c = sym (length-take-le _ _ (c .before .before .before .before .before .before .unhex .ensures))
+slice-aggregate-answer c =
+    let c4 = c .before .before .before .before in
+    let at-unhex = c4 .before .before in
+    sym (length-take-le _ _ (at-unhex .unhex .ensures))
 
 array-share-prefix-sheet : tie.Need-array-share-prefix-sheet
 array-share-prefix-sheet c = c .before .before .unhex2 .ensures
@@ -71,7 +77,9 @@ answer-requires c κs = search needs
 
 add-result : tie.Need-add-result
 add-result c =
-    let at-end = c .before .before .before .before .before .before .before .before .before .before .before in
+    let c4 = c .before .before .before .before in
+    let c8 = c4 .before .before .before .before in
+    let at-end = c8 .before .before .before in
     let at-tab = at-end .before in
     let start = at-tab .before .before in
     let s = start .args .s .now in

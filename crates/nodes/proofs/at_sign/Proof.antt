@@ -15,7 +15,10 @@ eat-requires-2 : tie.Need-eat-requires-2
 eat-requires-2 c κs = search needs
 
 returns-2 : tie.Need-returns-2
-returns-2 c = other-sign _ _ _ (rw (c .before .before .if1 .left) at (c .before .before .before .before .eat .ensures)) _ _ (c .before .eat2 .ensures)
+returns-2 c =
+    let at-if1 = c .before .before in
+    let at-eat = at-if1 .before .before in
+    other-sign _ _ _ (rw (at-if1 .if1 .left) at (at-eat .eat .ensures)) _ _ (c .before .eat2 .ensures)
 
 pub at-sign-spec : {M : Type 1} → statement M
 at-sign-spec = tie.close (tie.spec eat-requires returns eat-requires-2 returns-2)

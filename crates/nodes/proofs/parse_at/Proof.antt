@@ -28,26 +28,72 @@ turned-requires : tie.Need-turned-requires
 turned-requires c κs = search needs
 
 decimal-requires : tie.Need-decimal-requires
-decimal-requires c κs = (rw (c .before .before .before .negative .given .1) at (c .before .before .before .before .before .number .ensures)) .small .places
+decimal-requires c κs =
+    let at-negative = c .before .before .before in
+    let at-number = at-negative .before .before in
+    (rw (at-negative .negative .given .1) at (at-number .number .ensures)) .small .places
 
 put-byte-requires : tie.Need-put-byte-requires
-put-byte-requires c κs = omega (arith, c .before .before .before .before .before .before .before .before .before .before .before .before .pre .1 .low)
+put-byte-requires c κs =
+    let c4 = c .before .before .before .before in
+    let c8 = c4 .before .before .before .before in
+    let start = c8 .before .before .before .before in
+    omega (arith, start .pre .1 .low)
 
 put-float-requires : tie.Need-put-float-requires
-put-float-requires c κs = (omega (arith, c .before .before .before .before .before .before .before .before .before .before .before .before .before .before .before .before .pre .1 .low, c .before .before .before .put-byte .ensures .place), rw (c .before .before .before .before .before .decimal .ensures) (round-number _ _ _))
+put-float-requires c κs =
+    let at-put-byte = c .before .before .before in
+    let at-decimal = at-put-byte .before .before in
+    let c9 = at-decimal .before .before .before .before in
+    let c13 = c9 .before .before .before .before in
+    let start = c13 .before .before .before in
+    (omega (arith, start .pre .1 .low, at-put-byte .put-byte .ensures .place), rw (at-decimal .decimal .ensures) (round-number _ _ _))
 
 put-flag-requires : tie.Need-put-flag-requires
-put-flag-requires c κs = omega (arith, c .before .before .before .before .before .before .before .before .before .before .before .before .before .before .before .before .before .before .before .before .pre .1 .low, c .before .before .before .before .before .before .before .put-byte .ensures .place, c .before .before .before .put-float .ensures .place, length-word (bits (c .before .before .before .before .before .before .before .before .before .decimal .result)))
+put-flag-requires c κs =
+    let at-put-float = c .before .before .before in
+    let at-put-byte = at-put-float .before .before .before .before in
+    let at-decimal = at-put-byte .before .before in
+    let c13 = at-decimal .before .before .before .before in
+    let c17 = c13 .before .before .before .before in
+    let start = c17 .before .before .before in
+    omega (
+      arith,
+      start .pre .1 .low,
+      at-put-byte .put-byte .ensures .place,
+      at-put-float .put-float .ensures .place,
+      length-word (bits (at-decimal .decimal .result)),
+    )
 
 returns : tie.Need-returns
-returns c = no-value _ _ _ _ _ (c .before .before .before .before .before .at-sign .ensures) _ (rw (c .before .p .given .1) at (c .before .before .before .number .ensures))
+returns c =
+    let at-number = c .before .before .before in
+    let at-at-sign = at-number .before .before in
+    no-value _ _ _ _ _ (at-at-sign .at-sign .ensures) _ (rw (c .before .p .given .1) at (at-number .number .ensures))
 
 same-length : tie.Need-same-length
 same-length c = search needs
 
 returns-2 : tie.Need-returns-2
 unfolding nearest
-returns-2 c = at-went _ _ _ _ _ (c .before .before .before .before .before .before .before .before .before .before .before .before .before .before .before .before .before .before .before .before .before .at-sign .ensures) _ _ _ _ _ (rw (c .before .before .before .before .before .before .before .before .before .before .before .before .before .before .before .before .before .negative .given .1) at (c .before .before .before .before .before .before .before .before .before .before .before .before .before .before .before .before .before .before .before .number .ensures)) (c .before .before .before .before .before .before .before .before .before .before .before .before .before .before .before .eat .ensures) (c .before .before .before .before .before .before .before .before .before .before .before .put-byte .ensures) (rw (c .before .before .before .before .before .before .before .before .before .before .before .before .before .decimal .ensures, c .before .before .before .before .before .before .before .before .before .before .before .before .before .before .turned .ensures) at (c .before .before .before .before .before .before .before .put-float .ensures)) (c .before .before .before .put-flag .ensures)
+returns-2 c =
+    let at-put-flag = c .before .before .before in
+    let at-put-float = at-put-flag .before .before .before .before in
+    let at-put-byte = at-put-float .before .before .before .before in
+    let at-decimal = at-put-byte .before .before in
+    let at-turned = at-decimal .before in
+    let at-eat = at-turned .before in
+    let at-negative = at-eat .before .before in
+    let at-number = at-negative .before .before in
+    let at-at-sign = at-number .before .before in
+    at-went _ _ _ _ _
+    (at-at-sign .at-sign .ensures)
+    _ _ _ _ _
+    (rw (at-negative .negative .given .1) at (at-number .number .ensures))
+    (at-eat .eat .ensures)
+    (at-put-byte .put-byte .ensures)
+    (rw (at-decimal .decimal .ensures, at-turned .turned .ensures) at (at-put-float .put-float .ensures))
+    (at-put-flag .put-flag .ensures)
 
 pub parse-at-spec : {M : Type 1} → statement M
 parse-at-spec =

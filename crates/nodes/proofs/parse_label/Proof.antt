@@ -32,16 +32,33 @@ put-span-requires : tie.Need-put-span-requires
 put-span-requires c κs = search needs
 
 returns : tie.Need-returns
-returns c = no-string (c .before .before .before .before .before .before .args .text .now) (c .before .before .before .before .before .before .args .c) _ (rw (c .before .p .given .1) at (c .before .before .before .string .ensures))
+returns c =
+    let at-string = c .before .before .before in
+    let args = at-string .before .before .before .args in
+    no-string (args .text .now) (args .c) _ (rw (c .before .p .given .1) at (at-string .string .ensures))
 
 returns-2 : tie.Need-returns-2
-returns-2 c = no-semicolon _ _ _ _ ((rw (c .before .before .before .before .before .s .given .1) at (c .before .before .before .before .before .before .before .string .ensures)) .0) _ (rw (c .before .p2 .given .1) at (c .before .before .before .mark .ensures))
+returns-2 c =
+    let at-mark = c .before .before .before in
+    let at-s = at-mark .before .before in
+    let at-string = at-s .before .before in
+    no-semicolon _ _ _ _ ((rw (at-s .s .given .1) at (at-string .string .ensures)) .0) _
+    (rw (c .before .p2 .given .1) at (at-mark .mark .ensures))
 
 same-length : tie.Need-same-length
 same-length c = search needs
 
 returns-3 : tie.Need-returns-3
-returns-3 c = label-went _ _ _ _ ((rw (c .before .before .before .before .before .before .before .before .before .before .before .before .before .s .given .1) at (c .before .before .before .before .before .before .before .before .before .before .before .before .before .before .before .string .ensures)) .0) _ (rw (c .before .before .before .before .before .before .before .before .before .n .given .1) at (c .before .before .before .before .before .before .before .before .before .before .before .mark .ensures)) (c .before .before .before .before .before .before .put-byte .ensures) (c .before .before .put-span .ensures (length (c .before .before .before .before .before .before .before .before .before .before .before .before .before .before .before .before .before .before .args .text .now)))
+returns-3 c =
+    let at-put-span = c .before .before in
+    let at-put-byte = at-put-span .before .before .before .before in
+    let at-n = at-put-byte .before .before .before in
+    let at-mark = at-n .before .before in
+    let at-s = at-mark .before .before in
+    let at-string = at-s .before .before in
+    let start = at-string .before .before .before in
+    label-went _ _ _ _ ((rw (at-s .s .given .1) at (at-string .string .ensures)) .0) _ (rw (at-n .n .given .1) at (at-mark .mark .ensures))
+    (at-put-byte .put-byte .ensures) (at-put-span .put-span .ensures (length (start .args .text .now)))
 
 pub parse-label-spec : {M : Type 1} → statement M
 parse-label-spec =

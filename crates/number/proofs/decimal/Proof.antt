@@ -18,8 +18,10 @@ f32-of-bits-requires c κs = search needs
 returns : tie.Need-returns
 returns c =
     let s = c .before .before in
-    let x = round binary32 (s .args .negative) (s .args .digits) (10 ^ s .args .places) in
-    c .f32-of-bits .ensures ∙ ap f32 (c .before .decimal-bits .ensures) ∙ f32-bits x (round-fits binary32 (s .args .negative) (s .args .digits) (10 ^ s .args .places))
+    let args = s .args in
+    let x = round binary32 (args .negative) (args .digits) (10 ^ args .places) in
+    c .f32-of-bits .ensures ∙ ap f32 (c .before .decimal-bits .ensures)
+    ∙ f32-bits x (round-fits binary32 (args .negative) (args .digits) (10 ^ args .places))
 
 pub decimal-spec : {M : Type 1} → statement M
 decimal-spec = tie.close (tie.spec decimal-bits-requires f32-of-bits-requires returns)

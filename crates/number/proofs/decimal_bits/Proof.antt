@@ -15,8 +15,12 @@ use Rattle.number.proofs.decimal_bits.Tie as tie
 bound : (p : ℕ) → p ≤ 9 → 10 ^ p ≤ 1000000000
 bound p h = pow-le-pow-right {n = 10} (lit< tt) h
 
-unsigned : (c : tie.After-nearest-bits) → c .nearest-bits .result ≡ bits (round binary32 false (c .before .before .args .digits) (10 ^ c .before .before .args .places))
-unsigned c = c .nearest-bits .ensures ∙ ap (λ (d : ℕ). bits (round binary32 false (c .before .before .args .digits) d)) (c .before .ten-to .ensures)
+unsigned : (c : tie.After-nearest-bits) →
+    let args = c .before .before .args in
+    c .nearest-bits .result ≡ bits (round binary32 false (args .digits) (10 ^ args .places))
+unsigned c =
+    let start = c .before .before in
+    c .nearest-bits .ensures ∙ ap (λ (d : ℕ). bits (round binary32 false (start .args .digits) d)) (c .before .ten-to .ensures)
 
 ten-to-requires : tie.Need-ten-to-requires
 ten-to-requires c κs = search needs
@@ -37,7 +41,12 @@ unfolding bits
 returns c =
     let s = c .before .before .before in
     let d = 10 ^ s .args .places in
-    omega (arith, sign-bit (s .args .digits) d, unsigned (c .before), ap (λ (b : Bool). bits (round binary32 b (s .args .digits) d)) (c .if1 .taken))
+    omega (
+      arith,
+      sign-bit (s .args .digits) d,
+      unsigned (c .before),
+      ap (λ (b : Bool). bits (round binary32 b (s .args .digits) d)) (c .if1 .taken),
+    )
 
 returns-2 : tie.Need-returns-2
 returns-2 c =

@@ -22,7 +22,9 @@ unfolding div ofBits
 no-number = refl
 
 float-from-bits-result : tie.Need-float-from-bits-result
-float-from-bits-result c = subst (λ (t : Bool). T (not t)) (sym (nanBits-above binary32 (c .before .args .b) ∙ le-ltb 2139095040 (c .before .args .b % 2147483648) (c .if1 .left))) tt
+float-from-bits-result c =
+    subst (λ (t : Bool). T (not t))
+    (sym (nanBits-above binary32 (c .before .args .b) ∙ le-ltb 2139095040 (c .before .args .b % 2147483648) (c .if1 .left))) tt
 
 returns : tie.Need-returns
 returns c =

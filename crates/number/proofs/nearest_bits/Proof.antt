@@ -13,12 +13,16 @@ use Rattle.number.proofs.Round.{zero-bits}
 use Rattle.number.proofs.nearest_bits.Statement.{statement}
 use Rattle.number.proofs.nearest_bits.Tie as tie
 
-known : (c : tie.Else1) → Aligned (c .before .args .n) (c .before .args .d) (leadingZeros 64 (c .before .args .n)) (leadingZeros 64 (c .before .args .d))
-known c = aligned (c .before .args .n) (c .before .args .d) (c .if1 .left) (c .before .fits .n .fits) (c .before .pre .0) (c .before .pre .1)
+known : (c : tie.Else1)
+    → Aligned (c .before .args .n) (c .before .args .d) (leadingZeros 64 (c .before .args .n)) (leadingZeros 64 (c .before .args .d))
+known c =
+    aligned (c .before .args .n) (c .before .args .d) (c .if1 .left) (c .before .fits .n .fits) (c .before .pre .0) (c .before .pre .1)
 
 returns : tie.Need-returns
 unfolding bits
-returns c = sym (ap (λ (x : ℕ). toBits binary32 (round binary32 false x (c .before .args .d))) (c .if1 .taken) ∙ zero-bits (c .before .args .d) (c .before .pre .0))
+returns c =
+    sym (ap (λ (x : ℕ). toBits binary32 (round binary32 false x (c .before .args .d))) (c .if1 .taken)
+    ∙ zero-bits (c .before .args .d) (c .before .pre .0))
 
 sub-y : tie.Need-sub-y
 sub-y c = known c .l-low
@@ -66,11 +70,19 @@ returns-3 : tie.Need-returns-3
 unfolding bits
 returns-3 c =
     let s = c .before .before .before in
+    let args = s .args in
     let k = known (c .before .before) in
-    let y = leadingZeros 64 (s .args .d) - 24 in
+    let y = leadingZeros 64 (args .d) - 24 in
     c .packed2 .ensures
-    ∙ scaled-bits (s .args .n) (s .args .d) (leadingZeros 64 (s .args .n)) (y + 1) _ _ _
-    (s .pre .0) (k .a-is) (ap (λ (x : ℕ). x * 2) (k .b-is) ∙ mul-assoc (s .args .d) (2 ^ y) 2 ∙ ap (λ (x : ℕ). s .args .d * x) (sym (pow-add 2 y 1))) (omega arith) (omega arith) (omega arith) (omega arith) (omega arith)
+    ∙ scaled-bits (args .n) (args .d) (leadingZeros 64 (args .n)) (y + 1) _ _ _
+    (s .pre .0)
+    (k .a-is)
+    (ap (λ (x : ℕ). x * 2) (k .b-is) ∙ mul-assoc (args .d) (2 ^ y) 2 ∙ ap (λ (x : ℕ). args .d * x) (sym (pow-add 2 y 1)))
+    (omega arith)
+    (omega arith)
+    (omega arith)
+    (omega arith)
+    (omega arith)
 
 pub nearest-bits-spec : {M : Type 1} → statement M
 nearest-bits-spec =

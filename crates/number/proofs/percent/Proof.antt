@@ -16,7 +16,9 @@ decimal-requires c κs = search needs
 
 returns : tie.Need-returns
 unfolding percent
-returns c = ap (λ (x : Float). div binary32 x (ofBits binary32 0x42c8_0000)) (c .decimal .ensures) ∙ ap (div binary32 (round binary32 (c .before .args .negative) (c .before .args .n) 1)) hundred
+returns c =
+    ap (λ (x : Float). div binary32 x (ofBits binary32 0x42c8_0000)) (c .decimal .ensures)
+    ∙ ap (div binary32 (round binary32 (c .before .args .negative) (c .before .args .n) 1)) hundred
 
 pub percent-spec : {M : Type 1} → statement M
 percent-spec = tie.close (tie.spec decimal-requires returns)

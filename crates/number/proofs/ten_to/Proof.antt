@@ -17,7 +17,8 @@ tens (suc n) p = p ∷ tens n (p * 10)
 tens-at : (n p i : ℕ) → i < n → getD (tens n p) i 0 ≡ p * 10 ^ i
 tens-at zero p i h = absurd (not-suc-le-zero h)
 tens-at (suc n) p zero h = sym (mul-one p)
-tens-at (suc n) p (suc i) h = tens-at n (p * 10) i (le-of-suc-le-suc h) ∙ mul-assoc p 10 (10 ^ i) ∙ ap (λ (x : ℕ). p * x) (mul-comm 10 (10 ^ i) ∙ sym (pow-suc 10 i))
+tens-at (suc n) p (suc i) h =
+    tens-at n (p * 10) i (le-of-suc-le-suc h) ∙ mul-assoc p 10 (10 ^ i) ∙ ap (λ (x : ℕ). p * x) (mul-comm 10 (10 ^ i) ∙ sym (pow-suc 10 i))
 
 mul-result : tie.Need-mul-result
 mul-result c = search needs

@@ -24,7 +24,10 @@ in-class-requires : tie.Need-in-class-requires Inv-loop μ-loop
 in-class-requires c κs = search needs
 
 returns : tie.Need-returns Inv-loop μ-loop
-returns c = sym (laws.foreign-here _ _ (c .before .before .before .loop-test .taken) (sym (c .before .in-class .ensures) ∙ c .if1 .taken)) ∙ c .before .before .before .before .loop .inv
+returns c =
+    let at-loop-test = c .before .before .before in
+    let at-loop = at-loop-test .before in
+    sym (laws.foreign-here _ _ (at-loop-test .loop-test .taken) (sym (c .before .in-class .ensures) ∙ c .if1 .taken)) ∙ at-loop .loop .inv
 
 add-i : tie.Need-add-i Inv-loop μ-loop
 add-i c = search needs
@@ -33,7 +36,10 @@ loop-less : tie.Need-loop-less Inv-loop μ-loop
 loop-less c = search needs
 
 loop-again : tie.Need-loop-again Inv-loop μ-loop
-loop-again c = sym (laws.foreign-later _ _ (c .before .before .before .loop-test .taken) (sym (c .before .in-class .ensures) ∙ c .if1 .left)) ∙ c .before .before .before .before .loop .inv
+loop-again c =
+    let at-loop-test = c .before .before .before in
+    let at-loop = at-loop-test .before in
+    sym (laws.foreign-later _ _ (at-loop-test .loop-test .taken) (sym (c .before .in-class .ensures) ∙ c .if1 .left)) ∙ at-loop .loop .inv
 
 returns-2 : tie.Need-returns-2 Inv-loop μ-loop
 returns-2 c = sym (laws.foreign-none _ _ (c .loop-test .left)) ∙ c .before .loop .inv

@@ -16,7 +16,10 @@ enum-known-foreign : tie.Need-enum-known-foreign
 enum-known-foreign c = search needs
 
 returns-2 : tie.Need-returns-2
-returns-2 c = laws.foreign _ _ (c .before .before .before .before .if1 .left) (rw (c .before .foreign .given .1) at (c .before .before .before .first-foreign .ensures))
+returns-2 c =
+    let at-first-foreign = c .before .before .before in
+    let at-if1 = at-first-foreign .before in
+    laws.foreign _ _ (at-if1 .if1 .left) (rw (c .before .foreign .given .1) at (at-first-foreign .first-foreign .ensures))
 
 enum-told : tie.Need-enum-told
 enum-told c = search needs
@@ -25,10 +28,20 @@ is-sheet-requires : tie.Need-is-sheet-requires
 is-sheet-requires c κs = search needs
 
 returns-3 : tie.Need-returns-3
-returns-3 c = laws.a-sheet _ _ (c .before .before .before .before .before .if1 .left) (rw (c .before .before .enum-told .given .1) at (c .before .before .before .before .first-foreign .ensures)) (sym (c .if2 .taken) ∙ c .before .is-sheet .ensures)
+returns-3 c =
+    let at-enum-told = c .before .before in
+    let at-first-foreign = at-enum-told .before .before in
+    let at-if1 = at-first-foreign .before in
+    laws.a-sheet _ _ (at-if1 .if1 .left) (rw (at-enum-told .enum-told .given .1) at (at-first-foreign .first-foreign .ensures))
+    (sym (c .if2 .taken) ∙ c .before .is-sheet .ensures)
 
 returns-4 : tie.Need-returns-4
-returns-4 c = laws.no-sheet _ _ (c .before .before .before .before .before .if1 .left) (rw (c .before .before .enum-told .given .1) at (c .before .before .before .before .first-foreign .ensures)) (sym (c .if2 .left) ∙ c .before .is-sheet .ensures)
+returns-4 c =
+    let at-enum-told = c .before .before in
+    let at-first-foreign = at-enum-told .before .before in
+    let at-if1 = at-first-foreign .before in
+    laws.no-sheet _ _ (at-if1 .if1 .left) (rw (at-enum-told .enum-told .given .1) at (at-first-foreign .first-foreign .ensures))
+    (sym (c .if2 .left) ∙ c .before .is-sheet .ensures)
 
 pub open-sheet-spec : {M : Type 1} → statement M
 open-sheet-spec =

@@ -10,8 +10,9 @@ start-requires c κs = search needs
 parse-nodes-requires : tie.Need-parse-nodes-requires
 parse-nodes-requires c κs =
     let at-start = c .before in
-    let start = at-start .before .before .before in
-    (at-start .start .ensures .0, input-reached (start .args .text .now) (at-start .start .result) (at-start .start .ensures .1) (at-start .start .ensures .2) (start .pre))
+    let start = at-start .start in
+    let start-2 = at-start .before .before .before in
+    (start .ensures .0, input-reached (start-2 .args .text .now) (start .result) (start .ensures .1) (start .ensures .2) (start-2 .pre))
 
 enum-known-refusal : tie.Need-enum-known-refusal
 enum-known-refusal c = search needs
@@ -37,7 +38,8 @@ returns c =
     let at-parse-nodes = at-refusal .before .before .before .before in
     let at-start = at-parse-nodes .before .before in
     let start = at-start .before .before .before in
-    input-refused (start .args .text .now) (at-start .start .result) (at-start .start .ensures .1) (at-start .start .ensures .2) _ _ (rw (at-refusal .refusal .given .1) at (at-parse-nodes .parse-nodes .ensures))
+    input-refused (start .args .text .now) (at-start .start .result) (at-start .start .ensures .1) (at-start .start .ensures .2) _ _
+    (rw (at-refusal .refusal .given .1) at (at-parse-nodes .parse-nodes .ensures))
 
 same-length-2 : tie.Need-same-length-2
 same-length-2 c = search needs
@@ -49,7 +51,17 @@ returns-2 c =
     let at-parse-nodes = at-end .before .before .before .before in
     let at-start = at-parse-nodes .before .before in
     let start = at-start .before .before .before in
-    input-left (start .args .text .now) (at-start .start .result) (at-start .start .ensures .1) (at-start .start .ensures .2) (start .args .sheet .now) (at-parse-nodes .parse-nodes .last .1 .0) _ _ _ _ (rw (at-end .end .given .1) at (at-parse-nodes .parse-nodes .ensures)) _ (at-left .left .given .1)
+    input-left
+    (start .args .text .now)
+    (at-start .start .result)
+    (at-start .start .ensures .1)
+    (at-start .start .ensures .2)
+    (start .args .sheet .now)
+    (at-parse-nodes .parse-nodes .last .1 .0)
+    _ _ _ _
+    (rw (at-end .end .given .1) at (at-parse-nodes .parse-nodes .ensures))
+    _
+    (at-left .left .given .1)
 
 same-length-3 : tie.Need-same-length-3
 same-length-3 c = search needs
@@ -62,7 +74,19 @@ returns-3 c =
     let at-parse-nodes = at-end .before .before .before .before in
     let at-start = at-parse-nodes .before .before in
     let start = at-start .before .before .before in
-    input-done (start .args .text .now) (at-start .start .result) (at-start .start .ensures .1) (at-start .start .ensures .2) (start .args .sheet .now) (at-parse-nodes .parse-nodes .last .1 .0) _ _ _ _ (rw (at-end .end .given .1) at (at-parse-nodes .parse-nodes .ensures)) (at-patch-count .patch-count .last .0) _ (at-enum-told .enum-told .given .1) (at-patch-count .patch-count .ensures)
+    input-done
+    (start .args .text .now)
+    (at-start .start .result)
+    (at-start .start .ensures .1)
+    (at-start .start .ensures .2)
+    (start .args .sheet .now)
+    (at-parse-nodes .parse-nodes .last .1 .0)
+    _ _ _ _
+    (rw (at-end .end .given .1) at (at-parse-nodes .parse-nodes .ensures))
+    (at-patch-count .patch-count .last .0)
+    _
+    (at-enum-told .enum-told .given .1)
+    (at-patch-count .patch-count .ensures)
 
 pub parse-input-spec : {M : Type 1} → statement M
 parse-input-spec =

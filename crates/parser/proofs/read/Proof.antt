@@ -45,12 +45,26 @@ returns-3 c =
     let at-settle = c .before .before in
     let at-refusal = at-settle .before .before .before in
     let at-split = at-refusal .before .before .before .before in
+    let split = at-split .split in
     let at-if2 = at-split .before .before in
     let at-if1 = at-if2 .before in
     let start = at-if1 .before .before .before .before in
-    let z = split-zero (start .args .text .now) (start .args .scratch .now) (at-split .split .last .1 .0) (at-split .split .result) (at-if2 .if2 .left) (at-split .split .ensures) in
-    let e = split-refused (start .args .text .now) (start .args .scratch .now) (at-split .split .last .1 .0) (at-split .split .result) (at-if2 .if2 .left) (at-split .split .ensures) _ _ (at-refusal .refusal .given .1) in
-    read-refused (start .args .text .now) (start .args .scratch .now) (start .args .sheet .now) (at-if1 .if1 .left) (at-if2 .if2 .left) (at-split .split .last .1 .0) (at-settle .settle .last .0) (at-settle .settle .result) _ _ z e (at-settle .settle .ensures)
+    let args = start .args in
+    let z = split-zero (args .text .now) (args .scratch .now) (split .last .1 .0) (split .result) (at-if2 .if2 .left) (split .ensures) in
+    let e = split-refused (args .text .now) (args .scratch .now) (split .last .1 .0) (split .result) (at-if2 .if2 .left) (split .ensures) _
+    _ (at-refusal .refusal .given .1)
+    in
+    read-refused
+    (args .text .now)
+    (args .scratch .now)
+    (args .sheet .now)
+    (at-if1 .if1 .left)
+    (at-if2 .if2 .left)
+    (split .last .1 .0)
+    (at-settle .settle .last .0)
+    (at-settle .settle .result)
+    _ _ z e
+    (at-settle .settle .ensures)
 
 same-length-3 : tie.Need-same-length-3
 same-length-3 c = search needs
@@ -62,14 +76,33 @@ returns-4 : tie.Need-returns-4
 returns-4 c =
     let at-settle2 = c .before .before in
     let at-parse-input = at-settle2 .before .before .before .before in
+    let parse-input = at-parse-input .parse-input in
     let at-enum-told = at-parse-input .before .before in
     let at-split = at-enum-told .before .before .before .before in
+    let split = at-split .split in
     let at-if2 = at-split .before .before in
     let at-if1 = at-if2 .before in
     let start = at-if1 .before .before .before .before in
-    let z = split-zero (start .args .text .now) (start .args .scratch .now) (at-split .split .last .1 .0) (at-split .split .result) (at-if2 .if2 .left) (at-split .split .ensures) in
-    let e = split-accepted (start .args .text .now) (start .args .scratch .now) (at-split .split .last .1 .0) (at-split .split .result) (at-if2 .if2 .left) (at-split .split .ensures) (at-enum-told .enum-told .given .1) in
-    read-tree (start .args .text .now) (start .args .scratch .now) (start .args .sheet .now) (at-if1 .if1 .left) (at-if2 .if2 .left) (at-split .split .last .1 .0) (at-settle2 .settle2 .last .0) (at-parse-input .parse-input .last .1 .0) (at-settle2 .settle2 .result) (at-parse-input .parse-input .result) z e (at-parse-input .parse-input .kept .1 .0) (at-parse-input .parse-input .ensures) (at-settle2 .settle2 .ensures)
+    let args = start .args in
+    let z = split-zero (args .text .now) (args .scratch .now) (split .last .1 .0) (split .result) (at-if2 .if2 .left) (split .ensures) in
+    let e = split-accepted (args .text .now) (args .scratch .now) (split .last .1 .0) (split .result) (at-if2 .if2 .left) (split .ensures)
+    (at-enum-told .enum-told .given .1)
+    in
+    read-tree
+    (args .text .now)
+    (args .scratch .now)
+    (args .sheet .now)
+    (at-if1 .if1 .left)
+    (at-if2 .if2 .left)
+    (split .last .1 .0)
+    (at-settle2 .settle2 .last .0)
+    (parse-input .last .1 .0)
+    (at-settle2 .settle2 .result)
+    (parse-input .result)
+    z e
+    (parse-input .kept .1 .0)
+    (parse-input .ensures)
+    (at-settle2 .settle2 .ensures)
 
 pub read-spec : {M : Type 1} → statement M
 read-spec =

@@ -25,7 +25,8 @@ returns c =
     let at-if1 = at-clear2 .before .before in
     let at-answer2 = at-if1 .before .before in
     let start = at-answer2 .before .before .before in
-    rw (at-answer2 .answer2 .given .1) (settled-short (start .args .sheet .now) (at-clear2 .clear2 .last .0) _ _ (at-if1 .if1 .taken) (at-clear2 .clear2 .ensures))
+    rw (at-answer2 .answer2 .given .1)
+    (settled-short (start .args .sheet .now) (at-clear2 .clear2 .last .0) _ _ (at-if1 .if1 .taken) (at-clear2 .clear2 .ensures))
 
 clear-requires-3 : tie.Need-clear-requires-3
 clear-requires-3 c κs = search needs
@@ -49,7 +50,8 @@ returns-3 c =
     let at-if1 = at-clear3 .before .before in
     let at-answer2 = at-if1 .before .before in
     let start = at-answer2 .before .before .before in
-    rw (at-answer2 .answer2 .given .1) (settled-accepted (start .args .sheet .now) (at-clear3 .clear3 .last .0) _ _ (at-if1 .if1 .left) (at-clear3 .clear3 .ensures))
+    rw (at-answer2 .answer2 .given .1)
+    (settled-accepted (start .args .sheet .now) (at-clear3 .clear3 .last .0) _ _ (at-if1 .if1 .left) (at-clear3 .clear3 .ensures))
 
 pub settle-spec : {M : Type 1} → statement M
 settle-spec =

@@ -22,7 +22,9 @@ returns c =
     let at-if1 = at-part .before in
     let at-byte-at = at-if1 .before in
     let start = at-byte-at .before .before .before in
-    c .is-hex-color .ensures ∙ color-hex _ (start .args .s .now) (at-byte-at .byte-at .result) (at-byte-at .byte-at .ensures) _ (at-if1 .if1 .taken) (at-part .part .ensures)
+    c .is-hex-color .ensures
+    ∙ color-hex _ (start .args .s .now) (at-byte-at .byte-at .result) (at-byte-at .byte-at .ensures) _ (at-if1 .if1 .taken)
+    (at-part .part .ensures)
 
 slice-aggregate-lower-into : tie.Need-slice-aggregate-lower-into
 slice-aggregate-lower-into c = search needs
@@ -34,7 +36,9 @@ array-share-prefix-name : tie.Need-array-share-prefix-name
 array-share-prefix-name c = puts-fits (c .before .lower-into .ensures)
 
 slice-aggregate-is-listed : tie.Need-slice-aggregate-is-listed
-slice-aggregate-is-listed c = sym (length-take-le (c .before .before .lower-into .result) (c .before .before .lower-into .last .1 .0) (puts-fits (c .before .before .lower-into .ensures)))
+slice-aggregate-is-listed c =
+    let lower-into = c .before .before .lower-into in
+    sym (length-take-le (lower-into .result) (lower-into .last .1 .0) (puts-fits (lower-into .ensures)))
 
 is-listed-requires : tie.Need-is-listed-requires
 is-listed-requires c κs = search needs
@@ -45,7 +49,9 @@ returns-2 c =
     let at-if1 = at-lower-into .before .before in
     let at-byte-at = at-if1 .before in
     let start = at-byte-at .before .before .before in
-    c .is-listed .ensures ∙ color-name _ (start .args .s .now) (at-byte-at .byte-at .result) (at-byte-at .byte-at .ensures) _ (at-if1 .if1 .left) (start .pre) (puts-front (at-lower-into .lower-into .ensures))
+    c .is-listed .ensures
+    ∙ color-name _ (start .args .s .now) (at-byte-at .byte-at .result) (at-byte-at .byte-at .ensures) _ (at-if1 .if1 .left) (start .pre)
+    (puts-front (at-lower-into .lower-into .ensures))
 
 pub is-color-spec : {M : Type 1} → statement M
 is-color-spec =

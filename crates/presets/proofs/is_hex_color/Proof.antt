@@ -12,7 +12,11 @@ run-end-requires : tie.Need-run-end-requires
 run-end-requires c κs = search needs
 
 returns : tie.Need-returns
-returns c = hex-digits (c .before .before .before .before .args .digits .now) (c .run-end .result) (sym (c .before .before .is-hex-size .ensures) ∙ c .before .if1 .taken) (c .run-end .ensures)
+returns c =
+    let at-is-hex-size = c .before .before in
+    let start = at-is-hex-size .before .before in
+    hex-digits (start .args .digits .now) (c .run-end .result) (sym (at-is-hex-size .is-hex-size .ensures) ∙ c .before .if1 .taken)
+    (c .run-end .ensures)
 
 returns-2 : tie.Need-returns-2
 returns-2 c = hex-no (c .before .before .before .args .digits .now) (sym (c .before .is-hex-size .ensures) ∙ c .if1 .left)

@@ -45,14 +45,17 @@ put-decimal-same-length t c = search needs
 
 put-decimal-returns-2 : (t : ℕ) → put-decimal-lts.Need-returns-2 (put-decimal-calls t) (put-decimal-at t) put-decimal.Post
 put-decimal-returns-2 t c =
-    let tests = c .before .before .before .before in
-    let start = tests .before .before .before in
-    rw (decimal-one (start .args .digits) (start .args .n) (omega (arith, tests .before .if1 .left)) (tests .if2 .taken)) (c .before .before .put .ensures)
+    let at-put = c .before .before in
+    let tests = at-put .before .before in
+    let at-if1 = tests .before in
+    let start = at-if1 .before .before in
+    rw (decimal-one (start .args .digits) (start .args .n) (omega (arith, at-if1 .if1 .left)) (tests .if2 .taken)) (at-put .put .ensures)
 
 put-decimal-sub-put-decimal : (t : ℕ) → put-decimal-lts.Need-sub-put-decimal (put-decimal-calls t) (put-decimal-at t) put-decimal.Post
 put-decimal-sub-put-decimal t c = search needs
 
-put-decimal-put-decimal-requires : (t : ℕ) → put-decimal-lts.Need-put-decimal-requires (put-decimal-calls t) (put-decimal-at t) put-decimal.Post
+put-decimal-put-decimal-requires : (t : ℕ)
+    → put-decimal-lts.Need-put-decimal-requires (put-decimal-calls t) (put-decimal-at t) put-decimal.Post
 put-decimal-put-decimal-requires t c κs = search needs
 
 put-decimal-cast-put-2 : (t : ℕ) → put-decimal-lts.Need-cast-put-2 (put-decimal-calls t) (put-decimal-at t) put-decimal.Post
@@ -69,10 +72,13 @@ put-decimal-same-length-2 t c = search needs
 
 put-decimal-returns-3 : (t : ℕ) → put-decimal-lts.Need-returns-3 (put-decimal-calls t) (put-decimal-at t) put-decimal.Post
 put-decimal-returns-3 t c =
-    let front = c .before .before .before .before .before .before in
+    let at-put2 = c .before .before in
+    let front = at-put2 .before .before .before .before in
     let tests = front .before .before in
-    let start = tests .before .before .before in
-    rw (decimal-more (start .args .digits) (start .args .n) (omega (arith, tests .before .if1 .left)) (tests .if2 .left)) (puts-then (front .put-decimal .ensures) (c .before .before .put2 .ensures))
+    let at-if1 = tests .before in
+    let start = at-if1 .before .before in
+    rw (decimal-more (start .args .digits) (start .args .n) (omega (arith, at-if1 .if1 .left)) (tests .if2 .left))
+    (puts-then (front .put-decimal .ensures) (at-put2 .put2 .ensures))
 
 pub +put-decimal-spec : {M : Type 1} → statement M
 +put-decimal-spec = close μ-put-decimal λ t. put-decimal-lts.spec (put-decimal-calls t)

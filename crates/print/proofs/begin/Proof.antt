@@ -22,13 +22,17 @@ same-length-2 c = search needs
 
 returns : tie.Need-returns
 returns c =
-    let call = c .before .before .before .before .before in
-    let start = call .before .before .before .before .before .before in
+    let c4 = c .before .before .before .before in
+    let call = c4 .before in
+    let c9 = call .before .before .before .before in
+    let start = c9 .before .before in
     let e = call .read-and-check .ensures .0 in (
       ap (λ (r : ReadAnswer × List ℕ × List ℕ). r .1) e,
       (
         ap (λ (r : ReadAnswer × List ℕ × List ℕ). r .2) e,
-        rw (c .first-stage .ensures) (the-first (start .args .text .now) (start .args .scratch .now) (start .args .sheet .now) _ _ (call .read-and-check .result) e (call .read-and-check .ensures .1 .0)),
+        rw (c .first-stage .ensures)
+            (the-first (start .args .text .now) (start .args .scratch .now) (start .args .sheet .now) _ _ (call .read-and-check .result) e
+            (call .read-and-check .ensures .1 .0)),
       ),
     )
 

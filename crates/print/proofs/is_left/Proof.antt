@@ -18,7 +18,9 @@ enum-told-4 : tie.Need-enum-told-4
 enum-told-4 c = search needs
 
 returns : tie.Need-returns
-returns c = rw (c .enum-told .given .1) (sym (line-left (c .enum-told .given .0 .0) (c .enum-told .given .0 .1 .0) (c .enum-told .given .0 .1 .1 .0)))
+returns c =
+    rw (c .enum-told .given .1)
+    (sym (line-left (c .enum-told .given .0 .0) (c .enum-told .given .0 .1 .0) (c .enum-told .given .0 .1 .1 .0)))
 
 returns-2 : tie.Need-returns-2
 returns-2 c = rw (c .enum-told2 .given .1)

@@ -42,16 +42,36 @@ same-length-2 : tie.Need-same-length-2 Inv-loop μ-loop
 same-length-2 c = search needs
 
 same-length-3 : tie.Need-same-length-3 Inv-loop μ-loop
-same-length-3 c = c .before .before .before .before .before .step .kept .1 .1 .0 ∙ c .before .before .before .before .before .before .before .before .before .before .loop .inv
+same-length-3 c =
+    let c4 = c .before .before .before .before in
+    let at-step = c4 .before in
+    let c9 = at-step .before .before .before .before in
+    let at-loop = c9 .before in
+    at-step .step .kept .1 .1 .0 ∙ at-loop .loop .inv
 
 returns : tie.Need-returns Inv-loop μ-loop
-returns c = let call = c .before .before .before .before .before .before .before .before .before .before .before .before .before .before .before in (call .begin .ensures .0, call .begin .ensures .1 .0)
+returns c =
+    let c4 = c .before .before .before .before in
+    let c8 = c4 .before .before .before .before in
+    let c12 = c8 .before .before .before .before in
+    let call = c12 .before .before .before in
+    (call .begin .ensures .0, call .begin .ensures .1 .0)
 
 loop-less : tie.Need-loop-less Inv-loop μ-loop
-loop-less c = let made = c .before .before .before .before .before in made .step .ensures .falls (ltb-true 0 _ (sym (made .before .before .before .before .is-left .ensures) ∙ made .before .before .before .if1 .taken))
+loop-less c =
+    let c4 = c .before .before .before .before in
+    let made = c4 .before in
+    let at-if1 = made .before .before .before in
+    let at-is-left = at-if1 .before in
+    made .step .ensures .falls (ltb-true 0 _ (sym (at-is-left .is-left .ensures) ∙ at-if1 .if1 .taken))
 
 loop-again : tie.Need-loop-again Inv-loop μ-loop
-loop-again c = c .before .before .before .before .before .step .kept .1 .1 .0 ∙ c .before .before .before .before .before .before .before .before .before .before .loop .inv
+loop-again c =
+    let c4 = c .before .before .before .before in
+    let at-step = c4 .before in
+    let c9 = at-step .before .before .before .before in
+    let at-loop = c9 .before in
+    at-step .step .kept .1 .1 .0 ∙ at-loop .loop .inv
 
 same-length-4 : tie.Need-same-length-4 Inv-loop μ-loop
 same-length-4 c = search needs
@@ -63,7 +83,10 @@ same-length-6 : tie.Need-same-length-6 Inv-loop μ-loop
 same-length-6 c = c .before .before .loop .inv
 
 returns-2 : tie.Need-returns-2 Inv-loop μ-loop
-returns-2 c = let call = c .before .before .before .before .before .before .before in (call .begin .ensures .0, call .begin .ensures .1 .0)
+returns-2 c =
+    let c4 = c .before .before .before .before in
+    let call = c4 .before .before .before in
+    (call .begin .ensures .0, call .begin .ensures .1 .0)
 
 pub print-spec : {M : Type 1} → statement M
 print-spec =

@@ -23,9 +23,10 @@ same-length c = search needs
 returns : tie.Need-returns
 unfolding accept
 returns c =
-    let number = c .before .before .before .before .before .before in
+    let at-put = c .before .before in
+    let number = at-put .before .before .before .before in
     let word = number .before .before .before .before in
-    puts-then (puts-then (word .put-word .ensures) (number .put-decimal .ensures)) (c .before .before .put .ensures)
+    puts-then (puts-then (word .put-word .ensures) (number .put-decimal .ensures)) (at-put .put .ensures)
 
 pub put-accept-spec : {M : Type 1} → statement M
 put-accept-spec =

@@ -38,13 +38,18 @@ same-length c = search needs
 returns : tie.Need-returns
 unfolding refusal
 returns c =
-    let place = c .before .before .before .before .before .before in
+    let at-put = c .before .before in
+    let place = at-put .before .before .before .before in
     let middle = place .before .before .before .before in
-    let number = middle .before .before .before .before .before in
-    let word = number .before .before .before .before .before in
+    let c14 = middle .before .before .before .before in
+    let number = c14 .before in
+    let at-number-of = number .before in
+    let word = at-number-of .before .before .before .before in
     puts-then
-    (puts-then (puts-then (puts-then (word .put-word .ensures) (rw (number .before .number-of .ensures) at (number .put-decimal .ensures))) (middle .put-word2 .ensures)) (place .put-decimal2 .ensures))
-    (c .before .before .put .ensures)
+    (puts-then (puts-then (puts-then (word .put-word .ensures) (rw (at-number-of .number-of .ensures) at (number .put-decimal .ensures)))
+    (middle .put-word2 .ensures))
+    (place .put-decimal2 .ensures))
+    (at-put .put .ensures)
 
 pub put-refusal-spec : {M : Type 1} → statement M
 put-refusal-spec =

@@ -11,7 +11,8 @@ use Rattle.print.proofs.put_word.Statement.{statement}
 use Rattle.print.proofs.put_word.Tie as tie
 
 abbrev Inv-loop : tie.InvT-loop
-Inv-loop out₀ at word end₀ i₀ out end i = (length out ≡ length out₀) × ((after : List ℕ) (e : ℕ) → Puts out end (drop i word) after e → Puts out₀ at word after e)
+Inv-loop out₀ at word end₀ i₀ out end i =
+    (length out ≡ length out₀) × ((after : List ℕ) (e : ℕ) → Puts out end (drop i word) after e → Puts out₀ at word after e)
 
 abbrev μ-loop : tie.MeasureT-loop
 μ-loop out₀ at word end₀ i₀ out end i = length word - i
@@ -38,14 +39,17 @@ loop-again c =
     let at-loop = in-loop .before in
     let start = at-loop .before .before .before in (
       at-put .put .kept .0 ∙ at-loop .loop .inv .0,
-      λ after e p. at-loop .loop .inv .1 after e (rw (word-at (start .args .word .now) (at-loop .loop .i) (in-loop .loop-test .taken)) (puts-then (at-put .put .ensures) p)),
+      λ after e p. at-loop .loop .inv .1 after e
+          (rw (word-at (start .args .word .now) (at-loop .loop .i) (in-loop .loop-test .taken)) (puts-then (at-put .put .ensures) p)),
     )
 
 same-length : tie.Need-same-length Inv-loop μ-loop
 same-length c = c .before .loop .inv .0
 
 returns : tie.Need-returns Inv-loop μ-loop
-returns c = c .before .loop .inv .1 _ _ (rw (drop-of-length-le (c .before .before .before .before .args .word .now) (c .loop-test .left)) (puts-none _ _))
+returns c =
+    let start = c .before .before .before .before in
+    c .before .loop .inv .1 _ _ (rw (drop-of-length-le (start .args .word .now) (c .loop-test .left)) (puts-none _ _))
 
 pub put-word-spec : {M : Type 1} → statement M
 put-word-spec =

@@ -33,7 +33,8 @@ same-length c = search needs
 returns : tie.Need-returns
 returns c =
     let made = c .before .before in
-    rw (made .before .before .before .stage .given .1) (made .step-line .ensures)
+    let at-stage = made .before .before .before in
+    rw (at-stage .stage .given .1) (made .step-line .ensures)
 
 same-length-2 : tie.Need-same-length-2
 same-length-2 c = search needs
@@ -41,7 +42,8 @@ same-length-2 c = search needs
 returns-2 : tie.Need-returns-2
 returns-2 c =
     let made = c .before .before in
-    rw (made .before .before .before .stage2 .given .1) (step-last _ _ _ (Accept _) _ _ _ refl refl (accept-short _) (made .put-accept .ensures))
+    let at-stage2 = made .before .before .before in
+    rw (at-stage2 .stage2 .given .1) (step-last _ _ _ (Accept _) _ _ _ refl refl (accept-short _) (made .put-accept .ensures))
 
 same-length-3 : tie.Need-same-length-3
 same-length-3 c = search needs
@@ -49,7 +51,8 @@ same-length-3 c = search needs
 returns-3 : tie.Need-returns-3
 returns-3 c =
     let made = c .before .before in
-    rw (made .before .before .before .stage3 .given .1) (step-last _ _ _ (Refuse _ _) _ _ _ refl refl (refusal-short _ _) (made .put-refusal .ensures))
+    let at-stage3 = made .before .before .before in
+    rw (at-stage3 .stage3 .given .1) (step-last _ _ _ (Refuse _ _) _ _ _ refl refl (refusal-short _ _) (made .put-refusal .ensures))
 
 returns-4 : tie.Need-returns-4
 returns-4 c = rw (c .enum-told .given .1) (step-done _ _ _)

@@ -24,20 +24,37 @@ same-length c = search needs
 
 returns : tie.Need-returns
 returns c =
-    let lined = c .before .before .before .before .before .before in
-    let start = lined .before .before .before .before .before .before in
-    let e = rw (lined .before .before .part .ensures, c .before .before .length .given .1) at (lined .line .ensures) in
-    rw (c .after-line .ensures) (step-line (start .args .text .now) (start .args .sheet .now) (start .args .out .now) (start .args .size) (start .args .records) (start .args .ordinal) _ _ (lined .line .kept .1 .1 .1 .0) e)
+    let at-length = c .before .before in
+    let lined = at-length .before .before .before .before in
+    let at-part = lined .before .before in
+    let start = at-part .before .before .before .before in
+    let args = start .args in
+    let e = rw (at-part .part .ensures, at-length .length .given .1) at (lined .line .ensures) in
+    rw (c .after-line .ensures)
+    (step-line (args .text .now) (args .sheet .now) (args .out .now) (args .size) (args .records) (args .ordinal) _ _
+    (lined .line .kept .1 .1 .1 .0) e)
 
 same-length-2 : tie.Need-same-length-2
 same-length-2 c = search needs
 
 returns-2 : tie.Need-returns-2
 returns-2 c =
-    let lined = c .before .before .before .before .before in
-    let start = lined .before .before .before .before .before .before in
-    let e = rw (lined .before .before .part .ensures, c .before .refusal .given .1) at (lined .line .ensures) in
-    step-refused (start .args .text .now) (start .args .sheet .now) (start .args .out .now) (start .args .size) (start .args .records) (start .args .ordinal) _ _ _ (lined .line .kept .1 .1 .1 .0) e
+    let at-refusal = c .before in
+    let lined = at-refusal .before .before .before .before in
+    let at-part = lined .before .before in
+    let start = at-part .before .before .before .before in
+    let args = start .args in
+    let e = rw (at-part .part .ensures, at-refusal .refusal .given .1) at (lined .line .ensures) in
+    step-refused
+    (args .text .now)
+    (args .sheet .now)
+    (args .out .now)
+    (args .size)
+    (args .records)
+    (args .ordinal)
+    _ _ _
+    (lined .line .kept .1 .1 .1 .0)
+    e
 
 pub step-line-spec : {M : Type 1} → statement M
 step-line-spec =

@@ -4,7 +4,8 @@ use mathlib.Core.Path.{sym, _∙_}
 use native.Mathlib.Omega.{arith}
 use borrow.Author.Needs.{needs}
 use lib.ListN.{length}
-use Rattle.reader.proofs.CountLaws.{Counted, counted-none, counted-below, counted-all, counted-moves, counted-next, not-true, not-false}
+use Rattle.reader.proofs.CountLaws.{Counted, counted-none, counted-below, counted-all}
+use Rattle.reader.proofs.CountLaws.{counted-moves, counted-next, not-true, not-false}
 use Rattle.reader.proofs.count_from.Statement.{statement}
 use Rattle.reader.proofs.count_from.Tie as tie
 
@@ -21,19 +22,64 @@ sees-requires : tie.Need-sees-requires Inv-loop μ-loop
 sees-requires c κs = search needs
 
 add-n : tie.Need-add-n Inv-loop μ-loop
-add-n c = record { fits = let a = counted-below (c .before .before .before .before .args .text .now) (c .before .before .before .before .args .c) (c .before .before .loop .m) (c .before .before .loop .n) (c .before .before .loop .inv) (sym (c .before .sees .ensures (c .before .before .before .before .args .text .now) (c .before .before .loop .inv .ready)) ∙ not-true _ (c .if1 .taken)) in omega (arith, c .before .before .loop .inv .few) }
+add-n c =
+    let at-loop = c .before .before in
+    let loop = at-loop .loop in
+    let args = at-loop .before .before .args in
+    record {
+      fits = let a = counted-below
+          (args .text .now)
+          (args .c)
+          (loop .m)
+          (loop .n)
+          (loop .inv)
+          (sym (c .before .sees .ensures (args .text .now) (loop .inv .ready)) ∙ not-true _ (c .if1 .taken))
+          in
+          omega (arith, loop .inv .few);
+    }
 
 advance-requires : tie.Need-advance-requires Inv-loop μ-loop
 advance-requires c κs = c .before .before .loop .inv .ready
 
 loop-less : tie.Need-loop-less Inv-loop μ-loop
-loop-less c = let a = counted-moves (c .before .before .before .before .before .args .text .now) (c .before .before .before .before .before .args .c) (c .before .before .before .loop .m) (c .before .before .before .loop .n) (c .before .before .before .loop .inv) (c .advance .result) (c .advance .ensures) (sym (c .before .before .sees .ensures (c .before .before .before .before .before .args .text .now) (c .before .before .before .loop .inv .ready)) ∙ not-true _ (c .before .if1 .taken)) in omega (arith, c .advance .ensures .ready .high)
+loop-less c =
+    let at-sees = c .before .before in
+    let at-loop = at-sees .before in
+    let loop = at-loop .loop in
+    let args = at-loop .before .before .args in
+    let a = counted-moves (args .text .now) (args .c) (loop .m) (loop .n) (loop .inv) (c .advance .result) (c .advance .ensures)
+    (sym (at-sees .sees .ensures (args .text .now) (loop .inv .ready)) ∙ not-true _ (c .before .if1 .taken))
+    in
+    omega (arith, c .advance .ensures .ready .high)
 
 loop-again : tie.Need-loop-again Inv-loop μ-loop
-loop-again c = counted-next (c .before .before .before .before .before .args .text .now) (c .before .before .before .before .before .args .c) (c .before .before .before .loop .m) (c .before .before .before .loop .n) (c .before .before .before .loop .inv) (c .advance .result) (c .advance .ensures) (sym (c .before .before .sees .ensures (c .before .before .before .before .before .args .text .now) (c .before .before .before .loop .inv .ready)) ∙ not-true _ (c .before .if1 .taken))
+loop-again c =
+    let at-sees = c .before .before in
+    let at-loop = at-sees .before in
+    let loop = at-loop .loop in
+    let args = at-loop .before .before .args in
+    counted-next
+    (args .text .now)
+    (args .c)
+    (loop .m)
+    (loop .n)
+    (loop .inv)
+    (c .advance .result)
+    (c .advance .ensures)
+    (sym (at-sees .sees .ensures (args .text .now) (loop .inv .ready)) ∙ not-true _ (c .before .if1 .taken))
 
 returns : tie.Need-returns Inv-loop μ-loop
-returns c = counted-all (c .before .before .before .before .args .text .now) (c .before .before .before .before .args .c) (c .before .before .loop .m) (c .before .before .loop .n) (c .before .before .loop .inv) (sym (c .before .sees .ensures (c .before .before .before .before .args .text .now) (c .before .before .loop .inv .ready)) ∙ not-false _ (c .if1 .left))
+returns c =
+    let at-loop = c .before .before in
+    let loop = at-loop .loop in
+    let args = at-loop .before .before .args in
+    counted-all
+    (args .text .now)
+    (args .c)
+    (loop .m)
+    (loop .n)
+    (loop .inv)
+    (sym (c .before .sees .ensures (args .text .now) (loop .inv .ready)) ∙ not-false _ (c .if1 .left))
 
 pub count-from-spec : {M : Type 1} → statement M
 count-from-spec = tie.close (tie.spec Inv-loop μ-loop loop-holds sees-requires add-n advance-requires loop-less loop-again returns)

@@ -1,4 +1,5 @@
--- `records::walk_node` and `records::walk_nodes` meet their contracts: a node is its record and then the nodes in it; bytes left fall from a node to the nodes in it. Assumes nothing.
+-- `records::walk_node` and `records::walk_nodes` meet their contracts: a node is its record and then the nodes in it; bytes left fall from
+-- a node to the nodes in it. Assumes nothing.
 use Prim.Native.Nat.{_*_, _+_, _-_, _≤_, ℕ, _<_}
 use native.Mathlib.Omega.{arith}
 use lib.ListN.{length}
@@ -75,7 +76,14 @@ walk-node-returns-2 t c =
     let at-kind = at-if2 .before .before in
     let at-take-record = at-kind .before .before in
     let start = at-take-record .before .before .before in
-    walks.too-deep (start .args .n) (start .args .depth) _ passed tt (at-if2 .if2 .taken) (rw (at-kind .kind .given .1) at (at-take-record .take-record .ensures)) (walks.is-container (at-kind .kind .given .0 .0)) (c .lost2 .ensures)
+    walks.too-deep
+    (start .args .n)
+    (start .args .depth)
+    _ passed tt
+    (at-if2 .if2 .taken)
+    (rw (at-kind .kind .given .1) at (at-take-record .take-record .ensures))
+    (walks.is-container (at-kind .kind .given .0 .0))
+    (c .lost2 .ensures)
 
 walk-node-sub-walk-nodes : (t : ℕ) → walk-node-lts.Need-sub-walk-nodes (node-calls t) (walk-node-at t) walk-node.Post
 walk-node-sub-walk-nodes t c = search needs
@@ -98,37 +106,56 @@ walk-node-returns-4 t c =
     let at-kind = c .before .before .before in
     let at-take-record = at-kind .before .before in
     let start = at-take-record .before .before .before in
-    walks.a-container (start .args .n) (start .args .depth) _ passed tt (omega arith) (rw (at-kind .kind .given .1) at (at-take-record .take-record .ensures)) (walks.is-container (at-kind .kind .given .0 .0)) (c .walk-nodes .ensures)
+    walks.a-container
+    (start .args .n)
+    (start .args .depth)
+    _ passed tt
+    (omega arith)
+    (rw (at-kind .kind .given .1) at (at-take-record .take-record .ensures))
+    (walks.is-container (at-kind .kind .given .0 .0))
+    (c .walk-nodes .ensures)
 
 abbrev walk-nodes-Inv-loop : walk-nodes-lts.InvT-loop
-walk-nodes-Inv-loop s at n depth count a₀ k₀ a k = (k ≤ count) × (length s - a ≤ length s - at) × walks.Going n (inner n depth) s at count a k
+walk-nodes-Inv-loop s at n depth count a₀ k₀ a k =
+    (k ≤ count) × (length s - a ≤ length s - at) × walks.Going n (inner n depth) s at count a k
 
 abbrev walk-nodes-μ-loop : walk-nodes-lts.MeasureT-loop
 walk-nodes-μ-loop s at n depth count a₀ k₀ a k = count - k
 
-walk-nodes-loop-holds : (t : ℕ) → walk-nodes-lts.Need-loop-holds (nodes-calls t) (walk-nodes-at t) walk-nodes.Post walk-nodes-Inv-loop walk-nodes-μ-loop
-walk-nodes-loop-holds t c = (omega arith, omega arith, walks.going-start (c .before .args .n) (inner (c .before .args .n) (c .before .args .depth)) _ _ (c .before .args .count))
+walk-nodes-loop-holds : (t : ℕ)
+    → walk-nodes-lts.Need-loop-holds (nodes-calls t) (walk-nodes-at t) walk-nodes.Post walk-nodes-Inv-loop walk-nodes-μ-loop
+walk-nodes-loop-holds t c = (
+  omega arith,
+  omega arith,
+  walks.going-start (c .before .args .n) (inner (c .before .args .n) (c .before .args .depth)) _ _ (c .before .args .count),
+)
 
-walk-nodes-walk-node-requires : (t : ℕ) → walk-nodes-lts.Need-walk-node-requires (nodes-calls t) (walk-nodes-at t) walk-nodes.Post walk-nodes-Inv-loop walk-nodes-μ-loop
+walk-nodes-walk-node-requires : (t : ℕ)
+    → walk-nodes-lts.Need-walk-node-requires (nodes-calls t) (walk-nodes-at t) walk-nodes.Post walk-nodes-Inv-loop walk-nodes-μ-loop
 walk-nodes-walk-node-requires t c κs = (omega (arith, c .before .before .before .pre .0, c .before .loop .inv), tt)
 
-walk-nodes-add-k : (t : ℕ) → walk-nodes-lts.Need-add-k (nodes-calls t) (walk-nodes-at t) walk-nodes.Post walk-nodes-Inv-loop walk-nodes-μ-loop
+walk-nodes-add-k : (t : ℕ)
+    → walk-nodes-lts.Need-add-k (nodes-calls t) (walk-nodes-at t) walk-nodes.Post walk-nodes-Inv-loop walk-nodes-μ-loop
 walk-nodes-add-k t c = omega arith
 
-walk-nodes-loop-less : (t : ℕ) → walk-nodes-lts.Need-loop-less (nodes-calls t) (walk-nodes-at t) walk-nodes.Post walk-nodes-Inv-loop walk-nodes-μ-loop
+walk-nodes-loop-less : (t : ℕ)
+    → walk-nodes-lts.Need-loop-less (nodes-calls t) (walk-nodes-at t) walk-nodes.Post walk-nodes-Inv-loop walk-nodes-μ-loop
 walk-nodes-loop-less t c = omega arith
 
-walk-nodes-loop-again : (t : ℕ) → walk-nodes-lts.Need-loop-again (nodes-calls t) (walk-nodes-at t) walk-nodes.Post walk-nodes-Inv-loop walk-nodes-μ-loop
+walk-nodes-loop-again : (t : ℕ)
+    → walk-nodes-lts.Need-loop-again (nodes-calls t) (walk-nodes-at t) walk-nodes.Post walk-nodes-Inv-loop walk-nodes-μ-loop
 walk-nodes-loop-again t c =
     let at-loop-test = c .before in
     let at-loop = at-loop-test .before in
     let start = at-loop .before .before in (
       omega arith,
       omega (arith, walks.nearer (c .walk-node .ensures), at-loop .loop .inv),
-      walks.going-next (start .args .n) (inner (start .args .n) (start .args .depth)) _ _ _ _ _ _ (at-loop-test .loop-test .taken) (c .walk-node .ensures) (at-loop .loop .inv .2),
+      walks.going-next (start .args .n) (inner (start .args .n) (start .args .depth)) _ _ _ _ _ _ (at-loop-test .loop-test .taken)
+          (c .walk-node .ensures) (at-loop .loop .inv .2),
     )
 
-walk-nodes-returns : (t : ℕ) → walk-nodes-lts.Need-returns (nodes-calls t) (walk-nodes-at t) walk-nodes.Post walk-nodes-Inv-loop walk-nodes-μ-loop
+walk-nodes-returns : (t : ℕ)
+    → walk-nodes-lts.Need-returns (nodes-calls t) (walk-nodes-at t) walk-nodes.Post walk-nodes-Inv-loop walk-nodes-μ-loop
 walk-nodes-returns t c =
     let at-loop = c .before in
     let start = at-loop .before .before in

@@ -17,7 +17,10 @@ walk-nodes-requires : tie.Need-walk-nodes-requires
 walk-nodes-requires c κs = search needs
 
 returns-2 : tie.Need-returns-2
-returns-2 c = walks.decides _ _ (c .before .before .before .if1 .left) (c .before .before .take-field .ensures .reads) (c .walk-nodes .ensures)
+returns-2 c =
+    let at-take-field = c .before .before in
+    let at-if1 = at-take-field .before in
+    walks.decides _ _ (at-if1 .if1 .left) (at-take-field .take-field .ensures .reads) (c .walk-nodes .ensures)
 
 pub is-sheet-spec : {M : Type 1} → statement M
 is-sheet-spec =

@@ -12,7 +12,9 @@ use Rattle.records.proofs.record_at.Statement.{statement}
 use Rattle.records.proofs.record_at.Tie as tie
 
 abbrev Inv-loop : tie.InvT-loop
-Inv-loop bytes text-len ordinal start₀ end₀ k₀ start end k = (k ≤ ordinal) × (start ≤ end) × ((ns : Forest) → decode text-len bytes ≡ some ns → places.Stands text-len bytes (allRecords text-len ns) k start end)
+Inv-loop bytes text-len ordinal start₀ end₀ k₀ start end k =
+    (k ≤ ordinal) × (start ≤ end)
+    × ((ns : Forest) → decode text-len bytes ≡ some ns → places.Stands text-len bytes (allRecords text-len ns) k start end)
 
 abbrev μ-loop : tie.MeasureT-loop
 μ-loop bytes text-len ordinal start₀ end₀ k₀ start end k = ordinal - k
@@ -24,7 +26,12 @@ loop-holds : tie.Need-loop-holds Inv-loop μ-loop
 loop-holds c = (omega arith, omega arith, λ ns e. places.first _ _ ns e (c .take-field .ensures .reads))
 
 returns : tie.Need-returns Inv-loop μ-loop
-returns c = record { within = omega arith; is = λ ns e. places.no-more _ _ _ (c .before .before .loop .inv .2 ns e) _ (c .if1 .taken) (c .before .loop-test .taken) }
+returns c =
+    let at-loop = c .before .before in
+    record {
+      within = omega arith;
+      is = λ ns e. places.no-more _ _ _ (at-loop .loop .inv .2 ns e) _ (c .if1 .taken) (c .before .loop-test .taken);
+    }
 
 take-record-requires : tie.Need-take-record-requires Inv-loop μ-loop
 take-record-requires c κs = search needs
@@ -37,11 +44,17 @@ loop-less c = omega arith
 
 loop-again : tie.Need-loop-again Inv-loop μ-loop
 loop-again c =
-    let r = c .take-record .ensures in
-    (omega arith, omega (arith, records.moves _ r (c .before .if1 .left)), λ ns e. places.next _ _ _ (c .before .before .before .loop .inv .2 ns e) (c .before .if1 .left) r)
+    let at-loop = c .before .before .before in
+    let r = c .take-record .ensures in (
+      omega arith,
+      omega (arith, records.moves _ r (c .before .if1 .left)),
+      λ ns e. places.next _ _ _ (at-loop .loop .inv .2 ns e) (c .before .if1 .left) r,
+    )
 
 returns-2 : tie.Need-returns-2 Inv-loop μ-loop
-returns-2 c = record { within = omega arith; is = λ ns e. absurd (let t = c .before .before .loop .inv .2 ns e in omega (arith, t .within, c .if2 .taken)) }
+returns-2 c =
+    let at-loop = c .before .before in
+    record { within = omega arith; is = λ ns e. absurd (let t = at-loop .loop .inv .2 ns e in omega (arith, t .within, c .if2 .taken)) }
 
 sub-t11 : tie.Need-sub-t11 Inv-loop μ-loop
 sub-t11 c = omega arith
@@ -52,7 +65,8 @@ returns-3 c =
     let at-loop = at-loop-test .before in
     record {
       within = omega (arith, at-loop .loop .inv .1, c .if2 .left);
-      is = λ ns e. places.this-one _ _ _ (at-loop .loop .inv .2 ns e) _ (omega (arith, at-loop .loop .inv .0, at-loop-test .loop-test .left));
+      is = λ ns e. places.this-one _ _ _ (at-loop .loop .inv .2 ns e) _
+          (omega (arith, at-loop .loop .inv .0, at-loop-test .loop-test .left));
     }
 
 pub record-at-spec : {M : Type 1} → statement M

@@ -33,8 +33,12 @@ returns c =
     let at-match = at-take-group .before in
     let at-take-byte = at-match .before in
     let start = at-take-byte .before .before in
-    let r = records.made (below 2 ▹ big 2) (below 2 ▹ countForm) (λ p. (p .0, blank (p .1))) {g = λ p. Container (width (p .1))} (records.after (below 2) (big 2) countForm blank records.counts) (at-take-group .take-group .ensures) (λ p e. ap Container (records.width-blank (p .1) ∙ ap (λ g. g .nodes) e)) in
-    laws.chosen (kinds (start .args .n) countForm) (splitNode _ _) 5 (at-take-byte .take-byte .ensures .reads) (at-match .match .keys4) r (λ x e. e)
+    let r = records.made (below 2 ▹ big 2) (below 2 ▹ countForm) (λ p. (p .0, blank (p .1))) {g = λ p. Container (width (p .1))}
+    (records.after (below 2) (big 2) countForm blank records.counts) (at-take-group .take-group .ensures)
+    (λ p e. ap Container (records.width-blank (p .1) ∙ ap (λ g. g .nodes) e))
+    in
+    laws.chosen (kinds (start .args .n) countForm) (splitNode _ _) 5 (at-take-byte .take-byte .ensures .reads) (at-match .match .keys4) r
+    (λ x e. e)
 
 take-stagger-requires : tie.Need-take-stagger-requires
 take-stagger-requires c κs = search needs
@@ -45,8 +49,14 @@ returns-2 c =
     let at-match = at-take-stagger .before in
     let at-take-byte = at-match .before in
     let start = at-take-byte .before .before in
-    let r = records.made (opt patternForm ▹ opt word ▹ big 2) (opt patternForm ▹ opt word ▹ countForm) (λ p. (p .0, (p .1 .0, blank (p .1 .1)))) {g = λ p. Container (width (p .1 .1))} (records.after (opt patternForm) (opt word ▹ big 2) (opt word ▹ countForm) (λ q. (q .0, blank (q .1))) (records.after (opt word) (big 2) countForm blank records.counts)) (at-take-stagger .take-stagger .ensures) (λ p e. ap Container (records.width-blank (p .1 .1) ∙ ap (λ g. g .nodes) e)) in
-    laws.chosen (kinds (start .args .n) countForm) (splitNode _ _) 6 (at-take-byte .take-byte .ensures .reads) (at-match .match .keys5) r (λ x e. e)
+    let r = records.made (opt patternForm ▹ opt word ▹ big 2) (opt patternForm ▹ opt word ▹ countForm)
+    (λ p. (p .0, (p .1 .0, blank (p .1 .1)))) {g = λ p. Container (width (p .1 .1))}
+    (records.after (opt patternForm) (opt word ▹ big 2) (opt word ▹ countForm) (λ q. (q .0, blank (q .1)))
+    (records.after (opt word) (big 2) countForm blank records.counts))
+    (at-take-stagger .take-stagger .ensures) (λ p e. ap Container (records.width-blank (p .1 .1) ∙ ap (λ g. g .nodes) e))
+    in
+    laws.chosen (kinds (start .args .n) countForm) (splitNode _ _) 6 (at-take-byte .take-byte .ensures .reads) (at-match .match .keys5) r
+    (λ x e. e)
 
 take-path-requires : tie.Need-take-path-requires
 take-path-requires c κs = search needs
@@ -84,8 +94,13 @@ returns-3 c =
     let start = at-take-byte .before .before in
     let b = at-take-byte .take-byte .ensures in
     let m = at-match .match .rest in
-    let r = records.made (big 2) countForm blank {g = λ ns. Container (width ns)} records.counts (at-take-field .take-field .ensures .reads) (λ a e. ap Container (records.width-blank a ∙ e)) in
-    ⊎-elim (λ h. laws.chosen (kinds (start .args .n) countForm) (splitNode _ _) 3 (b .reads) h r (λ x e. e)) (λ h. laws.chosen (kinds (start .args .n) countForm) (splitNode _ _) 4 (b .reads) h r (λ x e. e)) (records.three-or-four _ (at-if1 .if1 .taken) (m .0 .0 .0 .0 .0 .0 .0 .0 .0 .0 .0 .1) (m .0 .0 .0 .0 .0 .0 .0 .0 .0 .0 .1) (m .0 .0 .0 .0 .0 .0 .0 .0 .0 .1))
+    let r = records.made (big 2) countForm blank {g = λ ns. Container (width ns)} records.counts (at-take-field .take-field .ensures .reads)
+    (λ a e. ap Container (records.width-blank a ∙ e))
+    in
+    ⊎-elim (λ h. laws.chosen (kinds (start .args .n) countForm) (splitNode _ _) 3 (b .reads) h r (λ x e. e))
+    (λ h. laws.chosen (kinds (start .args .n) countForm) (splitNode _ _) 4 (b .reads) h r (λ x e. e))
+    (records.three-or-four _ (at-if1 .if1 .taken) (m .0 .0 .0 .0 .0 .0 .0 .0 .0 .0 .0 .1) (m .0 .0 .0 .0 .0 .0 .0 .0 .0 .0 .1)
+    (m .0 .0 .0 .0 .0 .0 .0 .0 .0 .1))
 
 take-at-requires : tie.Need-take-at-requires
 take-at-requires c κs = search needs
@@ -95,70 +110,140 @@ returns-4 c =
     let at-match = c .before in
     let at-take-byte = at-match .before in
     let start = at-take-byte .before .before in
-    laws.chosen (kinds (start .args .n) countForm) (splitNode _ _) 0 (at-take-byte .take-byte .ensures .reads) (at-match .match .keys1) (c .take-tween .ensures) (λ x e. refl)
+    laws.chosen
+    (kinds (start .args .n) countForm)
+    (splitNode _ _)
+    0
+    (at-take-byte .take-byte .ensures .reads)
+    (at-match .match .keys1)
+    (c .take-tween .ensures)
+    (λ x e. refl)
 
 returns-5 : tie.Need-returns-5
 returns-5 c =
     let at-match = c .before in
     let at-take-byte = at-match .before in
     let start = at-take-byte .before .before in
-    laws.chosen (kinds (start .args .n) countForm) (splitNode _ _) 1 (at-take-byte .take-byte .ensures .reads) (at-match .match .keys2) (c .take-spring .ensures) (λ x e. refl)
+    laws.chosen
+    (kinds (start .args .n) countForm)
+    (splitNode _ _)
+    1
+    (at-take-byte .take-byte .ensures .reads)
+    (at-match .match .keys2)
+    (c .take-spring .ensures)
+    (λ x e. refl)
 
 returns-6 : tie.Need-returns-6
 returns-6 c =
     let at-match = c .before in
     let at-take-byte = at-match .before in
     let start = at-take-byte .before .before in
-    laws.chosen (kinds (start .args .n) countForm) (splitNode _ _) 2 (at-take-byte .take-byte .ensures .reads) (at-match .match .keys3) (c .take-keyframes .ensures) (λ x e. refl)
+    laws.chosen
+    (kinds (start .args .n) countForm)
+    (splitNode _ _)
+    2
+    (at-take-byte .take-byte .ensures .reads)
+    (at-match .match .keys3)
+    (c .take-keyframes .ensures)
+    (λ x e. refl)
 
 returns-7 : tie.Need-returns-7
 returns-7 c =
     let at-match = c .before in
     let at-take-byte = at-match .before in
     let start = at-take-byte .before .before in
-    laws.chosen (kinds (start .args .n) countForm) (splitNode _ _) 7 (at-take-byte .take-byte .ensures .reads) (at-match .match .keys6) (c .take-path .ensures) (λ x e. refl)
+    laws.chosen
+    (kinds (start .args .n) countForm)
+    (splitNode _ _)
+    7
+    (at-take-byte .take-byte .ensures .reads)
+    (at-match .match .keys6)
+    (c .take-path .ensures)
+    (λ x e. refl)
 
 returns-8 : tie.Need-returns-8
 returns-8 c =
     let at-match = c .before in
     let at-take-byte = at-match .before in
     let start = at-take-byte .before .before in
-    laws.chosen (kinds (start .args .n) countForm) (splitNode _ _) 8 (at-take-byte .take-byte .ensures .reads) (at-match .match .keys7) (c .take-morph .ensures) (λ x e. refl)
+    laws.chosen
+    (kinds (start .args .n) countForm)
+    (splitNode _ _)
+    8
+    (at-take-byte .take-byte .ensures .reads)
+    (at-match .match .keys7)
+    (c .take-morph .ensures)
+    (λ x e. refl)
 
 returns-9 : tie.Need-returns-9
 returns-9 c =
     let at-match = c .before in
     let at-take-byte = at-match .before in
     let start = at-take-byte .before .before in
-    laws.chosen (kinds (start .args .n) countForm) (splitNode _ _) 9 (at-take-byte .take-byte .ensures .reads) (at-match .match .keys8) (c .take-draw .ensures) (λ x e. refl)
+    laws.chosen
+    (kinds (start .args .n) countForm)
+    (splitNode _ _)
+    9
+    (at-take-byte .take-byte .ensures .reads)
+    (at-match .match .keys8)
+    (c .take-draw .ensures)
+    (λ x e. refl)
 
 returns-10 : tie.Need-returns-10
 returns-10 c =
     let at-match = c .before in
     let at-take-byte = at-match .before in
     let start = at-take-byte .before .before in
-    laws.chosen (kinds (start .args .n) countForm) (splitNode _ _) 10 (at-take-byte .take-byte .ensures .reads) (at-match .match .keys9) (c .take-color .ensures) (λ x e. refl)
+    laws.chosen
+    (kinds (start .args .n) countForm)
+    (splitNode _ _)
+    10
+    (at-take-byte .take-byte .ensures .reads)
+    (at-match .match .keys9)
+    (c .take-color .ensures)
+    (λ x e. refl)
 
 returns-11 : tie.Need-returns-11
 returns-11 c =
     let at-match = c .before in
     let at-take-byte = at-match .before in
     let start = at-take-byte .before .before in
-    laws.chosen (kinds (start .args .n) countForm) (splitNode _ _) 11 (at-take-byte .take-byte .ensures .reads) (at-match .match .keys10) (c .take-waveform .ensures) (λ x e. refl)
+    laws.chosen
+    (kinds (start .args .n) countForm)
+    (splitNode _ _)
+    11
+    (at-take-byte .take-byte .ensures .reads)
+    (at-match .match .keys10)
+    (c .take-waveform .ensures)
+    (λ x e. refl)
 
 returns-12 : tie.Need-returns-12
 returns-12 c =
     let at-match = c .before in
     let at-take-byte = at-match .before in
     let start = at-take-byte .before .before in
-    laws.chosen (kinds (start .args .n) countForm) (splitNode _ _) 12 (at-take-byte .take-byte .ensures .reads) (at-match .match .keys11) (c .take-preset .ensures) (λ x e. refl)
+    laws.chosen
+    (kinds (start .args .n) countForm)
+    (splitNode _ _)
+    12
+    (at-take-byte .take-byte .ensures .reads)
+    (at-match .match .keys11)
+    (c .take-preset .ensures)
+    (λ x e. refl)
 
 returns-13 : tie.Need-returns-13
 returns-13 c =
     let at-match = c .before in
     let at-take-byte = at-match .before in
     let start = at-take-byte .before .before in
-    laws.chosen (kinds (start .args .n) countForm) (splitNode _ _) 13 (at-take-byte .take-byte .ensures .reads) (at-match .match .keys12) (c .take-span .ensures) (λ x e. refl)
+    laws.chosen
+    (kinds (start .args .n) countForm)
+    (splitNode _ _)
+    13
+    (at-take-byte .take-byte .ensures .reads)
+    (at-match .match .keys12)
+    (c .take-span .ensures)
+    (λ x e. refl)
 
 returns-14 : tie.Need-returns-14
 returns-14 c =
@@ -168,7 +253,15 @@ returns-14 c =
     let start = at-take-byte .before .before in
     let b = at-take-byte .take-byte .ensures in
     let m = at-match .match .rest in
-    laws.chosen (kinds (start .args .n) countForm) (splitNode _ _) 14 (b .reads) (records.only-at _ (at-if1 .if1 .left) (b .small) (m .0 .0 .0 .0 .0 .0 .0 .0 .1) (m .0 .0 .0 .0 .0 .0 .0 .1) (m .0 .0 .0 .0 .0 .0 .1) (m .0 .0 .0 .0 .0 .1) (m .0 .0 .0 .0 .1) (m .0 .0 .0 .1) (m .0 .0 .1) (m .0 .1) (m .1)) (c .take-at .ensures) (λ x e. refl)
+    laws.chosen
+    (kinds (start .args .n) countForm)
+    (splitNode _ _)
+    14
+    (b .reads)
+    (records.only-at _ (at-if1 .if1 .left) (b .small) (m .0 .0 .0 .0 .0 .0 .0 .0 .1) (m .0 .0 .0 .0 .0 .0 .0 .1) (m .0 .0 .0 .0 .0 .0 .1)
+    (m .0 .0 .0 .0 .0 .1) (m .0 .0 .0 .0 .1) (m .0 .0 .0 .1) (m .0 .0 .1) (m .0 .1) (m .1))
+    (c .take-at .ensures)
+    (λ x e. refl)
 
 pub take-record-spec : {M : Type 1} → statement M
 take-record-spec =

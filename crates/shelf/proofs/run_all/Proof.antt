@@ -7,7 +7,8 @@ use Rattle.shelf.proofs.run_all.Statement.{statement}
 use Rattle.shelf.proofs.run_all.Tie as tie
 
 abbrev Inv-loop : tie.InvT-loop
-Inv-loop input scratch₀ sheet₀ out₀ at₀ scratch sheet out at = (length scratch ≡ length scratch₀) × (length sheet ≡ length sheet₀) × (length out ≡ length out₀)
+Inv-loop input scratch₀ sheet₀ out₀ at₀ scratch sheet out at =
+    (length scratch ≡ length scratch₀) × (length sheet ≡ length sheet₀) × (length out ≡ length out₀)
 
 abbrev μ-loop : tie.MeasureT-loop
 μ-loop input scratch₀ sheet₀ out₀ at₀ scratch sheet out at = length input - at

@@ -16,7 +16,11 @@ enum-known-i : tie.Need-enum-known-i
 enum-known-i c = search needs
 
 cast-t12 : tie.Need-cast-t12
-cast-t12 c = let b = choice-below (c .before .before .before .before .before .before .args .text .now) (c .before .before .before .before .before .before .args .c) _ _ _ _ (rw (c .before .i .given .1) at (c .before .before .before .choice .ensures)) in omega (arith, c .before .before .before .before .before .before .pre .1)
+cast-t12 c =
+    let at-choice = c .before .before .before in
+    let start = at-choice .before .before .before in
+    let b = choice-below (start .args .text .now) (start .args .c) _ _ _ _ (rw (c .before .i .given .1) at (at-choice .choice .ensures)) in
+    omega (arith, start .pre .1)
 
 returns : tie.Need-returns
 returns c = rw (c .before .r .given .1) at (c .before .before .before .choice .ensures)

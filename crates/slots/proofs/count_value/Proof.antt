@@ -19,11 +19,18 @@ enum-known-n c = search needs
 
 returns : tie.Need-returns
 unfolding sortRule sortRules count
-returns c = not-given aNumber (c .before .before .before .before .before .args .text .now) (c .before .before .before .before .before .args .c) parseUint (rw (c .before .r .given .1) at (c .before .before .before .parse-uint .ensures))
+returns c =
+    let at-parse-uint = c .before .before .before in
+    let args = at-parse-uint .before .before .args in
+    not-given aNumber (args .text .now) (args .c) parseUint (rw (c .before .r .given .1) at (at-parse-uint .parse-uint .ensures))
 
 returns-2 : tie.Need-returns-2
 unfolding sortRule sortRules sortRank count
-returns-2 c = let t = rw (c .before .n .given .1) at (c .before .before .before .parse-uint .ensures) in (_, given aNumber (c .before .before .before .before .before .args .text .now) (c .before .before .before .before .before .args .c) parseUint t, (refl, refl))
+returns-2 c =
+    let at-parse-uint = c .before .before .before in
+    let args = at-parse-uint .before .before .args in
+    let t = rw (c .before .n .given .1) at (at-parse-uint .parse-uint .ensures) in
+    (_, given aNumber (args .text .now) (args .c) parseUint t, (refl, refl))
 
 pub count-value-spec : {M : Type 1} → statement M
 count-value-spec =

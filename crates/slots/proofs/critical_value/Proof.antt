@@ -21,11 +21,19 @@ enum-known-x c = search needs
 
 returns : tie.Need-returns
 unfolding sortRule sortRules critical
-returns c = not-given (λ n. aDamping (criticallyDamped n)) (c .before .before .before .before .before .args .text .now) (c .before .before .before .before .before .args .c) parseFloatInParens (rw (c .before .r .given .1) at (c .before .before .before .parse-float-in-parens .ensures))
+returns c =
+    let at-parse-float-in-parens = c .before .before .before in
+    let args = at-parse-float-in-parens .before .before .args in
+    not-given (λ n. aDamping (criticallyDamped n)) (args .text .now) (args .c) parseFloatInParens
+    (rw (c .before .r .given .1) at (at-parse-float-in-parens .parse-float-in-parens .ensures))
 
 returns-2 : tie.Need-returns-2
 unfolding sortRule sortRules sortRank critical
-returns-2 c = let t = rw (c .before .x .given .1) at (c .before .before .before .parse-float-in-parens .ensures) in (_, given (λ n. aDamping (criticallyDamped n)) (c .before .before .before .before .before .args .text .now) (c .before .before .before .before .before .args .c) parseFloatInParens (t .0), (refl, (refl, t .1)))
+returns-2 c =
+    let at-parse-float-in-parens = c .before .before .before in
+    let args = at-parse-float-in-parens .before .before .args in
+    let t = rw (c .before .x .given .1) at (at-parse-float-in-parens .parse-float-in-parens .ensures) in
+    (_, given (λ n. aDamping (criticallyDamped n)) (args .text .now) (args .c) parseFloatInParens (t .0), (refl, (refl, t .1)))
 
 pub critical-value-spec : {M : Type 1} → statement M
 critical-value-spec =

@@ -24,10 +24,16 @@ returns : tie.Need-returns
 returns c = inl (c .before .end .given .1)
 
 returns-2 : tie.Need-returns-2
-returns-2 c = (c .before .before .before .before .before .end2 .given .1, sym (c .before .before .before .float-at .ensures) ∙ c .before .x .given .1)
+returns-2 c =
+    let at-float-at = c .before .before .before in
+    let at-end2 = at-float-at .before .before in
+    (at-end2 .end2 .given .1, sym (at-float-at .float-at .ensures) ∙ c .before .x .given .1)
 
 returns-3 : tie.Need-returns-3
-returns-3 c = inr (_, c .before .before .before .before .before .end2 .given .1, sym (c .before .before .before .float-at .ensures) ∙ c .before .enum-told .given .1, refl, refl)
+returns-3 c =
+    let at-float-at = c .before .before .before in
+    let at-end2 = at-float-at .before .before in
+    inr (_, at-end2 .end2 .given .1, sym (at-float-at .float-at .ensures) ∙ c .before .enum-told .given .1, refl, refl)
 
 pub duration-in-spec : {M : Type 1} → statement M
 duration-in-spec =

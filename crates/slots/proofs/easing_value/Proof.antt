@@ -19,11 +19,18 @@ enum-known-e c = search needs
 
 returns : tie.Need-returns
 unfolding sortRule sortRules easing
-returns c = not-given anEasing (c .before .before .before .before .before .args .text .now) (c .before .before .before .before .before .args .c) parseEasing (rw (c .before .r .given .1) at (c .before .before .before .parse-easing .ensures))
+returns c =
+    let at-parse-easing = c .before .before .before in
+    let args = at-parse-easing .before .before .args in
+    not-given anEasing (args .text .now) (args .c) parseEasing (rw (c .before .r .given .1) at (at-parse-easing .parse-easing .ensures))
 
 returns-2 : tie.Need-returns-2
 unfolding sortRule sortRules sortRank easing
-returns-2 c = let t = rw (c .before .e .given .1) at (c .before .before .before .parse-easing .ensures) in (_, given anEasing (c .before .before .before .before .before .args .text .now) (c .before .before .before .before .before .args .c) parseEasing (t .0), (refl, (refl, t .1)))
+returns-2 c =
+    let at-parse-easing = c .before .before .before in
+    let args = at-parse-easing .before .before .args in
+    let t = rw (c .before .e .given .1) at (at-parse-easing .parse-easing .ensures) in
+    (_, given anEasing (args .text .now) (args .c) parseEasing (t .0), (refl, (refl, t .1)))
 
 pub easing-value-spec : {M : Type 1} → statement M
 easing-value-spec =

@@ -19,11 +19,18 @@ enum-known-b c = search needs
 
 returns : tie.Need-returns
 unfolding sortRule sortRules flag
-returns c = not-given aTruth (c .before .before .before .before .before .args .text .now) (c .before .before .before .before .before .args .c) truth (rw (c .before .p .given .1) at (c .before .before .before .truth .ensures))
+returns c =
+    let at-truth = c .before .before .before in
+    let args = at-truth .before .before .args in
+    not-given aTruth (args .text .now) (args .c) truth (rw (c .before .p .given .1) at (at-truth .truth .ensures))
 
 returns-2 : tie.Need-returns-2
 unfolding sortRule sortRules sortRank flag
-returns-2 c = let t = rw (c .before .b .given .1) at (c .before .before .before .truth .ensures) in (_, given aTruth (c .before .before .before .before .before .args .text .now) (c .before .before .before .before .before .args .c) truth t, (refl, refl))
+returns-2 c =
+    let at-truth = c .before .before .before in
+    let args = at-truth .before .before .args in
+    let t = rw (c .before .b .given .1) at (at-truth .truth .ensures) in
+    (_, given aTruth (args .text .now) (args .c) truth t, (refl, refl))
 
 pub flag-value-spec : {M : Type 1} → statement M
 flag-value-spec = tie.close (tie.spec truth-requires enum-known-p enum-known-b returns returns-2)

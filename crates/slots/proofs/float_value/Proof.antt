@@ -19,11 +19,18 @@ enum-known-x c = search needs
 
 returns : tie.Need-returns
 unfolding sortRule sortRules number
-returns c = not-given aNumber (c .before .before .before .before .before .args .text .now) (c .before .before .before .before .before .args .c) parseFloat (rw (c .before .r .given .1) at (c .before .before .before .parse-float .ensures))
+returns c =
+    let at-parse-float = c .before .before .before in
+    let args = at-parse-float .before .before .args in
+    not-given aNumber (args .text .now) (args .c) parseFloat (rw (c .before .r .given .1) at (at-parse-float .parse-float .ensures))
 
 returns-2 : tie.Need-returns-2
 unfolding sortRule sortRules sortRank number
-returns-2 c = let t = rw (c .before .x .given .1) at (c .before .before .before .parse-float .ensures) in (_, given aNumber (c .before .before .before .before .before .args .text .now) (c .before .before .before .before .before .args .c) parseFloat (t .0), (refl, (refl, t .1)))
+returns-2 c =
+    let at-parse-float = c .before .before .before in
+    let args = at-parse-float .before .before .args in
+    let t = rw (c .before .x .given .1) at (at-parse-float .parse-float .ensures) in
+    (_, given aNumber (args .text .now) (args .c) parseFloat (t .0), (refl, (refl, t .1)))
 
 pub float-value-spec : {M : Type 1} → statement M
 float-value-spec =

@@ -19,11 +19,19 @@ enum-known-x c = search needs
 
 returns : tie.Need-returns
 unfolding sortRule sortRules loopMode
-returns c = not-given aLoopMode (c .before .before .before .before .before .args .text .now) (c .before .before .before .before .before .args .c) parseLoopMode (rw (c .before .r .given .1) at (c .before .before .before .parse-loop-mode .ensures))
+returns c =
+    let at-parse-loop-mode = c .before .before .before in
+    let args = at-parse-loop-mode .before .before .args in
+    not-given aLoopMode (args .text .now) (args .c) parseLoopMode
+    (rw (c .before .r .given .1) at (at-parse-loop-mode .parse-loop-mode .ensures))
 
 returns-2 : tie.Need-returns-2
 unfolding sortRule sortRules sortRank loopMode
-returns-2 c = let t = rw (c .before .x .given .1) at (c .before .before .before .parse-loop-mode .ensures) in (_, given aLoopMode (c .before .before .before .before .before .args .text .now) (c .before .before .before .before .before .args .c) parseLoopMode t, (refl, refl))
+returns-2 c =
+    let at-parse-loop-mode = c .before .before .before in
+    let args = at-parse-loop-mode .before .before .args in
+    let t = rw (c .before .x .given .1) at (at-parse-loop-mode .parse-loop-mode .ensures) in
+    (_, given aLoopMode (args .text .now) (args .c) parseLoopMode t, (refl, refl))
 
 pub loop-value-spec : {M : Type 1} → statement M
 loop-value-spec =

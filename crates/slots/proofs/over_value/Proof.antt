@@ -21,11 +21,22 @@ enum-known-x c = search needs
 
 returns : tie.Need-returns
 unfolding sortRule sortRules over
-returns c = not-given (λ p. aDamping (overdamped (p .0) (p .1))) (c .before .before .before .before .before .args .text .now) (c .before .before .before .before .before .args .c) parseTwoFloatsInParens (rw (c .before .r .given .1) at (c .before .before .before .parse-two-floats-in-parens .ensures))
+returns c =
+    let at-parse-two-floats-in-parens = c .before .before .before in
+    let args = at-parse-two-floats-in-parens .before .before .args in
+    not-given (λ p. aDamping (overdamped (p .0) (p .1))) (args .text .now) (args .c) parseTwoFloatsInParens
+    (rw (c .before .r .given .1) at (at-parse-two-floats-in-parens .parse-two-floats-in-parens .ensures))
 
 returns-2 : tie.Need-returns-2
 unfolding sortRule sortRules sortRank over
-returns-2 c = let t = rw (c .before .x .given .1) at (c .before .before .before .parse-two-floats-in-parens .ensures) in (_, given (λ p. aDamping (overdamped (p .0) (p .1))) (c .before .before .before .before .before .args .text .now) (c .before .before .before .before .before .args .c) parseTwoFloatsInParens (t .took), (refl, (refl, (t .first, t .second))))
+returns-2 c =
+    let at-parse-two-floats-in-parens = c .before .before .before in
+    let args = at-parse-two-floats-in-parens .before .before .args in
+    let t = rw (c .before .x .given .1) at (at-parse-two-floats-in-parens .parse-two-floats-in-parens .ensures) in (
+      _,
+      given (λ p. aDamping (overdamped (p .0) (p .1))) (args .text .now) (args .c) parseTwoFloatsInParens (t .took),
+      (refl, (refl, (t .first, t .second))),
+    )
 
 pub over-value-spec : {M : Type 1} → statement M
 over-value-spec =

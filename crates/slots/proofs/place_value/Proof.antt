@@ -25,11 +25,35 @@ enum-known-m c = search needs
 
 returns : tie.Need-returns
 unfolding sortRule sortRules value
-returns c = not-given aValue (c .before .before .before .before .before .before .before .args .text .now) (c .before .before .before .before .before .before .before .args .c) parseValue (rw (c .before .r .given .1) at (c .before .before .before .before .parse-value .ensures))
+returns c =
+    let at-parse-value = c .before .before .before .before in
+    let args = at-parse-value .before .before .before .args in
+    not-given aValue (args .text .now) (args .c) parseValue (rw (c .before .r .given .1) at (at-parse-value .parse-value .ensures))
 
 returns-2 : tie.Need-returns-2
 unfolding sortRule sortRules sortRank value
-returns-2 c = let t = rw (c .before .m .given .1) at (c .before .before .before .before .parse-value .ensures) in (_, given aValue (c .before .before .before .before .before .before .before .args .text .now) (c .before .before .before .before .before .before .before .args .c) parseValue (t .took), (refl, (_, refl, record { ready = c .before .before .before .before .before .before .before .pre .0; next = _; took = t .took; low = omega arith; high = omega arith; paid = let p = t .writes .place in omega (arith, t .paid) })))
+returns-2 c =
+    let at-parse-value = c .before .before .before .before in
+    let start = at-parse-value .before .before .before in
+    let t = rw (c .before .m .given .1) at (at-parse-value .parse-value .ensures) in (
+      _,
+      given aValue (start .args .text .now) (start .args .c) parseValue (t .took),
+      (
+        refl,
+        (
+          _,
+          refl,
+          record {
+            ready = start .pre .0;
+            next = _;
+            took = t .took;
+            low = omega arith;
+            high = omega arith;
+            paid = let p = t .writes .place in omega (arith, t .paid);
+          },
+        ),
+      ),
+    )
 
 pub place-value-spec : {M : Type 1} → statement M
 place-value-spec =

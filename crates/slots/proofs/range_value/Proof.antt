@@ -17,7 +17,9 @@ enum-known-start : tie.Need-enum-known-start
 enum-known-start c = search needs
 
 both-requires : tie.Need-both-requires
-both-requires c κs = ((rw (c .before .start .given .1) at (c .before .before .before .parse-float .ensures)) .0 .ready, omega arith, omega arith)
+both-requires c κs =
+    let at-parse-float = c .before .before .before in
+    ((rw (c .before .start .given .1) at (at-parse-float .parse-float .ensures)) .0 .ready, omega arith, omega arith)
 
 enum-known-p : tie.Need-enum-known-p
 enum-known-p c = search needs
@@ -36,19 +38,48 @@ enum-known-end c = search needs
 
 returns : tie.Need-returns
 unfolding sortRule sortRules
-returns c = no-start (c .before .before .before .before .before .args .text .now) (c .before .before .before .before .before .args .c) (rw (c .before .r .given .1) at (c .before .before .before .parse-float .ensures))
+returns c =
+    let at-parse-float = c .before .before .before in
+    let args = at-parse-float .before .before .args in
+    no-start (args .text .now) (args .c) (rw (c .before .r .given .1) at (at-parse-float .parse-float .ensures))
 
 returns-2 : tie.Need-returns-2
 unfolding sortRule sortRules
-returns-2 c = no-points (c .before .before .before .before .before .before .before .before .before .args .text .now) (c .before .before .before .before .before .before .before .before .before .args .c) _ _ ((rw (c .before .before .before .before .before .start .given .1) at (c .before .before .before .before .before .before .before .parse-float .ensures)) .0) (rw (c .before .p .given .1) at (c .before .before .before .both .ensures))
+returns-2 c =
+    let at-both = c .before .before .before in
+    let at-start = at-both .before .before in
+    let at-parse-float = at-start .before .before in
+    let args = at-parse-float .before .before .args in
+    no-points (args .text .now) (args .c) _ _ ((rw (at-start .start .given .1) at (at-parse-float .parse-float .ensures)) .0)
+    (rw (c .before .p .given .1) at (at-both .both .ensures))
 
 returns-3 : tie.Need-returns-3
 unfolding sortRule sortRules
-returns-3 c = no-end (c .before .before .before .before .before .before .before .before .before .before .before .before .before .args .text .now) (c .before .before .before .before .before .before .before .before .before .before .before .before .before .args .c) _ _ ((rw (c .before .before .before .before .before .before .before .before .before .start .given .1) at (c .before .before .before .before .before .before .before .before .before .before .before .parse-float .ensures)) .0) _ (rw (c .before .before .before .before .before .n .given .1) at (c .before .before .before .before .before .before .before .both .ensures)) (rw (c .before .r2 .given .1) at (c .before .before .before .parse-float2 .ensures))
+returns-3 c =
+    let at-parse-float2 = c .before .before .before in
+    let at-n = at-parse-float2 .before .before in
+    let at-both = at-n .before .before in
+    let at-start = at-both .before .before in
+    let at-parse-float = at-start .before .before in
+    let args = at-parse-float .before .before .args in
+    no-end (args .text .now) (args .c) _ _ ((rw (at-start .start .given .1) at (at-parse-float .parse-float .ensures)) .0) _
+    (rw (at-n .n .given .1) at (at-both .both .ensures)) (rw (c .before .r2 .given .1) at (at-parse-float2 .parse-float2 .ensures))
 
 returns-4 : tie.Need-returns-4
 unfolding sortRule sortRules sortRank
-returns-4 c = let t = rw (c .before .before .before .before .before .before .before .before .before .start .given .1) at (c .before .before .before .before .before .before .before .before .before .before .before .parse-float .ensures) in let u = rw (c .before .end .given .1) at (c .before .before .before .parse-float2 .ensures) in (_, range-taken (c .before .before .before .before .before .before .before .before .before .before .before .before .before .args .text .now) (c .before .before .before .before .before .before .before .before .before .before .before .before .before .args .c) _ _ (t .0) _ (rw (c .before .before .before .before .before .n .given .1) at (c .before .before .before .before .before .before .before .both .ensures)) _ _ (u .0), (refl, (refl, t .1, u .1)))
+returns-4 c =
+    let at-parse-float2 = c .before .before .before in
+    let at-n = at-parse-float2 .before .before in
+    let at-both = at-n .before .before in
+    let at-start = at-both .before .before in
+    let at-parse-float = at-start .before .before in
+    let args = at-parse-float .before .before .args in
+    let t = rw (at-start .start .given .1) at (at-parse-float .parse-float .ensures) in
+    let u = rw (c .before .end .given .1) at (at-parse-float2 .parse-float2 .ensures) in (
+      _,
+      range-taken (args .text .now) (args .c) _ _ (t .0) _ (rw (at-n .n .given .1) at (at-both .both .ensures)) _ _ (u .0),
+      (refl, (refl, t .1, u .1)),
+    )
 
 pub range-value-spec : {M : Type 1} → statement M
 range-value-spec =

@@ -74,15 +74,30 @@ returns-2 c = rw (c .before .match .keys2) (c .count-value .ensures)
 
 returns-3 : tie.Need-returns-3
 unfolding sortRule sortRules sortRank space entries
-returns-3 c = rw (c .before .before .match .keys3) (by-case (c .before .before .before .before .args .text .now) (c .before .before .before .before .args .c) (choice Malformed ("linear" ∷ "lab" ∷ "oklch" ∷ [])) 2 refl refl (c .case-value .result) (c .case-value .ensures))
+returns-3 c =
+    let at-match = c .before .before in
+    let args = at-match .before .before .args in
+    rw (at-match .match .keys3)
+    (by-case (args .text .now) (args .c) (choice Malformed ("linear" ∷ "lab" ∷ "oklch" ∷ [])) 2 refl refl (c .case-value .result)
+    (c .case-value .ensures))
 
 returns-4 : tie.Need-returns-4
 unfolding sortRule sortRules sortRank springPreset parseSpringPreset entries
-returns-4 c = rw (c .before .before .match .keys4) (by-case (c .before .before .before .before .args .text .now) (c .before .before .before .before .args .c) (choice UnknownSpringPreset ("gentle" ∷ "wobbly" ∷ "stiff" ∷ "slow" ∷ "snappy" ∷ [])) 3 refl refl (c .case-value2 .result) (c .case-value2 .ensures))
+returns-4 c =
+    let at-match = c .before .before in
+    let args = at-match .before .before .args in
+    rw (at-match .match .keys4)
+    (by-case (args .text .now) (args .c) (choice UnknownSpringPreset ("gentle" ∷ "wobbly" ∷ "stiff" ∷ "slow" ∷ "snappy" ∷ [])) 3 refl refl
+    (c .case-value2 .result) (c .case-value2 .ensures))
 
 returns-5 : tie.Need-returns-5
 unfolding sortRule sortRules sortRank integrator entries
-returns-5 c = rw (c .before .before .match .keys5) (by-case (c .before .before .before .before .args .text .now) (c .before .before .before .before .args .c) (choice Malformed ("semi_implicit_euler" ∷ "rk4" ∷ [])) 4 refl refl (c .case-value3 .result) (c .case-value3 .ensures))
+returns-5 c =
+    let at-match = c .before .before in
+    let args = at-match .before .before .args in
+    rw (at-match .match .keys5)
+    (by-case (args .text .now) (args .c) (choice Malformed ("semi_implicit_euler" ∷ "rk4" ∷ [])) 4 refl refl (c .case-value3 .result)
+    (c .case-value3 .ensures))
 
 returns-6 : tie.Need-returns-6
 returns-6 c = rw (c .before .match .keys6) (c .flag-value .ensures)
@@ -109,7 +124,38 @@ returns-13 : tie.Need-returns-13
 returns-13 c = rw (c .before .match .keys13) (c .under-value .ensures)
 
 returns-14 : tie.Need-returns-14
-returns-14 c = past-sorts (c .before .before .before .args .text .now) (c .before .before .before .args .c) (c .before .before .before .args .sort) (not-here 12 (c .before .before .before .args .sort) (not-here 11 (c .before .before .before .args .sort) (not-here 10 (c .before .before .before .args .sort) (not-here 9 (c .before .before .before .args .sort) (not-here 8 (c .before .before .before .args .sort) (not-here 7 (c .before .before .before .args .sort) (not-here 6 (c .before .before .before .args .sort) (not-here 5 (c .before .before .before .args .sort) (not-here 4 (c .before .before .before .args .sort) (not-here 3 (c .before .before .before .args .sort) (not-here 2 (c .before .before .before .args .sort) (not-here 1 (c .before .before .before .args .sort) (not-here 0 (c .before .before .before .args .sort) (omega arith) (c .before .match .rest .0 .0 .0 .0 .0 .0 .0 .0 .0 .0 .0 .0 .1)) (c .before .match .rest .0 .0 .0 .0 .0 .0 .0 .0 .0 .0 .0 .1)) (c .before .match .rest .0 .0 .0 .0 .0 .0 .0 .0 .0 .0 .1)) (c .before .match .rest .0 .0 .0 .0 .0 .0 .0 .0 .0 .1)) (c .before .match .rest .0 .0 .0 .0 .0 .0 .0 .0 .1)) (c .before .match .rest .0 .0 .0 .0 .0 .0 .0 .1)) (c .before .match .rest .0 .0 .0 .0 .0 .0 .1)) (c .before .match .rest .0 .0 .0 .0 .0 .1)) (c .before .match .rest .0 .0 .0 .0 .1)) (c .before .match .rest .0 .0 .0 .1)) (c .before .match .rest .0 .0 .1)) (c .before .match .rest .0 .1)) (c .before .match .rest .1)) (c .place-value .result) (c .place-value .ensures)
+returns-14 c =
+    let args = c .before .before .before .args in
+    past-sorts
+    (args .text .now)
+    (args .c)
+    (args .sort)
+    (not-here 12 (args .sort)
+    (not-here 11 (args .sort)
+    (not-here 10 (args .sort)
+    (not-here 9 (args .sort)
+    (not-here 8 (args .sort)
+    (not-here 7 (args .sort)
+    (not-here 6 (args .sort)
+    (not-here 5 (args .sort)
+    (not-here 4 (args .sort)
+    (not-here 3 (args .sort)
+    (not-here 2 (args .sort)
+    (not-here 1 (args .sort) (not-here 0 (args .sort) (omega arith) (c .before .match .rest .0 .0 .0 .0 .0 .0 .0 .0 .0 .0 .0 .0 .1))
+    (c .before .match .rest .0 .0 .0 .0 .0 .0 .0 .0 .0 .0 .0 .1))
+    (c .before .match .rest .0 .0 .0 .0 .0 .0 .0 .0 .0 .0 .1))
+    (c .before .match .rest .0 .0 .0 .0 .0 .0 .0 .0 .0 .1))
+    (c .before .match .rest .0 .0 .0 .0 .0 .0 .0 .0 .1))
+    (c .before .match .rest .0 .0 .0 .0 .0 .0 .0 .1))
+    (c .before .match .rest .0 .0 .0 .0 .0 .0 .1))
+    (c .before .match .rest .0 .0 .0 .0 .0 .1))
+    (c .before .match .rest .0 .0 .0 .0 .1))
+    (c .before .match .rest .0 .0 .0 .1))
+    (c .before .match .rest .0 .0 .1))
+    (c .before .match .rest .0 .1))
+    (c .before .match .rest .1))
+    (c .place-value .result)
+    (c .place-value .ensures)
 
 pub value-by-spec : {M : Type 1} → statement M
 value-by-spec =

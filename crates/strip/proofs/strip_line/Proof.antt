@@ -22,13 +22,19 @@ same-length : tie.Need-same-length
 same-length c = search needs
 
 returns : tie.Need-returns
-returns c = rw (← c .before .before .before .before .before .before .line .ensures, c .before .before .length .given .1, c .low .ensures)
+returns c =
+    let at-length = c .before .before in
+    let at-line = at-length .before .before .before .before in
+    rw (← at-line .line .ensures, at-length .length .given .1, c .low .ensures)
 
 same-length-2 : tie.Need-same-length-2
 same-length-2 c = search needs
 
 returns-2 : tie.Need-returns-2
-returns-2 c = rw (← c .before .before .before .before .before .before .line .ensures, c .before .before .refusal .given .1, c .pack-refusal .ensures)
+returns-2 c =
+    let at-refusal = c .before .before in
+    let at-line = at-refusal .before .before .before .before in
+    rw (← at-line .line .ensures, at-refusal .refusal .given .1, c .pack-refusal .ensures)
 
 pub strip-line-spec : {M : Type 1} → statement M
 strip-line-spec =

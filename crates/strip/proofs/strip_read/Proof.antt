@@ -25,7 +25,11 @@ same-length-2 : tie.Need-same-length-2
 same-length-2 c = search needs
 
 returns : tie.Need-returns
-returns c = rw (← c .before .before .before .before .before .before .before .before .read .ensures, c .before .before .length .given .1, c .pack-sheet .ensures)
+returns c =
+    let at-length = c .before .before in
+    let c6 = at-length .before .before .before .before in
+    let at-read = c6 .before .before in
+    rw (← at-read .read .ensures, at-length .length .given .1, c .pack-sheet .ensures)
 
 same-length-3 : tie.Need-same-length-3
 same-length-3 c = search needs
@@ -34,7 +38,11 @@ same-length-4 : tie.Need-same-length-4
 same-length-4 c = search needs
 
 returns-2 : tie.Need-returns-2
-returns-2 c = rw (← c .before .before .before .before .before .before .before .before .read .ensures, c .before .before .refusal .given .1, c .pack-refusal .ensures)
+returns-2 c =
+    let at-refusal = c .before .before in
+    let c6 = at-refusal .before .before .before .before in
+    let at-read = c6 .before .before in
+    rw (← at-read .read .ensures, at-refusal .refusal .given .1, c .pack-refusal .ensures)
 
 pub strip-read-spec : {M : Type 1} → statement M
 strip-read-spec =

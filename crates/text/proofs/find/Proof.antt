@@ -41,13 +41,20 @@ returns c =
     let at-loop = at-part .before .before .before in
     let start = at-loop .before .before .before in
     let e = ap (same (start .args .word .now)) (sym (at-part .part .ensures)) ∙ sym (at-is-word .is-word .ensures) ∙ c .if1 .taken in
-    sym (at-loop .loop .inv .1 ∙ table-here (start .args .names .now) (at-loop .loop .at) (at-loop .loop .i) (start .args .word .now) (omega arith) e)
+    sym (at-loop .loop .inv .1
+    ∙ table-here (start .args .names .now) (at-loop .loop .at) (at-loop .loop .i) (start .args .word .now) (omega arith) e)
 
 add-at : tie.Need-add-at Inv-loop μ-loop
-add-at c = omega (arith, c .before .before .before .shared-slice-known3 .given (c .before .before .before .before .before .loop .at))
+add-at c =
+    let at-shared-slice-known3 = c .before .before .before in
+    let at-loop = at-shared-slice-known3 .before .before in
+    omega (arith, at-shared-slice-known3 .shared-slice-known3 .given (at-loop .loop .at))
 
 add-at-2 : tie.Need-add-at-2 Inv-loop μ-loop
-add-at-2 c = omega (arith, c .before .before .before .shared-slice-known3 .given (c .before .before .before .before .before .loop .at))
+add-at-2 c =
+    let at-shared-slice-known3 = c .before .before .before in
+    let at-loop = at-shared-slice-known3 .before .before in
+    omega (arith, at-shared-slice-known3 .shared-slice-known3 .given (at-loop .loop .at))
 
 add-i : tie.Need-add-i Inv-loop μ-loop
 add-i c = search needs
@@ -61,11 +68,16 @@ loop-again c =
     let at-part = at-is-word .before in
     let at-loop = at-part .before .before .before in
     let start = at-loop .before .before .before in
-    let e = ap (same (start .args .word .now)) (sym (at-part .part .ensures)) ∙ sym (at-is-word .is-word .ensures) ∙ c .if1 .left in
-    (omega arith, at-loop .loop .inv .1 ∙ table-past (start .args .names .now) (at-loop .loop .at) (at-loop .loop .i) (start .args .word .now) (omega arith) e)
+    let e = ap (same (start .args .word .now)) (sym (at-part .part .ensures)) ∙ sym (at-is-word .is-word .ensures) ∙ c .if1 .left in (
+      omega arith,
+      at-loop .loop .inv .1
+          ∙ table-past (start .args .names .now) (at-loop .loop .at) (at-loop .loop .i) (start .args .word .now) (omega arith) e,
+    )
 
 returns-2 : tie.Need-returns-2 Inv-loop μ-loop
-returns-2 c = sym (c .before .loop .inv .1 ∙ table-end (c .before .before .before .before .args .names .now) (c .before .loop .at) (c .before .loop .i) (c .before .before .before .before .args .word .now) (omega arith))
+returns-2 c =
+    let args = c .before .before .before .before .args in
+    sym (c .before .loop .inv .1 ∙ table-end (args .names .now) (c .before .loop .at) (c .before .loop .i) (args .word .now) (omega arith))
 
 pub find-spec : {M : Type 1} → statement M
 find-spec =

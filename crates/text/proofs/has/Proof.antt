@@ -22,7 +22,10 @@ shared-slice-read-if1 : tie.Need-shared-slice-read-if1 Inv-loop μ-loop
 shared-slice-read-if1 c = search needs
 
 returns : tie.Need-returns Inv-loop μ-loop
-returns c = sym (c .before .before .before .loop .inv .1 ∙ has-yes (c .before .before .before .before .args .set .now) (c .before .before .before .loop .i) (c .before .before .before .before .args .b) (omega arith) (c .if1 .taken))
+returns c =
+    let at-loop = c .before .before .before in
+    let args = at-loop .before .args in
+    sym (at-loop .loop .inv .1 ∙ has-yes (args .set .now) (at-loop .loop .i) (args .b) (omega arith) (c .if1 .taken))
 
 add-i : tie.Need-add-i Inv-loop μ-loop
 add-i c = search needs
@@ -37,7 +40,9 @@ loop-again c =
     (omega arith, at-loop .loop .inv .1 ∙ has-no (start .args .set .now) (at-loop .loop .i) (start .args .b) (omega arith) (c .if1 .left))
 
 returns-2 : tie.Need-returns-2 Inv-loop μ-loop
-returns-2 c = sym (c .before .loop .inv .1 ∙ has-end (c .before .before .args .set .now) (c .before .loop .i) (c .before .before .args .b) (omega arith))
+returns-2 c =
+    let args = c .before .before .args in
+    sym (c .before .loop .inv .1 ∙ has-end (args .set .now) (c .before .loop .i) (args .b) (omega arith))
 
 pub has-spec : {M : Type 1} → statement M
 has-spec =

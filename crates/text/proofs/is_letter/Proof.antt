@@ -14,10 +14,16 @@ is-upper-requires : tie.Need-is-upper-requires
 is-upper-requires c κs = search needs
 
 returns-2 : tie.Need-returns-2
-returns-2 c = rw (sym (c .before .before .before .between .ensures) ∙ c .before .before .if1 .left, sym (c .before .is-upper .ensures) ∙ c .if2 .taken)
+returns-2 c =
+    let at-if1 = c .before .before in
+    let at-between = at-if1 .before in
+    rw (sym (at-between .between .ensures) ∙ at-if1 .if1 .left, sym (c .before .is-upper .ensures) ∙ c .if2 .taken)
 
 returns-3 : tie.Need-returns-3
-returns-3 c = rw (sym (c .before .before .before .between .ensures) ∙ c .before .before .if1 .left, sym (c .before .is-upper .ensures) ∙ c .if2 .left)
+returns-3 c =
+    let at-if1 = c .before .before in
+    let at-between = at-if1 .before in
+    rw (sym (at-between .between .ensures) ∙ at-if1 .if1 .left, sym (c .before .is-upper .ensures) ∙ c .if2 .left)
 
 pub is-letter-spec : {M : Type 1} → statement M
 is-letter-spec =

@@ -31,7 +31,8 @@ returns-2 : tie.Need-returns-2 Inv-loop μ-loop
 returns-2 c =
     let at-loop = c .before .before .before .before in
     let start = at-loop .before .before in
-    sym (at-loop .loop .inv .1 ∙ same-not (start .args .w .now) (start .args .word .now) (at-loop .loop .i) (omega arith) (omega arith) (c .if2 .taken))
+    sym (at-loop .loop .inv .1
+    ∙ same-not (start .args .w .now) (start .args .word .now) (at-loop .loop .i) (omega arith) (omega arith) (c .if2 .taken))
 
 add-i : tie.Need-add-i Inv-loop μ-loop
 add-i c = search needs
@@ -42,11 +43,16 @@ loop-less c = search needs
 loop-again : tie.Need-loop-again Inv-loop μ-loop
 loop-again c =
     let at-loop = c .before .before .before .before in
-    let start = at-loop .before .before in
-    (omega arith, at-loop .loop .inv .1 ∙ same-next (start .args .w .now) (start .args .word .now) (at-loop .loop .i) (omega arith) (omega arith) (c .if2 .left))
+    let start = at-loop .before .before in (
+      omega arith,
+      at-loop .loop .inv .1
+          ∙ same-next (start .args .w .now) (start .args .word .now) (at-loop .loop .i) (omega arith) (omega arith) (c .if2 .left),
+    )
 
 returns-3 : tie.Need-returns-3 Inv-loop μ-loop
-returns-3 c = sym (c .before .loop .inv .1 ∙ same-end (c .before .before .before .args .w .now) (c .before .before .before .args .word .now) (c .before .loop .i) (omega arith) (omega arith))
+returns-3 c =
+    let args = c .before .before .before .args in
+    sym (c .before .loop .inv .1 ∙ same-end (args .w .now) (args .word .now) (c .before .loop .i) (omega arith) (omega arith))
 
 pub is-word-spec : {M : Type 1} → statement M
 is-word-spec =

@@ -10,7 +10,9 @@ is-upper-requires : tie.Need-is-upper-requires
 is-upper-requires c κs = search needs
 
 add-result : tie.Need-add-result
-add-result c = record { fits = omega (arith, within-is 65 90 (c .before .before .args .b) (sym (c .before .is-upper .ensures) ∙ c .if1 .taken)) }
+add-result c =
+    let start = c .before .before in
+    record { fits = omega (arith, within-is 65 90 (start .args .b) (sym (c .before .is-upper .ensures) ∙ c .if1 .taken)) }
 
 returns : tie.Need-returns
 returns c = rw (sym (c .before .is-upper .ensures) ∙ c .if1 .taken)

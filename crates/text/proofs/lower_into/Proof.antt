@@ -13,7 +13,9 @@ use Rattle.text.proofs.lower_into.Statement.{statement}
 use Rattle.text.proofs.lower_into.Tie as tie
 
 abbrev Inv-loop : tie.InvT-loop
-Inv-loop w out₀ n₀ out n = (length out ≡ length out₀) × ((after : List ℕ) (end : ℕ) → Puts out n (lowered (drop n w)) after end → Puts out₀ 0 (lowered w) after end)
+Inv-loop w out₀ n₀ out n =
+    (length out ≡ length out₀)
+    × ((after : List ℕ) (end : ℕ) → Puts out n (lowered (drop n w)) after end → Puts out₀ 0 (lowered w) after end)
 
 abbrev μ-loop : tie.MeasureT-loop
 μ-loop w out₀ n₀ out n = length w - n
@@ -47,14 +49,18 @@ loop-again c =
     let at-loop = c .before .before .before .before in
     let start = at-loop .before .before .before in (
       (simp length-set) ∙ at-loop .loop .inv .0,
-      λ after end p. at-loop .loop .inv .1 after end (rw (lowered-at (start .args .w .now) (at-loop .loop .n) (omega arith)) (puts-then (puts-one _ _ _ (omega arith)) (rw (sym (c .lower .ensures)) p))),
+      λ after end p. at-loop .loop .inv .1 after end
+          (rw (lowered-at (start .args .w .now) (at-loop .loop .n) (omega arith))
+          (puts-then (puts-one _ _ _ (omega arith)) (rw (sym (c .lower .ensures)) p))),
     )
 
 same-length-2 : tie.Need-same-length-2 Inv-loop μ-loop
 same-length-2 c = c .before .loop .inv .0
 
 returns-2 : tie.Need-returns-2 Inv-loop μ-loop
-returns-2 c = c .before .loop .inv .1 _ _ (rw (lowered-end (c .before .before .before .before .args .w .now) (c .before .loop .n) (omega arith)) (puts-none _ _))
+returns-2 c =
+    let start = c .before .before .before .before in
+    c .before .loop .inv .1 _ _ (rw (lowered-end (start .args .w .now) (c .before .loop .n) (omega arith)) (puts-none _ _))
 
 pub lower-into-spec : {M : Type 1} → statement M
 lower-into-spec =

@@ -14,7 +14,9 @@ part-result-end : tie.Need-part-result-end
 part-result-end c = search needs
 
 returns : tie.Need-returns
-returns c = part-off (c .before .before .args .text .now) (c .before .before .args .start) (c .before .before .args .size) (c .before .if1 .taken)
+returns c =
+    let args = c .before .before .args in
+    part-off (args .text .now) (args .start) (args .size) (c .before .if1 .taken)
 
 sub-if2 : tie.Need-sub-if2
 sub-if2 c = search needs
@@ -29,7 +31,9 @@ part-result-end-2 : tie.Need-part-result-end-2
 part-result-end-2 c = search needs
 
 returns-2 : tie.Need-returns-2
-returns-2 c = part-all (c .before .before .before .args .text .now) (c .before .before .before .args .start) (c .before .before .before .args .size) (c .before .if2 .taken)
+returns-2 c =
+    let args = c .before .before .before .args in
+    part-all (args .text .now) (args .start) (args .size) (c .before .if2 .taken)
 
 add-end : tie.Need-add-end
 add-end c = search needs
@@ -44,7 +48,9 @@ part-result-end-3 : tie.Need-part-result-end-3
 part-result-end-3 c = search needs
 
 returns-3 : tie.Need-returns-3
-returns-3 c = part-in (c .before .before .before .args .text .now) (c .before .before .before .args .start) (c .before .before .before .args .size)
+returns-3 c =
+    let args = c .before .before .before .args in
+    part-in (args .text .now) (args .start) (args .size)
 
 pub part-spec : {M : Type 1} → statement M
 part-spec =

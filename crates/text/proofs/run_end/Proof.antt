@@ -28,8 +28,10 @@ in-class-requires c κs = search needs
 
 returns : tie.Need-returns Inv-loop μ-loop
 returns c =
+    let at-loop = c .before .before .before .before in
+    let args = at-loop .before .before .args in
     let e = sym (c .before .in-class .ensures) ∙ not-true _ (c .if1 .taken) in
-    omega (arith, run-end (passes (c .before .before .before .before .before .before .args .k)) (c .before .before .before .before .before .before .args .text .now) (c .before .before .before .before .loop .i) (omega arith) e)
+    omega (arith, run-end (passes (args .k)) (args .text .now) (at-loop .loop .i) (omega arith) e)
 
 add-i : tie.Need-add-i Inv-loop μ-loop
 add-i c = search needs
@@ -39,11 +41,15 @@ loop-less c = search needs
 
 loop-again : tie.Need-loop-again Inv-loop μ-loop
 loop-again c =
+    let at-loop = c .before .before .before .before in
+    let args = at-loop .before .before .args in
     let e = sym (c .before .in-class .ensures) ∙ not-false _ (c .if1 .left) in
-    omega (arith, run-at (passes (c .before .before .before .before .before .before .args .k)) (c .before .before .before .before .before .before .args .text .now) (c .before .before .before .before .loop .i) (omega arith) e)
+    omega (arith, run-at (passes (args .k)) (args .text .now) (at-loop .loop .i) (omega arith) e)
 
 returns-2 : tie.Need-returns-2 Inv-loop μ-loop
-returns-2 c = omega (arith, run-out (passes (c .before .before .before .args .k)) (c .before .before .before .args .text .now) (c .before .loop .i) (omega arith))
+returns-2 c =
+    let args = c .before .before .before .args in
+    omega (arith, run-out (passes (args .k)) (args .text .now) (c .before .loop .i) (omega arith))
 
 pub run-end-spec : {M : Type 1} → statement M
 run-end-spec =

@@ -33,13 +33,26 @@ loop-less : tie.Need-loop-less Inv-loop μ-loop
 loop-less c = search needs
 
 loop-again : tie.Need-loop-again Inv-loop μ-loop
-loop-again c = (omega (arith, c .before .loop .inv), (simp length-set) ∙ c .before .loop .inv .1, rw (c .before .loop .inv .2) (fill-more (c .before .loop .i) 0 (c .before .before .args .words .now) (omega (arith, c .before .loop .inv))))
+loop-again c =
+    let start = c .before .before in (
+      omega (arith, c .before .loop .inv),
+      (simp length-set) ∙ c .before .loop .inv .1,
+      rw (c .before .loop .inv .2) (fill-more (c .before .loop .i) 0 (start .args .words .now) (omega (arith, c .before .loop .inv))),
+    )
 
 same-length : tie.Need-same-length Inv-loop μ-loop
 same-length c = search needs
 
 returns : tie.Need-returns Inv-loop μ-loop
-returns c = all-cleared (c .before .loop .i) (c .before .before .args .words .now) (c .before .loop .words) (omega (arith, c .before .loop .inv)) (c .before .loop .inv .0) (c .before .loop .inv .2)
+returns c =
+    let start = c .before .before in
+    all-cleared
+    (c .before .loop .i)
+    (start .args .words .now)
+    (c .before .loop .words)
+    (omega (arith, c .before .loop .inv))
+    (c .before .loop .inv .0)
+    (c .before .loop .inv .2)
 
 pub clear-spec : {M : Type 1} → statement M
 clear-spec =

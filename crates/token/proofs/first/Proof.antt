@@ -19,9 +19,13 @@ name-at-requires c κs = search needs
 
 returns : tie.Need-returns
 returns c =
-    let t = c .before .before .before .before .before .args .t .now in
-    let e = sym (c .before .before .before .byte-at .ensures) in
-    lex-cut t _ (lex-is t true _ _ _ (rw e (sym (c .before .before .in-class .ensures) ∙ c .before .if1 .taken)) refl refl refl) (c .name-at .result) (c .name-at .ensures)
+    let at-in-class = c .before .before in
+    let at-byte-at = at-in-class .before in
+    let start = at-byte-at .before .before in
+    let t = start .args .t .now in
+    let e = sym (at-byte-at .byte-at .ensures) in
+    lex-cut t _ (lex-is t true _ _ _ (rw e (sym (at-in-class .in-class .ensures) ∙ c .before .if1 .taken)) refl refl refl)
+    (c .name-at .result) (c .name-at .ensures)
 
 in-class-requires-2 : tie.Need-in-class-requires-2
 in-class-requires-2 c κs = search needs
@@ -31,34 +35,74 @@ number-at-requires c κs = search needs
 
 returns-2 : tie.Need-returns-2
 returns-2 c =
-    let t = c .before .before .before .before .before .before .before .args .t .now in
-    let e = sym (c .before .before .before .before .before .byte-at .ensures) in
-    lex-cut t _ (lex-is t false true _ _ (rw e (sym (c .before .before .before .before .in-class .ensures) ∙ c .before .before .before .if1 .left)) (rw e (sym (c .before .before .in-class2 .ensures) ∙ c .before .if2 .taken)) refl refl) (c .number-at .result) (c .number-at .ensures)
+    let at-in-class2 = c .before .before in
+    let at-if1 = at-in-class2 .before in
+    let at-in-class = at-if1 .before in
+    let at-byte-at = at-in-class .before in
+    let start = at-byte-at .before .before in
+    let t = start .args .t .now in
+    let e = sym (at-byte-at .byte-at .ensures) in
+    lex-cut t _
+    (lex-is t false true _ _ (rw e (sym (at-in-class .in-class .ensures) ∙ at-if1 .if1 .left))
+    (rw e (sym (at-in-class2 .in-class2 .ensures) ∙ c .before .if2 .taken)) refl refl)
+    (c .number-at .result)
+    (c .number-at .ensures)
 
 quoted-at-requires : tie.Need-quoted-at-requires
 quoted-at-requires c κs = search needs
 
 returns-3 : tie.Need-returns-3
 returns-3 c =
-    let t = c .before .before .before .before .before .before .before .before .args .t .now in
-    let e = sym (c .before .before .before .before .before .before .byte-at .ensures) in
-    lex-cut t _ (lex-is t false false true _ (rw e (sym (c .before .before .before .before .before .in-class .ensures) ∙ c .before .before .before .before .if1 .left)) (rw e (sym (c .before .before .before .in-class2 .ensures) ∙ c .before .before .if2 .left)) (eq-eqb _ 34 (e ∙ c .before .if3 .taken)) refl) (c .quoted-at .result) (c .quoted-at .ensures)
+    let at-if2 = c .before .before in
+    let at-in-class2 = at-if2 .before in
+    let at-if1 = at-in-class2 .before in
+    let at-in-class = at-if1 .before in
+    let at-byte-at = at-in-class .before in
+    let start = at-byte-at .before .before in
+    let t = start .args .t .now in
+    let e = sym (at-byte-at .byte-at .ensures) in
+    lex-cut t _
+    (lex-is t false false true _ (rw e (sym (at-in-class .in-class .ensures) ∙ at-if1 .if1 .left))
+    (rw e (sym (at-in-class2 .in-class2 .ensures) ∙ at-if2 .if2 .left)) (eq-eqb _ 34 (e ∙ c .before .if3 .taken)) refl)
+    (c .quoted-at .result)
+    (c .quoted-at .ensures)
 
 is-mark-requires : tie.Need-is-mark-requires
 is-mark-requires c κs = search needs
 
 returns-4 : tie.Need-returns-4
 returns-4 c =
-    let t = c .before .before .before .before .before .before .before .before .before .args .t .now in
-    let e = sym (c .before .before .before .before .before .before .before .byte-at .ensures) in
-    let q = lex-is t false false false true (rw e (sym (c .before .before .before .before .before .before .in-class .ensures) ∙ c .before .before .before .before .before .if1 .left)) (rw e (sym (c .before .before .before .before .in-class2 .ensures) ∙ c .before .before .before .if2 .left)) (rw e (ne-eqb _ 34 (c .before .before .if3 .left))) (rw e (sym (c .before .is-mark .ensures) ∙ c .if4 .taken)) in
+    let at-if3 = c .before .before in
+    let at-if2 = at-if3 .before in
+    let at-in-class2 = at-if2 .before in
+    let at-if1 = at-in-class2 .before in
+    let at-in-class = at-if1 .before in
+    let at-byte-at = at-in-class .before in
+    let start = at-byte-at .before .before in
+    let t = start .args .t .now in
+    let e = sym (at-byte-at .byte-at .ensures) in
+    let q = lex-is t false false false true (rw e (sym (at-in-class .in-class .ensures) ∙ at-if1 .if1 .left))
+    (rw e (sym (at-in-class2 .in-class2 .ensures) ∙ at-if2 .if2 .left)) (rw e (ne-eqb _ 34 (at-if3 .if3 .left)))
+    (rw e (sym (c .before .is-mark .ensures) ∙ c .if4 .taken))
+    in
     record { is = rw e at q; sized = tt }
 
 returns-5 : tie.Need-returns-5
 returns-5 c =
-    let t = c .before .before .before .before .before .before .before .before .before .args .t .now in
-    let e = sym (c .before .before .before .before .before .before .before .byte-at .ensures) in
-    lex-is t false false false false (rw e (sym (c .before .before .before .before .before .before .in-class .ensures) ∙ c .before .before .before .before .before .if1 .left)) (rw e (sym (c .before .before .before .before .in-class2 .ensures) ∙ c .before .before .before .if2 .left)) (rw e (ne-eqb _ 34 (c .before .before .if3 .left))) (rw e (sym (c .before .is-mark .ensures) ∙ c .if4 .left))
+    let at-if3 = c .before .before in
+    let at-if2 = at-if3 .before in
+    let at-in-class2 = at-if2 .before in
+    let at-if1 = at-in-class2 .before in
+    let at-in-class = at-if1 .before in
+    let at-byte-at = at-in-class .before in
+    let start = at-byte-at .before .before in
+    let t = start .args .t .now in
+    let e = sym (at-byte-at .byte-at .ensures) in
+    lex-is t false false false false
+    (rw e (sym (at-in-class .in-class .ensures) ∙ at-if1 .if1 .left))
+    (rw e (sym (at-in-class2 .in-class2 .ensures) ∙ at-if2 .if2 .left))
+    (rw e (ne-eqb _ 34 (at-if3 .if3 .left)))
+    (rw e (sym (c .before .is-mark .ensures) ∙ c .if4 .left))
 
 pub first-spec : {M : Type 1} → statement M
 first-spec =

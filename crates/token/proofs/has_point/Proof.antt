@@ -13,7 +13,9 @@ byte-at-requires : tie.Need-byte-at-requires
 byte-at-requires c κs = search needs
 
 add-byte-at : tie.Need-add-byte-at
-add-byte-at c = omega (arith, inside (c .before .before .before .args .t .now) (c .before .before .before .args .w) 46 (sym (c .before .byte-at .ensures) ∙ c .if1 .taken) (omega arith))
+add-byte-at c =
+    let args = c .before .before .before .args in
+    omega (arith, inside (args .t .now) (args .w) 46 (sym (c .before .byte-at .ensures) ∙ c .if1 .taken) (omega arith))
 
 byte-at-requires-2 : tie.Need-byte-at-requires-2
 byte-at-requires-2 c κs = search needs
@@ -23,7 +25,11 @@ in-class-requires c κs = search needs
 
 returns : tie.Need-returns
 unfolding pointAt
-returns c = rw (eq-eqb _ 46 (sym (c .before .before .before .byte-at .ensures) ∙ c .before .before .if1 .taken)) (c .in-class .ensures ∙ (rw (c .before .byte-at2 .ensures, add-one)))
+returns c =
+    let at-if1 = c .before .before in
+    let at-byte-at = at-if1 .before in
+    rw (eq-eqb _ 46 (sym (at-byte-at .byte-at .ensures) ∙ at-if1 .if1 .taken))
+    (c .in-class .ensures ∙ (rw (c .before .byte-at2 .ensures, add-one)))
 
 returns-2 : tie.Need-returns-2
 unfolding pointAt

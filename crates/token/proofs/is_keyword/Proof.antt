@@ -61,39 +61,64 @@ is-listed-requires-8 c κs = search needs
 
 returns-2 : tie.Need-returns-2
 unfolding entries sized
-returns-2 c = c .is-listed .ensures ∙ keyword-in (c .before .before .before .before .before .args .word .now) _ 8 (c .before .before .match .keys1) refl
+returns-2 c =
+    let at-match = c .before .before in
+    let start = at-match .before .before .before in
+    c .is-listed .ensures ∙ keyword-in (start .args .word .now) _ 8 (at-match .match .keys1) refl
 
 returns-3 : tie.Need-returns-3
 unfolding entries sized
-returns-3 c = c .is-listed2 .ensures ∙ keyword-in (c .before .before .before .before .before .args .word .now) _ 7 (c .before .before .match .keys2) refl
+returns-3 c =
+    let at-match = c .before .before in
+    let start = at-match .before .before .before in
+    c .is-listed2 .ensures ∙ keyword-in (start .args .word .now) _ 7 (at-match .match .keys2) refl
 
 returns-4 : tie.Need-returns-4
 unfolding entries sized
-returns-4 c = c .is-listed3 .ensures ∙ keyword-in (c .before .before .before .before .before .args .word .now) _ 6 (c .before .before .match .keys3) refl
+returns-4 c =
+    let at-match = c .before .before in
+    let start = at-match .before .before .before in
+    c .is-listed3 .ensures ∙ keyword-in (start .args .word .now) _ 6 (at-match .match .keys3) refl
 
 returns-5 : tie.Need-returns-5
 unfolding entries sized
-returns-5 c = c .is-listed4 .ensures ∙ keyword-in (c .before .before .before .before .before .args .word .now) _ 5 (c .before .before .match .keys4) refl
+returns-5 c =
+    let at-match = c .before .before in
+    let start = at-match .before .before .before in
+    c .is-listed4 .ensures ∙ keyword-in (start .args .word .now) _ 5 (at-match .match .keys4) refl
 
 returns-6 : tie.Need-returns-6
 unfolding entries sized
-returns-6 c = c .is-listed5 .ensures ∙ keyword-in (c .before .before .before .before .before .args .word .now) _ 4 (c .before .before .match .keys5) refl
+returns-6 c =
+    let at-match = c .before .before in
+    let start = at-match .before .before .before in
+    c .is-listed5 .ensures ∙ keyword-in (start .args .word .now) _ 4 (at-match .match .keys5) refl
 
 returns-7 : tie.Need-returns-7
 unfolding entries sized
-returns-7 c = c .is-listed6 .ensures ∙ keyword-in (c .before .before .before .before .before .args .word .now) _ 3 (c .before .before .match .keys6) refl
+returns-7 c =
+    let at-match = c .before .before in
+    let start = at-match .before .before .before in
+    c .is-listed6 .ensures ∙ keyword-in (start .args .word .now) _ 3 (at-match .match .keys6) refl
 
 returns-8 : tie.Need-returns-8
 unfolding entries sized
-returns-8 c = c .is-listed7 .ensures ∙ keyword-in (c .before .before .before .before .before .args .word .now) _ 2 (c .before .before .match .keys7) refl
+returns-8 c =
+    let at-match = c .before .before in
+    let start = at-match .before .before .before in
+    c .is-listed7 .ensures ∙ keyword-in (start .args .word .now) _ 2 (at-match .match .keys7) refl
 
 returns-9 : tie.Need-returns-9
 unfolding entries sized
 returns-9 c =
-    let n = length (c .before .before .before .before .before .args .word .now) in
-    let r = c .before .before .match .rest in
-    let s = less n 4 (r .0 .0 .0 .1) (less n 5 (r .0 .0 .0 .0 .1) (less n 6 (r .0 .0 .0 .0 .0 .1) (less n 7 (r .0 .0 .0 .0 .0 .0 .1) (omega arith)))) in
-    c .is-listed8 .ensures ∙ keyword-short (c .before .before .before .before .before .args .word .now) _ (less n 1 (r .1) (less n 2 (r .0 .1) (less n 3 (r .0 .0 .1) s))) refl refl
+    let at-match = c .before .before in
+    let args = at-match .before .before .before .args in
+    let n = length (args .word .now) in
+    let r = at-match .match .rest in
+    let s = less n 4 (r .0 .0 .0 .1)
+    (less n 5 (r .0 .0 .0 .0 .1) (less n 6 (r .0 .0 .0 .0 .0 .1) (less n 7 (r .0 .0 .0 .0 .0 .0 .1) (omega arith))))
+    in
+    c .is-listed8 .ensures ∙ keyword-short (args .word .now) _ (less n 1 (r .1) (less n 2 (r .0 .1) (less n 3 (r .0 .0 .1) s))) refl refl
 
 pub is-keyword-spec : {M : Type 1} → statement M
 is-keyword-spec =

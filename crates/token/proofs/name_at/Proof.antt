@@ -15,10 +15,21 @@ byte-at-requires : tie.Need-byte-at-requires
 byte-at-requires c κs = search needs
 
 returns : tie.Need-returns
-returns c = name-is (c .before .before .before .before .args .t .now) (c .before .before .run-end .result) true (c .before .before .run-end .ensures ∙ zero-add _) (eq-eqb _ 34 (sym (c .before .byte-at .ensures) ∙ c .if1 .taken))
+returns c =
+    let at-run-end = c .before .before in
+    let start = at-run-end .before .before in
+    name-is (start .args .t .now) (at-run-end .run-end .result) true (at-run-end .run-end .ensures ∙ zero-add _)
+    (eq-eqb _ 34 (sym (c .before .byte-at .ensures) ∙ c .if1 .taken))
 
 returns-2 : tie.Need-returns-2
-returns-2 c = record { is = name-is (c .before .before .before .before .args .t .now) (c .before .before .run-end .result) false (c .before .before .run-end .ensures ∙ zero-add _) (ne-eqb _ 34 (λ q. c .if1 .left (c .before .byte-at .ensures ∙ q))); sized = refl }
+returns-2 c =
+    let at-run-end = c .before .before in
+    let start = at-run-end .before .before in
+    record {
+      is = name-is (start .args .t .now) (at-run-end .run-end .result) false (at-run-end .run-end .ensures ∙ zero-add _)
+          (ne-eqb _ 34 (λ q. c .if1 .left (c .before .byte-at .ensures ∙ q)));
+      sized = refl;
+    }
 
 pub name-at-spec : {M : Type 1} → statement M
 name-at-spec = tie.close (tie.spec run-end-requires byte-at-requires returns returns-2)

@@ -23,7 +23,10 @@ same-length : tie.Need-same-length
 same-length c = search needs
 
 returns : tie.Need-returns
-returns c = λ t. rw (c .before .before .before .before .before .k .given .1) (c .before .before .nest-mark .ensures)
+returns c =
+    let at-nest-mark = c .before .before in
+    let at-k = at-nest-mark .before .before .before in
+    λ t. rw (at-k .k .given .1) (at-nest-mark .nest-mark .ensures)
 
 returns-2 : tie.Need-returns-2
 returns-2 c = λ t. rw (c .enum-told .given .1) (record { is = refl; few = c .before .before .before .pre .1 })

@@ -20,7 +20,13 @@ same-length : tie.Need-same-length
 same-length c = search needs
 
 returns : tie.Need-returns
-returns c = depth-is _ _ (mark-is (c .before .before .before .before .before .before .before .before .args .b) (held (c .before .before .before .before .before .before .before .before .args .words .now) (c .before .before .before .before .before .before .before .before .args .depth)) true _ (sym (c .before .before .before .before .before .has .ensures) ∙ c .before .before .before .before .if1 .taken) refl) (c .before .before .take-opener .last .1 .0) (c .before .before .take-opener .result) (c .before .before .take-opener .ensures)
+returns c =
+    let at-take-opener = c .before .before in
+    let at-if1 = at-take-opener .before .before in
+    let at-has = at-if1 .before in
+    let args = at-has .before .before .before .args in
+    depth-is _ _ (mark-is (args .b) (held (args .words .now) (args .depth)) true _ (sym (at-has .has .ensures) ∙ at-if1 .if1 .taken) refl)
+    (at-take-opener .take-opener .last .1 .0) (at-take-opener .take-opener .result) (at-take-opener .take-opener .ensures)
 
 slice-aggregate-has-2 : tie.Need-slice-aggregate-has-2
 slice-aggregate-has-2 c = search needs
@@ -35,10 +41,29 @@ same-length-2 : tie.Need-same-length-2
 same-length-2 c = search needs
 
 returns-2 : tie.Need-returns-2
-returns-2 c = depth-is _ _ (mark-is (c .before .before .before .before .before .before .before .before .before .args .b) (held (c .before .before .before .before .before .before .before .before .before .args .words .now) (c .before .before .before .before .before .before .before .before .before .args .depth)) false true (sym (c .before .before .before .before .before .before .has .ensures) ∙ c .before .before .before .before .before .if1 .left) (sym (c .before .before .before .has2 .ensures) ∙ c .before .before .if2 .taken)) (c .before .before .before .before .before .before .before .before .before .args .words .now) (c .take-closer .result) (c .take-closer .ensures)
+returns-2 c =
+    let at-if2 = c .before .before in
+    let at-has2 = at-if2 .before in
+    let at-if1 = at-has2 .before .before in
+    let at-has = at-if1 .before in
+    let args = at-has .before .before .before .args in
+    depth-is _ _
+    (mark-is (args .b) (held (args .words .now) (args .depth)) false true (sym (at-has .has .ensures) ∙ at-if1 .if1 .left)
+    (sym (at-has2 .has2 .ensures) ∙ at-if2 .if2 .taken))
+    (args .words .now)
+    (c .take-closer .result)
+    (c .take-closer .ensures)
 
 returns-3 : tie.Need-returns-3
-returns-3 c = record { is = mark-is (c .before .before .before .before .before .before .before .args .b) (held (c .before .before .before .before .before .before .before .args .words .now) (c .before .before .before .before .before .before .before .args .depth)) false false (sym (c .before .before .before .before .has .ensures) ∙ c .before .before .before .if1 .left) (sym (c .before .has2 .ensures) ∙ c .if2 .left); few = c .before .before .before .before .before .before .before .pre .1 }
+returns-3 c =
+    let at-if1 = c .before .before .before in
+    let at-has = at-if1 .before in
+    let start = at-has .before .before .before in
+    record {
+      is = mark-is (start .args .b) (held (start .args .words .now) (start .args .depth)) false false
+          (sym (at-has .has .ensures) ∙ at-if1 .if1 .left) (sym (c .before .has2 .ensures) ∙ c .if2 .left);
+      few = start .pre .1;
+    }
 
 pub nest-mark-spec : {M : Type 1} → statement M
 nest-mark-spec =

@@ -1,4 +1,5 @@
--- `token::pass` meets its contract; the loop keeps the answer: that from `at` on, with the closers that the words hold, is the one for the text. Assumes nothing.
+-- `token::pass` meets its contract; the loop keeps the answer: that from `at` on, with the closers that the words hold, is the one for the
+-- text. Assumes nothing.
 use Prim.Native.Nat.{_-_, _≤_}
 use mathlib.Core.Path.{refl, sym, _∙_, _≡_}
 use native.Mathlib.Omega.{arith}
@@ -13,7 +14,8 @@ use Rattle.token.proofs.pass.Statement.{statement}
 use Rattle.token.proofs.pass.Tie as tie
 
 abbrev Inv-loop : tie.InvT-loop
-Inv-loop text words₀ at₀ depth₀ words at depth = (length words ≡ length words₀) × (at ≤ length text) × (depth ≤ 64) × (answerOf (split text) ≡ answerFrom text at (held words depth))
+Inv-loop text words₀ at₀ depth₀ words at depth =
+    (length words ≡ length words₀) × (at ≤ length text) × (depth ≤ 64) × (answerOf (split text) ≡ answerFrom text at (held words depth))
 
 abbrev μ-loop : tie.MeasureT-loop
 μ-loop text words₀ at₀ depth₀ words at depth = length text - at
@@ -32,21 +34,29 @@ same-length c = search needs
 
 returns : tie.Need-returns Inv-loop μ-loop
 returns c =
-    let m = rw (c .before .a .given .1) at (c .before .before .before .before .before .step .ensures) in
-    m ∙ sym (c .before .before .before .before .before .before .before .loop .inv .3)
+    let at-a = c .before in
+    let at-step = at-a .before .before .before .before in
+    let at-loop = at-step .before .before in
+    let m = rw (at-a .a .given .1) at (at-step .step .ensures) in
+    m ∙ sym (at-loop .loop .inv .3)
 
 enum-known-next : tie.Need-enum-known-next Inv-loop μ-loop
 enum-known-next c = search needs
 
 loop-less : tie.Need-loop-less Inv-loop μ-loop
 loop-less c =
-    let m = rw (c .before .next .given .1) at (c .before .before .before .before .before .step .ensures) in
+    let at-next = c .before in
+    let at-step = at-next .before .before .before .before in
+    let m = rw (at-next .next .given .1) at (at-step .step .ensures) in
     omega (arith, m .low, m .high)
 
 loop-again : tie.Need-loop-again Inv-loop μ-loop
 loop-again c =
-    let m = rw (c .before .next .given .1) at (c .before .before .before .before .before .step .ensures) in
-    (search needs, m .high, m .few, c .before .before .before .before .before .before .before .loop .inv .3 ∙ m .is)
+    let at-next = c .before in
+    let at-step = at-next .before .before .before .before in
+    let at-loop = at-step .before .before in
+    let m = rw (at-next .next .given .1) at (at-step .step .ensures) in
+    (search needs, m .high, m .few, at-loop .loop .inv .3 ∙ m .is)
 
 pub pass-spec : {M : Type 1} → statement M
 pass-spec =

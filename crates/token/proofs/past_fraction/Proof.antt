@@ -10,7 +10,9 @@ use Rattle.token.proofs.past_fraction.Statement.{statement}
 use Rattle.token.proofs.past_fraction.Tie as tie
 
 add-run-end : tie.Need-add-run-end
-add-run-end c = omega (arith, point-inside (c .before .before .args .t .now) (c .before .before .args .w) (sym (c .before .before .pre) ∙ c .if1 .taken))
+add-run-end c =
+    let start = c .before .before in
+    omega (arith, point-inside (start .args .t .now) (start .args .w) (sym (start .pre) ∙ c .if1 .taken))
 
 run-end-requires : tie.Need-run-end-requires
 run-end-requires c κs = search needs

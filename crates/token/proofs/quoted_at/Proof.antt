@@ -16,7 +16,11 @@ byte-at-requires : tie.Need-byte-at-requires
 byte-at-requires c κs = search needs
 
 add-n : tie.Need-add-n
-add-n c = omega (arith, inside (c .before .before .before .before .args .t .now) (c .before .before .run-end .result) 34 (sym (c .before .byte-at .ensures) ∙ c .if1 .taken) (omega arith))
+add-n c =
+    let at-run-end = c .before .before in
+    let start = at-run-end .before .before in
+    omega
+    (arith, inside (start .args .t .now) (at-run-end .run-end .result) 34 (sym (c .before .byte-at .ensures) ∙ c .if1 .taken) (omega arith))
 
 byte-at-requires-2 : tie.Need-byte-at-requires-2
 byte-at-requires-2 c κs = search needs
@@ -25,16 +29,47 @@ in-class-requires : tie.Need-in-class-requires
 in-class-requires c κs = search needs
 
 returns : tie.Need-returns
-returns c = quoted-at-is (c .before .before .before .before .before .before .before .args .t .now) (c .before .before .before .before .before .run-end .result) true true (c .before .before .before .before .before .run-end .ensures) (eq-eqb _ 34 (sym (c .before .before .before .before .byte-at .ensures) ∙ c .before .before .before .if1 .taken)) (rw (sym (c .before .before .byte-at2 .ensures)) (sym (c .before .in-class .ensures) ∙ c .if2 .taken))
+returns c =
+    let at-byte-at2 = c .before .before in
+    let at-if1 = at-byte-at2 .before in
+    let at-byte-at = at-if1 .before in
+    let at-run-end = at-byte-at .before in
+    let start = at-run-end .before .before in
+    quoted-at-is
+    (start .args .t .now)
+    (at-run-end .run-end .result)
+    true true
+    (at-run-end .run-end .ensures)
+    (eq-eqb _ 34 (sym (at-byte-at .byte-at .ensures) ∙ at-if1 .if1 .taken))
+    (rw (sym (at-byte-at2 .byte-at2 .ensures)) (sym (c .before .in-class .ensures) ∙ c .if2 .taken))
 
 sub-size : tie.Need-sub-size
 sub-size c = search needs
 
 returns-2 : tie.Need-returns-2
-returns-2 c = record { is = quoted-at-is (c .before .before .before .before .before .before .before .args .t .now) (c .before .before .before .before .before .run-end .result) true false (c .before .before .before .before .before .run-end .ensures) (eq-eqb _ 34 (sym (c .before .before .before .before .byte-at .ensures) ∙ c .before .before .before .if1 .taken)) (rw (sym (c .before .before .byte-at2 .ensures)) (sym (c .before .in-class .ensures) ∙ c .if2 .left)); sized = tt }
+returns-2 c =
+    let at-byte-at2 = c .before .before in
+    let at-if1 = at-byte-at2 .before in
+    let at-byte-at = at-if1 .before in
+    let at-run-end = at-byte-at .before in
+    let start = at-run-end .before .before in
+    record {
+      is = quoted-at-is
+          (start .args .t .now)
+          (at-run-end .run-end .result)
+          true false
+          (at-run-end .run-end .ensures)
+          (eq-eqb _ 34 (sym (at-byte-at .byte-at .ensures) ∙ at-if1 .if1 .taken))
+          (rw (sym (at-byte-at2 .byte-at2 .ensures)) (sym (c .before .in-class .ensures) ∙ c .if2 .left));
+      sized = tt;
+    }
 
 returns-3 : tie.Need-returns-3
-returns-3 c = quoted-at-is (c .before .before .before .before .args .t .now) (c .before .before .run-end .result) false _ (c .before .before .run-end .ensures) (ne-eqb _ 34 (λ q. c .if1 .left (c .before .byte-at .ensures ∙ q))) refl
+returns-3 c =
+    let at-run-end = c .before .before in
+    let start = at-run-end .before .before in
+    quoted-at-is (start .args .t .now) (at-run-end .run-end .result) false _ (at-run-end .run-end .ensures)
+    (ne-eqb _ 34 (λ q. c .if1 .left (c .before .byte-at .ensures ∙ q))) refl
 
 pub quoted-at-spec : {M : Type 1} → statement M
 quoted-at-spec =

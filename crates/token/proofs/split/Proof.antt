@@ -18,7 +18,22 @@ same-length : tie.Need-same-length
 same-length c = search needs
 
 returns-2 : tie.Need-returns-2
-returns-2 c = split-by (c .before .before .before .before .before .before .before .before .before .before .before .args .text .now) (c .before .before .before .before .before .before .before .before .before .before .before .args .scratch .now) (c .before .before .before .before .before .before .pass .result) (c .before .before .before .before .before .before .pass .last .1 .0) (c .before .before .clear .last .0) (omega arith) (c .before .before .before .before .before .before .pass .ensures) (c .before .before .before .before .before .before .pass .kept .1 .0) (c .before .before .clear .ensures)
+returns-2 c =
+    let at-clear = c .before .before in
+    let at-pass = at-clear .before .before .before .before in
+    let pass = at-pass .pass in
+    let c10 = at-pass .before .before .before .before in
+    let args = c10 .before .args in
+    split-by
+    (args .text .now)
+    (args .scratch .now)
+    (pass .result)
+    (pass .last .1 .0)
+    (at-clear .clear .last .0)
+    (omega arith)
+    (pass .ensures)
+    (pass .kept .1 .0)
+    (at-clear .clear .ensures)
 
 pub split-spec : {M : Type 1} → statement M
 split-spec = tie.close (tie.spec returns pass-requires clear-requires same-length returns-2)

@@ -17,7 +17,11 @@ ended-requires : tie.Need-ended-requires
 ended-requires c κs = search needs
 
 returns : tie.Need-returns
-returns c = c .ended .ensures (c .before .before .before .before .before .args .words .now) ∙ sym (over-end (c .before .before .before .before .before .args .text .now) (c .before .before .before .before .before .args .at) (c .before .before .run-end .result) (c .before .before .run-end .ensures) _ (omega arith))
+returns c =
+    let at-run-end = c .before .before in
+    let args = at-run-end .before .before .before .args in
+    c .ended .ensures (args .words .now)
+    ∙ sym (over-end (args .text .now) (args .at) (at-run-end .run-end .result) (at-run-end .run-end .ensures) _ (omega arith))
 
 sub-first : tie.Need-sub-first
 sub-first c = search needs
@@ -54,27 +58,63 @@ enum-known-d c = search needs
 
 add-next : tie.Need-add-next
 add-next c =
-    let m = rw (rest-of (c .before .before .before .before .before .before .before .before .before .before .before .before .before .before .before .before .args .text .now) (c .before .before .before .before .before .before .before .before .before .before .before .before .before .run-end .result), c .before .before .before .before .before .before .before .before .k .given .1) at (c .before .before .before .before .before .before .before .before .before .before .first .ensures) in
+    let c4 = c .before .before .before .before in
+    let at-k = c4 .before .before .before .before in
+    let at-first = at-k .before .before in
+    let at-run-end = at-first .before .before .before in
+    let start = at-run-end .before .before .before in
+    let m = rw (rest-of (start .args .text .now) (at-run-end .run-end .result), at-k .k .given .1) at (at-first .first .ensures) in
     omega (arith, rw length-drop at (whole-of _ _ _ (m .is) .high))
 
 returns-2 : tie.Need-returns-2
-returns-2 c = rw (c .halt .ensures) (sym (over-bad (c .before .before .before .before .before .before .before .before .before .before .args .text .now) (c .before .before .before .before .before .before .before .before .before .before .args .at) (c .before .before .before .before .before .before .before .run-end .result) (c .before .before .before .before .before .before .before .run-end .ensures) _ (omega arith) _ (rw (rest-of (c .before .before .before .before .before .before .before .before .before .before .args .text .now) (c .before .before .before .before .before .before .before .run-end .result), c .before .before .r .given .1) at (c .before .before .before .before .first .ensures))))
+returns-2 c =
+    let at-r = c .before .before in
+    let at-first = at-r .before .before in
+    let at-run-end = at-first .before .before .before in
+    let args = at-run-end .before .before .before .args in
+    rw (c .halt .ensures)
+    (sym (over-bad (args .text .now) (args .at) (at-run-end .run-end .result) (at-run-end .run-end .ensures) _ (omega arith) _
+    (rw (rest-of (args .text .now) (at-run-end .run-end .result), at-r .r .given .1) at (at-first .first .ensures))))
 
 same-length : tie.Need-same-length
 same-length c = search needs
 
 returns-3 : tie.Need-returns-3
 returns-3 c =
-    let m = rw (rest-of (c .before .before .before .before .before .before .before .before .before .before .before .before .before .before .before .before .before .args .text .now) (c .before .before .before .before .before .before .before .before .before .before .before .before .before .before .run-end .result), c .before .before .before .before .before .before .before .before .before .k .given .1) at (c .before .before .before .before .before .before .before .before .before .before .before .first .ensures) in
-    rw (c .halt2 .ensures) (sym (over-unfit (c .before .before .before .before .before .before .before .before .before .before .before .before .before .before .before .before .before .args .text .now) (c .before .before .before .before .before .before .before .before .before .before .before .before .before .before .before .before .before .args .at) (c .before .before .before .before .before .before .before .before .before .before .before .before .before .before .run-end .result) (c .before .before .before .before .before .before .before .before .before .before .before .before .before .before .run-end .ensures) _ (omega arith) _ _ m _ (rw (c .before .before .r2 .given .1) at (c .before .before .before .before .before .before .nest .ensures (drop (c .before .before .before .before .before .before .before .before .before .before .before .before .before .before .run-end .result) (c .before .before .before .before .before .before .before .before .before .before .before .before .before .before .before .before .before .args .text .now))))))
+    let at-r2 = c .before .before in
+    let at-nest = at-r2 .before .before .before .before in
+    let at-k = at-nest .before .before .before in
+    let at-first = at-k .before .before in
+    let at-run-end = at-first .before .before .before in
+    let run-end = at-run-end .run-end in
+    let args = at-run-end .before .before .before .args in
+    let m = rw (rest-of (args .text .now) (run-end .result), at-k .k .given .1) at (at-first .first .ensures) in
+    rw (c .halt2 .ensures)
+    (sym (over-unfit (args .text .now) (args .at) (run-end .result) (run-end .ensures) _ (omega arith) _ _ m _
+    (rw (at-r2 .r2 .given .1) at (at-nest .nest .ensures (drop (run-end .result) (args .text .now))))))
 
 same-length-2 : tie.Need-same-length-2
 same-length-2 c = search needs
 
 returns-4 : tie.Need-returns-4
 returns-4 c =
-    let m = rw (rest-of (c .before .before .before .before .before .before .before .before .before .before .before .before .before .before .before .before .args .text .now) (c .before .before .before .before .before .before .before .before .before .before .before .before .before .run-end .result), c .before .before .before .before .before .before .before .before .k .given .1) at (c .before .before .before .before .before .before .before .before .before .before .first .ensures) in
-    goes-on (c .before .before .before .before .before .before .before .before .before .before .before .before .before .before .before .before .args .text .now) (c .before .before .before .before .before .before .before .before .before .before .before .before .before .before .before .before .args .at) (c .before .before .before .before .before .before .before .before .before .before .before .before .before .run-end .result) (c .before .before .before .before .before .before .before .before .before .before .before .before .before .run-end .ensures) _ (omega arith) _ _ m _ _ (rw (c .before .d .given .1) at (c .before .before .before .before .before .nest .ensures (drop (c .before .before .before .before .before .before .before .before .before .before .before .before .before .run-end .result) (c .before .before .before .before .before .before .before .before .before .before .before .before .before .before .before .before .args .text .now))))
+    let at-d = c .before in
+    let at-nest = at-d .before .before .before .before in
+    let at-k = at-nest .before .before .before in
+    let at-first = at-k .before .before in
+    let at-run-end = at-first .before .before .before in
+    let run-end = at-run-end .run-end in
+    let args = at-run-end .before .before .before .args in
+    let m = rw (rest-of (args .text .now) (run-end .result), at-k .k .given .1) at (at-first .first .ensures) in
+    goes-on
+    (args .text .now)
+    (args .at)
+    (run-end .result)
+    (run-end .ensures)
+    _
+    (omega arith)
+    _ _ m _ _
+    (rw (at-d .d .given .1) at (at-nest .nest .ensures (drop (run-end .result) (args .text .now))))
 
 pub step-spec : {M : Type 1} → statement M
 step-spec =

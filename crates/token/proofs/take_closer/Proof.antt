@@ -9,7 +9,9 @@ use Rattle.token.proofs.take_closer.Statement.{statement}
 use Rattle.token.proofs.take_closer.Tie as tie
 
 returns : tie.Need-returns
-returns c = closes-none (c .before .before .args .words .now) (c .before .before .args .depth) (c .before .before .args .b) (c .if1 .taken)
+returns c =
+    let args = c .before .before .args in
+    closes-none (args .words .now) (args .depth) (args .b) (c .if1 .taken)
 
 sub-last : tie.Need-sub-last
 sub-last c = search needs
@@ -24,10 +26,21 @@ wide-requires : tie.Need-wide-requires
 wide-requires c κs = search needs
 
 returns-2 : tie.Need-returns-2
-returns-2 c = record { is = closes-by (c .before .before .before .before .before .args .words .now) (c .before .before .before .before .before .args .depth) (c .before .before .before .before .before .args .b) true (c .before .before .before .if1 .left) (eq-eqb _ _ (sym (c .if2 .taken ∙ c .before .wide .ensures))); few = omega (arith, c .before .before .before .before .before .pre .1) }
+returns-2 c =
+    let at-if1 = c .before .before .before in
+    let start = at-if1 .before .before in
+    record {
+      is = closes-by (start .args .words .now) (start .args .depth) (start .args .b) true (at-if1 .if1 .left)
+          (eq-eqb _ _ (sym (c .if2 .taken ∙ c .before .wide .ensures)));
+      few = omega (arith, start .pre .1);
+    }
 
 returns-3 : tie.Need-returns-3
-returns-3 c = closes-by (c .before .before .before .before .before .args .words .now) (c .before .before .before .before .before .args .depth) (c .before .before .before .before .before .args .b) false (c .before .before .before .if1 .left) (ne-eqb _ _ (λ q. c .if2 .left (sym (c .before .wide .ensures ∙ q))))
+returns-3 c =
+    let at-if1 = c .before .before .before in
+    let args = at-if1 .before .before .args in
+    closes-by (args .words .now) (args .depth) (args .b) false (at-if1 .if1 .left)
+    (ne-eqb _ _ (λ q. c .if2 .left (sym (c .before .wide .ensures ∙ q))))
 
 pub take-closer-spec : {M : Type 1} → statement M
 take-closer-spec =

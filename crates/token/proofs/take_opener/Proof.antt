@@ -21,10 +21,21 @@ same-length : tie.Need-same-length
 same-length c = search needs
 
 returns : tie.Need-returns
-returns c = opens (c .before .before .before .args .words .now) (c .before .before .before .args .depth) (c .before .before .before .args .b) (c .closer .result) (c .closer .ensures) (omega arith) (omega (arith, c .before .before .before .pre .0))
+returns c =
+    let start = c .before .before .before in
+    opens
+    (start .args .words .now)
+    (start .args .depth)
+    (start .args .b)
+    (c .closer .result)
+    (c .closer .ensures)
+    (omega arith)
+    (omega (arith, start .pre .0))
 
 returns-2 : tie.Need-returns-2
-returns-2 c = full (c .before .before .args .words .now) (c .before .before .args .depth) (c .before .before .args .b) (omega arith)
+returns-2 c =
+    let args = c .before .before .args in
+    full (args .words .now) (args .depth) (args .b) (omega arith)
 
 pub take-opener-spec : {M : Type 1} → statement M
 take-opener-spec =

@@ -15,7 +15,11 @@ end-at-requires : tie.Need-end-at-requires
 end-at-requires c κs = search needs
 
 returns : tie.Need-returns
-returns c = rw (c .end-at .ensures) (lexes-end (c .before .before .before .before .args .text .now) (c .before .before .before .before .args .at) (c .before .before .run-end .result) (c .before .before .run-end .ensures) (omega arith))
+returns c =
+    let at-run-end = c .before .before in
+    let args = at-run-end .before .before .args in
+    rw (c .end-at .ensures)
+    (lexes-end (args .text .now) (args .at) (at-run-end .run-end .result) (at-run-end .run-end .ensures) (omega arith))
 
 sub-first : tie.Need-sub-first
 sub-first c = search needs
@@ -40,14 +44,34 @@ enum-known-k c = search needs
 
 add-next : tie.Need-add-next
 add-next c =
-    let m = rw (rest-of (c .before .before .before .before .before .before .before .before .args .text .now) (c .before .before .before .before .before .before .run-end .result), c .before .k .given .1) at (c .before .before .before .first .ensures) in
+    let at-first = c .before .before .before in
+    let at-run-end = at-first .before .before .before in
+    let start = at-run-end .before .before in
+    let m = rw (rest-of (start .args .text .now) (at-run-end .run-end .result), c .before .k .given .1) at (at-first .first .ensures) in
     omega (arith, rw length-drop at (whole-of _ _ _ (m .is) .high))
 
 returns-2 : tie.Need-returns-2
-returns-2 c = rw (c .end-at2 .ensures) (lexes-bad (c .before .before .before .before .before .before .before .before .args .text .now) (c .before .before .before .before .before .before .before .before .args .at) (c .before .before .before .before .before .before .run-end .result) (c .before .before .before .before .before .before .run-end .ensures) (omega arith) _ (rw (rest-of (c .before .before .before .before .before .before .before .before .args .text .now) (c .before .before .before .before .before .before .run-end .result), c .before .enum-told .given .1) at (c .before .before .before .first .ensures)))
+returns-2 c =
+    let at-first = c .before .before .before in
+    let at-run-end = at-first .before .before .before in
+    let args = at-run-end .before .before .args in
+    rw (c .end-at2 .ensures)
+    (lexes-bad (args .text .now) (args .at) (at-run-end .run-end .result) (at-run-end .run-end .ensures) (omega arith) _
+    (rw (rest-of (args .text .now) (at-run-end .run-end .result), c .before .enum-told .given .1) at (at-first .first .ensures)))
 
 returns-3 : tie.Need-returns-3
-returns-3 c = lexes-piece (c .before .before .before .before .before .before .before .before .args .text .now) (c .before .before .before .before .before .before .before .before .args .at) (c .before .before .before .before .before .before .run-end .result) (c .before .before .before .before .before .before .run-end .ensures) (omega arith) _ _ (rw (rest-of (c .before .before .before .before .before .before .before .before .args .text .now) (c .before .before .before .before .before .before .run-end .result), c .before .k .given .1) at (c .before .before .before .first .ensures))
+returns-3 c =
+    let at-first = c .before .before .before in
+    let at-run-end = at-first .before .before .before in
+    let args = at-run-end .before .before .args in
+    lexes-piece
+    (args .text .now)
+    (args .at)
+    (at-run-end .run-end .result)
+    (at-run-end .run-end .ensures)
+    (omega arith)
+    _ _
+    (rw (rest-of (args .text .now) (at-run-end .run-end .result), c .before .k .given .1) at (at-first .first .ensures))
 
 pub token-spec : {M : Type 1} → statement M
 token-spec =

@@ -26,7 +26,10 @@ same-length-2 : tie.Need-same-length-2
 same-length-2 c = search needs
 
 returns-2 : tie.Need-returns-2
-returns-2 c = rw (sym (c .before .before .before .before .before .before .split .ensures)) (record { number = c .number-of .ensures ∙ (rw (c .before .before .refusal .given .1)); words = refl })
+returns-2 c =
+    let at-refusal = c .before .before in
+    let at-split = at-refusal .before .before .before .before in
+    rw (sym (at-split .split .ensures)) (record { number = c .number-of .ensures ∙ (rw (at-refusal .refusal .given .1)); words = refl })
 
 pub token-split-spec : {M : Type 1} → statement M
 token-split-spec =

@@ -59,7 +59,10 @@ loop-less : tie.Need-loop-less Inv-loop μ-loop
 loop-less c = search needs
 
 loop-again : tie.Need-loop-again Inv-loop μ-loop
-loop-again c = ((simp length-set) ∙ c .before .before .before .before .before .before .loop .inv .0, omega arith, omega arith)
+loop-again c =
+    let c4 = c .before .before .before .before in
+    let at-loop = c4 .before .before in
+    ((simp length-set) ∙ at-loop .loop .inv .0, omega arith, omega arith)
 
 same-length-2 : tie.Need-same-length-2 Inv-loop μ-loop
 same-length-2 c = search needs

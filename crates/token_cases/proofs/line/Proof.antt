@@ -15,7 +15,9 @@ array-share-prefix-text : tie.Need-array-share-prefix-text
 array-share-prefix-text c = search needs
 
 slice-aggregate-split : tie.Need-slice-aggregate-split
-slice-aggregate-split c = sym (length-take-le (c .before .before .bytes .result) (c .before .before .bytes .last .1 .0) (c .before .before .bytes .ensures))
+slice-aggregate-split c =
+    let bytes = c .before .before .bytes in
+    sym (length-take-le (bytes .result) (bytes .last .1 .0) (bytes .ensures))
 
 slice-aggregate-split-2 : tie.Need-slice-aggregate-split-2
 slice-aggregate-split-2 c = search needs

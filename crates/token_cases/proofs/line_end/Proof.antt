@@ -10,7 +10,11 @@ run-end-requires : tie.Need-run-end-requires
 run-end-requires c κs = search needs
 
 returns : tie.Need-returns
-returns c = (omega (arith, c .run-end .ensures), omega (arith, c .run-end .ensures, run-fits isHex (c .before .before .args .s .now) (c .before .before .args .at) (c .before .before .pre)))
+returns c =
+    let start = c .before .before in (
+      omega (arith, c .run-end .ensures),
+      omega (arith, c .run-end .ensures, run-fits isHex (start .args .s .now) (start .args .at) (start .pre)),
+    )
 
 pub line-end-spec : {M : Type 1} → statement M
 line-end-spec = tie.close (tie.spec run-end-requires returns)

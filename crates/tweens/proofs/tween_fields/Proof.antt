@@ -24,13 +24,19 @@ no-others-requires c κs = search needs
 
 field-list-requires : tie.Need-field-list-requires
 unfolding tweenFields entries
-field-list-requires c κs = (c .before .before .before .before .before .pre .0, c .before .before .before .before .before .pre .1, (tweenFields, tween-layout _ refl))
+field-list-requires c κs =
+    let c4 = c .before .before .before .before in
+    let pre = c4 .before .pre in
+    (pre .0, pre .1, (tweenFields, tween-layout _ refl))
 
 returns : tie.Need-returns
 unfolding tweenFields entries
 returns c =
+    let at-no-slots = c .before .before in
+    let start = at-no-slots .before .before .before .before in
     let l = tween-layout _ refl in
-    c .field-list .ensures tweenFields l [] (c .before .before .before .before .before .before .args .c .at) (omega arith) (rw (c .before .before .no-slots .ensures, c .before .no-others .ensures) (none-held _ _ _ _ _ tweenFields l))
+    c .field-list .ensures tweenFields l [] (start .args .c .at) (omega arith)
+    (rw (at-no-slots .no-slots .ensures, c .before .no-others .ensures) (none-held _ _ _ _ _ tweenFields l))
 
 pub tween-fields-spec : {M : Type 1} → statement M
 tween-fields-spec =

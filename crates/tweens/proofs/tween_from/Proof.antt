@@ -19,7 +19,17 @@ ever-at-requires : tie.Need-ever-at-requires
 ever-at-requires c κs = search needs
 
 returns : tie.Need-returns
-returns c = rw (c .before .before .before .before .float-at .ensures, c .before .before .before .float-at2 .ensures, c .before .before .float-at3 .ensures, c .before .whole-at .ensures, c .ever-at .ensures)
+returns c =
+    let at-float-at3 = c .before .before in
+    let at-float-at2 = at-float-at3 .before in
+    let at-float-at = at-float-at2 .before in
+    rw (
+      at-float-at .float-at .ensures,
+      at-float-at2 .float-at2 .ensures,
+      at-float-at3 .float-at3 .ensures,
+      c .before .whole-at .ensures,
+      c .ever-at .ensures,
+    )
 
 pub tween-from-spec : {M : Type 1} → statement M
 tween-from-spec =

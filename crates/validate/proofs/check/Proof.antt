@@ -34,10 +34,22 @@ enum-told-2 : tie.Need-enum-told-2
 enum-told-2 c = search needs
 
 returns-2 : tie.Need-returns-2
-returns-2 c = laws.refused _ _ (sym (c .before .before .before .before .before .before .enum-told .given .1) ∙ c .before .before .before .before .before .before .before .before .open-sheet .ensures) (c .before .before .before .before .before .take-field .ensures .reads) (rw (c .before .walk .given .1) at (c .before .before .before .validate-nodes .ensures))
+returns-2 c =
+    let at-validate-nodes = c .before .before .before in
+    let at-take-field = at-validate-nodes .before .before in
+    let at-enum-told = at-take-field .before in
+    let at-open-sheet = at-enum-told .before .before in
+    laws.refused _ _ (sym (at-enum-told .enum-told .given .1) ∙ at-open-sheet .open-sheet .ensures)
+    (at-take-field .take-field .ensures .reads) (rw (c .before .walk .given .1) at (at-validate-nodes .validate-nodes .ensures))
 
 returns-3 : tie.Need-returns-3
-returns-3 c = laws.accepted _ _ (sym (c .before .before .before .before .before .enum-told .given .1) ∙ c .before .before .before .before .before .before .before .open-sheet .ensures) (c .before .before .before .before .take-field .ensures .reads) (rw (c .enum-told2 .given .1) at (c .before .before .validate-nodes .ensures))
+returns-3 c =
+    let at-validate-nodes = c .before .before in
+    let at-take-field = at-validate-nodes .before .before in
+    let at-enum-told = at-take-field .before in
+    let at-open-sheet = at-enum-told .before .before in
+    laws.accepted _ _ (sym (at-enum-told .enum-told .given .1) ∙ at-open-sheet .open-sheet .ensures)
+    (at-take-field .take-field .ensures .reads) (rw (c .enum-told2 .given .1) at (at-validate-nodes .validate-nodes .ensures))
 
 pub check-spec : {M : Type 1} → statement M
 check-spec =

@@ -34,14 +34,25 @@ curve-requires c κs = search needs
 returns : tie.Need-returns
 unfolding curves entries
 returns c =
-    let u = under-none curves _ (looked-up (wordsOf curves) _ _ _ (c .before .before .before .before .part .ensures) (c .before .before .before .find .ensures) ∙ ap placeOf (c .before .enum-told .given .1)) in
-    no-curve (c .before .before .before .before .before .before .before .args .text .now) (c .before .before .before .before .before .before .before .args .c) _ (c .named-easing .result) u (c .named-easing .ensures)
+    let at-find = c .before .before .before in
+    let at-part = at-find .before in
+    let args = at-part .before .before .before .args in
+    let u = under-none curves _
+    (looked-up (wordsOf curves) _ _ _ (at-part .part .ensures) (at-find .find .ensures) ∙ ap placeOf (c .before .enum-told .given .1))
+    in
+    no-curve (args .text .now) (args .c) _ (c .named-easing .result) u (c .named-easing .ensures)
 
 returns-2 : tie.Need-returns-2
 unfolding curves entries
 returns-2 c =
-    let u = under-found curves _ _ (looked-up (wordsOf curves) _ _ _ (c .before .before .before .before .before .part .ensures) (c .before .before .before .before .find .ensures) ∙ ap placeOf (c .before .before .i .given .1)) in
-    some-curve (c .before .before .before .before .before .before .before .before .args .text .now) (c .before .before .before .before .before .before .before .before .args .c) _ (u .row .1) (c .curve .result) (u .under) (c .curve .ensures (u .row) (u .is))
+    let at-i = c .before .before in
+    let at-find = at-i .before .before in
+    let at-part = at-find .before in
+    let args = at-part .before .before .before .args in
+    let u = under-found curves _ _
+    (looked-up (wordsOf curves) _ _ _ (at-part .part .ensures) (at-find .find .ensures) ∙ ap placeOf (at-i .i .given .1))
+    in
+    some-curve (args .text .now) (args .c) _ (u .row .1) (c .curve .result) (u .under) (c .curve .ensures (u .row) (u .is))
 
 pub after-word-spec : {M : Type 1} → statement M
 after-word-spec =

@@ -29,15 +29,33 @@ leave-group-requires c κs = ((rw (c .before .e .given .1) at (c .before .before
 
 returns : tie.Need-returns
 unfolding bezierCurve
-returns c = inside-missing (c .before .before .before .before .before .args .text .now) 40 fourFloats (c .before .before .before .before .before .args .c) _ (rw (c .before .p .given .1) at (c .before .before .before .mark .ensures))
+returns c =
+    let at-mark = c .before .before .before in
+    let args = at-mark .before .before .args in
+    inside-missing (args .text .now) 40 fourFloats (args .c) _ (rw (c .before .p .given .1) at (at-mark .mark .ensures))
 
 returns-2 : tie.Need-returns-2
 unfolding bezierCurve
-returns-2 c = inside-refused (c .before .before .before .before .before .before .before .before .before .args .text .now) 40 fourFloats (c .before .before .before .before .before .before .before .before .before .args .c) _ (rw (c .before .before .before .before .before .m .given .1) at (c .before .before .before .before .before .before .before .mark .ensures)) _ _ (rw (c .before .r .given .1) at (c .before .before .before .four-floats .ensures))
+returns-2 c =
+    let at-four-floats = c .before .before .before in
+    let at-m = at-four-floats .before .before in
+    let at-mark = at-m .before .before in
+    let args = at-mark .before .before .args in
+    inside-refused (args .text .now) 40 fourFloats (args .c) _ (rw (at-m .m .given .1) at (at-mark .mark .ensures)) _ _
+    (rw (c .before .r .given .1) at (at-four-floats .four-floats .ensures))
 
 returns-3 : tie.Need-returns-3
 unfolding bezierCurve
-returns-3 c = (inside-took (c .before .before .before .before .before .before .before .before .before .before .args .text .now) 40 fourFloats (c .before .before .before .before .before .before .before .before .before .before .args .c) _ (rw (c .before .before .before .before .before .before .m .given .1) at (c .before .before .before .before .before .before .before .before .mark .ensures)) _ _ _ ((rw (c .before .before .e .given .1) at (c .before .before .before .before .four-floats .ensures)) .0) (c .leave-group .ensures), (rw (c .before .before .e .given .1) at (c .before .before .before .before .four-floats .ensures)) .1)
+returns-3 c =
+    let at-e = c .before .before in
+    let at-four-floats = at-e .before .before in
+    let at-m = at-four-floats .before .before in
+    let at-mark = at-m .before .before in
+    let args = at-mark .before .before .args in (
+      inside-took (args .text .now) 40 fourFloats (args .c) _ (rw (at-m .m .given .1) at (at-mark .mark .ensures)) _ _ _
+          ((rw (at-e .e .given .1) at (at-four-floats .four-floats .ensures)) .0) (c .leave-group .ensures),
+      (rw (at-e .e .given .1) at (at-four-floats .four-floats .ensures)) .1,
+    )
 
 pub bezier-curve-spec : {M : Type 1} → statement M
 bezier-curve-spec =

@@ -24,7 +24,12 @@ returns c = let h = rw (c .before .p .given .1) at (c .before .before .before .m
 
 returns-2 : tie.Need-returns-2
 unfolding commaFloat
-returns-2 c = float-behind (c .before .before .before .before .before .before .args .text .now) 44 parseFloat (c .before .before .before .before .before .before .args .c) _ (c .parse-float .result) (rw (c .before .before .m .given .1) at (c .before .before .before .before .mark .ensures)) (c .parse-float .ensures)
+returns-2 c =
+    let at-m = c .before .before in
+    let at-mark = at-m .before .before in
+    let args = at-mark .before .before .args in
+    float-behind (args .text .now) 44 parseFloat (args .c) _ (c .parse-float .result) (rw (at-m .m .given .1) at (at-mark .mark .ensures))
+    (c .parse-float .ensures)
 
 pub comma-float-spec : {M : Type 1} → statement M
 comma-float-spec =

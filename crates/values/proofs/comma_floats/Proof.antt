@@ -24,7 +24,12 @@ returns c = let h = rw (c .before .p .given .1) at (c .before .before .before .m
 
 returns-2 : tie.Need-returns-2
 unfolding commaFloats
-returns-2 c = pair-behind (c .before .before .before .before .before .before .args .text .now) 44 twoFloats (c .before .before .before .before .before .before .args .c) _ (c .two-floats .result) (rw (c .before .before .m .given .1) at (c .before .before .before .before .mark .ensures)) (c .two-floats .ensures)
+returns-2 c =
+    let at-m = c .before .before in
+    let at-mark = at-m .before .before in
+    let args = at-mark .before .before .args in
+    pair-behind (args .text .now) 44 twoFloats (args .c) _ (c .two-floats .result) (rw (at-m .m .given .1) at (at-mark .mark .ensures))
+    (c .two-floats .ensures)
 
 pub comma-floats-spec : {M : Type 1} → statement M
 comma-floats-spec =

@@ -17,11 +17,15 @@ times-mode-requires c κs = search needs
 
 returns : tie.Need-returns
 unfolding loopModes
-returns c row e = rw (← elem-at loopModes _ 0 row _ (c .match .keys1) refl e) (stays (c .before .before .args .text .now) (c .before .before .args .c) (c .before .before .pre) _ _ refl)
+returns c row e =
+    let start = c .before .before in
+    rw (← elem-at loopModes _ 0 row _ (c .match .keys1) refl e) (stays (start .args .text .now) (start .args .c) (start .pre) _ _ refl)
 
 returns-2 : tie.Need-returns-2
 unfolding loopModes
-returns-2 c row e = rw (← elem-at loopModes _ 1 row _ (c .match .keys2) refl e) (stays (c .before .before .args .text .now) (c .before .before .args .c) (c .before .before .pre) _ _ refl)
+returns-2 c row e =
+    let start = c .before .before in
+    rw (← elem-at loopModes _ 1 row _ (c .match .keys2) refl e) (stays (start .args .text .now) (start .args .c) (start .pre) _ _ refl)
 
 returns-3 : tie.Need-returns-3
 unfolding loopModes
@@ -29,7 +33,11 @@ returns-3 c row e = rw (← elem-at loopModes _ 2 row _ (c .before .match .keys3
 
 returns-4 : tie.Need-returns-4
 unfolding loopModes
-returns-4 c row e = let h = elem-lt loopModes (c .before .before .before .args .i) row e in rw (← elem-at loopModes (c .before .before .before .args .i) 3 row _ (omega (arith, c .before .match .rest)) refl e) (mode-some (c .before .before .before .args .text .now) (c .before .before .before .args .c) _ (c .times-mode .result) (c .times-mode .ensures))
+returns-4 c row e =
+    let args = c .before .before .before .args in
+    let h = elem-lt loopModes (args .i) row e in
+    rw (← elem-at loopModes (args .i) 3 row _ (omega (arith, c .before .match .rest)) refl e)
+    (mode-some (args .text .now) (args .c) _ (c .times-mode .result) (c .times-mode .ensures))
 
 pub mode-spec : {M : Type 1} → statement M
 mode-spec =

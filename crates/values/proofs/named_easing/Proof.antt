@@ -21,7 +21,15 @@ is-word-requires : tie.Need-is-word-requires
 is-word-requires c κs = search needs
 
 returns : tie.Need-returns
-returns c = (stays (c .before .before .before .before .before .args .text .now) (c .before .before .before .before .before .args .c) (c .before .before .before .before .before .pre .0) _ _ (plain-name (c .before .before .before .before .before .args .text .now) (c .before .before .before .before .before .args .c) (c .before .before .before .before .before .args .name) (c .before .before .before .before .before .pre .1) (inl (tested _ _ _ _ (c .before .before .before .part .ensures) (c .before .is-word .ensures) ∙ not-true _ (c .if1 .taken)))), tt)
+returns c =
+    let at-part = c .before .before .before in
+    let start = at-part .before .before in
+    let args = start .args in (
+      stays (args .text .now) (args .c) (start .pre .0) _ _
+          (plain-name (args .text .now) (args .c) (args .name) (start .pre .1)
+          (inl (tested _ _ _ _ (at-part .part .ensures) (c .before .is-word .ensures) ∙ not-true _ (c .if1 .taken)))),
+      tt,
+    )
 
 both-requires : tie.Need-both-requires
 both-requires c κs = search needs
@@ -42,15 +50,58 @@ enum-known-variant : tie.Need-enum-known-variant
 enum-known-variant c = search needs
 
 returns-2 : tie.Need-returns-2
-returns-2 c = (stays (c .before .before .before .before .before .before .before .before .args .text .now) (c .before .before .before .before .before .before .before .before .args .c) (c .before .before .before .before .before .before .before .before .pre .0) _ _ (plain-name (c .before .before .before .before .before .before .before .before .args .text .now) (c .before .before .before .before .before .before .before .before .args .c) (c .before .before .before .before .before .before .before .before .args .name) (c .before .before .before .before .before .before .before .before .pre .1) (inr (pair-missing (c .before .before .before .before .before .before .before .before .args .text .now) (c .before .before .before .before .before .before .before .before .args .c) 58 58 _ (rw (c .enum-told .given .1) at (c .before .before .both .ensures))))), tt)
+returns-2 c =
+    let at-both = c .before .before in
+    let c6 = at-both .before .before .before .before in
+    let start = c6 .before .before in
+    let args = start .args in (
+      stays (args .text .now) (args .c) (start .pre .0) _ _
+          (plain-name (args .text .now) (args .c) (args .name) (start .pre .1)
+          (inr (pair-missing (args .text .now) (args .c) 58 58 _ (rw (c .enum-told .given .1) at (at-both .both .ensures))))),
+      tt,
+    )
 
 returns-3 : tie.Need-returns-3
-returns-3 c = variant-refused (c .before .before .before .before .before .before .before .before .before .before .before .before .before .args .text .now) (c .before .before .before .before .before .before .before .before .before .before .before .before .before .args .c) (c .before .before .before .before .before .before .before .before .before .before .before .before .before .args .name) (c .before .before .before .before .before .before .before .before .before .before .before .before .before .pre .1) (tested _ _ _ _ (c .before .before .before .before .before .before .before .before .before .before .before .part .ensures) (c .before .before .before .before .before .before .before .before .before .is-word .ensures) ∙ not-false _ (c .before .before .before .before .before .before .before .before .if1 .left)) _ _ (rw (c .before .before .before .before .before .m .given .1) at (c .before .before .before .before .before .before .before .both .ensures)) (rw (c .before .p .given .1) at (c .before .before .before .word .ensures))
+returns-3 c =
+    let at-word = c .before .before .before in
+    let at-m = at-word .before .before in
+    let at-both = at-m .before .before in
+    let at-if1 = at-both .before in
+    let at-is-word = at-if1 .before in
+    let at-part = at-is-word .before .before in
+    let start = at-part .before .before in
+    variant-refused
+    (start .args .text .now)
+    (start .args .c)
+    (start .args .name)
+    (start .pre .1)
+    (tested _ _ _ _ (at-part .part .ensures) (at-is-word .is-word .ensures) ∙ not-false _ (at-if1 .if1 .left))
+    _ _
+    (rw (at-m .m .given .1) at (at-both .both .ensures))
+    (rw (c .before .p .given .1) at (at-word .word .ensures))
 
 returns-4 : tie.Need-returns-4
 returns-4 c =
-    let w = rw (c .before .variant .given .1) at (c .before .before .before .word .ensures) in
-    (variant-took (c .before .before .before .before .before .before .before .before .before .before .before .before .before .args .text .now) (c .before .before .before .before .before .before .before .before .before .before .before .before .before .args .c) (c .before .before .before .before .before .before .before .before .before .before .before .before .before .args .name) (c .before .before .before .before .before .before .before .before .before .before .before .before .before .pre .1) (tested _ _ _ _ (c .before .before .before .before .before .before .before .before .before .before .before .part .ensures) (c .before .before .before .before .before .before .before .before .before .is-word .ensures) ∙ not-false _ (c .before .before .before .before .before .before .before .before .if1 .left)) _ _ _ (rw (c .before .before .before .before .before .m .given .1) at (c .before .before .before .before .before .before .before .both .ensures)) (w .0) (w .1), tt)
+    let at-word = c .before .before .before in
+    let at-m = at-word .before .before in
+    let at-both = at-m .before .before in
+    let at-if1 = at-both .before in
+    let at-is-word = at-if1 .before in
+    let at-part = at-is-word .before .before in
+    let start = at-part .before .before in
+    let w = rw (c .before .variant .given .1) at (at-word .word .ensures) in (
+      variant-took
+          (start .args .text .now)
+          (start .args .c)
+          (start .args .name)
+          (start .pre .1)
+          (tested _ _ _ _ (at-part .part .ensures) (at-is-word .is-word .ensures) ∙ not-false _ (at-if1 .if1 .left))
+          _ _ _
+          (rw (at-m .m .given .1) at (at-both .both .ensures))
+          (w .0)
+          (w .1),
+      tt,
+    )
 
 pub named-easing-spec : {M : Type 1} → statement M
 named-easing-spec =

@@ -12,7 +12,10 @@ sees-requires c κs = search needs
 
 returns : tie.Need-returns
 unfolding parseEasing
-returns c = rw (sym (c .before .before .sees .ensures (c .before .before .before .before .args .text .now) (c .before .before .before .before .pre)) ∙ c .before .if1 .taken, c .before .before .before .before .pre .head .place)
+returns c =
+    let at-sees = c .before .before in
+    let start = at-sees .before .before in
+    rw (sym (at-sees .sees .ensures (start .args .text .now) (start .pre)) ∙ c .before .if1 .taken, start .pre .head .place)
 
 word-requires : tie.Need-word-requires
 word-requires c κs = search needs
@@ -28,10 +31,30 @@ after-word-requires c κs = let w = rw (c .before .name .given .1) at (c .before
 
 returns-2 : tie.Need-returns-2
 unfolding parseEasing
-returns-2 c = let h = rw (c .before .p .given .1) at (c .before .before .before .word .ensures) in rw (sym (c .before .before .before .before .before .sees .ensures (c .before .before .before .before .before .before .before .args .text .now) (c .before .before .before .before .before .before .before .pre)) ∙ c .before .before .before .before .if1 .left, h)
+returns-2 c =
+    let at-word = c .before .before .before in
+    let at-if1 = at-word .before in
+    let at-sees = at-if1 .before in
+    let start = at-sees .before .before in
+    let h = rw (c .before .p .given .1) at (at-word .word .ensures) in
+    rw (sym (at-sees .sees .ensures (start .args .text .now) (start .pre)) ∙ at-if1 .if1 .left, h)
 
 returns-3 : tie.Need-returns-3
-returns-3 c = let w = rw (c .before .before .name .given .1) at (c .before .before .before .before .word .ensures) in easing-behind (c .before .before .before .before .before .before .before .before .args .text .now) (c .before .before .before .before .before .before .before .before .args .c) _ _ (c .after-word .result) (sym (c .before .before .before .before .before .before .sees .ensures (c .before .before .before .before .before .before .before .before .args .text .now) (c .before .before .before .before .before .before .before .before .pre)) ∙ c .before .before .before .before .before .if1 .left) (w .0) (c .after-word .ensures)
+returns-3 c =
+    let at-name = c .before .before in
+    let at-word = at-name .before .before in
+    let at-if1 = at-word .before in
+    let at-sees = at-if1 .before in
+    let start = at-sees .before .before in
+    let w = rw (at-name .name .given .1) at (at-word .word .ensures) in
+    easing-behind
+    (start .args .text .now)
+    (start .args .c)
+    _ _
+    (c .after-word .result)
+    (sym (at-sees .sees .ensures (start .args .text .now) (start .pre)) ∙ at-if1 .if1 .left)
+    (w .0)
+    (c .after-word .ensures)
 
 pub parse-easing-spec : {M : Type 1} → statement M
 parse-easing-spec =

@@ -29,15 +29,33 @@ leave-group-requires c κs = ((rw (c .before .x .given .1) at (c .before .before
 
 returns : tie.Need-returns
 unfolding parseFloatInParens
-returns c = inside-missing (c .before .before .before .before .before .args .text .now) 40 parseFloat (c .before .before .before .before .before .args .c) _ (rw (c .before .p .given .1) at (c .before .before .before .mark .ensures))
+returns c =
+    let at-mark = c .before .before .before in
+    let args = at-mark .before .before .args in
+    inside-missing (args .text .now) 40 parseFloat (args .c) _ (rw (c .before .p .given .1) at (at-mark .mark .ensures))
 
 returns-2 : tie.Need-returns-2
 unfolding parseFloatInParens
-returns-2 c = inside-refused (c .before .before .before .before .before .before .before .before .before .args .text .now) 40 parseFloat (c .before .before .before .before .before .before .before .before .before .args .c) _ (rw (c .before .before .before .before .before .m .given .1) at (c .before .before .before .before .before .before .before .mark .ensures)) _ _ (rw (c .before .r .given .1) at (c .before .before .before .parse-float .ensures))
+returns-2 c =
+    let at-parse-float = c .before .before .before in
+    let at-m = at-parse-float .before .before in
+    let at-mark = at-m .before .before in
+    let args = at-mark .before .before .args in
+    inside-refused (args .text .now) 40 parseFloat (args .c) _ (rw (at-m .m .given .1) at (at-mark .mark .ensures)) _ _
+    (rw (c .before .r .given .1) at (at-parse-float .parse-float .ensures))
 
 returns-3 : tie.Need-returns-3
 unfolding parseFloatInParens
-returns-3 c = (inside-took (c .before .before .before .before .before .before .before .before .before .before .args .text .now) 40 parseFloat (c .before .before .before .before .before .before .before .before .before .before .args .c) _ (rw (c .before .before .before .before .before .before .m .given .1) at (c .before .before .before .before .before .before .before .before .mark .ensures)) _ _ _ ((rw (c .before .before .x .given .1) at (c .before .before .before .before .parse-float .ensures)) .0) (c .leave-group .ensures), (rw (c .before .before .x .given .1) at (c .before .before .before .before .parse-float .ensures)) .1)
+returns-3 c =
+    let at-x = c .before .before in
+    let at-parse-float = at-x .before .before in
+    let at-m = at-parse-float .before .before in
+    let at-mark = at-m .before .before in
+    let args = at-mark .before .before .args in (
+      inside-took (args .text .now) 40 parseFloat (args .c) _ (rw (at-m .m .given .1) at (at-mark .mark .ensures)) _ _ _
+          ((rw (at-x .x .given .1) at (at-parse-float .parse-float .ensures)) .0) (c .leave-group .ensures),
+      (rw (at-x .x .given .1) at (at-parse-float .parse-float .ensures)) .1,
+    )
 
 pub parse-float-in-parens-spec : {M : Type 1} → statement M
 parse-float-in-parens-spec =

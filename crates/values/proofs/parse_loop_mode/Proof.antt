@@ -33,7 +33,11 @@ enum-known-i : tie.Need-enum-known-i
 enum-known-i c = search needs
 
 mode-requires : tie.Need-mode-requires
-mode-requires c κs = (rw (c .before .before .before .before .before .before .before .name .given .1) at (c .before .before .before .before .before .before .before .before .before .word .ensures)) .0 .ready
+mode-requires c κs =
+    let c4 = c .before .before .before .before in
+    let at-name = c4 .before .before .before in
+    let at-word = at-name .before .before in
+    (rw (at-name .name .given .1) at (at-word .word .ensures)) .0 .ready
 
 enum-told : tie.Need-enum-told
 enum-told c = search needs
@@ -45,15 +49,29 @@ returns c = let h = rw (c .before .p .given .1) at (c .before .before .before .w
 returns-2 : tie.Need-returns-2
 unfolding loopModes entries
 returns-2 c =
-    let w = rw (c .before .before .before .before .before .before .before .before .name .given .1) at (c .before .before .before .before .before .before .before .before .before .before .word .ensures) in
-    let u = under-found loopModes _ _ (looked-up (wordsOf loopModes) _ _ _ (c .before .before .before .before .before .part .ensures) (c .before .before .before .before .find .ensures) ∙ ap placeOf (c .before .before .i .given .1)) in
-    mode-found (c .before .before .before .before .before .before .before .before .before .before .before .before .args .text .now) (c .before .before .before .before .before .before .before .before .before .before .before .before .args .c) _ _ _ (u .row .1) (c .mode .result) (w .0) (u .under) (c .mode .ensures (u .row) (u .is))
+    let at-i = c .before .before in
+    let at-find = at-i .before .before in
+    let at-part = at-find .before in
+    let at-name = at-part .before .before .before in
+    let at-word = at-name .before .before in
+    let args = at-word .before .before .args in
+    let w = rw (at-name .name .given .1) at (at-word .word .ensures) in
+    let u = under-found loopModes _ _
+    (looked-up (wordsOf loopModes) _ _ _ (at-part .part .ensures) (at-find .find .ensures) ∙ ap placeOf (at-i .i .given .1))
+    in
+    mode-found (args .text .now) (args .c) _ _ _ (u .row .1) (c .mode .result) (w .0) (u .under) (c .mode .ensures (u .row) (u .is))
 
 returns-3 : tie.Need-returns-3
 unfolding parseLoopMode loopModes entries
 returns-3 c =
-    let w = rw (c .before .before .before .before .before .before .before .name .given .1) at (c .before .before .before .before .before .before .before .before .before .word .ensures) in
-    let u = under-none loopModes _ (looked-up (wordsOf loopModes) _ _ _ (c .before .before .before .before .part .ensures) (c .before .before .before .find .ensures) ∙ ap placeOf (c .before .enum-told .given .1)) in
+    let at-find = c .before .before .before in
+    let at-part = at-find .before in
+    let at-name = at-part .before .before .before in
+    let at-word = at-name .before .before in
+    let w = rw (at-name .name .given .1) at (at-word .word .ensures) in
+    let u = under-none loopModes _
+    (looked-up (wordsOf loopModes) _ _ _ (at-part .part .ensures) (at-find .find .ensures) ∙ ap placeOf (c .before .enum-told .given .1))
+    in
     rw (w .0 .is, u, w .0 .ready .head .place)
 
 pub parse-loop-mode-spec : {M : Type 1} → statement M

@@ -30,15 +30,35 @@ leave-group-requires c κs = ((rw (c .before .a .given .1) at (c .before .before
 
 returns : tie.Need-returns
 unfolding parseTwoFloatsInParens
-returns c = inside-missing (c .before .before .before .before .before .args .text .now) 40 twoFloats (c .before .before .before .before .before .args .c) _ (rw (c .before .p .given .1) at (c .before .before .before .mark .ensures))
+returns c =
+    let at-mark = c .before .before .before in
+    let args = at-mark .before .before .args in
+    inside-missing (args .text .now) 40 twoFloats (args .c) _ (rw (c .before .p .given .1) at (at-mark .mark .ensures))
 
 returns-2 : tie.Need-returns-2
 unfolding parseTwoFloatsInParens
-returns-2 c = inside-refused (c .before .before .before .before .before .before .before .before .before .args .text .now) 40 twoFloats (c .before .before .before .before .before .before .before .before .before .args .c) _ (rw (c .before .before .before .before .before .m .given .1) at (c .before .before .before .before .before .before .before .mark .ensures)) _ _ (rw (c .before .r .given .1) at (c .before .before .before .two-floats .ensures))
+returns-2 c =
+    let at-two-floats = c .before .before .before in
+    let at-m = at-two-floats .before .before in
+    let at-mark = at-m .before .before in
+    let args = at-mark .before .before .args in
+    inside-refused (args .text .now) 40 twoFloats (args .c) _ (rw (at-m .m .given .1) at (at-mark .mark .ensures)) _ _
+    (rw (c .before .r .given .1) at (at-two-floats .two-floats .ensures))
 
 returns-3 : tie.Need-returns-3
 unfolding parseTwoFloatsInParens
-returns-3 c = record { took = inside-took (c .before .before .before .before .before .before .before .before .before .before .args .text .now) 40 twoFloats (c .before .before .before .before .before .before .before .before .before .before .args .c) _ (rw (c .before .before .before .before .before .before .m .given .1) at (c .before .before .before .before .before .before .before .before .mark .ensures)) _ _ _ ((rw (c .before .before .a .given .1) at (c .before .before .before .before .two-floats .ensures)) .took) (c .leave-group .ensures); first = (rw (c .before .before .a .given .1) at (c .before .before .before .before .two-floats .ensures)) .first; second = (rw (c .before .before .a .given .1) at (c .before .before .before .before .two-floats .ensures)) .second }
+returns-3 c =
+    let at-a = c .before .before in
+    let at-two-floats = at-a .before .before in
+    let at-m = at-two-floats .before .before in
+    let at-mark = at-m .before .before in
+    let args = at-mark .before .before .args in
+    record {
+      took = inside-took (args .text .now) 40 twoFloats (args .c) _ (rw (at-m .m .given .1) at (at-mark .mark .ensures)) _ _ _
+          ((rw (at-a .a .given .1) at (at-two-floats .two-floats .ensures)) .took) (c .leave-group .ensures);
+      first = (rw (at-a .a .given .1) at (at-two-floats .two-floats .ensures)) .first;
+      second = (rw (at-a .a .given .1) at (at-two-floats .two-floats .ensures)) .second;
+    }
 
 pub parse-two-floats-in-parens-spec : {M : Type 1} → statement M
 parse-two-floats-in-parens-spec =

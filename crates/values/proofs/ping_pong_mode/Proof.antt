@@ -14,7 +14,10 @@ sees-requires c κs = search needs
 
 returns : tie.Need-returns
 unfolding pingPongMode
-returns c = stays (c .before .before .before .args .text .now) (c .before .before .before .args .c) (c .before .before .before .pre) _ _ (rw (sym (c .before .sees .ensures (c .before .before .before .args .text .now) (c .before .before .before .pre)) ∙ not-true _ (c .if1 .taken)))
+returns c =
+    let start = c .before .before .before in
+    stays (start .args .text .now) (start .args .c) (start .pre) _ _
+    (rw (sym (c .before .sees .ensures (start .args .text .now) (start .pre)) ∙ not-true _ (c .if1 .taken)))
 
 uint-in-parens-requires : tie.Need-uint-in-parens-requires
 uint-in-parens-requires c κs = search needs
@@ -28,14 +31,26 @@ enum-known-n c = search needs
 returns-2 : tie.Need-returns-2
 unfolding pingPongMode
 returns-2 c =
-    let h = rw (c .before .r .given .1) at (c .before .before .before .uint-in-parens .ensures) in
-    rw (sym (c .before .before .before .before .before .sees .ensures (c .before .before .before .before .before .before .before .args .text .now) (c .before .before .before .before .before .before .before .pre)) ∙ not-false _ (c .before .before .before .before .if1 .left), h)
+    let at-uint-in-parens = c .before .before .before in
+    let at-if1 = at-uint-in-parens .before in
+    let at-sees = at-if1 .before in
+    let start = at-sees .before .before in
+    let h = rw (c .before .r .given .1) at (at-uint-in-parens .uint-in-parens .ensures) in
+    rw (sym (at-sees .sees .ensures (start .args .text .now) (start .pre)) ∙ not-false _ (at-if1 .if1 .left), h)
 
 returns-3 : tie.Need-returns-3
 unfolding pingPongMode
 returns-3 c =
-    let t = rw (c .before .n .given .1) at (c .before .before .before .uint-in-parens .ensures) in
-    record { is = rw (sym (c .before .before .before .before .before .sees .ensures (c .before .before .before .before .before .before .before .args .text .now) (c .before .before .before .before .before .before .before .pre)) ∙ not-false _ (c .before .before .before .before .if1 .left), t .is); low = omega (arith, t .low); ready = t .ready }
+    let at-uint-in-parens = c .before .before .before in
+    let at-if1 = at-uint-in-parens .before in
+    let at-sees = at-if1 .before in
+    let start = at-sees .before .before in
+    let t = rw (c .before .n .given .1) at (at-uint-in-parens .uint-in-parens .ensures) in
+    record {
+      is = rw (sym (at-sees .sees .ensures (start .args .text .now) (start .pre)) ∙ not-false _ (at-if1 .if1 .left), t .is);
+      low = omega (arith, t .low);
+      ready = t .ready;
+    }
 
 pub ping-pong-mode-spec : {M : Type 1} → statement M
 ping-pong-mode-spec =

@@ -42,20 +42,44 @@ word-or-requires c κs = search needs
 
 returns : tie.Need-returns
 unfolding roughCurve
-returns c = let h = inside-missing (c .before .before .before .before .before .args .text .now) 40 (pairs roughFields) (c .before .before .before .before .before .args .c) _ (rw (c .before .p .given .1) at (c .before .before .before .mark .ensures)) in rw h
+returns c =
+    let at-mark = c .before .before .before in
+    let args = at-mark .before .before .args in
+    let h = inside-missing (args .text .now) 40 (pairs roughFields) (args .c) _ (rw (c .before .p .given .1) at (at-mark .mark .ensures)) in
+    rw h
 
 returns-2 : tie.Need-returns-2
 unfolding roughCurve
-returns-2 c = let h = inside-refused (c .before .before .before .before .before .before .before .before .before .args .text .now) 40 (pairs roughFields) (c .before .before .before .before .before .before .before .before .before .args .c) _ (rw (c .before .before .before .before .before .m .given .1) at (c .before .before .before .before .before .before .before .mark .ensures)) _ _ (rw (c .before .r .given .1) at (c .before .before .before .rough-fields .ensures)) in rw h
+returns-2 c =
+    let at-rough-fields = c .before .before .before in
+    let at-m = at-rough-fields .before .before in
+    let at-mark = at-m .before .before in
+    let args = at-mark .before .before .args in
+    let h = inside-refused (args .text .now) 40 (pairs roughFields) (args .c) _ (rw (at-m .m .given .1) at (at-mark .mark .ensures)) _ _
+    (rw (c .before .r .given .1) at (at-rough-fields .rough-fields .ensures))
+    in
+    rw h
 
 returns-3 : tie.Need-returns-3
 unfolding roughCurve
 returns-3 c =
-    let f = rw (c .before .before .before .before .f .given .1) at (c .before .before .before .before .before .before .rough-fields .ensures) in
-    let t = inside-any (c .before .before .before .before .before .before .before .before .before .before .before .before .args .text .now) 40 (pairs roughFields) (c .before .before .before .before .before .before .before .before .before .before .before .before .args .c) _ (rw (c .before .before .before .before .before .before .before .before .m .given .1) at (c .before .before .before .before .before .before .before .before .before .before .mark .ensures)) _ _ _ (f .1) (c .before .before .leave-group .ensures) in
-    let s = float-or (c .before .before .before .before .f .given .0 .0 .strength) (ofBits binary32 1056964608) _ a-half ∙ ap (λ (o : Option ℕ). default o (f32Of 1 2)) (f .2 .strength) in
-    let p = word-or (c .before .before .before .before .f .given .0 .0 .points) 8 ∙ ap (λ (o : Option ℕ). default o 8) (f .2 .points) in
-    (record { is = rw (t .is, c .before .float-or .ensures, c .word-or .ensures, s, p); low = t .low; ready = t .ready }, rw (c .before .float-or .ensures) (plain-or (c .before .before .before .before .f .given .0 .0 .strength) (ofBits binary32 1056964608) (f .2 .plain) plain-half))
+    let at-leave-group = c .before .before in
+    let at-f = at-leave-group .before .before in
+    let at-rough-fields = at-f .before .before in
+    let at-m = at-rough-fields .before .before in
+    let at-mark = at-m .before .before in
+    let args = at-mark .before .before .args in
+    let f = rw (at-f .f .given .1) at (at-rough-fields .rough-fields .ensures) in
+    let t = inside-any (args .text .now) 40 (pairs roughFields) (args .c) _ (rw (at-m .m .given .1) at (at-mark .mark .ensures)) _ _ _
+    (f .1) (at-leave-group .leave-group .ensures)
+    in
+    let s = float-or (at-f .f .given .0 .0 .strength) (ofBits binary32 1056964608) _ a-half
+    ∙ ap (λ (o : Option ℕ). default o (f32Of 1 2)) (f .2 .strength)
+    in
+    let p = word-or (at-f .f .given .0 .0 .points) 8 ∙ ap (λ (o : Option ℕ). default o 8) (f .2 .points) in (
+      record { is = rw (t .is, c .before .float-or .ensures, c .word-or .ensures, s, p); low = t .low; ready = t .ready },
+      rw (c .before .float-or .ensures) (plain-or (at-f .f .given .0 .0 .strength) (ofBits binary32 1056964608) (f .2 .plain) plain-half),
+    )
 
 pub rough-curve-spec : {M : Type 1} → statement M
 rough-curve-spec =

@@ -20,13 +20,29 @@ enum-known-x c = search needs
 
 returns : tie.Need-returns
 unfolding roughFields
-returns c row e = refused-row (c .before .before .before .before .before .before .args .text .now) (c .before .before .before .before .before .before .args .c) _ row _ _ (row-at roughFields (c .before .before .before .before .before .before .args .i) 0 row _ (c .before .before .before .before .if1 .taken) refl e) (no-number (c .before .before .before .before .before .before .args .text .now) (c .before .before .before .before .before .before .args .c) _ _ (rw (c .before .r .given .1) at (c .before .before .before .parse-float .ensures)))
+returns c row e =
+    let at-parse-float = c .before .before .before in
+    let at-if1 = at-parse-float .before in
+    let args = at-if1 .before .before .args in
+    refused-row (args .text .now) (args .c) _ row _ _ (row-at roughFields (args .i) 0 row _ (at-if1 .if1 .taken) refl e)
+    (no-number (args .text .now) (args .c) _ _ (rw (c .before .r .given .1) at (at-parse-float .parse-float .ensures)))
 
 returns-2 : tie.Need-returns-2
 unfolding roughFields
 returns-2 c row e =
-    let t = rw (c .before .x .given .1) at (c .before .before .before .parse-float .ensures) in
-    by-row RoughHeld (c .before .before .before .before .before .before .args .text .now) (c .before .before .before .before .before .before .args .c) _ (c .before .before .before .before .before .before .args .f) _ _ row _ (row-at roughFields (c .before .before .before .before .before .before .args .i) 0 row _ (c .before .before .before .before .if1 .taken) refl e) (took-number (c .before .before .before .before .before .before .args .text .now) (c .before .before .before .before .before .before .args .c) _ _ (t .0)) (rough-strength (c .before .before .before .before .before .before .args .f) _ (t .1))
+    let at-parse-float = c .before .before .before in
+    let at-if1 = at-parse-float .before in
+    let args = at-if1 .before .before .args in
+    let t = rw (c .before .x .given .1) at (at-parse-float .parse-float .ensures) in
+    by-row RoughHeld
+    (args .text .now)
+    (args .c)
+    _
+    (args .f)
+    _ _ row _
+    (row-at roughFields (args .i) 0 row _ (at-if1 .if1 .taken) refl e)
+    (took-number (args .text .now) (args .c) _ _ (t .0))
+    (rough-strength (args .f) _ (t .1))
 
 parse-uint-requires : tie.Need-parse-uint-requires
 parse-uint-requires c κs = search needs
@@ -39,13 +55,29 @@ enum-known-n c = search needs
 
 returns-3 : tie.Need-returns-3
 unfolding roughFields
-returns-3 c row e = refused-row (c .before .before .before .before .before .before .args .text .now) (c .before .before .before .before .before .before .args .c) _ row _ _ (second-row _ _ row (c .before .before .before .before .before .before .args .i) (c .before .before .before .before .if1 .left) e) (no-count (c .before .before .before .before .before .before .args .text .now) (c .before .before .before .before .before .before .args .c) _ _ (rw (c .before .r2 .given .1) at (c .before .before .before .parse-uint .ensures)))
+returns-3 c row e =
+    let at-parse-uint = c .before .before .before in
+    let at-if1 = at-parse-uint .before in
+    let args = at-if1 .before .before .args in
+    refused-row (args .text .now) (args .c) _ row _ _ (second-row _ _ row (args .i) (at-if1 .if1 .left) e)
+    (no-count (args .text .now) (args .c) _ _ (rw (c .before .r2 .given .1) at (at-parse-uint .parse-uint .ensures)))
 
 returns-4 : tie.Need-returns-4
 unfolding roughFields
 returns-4 c row e =
-    let t = rw (c .before .n .given .1) at (c .before .before .before .parse-uint .ensures) in
-    by-row RoughHeld (c .before .before .before .before .before .before .args .text .now) (c .before .before .before .before .before .before .args .c) _ (c .before .before .before .before .before .before .args .f) _ _ row _ (second-row _ _ row (c .before .before .before .before .before .before .args .i) (c .before .before .before .before .if1 .left) e) (took-count (c .before .before .before .before .before .before .args .text .now) (c .before .before .before .before .before .before .args .c) _ _ t) (rough-points (c .before .before .before .before .before .before .args .f) _)
+    let at-parse-uint = c .before .before .before in
+    let at-if1 = at-parse-uint .before in
+    let args = at-if1 .before .before .args in
+    let t = rw (c .before .n .given .1) at (at-parse-uint .parse-uint .ensures) in
+    by-row RoughHeld
+    (args .text .now)
+    (args .c)
+    _
+    (args .f)
+    _ _ row _
+    (second-row _ _ row (args .i) (at-if1 .if1 .left) e)
+    (took-count (args .text .now) (args .c) _ _ t)
+    (rough-points (args .f) _)
 
 pub rough-field-spec : {M : Type 1} → statement M
 rough-field-spec =

@@ -23,7 +23,11 @@ abbrev μ-loop : tie.MeasureT-loop
 μ-loop text m₀ f₀ m f = length text - m .at
 
 loop-holds : tie.Need-loop-holds Inv-loop μ-loop
-loop-holds c = ([], listed-start (listStep (onePair roughFields)) (c .before .args .text .now) (c .before .args .c) [] (c .before .pre), rough-none)
+loop-holds c = (
+  [],
+  listed-start (listStep (onePair roughFields)) (c .before .args .text .now) (c .before .args .c) [] (c .before .pre),
+  rough-none,
+)
 
 next-rough-requires : tie.Need-next-rough-requires Inv-loop μ-loop
 next-rough-requires c κs = c .loop .inv .1 .ready
@@ -34,8 +38,21 @@ enum-known-r c = search needs
 returns : tie.Need-returns Inv-loop μ-loop
 unfolding pairs
 returns c =
-    let n = rw (c .before .r .given .1) at (c .before .before .before .next-rough .ensures) in
-    listed-gives (listStep (onePair roughFields)) (c .before .before .before .before .before .before .args .text .now) (c .before .before .before .before .before .before .args .c) (c .before .before .before .before .loop .m) [] (c .before .before .before .before .loop .inv .0) (c .before .before .before .before .loop .inv .1) _ (n (c .before .before .before .before .loop .inv .0))
+    let at-next-rough = c .before .before .before in
+    let at-loop = at-next-rough .before in
+    let loop = at-loop .loop in
+    let args = at-loop .before .before .args in
+    let n = rw (c .before .r .given .1) at (at-next-rough .next-rough .ensures) in
+    listed-gives
+    (listStep (onePair roughFields))
+    (args .text .now)
+    (args .c)
+    (loop .m)
+    []
+    (loop .inv .0)
+    (loop .inv .1)
+    _
+    (n (loop .inv .0))
 
 enum-known-e : tie.Need-enum-known-e Inv-loop μ-loop
 enum-known-e c = search needs
@@ -43,8 +60,26 @@ enum-known-e c = search needs
 returns-2 : tie.Need-returns-2 Inv-loop μ-loop
 unfolding pairs
 returns-2 c =
-    let n = rw (c .before .e .given .1) at (c .before .before .before .next-rough .ensures) in
-    (c .before .before .before .before .loop .inv .0, listed-done (listStep (onePair roughFields)) (c .before .before .before .before .before .before .args .text .now) (c .before .before .before .before .before .before .args .c) (c .before .before .before .before .loop .m) [] (c .before .before .before .before .loop .inv .0) (c .before .before .before .before .loop .inv .1) _ (rw (n .0) (c .before .before .before .before .loop .inv .1 .ready)) (rw (n .0) (omega arith)) (rw (n .0) (n .1 (c .before .before .before .before .loop .inv .0))), c .before .before .before .before .loop .inv .2)
+    let at-next-rough = c .before .before .before in
+    let at-loop = at-next-rough .before in
+    let loop = at-loop .loop in
+    let args = at-loop .before .before .args in
+    let n = rw (c .before .e .given .1) at (at-next-rough .next-rough .ensures) in (
+      loop .inv .0,
+      listed-done
+          (listStep (onePair roughFields))
+          (args .text .now)
+          (args .c)
+          (loop .m)
+          []
+          (loop .inv .0)
+          (loop .inv .1)
+          _
+          (rw (n .0) (loop .inv .1 .ready))
+          (rw (n .0) (omega arith))
+          (rw (n .0) (n .1 (loop .inv .0))),
+      loop .inv .2,
+    )
 
 enum-known-i : tie.Need-enum-known-i Inv-loop μ-loop
 enum-known-i c = search needs
@@ -58,41 +93,113 @@ enum-known-r-2 c = search needs
 returns-3 : tie.Need-returns-3 Inv-loop μ-loop
 unfolding pairs
 returns-3 c =
-    let n = rw (c .before .before .before .before .before .i .given .1) at (c .before .before .before .before .before .before .before .next-rough .ensures) in
-    let h = rw (c .before .r2 .given .1) at (c .before .before .before .rough-field .ensures) in
-    pair-refused (c .before .before .before .before .before .before .before .before .before .before .args .text .now) roughFields (c .before .before .before .before .before .before .before .before .before .before .args .c) (c .before .before .before .before .before .before .before .before .loop .m) _ [] (c .before .before .before .before .before .before .before .before .loop .inv .0) (c .before .before .before .before .before .before .before .before .loop .inv .1) _ n _ _ (h (n .row) (n .is))
+    let at-rough-field = c .before .before .before in
+    let at-i = at-rough-field .before .before in
+    let at-next-rough = at-i .before .before in
+    let at-loop = at-next-rough .before in
+    let args = at-loop .before .before .args in
+    let n = rw (at-i .i .given .1) at (at-next-rough .next-rough .ensures) in
+    let h = rw (c .before .r2 .given .1) at (at-rough-field .rough-field .ensures) in
+    pair-refused
+    (args .text .now)
+    roughFields
+    (args .c)
+    (at-loop .loop .m)
+    _ []
+    (at-loop .loop .inv .0)
+    (at-loop .loop .inv .1)
+    _ n _ _
+    (h (n .row) (n .is))
 
 enum-known-g : tie.Need-enum-known-g Inv-loop μ-loop
 enum-known-g c = search needs
 
 eat-requires : tie.Need-eat-requires Inv-loop μ-loop
 eat-requires c κs =
-    let n = rw (c .before .before .before .before .before .i .given .1) at (c .before .before .before .before .before .before .before .next-rough .ensures) in
-    let h = rw (c .before .g .given .1) at (c .before .before .before .rough-field .ensures) in
+    let at-rough-field = c .before .before .before in
+    let at-i = at-rough-field .before .before in
+    let at-next-rough = at-i .before .before in
+    let n = rw (at-i .i .given .1) at (at-next-rough .next-rough .ensures) in
+    let h = rw (c .before .g .given .1) at (at-rough-field .rough-field .ensures) in
     (h (n .row) (n .is) .1 .ready, lit< tt)
 
 returns-4 : tie.Need-returns-4 Inv-loop μ-loop
 unfolding pairs
 returns-4 c =
-    let n = rw (c .before .before .before .before .before .before .before .before .before .i .given .1) at (c .before .before .before .before .before .before .before .before .before .before .before .next-rough .ensures) in
-    let h = (rw (c .before .before .before .before .before .g .given .1) at (c .before .before .before .before .before .before .before .rough-field .ensures)) (n .row) (n .is) in
-    let z = rw (not-true (c .before .before .before .eat .result .taken) (c .if1 .taken)) at (c .before .before .before .eat .ensures) in
-    (_, pair-last (c .before .before .before .before .before .before .before .before .before .before .before .before .before .before .args .text .now) roughFields (c .before .before .before .before .before .before .before .before .before .before .before .before .before .before .args .c) (c .before .before .before .before .before .before .before .before .before .before .before .before .loop .m) _ [] (c .before .before .before .before .before .before .before .before .before .before .before .before .loop .inv .0) (c .before .before .before .before .before .before .before .before .before .before .before .before .loop .inv .1) _ n _ (c .before .before .before .eat .result .next) (h .0) (h .1) z, h .2 (c .before .before .before .before .before .before .before .before .before .before .before .before .loop .inv .0) (c .before .before .before .before .before .before .before .before .before .before .before .before .loop .inv .2))
+    let at-eat = c .before .before .before in
+    let at-g = at-eat .before .before in
+    let at-rough-field = at-g .before .before in
+    let at-i = at-rough-field .before .before in
+    let at-next-rough = at-i .before .before in
+    let at-loop = at-next-rough .before in
+    let loop = at-loop .loop in
+    let args = at-loop .before .before .args in
+    let n = rw (at-i .i .given .1) at (at-next-rough .next-rough .ensures) in
+    let h = (rw (at-g .g .given .1) at (at-rough-field .rough-field .ensures)) (n .row) (n .is) in
+    let z = rw (not-true (at-eat .eat .result .taken) (c .if1 .taken)) at (at-eat .eat .ensures) in (
+      _,
+      pair-last
+          (args .text .now)
+          roughFields
+          (args .c)
+          (loop .m)
+          _ []
+          (loop .inv .0)
+          (loop .inv .1)
+          _ n _
+          (at-eat .eat .result .next)
+          (h .0)
+          (h .1)
+          z,
+      h .2 (loop .inv .0) (loop .inv .2),
+    )
 
 loop-less : tie.Need-loop-less Inv-loop μ-loop
 loop-less c =
-    let n = rw (c .before .before .before .before .before .before .before .before .before .i .given .1) at (c .before .before .before .before .before .before .before .before .before .before .before .next-rough .ensures) in
-    let h = (rw (c .before .before .before .before .before .g .given .1) at (c .before .before .before .before .before .before .before .rough-field .ensures)) (n .row) (n .is) in
-    let z = rw (not-false (c .before .before .before .eat .result .taken) (c .if1 .left)) at (c .before .before .before .eat .ensures) in
-    let a = pair-moves (c .before .before .before .before .before .before .before .before .before .before .before .before .before .before .args .text .now) roughFields (c .before .before .before .before .before .before .before .before .before .before .before .before .before .before .args .c) (c .before .before .before .before .before .before .before .before .before .before .before .before .loop .m) _ [] (c .before .before .before .before .before .before .before .before .before .before .before .before .loop .inv .0) (c .before .before .before .before .before .before .before .before .before .before .before .before .loop .inv .1) _ n _ (c .before .before .before .eat .result .next) (h .0) (h .1) z in
+    let at-eat = c .before .before .before in
+    let at-g = at-eat .before .before in
+    let at-rough-field = at-g .before .before in
+    let at-i = at-rough-field .before .before in
+    let at-next-rough = at-i .before .before in
+    let at-loop = at-next-rough .before in
+    let args = at-loop .before .before .args in
+    let n = rw (at-i .i .given .1) at (at-next-rough .next-rough .ensures) in
+    let h = (rw (at-g .g .given .1) at (at-rough-field .rough-field .ensures)) (n .row) (n .is) in
+    let z = rw (not-false (at-eat .eat .result .taken) (c .if1 .left)) at (at-eat .eat .ensures) in
+    let a = pair-moves (args .text .now) roughFields (args .c) (at-loop .loop .m) _ [] (at-loop .loop .inv .0) (at-loop .loop .inv .1) _ n _
+    (at-eat .eat .result .next) (h .0) (h .1) z
+    in
     omega (arith, z .ready .high)
 
 loop-again : tie.Need-loop-again Inv-loop μ-loop
 loop-again c =
-    let n = rw (c .before .before .before .before .before .before .before .before .before .i .given .1) at (c .before .before .before .before .before .before .before .before .before .before .before .next-rough .ensures) in
-    let h = (rw (c .before .before .before .before .before .g .given .1) at (c .before .before .before .before .before .before .before .rough-field .ensures)) (n .row) (n .is) in
-    let z = rw (not-false (c .before .before .before .eat .result .taken) (c .if1 .left)) at (c .before .before .before .eat .ensures) in
-    (_, pair-more (c .before .before .before .before .before .before .before .before .before .before .before .before .before .before .args .text .now) roughFields (c .before .before .before .before .before .before .before .before .before .before .before .before .before .before .args .c) (c .before .before .before .before .before .before .before .before .before .before .before .before .loop .m) _ [] (c .before .before .before .before .before .before .before .before .before .before .before .before .loop .inv .0) (c .before .before .before .before .before .before .before .before .before .before .before .before .loop .inv .1) _ n _ (c .before .before .before .eat .result .next) (h .0) (h .1) z, h .2 (c .before .before .before .before .before .before .before .before .before .before .before .before .loop .inv .0) (c .before .before .before .before .before .before .before .before .before .before .before .before .loop .inv .2))
+    let at-eat = c .before .before .before in
+    let at-g = at-eat .before .before in
+    let at-rough-field = at-g .before .before in
+    let at-i = at-rough-field .before .before in
+    let at-next-rough = at-i .before .before in
+    let at-loop = at-next-rough .before in
+    let loop = at-loop .loop in
+    let args = at-loop .before .before .args in
+    let n = rw (at-i .i .given .1) at (at-next-rough .next-rough .ensures) in
+    let h = (rw (at-g .g .given .1) at (at-rough-field .rough-field .ensures)) (n .row) (n .is) in
+    let z = rw (not-false (at-eat .eat .result .taken) (c .if1 .left)) at (at-eat .eat .ensures) in (
+      _,
+      pair-more
+          (args .text .now)
+          roughFields
+          (args .c)
+          (loop .m)
+          _ []
+          (loop .inv .0)
+          (loop .inv .1)
+          _ n _
+          (at-eat .eat .result .next)
+          (h .0)
+          (h .1)
+          z,
+      h .2 (loop .inv .0) (loop .inv .2),
+    )
 
 pub rough-fields-spec : {M : Type 1} → statement M
 rough-fields-spec =

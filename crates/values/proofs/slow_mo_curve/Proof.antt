@@ -42,20 +42,51 @@ float-or-requires-2 c κs = search needs
 
 returns : tie.Need-returns
 unfolding slowMoCurve
-returns c = let h = inside-missing (c .before .before .before .before .before .args .text .now) 40 (pairs slowMoFields) (c .before .before .before .before .before .args .c) _ (rw (c .before .p .given .1) at (c .before .before .before .mark .ensures)) in rw h
+returns c =
+    let at-mark = c .before .before .before in
+    let args = at-mark .before .before .args in
+    let h = inside-missing (args .text .now) 40 (pairs slowMoFields) (args .c) _ (rw (c .before .p .given .1) at (at-mark .mark .ensures))
+    in
+    rw h
 
 returns-2 : tie.Need-returns-2
 unfolding slowMoCurve
-returns-2 c = let h = inside-refused (c .before .before .before .before .before .before .before .before .before .args .text .now) 40 (pairs slowMoFields) (c .before .before .before .before .before .before .before .before .before .args .c) _ (rw (c .before .before .before .before .before .m .given .1) at (c .before .before .before .before .before .before .before .mark .ensures)) _ _ (rw (c .before .r .given .1) at (c .before .before .before .slow-mo-fields .ensures)) in rw h
+returns-2 c =
+    let at-slow-mo-fields = c .before .before .before in
+    let at-m = at-slow-mo-fields .before .before in
+    let at-mark = at-m .before .before in
+    let args = at-mark .before .before .args in
+    let h = inside-refused (args .text .now) 40 (pairs slowMoFields) (args .c) _ (rw (at-m .m .given .1) at (at-mark .mark .ensures)) _ _
+    (rw (c .before .r .given .1) at (at-slow-mo-fields .slow-mo-fields .ensures))
+    in
+    rw h
 
 returns-3 : tie.Need-returns-3
 unfolding slowMoCurve
 returns-3 c =
-    let f = rw (c .before .before .before .before .f .given .1) at (c .before .before .before .before .before .before .slow-mo-fields .ensures) in
-    let t = inside-any (c .before .before .before .before .before .before .before .before .before .before .before .before .args .text .now) 40 (pairs slowMoFields) (c .before .before .before .before .before .before .before .before .before .before .before .before .args .c) _ (rw (c .before .before .before .before .before .before .before .before .m .given .1) at (c .before .before .before .before .before .before .before .before .before .before .mark .ensures)) _ _ _ (f .1) (c .before .before .leave-group .ensures) in
-    let s = float-or (c .before .before .before .before .f .given .0 .0 .«linear_ratio») (ofBits binary32 1060320051) _ seven-tenths ∙ ap (λ (o : Option ℕ). default o (f32Of 7 10)) (f .2 .linearRatio) in
-    let p = float-or (c .before .before .before .before .f .given .0 .0 .power) (ofBits binary32 1073741824) _ two-wholes ∙ ap (λ (o : Option ℕ). default o (f32Of 2 1)) (f .2 .power) in
-    (record { is = rw (t .is, c .before .float-or .ensures, c .float-or2 .ensures, s, p); low = t .low; ready = t .ready }, (rw (c .before .float-or .ensures) (plain-or (c .before .before .before .before .f .given .0 .0 .«linear_ratio») (ofBits binary32 1060320051) (f .2 .plainRatio) plain-seven), rw (c .float-or2 .ensures) (plain-or (c .before .before .before .before .f .given .0 .0 .power) (ofBits binary32 1073741824) (f .2 .plainPower) plain-two)))
+    let at-leave-group = c .before .before in
+    let at-f = at-leave-group .before .before in
+    let at-slow-mo-fields = at-f .before .before in
+    let at-m = at-slow-mo-fields .before .before in
+    let at-mark = at-m .before .before in
+    let args = at-mark .before .before .args in
+    let f = rw (at-f .f .given .1) at (at-slow-mo-fields .slow-mo-fields .ensures) in
+    let t = inside-any (args .text .now) 40 (pairs slowMoFields) (args .c) _ (rw (at-m .m .given .1) at (at-mark .mark .ensures)) _ _ _
+    (f .1) (at-leave-group .leave-group .ensures)
+    in
+    let s = float-or (at-f .f .given .0 .0 .«linear_ratio») (ofBits binary32 1060320051) _ seven-tenths
+    ∙ ap (λ (o : Option ℕ). default o (f32Of 7 10)) (f .2 .linearRatio)
+    in
+    let p = float-or (at-f .f .given .0 .0 .power) (ofBits binary32 1073741824) _ two-wholes
+    ∙ ap (λ (o : Option ℕ). default o (f32Of 2 1)) (f .2 .power)
+    in (
+      record { is = rw (t .is, c .before .float-or .ensures, c .float-or2 .ensures, s, p); low = t .low; ready = t .ready },
+      (
+        rw (c .before .float-or .ensures)
+            (plain-or (at-f .f .given .0 .0 .«linear_ratio») (ofBits binary32 1060320051) (f .2 .plainRatio) plain-seven),
+        rw (c .float-or2 .ensures) (plain-or (at-f .f .given .0 .0 .power) (ofBits binary32 1073741824) (f .2 .plainPower) plain-two),
+      ),
+    )
 
 pub slow-mo-curve-spec : {M : Type 1} → statement M
 slow-mo-curve-spec =

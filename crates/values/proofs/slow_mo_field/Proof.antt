@@ -20,13 +20,29 @@ enum-known-x c = search needs
 
 returns : tie.Need-returns
 unfolding slowMoFields
-returns c row e = refused-row (c .before .before .before .before .before .before .args .text .now) (c .before .before .before .before .before .before .args .c) _ row _ _ (row-at slowMoFields (c .before .before .before .before .before .before .args .i) 0 row _ (c .before .before .before .before .if1 .taken) refl e) (no-number (c .before .before .before .before .before .before .args .text .now) (c .before .before .before .before .before .before .args .c) _ _ (rw (c .before .r .given .1) at (c .before .before .before .parse-float .ensures)))
+returns c row e =
+    let at-parse-float = c .before .before .before in
+    let at-if1 = at-parse-float .before in
+    let args = at-if1 .before .before .args in
+    refused-row (args .text .now) (args .c) _ row _ _ (row-at slowMoFields (args .i) 0 row _ (at-if1 .if1 .taken) refl e)
+    (no-number (args .text .now) (args .c) _ _ (rw (c .before .r .given .1) at (at-parse-float .parse-float .ensures)))
 
 returns-2 : tie.Need-returns-2
 unfolding slowMoFields
 returns-2 c row e =
-    let t = rw (c .before .x .given .1) at (c .before .before .before .parse-float .ensures) in
-    by-row SlowMoHeld (c .before .before .before .before .before .before .args .text .now) (c .before .before .before .before .before .before .args .c) _ (c .before .before .before .before .before .before .args .f) _ _ row _ (row-at slowMoFields (c .before .before .before .before .before .before .args .i) 0 row _ (c .before .before .before .before .if1 .taken) refl e) (took-number (c .before .before .before .before .before .before .args .text .now) (c .before .before .before .before .before .before .args .c) _ _ (t .0)) (slow-ratio (c .before .before .before .before .before .before .args .f) _ (t .1))
+    let at-parse-float = c .before .before .before in
+    let at-if1 = at-parse-float .before in
+    let args = at-if1 .before .before .args in
+    let t = rw (c .before .x .given .1) at (at-parse-float .parse-float .ensures) in
+    by-row SlowMoHeld
+    (args .text .now)
+    (args .c)
+    _
+    (args .f)
+    _ _ row _
+    (row-at slowMoFields (args .i) 0 row _ (at-if1 .if1 .taken) refl e)
+    (took-number (args .text .now) (args .c) _ _ (t .0))
+    (slow-ratio (args .f) _ (t .1))
 
 parse-float-requires-2 : tie.Need-parse-float-requires-2
 parse-float-requires-2 c κs = search needs
@@ -39,13 +55,29 @@ enum-known-n c = search needs
 
 returns-3 : tie.Need-returns-3
 unfolding slowMoFields
-returns-3 c row e = refused-row (c .before .before .before .before .before .before .args .text .now) (c .before .before .before .before .before .before .args .c) _ row _ _ (second-row _ _ row (c .before .before .before .before .before .before .args .i) (c .before .before .before .before .if1 .left) e) (no-number (c .before .before .before .before .before .before .args .text .now) (c .before .before .before .before .before .before .args .c) _ _ (rw (c .before .r2 .given .1) at (c .before .before .before .parse-float2 .ensures)))
+returns-3 c row e =
+    let at-parse-float2 = c .before .before .before in
+    let at-if1 = at-parse-float2 .before in
+    let args = at-if1 .before .before .args in
+    refused-row (args .text .now) (args .c) _ row _ _ (second-row _ _ row (args .i) (at-if1 .if1 .left) e)
+    (no-number (args .text .now) (args .c) _ _ (rw (c .before .r2 .given .1) at (at-parse-float2 .parse-float2 .ensures)))
 
 returns-4 : tie.Need-returns-4
 unfolding slowMoFields
 returns-4 c row e =
-    let t = rw (c .before .n .given .1) at (c .before .before .before .parse-float2 .ensures) in
-    by-row SlowMoHeld (c .before .before .before .before .before .before .args .text .now) (c .before .before .before .before .before .before .args .c) _ (c .before .before .before .before .before .before .args .f) _ _ row _ (second-row _ _ row (c .before .before .before .before .before .before .args .i) (c .before .before .before .before .if1 .left) e) (took-number (c .before .before .before .before .before .before .args .text .now) (c .before .before .before .before .before .before .args .c) _ _ (t .0)) (slow-power (c .before .before .before .before .before .before .args .f) _ (t .1))
+    let at-parse-float2 = c .before .before .before in
+    let at-if1 = at-parse-float2 .before in
+    let args = at-if1 .before .before .args in
+    let t = rw (c .before .n .given .1) at (at-parse-float2 .parse-float2 .ensures) in
+    by-row SlowMoHeld
+    (args .text .now)
+    (args .c)
+    _
+    (args .f)
+    _ _ row _
+    (second-row _ _ row (args .i) (at-if1 .if1 .left) e)
+    (took-number (args .text .now) (args .c) _ _ (t .0))
+    (slow-power (args .f) _ (t .1))
 
 pub slow-mo-field-spec : {M : Type 1} → statement M
 slow-mo-field-spec =

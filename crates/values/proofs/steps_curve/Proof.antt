@@ -20,7 +20,10 @@ returns c = let h = rw (c .before .r .given .1) at (c .before .before .before .u
 
 returns-2 : tie.Need-returns-2
 unfolding stepsCurve
-returns-2 c = let t = rw (c .before .n .given .1) at (c .before .before .before .uint-in-parens .ensures) in (record { is = rw (t .is); low = t .low; ready = t .ready }, tt)
+returns-2 c =
+    let at-uint-in-parens = c .before .before .before in
+    let t = rw (c .before .n .given .1) at (at-uint-in-parens .uint-in-parens .ensures) in
+    (record { is = rw (t .is); low = t .low; ready = t .ready }, tt)
 
 pub steps-curve-spec : {M : Type 1} → statement M
 steps-curve-spec =

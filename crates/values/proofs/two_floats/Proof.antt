@@ -32,16 +32,26 @@ returns c = let h = rw (c .before .r .given .1) at (c .before .before .before .p
 returns-2 : tie.Need-returns-2
 unfolding twoFloats
 returns-2 c =
-    let t = (rw (c .before .before .before .before .before .a .given .1) at (c .before .before .before .before .before .before .before .parse-float .ensures)) .0 in
-    let h = rw (c .before .r2 .given .1) at (c .before .before .before .comma-float .ensures) in
+    let at-comma-float = c .before .before .before in
+    let at-a = at-comma-float .before .before in
+    let at-parse-float = at-a .before .before in
+    let t = (rw (at-a .a .given .1) at (at-parse-float .parse-float .ensures)) .0 in
+    let h = rw (c .before .r2 .given .1) at (at-comma-float .comma-float .ensures) in
     rw (t .is, h)
 
 returns-3 : tie.Need-returns-3
 unfolding twoFloats
 returns-3 c =
-    let t = rw (c .before .before .before .before .before .a .given .1) at (c .before .before .before .before .before .before .before .parse-float .ensures) in
-    let u = rw (c .before .b .given .1) at (c .before .before .before .comma-float .ensures) in
-    record { took = record { is = rw (t .0 .is, u .0 .is); low = omega (arith, t .0 .low, u .0 .low); ready = u .0 .ready }; first = t .1; second = u .1 }
+    let at-comma-float = c .before .before .before in
+    let at-a = at-comma-float .before .before in
+    let at-parse-float = at-a .before .before in
+    let t = rw (at-a .a .given .1) at (at-parse-float .parse-float .ensures) in
+    let u = rw (c .before .b .given .1) at (at-comma-float .comma-float .ensures) in
+    record {
+      took = record { is = rw (t .0 .is, u .0 .is); low = omega (arith, t .0 .low, u .0 .low); ready = u .0 .ready };
+      first = t .1;
+      second = u .1;
+    }
 
 pub two-floats-spec : {M : Type 1} → statement M
 two-floats-spec =

@@ -29,15 +29,31 @@ leave-group-requires c κs = (rw (c .before .v .given .1) at (c .before .before 
 
 returns : tie.Need-returns
 unfolding parseUintInParens
-returns c = inside-missing (c .before .before .before .before .before .args .text .now) 40 parseUint (c .before .before .before .before .before .args .c) _ (rw (c .before .p .given .1) at (c .before .before .before .mark .ensures))
+returns c =
+    let at-mark = c .before .before .before in
+    let args = at-mark .before .before .args in
+    inside-missing (args .text .now) 40 parseUint (args .c) _ (rw (c .before .p .given .1) at (at-mark .mark .ensures))
 
 returns-2 : tie.Need-returns-2
 unfolding parseUintInParens
-returns-2 c = inside-refused (c .before .before .before .before .before .before .before .before .before .args .text .now) 40 parseUint (c .before .before .before .before .before .before .before .before .before .args .c) _ (rw (c .before .before .before .before .before .m .given .1) at (c .before .before .before .before .before .before .before .mark .ensures)) _ _ (rw (c .before .r .given .1) at (c .before .before .before .parse-uint .ensures))
+returns-2 c =
+    let at-parse-uint = c .before .before .before in
+    let at-m = at-parse-uint .before .before in
+    let at-mark = at-m .before .before in
+    let args = at-mark .before .before .args in
+    inside-refused (args .text .now) 40 parseUint (args .c) _ (rw (at-m .m .given .1) at (at-mark .mark .ensures)) _ _
+    (rw (c .before .r .given .1) at (at-parse-uint .parse-uint .ensures))
 
 returns-3 : tie.Need-returns-3
 unfolding parseUintInParens
-returns-3 c = inside-took (c .before .before .before .before .before .before .before .before .before .before .args .text .now) 40 parseUint (c .before .before .before .before .before .before .before .before .before .before .args .c) _ (rw (c .before .before .before .before .before .before .m .given .1) at (c .before .before .before .before .before .before .before .before .mark .ensures)) _ _ _ (rw (c .before .before .v .given .1) at (c .before .before .before .before .parse-uint .ensures)) (c .leave-group .ensures)
+returns-3 c =
+    let at-v = c .before .before in
+    let at-parse-uint = at-v .before .before in
+    let at-m = at-parse-uint .before .before in
+    let at-mark = at-m .before .before in
+    let args = at-mark .before .before .args in
+    inside-took (args .text .now) 40 parseUint (args .c) _ (rw (at-m .m .given .1) at (at-mark .mark .ensures)) _ _ _
+    (rw (at-v .v .given .1) at (at-parse-uint .parse-uint .ensures)) (c .leave-group .ensures)
 
 pub uint-in-parens-spec : {M : Type 1} → statement M
 uint-in-parens-spec =

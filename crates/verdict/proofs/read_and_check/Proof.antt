@@ -27,9 +27,12 @@ same-length-2 c = search needs
 
 returns : tie.Need-returns
 returns c =
-    let call = c .before .before .before .before .before .before .before in
-    let e = rw (c .before .refusal .given .1) at (call .read .ensures) in
-    let start = call .before .before .before .before .before .before in
+    let at-refusal = c .before in
+    let c5 = at-refusal .before .before .before .before in
+    let call = c5 .before .before in
+    let c11 = call .before .before .before .before in
+    let start = c11 .before .before in
+    let e = rw (at-refusal .refusal .given .1) at (call .read .ensures) in
     (e, (tt, unread (start .args .text .now) (start .args .scratch .now) (start .args .sheet .now) _ _ _ _ e))
 
 same-length-3 : tie.Need-same-length-3
@@ -40,9 +43,12 @@ same-length-4 c = search needs
 
 returns-2 : tie.Need-returns-2
 returns-2 c =
-    let call = c .before .before .before .before .before .before .before .before .before .before in
-    let e = rw (c .before .before .before .before .length .given .1) at (call .read .ensures) in
-    let start = call .before .before .before .before .before .before in
+    let at-length = c .before .before .before .before in
+    let c8 = at-length .before .before .before .before in
+    let call = c8 .before .before in
+    let c14 = call .before .before .before .before in
+    let start = c14 .before .before in
+    let e = rw (at-length .length .given .1) at (call .read .ensures) in
     let v = rw (c .before .part .ensures) at (c .check .ensures) in
     (e, (v, checked (start .args .text .now) (start .args .scratch .now) (start .args .sheet .now) _ _ _ _ _ e v))
 

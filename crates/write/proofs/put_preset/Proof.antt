@@ -12,19 +12,66 @@ put-byte-requires : tie.Need-put-byte-requires
 put-byte-requires c κs = let z = c .before .before .before .pre .0 in omega arith
 
 put-span-requires : tie.Need-put-span-requires
-put-span-requires c κs = let z = c .before .before .before .before .before .before .before .pre .0 in let p0 = c .before .before .before .put-byte .ensures .place in omega arith
+put-span-requires c κs =
+    let at-put-byte = c .before .before .before in
+    let start = at-put-byte .before .before .before .before in
+    let z = start .pre .0 in
+    let p0 = at-put-byte .put-byte .ensures .place in
+    omega arith
 
 put-opt-float-requires : tie.Need-put-opt-float-requires
-put-opt-float-requires c κs = (let z = c .before .before .before .before .before .before .before .before .before .before .before .pre .0 in let p0 = c .before .before .before .before .before .before .before .put-byte .ensures .place in let p1 = (c .before .before .before .put-span .ensures 0) .place in let l1 = length-span 0 (spanOf (c .before .before .before .before .before .before .before .before .before .before .before .args .x .name)) in omega arith, c .before .before .before .before .before .before .before .before .before .before .before .pre .1 .0)
+put-opt-float-requires c κs =
+    let at-put-span = c .before .before .before in
+    let at-put-byte = at-put-span .before .before .before .before in
+    let start = at-put-byte .before .before .before .before in (
+      let z = start .pre .0 in
+          let p0 = at-put-byte .put-byte .ensures .place in
+          let p1 = (at-put-span .put-span .ensures 0) .place in
+          let l1 = length-span 0 (spanOf (start .args .x .name)) in
+          omega arith,
+      start .pre .1 .0,
+    )
 
 put-opt-easing-requires : tie.Need-put-opt-easing-requires
-put-opt-easing-requires c κs = (let z = c .before .before .before .before .before .before .before .before .before .before .before .before .before .before .before .pre .0 in let p0 = c .before .before .before .before .before .before .before .before .before .before .before .put-byte .ensures .place in let p1 = (c .before .before .before .before .before .before .before .put-span .ensures 0) .place in let l1 = length-span 0 (spanOf (c .before .before .before .before .before .before .before .before .before .before .before .before .before .before .before .args .x .name)) in let p2 = c .before .before .before .put-opt-float .ensures .place in let l2 = opt-word (optFloatOf (c .before .before .before .before .before .before .before .before .before .before .before .before .before .before .before .args .x .duration)) in omega arith, c .before .before .before .before .before .before .before .before .before .before .before .before .before .before .before .pre .1 .1)
+put-opt-easing-requires c κs =
+    let at-put-opt-float = c .before .before .before in
+    let at-put-span = at-put-opt-float .before .before .before .before in
+    let at-put-byte = at-put-span .before .before .before .before in
+    let start = at-put-byte .before .before .before .before in (
+      let z = start .pre .0 in
+          let p0 = at-put-byte .put-byte .ensures .place in
+          let p1 = (at-put-span .put-span .ensures 0) .place in
+          let l1 = length-span 0 (spanOf (start .args .x .name)) in
+          let p2 = at-put-opt-float .put-opt-float .ensures .place in
+          let l2 = opt-word (optFloatOf (start .args .x .duration)) in
+          omega arith,
+      start .pre .1 .1,
+    )
 
 same-length : tie.Need-same-length
 same-length c = search needs
 
 returns : tie.Need-returns
-returns c = record { writes = λ n. writes-then (c .before .before .before .before .before .before .before .before .before .before .before .before .before .before .put-byte .ensures) (writes-then (c .before .before .before .before .before .before .before .before .before .before .put-span .ensures n) (writes-then (c .before .before .before .before .before .before .put-opt-float .ensures) (c .before .before .put-opt-easing .ensures n))); most = let z = c .before .before .before .before .before .before .before .before .before .before .before .before .before .before .before .before .before .before .pre .0 in let p0 = c .before .before .before .before .before .before .before .before .before .before .before .before .before .before .put-byte .ensures .place in let p1 = (c .before .before .before .before .before .before .before .before .before .before .put-span .ensures 0) .place in let l1 = length-span 0 (spanOf (c .before .before .before .before .before .before .before .before .before .before .before .before .before .before .before .before .before .before .args .x .name)) in let p2 = c .before .before .before .before .before .before .put-opt-float .ensures .place in let l2 = opt-word (optFloatOf (c .before .before .before .before .before .before .before .before .before .before .before .before .before .before .before .before .before .before .args .x .duration)) in let p3 = (c .before .before .put-opt-easing .ensures 0) .place in let l3 = opt-easing 0 (optEasingOf (c .before .before .before .before .before .before .before .before .before .before .before .before .before .before .before .before .before .before .args .x .easing)) in omega arith }
+returns c =
+    let at-put-opt-easing = c .before .before in
+    let at-put-opt-float = at-put-opt-easing .before .before .before .before in
+    let at-put-span = at-put-opt-float .before .before .before .before in
+    let at-put-byte = at-put-span .before .before .before .before in
+    let start = at-put-byte .before .before .before .before in
+    record {
+      writes = λ n. writes-then (at-put-byte .put-byte .ensures)
+          (writes-then (at-put-span .put-span .ensures n)
+          (writes-then (at-put-opt-float .put-opt-float .ensures) (at-put-opt-easing .put-opt-easing .ensures n)));
+      most = let z = start .pre .0 in
+          let p0 = at-put-byte .put-byte .ensures .place in
+          let p1 = (at-put-span .put-span .ensures 0) .place in
+          let l1 = length-span 0 (spanOf (start .args .x .name)) in
+          let p2 = at-put-opt-float .put-opt-float .ensures .place in
+          let l2 = opt-word (optFloatOf (start .args .x .duration)) in
+          let p3 = (at-put-opt-easing .put-opt-easing .ensures 0) .place in
+          let l3 = opt-easing 0 (optEasingOf (start .args .x .easing)) in
+          omega arith;
+    }
 
 pub put-preset-spec : {M : Type 1} → statement M
 put-preset-spec =

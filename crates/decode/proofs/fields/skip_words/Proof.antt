@@ -26,7 +26,9 @@ loop-less : tie.Need-loop-less Inv-loop μ-loop
 loop-less c = omega arith
 
 loop-again : tie.Need-loop-again Inv-loop μ-loop
-loop-again c = (omega arith, laws.walk-next word _ _ _ _ _ _ (c .before .loop-test .taken) (c .take-field .ensures .reads) (c .before .before .loop .inv .1))
+loop-again c =
+    let at-loop = c .before .before in
+    (omega arith, laws.walk-next word _ _ _ _ _ _ (c .before .loop-test .taken) (c .take-field .ensures .reads) (at-loop .loop .inv .1))
 
 returns : tie.Need-returns Inv-loop μ-loop
 returns c = laws.walk-done word _ _ _ _ _ (c .loop-test .left) (c .before .loop .inv .1)

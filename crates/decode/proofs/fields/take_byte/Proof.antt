@@ -19,10 +19,13 @@ lost-requires : tie.Need-lost-requires
 lost-requires c κs = search needs
 
 returns-2 : tie.Need-returns-2
-returns-2 c = record {
-  reads = ⊎-elim (λ w. laws.byte-over _ _ _ (c .lost .ensures) (w .2 .left)) (λ w. laws.byte-end _ _ _ (c .lost .ensures) (w .left)) (c .before .if1 .came);
-  small = c .before .before .before .pre;
-}
+returns-2 c =
+    let start = c .before .before .before in
+    record {
+      reads = ⊎-elim (λ w. laws.byte-over _ _ _ (c .lost .ensures) (w .2 .left))
+          (λ w. laws.byte-end _ _ _ (c .lost .ensures) (w .left)) (c .before .if1 .came);
+      small = start .pre;
+    }
 
 pub take-byte-spec : {M : Type 1} → statement M
 take-byte-spec = tie.close (tie.spec shared-slice-read-b add-t10 returns lost-requires returns-2)

@@ -36,7 +36,9 @@ returns c =
     let at-take-field = at-take-field2 .before in
     let start = at-take-field .before .before in
     let n = start .args .n in
-    laws.kept (laws.through toSpan ofSpan (laws.seen (at-take-field .take-field .ensures .reads & at-take-field2 .take-field2 .ensures .reads) (λ p e i. record {
+    laws.kept (laws.through toSpan ofSpan
+    (laws.seen (at-take-field .take-field .ensures .reads & at-take-field2 .take-field2 .ensures .reads)
+    (λ p e i. record {
       start = e i .0;
       size = e i .1;
     })))
@@ -49,7 +51,10 @@ returns-2 c =
     let at-take-field = at-take-field2 .before in
     let start = at-take-field .before .before in
     let n = start .args .n in
-    laws.dropped {f = spanView} (laws.through toSpan ofSpan (laws.seen (at-take-field .take-field .ensures .reads & at-take-field2 .take-field2 .ensures .reads) (λ p e i. record {
+    laws.dropped {f = spanView}
+    (laws.through toSpan ofSpan
+    (laws.seen (at-take-field .take-field .ensures .reads & at-take-field2 .take-field2 .ensures .reads)
+    (λ p e i. record {
       start = e i .0;
       size = e i .1;
     })))

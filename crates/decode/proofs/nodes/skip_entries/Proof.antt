@@ -29,8 +29,11 @@ loop-again : tie.Need-loop-again Inv-loop μ-loop
 loop-again c =
     let at-loop-test = c .before in
     let at-loop = at-loop-test .before in
-    let start = at-loop .before .before in
-    (omega arith, laws.walk-next (entryForm (start .args .n)) _ _ _ _ _ _ (at-loop-test .loop-test .taken) (c .take-entry .ensures) (at-loop .loop .inv .1))
+    let start = at-loop .before .before in (
+      omega arith,
+      laws.walk-next (entryForm (start .args .n)) _ _ _ _ _ _ (at-loop-test .loop-test .taken) (c .take-entry .ensures)
+          (at-loop .loop .inv .1),
+    )
 
 returns : tie.Need-returns Inv-loop μ-loop
 returns c = laws.walk-done (entryForm (c .before .before .before .args .n)) _ _ _ _ _ (c .loop-test .left) (c .before .loop .inv .1)

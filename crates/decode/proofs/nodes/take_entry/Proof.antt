@@ -17,7 +17,9 @@ take-opt-easing-requires c κs = search needs
 
 returns : tie.Need-returns
 returns c =
-    laws.through toEntry ofEntry (laws.seen (c .before .before .take-time .ensures & c .before .take-value .ensures & c .take-opt-easing .ensures)
+    let at-take-time = c .before .before in
+    laws.through toEntry ofEntry
+    (laws.seen (at-take-time .take-time .ensures & c .before .take-value .ensures & c .take-opt-easing .ensures)
     (λ p e i. record { time = e i .0; value = e i .1 .0; easing = e i .1 .1 }))
 
 pub take-entry-spec : {M : Type 1} → statement M

@@ -32,7 +32,8 @@ returns c =
     let start = at-take-span .before .before in
     laws.through toKeyframes ofKeyframes
     (laws.seen (at-take-span .take-span .ensures
-    & laws.counted length (each (entryForm (start .args .n))) (at-take-field .take-field .ensures .reads) (at-skip-entries .skip-entries .ensures)
+    & laws.counted length (each (entryForm (start .args .n))) (at-take-field .take-field .ensures .reads)
+    (at-skip-entries .skip-entries .ensures)
     & at-take-opt-loop .take-opt-loop .ensures)
     (λ p e i. record { target = e i .0; frames = e i .1 .0; «loop_mode» = e i .1 .1 }))
 

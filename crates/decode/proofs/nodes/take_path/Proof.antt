@@ -36,10 +36,12 @@ returns c =
     let at-take-float = at-take-opt-easing .before in
     let at-take-span2 = at-take-float .before in
     let at-take-span = at-take-span2 .before in
-    laws.through toPath ofPath (laws.seen (at-take-span .take-span .ensures & at-take-span2 .take-span2 .ensures & at-take-float .take-float .ensures
+    laws.through toPath ofPath
+    (laws.seen (at-take-span .take-span .ensures & at-take-span2 .take-span2 .ensures & at-take-float .take-float .ensures
     & at-take-opt-easing .take-opt-easing .ensures & at-take-opt-flag .take-opt-flag .ensures & at-take-opt-range .take-opt-range .ensures
     & at-take-opt-loop .take-opt-loop .ensures)
-    (λ p e i. record {
+    (λ p e i.
+    record {
       target = e i .0;
       svg = e i .1 .0;
       duration = e i .1 .1 .0;

@@ -52,11 +52,15 @@ returns c =
     let at-take-value2 = at-take-opt-case .before in
     let at-take-value = at-take-value2 .before in
     let at-take-span = at-take-value .before in
-    laws.through toSpring ofSpring (laws.seen (at-take-span .take-span .ensures & at-take-value .take-value .ensures
+    laws.through toSpring ofSpring
+    (laws.seen (at-take-span .take-span .ensures & at-take-value .take-value .ensures
     & at-take-value2 .take-value2 .ensures & at-take-opt-case .take-opt-case .ensures & at-take-opt-float .take-opt-float .ensures
-    & at-take-opt-float2 .take-opt-float2 .ensures & at-take-opt-float3 .take-opt-float3 .ensures & at-take-opt-value .take-opt-value .ensures
-    & at-take-opt-float4 .take-opt-float4 .ensures & at-take-opt-case2 .take-opt-case2 .ensures & at-take-opt-damping .take-opt-damping .ensures)
-    (λ p e i. record {
+    & at-take-opt-float2 .take-opt-float2 .ensures & at-take-opt-float3 .take-opt-float3 .ensures
+    & at-take-opt-value .take-opt-value .ensures
+    & at-take-opt-float4 .take-opt-float4 .ensures & at-take-opt-case2 .take-opt-case2 .ensures
+    & at-take-opt-damping .take-opt-damping .ensures)
+    (λ p e i.
+    record {
       target = e i .0;
       from = e i .1 .0;
       to = e i .1 .1 .0;

@@ -39,10 +39,13 @@ returns c =
     let at-take-opt-float2 = at-take-opt-float3 .before in
     let at-take-opt-float = at-take-opt-float2 .before in
     let at-take-byte = at-take-opt-float .before in
-    laws.through toWaveform ofWaveform (laws.seen (at-take-byte .take-byte .ensures .reads & at-take-opt-float .take-opt-float .ensures
-    & at-take-opt-float2 .take-opt-float2 .ensures & at-take-opt-float3 .take-opt-float3 .ensures & at-take-opt-float4 .take-opt-float4 .ensures
+    laws.through toWaveform ofWaveform
+    (laws.seen (at-take-byte .take-byte .ensures .reads & at-take-opt-float .take-opt-float .ensures
+    & at-take-opt-float2 .take-opt-float2 .ensures & at-take-opt-float3 .take-opt-float3 .ensures
+    & at-take-opt-float4 .take-opt-float4 .ensures
     & at-take-opt-word .take-opt-word .ensures & at-take-opt-float5 .take-opt-float5 .ensures & c .take-opt-float6 .ensures)
-    (λ p e i. record {
+    (λ p e i.
+    record {
       kind = e i .0;
       frequency = e i .1 .0;
       amplitude = e i .1 .1 .0;

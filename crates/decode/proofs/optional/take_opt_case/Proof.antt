@@ -17,7 +17,10 @@ take-byte-requires-2 : tie.Need-take-byte-requires-2
 take-byte-requires-2 c κs = search needs
 
 returns-2 : tie.Need-returns-2
-returns-2 c = laws.present (below _) (c .before .before .before .take-byte .ensures) (c .before .if1 .left) (c .take-byte2 .ensures .reads) (λ a e i. Present (e i))
+returns-2 c =
+    let at-take-byte = c .before .before .before in
+    laws.present (below _) (at-take-byte .take-byte .ensures) (c .before .if1 .left) (c .take-byte2 .ensures .reads)
+    (λ a e i. Present (e i))
 
 pub take-opt-case-spec : {M : Type 1} → statement M
 take-opt-case-spec = tie.close (tie.spec take-byte-requires returns take-byte-requires-2 returns-2)

@@ -17,7 +17,9 @@ take-damping-requires : tie.Need-take-damping-requires
 take-damping-requires c κs = search needs
 
 returns-2 : tie.Need-returns-2
-returns-2 c = laws.present dampingForm (c .before .before .before .take-byte .ensures) (c .before .if1 .left) (c .take-damping .ensures) (λ a e i. Present (e i))
+returns-2 c =
+    let at-take-byte = c .before .before .before in
+    laws.present dampingForm (at-take-byte .take-byte .ensures) (c .before .if1 .left) (c .take-damping .ensures) (λ a e i. Present (e i))
 
 pub take-opt-damping-spec : {M : Type 1} → statement M
 take-opt-damping-spec =

@@ -17,7 +17,9 @@ take-easing-requires : tie.Need-take-easing-requires
 take-easing-requires c κs = search needs
 
 returns-2 : tie.Need-returns-2
-returns-2 c = laws.present (easingForm _) (c .before .before .before .take-byte .ensures) (c .before .if1 .left) (c .take-easing .ensures) (λ a e i. Present (e i))
+returns-2 c =
+    let at-take-byte = c .before .before .before in
+    laws.present (easingForm _) (at-take-byte .take-byte .ensures) (c .before .if1 .left) (c .take-easing .ensures) (λ a e i. Present (e i))
 
 pub take-opt-easing-spec : {M : Type 1} → statement M
 take-opt-easing-spec =

@@ -17,7 +17,9 @@ take-flag-requires : tie.Need-take-flag-requires
 take-flag-requires c κs = search needs
 
 returns-2 : tie.Need-returns-2
-returns-2 c = laws.present flag (c .before .before .before .take-byte .ensures) (c .before .if1 .left) (c .take-flag .ensures) (λ a e i. Present (e i))
+returns-2 c =
+    let at-take-byte = c .before .before .before in
+    laws.present flag (at-take-byte .take-byte .ensures) (c .before .if1 .left) (c .take-flag .ensures) (λ a e i. Present (e i))
 
 pub take-opt-flag-spec : {M : Type 1} → statement M
 take-opt-flag-spec = tie.close (tie.spec take-byte-requires returns take-flag-requires returns-2)

@@ -17,7 +17,9 @@ take-float-requires : tie.Need-take-float-requires
 take-float-requires c κs = search needs
 
 returns-2 : tie.Need-returns-2
-returns-2 c = laws.present word (c .before .before .before .take-byte .ensures) (c .before .if1 .left) (c .take-float .ensures) (λ a e i. Present (e i))
+returns-2 c =
+    let at-take-byte = c .before .before .before in
+    laws.present word (at-take-byte .take-byte .ensures) (c .before .if1 .left) (c .take-float .ensures) (λ a e i. Present (e i))
 
 pub take-opt-float-spec : {M : Type 1} → statement M
 take-opt-float-spec = tie.close (tie.spec take-byte-requires returns take-float-requires returns-2)

@@ -17,7 +17,9 @@ take-loop-requires : tie.Need-take-loop-requires
 take-loop-requires c κs = search needs
 
 returns-2 : tie.Need-returns-2
-returns-2 c = laws.present loopForm (c .before .before .before .take-byte .ensures) (c .before .if1 .left) (c .take-loop .ensures) (λ a e i. Present (e i))
+returns-2 c =
+    let at-take-byte = c .before .before .before in
+    laws.present loopForm (at-take-byte .take-byte .ensures) (c .before .if1 .left) (c .take-loop .ensures) (λ a e i. Present (e i))
 
 pub take-opt-loop-spec : {M : Type 1} → statement M
 take-opt-loop-spec = tie.close (tie.spec take-byte-requires returns take-loop-requires returns-2)

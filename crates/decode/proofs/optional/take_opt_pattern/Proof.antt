@@ -17,7 +17,9 @@ take-pattern-requires : tie.Need-take-pattern-requires
 take-pattern-requires c κs = search needs
 
 returns-2 : tie.Need-returns-2
-returns-2 c = laws.present patternForm (c .before .before .before .take-byte .ensures) (c .before .if1 .left) (c .take-pattern .ensures) (λ a e i. Present (e i))
+returns-2 c =
+    let at-take-byte = c .before .before .before in
+    laws.present patternForm (at-take-byte .take-byte .ensures) (c .before .if1 .left) (c .take-pattern .ensures) (λ a e i. Present (e i))
 
 pub take-opt-pattern-spec : {M : Type 1} → statement M
 take-opt-pattern-spec =

@@ -26,7 +26,8 @@ returns-2 c =
     let at-take-float = c .before in
     let at-if1 = at-take-float .before in
     let at-take-byte = at-if1 .before .before in
-    laws.present (word ▹ word) (at-take-byte .take-byte .ensures) (at-if1 .if1 .left) (at-take-float .take-float .ensures & c .take-float2 .ensures) (λ a e i. Present (e i .0) (e i .1))
+    laws.present (word ▹ word) (at-take-byte .take-byte .ensures) (at-if1 .if1 .left)
+    (at-take-float .take-float .ensures & c .take-float2 .ensures) (λ a e i. Present (e i .0) (e i .1))
 
 pub take-opt-range-spec : {M : Type 1} → statement M
 take-opt-range-spec =

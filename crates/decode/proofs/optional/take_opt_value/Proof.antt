@@ -17,7 +17,9 @@ take-value-requires : tie.Need-take-value-requires
 take-value-requires c κs = search needs
 
 returns-2 : tie.Need-returns-2
-returns-2 c = laws.present valueForm (c .before .before .before .take-byte .ensures) (c .before .if1 .left) (c .take-value .ensures) (λ a e i. Present (e i))
+returns-2 c =
+    let at-take-byte = c .before .before .before in
+    laws.present valueForm (at-take-byte .take-byte .ensures) (c .before .if1 .left) (c .take-value .ensures) (λ a e i. Present (e i))
 
 pub take-opt-value-spec : {M : Type 1} → statement M
 take-opt-value-spec = tie.close (tie.spec take-byte-requires returns take-value-requires returns-2)

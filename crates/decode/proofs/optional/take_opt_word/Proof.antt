@@ -17,7 +17,9 @@ take-field-requires : tie.Need-take-field-requires
 take-field-requires c κs = search needs
 
 returns-2 : tie.Need-returns-2
-returns-2 c = laws.present word (c .before .before .before .take-byte .ensures) (c .before .if1 .left) (c .take-field .ensures .reads) (λ a e i. Present (e i))
+returns-2 c =
+    let at-take-byte = c .before .before .before in
+    laws.present word (at-take-byte .take-byte .ensures) (c .before .if1 .left) (c .take-field .ensures .reads) (λ a e i. Present (e i))
 
 pub take-opt-word-spec : {M : Type 1} → statement M
 take-opt-word-spec = tie.close (tie.spec take-byte-requires returns take-field-requires returns-2)

@@ -14,13 +14,21 @@ take-float-requires : tie.Need-take-float-requires
 take-float-requires c κs = search needs
 
 returns : tie.Need-returns
-returns c = laws.chosen timeCases splitTime 0 (c .before .before .before .take-byte .ensures .reads) (c .if1 .taken) (c .before .before .take-float .ensures) (λ x e i. time.Percent (e i))
+returns c =
+    let at-take-float = c .before .before in
+    let at-take-byte = at-take-float .before in
+    laws.chosen timeCases splitTime 0 (at-take-byte .take-byte .ensures .reads) (c .if1 .taken) (at-take-float .take-float .ensures)
+    (λ x e i. time.Percent (e i))
 
 returns-2 : tie.Need-returns-2
 returns-2 c =
     let at-take-float = c .before .before in
     let at-take-byte = at-take-float .before in
-    laws.chosen timeCases splitTime 1 (at-take-byte .take-byte .ensures .reads) (omega (arith, at-take-byte .take-byte .ensures .small, c .if1 .left)) (at-take-float .take-float .ensures) (λ x e i. time.Seconds (e i))
+    laws.chosen timeCases splitTime 1
+    (at-take-byte .take-byte .ensures .reads)
+    (omega (arith, at-take-byte .take-byte .ensures .small, c .if1 .left))
+    (at-take-float .take-float .ensures)
+    (λ x e i. time.Seconds (e i))
 
 pub take-time-spec : {M : Type 1} → statement M
 take-time-spec = tie.close (tie.spec take-byte-requires take-float-requires returns returns-2)

@@ -16,7 +16,10 @@ take-float-requires : tie.Need-take-float-requires
 take-float-requires c κs = search needs
 
 returns : tie.Need-returns
-returns c = laws.chosen values splitValue 0 (c .before .before .before .take-byte .ensures .reads) (c .before .if1 .taken) (c .take-float .ensures) (λ x e i. value.Scalar (e i))
+returns c =
+    let at-take-byte = c .before .before .before in
+    laws.chosen values splitValue 0 (at-take-byte .take-byte .ensures .reads) (c .before .if1 .taken) (c .take-float .ensures)
+    (λ x e i. value.Scalar (e i))
 
 take-field-requires : tie.Need-take-field-requires
 take-field-requires c κs = search needs
@@ -32,7 +35,8 @@ returns-2 c =
     let at-take-field = c .before .before in
     let at-if1 = at-take-field .before in
     let at-take-byte = at-if1 .before .before in
-    laws.chosen values splitValue 1 (at-take-byte .take-byte .ensures .reads) (omega (arith, at-take-byte .take-byte .ensures .small, at-if1 .if1 .left))
+    laws.chosen values splitValue 1 (at-take-byte .take-byte .ensures .reads)
+    (omega (arith, at-take-byte .take-byte .ensures .small, at-if1 .if1 .left))
     (laws.counted length (each word) (at-take-field .take-field .ensures .reads) (c .skip-words .ensures)) (λ x e i. value.Array (e i))
 
 pub take-value-spec : {M : Type 1} → statement M

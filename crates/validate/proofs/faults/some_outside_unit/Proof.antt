@@ -23,7 +23,11 @@ returns-2 : tie.Need-returns-2
 returns-2 c = rw (c .enum-told .given .1) tests.range-absent
 
 returns-3 : tie.Need-returns-3
-returns-3 c = rw (c .before .before .before .before .x .given .1) (tests.range-end (c .before .if1 .left) (c .before .before .is-outside-unit .ensures) (c .is-outside-unit2 .ensures))
+returns-3 c =
+    let at-is-outside-unit = c .before .before in
+    let at-x = at-is-outside-unit .before .before in
+    rw (at-x .x .given .1)
+    (tests.range-end (c .before .if1 .left) (at-is-outside-unit .is-outside-unit .ensures) (c .is-outside-unit2 .ensures))
 
 pub some-outside-unit-spec : {M : Type 1} → statement M
 some-outside-unit-spec =

@@ -17,10 +17,13 @@ validate-frames-requires : tie.Need-validate-frames-requires
 validate-frames-requires c κs = search needs
 
 returns-2 : tie.Need-returns-2
-returns-2 c = λ x h e.
-    let k : length (x .frames) ≡ c .before .before .before .before .before .args .spec .frames = ap (λ v. v .frames) e in
+returns-2 c =
+    let at-if1 = c .before .before in
+    let start = at-if1 .before .before .before in
+    λ x h e.
+    let k : length (x .frames) ≡ start .args .spec .frames = ap (λ v. v .frames) e in
     let w = rw k at (c .before .frames-at .ensures x h) in
-    c .validate-frames .ensures (x .frames) w ∙ frames.enough _ x _ e (c .before .before .if1 .left)
+    c .validate-frames .ensures (x .frames) w ∙ frames.enough _ x _ e (at-if1 .if1 .left)
 
 pub validate-keyframes-spec : {M : Type 1} → statement M
 validate-keyframes-spec =

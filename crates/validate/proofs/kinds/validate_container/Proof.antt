@@ -29,13 +29,27 @@ container-requires-3 : tie.Need-container-requires-3
 container-requires-3 c κs = search needs
 
 returns : tie.Need-returns
-returns c = λ t start b. rw (c .container .ensures) (kind-laws.group-record t b (c .before .before .before .match .keys1) (c .before .before .take-group .ensures))
+returns c =
+    let at-take-group = c .before .before in
+    let at-match = at-take-group .before in
+    λ t start b. rw (c .container .ensures) (kind-laws.group-record t b (at-match .match .keys1) (at-take-group .take-group .ensures))
 
 returns-2 : tie.Need-returns-2
-returns-2 c = λ t start b. rw (c .container2 .ensures) (kind-laws.stagger-record t b (c .before .validate-stagger .result) (c .before .before .before .before .match .keys2) (c .before .before .before .take-stagger .ensures) (c .before .validate-stagger .ensures))
+returns-2 c =
+    let at-take-stagger = c .before .before .before in
+    let at-match = at-take-stagger .before in
+    λ t start b. rw (c .container2 .ensures)
+    (kind-laws.stagger-record t b (c .before .validate-stagger .result) (at-match .match .keys2) (at-take-stagger .take-stagger .ensures)
+    (c .before .validate-stagger .ensures))
 
 returns-3 : tie.Need-returns-3
-returns-3 c = λ t start b. rw (c .container3 .ensures) (kind-laws.count-record t b (c .before .before .before .before .before .pre) (c .before .before .before .match .rest .0 .1) (c .before .before .before .match .rest .1) (c .before .before .take-field .ensures .reads))
+returns-3 c =
+    let at-take-field = c .before .before in
+    let at-match = at-take-field .before in
+    let start-2 = at-match .before .before in
+    λ t start b. rw (c .container3 .ensures)
+    (kind-laws.count-record t b (start-2 .pre) (at-match .match .rest .0 .1) (at-match .match .rest .1)
+    (at-take-field .take-field .ensures .reads))
 
 pub validate-container-spec : {M : Type 1} → statement M
 validate-container-spec =

@@ -1,4 +1,5 @@
--- `validate::kinds::validate_leaf` meets its contract: in each arm the kind is that arm's and the rules are those of its fields. Assumes nothing.
+-- `validate::kinds::validate_leaf` meets its contract: in each arm the kind is that arm's and the rules are those of its fields.
+-- Assumes nothing.
 use mathlib.Core.Path.{refl, sym}
 use lib.ListN.{length}
 use borrow.Author.Needs.{needs}
@@ -106,49 +107,122 @@ leaf-requires-11 c κs = search needs
 
 returns : tie.Need-returns
 unfolding validateLeaf
-returns c = λ start b. rw (c .leaf .ensures) (laws.chosen (kinds (length (c .before .before .before .before .before .before .args .text .now)) countForm) (splitNode _ _) 0 b (c .before .before .before .match .keys1) (c .before .before .take-tween .ensures) (λ x e. kind-laws.leaf-is (c .before .before .before .before .before .before .args .text .now) (tree.tween x) (c .before .validate-tween .ensures x e)))
+returns c =
+    let at-take-tween = c .before .before in
+    let at-match = at-take-tween .before in
+    let args = at-match .before .before .before .args in
+    λ start b. rw (c .leaf .ensures)
+    (laws.chosen (kinds (length (args .text .now)) countForm) (splitNode _ _) 0 b (at-match .match .keys1)
+    (at-take-tween .take-tween .ensures)
+    (λ x e. kind-laws.leaf-is (args .text .now) (tree.tween x) (c .before .validate-tween .ensures x e)))
 
 returns-2 : tie.Need-returns-2
 unfolding validateLeaf
-returns-2 c = λ start b. rw (c .leaf2 .ensures) (laws.chosen (kinds (length (c .before .before .before .before .before .before .args .text .now)) countForm) (splitNode _ _) 1 b (c .before .before .before .match .keys2) (c .before .before .take-spring .ensures) (λ x e. kind-laws.leaf-is (c .before .before .before .before .before .before .args .text .now) (tree.spring x) (c .before .validate-spring .ensures x e)))
+returns-2 c =
+    let at-take-spring = c .before .before in
+    let at-match = at-take-spring .before in
+    let args = at-match .before .before .before .args in
+    λ start b. rw (c .leaf2 .ensures)
+    (laws.chosen (kinds (length (args .text .now)) countForm) (splitNode _ _) 1 b (at-match .match .keys2)
+    (at-take-spring .take-spring .ensures)
+    (λ x e. kind-laws.leaf-is (args .text .now) (tree.spring x) (c .before .validate-spring .ensures x e)))
 
 returns-3 : tie.Need-returns-3
 unfolding validateLeaf
-returns-3 c = λ start b. rw (c .leaf3 .ensures) (laws.chosen (kinds (length (c .before .before .before .before .before .before .args .text .now)) countForm) (splitNode _ _) 2 b (c .before .before .before .match .keys3) (kind-laws.known (c .before .before .take-keyframes .ensures) (c .before .validate-keyframes .ensures)) (λ x e. kind-laws.leaf-is (c .before .before .before .before .before .before .args .text .now) (tree.keyframes x) (sym e)))
+returns-3 c =
+    let at-take-keyframes = c .before .before in
+    let at-match = at-take-keyframes .before in
+    let args = at-match .before .before .before .args in
+    λ start b. rw (c .leaf3 .ensures)
+    (laws.chosen (kinds (length (args .text .now)) countForm) (splitNode _ _) 2 b (at-match .match .keys3)
+    (kind-laws.known (at-take-keyframes .take-keyframes .ensures) (c .before .validate-keyframes .ensures))
+    (λ x e. kind-laws.leaf-is (args .text .now) (tree.keyframes x) (sym e)))
 
 returns-4 : tie.Need-returns-4
 unfolding validateLeaf
-returns-4 c = λ start b. rw (c .leaf4 .ensures) (laws.chosen (kinds (length (c .before .before .before .before .before .before .args .text .now)) countForm) (splitNode _ _) 7 b (c .before .before .before .match .keys4) (c .before .before .take-path .ensures) (λ x e. kind-laws.leaf-is (c .before .before .before .before .before .before .args .text .now) (tree.path x) (c .before .validate-path .ensures x e)))
+returns-4 c =
+    let at-take-path = c .before .before in
+    let at-match = at-take-path .before in
+    let args = at-match .before .before .before .args in
+    λ start b. rw (c .leaf4 .ensures)
+    (laws.chosen (kinds (length (args .text .now)) countForm) (splitNode _ _) 7 b (at-match .match .keys4)
+    (at-take-path .take-path .ensures) (λ x e. kind-laws.leaf-is (args .text .now) (tree.path x) (c .before .validate-path .ensures x e)))
 
 returns-5 : tie.Need-returns-5
 unfolding validateLeaf
-returns-5 c = λ start b. rw (c .leaf5 .ensures) (laws.chosen (kinds (length (c .before .before .before .before .before .before .args .text .now)) countForm) (splitNode _ _) 8 b (c .before .before .before .match .keys5) (c .before .before .take-morph .ensures) (λ x e. kind-laws.leaf-is (c .before .before .before .before .before .before .args .text .now) (tree.morph x) (c .before .validate-morph .ensures x e)))
+returns-5 c =
+    let at-take-morph = c .before .before in
+    let at-match = at-take-morph .before in
+    let args = at-match .before .before .before .args in
+    λ start b. rw (c .leaf5 .ensures)
+    (laws.chosen (kinds (length (args .text .now)) countForm) (splitNode _ _) 8 b (at-match .match .keys5)
+    (at-take-morph .take-morph .ensures)
+    (λ x e. kind-laws.leaf-is (args .text .now) (tree.morph x) (c .before .validate-morph .ensures x e)))
 
 returns-6 : tie.Need-returns-6
 unfolding validateLeaf
-returns-6 c = λ start b. rw (c .leaf6 .ensures) (laws.chosen (kinds (length (c .before .before .before .before .before .before .args .text .now)) countForm) (splitNode _ _) 9 b (c .before .before .before .match .keys6) (c .before .before .take-draw .ensures) (λ x e. kind-laws.leaf-is (c .before .before .before .before .before .before .args .text .now) (tree.draw x) (c .before .validate-draw .ensures x e)))
+returns-6 c =
+    let at-take-draw = c .before .before in
+    let at-match = at-take-draw .before in
+    let args = at-match .before .before .before .args in
+    λ start b. rw (c .leaf6 .ensures)
+    (laws.chosen (kinds (length (args .text .now)) countForm) (splitNode _ _) 9 b (at-match .match .keys6)
+    (at-take-draw .take-draw .ensures) (λ x e. kind-laws.leaf-is (args .text .now) (tree.draw x) (c .before .validate-draw .ensures x e)))
 
 returns-7 : tie.Need-returns-7
 unfolding validateLeaf
-returns-7 c = λ start b. rw (c .leaf7 .ensures) (laws.chosen (kinds (length (c .before .before .before .before .before .before .args .text .now)) countForm) (splitNode _ _) 10 b (c .before .before .before .match .keys7) (c .before .before .take-color .ensures) (λ x e. kind-laws.leaf-is (c .before .before .before .before .before .before .args .text .now) (tree.color x) (c .before .validate-color .ensures x e)))
+returns-7 c =
+    let at-take-color = c .before .before in
+    let at-match = at-take-color .before in
+    let args = at-match .before .before .before .args in
+    λ start b. rw (c .leaf7 .ensures)
+    (laws.chosen (kinds (length (args .text .now)) countForm) (splitNode _ _) 10 b (at-match .match .keys7)
+    (at-take-color .take-color .ensures)
+    (λ x e. kind-laws.leaf-is (args .text .now) (tree.color x) (c .before .validate-color .ensures x e)))
 
 returns-8 : tie.Need-returns-8
 unfolding validateLeaf
-returns-8 c = λ start b. rw (c .leaf8 .ensures) (laws.chosen (kinds (length (c .before .before .before .before .before .before .args .text .now)) countForm) (splitNode _ _) 11 b (c .before .before .before .match .keys8) (c .before .before .take-waveform .ensures) (λ x e. kind-laws.leaf-is (c .before .before .before .before .before .before .args .text .now) (tree.waveform x) (c .before .validate-waveform .ensures x e)))
+returns-8 c =
+    let at-take-waveform = c .before .before in
+    let at-match = at-take-waveform .before in
+    let args = at-match .before .before .before .args in
+    λ start b. rw (c .leaf8 .ensures)
+    (laws.chosen (kinds (length (args .text .now)) countForm) (splitNode _ _) 11 b (at-match .match .keys8)
+    (at-take-waveform .take-waveform .ensures)
+    (λ x e. kind-laws.leaf-is (args .text .now) (tree.waveform x) (c .before .validate-waveform .ensures x e)))
 
 returns-9 : tie.Need-returns-9
 unfolding validateLeaf
-returns-9 c = λ start b. rw (c .leaf9 .ensures) (laws.chosen (kinds (length (c .before .before .before .before .before .before .args .text .now)) countForm) (splitNode _ _) 12 b (c .before .before .before .match .keys9) (c .before .before .take-preset .ensures) (λ x e. kind-laws.leaf-is (c .before .before .before .before .before .before .args .text .now) (tree.preset x) (c .before .validate-preset-call .ensures x e)))
+returns-9 c =
+    let at-take-preset = c .before .before in
+    let at-match = at-take-preset .before in
+    let args = at-match .before .before .before .args in
+    λ start b. rw (c .leaf9 .ensures)
+    (laws.chosen (kinds (length (args .text .now)) countForm) (splitNode _ _) 12 b (at-match .match .keys9)
+    (at-take-preset .take-preset .ensures)
+    (λ x e. kind-laws.leaf-is (args .text .now) (tree.preset x) (c .before .validate-preset-call .ensures x e)))
 
 returns-10 : tie.Need-returns-10
 unfolding validateLeaf
-returns-10 c = λ start b. rw (c .leaf10 .ensures) (laws.chosen (kinds (length (c .before .before .before .before .before .args .text .now)) countForm) (splitNode _ _) 13 b (c .before .before .match .keys10) (c .before .take-span .ensures) (λ x e. kind-laws.leaf-is (c .before .before .before .before .before .args .text .now) (tree.label x) refl))
+returns-10 c =
+    let at-match = c .before .before in
+    let args = at-match .before .before .before .args in
+    λ start b. rw (c .leaf10 .ensures)
+    (laws.chosen (kinds (length (args .text .now)) countForm) (splitNode _ _) 13 b (at-match .match .keys10)
+    (c .before .take-span .ensures) (λ x e. kind-laws.leaf-is (args .text .now) (tree.label x) refl))
 
 returns-11 : tie.Need-returns-11
 unfolding validateLeaf
-returns-11 c = λ start b.
-    let m = c .before .before .match .rest in
-    rw (c .leaf11 .ensures) (laws.chosen (kinds (length (c .before .before .before .before .before .args .text .now)) countForm) (splitNode _ _) 14 b (kind-laws.last-kind _ (c .before .before .before .before .before .pre) (m .0 .0 .0 .0 .0 .0 .0 .0 .0 .1) (m .0 .0 .0 .0 .0 .0 .0 .0 .1) (m .0 .0 .0 .0 .0 .0 .0 .1) (m .0 .0 .0 .0 .0 .0 .1) (m .0 .0 .0 .0 .0 .1) (m .0 .0 .0 .0 .1) (m .0 .0 .0 .1) (m .0 .0 .1) (m .0 .1) (m .1)) (c .before .take-at .ensures) (λ x e. kind-laws.leaf-is (c .before .before .before .before .before .args .text .now) (tree.at x) refl))
+returns-11 c =
+    let at-match = c .before .before in
+    let start-2 = at-match .before .before .before in
+    λ start b.
+    let m = at-match .match .rest in
+    rw (c .leaf11 .ensures)
+    (laws.chosen (kinds (length (start-2 .args .text .now)) countForm) (splitNode _ _) 14 b
+    (kind-laws.last-kind _ (start-2 .pre) (m .0 .0 .0 .0 .0 .0 .0 .0 .0 .1) (m .0 .0 .0 .0 .0 .0 .0 .0 .1) (m .0 .0 .0 .0 .0 .0 .0 .1)
+    (m .0 .0 .0 .0 .0 .0 .1) (m .0 .0 .0 .0 .0 .1) (m .0 .0 .0 .0 .1) (m .0 .0 .0 .1) (m .0 .0 .1) (m .0 .1) (m .1))
+    (c .before .take-at .ensures) (λ x e. kind-laws.leaf-is (start-2 .args .text .now) (tree.at x) refl))
 
 pub validate-leaf-spec : {M : Type 1} → statement M
 validate-leaf-spec =

@@ -12,7 +12,9 @@ validate-container-requires : tie.Need-validate-container-requires
 validate-container-requires c κs = search needs
 
 validate-leaf-requires : tie.Need-validate-leaf-requires
-validate-leaf-requires c κs = ⊎-elim (λ w. (inl (omega arith), c .before .take-byte .ensures .small)) (λ w. (inr (omega arith), c .before .take-byte .ensures .small)) (c .if1 .came)
+validate-leaf-requires c κs =
+    ⊎-elim (λ w. (inl (omega arith), c .before .take-byte .ensures .small)) (λ w. (inr (omega arith), c .before .take-byte .ensures .small))
+    (c .if1 .came)
 
 returns : tie.Need-returns
 returns c = c .validate-container .ensures _ _ (c .before .before .before .take-byte .ensures .reads)

@@ -1,4 +1,5 @@
--- `validate::nodes::validate_node` and `validate_nodes` meet their contracts: bytes left fall; the loop keeps that what a walk says of the nodes left it says of all. Assumes nothing.
+-- `validate::nodes::validate_node` and `validate_nodes` meet their contracts: bytes left fall; the loop keeps that what a walk says of the
+-- nodes left it says of all. Assumes nothing.
 use Prim.Native.Nat.{ℕ, _+_, _*_, _-_, _≤_, _<_}
 use native.Mathlib.Omega.{arith}
 use lib.ListN.{length}
@@ -60,19 +61,25 @@ abbrev nodes-calls : ℕ → validate-nodes-lts.Claims
 nodes-calls t = (validate-node-below t, validate-node.Post)
 
 validate-node-returns : (t : ℕ) → validate-node-lts.Need-returns (node-calls t) (validate-node-at t) validate-node.Post
-validate-node-returns t c = record { on = (omega arith, c .before .before .before .pre .1); is = λ d x h. walks.no-node (c .before .before .before .args .text .now) _ (c .if1 .taken) d x h }
+validate-node-returns t c =
+    let start = c .before .before .before in
+    record { on = (omega arith, start .pre .1); is = λ d x h. walks.no-node (start .args .text .now) _ (c .if1 .taken) d x h }
 
-validate-node-validate-record-requires : (t : ℕ) → validate-node-lts.Need-validate-record-requires (node-calls t) (validate-node-at t) validate-node.Post
+validate-node-validate-record-requires : (t : ℕ)
+    → validate-node-lts.Need-validate-record-requires (node-calls t) (validate-node-at t) validate-node.Post
 validate-node-validate-record-requires t c κs = search needs
 
 validate-node-enum-known-fault : (t : ℕ) → validate-node-lts.Need-enum-known-fault (node-calls t) (validate-node-at t) validate-node.Post
 validate-node-enum-known-fault t c = search needs
 
 validate-node-returns-2 : (t : ℕ) → validate-node-lts.Need-returns-2 (node-calls t) (validate-node-at t) validate-node.Post
-validate-node-returns-2 t c = record {
-  on = tt;
-  is = λ d x h. walks.refused _ _ _ (walks.opens _ _ (rw (c .before .fault .given .1) at (c .before .before .before .validate-record .ensures)) d x h);
-}
+validate-node-returns-2 t c =
+    let at-validate-record = c .before .before .before in
+    record {
+      on = tt;
+      is = λ d x h. walks.refused _ _ _
+          (walks.opens _ _ (rw (c .before .fault .given .1) at (at-validate-record .validate-record .ensures)) d x h);
+    }
 
 validate-node-enum-told : (t : ℕ) → validate-node-lts.Need-enum-told (node-calls t) (validate-node-at t) validate-node.Post
 validate-node-enum-told t c = search needs
@@ -81,72 +88,144 @@ validate-node-enum-told-2 : (t : ℕ) → validate-node-lts.Need-enum-told-2 (no
 validate-node-enum-told-2 t c = search needs
 
 validate-node-add-t13 : (t : ℕ) → validate-node-lts.Need-add-t13 (node-calls t) (validate-node-at t) validate-node.Post
-validate-node-add-t13 t c = omega (arith, c .before .before .before .before .before .if1 .left, c .before .before .before .before .before .before .before .before .pre .1)
+validate-node-add-t13 t c =
+    let c4 = c .before .before .before .before in
+    let at-if1 = c4 .before in
+    let start = at-if1 .before .before .before in
+    omega (arith, at-if1 .if1 .left, start .pre .1)
 
 validate-node-enum-known-kind : (t : ℕ) → validate-node-lts.Need-enum-known-kind (node-calls t) (validate-node-at t) validate-node.Post
 validate-node-enum-known-kind t c = search needs
 
-validate-node-add-validate-nodes : (t : ℕ) → validate-node-lts.Need-add-validate-nodes (node-calls t) (validate-node-at t) validate-node.Post
-validate-node-add-validate-nodes t c = omega (arith, c .before .before .before .before .before .before .if1 .left, c .before .before .before .before .before .before .before .before .before .pre .1)
+validate-node-add-validate-nodes : (t : ℕ)
+    → validate-node-lts.Need-add-validate-nodes (node-calls t) (validate-node-at t) validate-node.Post
+validate-node-add-validate-nodes t c =
+    let c4 = c .before .before .before .before in
+    let at-if1 = c4 .before .before in
+    let start = at-if1 .before .before .before in
+    omega (arith, at-if1 .if1 .left, start .pre .1)
 
-validate-node-validate-nodes-requires : (t : ℕ) → validate-node-lts.Need-validate-nodes-requires (node-calls t) (validate-node-at t) validate-node.Post
+validate-node-validate-nodes-requires : (t : ℕ)
+    → validate-node-lts.Need-validate-nodes-requires (node-calls t) (validate-node-at t) validate-node.Post
 validate-node-validate-nodes-requires t c κs =
-    let m = moves _ (c .before .before .before .before .before .validate-record .ensures) (c .before .before .before .before .before .before .if1 .left) in
-    (omega (arith, m, c .before .before .before .before .before .before .if1 .left, c .before .before .before .before .before .before .before .before .before .pre .0), omega (arith, m, c .before .before .before .before .before .before .before .before .before .pre .1))
+    let c4 = c .before .before .before .before in
+    let at-validate-record = c4 .before in
+    let at-if1 = at-validate-record .before in
+    let pre = at-if1 .before .before .before .pre in
+    let m = moves _ (at-validate-record .validate-record .ensures) (at-if1 .if1 .left) in
+    (omega (arith, m, at-if1 .if1 .left, pre .0), omega (arith, m, pre .1))
 
 validate-node-returns-3 : (t : ℕ) → validate-node-lts.Need-returns-3 (node-calls t) (validate-node-at t) validate-node.Post
 validate-node-returns-3 t c =
-    let m = moves _ (c .before .before .before .before .validate-record .ensures) (c .before .before .before .before .before .if1 .left) in
+    let at-enum-told = c .before .before in
+    let at-validate-record = at-enum-told .before .before in
+    let at-if1 = at-validate-record .before in
+    let start = at-if1 .before .before .before in
+    let m = moves _ (at-validate-record .validate-record .ensures) (at-if1 .if1 .left) in
     record {
-      on = (nearer (c .before .before .before .before .validate-record .ensures), omega (arith, m, c .before .before .before .before .before .before .before .before .pre .1));
-      is = λ d x h. walks.clean-leaf _ _ _ (walks.opens _ _ (rw (c .before .before .enum-told .given .1, c .enum-told2 .given .1) at (c .before .before .before .before .validate-record .ensures)) d x h);
+      on = (nearer (at-validate-record .validate-record .ensures), omega (arith, m, start .pre .1));
+      is = λ d x h. walks.clean-leaf _ _ _
+          (walks.opens _ _
+          (rw (at-enum-told .enum-told .given .1, c .enum-told2 .given .1) at (at-validate-record .validate-record .ensures)) d x h);
     }
 
 validate-node-returns-4 : (t : ℕ) → validate-node-lts.Need-returns-4 (node-calls t) (validate-node-at t) validate-node.Post
-validate-node-returns-4 t c = record {
-  on = walks.onward _ _ _ (c .validate-nodes .result) (nearer (c .before .before .before .before .before .before .validate-record .ensures)) (c .validate-nodes .ensures .on);
-  is = λ d x h. walks.clean-box _ _ _ (h .rest) (c .validate-nodes .result) (walks.opens _ _ (rw (c .before .before .before .before .enum-told .given .1, c .before .before .kind .given .1) at (c .before .before .before .before .before .before .validate-record .ensures)) d x h) (c .validate-nodes .ensures .is);
-}
+validate-node-returns-4 t c =
+    let at-kind = c .before .before in
+    let at-enum-told = at-kind .before .before in
+    let validate-record = at-enum-told .before .before .validate-record in
+    record {
+      on = walks.onward _ _ _ (c .validate-nodes .result) (nearer (validate-record .ensures)) (c .validate-nodes .ensures .on);
+      is = λ d x h. walks.clean-box _ _ _ (h .rest) (c .validate-nodes .result)
+          (walks.opens _ _ (rw (at-enum-told .enum-told .given .1, at-kind .kind .given .1) at (validate-record .ensures)) d x h)
+          (c .validate-nodes .ensures .is);
+    }
 
 abbrev validate-nodes-Inv-loop : validate-nodes-lts.InvT-loop
-validate-nodes-Inv-loop text s at count ordinal a₀ o₀ k₀ a o k = (k ≤ count) × (o ≤ a + 1) × (length s - a ≤ length s - at) × walks.Going text s ordinal at count a o k
+validate-nodes-Inv-loop text s at count ordinal a₀ o₀ k₀ a o k =
+    (k ≤ count) × (o ≤ a + 1) × (length s - a ≤ length s - at) × walks.Going text s ordinal at count a o k
 
 abbrev validate-nodes-μ-loop : validate-nodes-lts.MeasureT-loop
 validate-nodes-μ-loop text s at count ordinal a₀ o₀ k₀ a o k = count - k
 
-validate-nodes-loop-holds : (t : ℕ) → validate-nodes-lts.Need-loop-holds (nodes-calls t) (validate-nodes-at t) validate-nodes.Post validate-nodes-Inv-loop validate-nodes-μ-loop
-validate-nodes-loop-holds t c = (omega arith, c .before .before .pre .1, omega arith, walks.going-start (c .before .before .args .text .now) (c .before .before .args .s .now) (c .before .before .args .ordinal) (c .before .before .args .at) (c .before .before .args .count))
+validate-nodes-loop-holds : (t : ℕ)
+    → validate-nodes-lts.Need-loop-holds (nodes-calls t) (validate-nodes-at t) validate-nodes.Post validate-nodes-Inv-loop
+    validate-nodes-μ-loop
+validate-nodes-loop-holds t c =
+    let start = c .before .before in
+    let args = start .args in
+    (omega arith, start .pre .1, omega arith, walks.going-start (args .text .now) (args .s .now) (args .ordinal) (args .at) (args .count))
 
-validate-nodes-validate-node-requires : (t : ℕ) → validate-nodes-lts.Need-validate-node-requires (nodes-calls t) (validate-nodes-at t) validate-nodes.Post validate-nodes-Inv-loop validate-nodes-μ-loop
-validate-nodes-validate-node-requires t c κs = (omega (arith, c .before .before .before .before .pre .0, c .before .loop .inv), c .before .loop .inv .1)
+validate-nodes-validate-node-requires : (t : ℕ)
+    → validate-nodes-lts.Need-validate-node-requires (nodes-calls t) (validate-nodes-at t) validate-nodes.Post validate-nodes-Inv-loop
+    validate-nodes-μ-loop
+validate-nodes-validate-node-requires t c κs =
+    let start = c .before .before .before .before in
+    (omega (arith, start .pre .0, c .before .loop .inv), c .before .loop .inv .1)
 
-validate-nodes-enum-known-w : (t : ℕ) → validate-nodes-lts.Need-enum-known-w (nodes-calls t) (validate-nodes-at t) validate-nodes.Post validate-nodes-Inv-loop validate-nodes-μ-loop
+validate-nodes-enum-known-w : (t : ℕ)
+    → validate-nodes-lts.Need-enum-known-w (nodes-calls t) (validate-nodes-at t) validate-nodes.Post validate-nodes-Inv-loop
+    validate-nodes-μ-loop
 validate-nodes-enum-known-w t c = search needs
 
-validate-nodes-enum-told : (t : ℕ) → validate-nodes-lts.Need-enum-told (nodes-calls t) (validate-nodes-at t) validate-nodes.Post validate-nodes-Inv-loop validate-nodes-μ-loop
+validate-nodes-enum-told : (t : ℕ)
+    → validate-nodes-lts.Need-enum-told (nodes-calls t) (validate-nodes-at t) validate-nodes.Post validate-nodes-Inv-loop
+    validate-nodes-μ-loop
 validate-nodes-enum-told t c = search needs
 
-validate-nodes-returns : (t : ℕ) → validate-nodes-lts.Need-returns (nodes-calls t) (validate-nodes-at t) validate-nodes.Post validate-nodes-Inv-loop validate-nodes-μ-loop
+validate-nodes-returns : (t : ℕ)
+    → validate-nodes-lts.Need-returns (nodes-calls t) (validate-nodes-at t) validate-nodes.Post validate-nodes-Inv-loop
+    validate-nodes-μ-loop
 validate-nodes-returns t c =
-    let w = rw (c .enum-told .given .1) at (c .before .before .validate-node .ensures) in
-    rw (c .enum-told .given .1) (record { on = tt; is = walks.going-refused _ _ _ _ _ (c .before .before .before .before .loop .inv .3) (c .before .before .before .loop-test .taken) w })
+    let at-validate-node = c .before .before in
+    let at-loop-test = at-validate-node .before in
+    let at-loop = at-loop-test .before in
+    let w = rw (c .enum-told .given .1) at (at-validate-node .validate-node .ensures) in
+    rw (c .enum-told .given .1)
+    (record { on = tt; is = walks.going-refused _ _ _ _ _ (at-loop .loop .inv .3) (at-loop-test .loop-test .taken) w })
 
-validate-nodes-add-k : (t : ℕ) → validate-nodes-lts.Need-add-k (nodes-calls t) (validate-nodes-at t) validate-nodes.Post validate-nodes-Inv-loop validate-nodes-μ-loop
+validate-nodes-add-k : (t : ℕ)
+    → validate-nodes-lts.Need-add-k (nodes-calls t) (validate-nodes-at t) validate-nodes.Post validate-nodes-Inv-loop validate-nodes-μ-loop
 validate-nodes-add-k t c = omega arith
 
-validate-nodes-loop-less : (t : ℕ) → validate-nodes-lts.Need-loop-less (nodes-calls t) (validate-nodes-at t) validate-nodes.Post validate-nodes-Inv-loop validate-nodes-μ-loop
+validate-nodes-loop-less : (t : ℕ)
+    → validate-nodes-lts.Need-loop-less (nodes-calls t) (validate-nodes-at t) validate-nodes.Post validate-nodes-Inv-loop
+    validate-nodes-μ-loop
 validate-nodes-loop-less t c = omega arith
 
-validate-nodes-loop-again : (t : ℕ) → validate-nodes-lts.Need-loop-again (nodes-calls t) (validate-nodes-at t) validate-nodes.Post validate-nodes-Inv-loop validate-nodes-μ-loop
+validate-nodes-loop-again : (t : ℕ)
+    → validate-nodes-lts.Need-loop-again (nodes-calls t) (validate-nodes-at t) validate-nodes.Post validate-nodes-Inv-loop
+    validate-nodes-μ-loop
 validate-nodes-loop-again t c =
-    let w = rw (c .before .w .given .1) at (c .before .before .before .validate-node .ensures) in
-    (omega arith, w .on .1, omega (arith, w .on .0, c .before .before .before .before .before .loop .inv .2), walks.going-next _ _ _ _ _ (c .before .before .before .before .before .loop .inv .3) (c .before .before .before .before .loop-test .taken) w)
+    let at-validate-node = c .before .before .before in
+    let at-loop-test = at-validate-node .before in
+    let loop = at-loop-test .before .loop in
+    let w = rw (c .before .w .given .1) at (at-validate-node .validate-node .ensures) in (
+      omega arith,
+      w .on .1,
+      omega (arith, w .on .0, loop .inv .2),
+      walks.going-next _ _ _ _ _ (loop .inv .3) (at-loop-test .loop-test .taken) w,
+    )
 
-validate-nodes-returns-2 : (t : ℕ) → validate-nodes-lts.Need-returns-2 (nodes-calls t) (validate-nodes-at t) validate-nodes.Post validate-nodes-Inv-loop validate-nodes-μ-loop
-validate-nodes-returns-2 t c = record {
-  on = (c .before .loop .inv .2, c .before .loop .inv .1);
-  is = walks.going-done (c .before .before .before .before .args .text .now) (c .before .before .before .before .args .s .now) (c .before .before .before .before .args .ordinal) (c .before .before .before .before .args .at) (c .before .before .before .before .args .count) {a = c .before .loop .a} {i = c .before .loop .o} {k = c .before .loop .k} (c .before .loop .inv .3) (c .loop-test .left);
-}
+validate-nodes-returns-2 : (t : ℕ)
+    → validate-nodes-lts.Need-returns-2 (nodes-calls t) (validate-nodes-at t) validate-nodes.Post validate-nodes-Inv-loop
+    validate-nodes-μ-loop
+validate-nodes-returns-2 t c =
+    let args = c .before .before .before .before .args in
+    record {
+      on = (c .before .loop .inv .2, c .before .loop .inv .1);
+      is = walks.going-done
+          (args .text .now)
+          (args .s .now)
+          (args .ordinal)
+          (args .at)
+          (args .count)
+          {a = c .before .loop .a}
+          {i = c .before .loop .o}
+          {k = c .before .loop .k}
+          (c .before .loop .inv .3)
+          (c .loop-test .left);
+    }
 
 pub +validate-node+validate-nodes-spec : {M : Type 1} → statement M
 +validate-node+validate-nodes-spec =

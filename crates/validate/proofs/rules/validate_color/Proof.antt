@@ -33,11 +33,24 @@ validate-easing-requires c κs = search needs
 
 returns : tie.Need-returns
 unfolding validateColor
-returns c = λ x e.
-    let t = c .before .before .before .before .before .before .before .before .before .before .args .text .now in
-    let f1 = rules.one OutOfRange (c .before .before .before .before .before .before .is-negative .ensures (x .duration) (ap (λ v. v .duration) e)) (c .before .before .before .before .before .rule .ensures) in
-    let f2 = rules.more _ InvalidColor f1 (ap not (c .before .before .before .before .is-valid-color .ensures ∙ sym (ap (λ v. isColor colors (part t (v .from .start) (v .from .size))) e))) (c .before .before .before .rule2 .ensures) in
-    let f3 = rules.more _ InvalidColor f2 (ap not (c .before .before .is-valid-color2 .ensures ∙ sym (ap (λ v. isColor colors (part t (v .to .start) (v .to .size))) e))) (c .before .rule3 .ensures) in
+returns c =
+    let at-is-valid-color2 = c .before .before in
+    let at-rule2 = at-is-valid-color2 .before in
+    let at-is-valid-color = at-rule2 .before in
+    let at-rule = at-is-valid-color .before in
+    let at-is-negative = at-rule .before in
+    let start = at-is-negative .before .before .before .before in
+    λ x e.
+    let t = start .args .text .now in
+    let f1 = rules.one OutOfRange (at-is-negative .is-negative .ensures (x .duration) (ap (λ v. v .duration) e)) (at-rule .rule .ensures) in
+    let f2 = rules.more _ InvalidColor f1
+    (ap not (at-is-valid-color .is-valid-color .ensures ∙ sym (ap (λ v. isColor colors (part t (v .from .start) (v .from .size))) e)))
+    (at-rule2 .rule2 .ensures)
+    in
+    let f3 = rules.more _ InvalidColor f2
+    (ap not (at-is-valid-color2 .is-valid-color2 .ensures ∙ sym (ap (λ v. isColor colors (part t (v .to .start) (v .to .size))) e)))
+    (c .before .rule3 .ensures)
+    in
     rules.more _ UnknownEasing f3 refl (c .validate-easing .ensures (x .easing) (ap (λ v. v .easing) e))
 
 pub validate-color-spec : {M : Type 1} → statement M

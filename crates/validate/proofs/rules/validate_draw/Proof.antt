@@ -18,8 +18,11 @@ validate-easing-requires c κs = search needs
 
 returns : tie.Need-returns
 unfolding validateDraw
-returns c = λ x e.
-    let f1 = rules.one OutOfRange (c .before .before .is-negative .ensures (x .duration) (ap (λ v. v .duration) e)) (c .before .rule .ensures) in
+returns c =
+    let at-is-negative = c .before .before in
+    λ x e.
+    let f1 = rules.one OutOfRange (at-is-negative .is-negative .ensures (x .duration) (ap (λ v. v .duration) e)) (c .before .rule .ensures)
+    in
     rules.more _ UnknownEasing f1 refl (c .validate-easing .ensures (x .easing) (ap (λ v. v .easing) e))
 
 pub validate-draw-spec : {M : Type 1} → statement M

@@ -22,8 +22,11 @@ validate-easing-requires c κs = search needs
 
 returns : tie.Need-returns
 unfolding validateMorph
-returns c = λ x e.
-    let f1 = rules.one OutOfRange (c .before .before .before .before .is-negative .ensures (x .duration) (ap (λ v. v .duration) e)) (c .before .before .before .rule .ensures) in
+returns c =
+    let at-rule = c .before .before .before in
+    let at-is-negative = at-rule .before in
+    λ x e.
+    let f1 = rules.one OutOfRange (at-is-negative .is-negative .ensures (x .duration) (ap (λ v. v .duration) e)) (at-rule .rule .ensures) in
     let f2 = rules.more _ OutOfRange f1 (sym (ap (λ v. eqb (v .samples) 0) e)) (c .before .rule2 .ensures) in
     rules.more _ UnknownEasing f2 refl (c .validate-easing .ensures (x .easing) (ap (λ v. v .easing) e))
 

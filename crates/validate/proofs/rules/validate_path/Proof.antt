@@ -24,9 +24,13 @@ rule-requires-2 c κs = search needs
 
 returns : tie.Need-returns
 unfolding validatePath
-returns c = λ x e.
-    let f1 = rules.one OutOfRange (c .before .before .before .before .is-negative .ensures (x .duration) (ap (λ v. v .duration) e)) (c .before .before .before .rule .ensures) in
-    let f2 = rules.more _ UnknownEasing f1 refl (c .before .before .validate-easing .ensures (x .easing) (ap (λ v. v .easing) e)) in
+returns c =
+    let at-validate-easing = c .before .before in
+    let at-rule = at-validate-easing .before in
+    let at-is-negative = at-rule .before in
+    λ x e.
+    let f1 = rules.one OutOfRange (at-is-negative .is-negative .ensures (x .duration) (ap (λ v. v .duration) e)) (at-rule .rule .ensures) in
+    let f2 = rules.more _ UnknownEasing f1 refl (at-validate-easing .validate-easing .ensures (x .easing) (ap (λ v. v .easing) e)) in
     rules.more _ OutOfRange f2 (c .before .some-outside-unit .ensures (x .offset) (ap (λ v. v .offset) e)) (c .rule2 .ensures)
 
 pub validate-path-spec : {M : Type 1} → statement M

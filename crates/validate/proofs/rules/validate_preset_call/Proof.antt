@@ -27,10 +27,18 @@ rule-requires-2 c κs = search needs
 
 returns : tie.Need-returns
 unfolding validatePresetCall
-returns c = λ x e.
-    let t = c .before .before .before .before .before .before .before .args .text .now in
-    let f1 = rules.one UnknownPreset (ap not (c .before .before .before .before .is-known-preset .ensures ∙ sym (ap (λ v. isPreset (part t (v .name .start) (v .name .size))) e))) (c .before .before .before .rule .ensures) in
-    let f2 = rules.more _ UnknownEasing f1 refl (c .before .before .validate-easing .ensures (x .easing) (ap (λ v. v .easing) e)) in
+returns c =
+    let at-validate-easing = c .before .before in
+    let at-rule = at-validate-easing .before in
+    let at-is-known-preset = at-rule .before in
+    let start = at-is-known-preset .before .before .before in
+    λ x e.
+    let t = start .args .text .now in
+    let f1 = rules.one UnknownPreset
+    (ap not (at-is-known-preset .is-known-preset .ensures ∙ sym (ap (λ v. isPreset (part t (v .name .start) (v .name .size))) e)))
+    (at-rule .rule .ensures)
+    in
+    let f2 = rules.more _ UnknownEasing f1 refl (at-validate-easing .validate-easing .ensures (x .easing) (ap (λ v. v .easing) e)) in
     rules.more _ OutOfRange f2 (c .before .some-negative .ensures (x .duration) (ap (λ v. v .duration) e)) (c .rule2 .ensures)
 
 pub validate-preset-call-spec : {M : Type 1} → statement M
