@@ -3,6 +3,7 @@ use Prim.Native.Nat.{ℕ, _+_, _*_, _-_, _^_, _≤_, _<_}
 use mathlib.Core.List.{List}
 use mathlib.Core.Path.{_≡_}
 use lib.ListN.{length}
+use Rattle.text.specs.Limits.{textLimit}
 use Rattle.codec.specs.Codec.{eachOut}
 use Rattle.ast.specs.Tree.{ValueExpr, array}
 use Rattle.sheet.specs.Sheet.{word, valueForm}
@@ -19,17 +20,17 @@ use Rattle.arrays.specs.declared.ValueRead.the-variants as value
 
 -- a text and a place in the sheet that leave room for every sum
 pub record Room (s : List ℕ) (out : ℕ) : Type 0 where
-  pub short : length s ≤ 16384
+  pub short : length s ≤ textLimit
   pub low : out < 2 ^ 30
 
 -- the same for what stands inside a record
 pub record Wide (s : List ℕ) (out : ℕ) : Type 0 where
-  pub short : length s ≤ 16384
+  pub short : length s ≤ textLimit
   pub low : out < 2 ^ 31
 
 -- the same for the elements of an array inside a record
 pub record Wider (s : List ℕ) (out : ℕ) : Type 0 where
-  pub short : length s ≤ 16384
+  pub short : length s ≤ textLimit
   pub low : out < 2 ^ 32
 
 -- the rule p takes a value from c to m, at least e bytes on, and its bytes are written from out to q: b becomes a.

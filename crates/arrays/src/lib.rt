@@ -39,7 +39,7 @@ fn array_items(text: &[u8], sheet: &mut [u8], c: Cursor, out: usize) -> ItemsRea
             FloatRead::Is(x, e) => {
                 at = encode::put_float(sheet, at, x);
                 n += 1;
-                let ate = cursor::eat(text, e, 44);
+                let ate = cursor::eat(text, e, b',');
                 m = ate.next;
                 if !ate.taken {
                     return ItemsRead::Is(n, at, m);
@@ -69,7 +69,7 @@ pub fn parse_value(text: &[u8], sheet: &mut [u8], c: Cursor, out: usize) -> Valu
     requires { ⌜ Ready (now text) c × Wide (now text) out ⌝ }
     ensures { λ r. ⌜ ValueMeans (now (text .entry)) (now (sheet .entry)) (now (sheet .exit)) c out r ⌝ }
 {
-    match cursor::mark(text, c, 91) {
+    match cursor::mark(text, c, b'[') {
         MarkRead::Is(m) => array_value(text, sheet, m, out),
         MarkRead::Missing(_) => match cursor::parse_float(text, c) {
             FloatRead::Refused(r, p) => ValueRead::Refused(r, p),

@@ -7,12 +7,13 @@ use mathlib.Core.List.{List}
 use mathlib.Core.Option.{some}
 use mathlib.Core.Path.{_≡_}
 use lib.ListN.{length, getElem?}
+use Rattle.text.specs.Limits.{textLimit}
 use Rattle.codec.specs.Codec.{never}
 use Rattle.number.specs.Time.{Key}
 use Rattle.ast.specs.Tree.{Leaf, Container, Nodes, MotionNode, single, holding, push, width, records, mapLeaf, mapTimes}
 use Rattle.sheet.specs.Sheet.{Node, nodeForm, forest, inner}
 use Rattle.encode.specs.Writes.{Writes}
-use Rattle.grammar.specs.Rule.{Rule, refused, give, _>>=_, seesByte, ends, theByte, repeat}
+use Rattle.grammar.specs.Rule.{Rule, refused, give, _>>=_, sees, ends, the, repeat}
 use Rattle.grammar.specs.Grammar.{stored, leaves, containers, aLeaf, aContainer, unknown, beginning, nodeBy, parseNode, nodesStep, block}
 use Rattle.cursor.specs.Means.{Ready, tokens, run, Took}
 use Rattle.cursor.specs.declared.Cursor.{Cursor}
@@ -97,20 +98,20 @@ BegunMeans e s b a c out p (begun.Refused r q) = (blk : Rule (Nodes Key)) → ru
 
 -- its `{`
 abbrev pub BlockMeans : List ℕ → Cursor → ℕ → BlockRead → Type 0
-BlockMeans s c d (opened.Is m) = Took 1 s c m (theByte 123) tt × (0 < d)
+BlockMeans s c d (opened.Is m) = Took 1 s c m (the "{") tt × (0 < d)
 BlockMeans s c d (opened.Refused r q) = run s c (block d) ≡ refused r q
 
 -- what the next token is to a list of nodes
 abbrev pub ItemMeans : List ℕ → Cursor → NodeItem → Type 0
 ItemMeans s c item.Ends = ends (tokens s c) ≡ true
-ItemMeans s c item.Passes = (ends (tokens s c) ≡ false) × (seesByte 59 (tokens s c) ≡ true)
-ItemMeans s c item.Starts = (ends (tokens s c) ≡ false) × (seesByte 59 (tokens s c) ≡ false)
+ItemMeans s c item.Passes = (ends (tokens s c) ≡ false) × (sees ";" (tokens s c) ≡ true)
+ItemMeans s c item.Starts = (ends (tokens s c) ≡ false) × (sees ";" (tokens s c) ≡ false)
 
 -- ---- nodes
 
 -- a text, and a place in the sheet that the text up to the cursor pays for, the head record left out
 pub record Reached (s : List ℕ) (c : Cursor) (out : ℕ) : Type 0 where
-  pub short : length s ≤ 16384
+  pub short : length s ≤ textLimit
   pub low : out ≤ 2 + 64 * c .at
 
 -- the sheet's node for a node of the grammar's tree

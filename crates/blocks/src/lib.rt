@@ -149,7 +149,7 @@ fn open_block(text: &[u8], c: Cursor, depth: usize) -> BlockRead
     requires { ⌜ Ready (now text) c ⌝ }
     ensures { λ r. ⌜ BlockMeans (now (text .entry)) c depth r ⌝ }
 {
-    match cursor::mark(text, c, 123) {
+    match cursor::mark(text, c, b'{') {
         MarkRead::Missing(p) => BlockRead::Refused(Refusal::Missing, p),
         MarkRead::Is(m) => {
             if depth == 0 {
@@ -174,7 +174,7 @@ fn item_of(c: Cursor) -> NodeItem
     if cursor::ends(c) {
         return NodeItem::Ends;
     }
-    if cursor::sees(c, 59) {
+    if cursor::sees(c, b';') {
         return NodeItem::Passes;
     }
     NodeItem::Starts

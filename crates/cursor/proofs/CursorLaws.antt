@@ -15,7 +15,7 @@ use Rattle.text.specs.Bytes.{bytes, part, among}
 use Rattle.text.specs.Words.{isSome}
 use Rattle.number.specs.Number.{Written, whole, bits}
 use Rattle.token.specs.Token.{Kind, name, number, quoted, mark, Token, token, tokensFrom, place, kind, isMark, rest}
-use Rattle.token.specs.Means.{Lexes, Small, kindOf, written}
+use Rattle.token.specs.Means.{Lexes, Small, kindOf, writtenOf}
 use Rattle.token.specs.declared.Number.{Number}
 use Rattle.token.specs.declared.Tok.the-variants.{Name, Num, Quoted}
 use Rattle.token.specs.Names.{isKeyword, unless, wordOf, nameOf, quoteOf}
@@ -218,24 +218,24 @@ pub no-number : (s : List ℕ) (c : Cursor) → Ready s c → seesByte 45 (token
 no-number s c r e k = rw (e, r .head .kind, k)
 
 module _ (s : List ℕ) (c m : Cursor) (b : Bool) (n : Number) (h : Numbers s c b n m) where
-  by-sign : (r : Refusal) (x : Bool) (v : Signed) → v ≡ sign x (written n)
+  by-sign : (r : Refusal) (x : Bool) (v : Signed) → v ≡ sign x (writtenOf n)
       → (us : List Token) → past x (tokens s c) ≡ us
-      → taken r v (notes s c) (tokens s c) ≡ got (x, written n) (notes s c) us
+      → taken r v (notes s c) (tokens s c) ≡ got (x, writtenOf n) (notes s c) us
   by-sign r false v e us q = rw (e, q)
   by-sign r true v e us q = rw (e, q)
 
-  whole-sign : (x : Bool) → n .point ≡ false → pointless (sign x (written n)) ≡ sign x (written n)
+  whole-sign : (x : Bool) → n .point ≡ false → pointless (sign x (writtenOf n)) ≡ sign x (writtenOf n)
   whole-sign false e = rw e
   whole-sign true e = rw e
 
-  whole-none : (x : Bool) → n .point ≡ true → pointless (sign x (written n)) ≡ absent
+  whole-none : (x : Bool) → n .point ≡ true → pointless (sign x (writtenOf n)) ≡ absent
   whole-none false e = rw e
   whole-none true e = rw e
 
-  pub took-number : (r : Refusal) → Took 1 s c m (signed seesNumber r) (b, written n)
+  pub took-number : (r : Refusal) → Took 1 s c m (signed seesNumber r) (b, writtenOf n)
   took-number r = record { is = by-sign r b _ (h .sees) _ (h .past) ∙ (rw (h .left)); low = h .low; ready = h .ready }
 
-  pub took-whole : (r : Refusal) → n .point ≡ false → Took 1 s c m (signed seesWhole r) (b, written n)
+  pub took-whole : (r : Refusal) → n .point ≡ false → Took 1 s c m (signed seesWhole r) (b, writtenOf n)
   took-whole r e = record {
     is = by-sign r b _ (ap pointless (h .sees) ∙ whole-sign b e) _ (h .past) ∙ (rw (h .left));
     low = h .low;

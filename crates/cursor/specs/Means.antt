@@ -11,7 +11,7 @@ use lib.Ieee.{isNan}
 use Rattle.text.specs.Bytes.{part}
 use Rattle.number.specs.Number.{Written, bits}
 use Rattle.token.specs.Token.{Token, tokensFrom, place, rest}
-use Rattle.token.specs.Means.{Lexes, Small, written, kindOf}
+use Rattle.token.specs.Means.{Lexes, Small, writtenOf, kindOf}
 use Rattle.token.specs.declared.Number.{Number}
 use Rattle.token.specs.declared.Tok.{Tok}
 use Rattle.token.specs.declared.Tok.the-variants as tok
@@ -113,7 +113,7 @@ past false ts = rest ts
 past true ts = rest (rest ts)
 
 pub record Numbers (s : List ℕ) (c : Cursor) (b : Bool) (n : Number) (m : Cursor) : Type 0 where
-  pub sees : seesNumber (tokens s c) ≡ sign b (written n)
+  pub sees : seesNumber (tokens s c) ≡ sign b (writtenOf n)
   pub past : past b (tokens s c) ≡ tokens s m
   pub left : m .left ≡ c .left
   pub low : c .at + 1 ≤ m .at

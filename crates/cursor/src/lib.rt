@@ -8,7 +8,7 @@ ghost use Rattle.text.specs.Words.{table};
 ghost use Rattle.token.specs.Token.{tokensFrom, isMark};
 ghost use Rattle.token.specs.Means.{kindOf};
 ghost use Rattle.number.specs.Number.{nearest};
-ghost use Rattle.token.specs.Means.{written};
+ghost use Rattle.token.specs.Means.{writtenOf};
 ghost use Rattle.grammar.specs.Rule.{seesByte, seesPair, seesBytes, seesName, isEnd, ends, theByte, bothBytes, eatByte, word, text as quotedText, choiceIn, weigh, behind, firstOf, leave};
 ghost use Rattle.grammar.specs.Values.{parseFloat, parseUint, truth};
 ghost use Rattle.cursor.specs.Means.{leftOf, Ready, Took, Follows, Behind, passOf, NumberView, MarkMeans, WordMeans, StringMeans, NumberMeans, FloatMeans, UintMeans, TruthMeans, CaseMeans};
@@ -315,7 +315,7 @@ pub fn number(text: &[u8], c: Cursor) -> NumberRead
     ensures { λ r. ⌜ NumberMeans (now (text .entry)) c r ⌝ }
 {
     let head = c.head;
-    if sees(c, 45) {
+    if sees(c, b'-') {
         let m = advance(text, c);
         let second = m.head;
         let k = second.tok;

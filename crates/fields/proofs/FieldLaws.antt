@@ -19,7 +19,7 @@ use Rattle.token.specs.declared.Tok.the-variants.{Name, Num, Quoted, Mark}
 use Rattle.error.specs.declared.Refusal.{Refusal}
 use Rattle.error.specs.declared.Refusal.the-variants.{Missing}
 use Rattle.grammar.specs.Rule.{isWord, seesBytes, word, Notes, Out, got, refused, after, Rule, Next}
-use Rattle.grammar.specs.Rule.{more, done, next, steps, listStep, eat, goOn, give, _>>=_, ends}
+use Rattle.grammar.specs.Rule.{more, done, next, iterate, listStep, eat, goOn, give, _>>=_, ends}
 use Rattle.grammar.specs.Fields.{Item, halts, closes, passes, starts, itemOf, Table, Fields, Entry, Content, rowOf}
 use Rattle.grammar.specs.Fields.{fieldHead, fieldValue, fieldName, pairName, entry, oneField, fieldsStep, onePair}
 use Rattle.cursor.specs.Means.{Ready, notes, tokens, run, Took, Follows, WordMeans, spelled}
@@ -103,9 +103,9 @@ not-passes e = let z : _≡_ {A = ℕ} 0 1 = cc in omega arith
 
 -- with some steps left there is one
 pub by-step : {A : Type 0} (step : A → Rule (Next A)) (a : A) (s : List ℕ) (c : Cursor) (out : Out A) → Ready s c
-    → ((k : ℕ) → length s < c .at + suc k → after (step a (notes s c) (tokens s c)) (next (λ b. steps step k b)) ≡ out)
+    → ((k : ℕ) → length s < c .at + suc k → after (step a (notes s c) (tokens s c)) (next (λ b. iterate step k b)) ≡ out)
     → Gives step s c a out
-unfolding steps
+unfolding iterate
 by-step step a s c out r h zero l = absurd (let z = r .high in omega arith)
 by-step step a s c out r h (suc k) l = h k l
 
@@ -151,7 +151,7 @@ module _ (s : List ℕ) (t : Table) (c : Cursor) (r : Ready s c) where
     ready = f .took .ready;
     goes = λ fs out h. by-step (fieldsStep t) fs s c out r
         (λ k l. rw (e, f .took .is)
-        (after-more fs (λ gs. steps (fieldsStep t) k gs) (run s m (fieldValue (f .row))) ∙ h k (let a = f .took .low in omega arith)));
+        (after-more fs (λ gs. iterate (fieldsStep t) k gs) (run s m (fieldValue (f .row))) ∙ h k (let a = f .took .low in omega arith)));
   }
 
 -- a field behind what was passed before it
@@ -198,7 +198,7 @@ module _ (s : List ℕ) (t : Table) (c : Cursor) (r : Ready s c) where
     ready = f .took .ready;
     goes = λ fs out h. by-step (listStep (onePair t)) fs s c out r
         (λ k l. rw (e, f .took .is)
-        (after-pair fs (λ gs. steps (listStep (onePair t)) k gs) (run s m (fieldValue (f .row)))
+        (after-pair fs (λ gs. iterate (listStep (onePair t)) k gs) (run s m (fieldValue (f .row)))
         ∙ h k (let a = f .took .low in omega arith)));
   }
 

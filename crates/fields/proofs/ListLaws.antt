@@ -8,7 +8,7 @@ use native.Mathlib.Omega.{arith}
 use lib.ListN.{length}
 use Rattle.text.specs.Bytes.{bytes}
 use Rattle.error.specs.declared.Refusal.{Refusal}
-use Rattle.grammar.specs.Rule.{Out, got, refused, Rule, Next, steps, repeat, listStep, eatByte}
+use Rattle.grammar.specs.Rule.{Out, got, refused, Rule, Next, iterate, repeat, listStep, eatByte}
 use Rattle.grammar.specs.Fields.{Table, Fields, Content, fieldValue, fieldsStep, onePair, pairs, parseFieldList}
 use Rattle.cursor.specs.Means.{Ready, notes, tokens, run, Took}
 use Rattle.cursor.specs.declared.Cursor.{Cursor}

@@ -11,7 +11,7 @@ use Rattle.token.specs.Token.{Token}
 use Rattle.ast.specs.declared.Span.{Span}
 use Rattle.error.specs.declared.Refusal.{Refusal}
 use Rattle.error.specs.declared.Refusal.the-variants as cause
-use Rattle.grammar.specs.Rule.{Notes, Out, got, refused, after, Rule, Next, next, steps, listStep, eat, goOn, give, _>>=_, _>>_, the, need}
+use Rattle.grammar.specs.Rule.{Notes, Out, got, refused, after, Rule, Next, next, iterate, listStep, eat, goOn, give, _>>=_, _>>_, the, need}
 use Rattle.grammar.specs.Fields as fields
 use Rattle.grammar.specs.Fields.{Table, Fields, Entry, Content, rowOf, fieldHead, fieldValue}
 use Rattle.grammar.specs.Fields.{fieldName, pairName, fieldsStep, onePair, parseFieldList, pairs}
@@ -64,7 +64,7 @@ StartMeans s p c t (found.Refused r q) = run s c (fieldHead p t) ≡ refused r q
 
 -- the list that has fs so far gives `out`
 abbrev pub Gives : {A : Type 0} → (A → Rule (Next A)) → List ℕ → Cursor → A → Out A → Type 0
-Gives step s c a out = (k : ℕ) → length s < c .at + k → steps step k a (notes s c) (tokens s c) ≡ out
+Gives step s c a out = (k : ℕ) → length s < c .at + k → iterate step k a (notes s c) (tokens s c) ≡ out
 
 -- the value of a row stands at m, and the list goes on behind it: if that gives `out`, so does the list from c
 pub record FieldAt (s : List ℕ) (c : Cursor) (t : Table) (i : ℕ) (m : Cursor) : Type 0 where
@@ -73,7 +73,7 @@ pub record FieldAt (s : List ℕ) (c : Cursor) (t : Table) (i : ℕ) (m : Cursor
   pub low : c .at + 1 ≤ m .at
   pub ready : Ready s m
   pub goes : (fs : Fields) (out : Out Fields)
-      → ((k : ℕ) → length s < m .at + k → after (run s m (fieldValue row)) (λ e. steps (fieldsStep t) k (e ∷ fs)) ≡ out)
+      → ((k : ℕ) → length s < m .at + k → after (run s m (fieldValue row)) (λ e. iterate (fieldsStep t) k (e ∷ fs)) ≡ out)
       → Gives (fieldsStep t) s c fs out
 
 -- parse_field_list
@@ -91,7 +91,7 @@ pub record PairAt (s : List ℕ) (c : Cursor) (t : Table) (i : ℕ) (m : Cursor)
   pub ready : Ready s m
   pub goes : (fs : Fields) (out : Out Fields)
       → ((k : ℕ) → length s < m .at + k
-      → after (run s m (fieldValue row)) (λ e. eat "," >>= λ b. next (λ gs. steps (listStep (onePair t)) k gs) (goOn b (e ∷ fs))) ≡ out)
+      → after (run s m (fieldValue row)) (λ e. eat "," >>= λ b. next (λ gs. iterate (listStep (onePair t)) k gs) (goOn b (e ∷ fs))) ≡ out)
       → Gives (listStep (onePair t)) s c fs out
 
 abbrev pub PairMeans : List ℕ → Cursor → Table → NextField → Type 0

@@ -38,10 +38,10 @@ fn item_of(k: Tok) -> Item
             if text::has(b"\0)]}{", b) {
                 return Item::Halts;
             }
-            if b == 44 {
+            if b == b',' {
                 return Item::Passes;
             }
-            if b == 59 {
+            if b == b';' {
                 return Item::Closes;
             }
             Item::Starts
@@ -73,7 +73,7 @@ fn after_name(text: &[u8], name: Span, c: Cursor, rows: &[u8]) -> NextField
     requires { ⌜ Ready (now text) c ⌝ }
     ensures { λ r. ⌜ ((t : Table) → names t ≡ table (now (rows .entry)) → HeadMeans (now (text .entry)) name c t r) ⌝ }
 {
-    match cursor::mark(text, c, 58) {
+    match cursor::mark(text, c, b':') {
         MarkRead::Missing(p) => NextField::Refused(Refusal::Missing, p),
         MarkRead::Is(m) => match text::find(rows, text::part(text, name.start, name.size)) {
             text::Found::At(i) => NextField::Field(i, m),

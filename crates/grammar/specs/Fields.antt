@@ -1,5 +1,6 @@
 -- parser.rs, "Field-list helper": lists of fields, and what such a list says. Assumes nothing.
 use Prim.Native.Nat.{ℕ}
+use Prim.Native.Char.{code}
 use Prim.Native.String.{String}
 use mathlib.Core.Bool.{Bool, true, false, _||_, cond}
 use mathlib.Core.List.{List, [], _∷_}
@@ -108,7 +109,7 @@ unfoldable pub itemOf : Kind → Item
 itemOf (name w) = starts
 itemOf (number w) = starts
 itemOf (quoted n) = starts
-itemOf (mark b) = cond (oneOf (0 ∷ 41 ∷ 93 ∷ 125 ∷ 123 ∷ []) b) halts (cond (eqb b 44) passes (cond (eqb b 59) closes starts))
+itemOf (mark b) = cond (oneOf (0 ∷ bytes ")]}{") b) halts (cond (eqb b (code ",")) passes (cond (eqb b (code ";")) closes starts))
 
 -- "`loop` is a mark of its own"
 unfoldable pub fieldName : Rule (List ℕ)
@@ -140,26 +141,26 @@ last f (e ∷ es) = orElse (f e) (last f es)
 abbrev pub called : {A : Type 0} → String → (Content → Option A) → Entry → Option A
 called s f e = cond (same (e .0) (bytes s)) (f (e .1)) none
 
-abbrev pub numberOf : String → Fields → Option ℕ
-numberOf s fs = last (called s (λ c. c .number)) fs
+abbrev pub lastNumber : String → Fields → Option ℕ
+lastNumber s fs = last (called s (λ c. c .number)) fs
 
-abbrev pub truthOf : String → Fields → Option Bool
-truthOf s fs = last (called s (λ c. c .truth)) fs
+abbrev pub lastTruth : String → Fields → Option Bool
+lastTruth s fs = last (called s (λ c. c .truth)) fs
 
-abbrev pub easingOf : Fields → Option EasingSpec
-easingOf fs = last (λ e. e .1 .easing) fs
+abbrev pub lastEasing : Fields → Option EasingSpec
+lastEasing fs = last (λ e. e .1 .easing) fs
 
-abbrev pub loopModeOf : Fields → Option LoopSpec
-loopModeOf fs = last (λ e. e .1 .loopMode) fs
+abbrev pub lastLoopMode : Fields → Option LoopSpec
+lastLoopMode fs = last (λ e. e .1 .loopMode) fs
 
-abbrev pub valueOf : Fields → Option ValueExpr
-valueOf fs = last (λ e. e .1 .value) fs
+abbrev pub lastValue : Fields → Option ValueExpr
+lastValue fs = last (λ e. e .1 .value) fs
 
-abbrev pub dampingOf : Fields → Option DampingMode
-dampingOf fs = last (λ e. e .1 .damping) fs
+abbrev pub lastDamping : Fields → Option DampingMode
+lastDamping fs = last (λ e. e .1 .damping) fs
 
-abbrev pub rangeOf : Fields → Option (ℕ × ℕ)
-rangeOf fs = last (λ e. e .1 .range) fs
+abbrev pub lastRange : Fields → Option (ℕ × ℕ)
+lastRange fs = last (λ e. e .1 .range) fs
 
 abbrev pub isTrue : Option Bool → Bool
 isTrue none = false

@@ -37,7 +37,7 @@ use Rattle.ast.specs.Tree.{
   append,
 }
 use Rattle.grammar.specs.Fields.{Content, aNumber, aDamping, aRange, Table, pairs, parseFieldList}
-use Rattle.grammar.specs.Fields.{numberOf, truthOf, easingOf, loopModeOf, valueOf, dampingOf, rangeOf, ever}
+use Rattle.grammar.specs.Fields.{lastNumber, lastTruth, lastEasing, lastLoopMode, lastValue, lastDamping, lastRange, ever}
 use Rattle.grammar.specs.Values.{ident, string, parseFloat, parseUint, parseFloatInParens, parseTwoFloatsInParens}
 use Rattle.grammar.specs.Values.{parseValue, f32Of, parseEasing, parseLoopMode, number, count, flag, value, easing, loopMode}
 use Rattle.grammar.specs.Rule.{Rule, _>>=_, _>>_, give, refuse, need, if, sees, seesWord, seesName, seesNumber, ends}
@@ -62,18 +62,18 @@ parseTween = do
   both "=" ">"
   to ← parseValue
   fs ← parseFieldList tweenFields []
-  duration ← need MissingDuration (numberOf "duration" fs)
+  duration ← need MissingDuration (lastNumber "duration" fs)
   give (Leaf.tween (record {
     target = target;
     from = from;
     to = to;
     duration = duration;
-    easing = easingOf fs;
-    delay = numberOf "delay" fs;
-    timeScale = numberOf "time_scale" fs;
-    loopMode = loopModeOf fs;
-    snap = numberOf "snap" fs;
-    round = numberOf "round" fs;
+    easing = lastEasing fs;
+    delay = lastNumber "delay" fs;
+    timeScale = lastNumber "time_scale" fs;
+    loopMode = lastLoopMode fs;
+    snap = lastNumber "snap" fs;
+    round = lastNumber "round" fs;
     reverse = ever "reverse" fs;
   }))
 
@@ -89,22 +89,22 @@ springPreset = parseSpringPreset >>= λ k. give (aNumber k)
 unfoldable pub integrator : Rule Content
 integrator = choice Malformed ("semi_implicit_euler" ∷ "rk4" ∷ []) >>= λ k. give (aNumber k)
 
-unfoldable pub critical : Rule Content
-critical = parseFloatInParens >>= λ s. give (aDamping (criticallyDamped s))
+unfoldable pub criticalDamping : Rule Content
+criticalDamping = parseFloatInParens >>= λ s. give (aDamping (criticallyDamped s))
 
-unfoldable pub over : Rule Content
-over = parseTwoFloatsInParens >>= λ p. give (aDamping (overdamped (p .0) (p .1)))
+unfoldable pub overDamping : Rule Content
+overDamping = parseTwoFloatsInParens >>= λ p. give (aDamping (overdamped (p .0) (p .1)))
 
-unfoldable pub under : Rule Content
-under = parseTwoFloatsInParens >>= λ p. give (aDamping (underdamped (p .0) (p .1)))
+unfoldable pub underDamping : Rule Content
+underDamping = parseTwoFloatsInParens >>= λ p. give (aDamping (underdamped (p .0) (p .1)))
 
 unfoldable pub springFields : Table
 springFields =
     ("preset", springPreset) ∷ ("stiffness", number) ∷ ("damping", number)
     ∷ ("mass", number) ∷ ("velocity", value) ∷ ("epsilon", number)
-    ∷ ("integrator", integrator) ∷ ("critically_damped", critical)
-    ∷ ("overdamped", over)
-    ∷ ("underdamped", under) ∷ []
+    ∷ ("integrator", integrator) ∷ ("critically_damped", criticalDamping)
+    ∷ ("overdamped", overDamping)
+    ∷ ("underdamped", underDamping) ∷ []
 
 -- parse_spring
 unfoldable pub parseSpring : Rule (Leaf Key)
@@ -119,14 +119,14 @@ parseSpring = do
     target = target;
     from = from;
     to = to;
-    preset = numberOf "preset" fs;
-    stiffness = numberOf "stiffness" fs;
-    damping = numberOf "damping" fs;
-    mass = numberOf "mass" fs;
-    velocity = valueOf fs;
-    epsilon = numberOf "epsilon" fs;
-    integrator = numberOf "integrator" fs;
-    dampingMode = dampingOf fs;
+    preset = lastNumber "preset" fs;
+    stiffness = lastNumber "stiffness" fs;
+    damping = lastNumber "damping" fs;
+    mass = lastNumber "mass" fs;
+    velocity = lastValue fs;
+    epsilon = lastNumber "epsilon" fs;
+    integrator = lastNumber "integrator" fs;
+    dampingMode = lastDamping fs;
   }))
 
 -- ---- keyframes
@@ -215,9 +215,9 @@ gridFields = ("cols", count) ∷ ("rows", count) ∷ ("origin", origin) ∷ []
 unfoldable pub gridPattern : Rule StaggerPatternSpec
 gridPattern = inside "(" (do
   fs ← pairs gridFields
-  cols ← need StaggerGridIncomplete (numberOf "cols" fs)
-  rows ← need StaggerGridIncomplete (numberOf "rows" fs)
-  give (grid cols rows (default (numberOf "origin" fs) 4)))
+  cols ← need StaggerGridIncomplete (lastNumber "cols" fs)
+  rows ← need StaggerGridIncomplete (lastNumber "rows" fs)
+  give (grid cols rows (default (lastNumber "origin" fs) 4)))
 
 unfoldable pub randomFields : Table
 randomFields = ("seed", count) ∷ ("min", number) ∷ ("max", number) ∷ []
@@ -226,7 +226,7 @@ randomFields = ("seed", count) ∷ ("min", number) ∷ ("max", number) ∷ []
 unfoldable pub randomPattern : Rule StaggerPatternSpec
 randomPattern = do
   fs ← inside "(" (pairs randomFields)
-  give (random (default (numberOf "seed" fs) 0) (default (numberOf "min" fs) (f32Of 0 1)) (default (numberOf "max" fs) (f32Of 1 10)))
+  give (random (default (lastNumber "seed" fs) 0) (default (lastNumber "min" fs) (f32Of 0 1)) (default (lastNumber "max" fs) (f32Of 1 10)))
 
 unfoldable pub patterns : List (String × Rule StaggerPatternSpec)
 patterns = ("grid", gridPattern) ∷ ("random", randomPattern) ∷ ("center_out", give centerOut) ∷ ("edges_in", give edgesIn) ∷ []
@@ -287,15 +287,15 @@ parsePath = do
   choice Malformed ("along" ∷ [])
   svg ← string
   fs ← parseFieldList pathFields []
-  duration ← need MissingDuration (numberOf "duration" fs)
+  duration ← need MissingDuration (lastNumber "duration" fs)
   give (Leaf.path (record {
     target = target;
     svg = svg;
     duration = duration;
-    easing = easingOf fs;
-    autoRotate = truthOf "auto_rotate" fs;
-    offset = rangeOf fs;
-    loopMode = loopModeOf fs;
+    easing = lastEasing fs;
+    autoRotate = lastTruth "auto_rotate" fs;
+    offset = lastRange fs;
+    loopMode = lastLoopMode fs;
   }))
 
 unfoldable pub morphFields : Table
@@ -308,13 +308,13 @@ parseMorph = do
   both "=" ">"
   to ← string
   fs ← parseFieldList morphFields []
-  duration ← need MissingDuration (numberOf "duration" fs)
+  duration ← need MissingDuration (lastNumber "duration" fs)
   give (Leaf.morph (record {
     from = from;
     to = to;
-    samples = default (numberOf "samples" fs) 32;
+    samples = default (lastNumber "samples" fs) 32;
     duration = duration;
-    easing = easingOf fs;
+    easing = lastEasing fs;
   }))
 
 -- the fields of draw, and of preset
@@ -326,8 +326,8 @@ unfoldable pub parseDraw : Rule (Leaf Key)
 parseDraw = do
   svg ← string
   fs ← parseFieldList drawFields []
-  duration ← need MissingDuration (numberOf "duration" fs)
-  give (Leaf.draw (record { svg = svg; duration = duration; easing = easingOf fs }))
+  duration ← need MissingDuration (lastNumber "duration" fs)
+  give (Leaf.draw (record { svg = svg; duration = duration; easing = lastEasing fs }))
 
 -- ---- color
 
@@ -346,14 +346,14 @@ parseColor = do
   both "=" ">"
   to ← string
   fs ← parseFieldList colorFields []
-  duration ← need MissingDuration (numberOf "duration" fs)
+  duration ← need MissingDuration (lastNumber "duration" fs)
   give (Leaf.color (record {
     target = target;
     from = from;
     to = to;
     duration = duration;
-    space = default (numberOf "space" fs) 0;
-    easing = easingOf fs;
+    space = default (lastNumber "space" fs) 0;
+    easing = lastEasing fs;
   }))
 
 -- ---- waveform
@@ -374,13 +374,13 @@ parseWaveform = do
   fs ← parseFieldList waveformFields []
   give (Leaf.waveform (record {
     kind = kind;
-    frequency = numberOf "frequency" fs;
-    amplitude = numberOf "amplitude" fs;
-    phase = numberOf "phase" fs;
-    dutyCycle = numberOf "duty_cycle" fs;
-    seed = numberOf "seed" fs;
-    smoothness = numberOf "smoothness" fs;
-    duration = numberOf "duration" fs;
+    frequency = lastNumber "frequency" fs;
+    amplitude = lastNumber "amplitude" fs;
+    phase = lastNumber "phase" fs;
+    dutyCycle = lastNumber "duty_cycle" fs;
+    seed = lastNumber "seed" fs;
+    smoothness = lastNumber "smoothness" fs;
+    duration = lastNumber "duration" fs;
   }))
 
 -- ---- preset, label, at
@@ -391,7 +391,7 @@ parsePresetCall = do
   name ← ident
   fs ← if (sees "(") (inside "(" (pairs drawFields)) (give [])
   gs ← if (sees ",") (skip >> parseFieldList drawFields fs) (give fs)
-  give (Leaf.preset (record { name = name; duration = numberOf "duration" gs; easing = easingOf gs }))
+  give (Leaf.preset (record { name = name; duration = lastNumber "duration" gs; easing = lastEasing gs }))
 
 -- parse_label
 unfoldable pub parseLabel : Rule (Leaf Key)

@@ -74,7 +74,7 @@ abbrev pub isEnd : Kind → Bool
 isEnd (name w) = false
 isEnd (number w) = false
 isEnd (quoted n) = false
-isEnd (mark b) = oneOf (0 ∷ 41 ∷ 93 ∷ 125 ∷ []) b
+isEnd (mark b) = oneOf (0 ∷ bytes ")]}") b
 
 -- `is_empty`: the group or the text ends here
 abbrev pub ends : List Token → Bool
@@ -246,12 +246,12 @@ next again (more a) = again a
 next again (done a) = give a
 
 -- at most k steps
-unfoldable pub steps : {A : Type 0} → (A → Rule (Next A)) → ℕ → A → Rule A
-steps step zero a l ts = got a l ts
-steps step (suc k) a l ts = after (step a l ts) (next (λ b. steps step k b))
+unfoldable pub iterate : {A : Type 0} → (A → Rule (Next A)) → ℕ → A → Rule A
+iterate step zero a l ts = got a l ts
+iterate step (suc k) a l ts = after (step a l ts) (next (λ b. iterate step k b))
 
 abbrev pub repeat : {A : Type 0} → (A → Rule (Next A)) → A → Rule A
-repeat step a l ts = steps step (l .bound) a l ts
+repeat step a l ts = iterate step (l .bound) a l ts
 
 abbrev pub goOn : {A : Type 0} → Bool → A → Next A
 goOn true a = more a

@@ -28,7 +28,7 @@ use Rattle.ast.specs.Tree.{
   pingPong,
   pingPongTimes,
 }
-use Rattle.grammar.specs.Fields.{Content, aNumber, aTruth, anEasing, aLoopMode, aValue, Table, pairs, numberOf}
+use Rattle.grammar.specs.Fields.{Content, aNumber, aTruth, anEasing, aLoopMode, aValue, Table, pairs, lastNumber}
 use Rattle.grammar.specs.Rule.{Rule, _>>=_, _>>_, give, refuse, need, if, sees, seesTwo, seesWord, seesNumber}
 use Rattle.grammar.specs.Rule.{seesWhole, skip, the, both, word, text, choice, signed, inside, list}
 use Rattle.error.specs.declared.Refusal.the-variants.{Missing, Malformed, UnknownKeyword}
@@ -146,7 +146,7 @@ roughFields = ("strength", number) ∷ ("points", count) ∷ []
 unfoldable pub roughCurve : Rule EasingSpec
 roughCurve = do
   fs ← inside "(" (pairs roughFields)
-  give (rough (default (numberOf "strength" fs) (f32Of 1 2)) (default (numberOf "points" fs) 8))
+  give (rough (default (lastNumber "strength" fs) (f32Of 1 2)) (default (lastNumber "points" fs) 8))
 
 unfoldable pub slowMoFields : Table
 slowMoFields = ("linear_ratio", number) ∷ ("power", number) ∷ []
@@ -155,7 +155,7 @@ slowMoFields = ("linear_ratio", number) ∷ ("power", number) ∷ []
 unfoldable pub slowMoCurve : Rule EasingSpec
 slowMoCurve = do
   fs ← inside "(" (pairs slowMoFields)
-  give (slowMo (default (numberOf "linear_ratio" fs) (f32Of 7 10)) (default (numberOf "power" fs) (f32Of 2 1)))
+  give (slowMo (default (lastNumber "linear_ratio" fs) (f32Of 7 10)) (default (lastNumber "power" fs) (f32Of 2 1)))
 
 -- `steps(n)`
 unfoldable pub stepsCurve : Rule EasingSpec

@@ -15,7 +15,7 @@ use Rattle.encode.specs.Of.{Plain, PlainPattern, PlainOptFloat, PlainOptPattern
 use Rattle.error.specs.declared.Refusal.{Refusal}
 use Rattle.error.specs.declared.Refusal.the-variants.{UnknownKeyword, StaggerGridIncomplete}
 use Rattle.grammar.specs.Rule.{refused, Rule, _>>=_, give, need, word}
-use Rattle.grammar.specs.Fields.{Content, Fields, Table, pairs, numberOf}
+use Rattle.grammar.specs.Fields.{Content, Fields, Table, pairs, lastNumber}
 use Rattle.grammar.specs.Grammar.{parseGroup, parseGridOrigin, gridFields, randomFields, patterns, Opening, openingFields, parseStagger}
 use Rattle.cursor.specs.Means.{run, Took}
 use Rattle.cursor.specs.declared.Cursor.{Cursor}
@@ -77,9 +77,9 @@ abbrev pub TookRows : {F : Type 0} → (F → Fields → Type 0) → Table → L
 TookRows held t s c m g = (gs : Fields) × Took 0 s c m (pairs t) gs × held g gs
 
 pub record GridHeld (f : GridFields) (fs : Fields) : Type 0 where
-  pub cols : optWordOf (f .cols) ≡ numberOf "cols" fs
-  pub rows : optWordOf (f .rows) ≡ numberOf "rows" fs
-  pub origin : optCaseOf (f .origin) ≡ numberOf "origin" fs
+  pub cols : optWordOf (f .cols) ≡ lastNumber "cols" fs
+  pub rows : optWordOf (f .rows) ≡ lastNumber "rows" fs
+  pub origin : optCaseOf (f .origin) ≡ lastNumber "origin" fs
 
 abbrev pub GridFieldMeans : List ℕ → Cursor → GridFields → ℕ → GridRead → Type 0
 GridFieldMeans s c f i (grid.Is g m) = TookRow GridHeld gridFields s c m f g i
@@ -90,10 +90,10 @@ GridMeans s c (grid.Is g m) = TookRows GridHeld gridFields s c m g
 GridMeans s c (grid.Refused r q) = run s c (pairs gridFields) ≡ refused r q
 
 pub record RandomHeld (f : RandomFields) (fs : Fields) : Type 0 where
-  pub seed : optWordOf (f .seed) ≡ numberOf "seed" fs
-  pub min : optFloatOf (f .min) ≡ numberOf "min" fs
+  pub seed : optWordOf (f .seed) ≡ lastNumber "seed" fs
+  pub min : optFloatOf (f .min) ≡ lastNumber "min" fs
   pub plain-min : PlainOptFloat (f .min)
-  pub max : optFloatOf (f .max) ≡ numberOf "max" fs
+  pub max : optFloatOf (f .max) ≡ lastNumber "max" fs
   pub plain-max : PlainOptFloat (f .max)
 
 abbrev pub RandomFieldMeans : List ℕ → Cursor → RandomFields → ℕ → RandomRead → Type 0
@@ -115,9 +115,9 @@ pub record FloatOr (o : OptF32) (d r : Float) : Type 0 where
 unfoldable pub gridInside : Rule tree.StaggerPatternSpec
 gridInside = do
   fs ← pairs gridFields
-  cols ← need StaggerGridIncomplete (numberOf "cols" fs)
-  rows ← need StaggerGridIncomplete (numberOf "rows" fs)
-  give (tree.grid cols rows (default (numberOf "origin" fs) 4))
+  cols ← need StaggerGridIncomplete (lastNumber "cols" fs)
+  rows ← need StaggerGridIncomplete (lastNumber "rows" fs)
+  give (tree.grid cols rows (default (lastNumber "origin" fs) 4))
 
 -- a pattern, at least e bytes long
 abbrev pub PatternMeans : ℕ → List ℕ → Cursor → Rule tree.StaggerPatternSpec → PatternRead → Type 0

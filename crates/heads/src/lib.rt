@@ -169,7 +169,7 @@ fn grid_fields(text: &[u8], c: Cursor) -> GridRead
             NextField::Field(i, v) => match grid_field(text, v, f, i) {
                 GridRead::Refused(r, p) => return GridRead::Refused(r, p),
                 GridRead::Is(g, e) => {
-                    let ate = cursor::eat(text, e, 44);
+                    let ate = cursor::eat(text, e, b',');
                     let next = ate.next;
                     if !ate.taken {
                         return GridRead::Is(g, next);
@@ -211,7 +211,7 @@ fn grid_pattern(text: &[u8], c: Cursor) -> PatternRead
     requires { ⌜ Ready (now text) c ⌝ }
     ensures { λ r. ⌜ PatternMeans 1 (now (text .entry)) c gridPattern r ⌝ }
 {
-    match cursor::mark(text, c, 40) {
+    match cursor::mark(text, c, b'(') {
         MarkRead::Missing(p) => PatternRead::Refused(Refusal::Missing, p),
         MarkRead::Is(m) => match grid_inside(text, m) {
             PatternRead::Refused(r, p) => PatternRead::Refused(r, p),
@@ -290,7 +290,7 @@ fn random_fields(text: &[u8], c: Cursor) -> RandomRead
             NextField::Field(i, v) => match random_field(text, v, f, i) {
                 RandomRead::Refused(r, p) => return RandomRead::Refused(r, p),
                 RandomRead::Is(g, e) => {
-                    let ate = cursor::eat(text, e, 44);
+                    let ate = cursor::eat(text, e, b',');
                     let next = ate.next;
                     if !ate.taken {
                         return RandomRead::Is(g, next);
@@ -308,7 +308,7 @@ fn random_pattern(text: &[u8], c: Cursor) -> PatternRead
     requires { ⌜ Ready (now text) c ⌝ }
     ensures { λ r. ⌜ PatternMeans 1 (now (text .entry)) c randomPattern r ⌝ }
 {
-    match cursor::mark(text, c, 40) {
+    match cursor::mark(text, c, b'(') {
         MarkRead::Missing(p) => PatternRead::Refused(Refusal::Missing, p),
         MarkRead::Is(m) => match random_fields(text, m) {
             RandomRead::Refused(r, p) => PatternRead::Refused(r, p),
@@ -375,7 +375,7 @@ fn opening_value(text: &[u8], c: Cursor, f: Opening, i: usize) -> OpeningRead
 {
     let pattern = f.pattern;
     let delay = f.delay;
-    match cursor::mark(text, c, 58) {
+    match cursor::mark(text, c, b':') {
         MarkRead::Missing(p) => OpeningRead::Refused(Refusal::Missing, p),
         MarkRead::Is(m) => {
             if i == 0 {
@@ -419,7 +419,7 @@ pub fn parse_stagger(text: &[u8], c: Cursor) -> StaggerRead
         delay: OptF32::Absent,
     };
     loop {
-        if cursor::sees(m, 123) {
+        if cursor::sees(m, b'{') {
             let pattern = f.pattern;
             let delay = f.delay;
             return StaggerRead::Is(pattern, delay, m);
@@ -427,7 +427,7 @@ pub fn parse_stagger(text: &[u8], c: Cursor) -> StaggerRead
         match opening_field(text, m, f) {
             OpeningRead::Refused(r, p) => return StaggerRead::Refused(r, p),
             OpeningRead::Is(g, e) => {
-                let ate = cursor::eat(text, e, 44);
+                let ate = cursor::eat(text, e, b',');
                 let next = ate.next;
                 if !ate.taken {
                     let pattern = g.pattern;

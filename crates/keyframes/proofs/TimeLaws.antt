@@ -23,7 +23,7 @@ use Rattle.encode.proofs.EnumLaws.{length-time, easing-most, opt-most}
 use Rattle.error.specs.declared.Refusal.{Refusal}
 use Rattle.error.specs.declared.Refusal.the-variants.{Missing, Malformed}
 use Rattle.token.specs.Token.{place}
-use Rattle.token.specs.Means.{written}
+use Rattle.token.specs.Means.{writtenOf}
 use Rattle.token.specs.declared.Number as numbers
 use Rattle.grammar.specs.Rule.{Rule, Out, got, refused, after, give, seesNumber, seesName, absent, theByte, eatByte, _>>_}
 use Rattle.grammar.specs.Values.{parseEasing, parseValue}
@@ -45,14 +45,14 @@ a-sign s c m b x e t = record { is = rw e (t .is); low = t .low; ready = t .read
 
 pub stores-percent : (b negative : Bool) (n : numbers.Number) (x : Float)
     → b ≡ true → x ≡ Number.percent negative (n .digits)
-    → Stores (keyOf b negative (written n)) (time.Percent x)
+    → Stores (keyOf b negative (writtenOf n)) (time.Percent x)
 unfolding stored storedTime
 stores-percent b negative n x e h = rw (e, h) (record { is = refl; plain = percent-number negative (n .digits) })
 
 pub stores-seconds : (b negative : Bool) (n : numbers.Number) (x : Float)
     → b ≡ false
     → x ≡ round binary32 negative (n .digits) (10 ^ n .places)
-    → Stores (keyOf b negative (written n)) (time.Seconds x)
+    → Stores (keyOf b negative (writtenOf n)) (time.Seconds x)
 unfolding stored storedTime nearest
 stores-seconds b negative n x e h = rw (e, h) (record { is = refl; plain = round-number negative (n .digits) (10 ^ n .places) })
 
@@ -68,11 +68,11 @@ module _ (s : List ℕ) (c m u : Cursor) (negative : Bool) (n : numbers.Number) 
   unfolding parseKeyframeTime
   percent-suffix e = rw (took-number s c m negative n v Malformed .is, t .is, e, head-place s u (t .ready))
 
-  pub took-time : (p && n .suffix) ≡ false → (x : KeyframeTime) → Stores (keyOf p negative (written n)) x
+  pub took-time : (p && n .suffix) ≡ false → (x : KeyframeTime) → Stores (keyOf p negative (writtenOf n)) x
       → TookTime s c u parseKeyframeTime x
   unfolding parseKeyframeTime
   took-time e x h = record {
-    key = keyOf p negative (written n);
+    key = keyOf p negative (writtenOf n);
     took = record {
       is = rw (took-number s c m negative n v Malformed .is, t .is, e);
       low = omega (arith, v .low, t .low);

@@ -5,6 +5,7 @@ use mathlib.Core.List.{List, [], _∷_, _++_}
 use mathlib.Core.Option.{Option, none, some}
 use mathlib.Core.Path.{_≡_}
 use lib.ListN.{length}
+use Rattle.text.specs.Limits.{textLimit}
 use Rattle.number.specs.Number.{Written}
 use Rattle.number.specs.Time.{Key}
 use Rattle.codec.specs.Codec.{eachOut, big, opt}
@@ -13,7 +14,7 @@ use Rattle.ast.specs.declared.KeyframeTime.{KeyframeTime}
 use Rattle.sheet.specs.Sheet.{timeForm, easingForm, loopForm, entryForm}
 use Rattle.encode.specs.Of.{keyTimeOf, PlainTime, optEasingOf, PlainOptEasing, optLoopOf}
 use Rattle.encode.specs.Writes.{Writes}
-use Rattle.token.specs.Means.{written}
+use Rattle.token.specs.Means.{writtenOf}
 use Rattle.grammar.specs.Rule.{Rule, got, refused, give, if, sees, seesName, skip, eat, the, leave, repeat, Next, more, done, _>>=_, _>>_}
 use Rattle.grammar.specs.Values.{parseEasing}
 use Rattle.grammar.specs.Grammar.{stored, parseKeyframeTime, keyframeEntry, trackStep, Track}
@@ -37,7 +38,7 @@ use Rattle.keyframes.specs.declared.TrackRead.the-variants as track
 
 -- a text, and a place inside the record, at most k bytes behind its start
 pub record Inner (k : ℕ) (s : List ℕ) (out : ℕ) : Type 0 where
-  pub short : length s ≤ 16384
+  pub short : length s ≤ textLimit
   pub low : out < 2 ^ 30 + k
 
 -- ---- a key's time

@@ -5,7 +5,7 @@ ghost use mathlib.Core.Path.{_≡_};
 ghost use mathlib.Core.Bool.{_&&_};
 ghost use mathlib.Core.List.{List};
 ghost use Prim.Native.Nat.{ℕ, _<_, _^_};
-ghost use Rattle.token.specs.Means.{Small, written};
+ghost use Rattle.token.specs.Means.{Small, writtenOf};
 ghost use Rattle.encode.specs.Of.{PlainTime, PlainOptEasing};
 ghost use Rattle.grammar.specs.Grammar.{parseKeyframeTime, trackLoop, trackFrame, trackStep, parseKeyframes};
 ghost use Rattle.cursor.specs.Means.{Ready, Took};
@@ -77,7 +77,7 @@ fn percent_sign(text: &[u8], c: Cursor, point: bool) -> Eaten
             next: c,
         };
     }
-    cursor::eat(text, c, 37)
+    cursor::eat(text, c, b'%')
 }
 
 // Whether both hold: a percent with an `s` is refused.
@@ -93,7 +93,7 @@ fn all(a: bool, b: bool) -> bool
 // The time that is stored for a key.
 fn time_of(percent: bool, negative: bool, n: Number) -> KeyframeTime
     requires { ⌜ Small n ⌝ }
-    ensures { λ r. ⌜ Stores (keyOf percent negative (written n)) r ⌝ }
+    ensures { λ r. ⌜ Stores (keyOf percent negative (writtenOf n)) r ⌝ }
 {
     if percent {
         return KeyframeTime::Percent(number::percent(negative, n.digits));
@@ -128,7 +128,7 @@ fn key_mark(text: &[u8], c: Cursor) -> TimeRead
 {
     match parse_keyframe_time(text, c) {
         TimeRead::Refused(r, p) => TimeRead::Refused(r, p),
-        TimeRead::Is(t, m) => match cursor::mark(text, m, 58) {
+        TimeRead::Is(t, m) => match cursor::mark(text, m, b':') {
             MarkRead::Missing(p) => TimeRead::Refused(Refusal::Missing, p),
             MarkRead::Is(n) => TimeRead::Is(t, n),
         },
@@ -187,10 +187,10 @@ fn separator(text: &[u8], c: Cursor) -> Eaten
     requires { ⌜ Ready (now text) c ⌝ }
     ensures { λ r. ⌜ Took 0 (now (text .entry)) c (r .next) separator (r .taken) ⌝ }
 {
-    if cursor::sees(c, 44) {
-        return cursor::eat(text, c, 44);
+    if cursor::sees(c, b',') {
+        return cursor::eat(text, c, b',');
     }
-    cursor::eat(text, c, 59)
+    cursor::eat(text, c, b';')
 }
 
 // `loop: ..`, and a `,` if there is one: the last mode wins.
@@ -200,12 +200,12 @@ fn track_loop(text: &[u8], t: Track) -> TrackNext
 {
     let c = t.next;
     let behind = cursor::advance(text, c);
-    match cursor::mark(text, behind, 58) {
+    match cursor::mark(text, behind, b':') {
         MarkRead::Missing(p) => TrackNext::Refused(Refusal::Missing, p),
         MarkRead::Is(m) => match values::parse_loop_mode(text, m) {
             LoopRead::Refused(r, p) => TrackNext::Refused(r, p),
             LoopRead::Is(mode, n) => {
-                let ate = cursor::eat(text, n, 44);
+                let ate = cursor::eat(text, n, b',');
                 let next = ate.next;
                 TrackNext::More(Track {
                     frames: t.frames,
@@ -304,7 +304,7 @@ pub fn parse_keyframes(text: &[u8], sheet: &mut [u8], c: Cursor, out: usize) -> 
 {
     match cursor::word(text, c) {
         WordRead::Missing(p) => NodeRead::Refused(Refusal::Missing, p),
-        WordRead::Is(target, m) => match cursor::mark(text, m, 123) {
+        WordRead::Is(target, m) => match cursor::mark(text, m, b'{') {
             MarkRead::Missing(p) => NodeRead::Refused(Refusal::Missing, p),
             MarkRead::Is(n) => {
                 let target_at = encode::put_byte(sheet, out, 2);

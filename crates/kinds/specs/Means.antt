@@ -11,7 +11,7 @@ use Rattle.ast.specs.Tree.{Leaf}
 use Rattle.encode.specs.Writes.{Writes}
 use Rattle.error.specs.declared.Refusal.the-variants.{MissingDuration}
 use Rattle.grammar.specs.Rule.{Rule, refused, give, need, _>>=_, _>>_, if, sees, skip, both, inside}
-use Rattle.grammar.specs.Fields.{Table, Fields, numberOf, truthOf, easingOf, loopModeOf, rangeOf, pairs, parseFieldList}
+use Rattle.grammar.specs.Fields.{Table, Fields, lastNumber, lastTruth, lastEasing, lastLoopMode, lastRange, pairs, parseFieldList}
 use Rattle.grammar.specs.Values.{string}
 use Rattle.grammar.specs.Grammar.{drawFields, morphFields, colorFields, pathFields, waveformFields}
 use Rattle.cursor.specs.Means.{run, Took}
@@ -44,14 +44,14 @@ EndMeans s b a c out p (node.Refused r q) = run s c p ≡ refused r q
 
 -- fields with a duration, which must be there
 abbrev pub timedEnd : Table → (Fields → ℕ → Leaf Key) → Rule (Leaf Key)
-timedEnd t k = parseFieldList t [] >>= λ fs. need MissingDuration (numberOf "duration" fs) >>= λ d. give (k fs d)
+timedEnd t k = parseFieldList t [] >>= λ fs. need MissingDuration (lastNumber "duration" fs) >>= λ d. give (k fs d)
 
 -- draw
 abbrev pub drawSorts : List ℕ
 drawSorts = 0 ∷ 7 ∷ []
 
 abbrev pub drawLeaf : tree.Span → Fields → ℕ → Leaf Key
-drawLeaf svg fs d = Leaf.draw (record { svg = svg; duration = d; easing = easingOf fs })
+drawLeaf svg fs d = Leaf.draw (record { svg = svg; duration = d; easing = lastEasing fs })
 
 abbrev pub drawEnd : tree.Span → Rule (Leaf Key)
 drawEnd svg = timedEnd drawFields (drawLeaf svg)
@@ -62,7 +62,7 @@ morphSorts = 1 ∷ 0 ∷ 7 ∷ []
 
 abbrev pub morphLeaf : tree.Span → tree.Span → Fields → ℕ → Leaf Key
 morphLeaf from to fs d =
-    Leaf.morph (record { from = from; to = to; samples = default (numberOf "samples" fs) 32; duration = d; easing = easingOf fs })
+    Leaf.morph (record { from = from; to = to; samples = default (lastNumber "samples" fs) 32; duration = d; easing = lastEasing fs })
 
 abbrev pub morphEnd : tree.Span → tree.Span → Rule (Leaf Key)
 morphEnd from to = timedEnd morphFields (morphLeaf from to)
@@ -74,7 +74,7 @@ colorSorts = 0 ∷ 2 ∷ 7 ∷ []
 abbrev pub colorLeaf : tree.Span → tree.Span → tree.Span → Fields → ℕ → Leaf Key
 colorLeaf target from to fs d =
     Leaf.color
-    (record { target = target; from = from; to = to; duration = d; space = default (numberOf "space" fs) 0; easing = easingOf fs })
+    (record { target = target; from = from; to = to; duration = d; space = default (lastNumber "space" fs) 0; easing = lastEasing fs })
 
 abbrev pub colorEnd : tree.Span → tree.Span → tree.Span → Rule (Leaf Key)
 colorEnd target from to = timedEnd colorFields (colorLeaf target from to)
@@ -92,10 +92,10 @@ pathLeaf target svg fs d = Leaf.path (record {
   target = target;
   svg = svg;
   duration = d;
-  easing = easingOf fs;
-  autoRotate = truthOf "auto_rotate" fs;
-  offset = rangeOf fs;
-  loopMode = loopModeOf fs;
+  easing = lastEasing fs;
+  autoRotate = lastTruth "auto_rotate" fs;
+  offset = lastRange fs;
+  loopMode = lastLoopMode fs;
 })
 
 abbrev pub pathEnd : tree.Span → tree.Span → Rule (Leaf Key)
@@ -108,13 +108,13 @@ waveformSorts = 0 ∷ 0 ∷ 0 ∷ 0 ∷ 1 ∷ 0 ∷ 0 ∷ []
 abbrev pub waveformLeaf : ℕ → Fields → Leaf Key
 waveformLeaf kind fs = Leaf.waveform (record {
   kind = kind;
-  frequency = numberOf "frequency" fs;
-  amplitude = numberOf "amplitude" fs;
-  phase = numberOf "phase" fs;
-  dutyCycle = numberOf "duty_cycle" fs;
-  seed = numberOf "seed" fs;
-  smoothness = numberOf "smoothness" fs;
-  duration = numberOf "duration" fs;
+  frequency = lastNumber "frequency" fs;
+  amplitude = lastNumber "amplitude" fs;
+  phase = lastNumber "phase" fs;
+  dutyCycle = lastNumber "duty_cycle" fs;
+  seed = lastNumber "seed" fs;
+  smoothness = lastNumber "smoothness" fs;
+  duration = lastNumber "duration" fs;
 })
 
 abbrev pub waveformEnd : ℕ → Rule (Leaf Key)
@@ -132,7 +132,7 @@ abbrev pub GatheredMeans : List ℕ → Cursor → Rule Fields → Gathered → 
 GatheredMeans s c p g = slots.EndMeans s (c .at) drawSorts c drawFields p (g .slots) (g .others) (g .end)
 
 abbrev pub presetLeaf : tree.Span → Fields → Leaf Key
-presetLeaf name fs = Leaf.preset (record { name = name; duration = numberOf "duration" fs; easing = easingOf fs })
+presetLeaf name fs = Leaf.preset (record { name = name; duration = lastNumber "duration" fs; easing = lastEasing fs })
 
 abbrev pub presetEnd : tree.Span → Rule (Leaf Key)
 presetEnd name = presetFields >>= λ fs. give (presetLeaf name fs)

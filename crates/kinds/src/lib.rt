@@ -3,6 +3,7 @@
 ghost use mathlib.Core.List.{[]};
 ghost use Prim.Native.Nat.{_≤_};
 ghost use lib.ListN.{length};
+ghost use Rattle.text.specs.Limits.{textLimit};
 ghost use Rattle.encode.specs.Of.{spanOf};
 ghost use Rattle.grammar.specs.Grammar.{parseDraw, parseMorph, parseColor, parsePath, parseWaveform, parsePresetCall};
 ghost use Rattle.grammar.specs.Fields.{Table};
@@ -31,7 +32,7 @@ use slots::Timed;
 
 // The fields of a node from their first on. `rows` are the names of the table, `sorts` the sorts of its values.
 fn fields_at(text: &[u8], c: Cursor, rows: &[u8], sorts: &[u8]) -> Gathered
-    requires { ⌜ Ready (now text) c × (length (now text) ≤ 16384) × Laid (now rows) (now sorts) ⌝ }
+    requires { ⌜ Ready (now text) c × (length (now text) ≤ textLimit) × Laid (now rows) (now sorts) ⌝ }
     ensures { λ r. ⌜ ((t : Table) → Layout (now (rows .entry)) (now (sorts .entry)) t → ListMeans (now (text .entry)) (c .at) (now (sorts .entry)) c t [] r) ⌝ }
 {
     slots::field_list(text, c, rows, sorts, slots::no_slots(), slots::no_others())
@@ -111,7 +112,7 @@ pub fn parse_morph(text: &[u8], sheet: &mut [u8], c: Cursor, out: usize) -> Node
 {
     match cursor::string(text, c) {
         WordRead::Missing(p) => NodeRead::Refused(Refusal::Missing, p),
-        WordRead::Is(from, m) => match cursor::both(text, m, 61, 62) {
+        WordRead::Is(from, m) => match cursor::both(text, m, b'=', b'>') {
             MarkRead::Missing(p) => NodeRead::Refused(Refusal::Missing, p),
             MarkRead::Is(n) => match cursor::string(text, n) {
                 WordRead::Missing(p) => NodeRead::Refused(Refusal::Missing, p),
@@ -168,7 +169,7 @@ fn color_strings(text: &[u8], sheet: &mut [u8], c: Cursor, out: usize, target: S
 {
     match cursor::string(text, c) {
         WordRead::Missing(p) => NodeRead::Refused(Refusal::Missing, p),
-        WordRead::Is(from, m) => match cursor::both(text, m, 61, 62) {
+        WordRead::Is(from, m) => match cursor::both(text, m, b'=', b'>') {
             MarkRead::Missing(p) => NodeRead::Refused(Refusal::Missing, p),
             MarkRead::Is(n) => match cursor::string(text, n) {
                 WordRead::Missing(p) => NodeRead::Refused(Refusal::Missing, p),
@@ -184,7 +185,7 @@ pub fn parse_color(text: &[u8], sheet: &mut [u8], c: Cursor, out: usize) -> Node
 {
     match cursor::word(text, c) {
         WordRead::Missing(p) => NodeRead::Refused(Refusal::Missing, p),
-        WordRead::Is(target, m) => match cursor::mark(text, m, 58) {
+        WordRead::Is(target, m) => match cursor::mark(text, m, b':') {
             MarkRead::Missing(p) => NodeRead::Refused(Refusal::Missing, p),
             MarkRead::Is(n) => color_strings(text, sheet, n, out, target),
         },
@@ -306,12 +307,12 @@ pub fn parse_waveform(text: &[u8], sheet: &mut [u8], c: Cursor, out: usize) -> N
 
 // The fields in parentheses, if there are any.
 fn preset_pairs(text: &[u8], c: Cursor) -> Gathered
-    requires { ⌜ Ready (now text) c × (length (now text) ≤ 16384) ⌝ }
+    requires { ⌜ Ready (now text) c × (length (now text) ≤ textLimit) ⌝ }
     ensures { λ r. ⌜ GatheredMeans (now (text .entry)) c presetPairs r ⌝ }
 {
     let slots = slots::no_slots();
     let others = slots::no_others();
-    if !cursor::sees(c, 40) {
+    if !cursor::sees(c, b'(') {
         let end = Ended::Is(c);
         return Gathered { slots, others, end };
     }
@@ -335,7 +336,7 @@ fn preset_pairs(text: &[u8], c: Cursor) -> Gathered
 
 // Those, and more of them behind a `,`.
 fn preset_fields(text: &[u8], c: Cursor) -> Gathered
-    requires { ⌜ Ready (now text) c × (length (now text) ≤ 16384) ⌝ }
+    requires { ⌜ Ready (now text) c × (length (now text) ≤ textLimit) ⌝ }
     ensures { λ r. ⌜ GatheredMeans (now (text .entry)) c presetFields r ⌝ }
 {
     let g = preset_pairs(text, c);
@@ -343,7 +344,7 @@ fn preset_fields(text: &[u8], c: Cursor) -> Gathered
     match read {
         Ended::Refused(_, _) => g,
         Ended::Is(e) => {
-            if !cursor::sees(e, 44) {
+            if !cursor::sees(e, b',') {
                 return g;
             }
             let m = cursor::advance(text, e);

@@ -6,6 +6,7 @@ use mathlib.Core.List.{List, []}
 use mathlib.Core.Path.{_≡_, refl, ap}
 use native.Mathlib.Omega.{arith}
 use lib.ListN.{length}
+use Rattle.text.specs.Limits.{textLimit}
 use Rattle.text.specs.Bytes.{bytes, same}
 use Rattle.text.specs.Words.{words}
 use Rattle.encode.proofs.FieldLaws.{small}
@@ -52,7 +53,7 @@ use Rattle.limits.proofs.FieldLaws.{limit, Held, Row, Listed, pairs-run
 use Rattle.limits.proofs.ValueLaws.{f32Of-small, span-fits, ident-runs, truth-runs, float-runs}
 use Rattle.limits.proofs.ValueLaws.{uint-runs, uint-in-parens, Two, two-floats, value-runs}
 
-module _ (s : List ℕ) (short : length s ≤ 16384) where
+module _ (s : List ℕ) (short : length s ≤ textLimit) where
   -- ---- numbers as fields
 
   number-held : (w : List ℕ) (q n m : ℕ) → 3 ≤ length w → n < limit w → q < m → Held s w q (aNumber n) m

@@ -22,7 +22,7 @@ use Rattle.error.specs.declared.Refusal.the-variants.{UnknownKeyword}
 use Rattle.grammar.specs.Rule.{Rule, more, done, give, seesWord}
 use Rattle.grammar.specs.Fields.{Content, Entry, Fields, Table, rowOf, fieldHead, fieldValue, entry, pairName, onePair}
 use Rattle.grammar.specs.Fields.{pairs, Item, halts, closes, passes, starts, itemOf, fieldName, oneField, byItem, fieldsStep}
-use Rattle.grammar.specs.Fields.{parseFieldList, last, called, numberOf, easingOf, loopModeOf, valueOf, dampingOf, rangeOf}
+use Rattle.grammar.specs.Fields.{parseFieldList, last, called, lastNumber, lastEasing, lastLoopMode, lastValue, lastDamping, lastRange}
 use Rattle.limits.proofs.RunLaws.{Runs, gives, then, and, weaken, tests, needs, Onto, repeats}
 use Rattle.limits.proofs.TakeLaws.{a-word, the-mark, skips, skips-word}
 use Rattle.limits.proofs.ListLaws.{lists}
@@ -214,7 +214,7 @@ module _ (n : ℕ) where
       go (some a) x y = x
 
   module _ (fs : Fields) (h : AllFair n fs) where
-    number-in : (w : String) (k : ℕ) → limit (bytes w) ≡ k → On (λ x. x < k) (numberOf w fs)
+    number-in : (w : String) (k : ℕ) → limit (bytes w) ≡ k → On (λ x. x < k) (lastNumber w fs)
     number-in w k l = last-in (called w (λ c. c .number)) (λ x. x < k) (λ e f. go e f (same (e .0) (bytes w)) refl) fs h
       where
         go : (e : Entry) → Fair n (e .0) (e .1) → (b : Bool) → same (e .0) (bytes w) ≡ b → On (λ x. x < k) (cond b (e .1 .number) none)
@@ -223,42 +223,42 @@ module _ (n : ℕ) where
             on-map (λ x. x < limit (e .0)) (λ x. x < k) (λ x y. omega arith) (e .1 .number) (f .number)
         go e f false q = tt
 
-    word-in : (w : String) → limit (bytes w) ≡ 4294967296 → On (Small 4) (numberOf w fs)
-    word-in w l = on-map (λ x. x < 4294967296) (Small 4) (λ x y. small 4 x y) (numberOf w fs) (number-in w 4294967296 l)
+    word-in : (w : String) → limit (bytes w) ≡ 4294967296 → On (Small 4) (lastNumber w fs)
+    word-in w l = on-map (λ x. x < 4294967296) (Small 4) (λ x y. small 4 x y) (lastNumber w fs) (number-in w 4294967296 l)
 
-    pub word-is : (w : String) → limit (bytes w) ≡ 4294967296 → (d : ℕ) → numberOf w fs ≡ some d → Small 4 d
-    word-is w l d e = on-is (Small 4) (numberOf w fs) d e (word-in w l)
+    pub word-is : (w : String) → limit (bytes w) ≡ 4294967296 → (d : ℕ) → lastNumber w fs ≡ some d → Small 4 d
+    word-is w l d e = on-is (Small 4) (lastNumber w fs) d e (word-in w l)
 
-    pub case-or : (w : String) (k : ℕ) → limit (bytes w) ≡ k → (d : ℕ) → d < k → default (numberOf w fs) d < k
-    case-or w k l d h = default-in (λ x. x < k) (numberOf w fs) d (number-in w k l) h
+    pub case-or : (w : String) (k : ℕ) → limit (bytes w) ≡ k → (d : ℕ) → d < k → default (lastNumber w fs) d < k
+    case-or w k l d h = default-in (λ x. x < k) (lastNumber w fs) d (number-in w k l) h
 
-    pub word-or : (w : String) → limit (bytes w) ≡ 4294967296 → (d : ℕ) → Small 4 d → Small 4 (default (numberOf w fs) d)
-    word-or w l d h = default-in (Small 4) (numberOf w fs) d (word-in w l) h
+    pub word-or : (w : String) → limit (bytes w) ≡ 4294967296 → (d : ℕ) → Small 4 d → Small 4 (default (lastNumber w fs) d)
+    word-or w l d h = default-in (Small 4) (lastNumber w fs) d (word-in w l) h
 
-    pub word-opt : (w : String) → limit (bytes w) ≡ 4294967296 → optL wordL .ok (numberOf w fs)
-    word-opt w l = on-ok wordL (numberOf w fs) (word-in w l)
+    pub word-opt : (w : String) → limit (bytes w) ≡ 4294967296 → optL wordL .ok (lastNumber w fs)
+    word-opt w l = on-ok wordL (lastNumber w fs) (word-in w l)
 
-    pub case-opt : (w : String) (k : ℕ) → limit (bytes w) ≡ k → optL (belowL k) .ok (numberOf w fs)
-    case-opt w k l = on-ok (belowL k) (numberOf w fs) (number-in w k l)
+    pub case-opt : (w : String) (k : ℕ) → limit (bytes w) ≡ k → optL (belowL k) .ok (lastNumber w fs)
+    case-opt w k l = on-ok (belowL k) (lastNumber w fs) (number-in w k l)
 
-    pub easing-opt : optL (easingL n) .ok (easingOf fs)
-    easing-opt = on-ok (easingL n) (easingOf fs) (last-in (λ e. e .1 .easing) (easingL n .ok) (λ e f. f .easing) fs h)
+    pub easing-opt : optL (easingL n) .ok (lastEasing fs)
+    easing-opt = on-ok (easingL n) (lastEasing fs) (last-in (λ e. e .1 .easing) (easingL n .ok) (λ e f. f .easing) fs h)
 
-    pub loop-opt : optL loopL .ok (loopModeOf fs)
-    loop-opt = on-ok loopL (loopModeOf fs) (last-in (λ e. e .1 .loopMode) (loopL .ok) (λ e f. f .loopMode) fs h)
+    pub loop-opt : optL loopL .ok (lastLoopMode fs)
+    loop-opt = on-ok loopL (lastLoopMode fs) (last-in (λ e. e .1 .loopMode) (loopL .ok) (λ e f. f .loopMode) fs h)
 
-    pub value-opt : optL valueL .ok (valueOf fs)
+    pub value-opt : optL valueL .ok (lastValue fs)
     value-opt =
-        on-ok valueL (valueOf fs)
+        on-ok valueL (lastValue fs)
         (last-in (λ e. e .1 .value) (valueL .ok)
         (λ e f. on-map (λ v. valueL .ok v × (8 ≤ length (e .0))) (valueL .ok) (λ v x. x .0) (e .1 .value) (f .value)) fs h)
 
-    pub damping-opt : optL dampingL .ok (dampingOf fs)
-    damping-opt = on-ok dampingL (dampingOf fs) (last-in (λ e. e .1 .damping) (dampingL .ok) (λ e f. f .damping) fs h)
+    pub damping-opt : optL dampingL .ok (lastDamping fs)
+    damping-opt = on-ok dampingL (lastDamping fs) (last-in (λ e. e .1 .damping) (dampingL .ok) (λ e f. f .damping) fs h)
 
-    pub range-opt : optL (wordL & wordL) .ok (rangeOf fs)
+    pub range-opt : optL (wordL & wordL) .ok (lastRange fs)
     range-opt =
-        on-ok (wordL & wordL) (rangeOf fs) (last-in (λ e. e .1 .range) (λ p. Small 4 (p .0) × Small 4 (p .1)) (λ e f. f .range) fs h)
+        on-ok (wordL & wordL) (lastRange fs) (last-in (λ e. e .1 .range) (λ p. Small 4 (p .0) × Small 4 (p .1)) (λ e f. f .range) fs h)
 
   -- ---- what text a list takes at least
 
@@ -276,7 +276,7 @@ module _ (n : ℕ) where
       go (some b) q g ih = let z = k x a (h .0) (q ∙ g) in omega arith
 
   module _ (fs : Fields) (h : AllFair n fs) where
-    pub total-number : (w : String) (d : ℕ) → numberOf w fs ≡ some d → 3 * length (bytes w) + 6 ≤ total fs
+    pub total-number : (w : String) (d : ℕ) → lastNumber w fs ≡ some d → 3 * length (bytes w) + 6 ≤ total fs
     total-number w d e =
         total-last (called w (λ c. c .number)) (λ x. 3 * length (bytes w) + 6) (λ x a f g. go x a (same (x .0) (bytes w)) refl g) fs h d e
       where
@@ -286,7 +286,7 @@ module _ (n : ℕ) where
         go x a true q g = let z = ap length (same-eq (x .0) (bytes w) q) in omega arith
         go x a false q g = absurd (let z : _≡_ {A = ℕ} 0 1 = cc in omega arith)
 
-    pub total-value : (v : ValueExpr) → valueOf fs ≡ some v → 25 + length (valueForm .write v) ≤ total fs
+    pub total-value : (v : ValueExpr) → lastValue fs ≡ some v → 25 + length (valueForm .write v) ≤ total fs
     total-value v e = total-last (λ x. x .1 .value) (λ a. 25 + length (valueForm .write a)) (λ x a f g. go x a g (f .value)) fs h v e
       where
         go : (x : Entry) (a : ValueExpr) → x .1 .value ≡ some a

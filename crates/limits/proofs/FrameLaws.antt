@@ -6,6 +6,7 @@ use mathlib.Core.Option.{Option, none, some}
 use mathlib.Core.Path.{_≡_, refl, ap}
 use native.Mathlib.Omega.{arith}
 use lib.ListN.{length, length-append}
+use Rattle.text.specs.Limits.{textLimit}
 use Rattle.text.specs.Bytes.{bytes}
 use Rattle.text.specs.Words.{isSome}
 use Rattle.number.specs.Number.{bits}
@@ -60,7 +61,7 @@ seen-name (number w) e = absurd (let z : _≡_ {A = ℕ} 0 1 = cc in omega arith
 seen-name (quoted n) e = absurd (let z : _≡_ {A = ℕ} 0 1 = cc in omega arith)
 seen-name (mark b) e = absurd (let z : _≡_ {A = ℕ} 0 1 = cc in omega arith)
 
-module _ (s : List ℕ) (short : length s ≤ 16384) where
+module _ (s : List ℕ) (short : length s ≤ textLimit) where
   time-runs : (q : ℕ) → q ≤ length s → Runs s parseKeyframeTime q (λ k m. q < m)
   unfolding parseKeyframeTime
   time-runs q h =

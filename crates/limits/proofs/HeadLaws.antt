@@ -5,6 +5,7 @@ use mathlib.Core.List.{List, [], _∷_, _++_}
 use mathlib.Core.Path.{refl}
 use native.Mathlib.Omega.{arith}
 use lib.ListN.{length}
+use Rattle.text.specs.Limits.{textLimit}
 use Rattle.text.specs.Bytes.{same}
 use Rattle.text.specs.Words.{words, default}
 use Rattle.codec.specs.Codec.{Form, opt}
@@ -15,7 +16,7 @@ use Rattle.sheet.specs.Sheet.{Forest, word, nodeForm, patternForm}
 use Rattle.sheet.proofs.Laws.{wordL, patternL, nodeL}
 use Rattle.error.specs.declared.Refusal.the-variants.{Malformed, UnknownKeyword, StaggerGridIncomplete}
 use Rattle.grammar.specs.Rule.{Rule, give, need, _>>=_, _>>_, eat, sees, goOn}
-use Rattle.grammar.specs.Fields.{numberOf, pairs}
+use Rattle.grammar.specs.Fields.{lastNumber, pairs}
 use Rattle.grammar.specs.Values.{f32Of}
 use Rattle.grammar.specs.Grammar.{
   parseSequence,
@@ -75,7 +76,7 @@ head-size n inner (stagger p d) ns = omega (arith, sum .most)
     sum : Most (opt patternForm .write p ++ (opt word .write d ++ inner .write ns)) (14 + (5 + length (inner .write ns)))
     sum = opt-most patternForm 13 pattern-most p ⊕ opt-word n d ⊕ all (inner .write ns)
 
-module _ (s : List ℕ) (short : length s ≤ 16384) where
+module _ (s : List ℕ) (short : length s ≤ textLimit) where
   -- a head from q to m, behind its keyword of k bytes; with 1 byte to spare
   pub record Headed (k q : ℕ) (c : Container) (m : ℕ) : Type 0 where
     pub ok : HeadOk c
@@ -118,16 +119,16 @@ module _ (s : List ℕ) (short : length s ≤ 16384) where
   abbrev gridInside : Rule StaggerPatternSpec
   gridInside = do
     fs ← pairs gridFields
-    cols ← need StaggerGridIncomplete (numberOf "cols" fs)
-    rows ← need StaggerGridIncomplete (numberOf "rows" fs)
-    give (grid cols rows (default (numberOf "origin" fs) 4))
+    cols ← need StaggerGridIncomplete (lastNumber "cols" fs)
+    rows ← need StaggerGridIncomplete (lastNumber "rows" fs)
+    give (grid cols rows (default (lastNumber "origin" fs) 4))
 
   grid-inside : (q : ℕ) → q ≤ length s → Runs s gridInside q (Patterned q)
   unfolding limit same
   grid-inside q h =
       then (pairs-run s gridFields grid-rows q h) (λ fs m1 g1 x1.
-      then (needs StaggerGridIncomplete (numberOf "cols" fs) g1) (λ c m2 g2 x2.
-      then (needs StaggerGridIncomplete (numberOf "rows" fs) g2) (λ r m3 g3 x3.
+      then (needs StaggerGridIncomplete (lastNumber "cols" fs) g1) (λ c m2 g2 x2.
+      then (needs StaggerGridIncomplete (lastNumber "rows" fs) g2) (λ r m3 g3 x3.
       let n = length s in
       let f = x1 .fair in
       gives g3 (

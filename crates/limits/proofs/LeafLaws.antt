@@ -6,6 +6,7 @@ use mathlib.Core.Option.{Option, none, some}
 use mathlib.Core.Path.{_≡_, refl, ap}
 use native.Mathlib.Omega.{arith}
 use lib.ListN.{length, getD}
+use Rattle.text.specs.Limits.{textLimit}
 use Rattle.text.specs.Bytes.{bytes, same, isName}
 use Rattle.text.specs.Words.{words}
 use Rattle.codec.specs.Codec.{Form, opt}
@@ -19,9 +20,9 @@ use Rattle.sheet.specs.Sheet.{Forest, valueForm, nodeForm, springForm, waveform
 use Rattle.sheet.proofs.Laws.{flagL, dampingL, tweenL, pathL, morphL, drawL, colorL, nodeL}
 use Rattle.error.specs.declared.Refusal.the-variants.{MissingDuration, Malformed, UnknownSpringPreset}
 use Rattle.grammar.specs.Rule.{Rule, _>>_, give, if, sees, skip, inside}
-use Rattle.grammar.specs.Fields.{Fields, aDamping, pairs, parseFieldList, numberOf, truthOf, easingOf, valueOf, dampingOf, ever, last}
+use Rattle.grammar.specs.Fields.{Fields, aDamping, pairs, parseFieldList, lastNumber, lastTruth, lastEasing, lastValue, lastDamping, ever, last}
 use Rattle.grammar.specs.Grammar.{stored, tweenFields, parseTween, springFields, parseSpringPreset, springPreset}
-use Rattle.grammar.specs.Grammar.{integrator, critical, over, under, parseSpring, offset, pathFields, parsePath}
+use Rattle.grammar.specs.Grammar.{integrator, criticalDamping, overDamping, underDamping, parseSpring, offset, pathFields, parsePath}
 use Rattle.grammar.specs.Grammar.{morphFields, parseMorph, drawFields, parseDraw, space, colorFields, parseColor}
 use Rattle.grammar.specs.Grammar.{waveformKind, waveformFields, parseWaveform, parsePresetCall, parseLabel, atSign, parseAt}
 use Rattle.limits.proofs.RunLaws.{Runs, gives, then, and, weaken, tests, conds, needs}
@@ -40,7 +41,7 @@ flag-ok true = omega arith
 flag-ok false = omega arith
 
 -- `b` is the law of the form of the nodes in a container
-module _ (s : List ℕ) (short : length s ≤ 16384) {inner : Form Forest} (b : Law inner) where
+module _ (s : List ℕ) (short : length s ≤ textLimit) {inner : Form Forest} (b : Law inner) where
   -- a leaf from q to m, behind its keyword of k bytes; with 2 bytes to spare
   pub record Leafed (k q : ℕ) (l : Leaf Key) (m : ℕ) : Type 0 where
     pub ok : nodeL (length s) b .ok (single (mapLeaf stored l))
@@ -78,7 +79,7 @@ module _ (s : List ℕ) (short : length s ≤ 16384) {inner : Form Forest} (b : 
       and (two-marks g3 61 62 refl refl) (λ m4 g4 u x4.
       then (value-runs s short m4 g4) (λ w m5 g5 x5.
       then (fields-run s tweenFields tween-rows [] m5 g5 tt) (λ fs m6 g6 x6.
-      then (needs MissingDuration (numberOf "duration" fs) g6) (λ d m7 g7 x7.
+      then (needs MissingDuration (lastNumber "duration" fs) g6) (λ d m7 g7 x7.
       let n = length s in
       let f = x6 .fair in
       gives g7 (tween-leafed _ q m7
@@ -104,7 +105,7 @@ module _ (s : List ℕ) (short : length s ≤ 16384) {inner : Form Forest} (b : 
   }
 
   spring-rows : All (Row s) springFields
-  unfolding springFields springPreset parseSpringPreset integrator critical over under limit same
+  unfolding springFields springPreset parseSpringPreset integrator criticalDamping overDamping underDamping limit same
   spring-rows =
       case-row s short "preset" UnknownSpringPreset ("gentle" ∷ "wobbly" ∷ "stiff" ∷ "slow" ∷ "snappy" ∷ []) (omega arith) (omega arith)
       also number-row s short "stiffness" (omega arith) refl
@@ -126,14 +127,14 @@ module _ (s : List ℕ) (short : length s ≤ 16384) {inner : Form Forest} (b : 
     target = t;
     from = v;
     to = w;
-    preset = numberOf "preset" fs;
-    stiffness = numberOf "stiffness" fs;
-    damping = numberOf "damping" fs;
-    mass = numberOf "mass" fs;
-    velocity = valueOf fs;
-    epsilon = numberOf "epsilon" fs;
-    integrator = numberOf "integrator" fs;
-    dampingMode = dampingOf fs;
+    preset = lastNumber "preset" fs;
+    stiffness = lastNumber "stiffness" fs;
+    damping = lastNumber "damping" fs;
+    mass = lastNumber "mass" fs;
+    velocity = lastValue fs;
+    epsilon = lastNumber "epsilon" fs;
+    integrator = lastNumber "integrator" fs;
+    dampingMode = lastDamping fs;
   }
 
   -- a spring without fields is short; with some, these pay
@@ -145,9 +146,9 @@ module _ (s : List ℕ) (short : length s ≤ 16384) {inner : Form Forest} (b : 
     where
       bare : Most (springForm (length s) .write (springOf t v w [])) (4 + (length (valueForm .write v) + (length (valueForm .write w) + 8)))
       bare = span-most (length s) t ⊕ all (valueForm .write v) ⊕ all (valueForm .write w) ⊕ all (0 ∷ 0 ∷ 0 ∷ 0 ∷ 0 ∷ 0 ∷ 0 ∷ 0 ∷ [])
-  spring-total t v w (e ∷ fs) f = go (valueOf (e ∷ fs)) refl
+  spring-total t v w (e ∷ fs) f = go (lastValue (e ∷ fs)) refl
     where
-      go : (o : Option ValueExpr) → valueOf (e ∷ fs) ≡ o
+      go : (o : Option ValueExpr) → lastValue (e ∷ fs) ≡ o
           → length (springForm (length s) .write (springOf t v w (e ∷ fs)))
           ≤ 26 + length (valueForm .write v) + length (valueForm .write w) + total (e ∷ fs)
       go none q =
@@ -232,7 +233,7 @@ module _ (s : List ℕ) (short : length s ≤ 16384) {inner : Form Forest} (b : 
       and (a-choice g1 Malformed (words ("along" ∷ []))) (λ m2 g2 u x2.
       then (string-runs s short m2 g2) (λ v m3 g3 x3.
       then (fields-run s pathFields path-rows [] m3 g3 tt) (λ fs m4 g4 x4.
-      then (needs MissingDuration (numberOf "duration" fs) g4) (λ d m5 g5 x5.
+      then (needs MissingDuration (lastNumber "duration" fs) g4) (λ d m5 g5 x5.
       let n = length s in
       let f = x4 .fair in
       gives g5 (path-leafed _ q m5
@@ -240,7 +241,7 @@ module _ (s : List ℕ) (short : length s ≤ 16384) {inner : Form Forest} (b : 
       also x3 .0
       also word-is n fs f "duration" refl d (x5 .1)
       also easing-opt n fs f
-      also opt-flag-ok (truthOf "auto_rotate" fs)
+      also opt-flag-ok (lastTruth "auto_rotate" fs)
       also range-opt n fs f
       also loop-opt n fs f)
       (omega (arith, total-number n fs f "duration" d (x5 .1), x1 .on, x2 .1, x3 .1, x4 .paid, x5 .0))))))))
@@ -263,7 +264,7 @@ module _ (s : List ℕ) (short : length s ≤ 16384) {inner : Form Forest} (b : 
       and (two-marks g1 61 62 refl refl) (λ m2 g2 u x2.
       then (string-runs s short m2 g2) (λ w m3 g3 x3.
       then (fields-run s morphFields morph-rows [] m3 g3 tt) (λ fs m4 g4 x4.
-      then (needs MissingDuration (numberOf "duration" fs) g4) (λ d m5 g5 x5.
+      then (needs MissingDuration (lastNumber "duration" fs) g4) (λ d m5 g5 x5.
       let n = length s in
       let f = x4 .fair in
       gives g5 (morph-leafed _ q m5
@@ -285,7 +286,7 @@ module _ (s : List ℕ) (short : length s ≤ 16384) {inner : Form Forest} (b : 
   draw-runs q h e =
       then (string-runs s short q h) (λ v m1 g1 x1.
       then (fields-run s drawFields draw-rows [] m1 g1 tt) (λ fs m2 g2 x2.
-      then (needs MissingDuration (numberOf "duration" fs) g2) (λ d m3 g3 x3.
+      then (needs MissingDuration (lastNumber "duration" fs) g2) (λ d m3 g3 x3.
       let n = length s in
       let f = x2 .fair in
       gives g3 (draw-leafed _ q m3
@@ -312,7 +313,7 @@ module _ (s : List ℕ) (short : length s ≤ 16384) {inner : Form Forest} (b : 
       and (two-marks g3 61 62 refl refl) (λ m4 g4 u x4.
       then (string-runs s short m4 g4) (λ w m5 g5 x5.
       then (fields-run s colorFields color-rows [] m5 g5 tt) (λ fs m6 g6 x6.
-      then (needs MissingDuration (numberOf "duration" fs) g6) (λ d m7 g7 x7.
+      then (needs MissingDuration (lastNumber "duration" fs) g6) (λ d m7 g7 x7.
       let n = length s in
       let f = x6 .fair in
       gives g7 (color-leafed _ q m7
@@ -341,13 +342,13 @@ module _ (s : List ℕ) (short : length s ≤ 16384) {inner : Form Forest} (b : 
   abbrev waveformOf : ℕ → Fields → WaveformSpec
   waveformOf k fs = record {
     kind = k;
-    frequency = numberOf "frequency" fs;
-    amplitude = numberOf "amplitude" fs;
-    phase = numberOf "phase" fs;
-    dutyCycle = numberOf "duty_cycle" fs;
-    seed = numberOf "seed" fs;
-    smoothness = numberOf "smoothness" fs;
-    duration = numberOf "duration" fs;
+    frequency = lastNumber "frequency" fs;
+    amplitude = lastNumber "amplitude" fs;
+    phase = lastNumber "phase" fs;
+    dutyCycle = lastNumber "duty_cycle" fs;
+    seed = lastNumber "seed" fs;
+    smoothness = lastNumber "smoothness" fs;
+    duration = lastNumber "duration" fs;
   }
 
   waveform-total : (k : ℕ) (fs : Fields) → AllFair (length s) fs → length (waveformForm .write (waveformOf k fs)) ≤ 24 + total fs
@@ -377,7 +378,7 @@ module _ (s : List ℕ) (short : length s ≤ 16384) {inner : Form Forest} (b : 
   -- ---- preset, label, at
 
   abbrev presetOf : Span → Fields → PresetCall
-  presetOf t fs = record { name = t; duration = numberOf "duration" fs; easing = easingOf fs }
+  presetOf t fs = record { name = t; duration = lastNumber "duration" fs; easing = lastEasing fs }
 
   preset-total : (t : Span) (fs : Fields) → AllFair (length s) fs → length (presetForm (length s) .write (presetOf t fs)) ≤ 18 + total fs
   unfolding last

@@ -7,6 +7,7 @@ use mathlib.Core.Path.{_≡_, refl, ap, _∙_, subst}
 use native.Mathlib.Omega.{arith}
 use lib.ListN.{length, getD}
 use borrow.Author.Tests.{le-ltb}
+use Rattle.text.specs.Limits.{textLimit}
 use Rattle.text.specs.Bytes.{isForeign}
 use Rattle.number.specs.Time.{Key}
 use Rattle.token.specs.Token.{Token}
@@ -68,7 +69,7 @@ parses-clean t ns e = let p = parses t ns e in none-foreign t 0 (clean t (p .ts)
 
 -- ---- the tree fits the sheet, and is small
 
-module _ (t : List ℕ) (ns : Nodes Key) (short : length t ≤ 16384) (e : parse t ≡ tree ns) where
+module _ (t : List ℕ) (ns : Nodes Key) (short : length t ≤ textLimit) (e : parse t ≡ tree ns) where
   -- the nodes of the whole text
   whole : Ends t (parses t ns e .left) (Several t short (innerL (length t) 16) (block 16) (block-runs t short 16) 0 ns)
   unfolding animatoInput
@@ -80,21 +81,21 @@ module _ (t : List ℕ) (ns : Nodes Key) (short : length t ≤ 16384) (e : parse
       (record { leftover = none; bound = suc (length t) }))
 
 -- the counts, numbers, positions, spans and the nesting are within the sheet's limits
-pub parses-fits : (t : List ℕ) (ns : Nodes Key) → length t ≤ 16384 → parse t ≡ tree ns → Fits (length t) (mapTimes stored ns)
+pub parses-fits : (t : List ℕ) (ns : Nodes Key) → length t ≤ textLimit → parse t ≡ tree ns → Fits (length t) (mapTimes stored ns)
 unfolding Fits
 parses-fits t ns short e =
     let w = whole t ns short e in sized-ok t short 16 (mapTimes stored ns) (omega (arith, w .high, w .post .count)) (w .post .ok)
 
 -- at most 3 bytes of the sheet for each byte that a text may have
-pub parses-small : (t : List ℕ) (ns : Nodes Key) → length t ≤ 16384 → parse t ≡ tree ns
+pub parses-small : (t : List ℕ) (ns : Nodes Key) → length t ≤ textLimit → parse t ≡ tree ns
     → length (encode (length t) (mapTimes stored ns)) ≤ 49152
 unfolding encode
 parses-small t ns short e = let w = whole t ns short e in top-small t short 16 (mapTimes stored ns) (w .at) (w .high) (w .post .paid)
 
 -- so checking and lining, given that text and its sheet, open it: none of 1, 2 and 20 is due
-pub parses-opens : (t : List ℕ) (ns : Nodes Key) → length t ≤ 16384 → parse t ≡ tree ns
+pub parses-opens : (t : List ℕ) (ns : Nodes Key) → length t ≤ textLimit → parse t ≡ tree ns
     → opening t (encode (length t) (mapTimes stored ns)) ≡ opened (mapTimes stored ns)
 unfolding opening
 parses-opens t ns short e =
     let d = decodes (length t) (mapTimes stored ns) (parses-fits t ns short e) (omega (arith, parses-small t ns short e)) in
-    rw (le-ltb 16384 (length t) short, parses-clean t ns e, d)
+    rw (le-ltb textLimit (length t) short, parses-clean t ns e, d)

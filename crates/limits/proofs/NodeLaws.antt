@@ -6,6 +6,7 @@ use mathlib.Core.Option.{Option, none, some}
 use mathlib.Core.Path.{_≡_, refl, ap, _∙_}
 use native.Mathlib.Omega.{arith}
 use lib.ListN.{length, length-append}
+use Rattle.text.specs.Limits.{textLimit}
 use Rattle.text.specs.Bytes.{bytes}
 use Rattle.text.specs.Words.{under}
 use Rattle.number.specs.Time.{Key}
@@ -77,7 +78,7 @@ module _ (n : ℕ) (inner : Form Forest) where
 
 -- ---- a node
 
-module _ (s : List ℕ) (short : length s ≤ 16384) {inner : Form Forest} (b : Law inner) where
+module _ (s : List ℕ) (short : length s ≤ textLimit) {inner : Form Forest} (b : Law inner) where
   -- the nodes of a block from q to m
   pub record Blocked (q : ℕ) (ns : Nodes Key) (m : ℕ) : Type 0 where
     pub ok : b .ok (mapTimes stored ns)
@@ -192,7 +193,7 @@ module _ (s : List ℕ) (short : length s ≤ 16384) {inner : Form Forest} (b : 
 
 -- ---- blocks
 
-module _ (s : List ℕ) (short : length s ≤ 16384) where
+module _ (s : List ℕ) (short : length s ≤ textLimit) where
   -- nodes with their count
   pub sized-ok : (d : ℕ) (ns : Forest) → width ns ≤ length s → OkNodes (length s) (innerL (length s) d) ns
       → innerL (length s) (suc d) .ok ns

@@ -10,6 +10,7 @@ use lib.ListN.{length, getD, length-append}
 use lib.Ieee.{binary32, round}
 use lib.Ieee.Fits.{round-fits}
 use borrow.Author.Tests.{ltb-false, le-leb}
+use Rattle.text.specs.Limits.{textLimit}
 use Rattle.text.specs.Bytes.{isName, bytes}
 use Rattle.number.specs.Number.{Written, nearest, whole, bits}
 use Rattle.number.proofs.Floats.{nearest-fits, bits-lt}
@@ -49,7 +50,7 @@ whole-below false w n e = go (ltb 4294967295 (w .digits)) refl e
 is-true : {b : Bool} → b ≡ true → T b
 is-true e = subst T (sym e) tt
 
-module _ (s : List ℕ) (short : length s ≤ 16384) where
+module _ (s : List ℕ) (short : length s ≤ textLimit) where
   -- ---- names and strings as spans
 
   pub span-fits : (a b : ℕ) → a + b ≤ length s → spanL (length s) .ok (record { start = a; size = b })

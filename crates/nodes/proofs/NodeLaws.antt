@@ -6,7 +6,7 @@ use mathlib.Core.Path.{_≡_, refl, sym, _∙_}
 use native.Mathlib.Omega.{arith}
 use lib.ListN.{length, length-append}
 use Rattle.number.specs.Number.{nearest, bits}
-use Rattle.token.specs.Means.{written}
+use Rattle.token.specs.Means.{writtenOf}
 use Rattle.token.specs.declared.Number.{Number}
 use Rattle.ast.specs.Tree.{label, at}
 use Rattle.ast.specs.declared.Span.{Span}
@@ -69,13 +69,13 @@ module _ (s : List ℕ) (c m : Cursor) where
 
     pub at-went : {b b₁ b₂ a : List ℕ} {out f g q : ℕ} (g? : Bool) (k : Number) (e n : Cursor) (d : Bool)
         → Numbers s m g? k e → Took 0 s e n (eatByte 59) d → Writes b out (14 ∷ []) b₁ f
-        → Writes b₁ f (word .write (bits (nearest (cond i (not g?) g?) (written k)))) b₂ g
+        → Writes b₁ f (word .write (bits (nearest (cond i (not g?) g?) (writtenOf k)))) b₂ g
         → Writes b₂ g (flag .write p) a q
         → Went 1 s b a c n out q parseAt (leafBytes (length s))
     unfolding parseAt
     at-went {b} {b₁} {b₂} {a} {out} {f} {g} {q} g? k e n d v u o w z =
         let r = took-number s m _ _ _ v Malformed in
-        let x = bits (nearest (cond i (not g?) g?) (written k)) in
+        let x = bits (nearest (cond i (not g?) g?) (writtenOf k)) in
         record {
           value = at (record { value = x; relative = p });
           took = record { is = rw (t .is, r .is, u .is); low = omega (arith, t .low, r .low, u .low); ready = u .ready };

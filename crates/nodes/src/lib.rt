@@ -3,7 +3,7 @@
 ghost use mathlib.Core.Path.{_≡_};
 ghost use mathlib.Core.Bool.{Bool, not, cond};
 ghost use Rattle.number.specs.Number.{nearest};
-ghost use Rattle.token.specs.Means.{written};
+ghost use Rattle.token.specs.Means.{writtenOf};
 ghost use Rattle.grammar.specs.Grammar.{parseLabel, parseAt, parseDraw, drawFields};
 ghost use Rattle.cursor.specs.Means.{Ready};
 ghost use Rattle.arrays.specs.Means.{Room};
@@ -29,7 +29,7 @@ pub fn parse_label(text: &[u8], sheet: &mut [u8], c: Cursor, out: usize) -> Node
 {
     match cursor::string(text, c) {
         WordRead::Missing(p) => NodeRead::Refused(Refusal::Missing, p),
-        WordRead::Is(s, m) => match cursor::mark(text, m, 59) {
+        WordRead::Is(s, m) => match cursor::mark(text, m, b';') {
             MarkRead::Missing(p) => NodeRead::Refused(Refusal::Missing, p),
             MarkRead::Is(n) => {
                 let a = encode::put_byte(sheet, out, 13);
@@ -52,7 +52,7 @@ fn at_sign(text: &[u8], c: Cursor) -> Sign
     requires { ⌜ Ready (now text) c ⌝ }
     ensures { λ r. ⌜ SignMeans (now (text .entry)) c r ⌝ }
 {
-    let plus = cursor::eat(text, c, 43);
+    let plus = cursor::eat(text, c, b'+');
     let m = plus.next;
     if plus.taken {
         return Sign {
@@ -61,7 +61,7 @@ fn at_sign(text: &[u8], c: Cursor) -> Sign
             next: m,
         };
     }
-    let minus = cursor::eat(text, m, 45);
+    let minus = cursor::eat(text, m, b'-');
     let n = minus.next;
     Sign {
         relative: minus.taken,
@@ -89,7 +89,7 @@ pub fn parse_at(text: &[u8], sheet: &mut [u8], c: Cursor, out: usize) -> NodeRea
     match cursor::number(text, m) {
         NumberRead::Missing(p) => NodeRead::Refused(Refusal::Malformed, p),
         NumberRead::Is(negative, n, e) => {
-            let end = cursor::eat(text, e, 59);
+            let end = cursor::eat(text, e, b';');
             let value = number::decimal(turned(negative, sign.minus), n.digits, n.places);
             let a = encode::put_byte(sheet, out, 14);
             let b = encode::put_float(sheet, a, value);

@@ -10,6 +10,7 @@ use lib.Dec.{ltb}
 use lib.ListN.{length, drop, getD, drop-of-length-le}
 use lib.Seq.{drop-cons}
 use borrow.Author.Tests.{lt-ltb, le-ltb}
+use Rattle.text.specs.Limits.{textLimit}
 use Rattle.text.specs.Bytes.{isForeign}
 use Rattle.text.specs.Words.{isSome}
 use Rattle.error.specs.declared.Refusal.{Refusal}
@@ -42,18 +43,18 @@ module _ (t : List ℕ) (i : ℕ) where
 -- ---- the first refusal
 
 module _ (t s : List ℕ) where
-  pub too-long : 16384 < length t → Shut TextTooLong 0 ≡ answerOf (opening t s)
+  pub too-long : textLimit < length t → Shut TextTooLong 0 ≡ answerOf (opening t s)
   unfolding opening
-  too-long h = rw (lt-ltb 16384 (length t) h)
+  too-long h = rw (lt-ltb textLimit (length t) h)
 
-  module _ (h : length t ≤ 16384) where
+  module _ (h : length t ≤ textLimit) where
     pub foreign : {i : ℕ} → some i ≡ foreignFrom 0 t → Shut BadForm i ≡ answerOf (opening t s)
     unfolding opening
-    foreign e = rw (le-ltb 16384 (length t) h, ← e)
+    foreign e = rw (le-ltb textLimit (length t) h, ← e)
 
     plain : none ≡ foreignFrom 0 t → opening t s ≡ decoded (decode (length t) s)
     unfolding opening
-    plain e = rw (le-ltb 16384 (length t) h, ← e)
+    plain e = rw (le-ltb textLimit (length t) h, ← e)
 
     pub a-sheet : none ≡ foreignFrom 0 t → true ≡ isSome (decode (length t) s) → Open ≡ answerOf (opening t s)
     a-sheet e p = go (decode (length t) s) p ∙ sym (ap answerOf (plain e))
@@ -79,16 +80,16 @@ pub record Tree (t s : List ℕ) : Type 0 where
 -- an open sheet has a tree
 pub the-tree : (t s : List ℕ) → Open ≡ answerOf (opening t s) → Tree t s
 unfolding opening
-the-tree t s e = long (ltb 16384 (length t)) refl e
+the-tree t s e = long (ltb textLimit (length t)) refl e
   where
     tree : (f : Option ℕ) → foreignFrom 0 t ≡ f → (d : Option Forest)
-        → decode (length t) s ≡ d → ltb 16384 (length t) ≡ false
+        → decode (length t) s ≡ d → ltb textLimit (length t) ≡ false
         → Open ≡ answerOf (unlessForeign f (decoded d)) → Tree t s
     tree (some i) p d q l e = let z : _≡_ {A = ℕ} 0 1 = cc in absurd (omega arith)
     tree none p none q l e = let z : _≡_ {A = ℕ} 0 1 = cc in absurd (omega arith)
     tree none p (some ns) q l e = record { nodes = ns; opens = rw (l, p, q); decodes = q }
 
-    long : (b : Bool) → ltb 16384 (length t) ≡ b
+    long : (b : Bool) → ltb textLimit (length t) ≡ b
         → Open ≡ answerOf (cond b (shut TextTooLong 0) (unlessForeign (foreignFrom 0 t) (decoded (decode (length t) s))))
         → Tree t s
     long true p e = let z : _≡_ {A = ℕ} 0 1 = cc in absurd (omega arith)

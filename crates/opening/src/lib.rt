@@ -30,7 +30,7 @@ pub fn first_foreign(text: &[u8]) -> Found
 pub fn open_sheet(text: &[u8], sheet: &[u8]) -> Opening
     ensures { λ r. ⌜ r ≡ answerOf (opening (now (text .entry)) (now (sheet .entry))) ⌝ }
 {
-    if 16384 < text.len() {
+    if text::TEXT_LIMIT < text.len() {
         return Opening::Shut {
             refusal: Refusal::TextTooLong,
             place: 0,

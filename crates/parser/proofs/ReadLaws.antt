@@ -8,6 +8,7 @@ use native.Mathlib.Nat.{zero-add, sub-zero}
 use borrow.Author.Tests.{lt-ltb, le-ltb, ltb-false}
 use lib.Dec.{ltb}
 use lib.ListN.{length, take, replicate}
+use Rattle.text.specs.Limits.{textLimit}
 use Rattle.codec.specs.Codec.{big}
 use Rattle.token.specs.Split.{Split, unlexed, tokens, split}
 use Rattle.token.specs.Means.{answerOf, splitting}
@@ -32,7 +33,7 @@ use Rattle.error.specs.declared.Refusal.the-variants.{TextTooLong, ScratchTooSh
 use Rattle.error.specs.declared.ReadAnswer.{ReadAnswer}
 use Rattle.error.specs.declared.ReadAnswer.the-variants.{Accepted, Refused}
 use Rattle.parser.specs.Reading as reads
-use Rattle.parser.specs.Reading.{wrong, finished, parse, early, reading}
+use Rattle.parser.specs.Reading.{wrong, finished, parse, early, reading, scratchWords}
 use Rattle.parser.specs.Means.{treeOf, Encoded, TreeMeans, settled, outcome}
 
 -- ---- the grammar, from the text's start on
@@ -42,7 +43,7 @@ module _ (t : List ℕ) (c : Cursor) (e : c .at ≡ 0) (l : c .left ≡ left.Not
   unfolding animatoInput
   input-run = rw (e, l)
 
-  pub input-reached : length t ≤ 16384 → Reached t c 2
+  pub input-reached : length t ≤ textLimit → Reached t c 2
   input-reached h = record { short = h; low = omega arith }
 
   pub input-refused : (r : Refusal) (p : ℕ) → run t c (parseNodes 16) ≡ refused r p → treeOf t ≡ wrong r p
@@ -92,7 +93,7 @@ module _ (s b a bs : List ℕ) (n k : ℕ) (z : length a ≡ length b) (w : Writ
 -- the settled answer to the tree
 tree-settled : (t s b a : List ℕ) (x : ReadAnswer) → length a ≡ length b → TreeMeans t b a x
     → outcome (settled x a .0) (replicate (length s) 0) (settled x a .1)
-    ≡ reads.cleared s b (reads.written (length t) (length b) (treeOf t))
+    ≡ reads.cleared s b (reads.answered (length t) (length b) (treeOf t))
 tree-settled t s b a (Refused r p) z m = rw (m, z, sub-zero)
 tree-settled t s b a (Accepted n k) z m =
     let bs = encode (length t) (mapTimes stored (m .nodes)) in
@@ -101,8 +102,8 @@ tree-settled t s b a (Accepted n k) z m =
 -- ---- the text rules
 
 -- the pass over the text, where the scratch is long enough
-module _ (t s s′ : List ℕ) (x : SplitAnswer) (l : 16384 ≤ length s) (e : lexing.outcome x s′ ≡ splitting t s) where
-  split-both : lexing.outcome x s′ ≡ lexing.outcome (answerOf (split t)) (replicate (length s) 0)
+module _ (t s s′ : List ℕ) (x : SplitAnswer) (l : scratchWords ≤ length s) (e : lexing.splitOutcome x s′ ≡ splitting t s) where
+  split-both : lexing.splitOutcome x s′ ≡ lexing.splitOutcome (answerOf (split t)) (replicate (length s) 0)
   unfolding splitting
   split-both = e ∙ (rw (le-ltb (length s) 64 (omega arith)))
 
@@ -131,19 +132,19 @@ module _ (t s s′ : List ℕ) (x : SplitAnswer) (l : 16384 ≤ length s) (e : l
 -- ---- reading
 
 module _ (t s b : List ℕ) where
-  pub too-long : 16384 < length t → reading t s b ≡ outcome (Refused TextTooLong 0) s b
+  pub too-long : textLimit < length t → reading t s b ≡ outcome (Refused TextTooLong 0) s b
   unfolding reading early
-  too-long h = rw (lt-ltb 16384 (length t) h)
+  too-long h = rw (lt-ltb textLimit (length t) h)
 
-  module _ (h : length t ≤ 16384) where
-    pub too-few : length s < 16384 → reading t s b ≡ outcome (Refused ScratchTooShort 0) s b
+  module _ (h : length t ≤ textLimit) where
+    pub too-few : length s < scratchWords → reading t s b ≡ outcome (Refused ScratchTooShort 0) s b
     unfolding reading early
-    too-few l = rw (le-ltb 16384 (length t) h, lt-ltb (length s) 16384 l)
+    too-few l = rw (le-ltb textLimit (length t) h, lt-ltb (length s) scratchWords l)
 
-    module _ (l : 16384 ≤ length s) where
-      by-parse : reading t s b ≡ reads.cleared s b (reads.written (length t) (length b) (parse t))
+    module _ (l : scratchWords ≤ length s) where
+      by-parse : reading t s b ≡ reads.cleared s b (reads.answered (length t) (length b) (parse t))
       unfolding reading early
-      by-parse = rw (le-ltb 16384 (length t) h, le-ltb (length s) 16384 l)
+      by-parse = rw (le-ltb textLimit (length t) h, le-ltb (length s) scratchWords l)
 
       pub read-refused : (s′ b′ : List ℕ) (x : ReadAnswer) (r : Refusal) (p : ℕ) → s′ ≡ replicate (length s) 0 → parse t ≡ wrong r p
           → Prim.Path (ReadAnswer × List ℕ) (x, b′) (settled (Refused r p) b) → outcome x s′ b′ ≡ reading t s b

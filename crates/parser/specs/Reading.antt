@@ -5,6 +5,7 @@ use mathlib.Core.List.{List, [], _++_}
 use mathlib.Core.Option.{Option, none, some}
 use lib.Dec.{ltb}
 use lib.ListN.{length, replicate}
+use Rattle.text.specs.Limits.{textLimit}
 use Rattle.token.specs.Split.{Split, unlexed, tokens, split}
 use Rattle.number.specs.Time.{Key}
 use Rattle.ast.specs.Tree.{Nodes, mapTimes, records}
@@ -44,13 +45,17 @@ parse t = parsed (length t) (split t)
 abbrev pub fitting : ℕ → List ℕ → ℕ → ReadAnswer × List ℕ
 fitting room bs n = cond (ltb room (length bs)) (Refused SheetTooShort 0, []) (Accepted (length bs) n, bs)
 
-abbrev pub written : ℕ → ℕ → Parsed → ReadAnswer × List ℕ
-written n room (wrong r p) = (Refused r p, [])
-written n room (tree ns) = fitting room (encode n (mapTimes stored ns)) (records ns)
+abbrev pub answered : ℕ → ℕ → Parsed → ReadAnswer × List ℕ
+answered n room (wrong r p) = (Refused r p, [])
+answered n room (tree ns) = fitting room (encode n (mapTimes stored ns)) (records ns)
+
+-- "scratch under 16,384 words (reading)": 16
+abbrev pub scratchWords : ℕ
+scratchWords = 16384
 
 -- "Order in reading: 1, 16", which leave everything as it was
 unfoldable pub early : ℕ → ℕ → Option Refusal
-early size words = cond (ltb 16384 size) (some TextTooLong) (cond (ltb words 16384) (some ScratchTooShort) none)
+early size words = cond (ltb textLimit size) (some TextTooLong) (cond (ltb words scratchWords) (some ScratchTooShort) none)
 
 -- "After reading, unless 1 or 16, scratch is all zero; the sheet is zero past its length, and all zero on a refusal"
 abbrev pub cleared : List ℕ → List ℕ → ReadAnswer × List ℕ → ReadAnswer × List ℕ × List ℕ
@@ -58,7 +63,7 @@ cleared scratch sheet w = (w .0, replicate (length scratch) 0, w .1 ++ replicate
 
 abbrev pub unlessEarly : List ℕ → List ℕ → List ℕ → Option Refusal → ReadAnswer × List ℕ × List ℕ
 unlessEarly t scratch sheet (some r) = (Refused r 0, scratch, sheet)
-unlessEarly t scratch sheet none = cleared scratch sheet (written (length t) (length sheet) (parse t))
+unlessEarly t scratch sheet none = cleared scratch sheet (answered (length t) (length sheet) (parse t))
 
 -- the answer, the scratch and the sheet afterwards
 unfoldable pub reading : List ℕ → List ℕ → List ℕ → ReadAnswer × List ℕ × List ℕ

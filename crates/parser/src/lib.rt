@@ -2,6 +2,7 @@
 ghost use mathlib.Core.Path.{_≡_};
 ghost use Prim.Native.Nat.{_≤_};
 ghost use lib.ListN.{length};
+ghost use Rattle.text.specs.Limits.{textLimit};
 ghost use Rattle.parser.specs.Reading.{reading};
 ghost use Rattle.parser.specs.Means.{TreeMeans, settled, outcome};
 use blocks::ParsedNodes;
@@ -10,9 +11,12 @@ use error::ReadAnswer;
 use error::Refusal;
 use token::SplitAnswer;
 
+// The words that reading asks of a scratch.
+pub const SCRATCH_WORDS: usize = 16384;
+
 // `AnimatoInput`: the nodes of a whole text, written behind their count.
 fn parse_input(text: &[u8], sheet: &mut [u8]) -> ReadAnswer
-    requires { ⌜ length (now text) ≤ 16384 ⌝ }
+    requires { ⌜ length (now text) ≤ textLimit ⌝ }
     ensures { λ r. ⌜ TreeMeans (now (text .entry)) (now (sheet .entry)) (now (sheet .exit)) r ⌝ }
 {
     let c = cursor::start(text, 0, Left::Nothing);
@@ -64,13 +68,13 @@ fn settle(sheet: &mut [u8], answer: ReadAnswer) -> ReadAnswer
 pub fn read(text: &[u8], scratch: &mut [u16], sheet: &mut [u8]) -> ReadAnswer
     ensures { λ r. ⌜ outcome r (now (scratch .exit)) (now (sheet .exit)) ≡ reading (now (text .entry)) (now (scratch .entry)) (now (sheet .entry)) ⌝ }
 {
-    if 16384 < text.len() {
+    if text::TEXT_LIMIT < text.len() {
         return ReadAnswer::Refused {
             refusal: Refusal::TextTooLong,
             place: 0,
         };
     }
-    if scratch.len() < 16384 {
+    if scratch.len() < SCRATCH_WORDS {
         return ReadAnswer::Refused {
             refusal: Refusal::ScratchTooShort,
             place: 0,

@@ -22,7 +22,7 @@ use Rattle.error.specs.declared.ReadAnswer.the-variants as read
 use Rattle.error.specs.declared.CheckAnswer.{CheckAnswer}
 use Rattle.error.specs.declared.CheckAnswer.the-variants as check
 use Rattle.parser.specs.Means.{outcome}
-use Rattle.parser.specs.Reading.{reading}
+use Rattle.parser.specs.Reading.{reading, scratchWords}
 use Rattle.validate.specs.Checking.{checking}
 use Rattle.verdict.specs.declared.Verdict.{Verdict}
 use Rattle.verdict.specs.declared.Verdict.the-variants.{Unread, Checked}
@@ -171,7 +171,7 @@ pieces-whole t sheet out a (p ∷ ps) room (after, n, b, s, e, run) =
 
 -- with the program's buffers: what is printed from the stage that `begin` gives on is the program's output
 pub output-whole : (t sheet : List ℕ) (a : Stage) (ps : List (List ℕ))
-    → Begins t (replicate 16384 0) (replicate 49152 0) sheet a
+    → Begins t (replicate scratchWords 0) (replicate 49152 0) sheet a
     → Run t sheet (replicate 65536 0) a ps → flatten ps ≡ output t
 unfolding output
 output-whole t sheet a ps e run =

@@ -7,11 +7,12 @@ use mathlib.Core.Path.{_≡_, refl, sym, subst}
 use borrow.Author.Tests.{le-ltb, ltb-false}
 use lib.Dec.{ltb}
 use lib.ListN.{length, replicate}
+use Rattle.text.specs.Limits.{textLimit}
 use Rattle.number.specs.Time.{Key}
 use Rattle.ast.specs.Tree.{Nodes, mapTimes, records}
 use Rattle.sheet.specs.Sheet.{encode}
 use Rattle.grammar.specs.Grammar.{stored}
-use Rattle.parser.specs.Reading.{Parsed, tree, wrong, parse, early, fitting, written, unlessEarly, reading}
+use Rattle.parser.specs.Reading.{Parsed, tree, wrong, parse, early, fitting, answered, unlessEarly, reading, scratchWords}
 use Rattle.validate.proofs.FrameLaws.{none≢some}
 use Rattle.error.specs.declared.Refusal.{Refusal}
 use Rattle.error.specs.declared.Refusal.the-variants.{TextTooLong, ScratchTooShort, SheetTooShort}
@@ -36,8 +37,8 @@ module _ (t scratch sheet : List ℕ) (ns : Nodes Key) (h : Unrefused t (length 
   unfolding reading early
   accepts =
       rw (
-        le-ltb 16384 (length t) (h .short),
-        le-ltb (length scratch) 16384 (h .scratch),
+        le-ltb textLimit (length t) (h .short),
+        le-ltb (length scratch) scratchWords (h .scratch),
         h .parses,
         le-ltb (length sheet) (length (sheetOf t ns)) (h .fits),
       )
@@ -48,16 +49,16 @@ abbrev IsAccepted : ReadAnswer → Type 0
 IsAccepted (Accepted n c) = Unit {0}
 IsAccepted (Refused r p) = ⊥
 
-early-due : (size words : ℕ) → early size words ≡ none → (size ≤ 16384) × (16384 ≤ words)
+early-due : (size words : ℕ) → early size words ≡ none → (size ≤ textLimit) × (scratchWords ≤ words)
 unfolding early
-early-due size words e = go (ltb 16384 size) (ltb words 16384) refl refl e
+early-due size words e = go (ltb textLimit size) (ltb words scratchWords) refl refl e
   where
-    go : (b c : Bool) → ltb 16384 size ≡ b → ltb words 16384 ≡ c
+    go : (b c : Bool) → ltb textLimit size ≡ b → ltb words scratchWords ≡ c
         → cond {A = Option Refusal} b (some TextTooLong) (cond c (some ScratchTooShort) none) ≡ none
-        → (size ≤ 16384) × (16384 ≤ words)
+        → (size ≤ textLimit) × (scratchWords ≤ words)
     go true c p q e = none≢some (sym e)
     go false true p q e = none≢some (sym e)
-    go false false p q e = (ltb-false 16384 size p, ltb-false words 16384 q)
+    go false false p q e = (ltb-false textLimit size p, ltb-false words scratchWords q)
 
 fit-due : (room n : ℕ) (bs : List ℕ) → IsAccepted (fitting room bs n .0) → length bs ≤ room
 fit-due room n bs h = go (ltb room (length bs)) refl h
@@ -68,7 +69,7 @@ fit-due room n bs h = go (ltb room (length bs)) refl h
     go true p h = absurd h
     go false p h = ltb-false room (length bs) p
 
-parsed-due : (t : List ℕ) (room : ℕ) (p : Parsed) → IsAccepted (written (length t) room p .0)
+parsed-due : (t : List ℕ) (room : ℕ) (p : Parsed) → IsAccepted (answered (length t) room p .0)
     → (ns : Nodes Key) × (p ≡ tree ns) × (length (sheetOf t ns) ≤ room)
 parsed-due t room (wrong r q) h = absurd h
 parsed-due t room (tree ns) h = (ns, refl, fit-due room (records ns) (sheetOf t ns) h)

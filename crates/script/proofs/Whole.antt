@@ -7,6 +7,7 @@ use native.Mathlib.Omega.{arith}
 use borrow.Author.Tests.{le-ltb}
 use lib.ListN.{length, take, replicate}
 use lib.Seq.{take-at}
+use Rattle.text.specs.Limits.{textLimit}
 use Rattle.number.specs.Time.{Key}
 use Rattle.ast.specs.Tree.{Nodes, KeyframeTime, mapTimes, records}
 use Rattle.sheet.specs.Sheet.{encode, decode}
@@ -23,12 +24,12 @@ use Rattle.script.proofs.Reading.{sheetOf, accepts, due}
 use Rattle.script.proofs.Tracks.{tracks}
 
 -- checking a tree's own sheet
-checks : (t : List ℕ) (ns : Nodes KeyframeTime) → length t ≤ 16384
+checks : (t : List ℕ) (ns : Nodes KeyframeTime) → length t ≤ textLimit
     → foreignFrom 0 t ≡ none
     → decode (length t) (encode (length t) ns) ≡ some ns
     → checking t (encode (length t) ns) ≡ judged t ns
 unfolding checking opening
-checks t ns h f d = rw (le-ltb 16384 (length t) h, f, d)
+checks t ns h f d = rw (le-ltb textLimit (length t) h, f, d)
 
 -- whoever has made both calls: `left` is what reading answered and left behind, v what checking answered to the sheet up to the length that
 -- reading gave; where reading refuses, v is anything
@@ -40,10 +41,10 @@ Claimed =
 
 module _
     (clean : (t : List ℕ) (ns : Nodes Key) → parse t ≡ tree ns → foreignFrom 0 t ≡ none)
-    (fits : (t : List ℕ) (ns : Nodes Key) → length t ≤ 16384 → parse t ≡ tree ns → Fits (length t) (mapTimes stored ns))
-    (small : (t : List ℕ) (ns : Nodes Key) → length t ≤ 16384 → parse t ≡ tree ns
+    (fits : (t : List ℕ) (ns : Nodes Key) → length t ≤ textLimit → parse t ≡ tree ns → Fits (length t) (mapTimes stored ns))
+    (small : (t : List ℕ) (ns : Nodes Key) → length t ≤ textLimit → parse t ≡ tree ns
     → length (encode (length t) (mapTimes stored ns)) ≤ 49152) where
-  back : (t : List ℕ) (ns : Nodes Key) → length t ≤ 16384 → parse t ≡ tree ns → decode (length t) (sheetOf t ns) ≡ some (mapTimes stored ns)
+  back : (t : List ℕ) (ns : Nodes Key) → length t ≤ textLimit → parse t ≡ tree ns → decode (length t) (sheetOf t ns) ≡ some (mapTimes stored ns)
   back t ns h p = decodes (length t) (mapTimes stored ns) (fits t ns h p) (let s = small t ns h p in omega arith)
 
   pub claim : Claimed

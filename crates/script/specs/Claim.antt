@@ -5,12 +5,13 @@ use mathlib.Core.Option.{Option, some}
 use mathlib.Core.Path.{_≡_}
 use mathlib.Core.Logic.{_≢_}
 use lib.ListN.{length, take, getElem?}
+use Rattle.text.specs.Limits.{textLimit}
 use Rattle.number.specs.Number.{f32}
 use Rattle.number.specs.Time.{Key, FairPercent, AtMost, Within, Far, Equal, Close, Each, Pairs}
 use Rattle.ast.specs.Tree.{Nodes, KeyframeTime, KeyframeEntry, KeyframeSpec, keyframes, mapTimes, records, preorder}
 use Rattle.sheet.specs.Sheet.{encode, decode}
 use Rattle.grammar.specs.Grammar.{stored}
-use Rattle.parser.specs.Reading.{parse, tree, reading}
+use Rattle.parser.specs.Reading.{parse, tree, reading, scratchWords}
 use Rattle.validate.specs.Rules.{timeOf}
 use Rattle.validate.specs.Checking.{judged, checking}
 use Rattle.error.specs.declared.Refusal.the-variants.{DuplicateTime}
@@ -43,8 +44,8 @@ TrackClaim x y n v =
 
 -- none of reading's refusals is due: the grammar's tree of the text is ns, and its encoding has room
 pub record Unrefused (t : List ℕ) (words room : ℕ) (ns : Nodes Key) : Type 0 where
-  pub short : length t ≤ 16384
-  pub scratch : 16384 ≤ words
+  pub short : length t ≤ textLimit
+  pub scratch : scratchWords ≤ words
   pub parses : parse t ≡ tree ns
   pub fits : length (encode (length t) (mapTimes stored ns)) ≤ room
 

@@ -5,7 +5,7 @@ use mathlib.Core.List.{List, [], _∷_, _++_}
 use lib.Dec.{ltb}
 use lib.ListN.{take, replicate}
 use Rattle.text.specs.Bytes.{bytes}
-use Rattle.parser.specs.Reading.{reading}
+use Rattle.parser.specs.Reading.{reading, scratchWords}
 use Rattle.validate.specs.Checking.{checking}
 use Rattle.line.specs.Lining.{lining}
 use Rattle.error.specs.Refusal.{numberOf}
@@ -55,4 +55,4 @@ printed t scratch sheet out = whenRead t out (reading t scratch sheet)
 
 -- with the program's: 16,384 words, 49,152 bytes, 65,536 bytes
 unfoldable pub output : List ℕ → List ℕ
-output t = printed t (replicate 16384 0) (replicate 49152 0) (replicate 65536 0)
+output t = printed t (replicate scratchWords 0) (replicate 49152 0) (replicate 65536 0)

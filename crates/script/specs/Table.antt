@@ -6,7 +6,7 @@ use mathlib.Core.List.{List, [], _∷_}
 use lib.Dec.{T, ltb}
 use lib.ListN.{take, replicate}
 use Rattle.text.specs.Bytes.{bytes, same}
-use Rattle.parser.specs.Reading.{reading}
+use Rattle.parser.specs.Reading.{reading, scratchWords}
 use Rattle.validate.specs.Checking.{checking}
 use Rattle.script.specs.Output.{output}
 use Rattle.error.specs.Answer.{checkValues}
@@ -39,7 +39,7 @@ readValues (Refused r p, scratch, sheet) = numberOf r ∷ p ∷ []
 
 -- reading with the program's buffers
 abbrev pub read : String → List ℕ
-read s = readValues (reading (bytes s) (replicate 16384 0) (replicate 49152 0))
+read s = readValues (reading (bytes s) (replicate scratchWords 0) (replicate 49152 0))
 
 -- checking what reading gave; of a refusal nothing
 abbrev pub checkRead : List ℕ → List ℕ → List ℕ
@@ -103,8 +103,8 @@ unfolding Rattle.text.specs.Bytes.same Rattle.text.specs.Bytes.oneOf Rattle.t
     Rattle.grammar.specs.Fields.fieldName Rattle.grammar.specs.Fields.oneField Rattle.grammar.specs.Fields.fieldsStep
     Rattle.grammar.specs.Fields.parseFieldList Rattle.grammar.specs.Fields.last Rattle.grammar.specs.Fields.ever
     Rattle.grammar.specs.Grammar.tweenFields Rattle.grammar.specs.Grammar.parseTween Rattle.grammar.specs.Grammar.parseSpringPreset
-    Rattle.grammar.specs.Grammar.springPreset Rattle.grammar.specs.Grammar.integrator Rattle.grammar.specs.Grammar.critical
-    Rattle.grammar.specs.Grammar.over Rattle.grammar.specs.Grammar.under Rattle.grammar.specs.Grammar.springFields
+    Rattle.grammar.specs.Grammar.springPreset Rattle.grammar.specs.Grammar.integrator Rattle.grammar.specs.Grammar.criticalDamping
+    Rattle.grammar.specs.Grammar.overDamping Rattle.grammar.specs.Grammar.underDamping Rattle.grammar.specs.Grammar.springFields
     Rattle.grammar.specs.Grammar.parseSpring Rattle.grammar.specs.Grammar.stored Rattle.grammar.specs.Grammar.parseKeyframeTime
     Rattle.grammar.specs.Grammar.keyframeEntry Rattle.grammar.specs.Grammar.trackLoop Rattle.grammar.specs.Grammar.trackFrame
     Rattle.grammar.specs.Grammar.trackStep Rattle.grammar.specs.Grammar.parseKeyframes Rattle.grammar.specs.Grammar.parseSequence
@@ -121,7 +121,7 @@ unfolding Rattle.text.specs.Bytes.same Rattle.text.specs.Bytes.oneOf Rattle.t
     Rattle.grammar.specs.Grammar.parseAt Rattle.grammar.specs.Grammar.leaves Rattle.grammar.specs.Grammar.containers
     Rattle.grammar.specs.Grammar.beginning Rattle.grammar.specs.Grammar.parseNode Rattle.grammar.specs.Grammar.oneNode
     Rattle.grammar.specs.Grammar.nodesStep Rattle.grammar.specs.Grammar.block Rattle.grammar.specs.Grammar.animatoInput
-    Rattle.grammar.specs.Rule.weigh Rattle.grammar.specs.Rule.behind Rattle.grammar.specs.Rule.steps Rattle.grammar.specs.Values.ident
+    Rattle.grammar.specs.Rule.weigh Rattle.grammar.specs.Rule.behind Rattle.grammar.specs.Rule.iterate Rattle.grammar.specs.Values.ident
     Rattle.grammar.specs.Values.string Rattle.grammar.specs.Values.truth Rattle.grammar.specs.Values.parseFloat
     Rattle.grammar.specs.Values.parseUint Rattle.grammar.specs.Values.parseFloatInParens Rattle.grammar.specs.Values.commaFloat
     Rattle.grammar.specs.Values.twoFloats Rattle.grammar.specs.Values.parseTwoFloatsInParens Rattle.grammar.specs.Values.parseUintInParens

@@ -5,6 +5,7 @@ use mathlib.Core.List.{List, [], _∷_}
 use mathlib.Core.Option.{Option, none, some}
 use lib.Dec.{ltb}
 use lib.ListN.{length}
+use Rattle.text.specs.Limits.{textLimit}
 use Rattle.text.specs.Bytes.{isForeign}
 use Rattle.error.specs.declared.Refusal.{Refusal}
 use Rattle.error.specs.declared.Refusal.the-variants.{TextTooLong, BadForm, NotASheet}
@@ -29,4 +30,4 @@ unlessForeign none o = o
 unlessForeign (some i) o = shut BadForm i
 
 unfoldable pub opening : List ℕ → List ℕ → Opened
-opening t bs = cond (ltb 16384 (length t)) (shut TextTooLong 0) (unlessForeign (foreignFrom 0 t) (decoded (decode (length t) bs)))
+opening t bs = cond (ltb textLimit (length t)) (shut TextTooLong 0) (unlessForeign (foreignFrom 0 t) (decoded (decode (length t) bs)))

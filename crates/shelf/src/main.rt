@@ -5,7 +5,7 @@ use libc::STDIN_FILENO;
 fn main() {
     let mut input = [0u8; 131072];
     let n = io::read_full(STDIN_FILENO, &mut input);
-    let mut scratch = [0u16; 16384];
+    let mut scratch = [0u16; parser::SCRATCH_WORDS];
     let mut sheet = [0u8; 49152];
     let mut out = [0u8; 65536];
     run_all(&input[..n], &mut scratch, &mut sheet, &mut out);

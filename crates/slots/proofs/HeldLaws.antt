@@ -13,7 +13,7 @@ use Rattle.text.specs.Bytes.{bytes, same}
 use Rattle.text.proofs.WordLaws.{same-refl, same-eq}
 use Rattle.grammar.specs.Rule.{Rule}
 use Rattle.grammar.specs.Fields as fields
-use Rattle.grammar.specs.Fields.{Table, Fields, last, ever, valueOf}
+use Rattle.grammar.specs.Fields.{Table, Fields, last, ever, lastValue}
 use Rattle.fields.specs.Means.{names}
 use Rattle.slots.specs.Means.{sortRule, sortRank, rankOf, ValueAt, PlaceSays, KeptIs, ApartIs, ContentIs, everOf, keptOver, slotWith}
 use Rattle.slots.specs.Means.{othersWith, noSlot, keptAt, rulesOf, rulesBy, noneSame, differ, Layout, Says, Said, Beside, Held}
@@ -312,7 +312,7 @@ module _ (s : List ℕ) (lo hi lo′ hi′ : ℕ) (a : lo′ ≤ lo) (b : hi ≤
           plainRange = z .plainRange;
           damping = z .damping;
           plainDamping = z .plainDamping;
-          velocity = place-wider (o .velocity) (valueOf fs) (z .velocity);
+          velocity = place-wider (o .velocity) (lastValue fs) (z .velocity);
         };
       }
 

@@ -6,7 +6,7 @@ use mathlib.Core.Logic.{_⊎_, inl, ⊎-elim}
 use mathlib.Core.Path.{_≡_, refl, sym, subst}
 use native.Mathlib.Omega.{arith}
 use lib.ListN.{getD, getD-replicate, length-replicate}
-use Rattle.grammar.specs.Fields.{Table, Fields, numberOf, truthOf, last, ever}
+use Rattle.grammar.specs.Fields.{Table, Fields, lastNumber, lastTruth, last, ever}
 use Rattle.encode.specs.Of.{optFloatOf, optWordOf, optCaseOf, optBoolOf, PlainOptFloat}
 use Rattle.slots.specs.Means.{sortRank, everOf, floatIn, wholeIn, caseIn, truthIn}
 use Rattle.slots.specs.Means.{noSlot, noSlots, noOthers, Layout, Says, Said, Held}
@@ -20,7 +20,7 @@ other : {A : Type 0} (a r : ℕ) → (a ≡ 0) ⊎ (a ≡ r) → (a ≡ 0 → �
 other a r h f g = absurd (⊎-elim f g h)
 
 module _ (n : String) (fs : Fields) where
-  pub float-held : (x : Kept) → Said 1 x n fs → optFloatOf (floatIn x) ≡ numberOf n fs
+  pub float-held : (x : Kept) → Said 1 x n fs → optFloatOf (floatIn x) ≡ lastNumber n fs
   float-held kept.Absent h = sym (h .says .0)
   float-held (kept.Float f) h = sym (h .says .0)
   float-held (kept.Whole k) h = other 2 1 (h .rank) (λ e. omega arith) (λ e. omega arith)
@@ -36,7 +36,7 @@ module _ (n : String) (fs : Fields) where
   float-plain (kept.Truth b) h = tt
   float-plain (kept.Ever b) h = tt
 
-  pub whole-held : (x : Kept) → Said 2 x n fs → optWordOf (wholeIn x) ≡ numberOf n fs
+  pub whole-held : (x : Kept) → Said 2 x n fs → optWordOf (wholeIn x) ≡ lastNumber n fs
   whole-held kept.Absent h = sym (h .says .0)
   whole-held (kept.Float f) h = other 1 2 (h .rank) (λ e. omega arith) (λ e. omega arith)
   whole-held (kept.Whole k) h = sym (h .says)
@@ -44,7 +44,7 @@ module _ (n : String) (fs : Fields) where
   whole-held (kept.Truth b) h = other 4 2 (h .rank) (λ e. omega arith) (λ e. omega arith)
   whole-held (kept.Ever b) h = other 5 2 (h .rank) (λ e. omega arith) (λ e. omega arith)
 
-  pub case-held : (x : Kept) → Said 3 x n fs → optCaseOf (caseIn x) ≡ numberOf n fs
+  pub case-held : (x : Kept) → Said 3 x n fs → optCaseOf (caseIn x) ≡ lastNumber n fs
   case-held kept.Absent h = sym (h .says .0)
   case-held (kept.Float f) h = other 1 3 (h .rank) (λ e. omega arith) (λ e. omega arith)
   case-held (kept.Whole k) h = other 2 3 (h .rank) (λ e. omega arith) (λ e. omega arith)
@@ -52,7 +52,7 @@ module _ (n : String) (fs : Fields) where
   case-held (kept.Truth b) h = other 4 3 (h .rank) (λ e. omega arith) (λ e. omega arith)
   case-held (kept.Ever b) h = other 5 3 (h .rank) (λ e. omega arith) (λ e. omega arith)
 
-  pub truth-held : (x : Kept) → Said 4 x n fs → optBoolOf (truthIn x) ≡ truthOf n fs
+  pub truth-held : (x : Kept) → Said 4 x n fs → optBoolOf (truthIn x) ≡ lastTruth n fs
   truth-held kept.Absent h = sym (h .says .1)
   truth-held (kept.Float f) h = other 1 4 (h .rank) (λ e. omega arith) (λ e. omega arith)
   truth-held (kept.Whole k) h = other 2 4 (h .rank) (λ e. omega arith) (λ e. omega arith)

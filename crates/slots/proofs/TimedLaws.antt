@@ -13,7 +13,7 @@ use Rattle.error.specs.declared.Refusal.{Refusal}
 use Rattle.error.specs.declared.Refusal.the-variants.{MissingDuration}
 use Rattle.token.specs.Token.{Token}
 use Rattle.grammar.specs.Rule.{Rule, Notes, Out, got, refused, after, need, _>>=_}
-use Rattle.grammar.specs.Fields.{Table, Fields, Content, numberOf, parseFieldList}
+use Rattle.grammar.specs.Fields.{Table, Fields, Content, lastNumber, parseFieldList}
 use Rattle.cursor.specs.Means.{run, Took}
 use Rattle.cursor.specs.declared.Cursor.{Cursor}
 use Rattle.slots.specs.Means.{TimedMeans, sortRank, Held, Said, ListMeans, EndMeans, keptAt}
@@ -29,12 +29,12 @@ pub record TimedAt (s : List ℕ) (lo : ℕ) (sorts : List ℕ) (c e : Cursor) (
   pub fields : Fields
   pub took : Took 0 s c e (parseFieldList t []) fields
   pub held : Held s lo (e .at) sorts t (g .slots) (g .others) fields
-  pub duration : numberOf "duration" fields ≡ some (bits x)
+  pub duration : lastNumber "duration" fields ≡ some (bits x)
   pub plain : Plain x
 
 -- the rule up to the duration
 abbrev pub timely : Table → Rule ℕ
-timely t = parseFieldList t [] >>= λ fs. need MissingDuration (numberOf "duration" fs)
+timely t = parseFieldList t [] >>= λ fs. need MissingDuration (lastNumber "duration" fs)
 
 module _ (s : List ℕ) (lo : ℕ) (sorts : List ℕ) (c : Cursor) (t : Table) (i : ℕ) (p : Rule Content)
     (at : getElem? t i ≡ some ("duration", p)) (r : sortRank (getD sorts i 0) ≡ 1) (g : Gathered) (l : ListMeans s lo sorts c t [] g) where
@@ -62,7 +62,7 @@ module _ (s : List ℕ) (lo : ℕ) (sorts : List ℕ) (c : Cursor) (t : Table) (
   not-timed a q (inr m) =
       let h = ended-as (ended.Is (m .0)) (m .1) in
       let d = said (m .0) h in
-      let z : numberOf "duration" (h .0) ≡ none = sym (float-held "duration" (h .0) (keptAt (g .slots) i) d) ∙ ap optFloatOf (m .2) in
+      let z : lastNumber "duration" (h .0) ≡ none = sym (float-held "duration" (h .0) (keptAt (g .slots) i) d) ∙ ap optFloatOf (m .2) in
       rw (h .1 .is, z, h .1 .ready .head .place, m .3, m .4)
 
 -- the same refusal of another rule
@@ -73,13 +73,13 @@ refused-too r a p q h = let x : r ≡ a = cc in let y : p ≡ q = cc in rw (x, y
 -- what is refused up to the duration is refused
 pub timely-refused : {A : Type 0} (s : List ℕ) (c : Cursor) (t : Table) (k : Fields → ℕ → Rule A) (a : Refusal) (q : ℕ)
     → run s c (timely t) ≡ refused a q
-    → run s c (parseFieldList t [] >>= λ fs. need MissingDuration (numberOf "duration" fs) >>= λ d. k fs d) ≡ refused a q
+    → run s c (parseFieldList t [] >>= λ fs. need MissingDuration (lastNumber "duration" fs) >>= λ d. k fs d) ≡ refused a q
 timely-refused s c t k a q h = go (run s c (parseFieldList t [])) h
   where
     go : (o : Out Fields)
-        → after o (λ fs. need MissingDuration (numberOf "duration" fs)) ≡ refused a q
-        → after o (λ fs. need MissingDuration (numberOf "duration" fs) >>= λ d. k fs d) ≡ refused a q
-    go (got fs l ts) e = by (numberOf "duration" fs) e
+        → after o (λ fs. need MissingDuration (lastNumber "duration" fs)) ≡ refused a q
+        → after o (λ fs. need MissingDuration (lastNumber "duration" fs) >>= λ d. k fs d) ≡ refused a q
+    go (got fs l ts) e = by (lastNumber "duration" fs) e
       where
         by : (n : Option ℕ) → need MissingDuration n l ts ≡ refused a q → after (need MissingDuration n l ts) (λ d. k fs d) ≡ refused a q
         by none e = refused-too _ _ _ _ e

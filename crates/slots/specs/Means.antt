@@ -27,10 +27,10 @@ use Rattle.sheet.specs.Sheet.{valueForm}
 use Rattle.encode.specs.Of as of
 use Rattle.grammar.specs.Rule.{Rule, refused}
 use Rattle.grammar.specs.Fields as fields
-use Rattle.grammar.specs.Fields.{Table, Fields, numberOf, truthOf, easingOf, loopModeOf}
-use Rattle.grammar.specs.Fields.{valueOf, dampingOf, rangeOf, ever, parseFieldList, pairs}
+use Rattle.grammar.specs.Fields.{Table, Fields, lastNumber, lastTruth, lastEasing, lastLoopMode}
+use Rattle.grammar.specs.Fields.{lastValue, lastDamping, lastRange, ever, parseFieldList, pairs}
 use Rattle.grammar.specs.Values.{number, count, flag, value, easing, loopMode, parseValue}
-use Rattle.grammar.specs.Grammar.{springPreset, integrator, critical, over, under, offset, space}
+use Rattle.grammar.specs.Grammar.{springPreset, integrator, criticalDamping, overDamping, underDamping, offset, space}
 use Rattle.cursor.specs.Means.{Ready, run, Took}
 use Rattle.cursor.specs.declared.Cursor.{Cursor}
 use Rattle.fields.specs.Means.{names}
@@ -57,7 +57,7 @@ use Rattle.error.specs.declared.Refusal.the-variants.{MissingDuration}
 
 -- the rules of the sorts; a sort past the list is the last
 unfoldable pub sortRules : List (Rule fields.Content)
-sortRules = number ∷ count ∷ space ∷ springPreset ∷ integrator ∷ flag ∷ flag ∷ easing ∷ loopMode ∷ offset ∷ critical ∷ over ∷ under ∷ []
+sortRules = number ∷ count ∷ space ∷ springPreset ∷ integrator ∷ flag ∷ flag ∷ easing ∷ loopMode ∷ offset ∷ criticalDamping ∷ overDamping ∷ underDamping ∷ []
 
 unfoldable pub sortRule : ℕ → Rule fields.Content
 sortRule k = getD sortRules k value
@@ -230,11 +230,11 @@ Laid rows sorts = (t : Table) × Layout rows sorts t
 
 -- what the fields under the name n say
 abbrev pub Says : Kept → String → Fields → Type 0
-Says kept.Absent n fs = (numberOf n fs ≡ none) × (truthOf n fs ≡ none) × (ever n fs ≡ false)
-Says (kept.Float f) n fs = (numberOf n fs ≡ some (bits f)) × of.Plain f
-Says (kept.Whole k) n fs = numberOf n fs ≡ some k
-Says (kept.Case k) n fs = numberOf n fs ≡ some k
-Says (kept.Truth b) n fs = truthOf n fs ≡ some b
+Says kept.Absent n fs = (lastNumber n fs ≡ none) × (lastTruth n fs ≡ none) × (ever n fs ≡ false)
+Says (kept.Float f) n fs = (lastNumber n fs ≡ some (bits f)) × of.Plain f
+Says (kept.Whole k) n fs = lastNumber n fs ≡ some k
+Says (kept.Case k) n fs = lastNumber n fs ≡ some k
+Says (kept.Truth b) n fs = lastTruth n fs ≡ some b
 Says (kept.Ever b) n fs = ever n fs ≡ b
 
 -- x keeps what they say, in the case of its rank r or in none
@@ -247,14 +247,14 @@ PlaceSays s lo hi optPlace.Absent v = v ≡ none
 PlaceSays s lo hi (optPlace.Present c) v = (x : ValueExpr) × (v ≡ some x) × ValueAt s lo hi c x
 
 pub record Beside (s : List ℕ) (lo hi : ℕ) (o : Others) (fs : Fields) : Type 0 where
-  pub easing : of.optEasingOf (o .easing) ≡ easingOf fs
+  pub easing : of.optEasingOf (o .easing) ≡ lastEasing fs
   pub plainEasing : of.PlainOptEasing (o .easing)
-  pub loopMode : of.optLoopOf (o .«loop_mode») ≡ loopModeOf fs
-  pub range : of.optRangeOf (o .range) ≡ rangeOf fs
+  pub loopMode : of.optLoopOf (o .«loop_mode») ≡ lastLoopMode fs
+  pub range : of.optRangeOf (o .range) ≡ lastRange fs
   pub plainRange : of.PlainOptRange (o .range)
-  pub damping : of.optDampingOf (o .damping) ≡ dampingOf fs
+  pub damping : of.optDampingOf (o .damping) ≡ lastDamping fs
   pub plainDamping : of.PlainOptDamping (o .damping)
-  pub velocity : PlaceSays s lo hi (o .velocity) (valueOf fs)
+  pub velocity : PlaceSays s lo hi (o .velocity) (lastValue fs)
 
 -- the slots xs and the values o beside them are what the fields fs of a table say, which stand between the places lo and hi
 pub record Held (s : List ℕ) (lo hi : ℕ) (sorts : List ℕ) (t : Table) (xs : List Slot) (o : Others) (fs : Fields) : Type 0 where

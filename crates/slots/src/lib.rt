@@ -6,6 +6,7 @@ ghost use mathlib.Core.List.{[]};
 ghost use mathlib.Core.Path.{_≡_};
 ghost use Prim.Native.Nat.{ℕ, _≤_, _<_};
 ghost use lib.ListN.{length};
+ghost use Rattle.text.specs.Limits.{textLimit};
 ghost use Rattle.text.specs.Words.{table};
 ghost use Rattle.grammar.specs.Rule.{choiceIn};
 ghost use Rattle.grammar.specs.Fields.{Table, Fields};
@@ -183,7 +184,7 @@ fn range_value(text: &[u8], c: Cursor) -> ContentRead
 {
     match cursor::parse_float(text, c) {
         FloatRead::Refused(r, p) => ContentRead::Refused(r, p),
-        FloatRead::Is(start, m) => match cursor::both(text, m, 46, 46) {
+        FloatRead::Is(start, m) => match cursor::both(text, m, b'.', b'.') {
             MarkRead::Missing(p) => ContentRead::Refused(Refusal::Missing, p),
             MarkRead::Is(n) => match cursor::parse_float(text, n) {
                 FloatRead::Refused(r, p) => ContentRead::Refused(r, p),
@@ -240,7 +241,7 @@ fn under_value(text: &[u8], c: Cursor) -> ContentRead
 
 // A number or an array is passed: it is read again from its cursor when it is written.
 fn place_value(text: &[u8], c: Cursor) -> ContentRead
-    requires { ⌜ Ready (now text) c × (length (now text) ≤ 16384) ⌝ }
+    requires { ⌜ Ready (now text) c × (length (now text) ≤ textLimit) ⌝ }
     ensures { λ r. ⌜ ContentMeans (now (text .entry)) c 13 r ⌝ }
 {
     let mut unwritten = [0u8; 1];
@@ -261,7 +262,7 @@ const INTEGRATORS: [u8; 24] = *b"\x13semi_implicit_euler\x03rk4";
 
 // The value of a field by the sort of its row.
 fn value_by(text: &[u8], c: Cursor, sort: u8) -> ContentRead
-    requires { ⌜ Ready (now text) c × (length (now text) ≤ 16384) ⌝ }
+    requires { ⌜ Ready (now text) c × (length (now text) ≤ textLimit) ⌝ }
     ensures { λ r. ⌜ ContentMeans (now (text .entry)) c sort r ⌝ }
 {
     match sort {
@@ -411,7 +412,7 @@ pub fn field_list(
     slots: [Slot; 10],
     others: Others,
 ) -> Gathered
-    requires { ⌜ Ready (now text) c × (length (now text) ≤ 16384) × Laid (now rows) (now sorts) ⌝ }
+    requires { ⌜ Ready (now text) c × (length (now text) ≤ textLimit) × Laid (now rows) (now sorts) ⌝ }
     ensures { λ r. ⌜ ((t : Table) → Layout (now (rows .entry)) (now (sorts .entry)) t → (fs : Fields) (lo : ℕ) → lo ≤ c .at → Held (now (text .entry)) lo (c .at) (now (sorts .entry)) t slots others fs → ListMeans (now (text .entry)) lo (now (sorts .entry)) c t fs r) ⌝ }
 {
     let mut m = c;
@@ -464,7 +465,7 @@ pub fn pair_list(
     slots: [Slot; 10],
     others: Others,
 ) -> Gathered
-    requires { ⌜ Ready (now text) c × (length (now text) ≤ 16384) × Laid (now rows) (now sorts) ⌝ }
+    requires { ⌜ Ready (now text) c × (length (now text) ≤ textLimit) × Laid (now rows) (now sorts) ⌝ }
     ensures { λ r. ⌜ ((t : Table) → Layout (now (rows .entry)) (now (sorts .entry)) t → (lo : ℕ) → lo ≤ c .at → Held (now (text .entry)) lo (c .at) (now (sorts .entry)) t slots others [] → PairsMeans (now (text .entry)) lo (now (sorts .entry)) c t r) ⌝ }
 {
     let mut m = c;
@@ -501,7 +502,7 @@ pub fn pair_list(
                     let old = kept[i];
                     kept[i] = slot_with(old, x);
                     o = others_with(o, x);
-                    let ate = cursor::eat(text, e, 44);
+                    let ate = cursor::eat(text, e, b',');
                     m = ate.next;
                     if !ate.taken {
                         let end = Ended::Is(m);

@@ -51,7 +51,7 @@ fn read_input(text: &mut [u8]) -> Input
 }
 
 fn run(text: &[u8]) {
-    let mut scratch = [0u16; 16384];
+    let mut scratch = [0u16; parser::SCRATCH_WORDS];
     let mut sheet = [0u8; 49152];
     let mut out = [0u8; 65536];
     if !print::print(text, &mut scratch, &mut sheet, &mut out) {

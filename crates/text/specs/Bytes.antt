@@ -33,14 +33,14 @@ abbrev pub within : ℕ → ℕ → ℕ → Bool
 within lo hi b = leb lo b && leb b hi
 
 abbrev pub isDigit : ℕ → Bool
-isDigit b = within 48 57 b
+isDigit b = within (code "0") (code "9") b
 
 abbrev pub isUpper : ℕ → Bool
-isUpper b = within 65 90 b
+isUpper b = within (code "A") (code "Z") b
 
 -- 01: "A name is a letter or `_`", its first byte
 abbrev pub isLetter : ℕ → Bool
-isLetter b = within 97 122 b || isUpper b || eqb b 95
+isLetter b = within (code "a") (code "z") b || isUpper b || eqb b (code "_")
 
 -- "then letters, digits, `_`"
 abbrev pub isName : ℕ → Bool
@@ -48,18 +48,18 @@ isName b = isLetter b || isDigit b
 
 -- 01: "space, tab, LF, CR"
 abbrev pub isBlank : ℕ → Bool
-isBlank b = oneOf (32 ∷ 9 ∷ 10 ∷ 13 ∷ []) b
+isBlank b = among " \t\n\r" b
 
 -- 01: "A string holds printable ASCII without `"` and `\`"
 abbrev pub isInside : ℕ → Bool
-isInside b = within 32 126 b && not (among "\"\\" b)
+isInside b = within (code " ") (code "~") b && not (among "\"\\" b)
 
 abbrev pub isHex : ℕ → Bool
 isHex b = isDigit b || among "abcdefABCDEF" b
 
 -- 01: "a byte other than tab, LF, CR or 0x20 to 0x7E"
 abbrev pub isForeign : ℕ → Bool
-isForeign b = not (within 32 126 b || oneOf (9 ∷ 10 ∷ 13 ∷ []) b)
+isForeign b = not (within 32 126 b || among "\t\n\r" b)
 
 -- a capital as its small letter, each other byte as it is
 abbrev pub lower : ℕ → ℕ
@@ -87,4 +87,4 @@ part t from size = take size (drop from t)
 -- digits as one number, onto a number read so far
 unfoldable pub decimal : ℕ → List ℕ → ℕ
 decimal n [] = n
-decimal n (b ∷ t) = decimal (n * 10 + (b - 48)) t
+decimal n (b ∷ t) = decimal (n * 10 + (b - code "0")) t

@@ -8,6 +8,9 @@ ghost use Rattle.text.specs.Words.{find, table, isSome};
 ghost use Rattle.text.specs.Means.{passes, placeOf};
 ghost use Rattle.text.specs.Write.{Puts};
 
+// The bytes that a text may have.
+pub const TEXT_LIMIT: usize = 16384;
+
 // A class of bytes.
 pub enum Class {
     Blank,
@@ -53,19 +56,19 @@ pub fn has(set: &[u8], b: u8) -> bool
 pub fn is_upper(b: u8) -> bool
     ensures { λ r. ⌜ r ≡ isUpper b ⌝ }
 {
-    between(65, 90, b)
+    between(b'A', b'Z', b)
 }
 
 fn is_letter(b: u8) -> bool
     ensures { λ r. ⌜ r ≡ isLetter b ⌝ }
 {
-    if between(97, 122, b) {
+    if between(b'a', b'z', b) {
         return true;
     }
     if is_upper(b) {
         return true;
     }
-    b == 95
+    b == b'_'
 }
 
 fn is_name(b: u8) -> bool
@@ -74,13 +77,13 @@ fn is_name(b: u8) -> bool
     if is_letter(b) {
         return true;
     }
-    between(48, 57, b)
+    between(b'0', b'9', b)
 }
 
 fn is_inside(b: u8) -> bool
     ensures { λ r. ⌜ r ≡ isInside b ⌝ }
 {
-    if between(32, 126, b) {
+    if between(b' ', b'~', b) {
         return !has(b"\"\\", b);
     }
     false
@@ -89,7 +92,7 @@ fn is_inside(b: u8) -> bool
 fn is_hex(b: u8) -> bool
     ensures { λ r. ⌜ r ≡ isHex b ⌝ }
 {
-    if between(48, 57, b) {
+    if between(b'0', b'9', b) {
         return true;
     }
     has(b"abcdefABCDEF", b)
@@ -98,7 +101,7 @@ fn is_hex(b: u8) -> bool
 fn is_foreign(b: u8) -> bool
     ensures { λ r. ⌜ r ≡ isForeign b ⌝ }
 {
-    if between(32, 126, b) {
+    if between(b' ', b'~', b) {
         return false;
     }
     !has(b"\t\n\r", b)
@@ -110,7 +113,7 @@ pub fn in_class(k: Class, b: u8) -> bool
 {
     match k {
         Class::Blank => has(b" \t\n\r", b),
-        Class::Digit => between(48, 57, b),
+        Class::Digit => between(b'0', b'9', b),
         Class::Letter => is_letter(b),
         Class::NameByte => is_name(b),
         Class::Inside => is_inside(b),

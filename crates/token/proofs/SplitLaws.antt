@@ -15,7 +15,7 @@ use Rattle.error.specs.declared.Refusal.the-variants.{Unbalanced, TooManyOpen, 
 use Rattle.token.specs.Token.{Kind, Token, token, bad, piece, lexeme}
 use Rattle.token.specs.Split.{Nest, unfit, awaits, closer, closed, nestMark, nest, halt, takes}
 use Rattle.token.specs.Split.{nested, step, Split, unlexed, tokens, before, ended, splitFrom, split}
-use Rattle.token.specs.Means.{kindOf, Pieces, held, opened, Awaits, DepthMeans, answerOf, answerFrom, GoesOn, outcome, splitting}
+use Rattle.token.specs.Means.{kindOf, Pieces, held, afterOpener, Awaits, DepthMeans, answerOf, answerFrom, GoesOn, splitOutcome, splitting}
 use Rattle.token.specs.declared.Depth.{Depth}
 use Rattle.token.specs.declared.SplitAnswer.{SplitAnswer}
 use Rattle.token.specs.declared.SplitAnswer.the-variants.{Refused}
@@ -52,10 +52,10 @@ held-some s (suc d) h = let e : suc d - 1 ≡ d = omega arith in rw e
 -- ---- what a mark makes of them
 
 module _ (s : List ℕ) (d b : ℕ) where
-  pub opens : (v : ℕ) → v ≡ closer b → d < 64 → d < length s → Awaits (opened b (held s d)) (set s d v) (d + 1)
+  pub opens : (v : ℕ) → v ≡ closer b → d < 64 → d < length s → Awaits (afterOpener b (held s d)) (set s d v) (d + 1)
   opens v e h g = record { is = rw (held-length s d, lt-ltb d 64 h, held-set s d v g, e); few = omega arith }
 
-  pub full : 64 ≤ d → opened b (held s d) ≡ unfit TooManyOpen
+  pub full : 64 ≤ d → afterOpener b (held s d) ≡ unfit TooManyOpen
   full h = rw (held-length s d, le-ltb d 64 h)
 
   pub closes-none : d ≡ 0 → closed b (held s d) ≡ unfit Unbalanced
@@ -69,7 +69,7 @@ module _ (s : List ℕ) (d b : ℕ) where
 
 pub mark-is : (b : ℕ) (cs : List ℕ) (t u : Bool) → among "([{" b ≡ t
     → among ")]}" b ≡ u
-    → nestMark b cs ≡ cond t (opened b cs) (cond u (closed b cs) (awaits cs))
+    → nestMark b cs ≡ cond t (afterOpener b cs) (cond u (closed b cs) (awaits cs))
 unfolding nestMark
 mark-is b cs t u h g = rw (h, g)
 
@@ -168,12 +168,12 @@ unfolding split held
 from-zero s words = refl
 
 module _ (t s : List ℕ) where
-  pub too-short : length s < 64 → outcome (Refused ScratchTooShort 0) s ≡ splitting t s
+  pub too-short : length s < 64 → splitOutcome (Refused ScratchTooShort 0) s ≡ splitting t s
   unfolding splitting
   too-short h = rw (lt-ltb (length s) 64 h)
 
   pub split-by : (a : SplitAnswer) (mid after : List ℕ) → 64 ≤ length s
       → a ≡ answerOf (split t) → length mid ≡ length s → after ≡ replicate (length mid) 0
-      → outcome a after ≡ splitting t s
+      → splitOutcome a after ≡ splitting t s
   unfolding splitting
   split-by a mid after h e l q = rw (le-ltb (length s) 64 h, e, q, l)

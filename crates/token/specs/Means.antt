@@ -27,13 +27,13 @@ use Rattle.token.specs.declared.Turn.the-variants as turn
 
 -- ---- a token
 
-abbrev pub written : Number → Written
-written n = record { digits = n .digits; places = n .places; point = n .point; suffix = n .suffix }
+abbrev pub writtenOf : Number → Written
+writtenOf n = record { digits = n .digits; places = n .places; point = n .point; suffix = n .suffix }
 
 -- the kind that a token is, t being the text from its start on
 abbrev pub kindOf : List ℕ → Tok → Kind
 kindOf t (tok.Name n) = name (take n t)
-kindOf t (tok.Num n) = number (written n)
+kindOf t (tok.Num n) = number (writtenOf n)
 kindOf t (tok.Quoted n) = quoted n
 kindOf t (tok.Mark b) = mark b
 
@@ -100,8 +100,8 @@ held s zero = []
 held s (suc d) = getD s d 0 ∷ held s d
 
 -- what an opener makes of the awaited closers: "a 65th opener while 64 are open": 5
-abbrev pub opened : ℕ → List ℕ → Nest
-opened b cs = cond (ltb (length cs) 64) (awaits (closer b ∷ cs)) (unfit TooManyOpen)
+abbrev pub afterOpener : ℕ → List ℕ → Nest
+afterOpener b cs = cond (ltb (length cs) 64) (awaits (closer b ∷ cs)) (unfit TooManyOpen)
 
 -- the first d of the words hold the closers that are awaited then
 pub record Awaits (x : Nest) (words : List ℕ) (d : ℕ) : Type 0 where
@@ -134,10 +134,10 @@ TurnMeans s at a words (turn.Over b) = b ≡ a
 TurnMeans s at a words (turn.On next d) = GoesOn s at a words next d
 
 -- an answer, and the scratch then
-abbrev pub outcome : SplitAnswer → List ℕ → SplitAnswer × List ℕ
-outcome a s = (a, s)
+abbrev pub splitOutcome : SplitAnswer → List ℕ → SplitAnswer × List ℕ
+splitOutcome a s = (a, s)
 
 -- 01: "2 to 5 at the first place left to right"; "After reading, unless 1 or 16, scratch is all zero"; fewer words than 64 do not do
 unfoldable pub splitting : List ℕ → List ℕ → SplitAnswer × List ℕ
 splitting t s =
-    cond (ltb (length s) 64) (outcome (answer.Refused ScratchTooShort 0) s) (outcome (answerOf (split t)) (replicate (length s) 0))
+    cond (ltb (length s) 64) (splitOutcome (answer.Refused ScratchTooShort 0) s) (splitOutcome (answerOf (split t)) (replicate (length s) 0))

@@ -1,5 +1,6 @@
 -- 01, "Text rules" and "Limits": a whole text is cut into tokens, or refused with 2 to 5. Assumes nothing.
 use Prim.Native.Nat.{ℕ, zero, suc, _+_, _-_}
+use Prim.Native.Char.{code}
 use mathlib.Core.Bool.{cond}
 use mathlib.Core.List.{List, [], _∷_}
 use lib.Dec.{ltb, eqb}
@@ -17,7 +18,7 @@ pub data Nest : Type 0 where
 
 -- the closer that goes with an opener
 abbrev pub closer : ℕ → ℕ
-closer b = cond (eqb b 40) 41 (b + 2)
+closer b = cond (eqb b (code "(")) (code ")") (b + 2)
 
 -- "closer without its opener": 4
 unfoldable pub closed : ℕ → List ℕ → Nest

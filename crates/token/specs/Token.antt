@@ -1,5 +1,6 @@
 -- 01, "Text rules": the token that a text begins with, and the tokens from a place on. Assumes nothing.
 use Prim.Native.Nat.{ℕ, zero, suc, _+_, _-_}
+use Prim.Native.Char.{code}
 use mathlib.Core.Bool.{Bool, true, false, _&&_, _||_, not, cond}
 use mathlib.Core.List.{List, [], _∷_}
 use lib.Dec.{ltb, eqb}
@@ -35,7 +36,7 @@ nameAt t =
 
 -- whether a point and a digit stand at w
 unfoldable pub pointAt : List ℕ → ℕ → Bool
-pointAt t w = eqb (at t w) 46 && isDigit (at t (suc w))
+pointAt t w = eqb (at t w) (code ".") && isDigit (at t (suc w))
 
 -- where the digits end, w of them standing before the point
 unfoldable pub pastFraction : Bool → List ℕ → ℕ → ℕ
@@ -44,14 +45,14 @@ pastFraction false t w = w
 
 -- "possibly a single `s`"
 unfoldable pub suffixAt : List ℕ → ℕ → Bool
-suffixAt t n = eqb (at t n) 115
+suffixAt t n = eqb (at t n) (code "s")
 
 unfoldable pub pastSuffix : Bool → ℕ → ℕ
 pastSuffix s n = cond s (suc n) n
 
 -- "A following name character, or after whole digits a point followed by neither a digit nor a point"
 unfoldable pub clings : List ℕ → Bool → ℕ → Bool
-clings t plain n = isName (at t n) || (plain && eqb (at t n) 46 && not (eqb (at t (suc n)) 46))
+clings t plain n = isName (at t n) || (plain && eqb (at t n) (code ".") && not (eqb (at t (suc n)) (code ".")))
 
 -- how many digits stand after the point
 unfoldable pub placesOf : Bool → ℕ → ℕ → ℕ
@@ -85,14 +86,14 @@ numberAt t =
 unfoldable pub quotedAt : List ℕ → Lexeme
 quotedAt t =
     let n = run isInside (drop 1 t) in
-    cond (eqb (at t (suc n)) 34 && not (isName (at t (n + 2)))) (piece (quoted n) (n + 2)) (bad BadForm)
+    cond (eqb (at t (suc n)) (code "\"") && not (isName (at t (n + 2)))) (piece (quoted n) (n + 2)) (bad BadForm)
 
 unfoldable pub lexeme : List ℕ → Lexeme
 lexeme t =
     let b = at t 0 in
     cond (isLetter b) (nameAt t)
     (cond (isDigit b) (numberAt t)
-    (cond (eqb b 34) (quotedAt t)
+    (cond (eqb b (code "\"")) (quotedAt t)
     (cond (among ":;,=>.+-%([{)]}" b) (piece (mark b) 1) (bad BadForm))))
 
 -- ---- the tokens from a place on; where none can be cut the text ends for the reader

@@ -8,7 +8,7 @@ ghost use Rattle.text.specs.Bytes.{run, part, among, decimal, isDigit};
 ghost use Rattle.token.specs.Token.{isMark, nameAt, pointAt, pastFraction, suffixAt, pastSuffix, clings, placesOf, numberAt, quotedAt, lexeme};
 ghost use Rattle.token.specs.Split.{closer, closed, nestMark, nest, ended, split};
 ghost use Rattle.token.specs.Names.{isKeyword, wordOf};
-ghost use Rattle.token.specs.Means.{kindOf, isSpelt, excessOf, CutMeans, endAt, Lexes, held, opened, DepthMeans, answerOf, answerFrom, TurnMeans, outcome, splitting};
+ghost use Rattle.token.specs.Means.{kindOf, isSpelt, excessOf, CutMeans, endAt, Lexes, held, afterOpener, DepthMeans, answerOf, answerFrom, TurnMeans, splitOutcome, splitting};
 use error::Refusal;
 use text::Class;
 
@@ -293,7 +293,7 @@ fn closer(b: u8) -> u16
 // An opener's closer is awaited next.
 fn take_opener(b: u8, words: &mut [u16], depth: usize) -> Depth
     requires { ⌜ (64 ≤ length (now words)) × (depth ≤ 64) ⌝ }
-    ensures { λ r. ⌜ DepthMeans (opened b (held (now (words .entry)) depth)) (now (words .exit)) r ⌝ }
+    ensures { λ r. ⌜ DepthMeans (afterOpener b (held (now (words .entry)) depth)) (now (words .exit)) r ⌝ }
 {
     if depth < 64 {
         words[depth] = closer(b);
@@ -419,7 +419,7 @@ fn clear(words: &mut [u16])
 
 // Judges a text by the text rules. It uses the first 64 words of the scratch, and leaves all of it zero.
 pub fn split(text: &[u8], scratch: &mut [u16]) -> SplitAnswer
-    ensures { λ r. ⌜ outcome r (now (scratch .exit)) ≡ splitting (now (text .entry)) (now (scratch .entry)) ⌝ }
+    ensures { λ r. ⌜ splitOutcome r (now (scratch .exit)) ≡ splitting (now (text .entry)) (now (scratch .entry)) ⌝ }
 {
     if scratch.len() < 64 {
         return SplitAnswer::Refused {

@@ -20,7 +20,7 @@ use Rattle.encode.proofs.EnumLaws.{opt-most, easing-most, loop-most}
 use Rattle.error.specs.declared.Refusal.{Refusal}
 use Rattle.error.specs.declared.Refusal.the-variants.{MissingDuration}
 use Rattle.grammar.specs.Rule.{Rule, refused, after, give, need, _>>=_}
-use Rattle.grammar.specs.Fields.{Fields, numberOf, easingOf, loopModeOf, ever, parseFieldList}
+use Rattle.grammar.specs.Fields.{Fields, lastNumber, lastEasing, lastLoopMode, ever, parseFieldList}
 use Rattle.grammar.specs.Values.{number, count, flag as flagRule, easing, loopMode}
 use Rattle.grammar.specs.Grammar.{parseTween, tweenFields}
 use Rattle.cursor.specs.Means.{run}
@@ -42,18 +42,18 @@ tweenLeaf e fs d = Leaf.tween (record {
   from = e .1 .0;
   to = e .1 .1;
   duration = d;
-  easing = easingOf fs;
-  delay = numberOf "delay" fs;
-  timeScale = numberOf "time_scale" fs;
-  loopMode = loopModeOf fs;
-  snap = numberOf "snap" fs;
-  round = numberOf "round" fs;
+  easing = lastEasing fs;
+  delay = lastNumber "delay" fs;
+  timeScale = lastNumber "time_scale" fs;
+  loopMode = lastLoopMode fs;
+  snap = lastNumber "snap" fs;
+  round = lastNumber "round" fs;
   reverse = ever "reverse" fs;
 })
 
 -- what stands behind the values
 abbrev tweenEnd : Ends → Rule (Leaf Key)
-tweenEnd e = parseFieldList tweenFields [] >>= λ fs. need MissingDuration (numberOf "duration" fs) >>= λ d. give (tweenLeaf e fs d)
+tweenEnd e = parseFieldList tweenFields [] >>= λ fs. need MissingDuration (lastNumber "duration" fs) >>= λ d. give (tweenLeaf e fs d)
 
 tween-run : (s : List ℕ) (c : Cursor) → run s c parseTween ≡ after (run s c theEnds) tweenEnd
 unfolding parseTween

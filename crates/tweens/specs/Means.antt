@@ -5,6 +5,7 @@ use mathlib.Core.Option.{Option}
 use mathlib.Core.Path.{_≡_}
 use lib.Ieee.{Float}
 use lib.ListN.{length}
+use Rattle.text.specs.Limits.{textLimit}
 use Rattle.number.specs.Number.{bits}
 use Rattle.codec.specs.Codec.{opt, below}
 use Rattle.ast.specs.Tree.{Span, ValueExpr}
@@ -136,7 +137,7 @@ Told s p = (v : Option ValueExpr) × (lo : ℕ) × (hi : ℕ) × PlaceSays s lo 
 -- the velocity v is written; a text of 16,384 bytes has none of more
 pub record VelocityPut (b a : List ℕ) (at : ℕ) (v : Option ValueExpr) (q : ℕ) : Type 0 where
   pub writes : Writes b at (opt valueForm .write v) a q
-  pub most : q ≤ at + 1 + 64 * 16384
+  pub most : q ≤ at + 1 + 64 * textLimit
 
 abbrev pub PlainSpring : SpringFields → Type 0
 PlainSpring x =

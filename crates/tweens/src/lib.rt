@@ -6,6 +6,7 @@ ghost use mathlib.Core.List.{[]};
 ghost use mathlib.Core.Option.{Option};
 ghost use Prim.Native.Nat.{ℕ, _+_, _≤_, _<_, _^_};
 ghost use lib.ListN.{length};
+ghost use Rattle.text.specs.Limits.{textLimit};
 ghost use Rattle.ast.specs.Tree.{ValueExpr};
 ghost use Rattle.grammar.specs.Grammar.{parseTween, tweenFields, parseSpring, springFields};
 ghost use Rattle.encode.specs.Writes.{Writes};
@@ -42,7 +43,7 @@ fn target_mark(text: &[u8], c: Cursor) -> WordRead
 {
     match cursor::word(text, c) {
         WordRead::Missing(p) => WordRead::Missing(p),
-        WordRead::Is(target, m) => match cursor::mark(text, m, 58) {
+        WordRead::Is(target, m) => match cursor::mark(text, m, b':') {
             MarkRead::Missing(p) => WordRead::Missing(p),
             MarkRead::Is(n) => WordRead::Is(target, n),
         },
@@ -51,12 +52,12 @@ fn target_mark(text: &[u8], c: Cursor) -> WordRead
 
 // `from => to`, written at `out`.
 fn value_pair(text: &[u8], sheet: &mut [u8], c: Cursor, out: usize) -> ValueRead
-    requires { ⌜ Ready (now text) c × (length (now text) ≤ 16384) × (out < 2 ^ 30 + 64) ⌝ }
+    requires { ⌜ Ready (now text) c × (length (now text) ≤ textLimit) × (out < 2 ^ 30 + 64) ⌝ }
     ensures { λ r. ⌜ PairMeans (now (text .entry)) (now (sheet .entry)) (now (sheet .exit)) c out r ⌝ }
 {
     match arrays::parse_value(text, sheet, c, out) {
         ValueRead::Refused(r, p) => ValueRead::Refused(r, p),
-        ValueRead::Is(to_at, m) => match cursor::both(text, m, 61, 62) {
+        ValueRead::Is(to_at, m) => match cursor::both(text, m, b'=', b'>') {
             MarkRead::Missing(p) => ValueRead::Refused(Refusal::Missing, p),
             MarkRead::Is(n) => arrays::parse_value(text, sheet, n, to_at),
         },
@@ -98,7 +99,7 @@ pub struct TweenFields {
 }
 
 fn tween_fields(text: &[u8], c: Cursor) -> Gathered
-    requires { ⌜ Ready (now text) c × (length (now text) ≤ 16384) ⌝ }
+    requires { ⌜ Ready (now text) c × (length (now text) ≤ textLimit) ⌝ }
     ensures { λ r. ⌜ ListMeans (now (text .entry)) (c .at) tweenSorts c tweenFields [] r ⌝ }
 {
     slots::field_list(
@@ -191,7 +192,7 @@ pub struct SpringFields {
 }
 
 fn spring_fields(text: &[u8], c: Cursor) -> Gathered
-    requires { ⌜ Ready (now text) c × (length (now text) ≤ 16384) ⌝ }
+    requires { ⌜ Ready (now text) c × (length (now text) ≤ textLimit) ⌝ }
     ensures { λ r. ⌜ ListMeans (now (text .entry)) (c .at) springSorts c springFields [] r ⌝ }
 {
     slots::field_list(
@@ -241,7 +242,7 @@ fn put_velocity(text: &[u8], sheet: &mut [u8], at: usize, velocity: OptPlace) ->
 
 // Writes a spring's fields behind its values.
 fn put_spring_fields(text: &[u8], sheet: &mut [u8], at: usize, x: SpringFields) -> usize
-    requires { ⌜ (length (now text) ≤ 16384) × (at < 2 ^ 30 + 2 ^ 20) × PlainSpring x × Told (now text) (x .velocity) ⌝ }
+    requires { ⌜ (length (now text) ≤ textLimit) × (at < 2 ^ 30 + 2 ^ 20) × PlainSpring x × Told (now text) (x .velocity) ⌝ }
     ensures { λ r. ⌜ ((lo hi : ℕ) (v : Option ValueExpr) → PlaceSays (now (text .entry)) lo hi (x .velocity) v → Writes (now (sheet .entry)) at (springBytes x v) (now (sheet .exit)) r) ⌝ }
 {
     let preset = x.preset;

@@ -15,13 +15,13 @@ use Rattle.error.specs.declared.Refusal.the-variants.{MissingDuration, StaggerG
 use Rattle.grammar.specs.Rule.{Rule, give, need, refuse, _>>=_, _>>_, sees, seesTwo, seesWord}
 use Rattle.grammar.specs.Rule.{seesName, seesNumber, seesWhole, ends, the, eat, more, done, goOn}
 use Rattle.grammar.specs.Fields.{Content, Fields, Table, Item, halts, closes, passes, starts, rowOf, fieldHead, fieldValue, entry}
-use Rattle.grammar.specs.Fields.{pairName, onePair, pairs, itemOf, fieldName, oneField, byItem, fieldsStep, parseFieldList, numberOf}
+use Rattle.grammar.specs.Fields.{pairName, onePair, pairs, itemOf, fieldName, oneField, byItem, fieldsStep, parseFieldList, lastNumber}
 use Rattle.grammar.specs.Values.{ident, string, truth, parseFloat, parseUint, parseFloatInParens, commaFloat, twoFloats}
 use Rattle.grammar.specs.Values.{parseTwoFloatsInParens, parseUintInParens, arrayItem, arrayItems, parseValue, number}
 use Rattle.grammar.specs.Values.{count, flag, value, commaFloats, fourFloats, bezierCurve, roughFields, roughCurve}
 use Rattle.grammar.specs.Values.{slowMoFields, slowMoCurve, stepsCurve, wiggleCurve, curves, variantEasing, namedEasing}
 use Rattle.grammar.specs.Values.{curveOr, parseEasing, timesMode, pingPongMode, loopModes, parseLoopMode, easing, loopMode}
-use Rattle.grammar.specs.Grammar.{tweenFields, parseTween, parseSpringPreset, springPreset, integrator, critical, over}
+use Rattle.grammar.specs.Grammar.{tweenFields, parseTween, parseSpringPreset, springPreset, integrator, criticalDamping, overDamping}
 use Rattle.grammar.specs.Grammar.{springFields, parseSpring, parseKeyframeTime, keyframeEntry, Track, trackLoop, trackFrame}
 use Rattle.grammar.specs.Grammar.{trackStep, parseKeyframes, parseSequence, parseParallel, parseGroup, parseGridOrigin, origin}
 use Rattle.grammar.specs.Grammar.{gridFields, gridPattern, randomFields, randomPattern, patterns, parseStaggerPattern, Opening}
@@ -227,10 +227,10 @@ module _ (n : ℕ) where
       then (fields-stay tweenFields
       (number-row also easing-row also number-row also number-row also loop-row also number-row also count-row also flag-row also tt) [])
       (λ fs.
-      then (needs MissingDuration (numberOf "duration" fs)) (λ d. gives)))))))
+      then (needs MissingDuration (lastNumber "duration" fs)) (λ d. gives)))))))
 
   spring-rows : Rows n springFields
-  unfolding springFields springPreset parseSpringPreset integrator critical over underdamping
+  unfolding springFields springPreset parseSpringPreset integrator criticalDamping overDamping underdamping
   spring-rows =
       then (a-choice UnknownSpringPreset (words ("gentle" ∷ "wobbly" ∷ "stiff" ∷ "slow" ∷ "snappy" ∷ []))) (λ k. gives)
       also number-row
@@ -291,7 +291,7 @@ module _ (n : ℕ) where
   unfolding gridPattern gridFields
   grid-stays =
       in-group 40 (then (pairs-stay gridFields (count-row also count-row also origin-row also tt)) (λ fs.
-      then (needs StaggerGridIncomplete (numberOf "cols" fs)) (λ c. then (needs StaggerGridIncomplete (numberOf "rows" fs)) (λ r. gives))))
+      then (needs StaggerGridIncomplete (lastNumber "cols" fs)) (λ c. then (needs StaggerGridIncomplete (lastNumber "rows" fs)) (λ r. gives))))
 
   random-stays : Stays n randomPattern
   unfolding randomPattern randomFields
@@ -333,14 +333,14 @@ module _ (n : ℕ) where
   path-stays =
       then ident-stays (λ t. and (a-choice Malformed (words ("along" ∷ []))) (then string-stays (λ s.
       then (fields-stay pathFields (number-row also easing-row also flag-row also offset-row also loop-row also tt) []) (λ fs.
-      then (needs MissingDuration (numberOf "duration" fs)) (λ d. gives)))))
+      then (needs MissingDuration (lastNumber "duration" fs)) (λ d. gives)))))
 
   morph-stays : Stays n parseMorph
   unfolding parseMorph morphFields
   morph-stays =
       then string-stays (λ a. and (two-marks 61 62) (then string-stays (λ b.
       then (fields-stay morphFields (count-row also number-row also easing-row also tt) []) (λ fs.
-      then (needs MissingDuration (numberOf "duration" fs)) (λ d. gives)))))
+      then (needs MissingDuration (lastNumber "duration" fs)) (λ d. gives)))))
 
   draw-rows : Rows n drawFields
   unfolding drawFields
@@ -350,7 +350,7 @@ module _ (n : ℕ) where
   unfolding parseDraw
   draw-stays =
       then string-stays
-      (λ s. then (fields-stay drawFields draw-rows []) (λ fs. then (needs MissingDuration (numberOf "duration" fs)) (λ d. gives)))
+      (λ s. then (fields-stay drawFields draw-rows []) (λ fs. then (needs MissingDuration (lastNumber "duration" fs)) (λ d. gives)))
 
   space-row : Stays n space
   unfolding space
@@ -361,7 +361,7 @@ module _ (n : ℕ) where
   color-stays =
       then ident-stays (λ t. and (the-mark 58) (then string-stays (λ a. and (two-marks 61 62) (then string-stays (λ b.
       then (fields-stay colorFields (number-row also space-row also easing-row also tt) []) (λ fs.
-      then (needs MissingDuration (numberOf "duration" fs)) (λ d. gives)))))))
+      then (needs MissingDuration (lastNumber "duration" fs)) (λ d. gives)))))))
 
   waveform-stays : Stays n parseWaveform
   unfolding parseWaveform waveformKind waveformFields

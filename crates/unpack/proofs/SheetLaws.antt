@@ -9,6 +9,7 @@ use native.Mathlib.Omega.{arith}
 use lib.Dec.{ltb}
 use lib.ListN.{length, getElem?, length-append}
 use borrow.Author.Tests.{ltb-false}
+use Rattle.text.specs.Limits.{textLimit}
 use Rattle.text.specs.Bytes.{isForeign}
 use Rattle.text.specs.Words.{orElse}
 use Rattle.codec.specs.Codec.{big}
@@ -141,7 +142,7 @@ pub record Slight (n : ℕ) (ns : Forest) : Type 0 where
   pub short : (i : ℕ) (r : List ℕ) → getElem? (allRecords n ns) i ≡ some r → length r ≤ 65535
 
 abbrev pub Within : ℕ → Opened → Type 0
-Within n (shut r p) = p ≤ 16384
+Within n (shut r p) = p ≤ textLimit
 Within n (opened ns) = Slight n ns
 
 slight : (n : ℕ) (s : List ℕ) (ns : Forest) → decode n s ≡ some ns → Slight n ns
@@ -155,18 +156,18 @@ slight n s ns e =
 
 pub opening-within : (t s : List ℕ) → Within (length t) (opening t s)
 unfolding opening
-opening-within t s = long (ltb 16384 (length t)) refl
+opening-within t s = long (ltb textLimit (length t)) refl
   where
     tree-of : (f : Option ℕ) → Before (length t) f → (d : Option Forest)
-        → decode (length t) s ≡ d → length t ≤ 16384
+        → decode (length t) s ≡ d → length t ≤ textLimit
         → Within (length t) (unlessForeign f (begins.decoded d))
     tree-of (some p) h d e l = omega arith
     tree-of none h none e l = omega arith
     tree-of none h (some ns) e l = slight (length t) s ns e
 
-    long : (b : Bool) → ltb 16384 (length t) ≡ b
+    long : (b : Bool) → ltb textLimit (length t) ≡ b
         → Within (length t) (cond b (shut TextTooLong 0) (unlessForeign (foreignFrom 0 t) (begins.decoded (decode (length t) s))))
     long true e = omega arith
     long false e =
         tree-of (foreignFrom 0 t) (before-more (foreignFrom 0 t) (0 + length t) (length t) (omega arith) (foreign-before 0 t))
-        (decode (length t) s) refl (omega (arith, ltb-false 16384 (length t) e))
+        (decode (length t) s) refl (omega (arith, ltb-false textLimit (length t) e))

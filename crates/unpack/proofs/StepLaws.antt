@@ -14,7 +14,7 @@ use Rattle.error.specs.declared.Refusal.{Refusal}
 use Rattle.grammar.specs.Rule.{Notes, Out, got, refused, Rule, after, give, need, refuse, if, _>>=_, _>>_, ends, skip}
 use Rattle.grammar.specs.Rule.{seesByte, seesPair, theByte, bothBytes, eatByte, found, word, text, choiceIn, Signed}
 use Rattle.grammar.specs.Rule.{absent, plus, minus, taken, signed, Pass, halts, closes, goes, weigh, depth, passed}
-use Rattle.grammar.specs.Rule.{behind, firstOf, noted, leave, insideByte, Next, more, done, steps, repeat, listStep, list}
+use Rattle.grammar.specs.Rule.{behind, firstOf, noted, leave, insideByte, Next, more, done, iterate, repeat, listStep, list}
 use Rattle.grammar.specs.Rule.{next as following}
 
 -- ---- tokens at places up to n
@@ -169,11 +169,11 @@ on : {A : Type 0} (n : ℕ) (again : A → Rule A) → ((b : A) → Stays n (aga
 on n again k (more b) = k b
 on n again k (done b) = gives
 
-steps-stay : {A : Type 0} (n : ℕ) (step : A → Rule (Next A)) → ((a : A) → Stays n (step a)) → (k : ℕ) (a : A) → Stays n (steps step k a)
-unfolding steps
+steps-stay : {A : Type 0} (n : ℕ) (step : A → Rule (Next A)) → ((a : A) → Stays n (step a)) → (k : ℕ) (a : A) → Stays n (iterate step k a)
+unfolding iterate
 steps-stay n step h zero a = record { run = λ l ts g. g }
 steps-stay n step h (suc k) a = record {
-  run = λ l ts g. goes-on n (following (λ b. steps step k b)) (on n (λ b. steps step k b) (λ b. steps-stay n step h k b)) (step a l ts)
+  run = λ l ts g. goes-on n (following (λ b. iterate step k b)) (on n (λ b. iterate step k b) (λ b. steps-stay n step h k b)) (step a l ts)
       (h a .run l ts g);
 }
 

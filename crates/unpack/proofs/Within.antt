@@ -9,6 +9,7 @@ use native.Mathlib.Omega.{arith}
 use lib.Dec.{ltb}
 use lib.ListN.{length, drop, getElem?}
 use borrow.Author.Tests.{ltb-false}
+use Rattle.text.specs.Limits.{textLimit}
 use Rattle.number.specs.Time.{Key}
 use Rattle.token.specs.Token.{Kind, token}
 use Rattle.token.specs.Split.{Split, unlexed, tokens, Step, halt, blank, takes, before, ended, stepped, awaited, step, splitFrom, split}
@@ -19,7 +20,7 @@ use Rattle.sheet.specs.Records.{allRecords}
 use Rattle.sheet.specs.Opening.{Opened, opened, shut, opening}
 use Rattle.grammar.specs.Rule.{Notes, Out, got, refused}
 use Rattle.grammar.specs.Grammar.{stored, animatoInput}
-use Rattle.parser.specs.Reading.{Parsed, tree, wrong, unlessLeft, finished, parsed, parse, written, early, unlessEarly, reading}
+use Rattle.parser.specs.Reading.{Parsed, tree, wrong, unlessLeft, finished, parsed, parse, answered, early, unlessEarly, reading, scratchWords}
 use Rattle.limits.proofs.Limits.{parses-fits, parses-small}
 use Rattle.presets.specs.Colors.{colors}
 use Rattle.validate.specs.Rules.{validateNodes}
@@ -97,25 +98,25 @@ parse-near t = parsed-near (length t) (split t) (split-near (length t) 0 0 [] t 
 
 abbrev pub ReadWithin : ReadAnswer → Type 0
 ReadWithin (read.Accepted n k) = (n ≤ 49152) × (k ≤ 49152)
-ReadWithin (read.Refused r p) = p ≤ 16384
+ReadWithin (read.Refused r p) = p ≤ textLimit
 
-short-text : (size words : ℕ) → early size words ≡ none → size ≤ 16384
+short-text : (size words : ℕ) → early size words ≡ none → size ≤ textLimit
 unfolding early
-short-text size words e = go (ltb 16384 size) refl e
+short-text size words e = go (ltb textLimit size) refl e
   where
-    go : (b : Bool) → ltb 16384 size ≡ b
-        → cond b (some TextTooLong) (cond (ltb words 16384) (some ScratchTooShort) none) ≡ none
-        → size ≤ 16384
+    go : (b : Bool) → ltb textLimit size ≡ b
+        → cond b (some TextTooLong) (cond (ltb words scratchWords) (some ScratchTooShort) none) ≡ none
+        → size ≤ textLimit
     go true f e = absurd (let z : _≡_ {A = ℕ} 0 1 = cc in omega arith)
-    go false f e = omega (arith, ltb-false 16384 size f)
+    go false f e = omega (arith, ltb-false textLimit size f)
 
 fitting-within : (b : Bool) (bs : List ℕ) (k : ℕ) → length bs ≤ 49152 → k ≤ length bs
     → ReadWithin (cond {A = ReadAnswer × List ℕ} b (read.Refused SheetTooShort 0, []) (read.Accepted (length bs) k, bs) .0)
 fitting-within true bs k h g = omega arith
 fitting-within false bs k h g = (h, omega arith)
 
-written-within : (t : List ℕ) (room : ℕ) (x : Parsed) → parse t ≡ x → length t ≤ 16384
-    → ParsedNear (length t) x → ReadWithin (written (length t) room x .0)
+written-within : (t : List ℕ) (room : ℕ) (x : Parsed) → parse t ≡ x → length t ≤ textLimit
+    → ParsedNear (length t) x → ReadWithin (answered (length t) room x .0)
 written-within t room (wrong r p) e l h = omega arith
 written-within t room (tree ns) e l h =
     let bs = encode (length t) (mapTimes stored ns) in
@@ -154,7 +155,7 @@ check-within t sheet = verdict-within t (opening t sheet) (opening-within t shee
 
 abbrev pub LineWithin : ℕ → LineAnswer → Type 0
 LineWithin i (lines.Accepted n) = n ≤ 131077
-LineWithin i (lines.Refused r p) = (p ≡ i) ⊎ (p ≤ 16384)
+LineWithin i (lines.Refused r p) = (p ≡ i) ⊎ (p ≤ textLimit)
 
 placed-within : (i : ℕ) (out l : List ℕ) (b : Bool) → length l ≤ 131077
     → LineWithin i

@@ -10,7 +10,7 @@ use Rattle.number.specs.Number.{bits}
 use Rattle.ast.specs.Tree as tree
 use Rattle.encode.specs.Of.{Plain, PlainEasing, PlainOptFloat, easingOf, loopOf, optFloatOf, optWordOf}
 use Rattle.grammar.specs.Rule.{refused, Rule}
-use Rattle.grammar.specs.Fields.{Content, Fields, pairs, numberOf}
+use Rattle.grammar.specs.Fields.{Content, Fields, pairs, lastNumber}
 use Rattle.grammar.specs.Values.{roughFields, slowMoFields, curves, loopModes}
 use Rattle.text.specs.Bytes.{bytes}
 use Rattle.cursor.specs.Means.{run, Took}
@@ -87,9 +87,9 @@ Holds held f g n x = (fs : Fields) → held f fs → held g ((n, x) ∷ fs)
 
 -- f holds what the fields of `rough` say
 pub record RoughHeld (f : RoughFields) (fs : Fields) : Type 0 where
-  pub strength : optFloatOf (f .strength) ≡ numberOf "strength" fs
+  pub strength : optFloatOf (f .strength) ≡ lastNumber "strength" fs
   pub plain : PlainOptFloat (f .strength)
-  pub points : optWordOf (f .points) ≡ numberOf "points" fs
+  pub points : optWordOf (f .points) ≡ lastNumber "points" fs
 
 abbrev pub RoughFieldMeans : List ℕ → Cursor → RoughFields → ℕ → RoughRead → Type 0
 RoughFieldMeans s c f i (rough.Is g m) =
@@ -104,9 +104,9 @@ RoughMeans s c (rough.Refused r q) = run s c (pairs roughFields) ≡ refused r q
 
 -- f holds what the fields of `slowmo` say
 pub record SlowMoHeld (f : SlowMoFields) (fs : Fields) : Type 0 where
-  pub linearRatio : optFloatOf (f .«linear_ratio») ≡ numberOf "linear_ratio" fs
+  pub linearRatio : optFloatOf (f .«linear_ratio») ≡ lastNumber "linear_ratio" fs
   pub plainRatio : PlainOptFloat (f .«linear_ratio»)
-  pub power : optFloatOf (f .power) ≡ numberOf "power" fs
+  pub power : optFloatOf (f .power) ≡ lastNumber "power" fs
   pub plainPower : PlainOptFloat (f .power)
 
 abbrev pub SlowMoFieldMeans : List ℕ → Cursor → SlowMoFields → ℕ → SlowMoRead → Type 0

@@ -42,7 +42,7 @@ pub fn parse_float_in_parens(text: &[u8], c: Cursor) -> FloatRead
     requires { ⌜ Ready (now text) c ⌝ }
     ensures { λ r. ⌜ FloatMeans (now (text .entry)) c parseFloatInParens r ⌝ }
 {
-    match cursor::mark(text, c, 40) {
+    match cursor::mark(text, c, b'(') {
         MarkRead::Missing(p) => FloatRead::Refused(Refusal::Missing, p),
         MarkRead::Is(m) => match cursor::parse_float(text, m) {
             FloatRead::Refused(r, p) => FloatRead::Refused(r, p),
@@ -55,7 +55,7 @@ pub fn uint_in_parens(text: &[u8], c: Cursor) -> UintRead
     requires { ⌜ Ready (now text) c ⌝ }
     ensures { λ r. ⌜ UintMeans (now (text .entry)) c parseUintInParens r ⌝ }
 {
-    match cursor::mark(text, c, 40) {
+    match cursor::mark(text, c, b'(') {
         MarkRead::Missing(p) => UintRead::Refused(Refusal::Missing, p),
         MarkRead::Is(m) => match cursor::parse_uint(text, m) {
             UintRead::Refused(r, p) => UintRead::Refused(r, p),
@@ -69,7 +69,7 @@ fn comma_float(text: &[u8], c: Cursor) -> FloatRead
     requires { ⌜ Ready (now text) c ⌝ }
     ensures { λ r. ⌜ FloatMeans (now (text .entry)) c commaFloat r ⌝ }
 {
-    match cursor::mark(text, c, 44) {
+    match cursor::mark(text, c, b',') {
         MarkRead::Missing(p) => FloatRead::Refused(Refusal::Missing, p),
         MarkRead::Is(m) => cursor::parse_float(text, m),
     }
@@ -92,7 +92,7 @@ pub fn parse_two_floats_in_parens(text: &[u8], c: Cursor) -> PairRead
     requires { ⌜ Ready (now text) c ⌝ }
     ensures { λ r. ⌜ PairMeans (now (text .entry)) c parseTwoFloatsInParens r ⌝ }
 {
-    match cursor::mark(text, c, 40) {
+    match cursor::mark(text, c, b'(') {
         MarkRead::Missing(p) => PairRead::Refused(Refusal::Missing, p),
         MarkRead::Is(m) => match two_floats(text, m) {
             PairRead::Refused(r, p) => PairRead::Refused(r, p),
@@ -108,7 +108,7 @@ fn comma_floats(text: &[u8], c: Cursor) -> PairRead
     requires { ⌜ Ready (now text) c ⌝ }
     ensures { λ r. ⌜ PairMeans (now (text .entry)) c commaFloats r ⌝ }
 {
-    match cursor::mark(text, c, 44) {
+    match cursor::mark(text, c, b',') {
         MarkRead::Missing(p) => PairRead::Refused(Refusal::Missing, p),
         MarkRead::Is(m) => two_floats(text, m),
     }
@@ -133,7 +133,7 @@ fn bezier_curve(text: &[u8], c: Cursor) -> EasingRead
     requires { ⌜ Ready (now text) c ⌝ }
     ensures { λ r. ⌜ EasingMeans (now (text .entry)) c bezierCurve r ⌝ }
 {
-    match cursor::mark(text, c, 40) {
+    match cursor::mark(text, c, b'(') {
         MarkRead::Missing(p) => EasingRead::Refused(Refusal::Missing, p),
         MarkRead::Is(m) => match four_floats(text, m) {
             EasingRead::Refused(r, p) => EasingRead::Refused(r, p),
@@ -211,7 +211,7 @@ fn rough_fields(text: &[u8], c: Cursor) -> RoughRead
             NextField::Field(i, v) => match rough_field(text, v, f, i) {
                 RoughRead::Refused(r, p) => return RoughRead::Refused(r, p),
                 RoughRead::Is(g, e) => {
-                    let ate = cursor::eat(text, e, 44);
+                    let ate = cursor::eat(text, e, b',');
                     let next = ate.next;
                     if !ate.taken {
                         return RoughRead::Is(g, next);
@@ -293,7 +293,7 @@ fn slow_mo_fields(text: &[u8], c: Cursor) -> SlowMoRead
             NextField::Field(i, v) => match slow_mo_field(text, v, f, i) {
                 SlowMoRead::Refused(r, p) => return SlowMoRead::Refused(r, p),
                 SlowMoRead::Is(g, e) => {
-                    let ate = cursor::eat(text, e, 44);
+                    let ate = cursor::eat(text, e, b',');
                     let next = ate.next;
                     if !ate.taken {
                         return SlowMoRead::Is(g, next);
@@ -331,7 +331,7 @@ fn rough_curve(text: &[u8], c: Cursor) -> EasingRead
     requires { ⌜ Ready (now text) c ⌝ }
     ensures { λ r. ⌜ EasingMeans (now (text .entry)) c roughCurve r ⌝ }
 {
-    match cursor::mark(text, c, 40) {
+    match cursor::mark(text, c, b'(') {
         MarkRead::Missing(p) => EasingRead::Refused(Refusal::Missing, p),
         MarkRead::Is(m) => match rough_fields(text, m) {
             RoughRead::Refused(r, p) => EasingRead::Refused(r, p),
@@ -352,7 +352,7 @@ fn slow_mo_curve(text: &[u8], c: Cursor) -> EasingRead
     requires { ⌜ Ready (now text) c ⌝ }
     ensures { λ r. ⌜ EasingMeans (now (text .entry)) c slowMoCurve r ⌝ }
 {
-    match cursor::mark(text, c, 40) {
+    match cursor::mark(text, c, b'(') {
         MarkRead::Missing(p) => EasingRead::Refused(Refusal::Missing, p),
         MarkRead::Is(m) => match slow_mo_fields(text, m) {
             SlowMoRead::Refused(r, p) => EasingRead::Refused(r, p),
@@ -406,7 +406,7 @@ fn named_easing(text: &[u8], name: Span, c: Cursor) -> EasingRead
     if !text::is_word(text::part(text, name.start, name.size), b"Easing") {
         return EasingRead::Is(EasingSpec::Named(false, name), c);
     }
-    match cursor::both(text, c, 58, 58) {
+    match cursor::both(text, c, b':', b':') {
         MarkRead::Missing(_) => EasingRead::Is(EasingSpec::Named(false, name), c),
         MarkRead::Is(m) => match cursor::word(text, m) {
             WordRead::Missing(p) => EasingRead::Refused(Refusal::Missing, p),
@@ -444,7 +444,7 @@ pub fn parse_easing(text: &[u8], c: Cursor) -> EasingRead
     requires { ⌜ Ready (now text) c ⌝ }
     ensures { λ r. ⌜ EasingMeans (now (text .entry)) c parseEasing r ⌝ }
 {
-    if cursor::sees(c, 40) {
+    if cursor::sees(c, b'(') {
         let head = c.head;
         return EasingRead::Refused(Refusal::Malformed, head.start);
     }
@@ -474,7 +474,7 @@ fn ping_pong_mode(text: &[u8], c: Cursor) -> LoopRead
     requires { ⌜ Ready (now text) c ⌝ }
     ensures { λ r. ⌜ ModeMeans (now (text .entry)) c pingPongMode r ⌝ }
 {
-    if !cursor::sees(c, 40) {
+    if !cursor::sees(c, b'(') {
         return LoopRead::Is(LoopSpec::PingPong, c);
     }
     match uint_in_parens(text, c) {

@@ -1,6 +1,6 @@
 -- `cursor::parse_uint` meets its contract. Assumes nothing.
 use Rattle.text.specs.Bytes.{at}
-use Rattle.token.specs.Means.{written}
+use Rattle.token.specs.Means.{writtenOf}
 use Rattle.error.specs.declared.Refusal.the-variants.{Missing, Malformed}
 use Rattle.cursor.proofs.CursorLaws.{head-place, took-whole, whole-missing}
 use Rattle.grammar.specs.Values.{parseUint}
@@ -52,7 +52,7 @@ returns-3 c =
     let args = at-number .before .before .args in
     let n = rw (at-negative .negative .given .1) at (at-number .number .ensures) in
     let t = took-whole (args .text .now) (args .c) _ _ _ n Missing (at-if1 .if1 .left) in
-    let v = rw (c .before .v .given .1) at (at-whole .whole .ensures (written (at-negative .negative .given .0 .1 .0)) refl) in
+    let v = rw (c .before .v .given .1) at (at-whole .whole .ensures (writtenOf (at-negative .negative .given .0 .1 .0)) refl) in
     record { is = rw (t .is, sym v); low = t .low; ready = t .ready }
 
 returns-4 : tie.Need-returns-4
@@ -65,7 +65,7 @@ returns-4 c =
     let args = at-number .before .before .args in
     let n = rw (at-negative .negative .given .1) at (at-number .number .ensures) in
     let t = took-whole (args .text .now) (args .c) _ _ _ n Missing (at-if1 .if1 .left) in
-    let v = rw (c .before .enum-told .given .1) at (at-whole .whole .ensures (written (at-negative .negative .given .0 .1 .0)) refl) in
+    let v = rw (c .before .enum-told .given .1) at (at-whole .whole .ensures (writtenOf (at-negative .negative .given .0 .1 .0)) refl) in
     rw (t .is, sym v, n .ready .head .place)
 
 pub parse-uint-spec : {M : Type 1} → statement M

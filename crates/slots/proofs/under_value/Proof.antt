@@ -3,7 +3,7 @@ use Rattle.ast.specs.Tree.{underdamped}
 use mathlib.Core.Path.{refl}
 use Rattle.slots.specs.Means.{sortRank, sortRule, sortRules}
 use Rattle.slots.proofs.SortLaws.{given, not-given}
-use Rattle.grammar.specs.Grammar.{under}
+use Rattle.grammar.specs.Grammar.{underDamping}
 use Rattle.grammar.specs.Fields.{aDamping}
 use Rattle.grammar.specs.Values.{parseTwoFloatsInParens}
 use borrow.Author.Needs.{needs}
@@ -20,7 +20,7 @@ enum-known-x : tie.Need-enum-known-x
 enum-known-x c = search needs
 
 returns : tie.Need-returns
-unfolding sortRule sortRules under
+unfolding sortRule sortRules underDamping
 returns c =
     let at-parse-two-floats-in-parens = c .before .before .before in
     let args = at-parse-two-floats-in-parens .before .before .args in
@@ -28,7 +28,7 @@ returns c =
     (rw (c .before .r .given .1) at (at-parse-two-floats-in-parens .parse-two-floats-in-parens .ensures))
 
 returns-2 : tie.Need-returns-2
-unfolding sortRule sortRules sortRank under
+unfolding sortRule sortRules sortRank underDamping
 returns-2 c =
     let at-parse-two-floats-in-parens = c .before .before .before in
     let args = at-parse-two-floats-in-parens .before .before .args in
