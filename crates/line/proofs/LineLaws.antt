@@ -11,6 +11,7 @@ use lib.Dec.{ltb, leb}
 use lib.ListN.{length, getD, drop, getElem?, drop-of-length-le, length-append}
 use lib.Seq.{sets, sets-eq, drop-cons, take-all}
 use borrow.Author.Tests.{leb-true, leb-false, le-leb, lt-leb, le-ltb, lt-ltb}
+use Rattle.error.specs.Answer.{lineValues}
 use Rattle.error.specs.declared.Refusal.{Refusal}
 use Rattle.error.specs.declared.Refusal.the-variants.{OutputTooShort}
 use Rattle.error.specs.declared.LineAnswer.{LineAnswer}
@@ -142,3 +143,8 @@ given-fits t s i out {n} {after} e = opens (opening t s) e
     opens : (o : Opened) → ofOpened (length t) i out o ≡ (Accepted n, after) → n ≤ length after
     opens (shut r p) q = no q
     opens (opened ns) q = record-of (getElem? (allRecords (length t) ns) i) q
+
+-- ---- what equals lining has its values
+
+pub with-values : {x y : LineAnswer × List ℕ} → x ≡ y → (x ≡ y) × (lineValues (x .0) ≡ lineValues (y .0))
+with-values e = (e, ap (λ (p : LineAnswer × List ℕ). lineValues (p .0)) e)

@@ -5,6 +5,7 @@ ghost use Prim.Native.Nat.{_+_, _*_, _%_, _<_};
 ghost use lib.Dec.{leb};
 ghost use Rattle.text.specs.Write.{Puts};
 ghost use Rattle.line.specs.Line.{digit, hex, total, checkByte, line};
+ghost use Rattle.error.specs.Answer.{lineValues};
 ghost use Rattle.line.specs.Lining.{placed, lining};
 use error::LineAnswer;
 use error::Refusal;
@@ -107,6 +108,7 @@ fn place_line(bytes: &[u8], ordinal: usize, out: &mut [u8]) -> LineAnswer
 // The line of the record with an ordinal, the head being 0, or a refusal and its place.
 pub fn line(text: &[u8], sheet: &[u8], ordinal: usize, out: &mut [u8]) -> LineAnswer
     ensures { λ r. ⌜ (r, now (out .exit)) ≡ lining (now (text .entry)) (now (sheet .entry)) ordinal (now (out .entry)) ⌝ }
+    ensures values { λ r. ⌜ lineValues r ≡ lineValues (lining (now (text .entry)) (now (sheet .entry)) ordinal (now (out .entry)) .0) ⌝ }
 {
     if let Opening::Shut { refusal, place } = open_sheet(text, sheet) {
         return LineAnswer::Refused { refusal, place };

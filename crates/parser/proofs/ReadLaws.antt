@@ -8,6 +8,7 @@ use native.Mathlib.Nat.{zero-add, sub-zero}
 use borrow.Author.Tests.{lt-ltb, le-ltb, ltb-false}
 use lib.Dec.{ltb}
 use lib.ListN.{length, take, replicate}
+use Rattle.error.specs.Answer.{readValues}
 use Rattle.text.specs.Limits.{textLimit}
 use Rattle.codec.specs.Codec.{big}
 use Rattle.token.specs.Split.{Split, unlexed, tokens, split}
@@ -157,3 +158,8 @@ module _ (t s b : List ℕ) where
       read-tree s′ b′ a x y z e i m q =
           rw (z, by-parse, e)
           (ap (λ (v : ReadAnswer × List ℕ). outcome (v .0) (replicate (length s) 0) (v .1)) q ∙ tree-settled t s b a y i m)
+
+-- ---- what equals reading has its values
+
+pub with-values : {x y : ReadAnswer × List ℕ × List ℕ} → x ≡ y → (x ≡ y) × (readValues (x .0) ≡ readValues (y .0))
+with-values e = (e, ap (λ (p : ReadAnswer × List ℕ × List ℕ). readValues (p .0)) e)

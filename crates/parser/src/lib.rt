@@ -3,6 +3,7 @@ ghost use mathlib.Core.Path.{_≡_};
 ghost use Prim.Native.Nat.{_≤_};
 ghost use lib.ListN.{length};
 ghost use Rattle.text.specs.Limits.{textLimit};
+ghost use Rattle.error.specs.Answer.{readValues};
 ghost use Rattle.parser.specs.Reading.{reading};
 ghost use Rattle.parser.specs.Means.{TreeMeans, settled, outcome};
 use blocks::ParsedNodes;
@@ -67,6 +68,7 @@ fn settle(sheet: &mut [u8], answer: ReadAnswer) -> ReadAnswer
 // Reads a text into a sheet: the sheet's length and its count of node records, or a refusal and its place.
 pub fn read(text: &[u8], scratch: &mut [u16], sheet: &mut [u8]) -> ReadAnswer
     ensures { λ r. ⌜ outcome r (now (scratch .exit)) (now (sheet .exit)) ≡ reading (now (text .entry)) (now (scratch .entry)) (now (sheet .entry)) ⌝ }
+    ensures values { λ r. ⌜ readValues r ≡ readValues (reading (now (text .entry)) (now (scratch .entry)) (now (sheet .entry)) .0) ⌝ }
 {
     if text::TEXT_LIMIT < text.len() {
         return ReadAnswer::Refused {

@@ -69,7 +69,6 @@ module _
           let w : v ≡ judged t (mapTimes stored ns) = g _ _ a ∙ (rw s (checks t (mapTimes stored ns) (h .short) (clean t ns (h .parses)) d))
           in
           record {
-            size = length bs;
             held = mapTimes stored ns;
             answer = a;
             encodes = s;

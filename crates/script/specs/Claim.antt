@@ -42,21 +42,25 @@ TrackClaim x y n v =
 
 -- ---- the whole claim
 
+-- the encoding of the grammar's tree
+abbrev pub encoding : List ℕ → Nodes Key → List ℕ
+encoding t ns = encode (length t) (mapTimes stored ns)
+
 -- none of reading's refusals is due: the grammar's tree of the text is ns, and its encoding has room
 pub record Unrefused (t : List ℕ) (words room : ℕ) (ns : Nodes Key) : Type 0 where
   pub short : length t ≤ textLimit
   pub scratch : scratchWords ≤ words
   pub parses : parse t ≡ tree ns
-  pub fits : length (encode (length t) (mapTimes stored ns)) ≤ room
+  pub fits : length (encoding t ns) ≤ room
 
 -- what is so of reading's answer a, the sheet s that it left and checking's answer v, where ns is the grammar's tree
 pub record Agreed (t : List ℕ) (a : ReadAnswer) (s : List ℕ) (v : CheckAnswer) (ns : Nodes Key) : Type 0 where
+  -- the sheet's length is the encoding's
+  pub answer : a ≡ read.Accepted (length (encoding t ns)) (records ns)
+  pub encodes : take (length (encoding t ns)) s ≡ encoding t ns
   -- the tree of the sheet
-  pub size : ℕ
   pub held : Nodes KeyframeTime
-  pub answer : a ≡ read.Accepted size (records ns)
-  pub encodes : take size s ≡ encode (length t) (mapTimes stored ns)
-  pub decodes : decode (length t) (take size s) ≡ some held
+  pub decodes : decode (length t) (take (length (encoding t ns)) s) ≡ some held
   -- "it answers, number and ordinal included, as the checking rules do for that tree"
   pub same : held ≡ mapTimes stored ns
   pub checked : v ≡ judged t held

@@ -9,8 +9,7 @@ use Rattle.text.specs.Bytes.{bytes, same}
 use Rattle.parser.specs.Reading.{reading, scratchWords}
 use Rattle.validate.specs.Checking.{checking}
 use Rattle.script.specs.Output.{output}
-use Rattle.error.specs.Answer.{checkValues}
-use Rattle.error.specs.Refusal.{numberOf}
+use Rattle.error.specs.Answer.{readValues, checkValues}
 use Rattle.error.specs.declared.ReadAnswer.{ReadAnswer}
 use Rattle.error.specs.declared.ReadAnswer.the-variants.{Accepted, Refused}
 
@@ -32,14 +31,14 @@ hexBytes [] = []
 hexBytes (a ∷ []) = []
 hexBytes (a ∷ b ∷ bs) = (digitOf a * 16 + digitOf b) ∷ hexBytes bs
 
--- reading's values, its sheet behind an accept
-abbrev pub readValues : ReadAnswer × List ℕ × List ℕ → List ℕ
-readValues (Accepted n c, scratch, sheet) = 0 ∷ take n sheet
-readValues (Refused r p, scratch, sheet) = numberOf r ∷ p ∷ []
+-- the sheet that reading gives, behind a 0; or the values of its refusal
+abbrev pub sheetValues : ReadAnswer × List ℕ × List ℕ → List ℕ
+sheetValues (Accepted n c, scratch, sheet) = 0 ∷ take n sheet
+sheetValues (Refused r p, scratch, sheet) = readValues (Refused r p)
 
 -- reading with the program's buffers
 abbrev pub read : String → List ℕ
-read s = readValues (reading (bytes s) (replicate scratchWords 0) (replicate 49152 0))
+read s = sheetValues (reading (bytes s) (replicate scratchWords 0) (replicate 49152 0))
 
 -- checking what reading gave; of a refusal nothing
 abbrev pub checkRead : List ℕ → List ℕ → List ℕ

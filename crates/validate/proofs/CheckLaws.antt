@@ -11,7 +11,9 @@ use Rattle.sheet.specs.Opening.{opening}
 use Rattle.decode.specs.Reads.{Reads, got, bad, same}
 use Rattle.opening.specs.Means.{answerOf}
 use Rattle.opening.specs.declared.Opening.the-variants.{Open, Shut}
+use Rattle.error.specs.Answer.{checkValues}
 use Rattle.error.specs.declared.Refusal.{Refusal}
+use Rattle.error.specs.declared.CheckAnswer.{CheckAnswer}
 use Rattle.error.specs.declared.CheckAnswer.the-variants.{Accepted, Refused}
 use Rattle.presets.specs.Colors.{colors}
 use Rattle.sheet.proofs.Laws.{sheet-lawful}
@@ -58,3 +60,8 @@ module _ (t s : List ℕ) where
     accepted w =
         sym (judges
         ∙ ap verdictOf (w .is 16 (the-tree t s o .nodes) (head (length t) s (the-tree t s o .nodes) (the-tree t s o .decodes) r) .accepted))
+
+-- ---- what equals checking has its values
+
+pub with-values : {x y : CheckAnswer} → x ≡ y → (x ≡ y) × (checkValues x ≡ checkValues y)
+with-values e = (e, ap checkValues e)

@@ -1,6 +1,7 @@
 // validate.rs: checking a sheet. `opening` refuses what is no sheet; then the nodes are walked in preorder to the first
 // refusal, each record decoded once.
 ghost use mathlib.Core.Path.{_≡_};
+ghost use Rattle.error.specs.Answer.{checkValues};
 ghost use Rattle.validate.specs.Checking.{checking};
 
 mod faults;
@@ -18,6 +19,7 @@ use opening::open_sheet;
 
 pub fn check(text: &[u8], sheet: &[u8]) -> CheckAnswer
     ensures { λ r. ⌜ r ≡ checking (now (text .entry)) (now (sheet .entry)) ⌝ }
+    ensures values { λ r. ⌜ checkValues r ≡ checkValues (checking (now (text .entry)) (now (sheet .entry))) ⌝ }
 {
     let opened = open_sheet(text, sheet);
     if let Opening::Shut { refusal, place } = opened {

@@ -1,7 +1,7 @@
 -- `line::line` meets its contract: each way out is a case of the definition. Assumes nothing.
 use mathlib.Core.Path.{_∙_, sym}
 use borrow.Author.Needs.{needs}
-use Rattle.line.proofs.LineLaws.{found, refused}
+use Rattle.line.proofs.LineLaws.{found, refused, with-values}
 use Rattle.line.proofs.line.Statement.{statement}
 use Rattle.line.proofs.line.Tie as tie
 
@@ -12,7 +12,7 @@ enum-known-refusal : tie.Need-enum-known-refusal
 enum-known-refusal c = search needs
 
 returns : tie.Need-returns
-returns c = sym (refused _ _ _ _ (sym (c .before .refusal .given .1) ∙ c .before .before .before .open-sheet .ensures))
+returns c = with-values (sym (refused _ _ _ _ (sym (c .before .refusal .given .1) ∙ c .before .before .before .open-sheet .ensures)))
 
 enum-told : tie.Need-enum-told
 enum-told c = search needs
@@ -44,7 +44,7 @@ returns-2 c =
     let at-open-sheet = told .before .before in
     let o = sym (told .enum-told .given .1) ∙ at-open-sheet .open-sheet .ensures in
     let l = rw (at-start .start .given .1) at (at-record .record-at .ensures) in
-    (rw (at-part .part .ensures) at (c .before .before .place-line .ensures)) ∙ sym (found _ _ _ _ o l)
+    with-values ((rw (at-part .part .ensures) at (c .before .before .place-line .ensures)) ∙ sym (found _ _ _ _ o l))
 
 returns-3 : tie.Need-returns-3
 returns-3 c =
@@ -52,7 +52,7 @@ returns-3 c =
     let at-open-sheet = told .before .before in
     let o = sym (told .enum-told .given .1) ∙ at-open-sheet .open-sheet .ensures in
     let l = rw (c .enum-told2 .given .1) at (c .before .before .record-at .ensures) in
-    sym (found _ _ _ _ o l)
+    with-values (sym (found _ _ _ _ o l))
 
 pub line-spec : {M : Type 1} → statement M
 line-spec =

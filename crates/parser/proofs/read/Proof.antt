@@ -1,5 +1,5 @@
 -- `parser::read` meets its contract. Assumes nothing.
-use Rattle.parser.proofs.ReadLaws.{read-refused, read-tree, split-accepted, split-refused, split-zero, too-few, too-long}
+use Rattle.parser.proofs.ReadLaws.{read-refused, read-tree, split-accepted, split-refused, split-zero, too-few, too-long, with-values}
 use mathlib.Core.Path.{sym}
 use borrow.Author.Needs.{needs}
 use Rattle.parser.proofs.read.Statement.{statement}
@@ -8,13 +8,13 @@ use Rattle.parser.proofs.read.Tie as tie
 returns : tie.Need-returns
 returns c =
     let start = c .before .before .before .before in
-    sym (too-long (start .args .text .now) (start .args .scratch .now) (start .args .sheet .now) (c .if1 .taken))
+    with-values (sym (too-long (start .args .text .now) (start .args .scratch .now) (start .args .sheet .now) (c .if1 .taken)))
 
 returns-2 : tie.Need-returns-2
 returns-2 c =
     let at-if1 = c .before in
     let start = at-if1 .before .before .before .before in
-    sym (too-few (start .args .text .now) (start .args .scratch .now) (start .args .sheet .now) (at-if1 .if1 .left) (c .if2 .taken))
+    with-values (sym (too-few (start .args .text .now) (start .args .scratch .now) (start .args .sheet .now) (at-if1 .if1 .left) (c .if2 .taken)))
 
 split-requires : tie.Need-split-requires
 split-requires c κs = search needs
@@ -54,7 +54,8 @@ returns-3 c =
     let e = split-refused (args .text .now) (args .scratch .now) (split .last .1 .0) (split .result) (at-if2 .if2 .left) (split .ensures) _
     _ (at-refusal .refusal .given .1)
     in
-    read-refused
+    with-values
+    (read-refused
     (args .text .now)
     (args .scratch .now)
     (args .sheet .now)
@@ -64,7 +65,7 @@ returns-3 c =
     (at-settle .settle .last .0)
     (at-settle .settle .result)
     _ _ z e
-    (at-settle .settle .ensures)
+    (at-settle .settle .ensures))
 
 same-length-3 : tie.Need-same-length-3
 same-length-3 c = search needs
@@ -88,7 +89,8 @@ returns-4 c =
     let e = split-accepted (args .text .now) (args .scratch .now) (split .last .1 .0) (split .result) (at-if2 .if2 .left) (split .ensures)
     (at-enum-told .enum-told .given .1)
     in
-    read-tree
+    with-values
+    (read-tree
     (args .text .now)
     (args .scratch .now)
     (args .sheet .now)
@@ -102,7 +104,7 @@ returns-4 c =
     z e
     (parse-input .kept .1 .0)
     (parse-input .ensures)
-    (at-settle2 .settle2 .ensures)
+    (at-settle2 .settle2 .ensures))
 
 pub read-spec : {M : Type 1} → statement M
 read-spec =

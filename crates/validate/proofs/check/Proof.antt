@@ -13,7 +13,7 @@ enum-known-opened : tie.Need-enum-known-opened
 enum-known-opened c = search needs
 
 returns : tie.Need-returns
-returns c = laws.shut _ _ (sym (c .before .opened .given .1) ∙ c .before .before .before .open-sheet .ensures)
+returns c = laws.with-values (laws.shut _ _ (sym (c .before .opened .given .1) ∙ c .before .before .before .open-sheet .ensures))
 
 enum-told : tie.Need-enum-told
 enum-told c = search needs
@@ -39,8 +39,9 @@ returns-2 c =
     let at-take-field = at-validate-nodes .before .before in
     let at-enum-told = at-take-field .before in
     let at-open-sheet = at-enum-told .before .before in
-    laws.refused _ _ (sym (at-enum-told .enum-told .given .1) ∙ at-open-sheet .open-sheet .ensures)
-    (at-take-field .take-field .ensures .reads) (rw (c .before .walk .given .1) at (at-validate-nodes .validate-nodes .ensures))
+    let o = sym (at-enum-told .enum-told .given .1) ∙ at-open-sheet .open-sheet .ensures in
+    let w = rw (c .before .walk .given .1) at (at-validate-nodes .validate-nodes .ensures) in
+    laws.with-values (laws.refused _ _ o (at-take-field .take-field .ensures .reads) w)
 
 returns-3 : tie.Need-returns-3
 returns-3 c =
@@ -48,8 +49,9 @@ returns-3 c =
     let at-take-field = at-validate-nodes .before .before in
     let at-enum-told = at-take-field .before in
     let at-open-sheet = at-enum-told .before .before in
-    laws.accepted _ _ (sym (at-enum-told .enum-told .given .1) ∙ at-open-sheet .open-sheet .ensures)
-    (at-take-field .take-field .ensures .reads) (rw (c .enum-told2 .given .1) at (at-validate-nodes .validate-nodes .ensures))
+    let o = sym (at-enum-told .enum-told .given .1) ∙ at-open-sheet .open-sheet .ensures in
+    let w = rw (c .enum-told2 .given .1) at (at-validate-nodes .validate-nodes .ensures) in
+    laws.with-values (laws.accepted _ _ o (at-take-field .take-field .ensures .reads) w)
 
 pub check-spec : {M : Type 1} → statement M
 check-spec =
