@@ -16,13 +16,13 @@ enum-known-length : tie.Need-enum-known-length
 enum-known-length c = search needs
 
 array-share-prefix-out : tie.Need-array-share-prefix-out
-array-share-prefix-out c = given-fits _ _ _ _ (sym (rw (c .before .length .given .1) at (c .before .before .before .before .line .ensures)))
+array-share-prefix-out c = given-fits _ _ _ _ (sym (rw (c .before .length .given .1) at (c .before .before .before .before .line .ensures .0)))
 
 slice-aggregate-write-all : tie.Need-slice-aggregate-write-all
 slice-aggregate-write-all c =
     let at-length = c .before .before in
     let at-line = at-length .before .before .before in
-    sym (length-take-le _ _ (given-fits _ _ _ _ (sym (rw (at-length .length .given .1) at (at-line .line .ensures)))))
+    sym (length-take-le _ _ (given-fits _ _ _ _ (sym (rw (at-length .length .given .1) at (at-line .line .ensures .0)))))
 
 write-all-requires : tie.Need-write-all-requires
 write-all-requires c κs = search needs

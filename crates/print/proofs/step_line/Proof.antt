@@ -29,7 +29,7 @@ returns c =
     let at-part = lined .before .before in
     let start = at-part .before .before .before .before in
     let args = start .args in
-    let e = rw (at-part .part .ensures, at-length .length .given .1) at (lined .line .ensures) in
+    let e = rw (at-part .part .ensures, at-length .length .given .1) at (lined .line .ensures .0) in
     rw (c .after-line .ensures)
     (step-line (args .text .now) (args .sheet .now) (args .out .now) (args .size) (args .records) (args .ordinal) _ _
     (lined .line .kept .1 .1 .1 .0) e)
@@ -44,7 +44,7 @@ returns-2 c =
     let at-part = lined .before .before in
     let start = at-part .before .before .before .before in
     let args = start .args in
-    let e = rw (at-part .part .ensures, at-refusal .refusal .given .1) at (lined .line .ensures) in
+    let e = rw (at-part .part .ensures, at-refusal .refusal .given .1) at (lined .line .ensures .0) in
     step-refused
     (args .text .now)
     (args .sheet .now)

@@ -16,10 +16,10 @@ pack-refusal-requires : tie.Need-pack-refusal-requires
 pack-refusal-requires c κs = search needs
 
 returns : tie.Need-returns
-returns c = rw (← c .before .before .check .ensures, c .enum-told .given .1)
+returns c = rw (← c .before .before .check .ensures .0, c .enum-told .given .1)
 
 returns-2 : tie.Need-returns-2
-returns-2 c = rw (← c .before .before .before .before .check .ensures, c .before .before .refusal .given .1, c .pack-refusal .ensures)
+returns-2 c = rw (← c .before .before .before .before .check .ensures .0, c .before .before .refusal .given .1, c .pack-refusal .ensures)
 
 pub strip-check-spec : {M : Type 1} → statement M
 strip-check-spec =

@@ -25,7 +25,7 @@ returns : tie.Need-returns
 returns c =
     let at-length = c .before .before in
     let at-line = at-length .before .before .before .before in
-    rw (← at-line .line .ensures, at-length .length .given .1, c .low .ensures)
+    rw (← at-line .line .ensures .0, at-length .length .given .1, c .low .ensures)
 
 same-length-2 : tie.Need-same-length-2
 same-length-2 c = search needs
@@ -34,7 +34,7 @@ returns-2 : tie.Need-returns-2
 returns-2 c =
     let at-refusal = c .before .before in
     let at-line = at-refusal .before .before .before .before in
-    rw (← at-line .line .ensures, at-refusal .refusal .given .1, c .pack-refusal .ensures)
+    rw (← at-line .line .ensures .0, at-refusal .refusal .given .1, c .pack-refusal .ensures)
 
 pub strip-line-spec : {M : Type 1} → statement M
 strip-line-spec =

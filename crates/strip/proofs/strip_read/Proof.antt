@@ -29,7 +29,7 @@ returns c =
     let at-length = c .before .before in
     let c6 = at-length .before .before .before .before in
     let at-read = c6 .before .before in
-    rw (← at-read .read .ensures, at-length .length .given .1, c .pack-sheet .ensures)
+    rw (← at-read .read .ensures .0, at-length .length .given .1, c .pack-sheet .ensures)
 
 same-length-3 : tie.Need-same-length-3
 same-length-3 c = search needs
@@ -42,7 +42,7 @@ returns-2 c =
     let at-refusal = c .before .before in
     let c6 = at-refusal .before .before .before .before in
     let at-read = c6 .before .before in
-    rw (← at-read .read .ensures, at-refusal .refusal .given .1, c .pack-refusal .ensures)
+    rw (← at-read .read .ensures .0, at-refusal .refusal .given .1, c .pack-refusal .ensures)
 
 pub strip-read-spec : {M : Type 1} → statement M
 strip-read-spec =
