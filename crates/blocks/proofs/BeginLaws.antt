@@ -1,10 +1,10 @@
 -- The beginning of a node: its keyword, and what stands behind it. Assumes nothing.
 use Prim.Native.Nat.{ℕ}
 use mathlib.Core.List.{List}
-use mathlib.Core.Path.{_≡_}
+use mathlib.Core.Path.{_≡_, refl}
 use native.Mathlib.Omega.{arith}
 use Rattle.number.specs.Time.{Key}
-use Rattle.ast.specs.Tree.{Leaf, Container, Nodes}
+use Rattle.ast.specs.Tree.{Nodes}
 use Rattle.error.specs.declared.Refusal.{Refusal}
 use Rattle.error.specs.declared.Refusal.the-variants.{UnknownKeyword}
 use Rattle.grammar.specs.Rule.{refused, Rule, word}
@@ -13,7 +13,7 @@ use Rattle.cursor.specs.Means.{Ready, run, Took}
 use Rattle.cursor.specs.declared.Cursor.{Cursor}
 use Rattle.nodes.specs.declared.NodeRead.the-variants as read
 use Rattle.leaves.specs.Means.{LeafAtMeans}
-use Rattle.blocks.specs.Means.{HeadAtMeans, KeywordMeans, behindWord, LeafBegun, OpenBegun, BegunMeans}
+use Rattle.blocks.specs.Means.{KeywordMeans, behindWord, LeafBegun, ContainerBegun, BegunMeans}
 use Rattle.blocks.specs.declared.Keyword.the-variants as keyword
 use Rattle.blocks.specs.declared.Begun.{Begun}
 use Rattle.blocks.specs.declared.Begun.the-variants as begun
@@ -35,21 +35,15 @@ module _ (s b a : List ℕ) (c : Cursor) (out : ℕ) (w : List ℕ) where
       → run s c (behindWord w blk) ≡ refused r q
   leaf-refused i r q k h blk = rw (k .2, h (k .0) (k .1))
 
-  pub open-begun : (i q : ℕ) (m : Cursor) → KeywordMeans w (keyword.Container i)
-      → HeadAtMeans s b a c out i (read.Is q m) → OpenBegun 0 s b a c m out q (behindWord w)
-  open-begun i q m k h = let l = h (k .0) (k .1) in record {
-    value = l .value;
-    is = λ blk. rw (k .2, l .took .is);
-    low = l .took .low;
-    ready = l .took .ready;
-    writes = l .writes;
-    small = l .small;
+  pub container-begun : (i : ℕ) → Ready s c → KeywordMeans w (keyword.Container i) → ContainerBegun 0 s b b c c i (behindWord w)
+  container-begun i r k = record {
+    row = k .0;
+    found = k .1;
+    is = λ blk. rw (k .2);
+    low = omega arith;
+    ready = r;
+    same = refl;
   }
-
-  pub open-refused : (i : ℕ) (r : Refusal) (q : ℕ) → KeywordMeans w (keyword.Container i)
-      → HeadAtMeans s b a c out i (read.Refused r q) → (blk : Rule (Nodes Key))
-      → run s c (behindWord w blk) ≡ refused r q
-  open-refused i r q k h blk = rw (k .2, h (k .0) (k .1))
 
 -- "`unknown_keyword`": 7, behind the word
 pub unknown-refused : (s : List ℕ) (c : Cursor) (w : List ℕ) → Ready s c → KeywordMeans w keyword.Unknown
@@ -74,12 +68,12 @@ from-keyword s b a c m out p w (begun.Leaf q e) t h = record {
   writes = h .writes;
   paid = omega (arith, t .low, h .paid);
 }
-from-keyword s b a c m out p w (begun.Open q e) t h = record {
-  value = h .value;
+from-keyword s b a c m out p w (begun.Container i e) t h = record {
+  row = h .row;
+  found = h .found;
   is = λ blk. rw (t .is, h .is blk);
   low = omega (arith, t .low, h .low);
   ready = h .ready;
-  writes = h .writes;
-  small = h .small;
+  same = h .same;
 }
 from-keyword s b a c m out p w (begun.Refused r q) t h = λ blk. rw (t .is, h blk)

@@ -1,7 +1,8 @@
 -- Nodes in blocks: a node from its beginning and its block, and nodes one after the other. Assumes nothing.
 use Prim.Native.Nat.{ℕ, zero, suc, _+_, _*_, _-_, _≤_, _<_}
+use Prim.Native.String.{String}
 use mathlib.Core.Bool.{true, false}
-use mathlib.Core.List.{List, _++_, append-nil, append-assoc}
+use mathlib.Core.List.{List, [], _++_, append-nil, append-assoc}
 use mathlib.Core.Path.{_≡_, refl, sym, ap, _∙_, subst}
 use native.Mathlib.Omega.{arith}
 use lib.ListN.{length}
@@ -15,16 +16,21 @@ use Rattle.encode.proofs.OverLaws.{writes-none, writes-then, writes-counted}
 use Rattle.token.specs.Token.{place}
 use Rattle.error.specs.declared.Refusal.{Refusal}
 use Rattle.error.specs.declared.Refusal.the-variants.{Missing, TooManyNested}
-use Rattle.grammar.specs.Rule.{Out, refused, leave, seesByte, ends, theByte}
-use Rattle.grammar.specs.Grammar.{stored, parseNode, oneNode, nodesStep, block}
+use Rattle.grammar.specs.Rule.{Out, Rule, refused, leave, seesByte, ends, theByte, more, done}
+use Rattle.grammar.specs.Grammar.{stored, containers, parseNode, oneNode, nodesStep, block}
 use Rattle.cursor.specs.Means.{Ready, tokens, run, Took, Follows}
 use Rattle.cursor.specs.declared.Cursor.{Cursor}
-use Rattle.cursor.proofs.CursorLaws.{took-mark}
+use Rattle.cursor.proofs.CursorLaws.{took-mark, stays}
 use Rattle.fields.proofs.FieldLaws.{by-step}
 use Rattle.fields.proofs.ListLaws.{Listed, listed-start, listed-gives, listed-done}
 use Rattle.arrays.specs.Means.{Room}
+use Rattle.heads.proofs.RowLaws.{Each, by-row}
 use Rattle.arrays.proofs.ArrayLaws.{mark-seen, mark-unseen}
-use Rattle.blocks.specs.Means.{headBytes, LeafBegun, OpenBegun, Reached, nodeBytes, nodesBytes, NodeWent, parseNodes, NodesWent}
+use Rattle.blocks.specs.Means.{headBytes, LeafBegun, ContainerBegun, HeadWent, Reached, Headed, Counted, nodeBytes, nodesBytes}
+use Rattle.blocks.specs.Means.{heldBy, NodeWent, NodeMeans, BlockWent, BlockMeans, Standing, Stepped, Ended, parseNodes, NodesWent}
+use Rattle.blocks.specs.declared.ParsedNode.{ParsedNode}
+use Rattle.blocks.specs.declared.ParsedNode.the-variants as node
+use Rattle.blocks.specs.declared.Siblings.{Siblings}
 use Rattle.blocks.proofs.HeadLaws.{head-then}
 
 -- ---- the `{` of a block
@@ -56,12 +62,6 @@ width-map (box k ns rest) = ap suc (width-map rest)
 pub block-bytes : (n d : ℕ) (ns : Nodes Key) → big 2 .write (width ns) ++ nodesBytes n d ns ≡ inner n (suc d) .write (mapTimes stored ns)
 block-bytes n d ns = let m = mapTimes stored ns in sym (ap (λ (w : ℕ). big 2 .write w ++ forest n (inner n d) w .write m) (width-map ns))
 
--- a container is its head, and the nodes in its block
-holding-bytes : (n d : ℕ) (k : Container) (ns : Nodes Key)
-    → headBytes n k ++ (big 2 .write (width ns) ++ nodesBytes n d ns) ≡ nodeBytes n (suc d) (holding k ns)
-holding-bytes n d k ns =
-    ap (λ (l : List ℕ). headBytes n k ++ l) (block-bytes n d ns) ∙ sym (head-then n (inner n (suc d)) k (mapTimes stored ns))
-
 -- one node more
 bytes-more : (n d : ℕ) (ns : Nodes Key) (x : MotionNode Key)
     → nodesBytes n d (append ns (push x Nodes.none)) ≡ nodesBytes n d ns ++ nodeBytes n d x
@@ -88,70 +88,171 @@ records-more (box k ns rest) x = let e = records-more rest x in omega arith
 -- ---- a node
 
 -- what was read so far leaves room for a node
-pub reached-room : (s : List ℕ) (c : Cursor) (out : ℕ) → Ready s c → Reached s c out → Room s out
-reached-room s c out r h = record { short = h .short; low = omega (arith, h .low, h .short, r .high) }
+pub reached-room : {s : List ℕ} {c : Cursor} {out : ℕ} → Ready s c → Reached s c out → Room s out
+reached-room r h = record { short = h .short; low = omega (arith, h .low, h .short, r .high) }
 
-pub node-leaf : {s b a : List ℕ} {c m : Cursor} {out q : ℕ} (d : ℕ) → LeafBegun 1 s b a c m out q parseNode → NodeWent s b a c m out q d 1
+pub headed-room : {s : List ℕ} {c : Cursor} {out : ℕ} → Ready s c → Headed s c out → Room s out
+headed-room r h = record { short = h .short; low = omega (arith, h .low, h .short, r .high) }
+
+pub node-leaf : {s b a : List ℕ} {c m : Cursor} {out q : ℕ} (d : ℕ) → LeafBegun 1 s b a c m out q parseNode
+    → NodeWent 1 (parseNode (block d)) s b a c m out q d 1
 node-leaf {s} d h = record {
   went = record { value = single (h .value); took = h .took (block d); writes = rw (leaf-same (length s)) (h .writes); paid = h .paid };
   count = refl;
   few = omega (arith, h .took (block d) .low);
 }
 
-module _ (s b b₁ : List ℕ) (c m : Cursor) (out q d : ℕ) (o : OpenBegun 1 s b b₁ c m out q parseNode) where
-  pub block-refused : (r : Refusal) (p : ℕ) → run s m (block d) ≡ refused r p → run s c (parseNode (block d)) ≡ refused r p
-  block-refused r p h = o .is (block d) ∙ (rw h)
+-- behind the keyword of a container
+module _ {s b b₁ : List ℕ} {c m : Cursor} {i : ℕ} (g : ContainerBegun 1 s b b₁ c m i parseNode) where
+  pub keyword-headed : {out : ℕ} → Reached s c out → Headed s m out
+  keyword-headed h = record { short = h .short; low = omega (arith, h .low, g .low) }
+
+  from-row : (a : List ℕ) (out d : ℕ) (r : ParsedNode) → NodeMeans 0 (heldBy (g .row .1) d) s b₁ a m out d r
+      → NodeMeans 1 (parseNode (block d)) s b a c out d r
+  from-row a out d (node.Is q e k) h = record {
+    went = record {
+      value = h .went .value;
+      took = record {
+        is = g .is (block d) ∙ h .went .took .is;
+        low = omega (arith, g .low, h .went .took .low);
+        ready = h .went .took .ready;
+      };
+      writes = subst (λ (l : List ℕ). Writes l out (nodeBytes (length s) d (h .went .value)) a q) (g .same) (h .went .writes);
+      paid = omega (arith, g .low, h .went .paid);
+    };
+    count = h .count;
+    few = omega (arith, g .low, h .few);
+  }
+  from-row a out d (node.Refused r q) h = g .is (block d) ∙ h
+
+  -- the row i of the table is read
+  pub node-container : (a : List ℕ) (out d : ℕ) (r : ParsedNode)
+      → Each (λ (row : String × Rule Container). NodeMeans 0 (heldBy (row .1) d) s b₁ a m out d r) i 0 containers
+      → NodeMeans 1 (parseNode (block d)) s b a c out d r
+  node-container a out d r h =
+      from-row a out d r
+      (by-row (λ (row : String × Rule Container). NodeMeans 0 (heldBy (row .1) d) s b₁ a m out d r) i containers (g .row) (g .found) h)
+
+-- ---- a container from its head and its block
+
+module _ {s b b₁ : List ℕ} {c m : Cursor} {out q : ℕ} {p : Rule Container} (h : HeadWent s b b₁ c m out q p) where
+  pub head-counted : Headed s c out → Counted s m q
+  head-counted z = record { short = z .short; low = omega (arith, z .low, h .small, h .took .low) }
+
+  pub head-block : (a : List ℕ) (d : ℕ) (r : ParsedNode) → BlockMeans s b₁ a m q d r → NodeMeans 0 (heldBy p d) s b a c out d r
+  head-block a d (node.Is end e k) g = record {
+    went = record {
+      value = holding (h .value) (g .nodes);
+      took = record { is = rw (h .took .is, g .took .is); low = omega (arith, h .took .low, g .took .low); ready = g .took .ready };
+      writes = rw (head-then (length s) (inner (length s) d) (h .value) (mapTimes stored (g .nodes))) (writes-then (h .writes) (g .writes));
+      paid = omega (arith, h .small, h .took .low, g .paid, g .took .low);
+    };
+    count = omega (arith, g .number);
+    few = omega (arith, h .took .low, g .few);
+  }
+  head-block a d (node.Refused r e) g = rw (h .took .is, g)
+
+pub head-refused : (s : List ℕ) (c : Cursor) (p : Rule Container) {r : Refusal} {q : ℕ} (d : ℕ) → run s c p ≡ refused r q
+    → run s c (heldBy p d) ≡ refused r q
+head-refused s c p d h = rw h
+
+-- ---- a block, behind its `{`
 
 by-suc : (P : ℕ → Type 0) (d : ℕ) → 0 < d → P (suc (d - 1)) → P d
 by-suc P d z h = let e : suc (d - 1) ≡ d = omega arith in subst P e h
 
--- behind the `{`
-module _ (s b b₁ : List ℕ) (c m e : Cursor) (out q d : ℕ) (o : OpenBegun 1 s b b₁ c m out q parseNode)
-    (t : Took 1 s m e (theByte 123) tt) (z : 0 < d) where
-  pub block-reached : Reached s c out → Reached s e (q + 2)
-  block-reached h = record { short = h .short; low = omega (arith, h .low, o .small, o .low, t .low) }
+module _ {s : List ℕ} {c m : Cursor} (t : Took 1 s c m (theByte 123) tt) (d : ℕ) (z : 0 < d) where
+  pub block-reached : {count : ℕ} → Counted s c count → Reached s m (count + 2)
+  block-reached h = record { short = h .short; low = omega (arith, h .low, t .low) }
 
-  pub inside-refused : (r : Refusal) (p : ℕ) → run s e (parseNodes (d - 1)) ≡ refused r p → run s c (parseNode (block d)) ≡ refused r p
+  pub inside-refused : {r : Refusal} {q : ℕ} → run s m (parseNodes (d - 1)) ≡ refused r q → run s c (block d) ≡ refused r q
   unfolding block
-  inside-refused r p h = by-suc (λ (j : ℕ). run s c (parseNode (block j)) ≡ refused r p) d z (o .is (block (suc (d - 1))) ∙ (rw (t .is, h)))
+  inside-refused {r} {q} h = by-suc (λ (j : ℕ). run s c (block j) ≡ refused r q) d z (rw (t .is, h))
 
-  pub node-open : (n u : Cursor) (b₂ a : List ℕ) (end w k f : ℕ) → NodesWent s b₁ b₂ e n (q + 2) end (d - 1) w k
-      → Writes b₂ q (big 2 .write w) a f → Took 0 s n u leave tt
-      → NodeWent s b a c u out end d (k + 1)
+  pub block-went : {b b₁ a : List ℕ} {count f : ℕ} {u : Siblings} {e : Cursor} → NodesWent s b b₁ m (count + 2) (d - 1) u
+      → Writes b₁ count (big 2 .write (u .width)) a f → Took 0 s (u .next) e leave tt
+      → BlockWent s b a c e count (u .end) d (u .records + 1)
   unfolding block
-  node-open n u b₂ a end w k f g p l =
-      by-suc (λ (j : ℕ). NodeWent s b a c u out end j (k + 1)) d z
+  block-went {b} {b₁} {a} {count} {f} {u} {e} g p l =
+      by-suc (λ (j : ℕ). BlockWent s b a c e count (u .end) j (u .records + 1)) d z
       (record {
-        went = record {
-          value = holding (o .value) (g .went .value);
-          took = record {
-            is = o .is (block (suc (d - 1))) ∙ (rw (t .is, g .went .took .is, l .is));
-            low = omega (arith, o .low, t .low, g .went .took .low, l .low);
-            ready = l .ready;
-          };
-          writes = rw (← holding-bytes (length s) (d - 1) (o .value) (g .went .value))
-              (writes-then (o .writes) (writes-counted (width (g .went .value)) refl (g .went .writes) (rw (g .wide) at p)));
-          paid = omega (arith, o .small, o .low, t .low, g .went .paid, g .went .took .low, l .low);
+        nodes = g .went .value;
+        took = record {
+          is = rw (t .is, g .went .took .is, l .is);
+          low = omega (arith, t .low, g .went .took .low, l .low);
+          ready = l .ready;
         };
-        count = omega (arith, g .count);
-        few = omega (arith, o .low, t .low, g .few, l .low);
+        writes = rw (← block-bytes (length s) (d - 1) (g .went .value))
+            (writes-counted (width (g .went .value)) refl (g .went .writes) (rw (g .wide) at p));
+        number = omega (arith, g .count);
+        few = omega (arith, t .low, g .few, l .low);
+        paid = omega (arith, t .low, g .went .paid, g .went .took .low, l .low);
       })
+
+-- ---- a step of a list of nodes
+
+module _ {s : List ℕ} (b : List ℕ) (d : ℕ) (t : Siblings) (r : Ready s (t .next)) where
+  pub step-end : ends (tokens s (t .next)) ≡ true → Ended s b b d t t
+  unfolding nodesStep
+  step-end e = record { took = λ ns. stays s (t .next) r (nodesStep (block d) ns) (done ns) (rw e); kept = refl; same = refl }
+
+  module _ (e : ends (tokens s (t .next)) ≡ false) where
+    -- a `;` is passed
+    pub step-pass : {u : Cursor} → seesByte 59 (tokens s (t .next)) ≡ true → Follows s (t .next) u
+        → Stepped s b b d t (record { end = t .end; next = u; width = t .width; records = t .records })
+    unfolding nodesStep
+    step-pass {u} f g = let m = took-mark s (t .next) u r g 59 (omega arith) f in record {
+      grown = λ ns. ns;
+      took = λ ns. record { is = rw (e, f, g .rest, g .left); low = m .low; ready = g .ready };
+      wide = λ ns. refl;
+      count = λ ns. refl;
+      thin = omega (arith, m .low);
+      few = omega (arith, m .low);
+      added = [];
+      bytes = λ ns. sym (append-nil _);
+      writes = writes-none b (t .end);
+      paid = omega arith;
+    }
+
+    -- a node follows
+    module _ (f : seesByte 59 (tokens s (t .next)) ≡ false) where
+      pub step-refused : {x : Refusal} {q : ℕ} → run s (t .next) (parseNode (block d)) ≡ refused x q
+          → (ns : Nodes Key) → run s (t .next) (nodesStep (block d) ns) ≡ refused x q
+      unfolding nodesStep oneNode
+      step-refused h ns = rw (e, f, h)
+
+      pub step-node : {a : List ℕ} {m : Cursor} {q k : ℕ} → NodeWent 1 (parseNode (block d)) s b a (t .next) m (t .end) q d k
+          → Stepped s b a d t (record { end = q; next = m; width = t .width + 1; records = t .records + k })
+      unfolding nodesStep oneNode
+      step-node h = record {
+        grown = λ ns. append ns (push (h .went .value) Nodes.none);
+        took = λ ns. record { is = rw (e, f, h .went .took .is); low = h .went .took .low; ready = h .went .took .ready };
+        wide = λ ns. rw width-more (omega arith);
+        count = λ ns. rw records-more (omega (arith, h .count));
+        thin = omega (arith, h .went .took .low);
+        few = omega (arith, h .few);
+        added = nodeBytes (length s) d (h .went .value);
+        bytes = λ ns. bytes-more (length s) d ns (h .went .value);
+        writes = h .went .writes;
+        paid = h .went .paid;
+      }
 
 -- ---- nodes one after the other
 
--- the nodes that began at c stand at m: w beside each other, with k records, written from out to `at`; b has become a
-pub record Growing (s b a : List ℕ) (c m : Cursor) (out at d w k : ℕ) : Type 0 where
+-- the nodes that began at c stand at t, written from out on; b has become a
+pub record Growing (s b a : List ℕ) (c : Cursor) (out d : ℕ) (t : Siblings) : Type 0 where
   pub nodes : Nodes Key
-  pub listed : Listed (nodesStep (block d)) s c m Nodes.none nodes
-  pub wide : w ≡ width nodes
-  pub count : k ≡ records nodes
-  pub thin : c .at + w ≤ m .at
-  pub few : c .at + k ≤ m .at
-  pub writes : Writes b out (nodesBytes (length s) d nodes) a at
-  pub paid : at ≤ out + 64 * (m .at - c .at)
+  pub listed : Listed (nodesStep (block d)) s c (t .next) Nodes.none nodes
+  pub wide : t .width ≡ width nodes
+  pub count : t .records ≡ records nodes
+  pub thin : c .at + t .width ≤ t .next .at
+  pub few : c .at + t .records ≤ t .next .at
+  pub writes : Writes b out (nodesBytes (length s) d nodes) a (t .end)
+  pub paid : t .end ≤ out + 64 * (t .next .at - c .at)
 
-pub growing-start : (s b : List ℕ) (c : Cursor) (out d : ℕ) → Ready s c → Growing s b b c c out out d 0 0
-growing-start s b c out d r = record {
+pub growing-start : {s : List ℕ} (b : List ℕ) {c : Cursor} (out d : ℕ) → Ready s c
+    → Growing s b b c out d (record { end = out; next = c; width = 0; records = 0 })
+growing-start {s} b {c} out d r = record {
   nodes = Nodes.none;
   listed = listed-start (nodesStep (block d)) s c Nodes.none r;
   wide = refl;
@@ -162,80 +263,59 @@ growing-start s b c out d r = record {
   paid = omega arith;
 }
 
-module _ (s b a : List ℕ) (c m : Cursor) (out at d w k : ℕ) (i : Growing s b a c m out at d w k) where
-  pub growing-reached : Reached s c out → Reached s m at
-  growing-reached h = record { short = h .short; low = omega (arith, h .low, i .paid, i .listed .low) }
-
-  -- the group ends
-  pub growing-end : ends (tokens s m) ≡ true → NodesWent s b a c m out at d w k
-  unfolding nodesStep
-  growing-end e = record {
-    went = record {
-      value = i .nodes;
-      took = listed-done
-          (nodesStep (block d))
-          s c m Nodes.none
-          (i .nodes)
-          (i .listed)
-          m
-          (i .listed .ready)
-          (omega arith)
-          (by-step (nodesStep (block d)) (i .nodes) s m _ (i .listed .ready) (λ j l. rw e));
-      writes = i .writes;
-      paid = i .paid;
-    };
-    wide = i .wide;
-    count = i .count;
-    few = i .few;
+module _ {s b a : List ℕ} {c : Cursor} {out d : ℕ} {t : Siblings} (i : Growing s b a c out d t) where
+  pub growing-standing : Reached s c out → Standing s t
+  growing-standing h = record {
+    ready = i .listed .ready;
+    reached = record { short = h .short; low = omega (arith, h .low, i .paid, i .listed .low) };
+    thin = omega (arith, i .thin);
+    few = omega (arith, i .few);
   }
 
-  -- a `;` is passed
-  module _ (e : ends (tokens s m) ≡ false) (f : seesByte 59 (tokens s m) ≡ true) (u : Cursor) (g : Follows s m u) where
-    pub pass-moves : m .at < u .at
-    pass-moves = let t = took-mark s m u (i .listed .ready) g 59 (omega arith) f in omega (arith, t .low)
+  pub growing-end : {a′ : List ℕ} {u : Siblings} → Ended s a a′ d t u → NodesWent s b a′ c out d u
+  growing-end {a′} {u} x =
+      subst (λ (v : Siblings). NodesWent s b a′ c out d v) (sym (x .kept))
+      (subst (λ (l : List ℕ). NodesWent s b l c out d t) (sym (x .same))
+      (record {
+        went = record {
+          value = i .nodes;
+          took = listed-done
+              (nodesStep (block d))
+              s c (t .next) Nodes.none
+              (i .nodes)
+              (i .listed)
+              (t .next)
+              (i .listed .ready)
+              (omega arith)
+              (by-step (nodesStep (block d)) (i .nodes) s (t .next) _ (i .listed .ready) (λ j l. rw (x .took (i .nodes) .is)));
+          writes = i .writes;
+          paid = i .paid;
+        };
+        wide = i .wide;
+        count = i .count;
+        few = i .few;
+      }))
 
-    pub growing-pass : Growing s b a c u out at d w k
-    unfolding nodesStep
-    growing-pass = record {
-      nodes = i .nodes;
-      listed = record {
-        low = let t = pass-moves in omega (arith, i .listed .low);
-        ready = g .ready;
-        goes = λ o h. i .listed .goes o
-            (by-step (nodesStep (block d)) (i .nodes) s m o (i .listed .ready)
-            (λ j l. rw (e, f, g .rest, sym (g .left)) (h j (let t = pass-moves in omega arith))));
-      };
-      wide = i .wide;
-      count = i .count;
-      thin = let t = pass-moves in omega (arith, i .thin);
-      few = let t = pass-moves in omega (arith, i .few);
-      writes = i .writes;
-      paid = let t = pass-moves in omega (arith, i .paid, i .listed .low);
-    }
+  pub growing-refused : {r : Refusal} {q : ℕ} → ((ns : Nodes Key) → run s (t .next) (nodesStep (block d) ns) ≡ refused r q)
+      → run s c (parseNodes d) ≡ refused r q
+  growing-refused h =
+      listed-gives (nodesStep (block d)) s c (t .next) Nodes.none (i .nodes) (i .listed) _
+      (by-step (nodesStep (block d)) (i .nodes) s (t .next) _ (i .listed .ready) (λ j l. rw (h (i .nodes))))
 
-  -- a node follows
-  module _ (e : ends (tokens s m) ≡ false) (f : seesByte 59 (tokens s m) ≡ false) where
-    pub growing-refused : (r : Refusal) (q : ℕ) → run s m (parseNode (block d)) ≡ refused r q → run s c (parseNodes d) ≡ refused r q
-    unfolding nodesStep oneNode
-    growing-refused r q h =
-        listed-gives (nodesStep (block d)) s c m Nodes.none (i .nodes) (i .listed) _
-        (by-step (nodesStep (block d)) (i .nodes) s m _ (i .listed .ready) (λ j l. rw (e, f, h)))
-
-    pub growing-more : (u : Cursor) (a′ : List ℕ) (q k′ : ℕ) → NodeWent s a a′ m u at q d k′ → Growing s b a′ c u out q d (w + 1) (k + k′)
-    unfolding nodesStep oneNode
-    growing-more u a′ q k′ g = record {
-      nodes = append (i .nodes) (push (g .went .value) Nodes.none);
-      listed = record {
-        low = omega (arith, i .listed .low, g .went .took .low);
-        ready = g .went .took .ready;
-        goes = λ o h. i .listed .goes o
-            (by-step (nodesStep (block d)) (i .nodes) s m o (i .listed .ready)
-            (λ j l. rw (e, f, g .went .took .is) (h j (omega (arith, g .went .took .low)))));
-      };
-      wide = rw width-more (omega (arith, i .wide));
-      count = rw records-more (omega (arith, i .count, g .count));
-      thin = omega (arith, i .thin, g .went .took .low);
-      few = omega (arith, i .few, g .few);
-      writes = rw bytes-more (writes-then (i .writes) (g .went .writes));
-      paid = omega (arith, i .paid, g .went .paid, i .listed .low, g .went .took .low);
-    }
+  pub growing-more : {a′ : List ℕ} {u : Siblings} → Stepped s a a′ d t u → Growing s b a′ c out d u
+  growing-more x = record {
+    nodes = x .grown (i .nodes);
+    listed = record {
+      low = omega (arith, i .listed .low, x .took (i .nodes) .low);
+      ready = x .took (i .nodes) .ready;
+      goes = λ o h. i .listed .goes o
+          (by-step (nodesStep (block d)) (i .nodes) s (t .next) o (i .listed .ready)
+          (λ j l. rw (x .took (i .nodes) .is) (h j (omega (arith, x .took (i .nodes) .low)))));
+    };
+    wide = omega (arith, i .wide, x .wide (i .nodes));
+    count = omega (arith, i .count, x .count (i .nodes));
+    thin = omega (arith, i .thin, x .thin);
+    few = omega (arith, i .few, x .few);
+    writes = rw (x .bytes) (writes-then (i .writes) (x .writes));
+    paid = omega (arith, i .paid, x .paid, i .listed .low, x .took (i .nodes) .low);
+  }

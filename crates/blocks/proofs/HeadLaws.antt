@@ -1,6 +1,5 @@
 -- What stands before a container's block is taken, and written up to the count. Assumes nothing.
 use Prim.Native.Nat.{ℕ, _+_, _≤_}
-use Prim.Native.String.{String}
 use mathlib.Core.List.{List, [], _∷_, _++_, append-nil, append-assoc}
 use mathlib.Core.Option.{Option, none, some}
 use mathlib.Core.Path.{_≡_, refl, sym, ap, _∙_}
@@ -12,14 +11,11 @@ use Rattle.sheet.specs.Sheet.{Forest, word, patternForm, nodeForm}
 use Rattle.encode.specs.Writes.{Writes}
 use Rattle.encode.proofs.OverLaws.{writes-then}
 use Rattle.encode.proofs.FieldLaws.{length-word}
-use Rattle.grammar.specs.Rule.{Rule}
-use Rattle.grammar.specs.Grammar.{parseSequence, parseParallel, parseGroup, parseStagger, containers}
+use Rattle.grammar.specs.Grammar.{parseSequence, parseParallel, parseGroup, parseStagger}
 use Rattle.cursor.specs.Means.{Ready, Took}
 use Rattle.cursor.specs.declared.Cursor.{Cursor}
 use Rattle.cursor.proofs.CursorLaws.{stays, fewer}
-use Rattle.nodes.specs.declared.NodeRead.{NodeRead}
-use Rattle.heads.proofs.RowLaws.{Each, by-row}
-use Rattle.blocks.specs.Means.{headBytes, HeadWent, HeadMeans, HeadAtMeans}
+use Rattle.blocks.specs.Means.{headBytes, HeadWent}
 
 -- a container is its head, and then the nodes in it
 pub head-then : (n : ℕ) (blk : Form Forest) (k : Container) (ns : Forest)
@@ -70,9 +66,3 @@ stagger-went p d t o w z = record {
   writes = rw append-nil (writes-then o (writes-then w z));
   small = let x = length-pattern p in let y = length-delay d in omega (arith, o .place, w .place, z .place);
 }
-
--- by the row of the table
-pub by-head : (s b a : List ℕ) (c : Cursor) (out i : ℕ) (r : NodeRead)
-    → Each (λ (row : String × Rule Container). HeadMeans s b a c out (row .1) r) i 0 containers
-    → HeadAtMeans s b a c out i r
-by-head s b a c out i r h row e = by-row (λ (row : String × Rule Container). HeadMeans s b a c out (row .1) r) i containers row e h

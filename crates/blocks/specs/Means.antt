@@ -2,8 +2,7 @@
 -- Assumes nothing.
 use Prim.Native.Nat.{ℕ, _+_, _*_, _-_, _≤_, _<_}
 use Prim.Native.String.{String}
-use mathlib.Core.Bool.{true, false}
-use mathlib.Core.List.{List}
+use mathlib.Core.List.{List, _++_}
 use mathlib.Core.Option.{some}
 use mathlib.Core.Path.{_≡_}
 use lib.ListN.{length, getElem?}
@@ -13,9 +12,9 @@ use Rattle.number.specs.Time.{Key}
 use Rattle.ast.specs.Tree.{Leaf, Container, Nodes, MotionNode, single, holding, push, width, records, mapLeaf, mapTimes}
 use Rattle.sheet.specs.Sheet.{Node, nodeForm, forest, inner}
 use Rattle.encode.specs.Writes.{Writes}
-use Rattle.grammar.specs.Rule.{Rule, refused, give, _>>=_, sees, ends, the, repeat}
+use Rattle.grammar.specs.Rule.{Rule, refused, the, Next, more, done, repeat}
 use Rattle.grammar.specs.Grammar.{stored, leaves, containers, aLeaf, aContainer, unknown, beginning, nodeBy, parseNode, nodesStep, block}
-use Rattle.cursor.specs.Means.{Ready, tokens, run, Took}
+use Rattle.cursor.specs.Means.{Ready, run, Took}
 use Rattle.cursor.specs.declared.Cursor.{Cursor}
 use Rattle.arrays.specs.Means.{Went}
 use Rattle.nodes.specs.Means.{leafBytes}
@@ -25,35 +24,15 @@ use Rattle.blocks.specs.declared.Keyword.{Keyword}
 use Rattle.blocks.specs.declared.Keyword.the-variants as keyword
 use Rattle.blocks.specs.declared.Begun.{Begun}
 use Rattle.blocks.specs.declared.Begun.the-variants as begun
-use Rattle.blocks.specs.declared.BlockRead.{BlockRead}
-use Rattle.blocks.specs.declared.BlockRead.the-variants as opened
-use Rattle.blocks.specs.declared.NodeItem.{NodeItem}
-use Rattle.blocks.specs.declared.NodeItem.the-variants as item
+use Rattle.blocks.specs.declared.BraceRead.{BraceRead}
+use Rattle.blocks.specs.declared.BraceRead.the-variants as brace
 use Rattle.blocks.specs.declared.ParsedNode.{ParsedNode}
 use Rattle.blocks.specs.declared.ParsedNode.the-variants as node
 use Rattle.blocks.specs.declared.ParsedNodes.{ParsedNodes}
 use Rattle.blocks.specs.declared.ParsedNodes.the-variants as nodes
-
--- ---- what stands before a container's block
-
--- a container's record without the count of the nodes in it
-abbrev pub headBytes : ℕ → Container → List ℕ
-headBytes n k = nodeForm n never .write (holding k Nodes.none)
-
--- the rule p takes a container's head from c to m, which is written from out to q; with the count it has at most 64 bytes
-pub record HeadWent (s b a : List ℕ) (c m : Cursor) (out q : ℕ) (p : Rule Container) : Type 0 where
-  pub value : Container
-  pub took : Took 0 s c m p value
-  pub writes : Writes b out (headBytes (length s) value) a q
-  pub small : q + 2 ≤ out + 64
-
-abbrev pub HeadMeans : (s b a : List ℕ) → Cursor → ℕ → Rule Container → NodeRead → Type 0
-HeadMeans s b a c out p (head.Is q m) = HeadWent s b a c m out q p
-HeadMeans s b a c out p (head.Refused r q) = run s c p ≡ refused r q
-
--- by the rule at a place of the table
-abbrev pub HeadAtMeans : (s b a : List ℕ) → Cursor → ℕ → ℕ → NodeRead → Type 0
-HeadAtMeans s b a c out i r = (row : String × Rule Container) → getElem? containers i ≡ some row → HeadMeans s b a c out (row .1) r
+use Rattle.blocks.specs.declared.Siblings.{Siblings}
+use Rattle.blocks.specs.declared.NodesNext.{NodesNext}
+use Rattle.blocks.specs.declared.NodesNext.the-variants as turn
 
 -- ---- the keyword
 
@@ -80,39 +59,60 @@ pub record LeafBegun (e : ℕ) (s b a : List ℕ) (c m : Cursor) (out q : ℕ) (
   pub writes : Writes b out (leafBytes (length s) value) a q
   pub paid : q ≤ out + 64 * (m .at - c .at)
 
--- the node is a container, whose block is to follow at m; its record is written up to the count, which is to stand at q
-pub record OpenBegun (e : ℕ) (s b a : List ℕ) (c m : Cursor) (out q : ℕ) (p : NodeRule) : Type 0 where
-  pub value : Container
-  pub is : (blk : Rule (Nodes Key)) → run s c (p blk) ≡ run s m (blk >>= λ ns. give (holding value ns))
+-- the node is the container of row i, whose head is to follow at m; nothing is written yet
+pub record ContainerBegun (e : ℕ) (s b a : List ℕ) (c m : Cursor) (i : ℕ) (p : NodeRule) : Type 0 where
+  pub row : String × Rule Container
+  pub found : getElem? containers i ≡ some row
+  pub is : (blk : Rule (Nodes Key)) → run s c (p blk) ≡ run s m (nodeBy blk (aContainer (row .1)))
   pub low : c .at + e ≤ m .at
   pub ready : Ready s m
-  pub writes : Writes b out (headBytes (length s) value) a q
-  pub small : q + 2 ≤ out + 64
+  pub same : a ≡ b
 
 abbrev pub BegunMeans : (e : ℕ) (s b a : List ℕ) → Cursor → ℕ → NodeRule → Begun → Type 0
 BegunMeans e s b a c out p (begun.Leaf q m) = LeafBegun e s b a c m out q p
-BegunMeans e s b a c out p (begun.Open q m) = OpenBegun e s b a c m out q p
+BegunMeans e s b a c out p (begun.Container i m) = ContainerBegun e s b a c m i p
 BegunMeans e s b a c out p (begun.Refused r q) = (blk : Rule (Nodes Key)) → run s c (p blk) ≡ refused r q
 
--- ---- a container's block, d containers more being allowed
+-- ---- what stands before a container's block
 
--- its `{`
-abbrev pub BlockMeans : List ℕ → Cursor → ℕ → BlockRead → Type 0
-BlockMeans s c d (opened.Is m) = Took 1 s c m (the "{") tt × (0 < d)
-BlockMeans s c d (opened.Refused r q) = run s c (block d) ≡ refused r q
+-- a container's record without the count of the nodes in it
+abbrev pub headBytes : ℕ → Container → List ℕ
+headBytes n k = nodeForm n never .write (holding k Nodes.none)
 
--- what the next token is to a list of nodes
-abbrev pub ItemMeans : List ℕ → Cursor → NodeItem → Type 0
-ItemMeans s c item.Ends = ends (tokens s c) ≡ true
-ItemMeans s c item.Passes = (ends (tokens s c) ≡ false) × (sees ";" (tokens s c) ≡ true)
-ItemMeans s c item.Starts = (ends (tokens s c) ≡ false) × (sees ";" (tokens s c) ≡ false)
+-- the rule p takes a container's head from c to m, which is written from out to q; with the count it has at most 64 bytes
+pub record HeadWent (s b a : List ℕ) (c m : Cursor) (out q : ℕ) (p : Rule Container) : Type 0 where
+  pub value : Container
+  pub took : Took 0 s c m p value
+  pub writes : Writes b out (headBytes (length s) value) a q
+  pub small : q + 2 ≤ out + 64
 
--- ---- nodes
+abbrev pub HeadMeans : (s b a : List ℕ) → Cursor → ℕ → Rule Container → NodeRead → Type 0
+HeadMeans s b a c out p (head.Is q m) = HeadWent s b a c m out q p
+HeadMeans s b a c out p (head.Refused r q) = run s c p ≡ refused r q
 
--- a text, and a place in the sheet that the text up to the cursor pays for, the head record left out
+-- the `{` of a block, d containers more being allowed
+abbrev pub BraceMeans : List ℕ → Cursor → ℕ → BraceRead → Type 0
+BraceMeans s c d (brace.Is m) = Took 1 s c m (the "{") tt × (0 < d)
+BraceMeans s c d (brace.Refused r q) = run s c (block d) ≡ refused r q
+
+-- ---- places in the sheet that the text up to the cursor pays for: a byte pays for 64
+
+-- of a node, the head record left out
 pub record Reached (s : List ℕ) (c : Cursor) (out : ℕ) : Type 0 where
   pub short : length s ≤ textLimit
   pub low : out ≤ 2 + 64 * c .at
+
+-- of a container whose keyword has been taken
+pub record Headed (s : List ℕ) (c : Cursor) (out : ℕ) : Type 0 where
+  pub short : length s ≤ textLimit
+  pub low : out + 62 ≤ 64 * c .at
+
+-- of the count of the nodes in a block
+pub record Counted (s : List ℕ) (c : Cursor) (count : ℕ) : Type 0 where
+  pub short : length s ≤ textLimit
+  pub low : count ≤ 64 * c .at
+
+-- ---- nodes
 
 -- the sheet's node for a node of the grammar's tree
 abbrev pub storedNode : MotionNode Key → Node
@@ -126,27 +126,76 @@ nodeBytes n d x = nodeForm n (inner n d) .write (storedNode x)
 abbrev pub nodesBytes : ℕ → ℕ → Nodes Key → List ℕ
 nodesBytes n d ns = forest n (inner n d) (width ns) .write (mapTimes stored ns)
 
--- a node from c to m, written from out to q, with k records
-pub record NodeWent (s b a : List ℕ) (c m : Cursor) (out q d k : ℕ) : Type 0 where
-  pub went : Went 1 s b a c m out q (parseNode (block d)) (nodeBytes (length s) d)
+-- the rule p takes a node from c to m, at least e bytes on, which is written from out to q, with k records
+pub record NodeWent (e : ℕ) (p : Rule (MotionNode Key)) (s b a : List ℕ) (c m : Cursor) (out q d k : ℕ) : Type 0 where
+  pub went : Went e s b a c m out q p (nodeBytes (length s) d)
   pub count : k ≡ records (push (went .value) Nodes.none)
   pub few : c .at + k ≤ m .at
 
-abbrev pub NodeMeans : (s b a : List ℕ) → Cursor → ℕ → ℕ → ParsedNode → Type 0
-NodeMeans s b a c out d (node.Is q m k) = NodeWent s b a c m out q d k
-NodeMeans s b a c out d (node.Refused r q) = run s c (parseNode (block d)) ≡ refused r q
+abbrev pub NodeMeans : (e : ℕ) → Rule (MotionNode Key) → (s b a : List ℕ) → Cursor → ℕ → ℕ → ParsedNode → Type 0
+NodeMeans e p s b a c out d (node.Is q m k) = NodeWent e p s b a c m out q d k
+NodeMeans e p s b a c out d (node.Refused r q) = run s c p ≡ refused r q
 
--- nodes up to the group's end
+-- a container behind its keyword: its head, then its block
+abbrev pub heldBy : Rule Container → ℕ → Rule (MotionNode Key)
+heldBy p d = nodeBy (block d) (aContainer p)
+
+-- a container's block from c to m, written from its count on up to q; with the container there are k records
+pub record BlockWent (s b a : List ℕ) (c m : Cursor) (count q d k : ℕ) : Type 0 where
+  pub nodes : Nodes Key
+  pub took : Took 1 s c m (block d) nodes
+  pub writes : Writes b count (inner (length s) d .write (mapTimes stored nodes)) a q
+  pub number : k ≡ records nodes + 1
+  pub few : c .at + k ≤ m .at
+  pub paid : q + 62 ≤ count + 64 * (m .at - c .at)
+
+abbrev pub BlockMeans : (s b a : List ℕ) → Cursor → ℕ → ℕ → ParsedNode → Type 0
+BlockMeans s b a c count d (node.Is q m k) = BlockWent s b a c m count q d k
+BlockMeans s b a c count d (node.Refused r q) = run s c (block d) ≡ refused r q
+
+-- ---- nodes up to the group's end
+
+-- what a step asks of the nodes so far
+pub record Standing (s : List ℕ) (t : Siblings) : Type 0 where
+  pub ready : Ready s (t .next)
+  pub reached : Reached s (t .next) (t .end)
+  pub thin : t .width ≤ t .next .at
+  pub few : t .records ≤ t .next .at
+
+-- a step goes on from t to u, whatever nodes ns stand before: it makes them `grown ns`, and writes what that adds
+pub record Stepped (s b a : List ℕ) (d : ℕ) (t u : Siblings) : Type 0 where
+  pub grown : Nodes Key → Nodes Key
+  pub took : (ns : Nodes Key) → Took 1 s (t .next) (u .next) (nodesStep (block d) ns) (more (grown ns))
+  pub wide : (ns : Nodes Key) → width (grown ns) + t .width ≡ width ns + u .width
+  pub count : (ns : Nodes Key) → records (grown ns) + t .records ≡ records ns + u .records
+  pub thin : t .next .at + u .width ≤ u .next .at + t .width
+  pub few : t .next .at + u .records ≤ u .next .at + t .records
+  pub added : List ℕ
+  pub bytes : (ns : Nodes Key) → nodesBytes (length s) d (grown ns) ≡ nodesBytes (length s) d ns ++ added
+  pub writes : Writes b (t .end) added a (u .end)
+  pub paid : u .end ≤ t .end + 64 * (u .next .at - t .next .at)
+
+-- the list ends at t
+pub record Ended (s b a : List ℕ) (d : ℕ) (t u : Siblings) : Type 0 where
+  pub took : (ns : Nodes Key) → Took 0 s (t .next) (t .next) (nodesStep (block d) ns) (done ns)
+  pub kept : u ≡ t
+  pub same : a ≡ b
+
+abbrev pub StepMeans : (s b a : List ℕ) → ℕ → Siblings → NodesNext → Type 0
+StepMeans s b a d t (turn.More u) = Stepped s b a d t u
+StepMeans s b a d t (turn.Done u) = Ended s b a d t u
+StepMeans s b a d t (turn.Refused r q) = (ns : Nodes Key) → run s (t .next) (nodesStep (block d) ns) ≡ refused r q
+
 abbrev pub parseNodes : ℕ → Rule (Nodes Key)
 parseNodes d = repeat (nodesStep (block d)) Nodes.none
 
--- w nodes beside each other from c to m, written from out to q, with k records
-pub record NodesWent (s b a : List ℕ) (c m : Cursor) (out q d w k : ℕ) : Type 0 where
-  pub went : Went 0 s b a c m out q (parseNodes d) (nodesBytes (length s) d)
-  pub wide : w ≡ width (went .value)
-  pub count : k ≡ records (went .value)
-  pub few : c .at + k ≤ m .at
+-- the nodes from c on, written from out on
+pub record NodesWent (s b a : List ℕ) (c : Cursor) (out d : ℕ) (t : Siblings) : Type 0 where
+  pub went : Went 0 s b a c (t .next) out (t .end) (parseNodes d) (nodesBytes (length s) d)
+  pub wide : t .width ≡ width (went .value)
+  pub count : t .records ≡ records (went .value)
+  pub few : c .at + t .records ≤ t .next .at
 
 abbrev pub NodesMeans : (s b a : List ℕ) → Cursor → ℕ → ℕ → ParsedNodes → Type 0
-NodesMeans s b a c out d (nodes.Is q m w k) = NodesWent s b a c m out q d w k
+NodesMeans s b a c out d (nodes.Is t) = NodesWent s b a c out d t
 NodesMeans s b a c out d (nodes.Refused r q) = run s c (parseNodes d) ≡ refused r q

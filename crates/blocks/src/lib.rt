@@ -2,10 +2,10 @@
 // The functions are for our own crates: each requires a cursor that stands in a text of at most 16,384 bytes, and a place that what was read so far can have reached.
 ghost use mathlib.Core.List.{List};
 ghost use Prim.Native.Nat.{ℕ};
-ghost use Rattle.grammar.specs.Grammar.{parseSequence, parseParallel, parseGroup, parseStagger, parseNode};
+ghost use Rattle.grammar.specs.Grammar.{parseSequence, parseParallel, parseGroup, parseStagger, parseNode, block};
 ghost use Rattle.cursor.specs.Means.{Ready, spelled};
 ghost use Rattle.arrays.specs.Means.{Room};
-ghost use Rattle.blocks.specs.Means.{HeadMeans, HeadAtMeans, KeywordMeans, BegunMeans, behindWord, BlockMeans, ItemMeans, Reached, NodeMeans, NodesMeans};
+ghost use Rattle.blocks.specs.Means.{HeadMeans, KeywordMeans, BegunMeans, behindWord, BraceMeans, Counted, BlockMeans, Headed, heldBy, Reached, NodeMeans, Standing, StepMeans, NodesMeans};
 use ast::Span;
 use cursor::Cursor;
 use cursor::MarkRead;
@@ -14,62 +14,6 @@ use error::Refusal;
 use heads::GroupRead;
 use heads::StaggerRead;
 use nodes::NodeRead;
-
-// ---- what stands before a container's block: its kind and its fields. The answer is the place of the count, which is left open.
-
-fn parse_sequence(text: &[u8], sheet: &mut [u8], c: Cursor, out: usize) -> NodeRead
-    requires { ⌜ Ready (now text) c × Room (now text) out ⌝ }
-    ensures { λ r. ⌜ HeadMeans (now (text .entry)) (now (sheet .entry)) (now (sheet .exit)) c out parseSequence r ⌝ }
-{
-    NodeRead::Is(encode::put_byte(sheet, out, 3), c)
-}
-
-fn parse_parallel(text: &[u8], sheet: &mut [u8], c: Cursor, out: usize) -> NodeRead
-    requires { ⌜ Ready (now text) c × Room (now text) out ⌝ }
-    ensures { λ r. ⌜ HeadMeans (now (text .entry)) (now (sheet .entry)) (now (sheet .exit)) c out parseParallel r ⌝ }
-{
-    NodeRead::Is(encode::put_byte(sheet, out, 4), c)
-}
-
-fn parse_group(text: &[u8], sheet: &mut [u8], c: Cursor, out: usize) -> NodeRead
-    requires { ⌜ Ready (now text) c × Room (now text) out ⌝ }
-    ensures { λ r. ⌜ HeadMeans (now (text .entry)) (now (sheet .entry)) (now (sheet .exit)) c out parseGroup r ⌝ }
-{
-    match heads::parse_group(text, c) {
-        GroupRead::Refused(r, p) => NodeRead::Refused(r, p),
-        GroupRead::Is(mode, m) => {
-            let a = encode::put_byte(sheet, out, 5);
-            NodeRead::Is(encode::put_byte(sheet, a, mode), m)
-        }
-    }
-}
-
-fn parse_stagger(text: &[u8], sheet: &mut [u8], c: Cursor, out: usize) -> NodeRead
-    requires { ⌜ Ready (now text) c × Room (now text) out ⌝ }
-    ensures { λ r. ⌜ HeadMeans (now (text .entry)) (now (sheet .entry)) (now (sheet .exit)) c out parseStagger r ⌝ }
-{
-    match heads::parse_stagger(text, c) {
-        StaggerRead::Refused(r, p) => NodeRead::Refused(r, p),
-        StaggerRead::Is(pattern, delay, m) => {
-            let a = encode::put_byte(sheet, out, 6);
-            let b = encode::put_opt_pattern(sheet, a, pattern);
-            NodeRead::Is(encode::put_opt_float(sheet, b, delay), m)
-        }
-    }
-}
-
-// By the keyword's place in the table.
-fn parse_head(text: &[u8], sheet: &mut [u8], c: Cursor, out: usize, i: usize) -> NodeRead
-    requires { ⌜ Ready (now text) c × Room (now text) out ⌝ }
-    ensures { λ r. ⌜ HeadAtMeans (now (text .entry)) (now (sheet .entry)) (now (sheet .exit)) c out i r ⌝ }
-{
-    match i {
-        0 => parse_sequence(text, sheet, c, out),
-        1 => parse_parallel(text, sheet, c, out),
-        2 => parse_group(text, sheet, c, out),
-        _ => parse_stagger(text, sheet, c, out),
-    }
-}
 
 // ---- the beginning of a node
 
@@ -88,8 +32,8 @@ pub enum Keyword {
 pub enum Begun {
     // A leaf: the place behind its record, and the cursor behind it.
     Leaf(usize, Cursor),
-    // A container: the place of its count, and the cursor before its block.
-    Open(usize, Cursor),
+    // A container: its place in the table, and the cursor behind its keyword.
+    Container(usize, Cursor),
     Refused(Refusal, usize),
 }
 
@@ -115,10 +59,7 @@ fn begin_word(text: &[u8], sheet: &mut [u8], word: Span, c: Cursor, out: usize) 
             NodeRead::Refused(r, p) => Begun::Refused(r, p),
             NodeRead::Is(q, m) => Begun::Leaf(q, m),
         },
-        Keyword::Container(i) => match parse_head(text, sheet, c, out, i) {
-            NodeRead::Refused(r, p) => Begun::Refused(r, p),
-            NodeRead::Is(q, m) => Begun::Open(q, m),
-        },
+        Keyword::Container(i) => Begun::Container(i, c),
         Keyword::Unknown => {
             let head = c.head;
             Begun::Refused(Refusal::UnknownKeyword, head.start)
@@ -126,7 +67,7 @@ fn begin_word(text: &[u8], sheet: &mut [u8], word: Span, c: Cursor, out: usize) 
     }
 }
 
-// A leaf whole, or a container up to its block.
+// A leaf whole, or a container's keyword.
 fn begin_node(text: &[u8], sheet: &mut [u8], c: Cursor, out: usize) -> Begun
     requires { ⌜ Ready (now text) c × Room (now text) out ⌝ }
     ensures { λ r. ⌜ BegunMeans 1 (now (text .entry)) (now (sheet .entry)) (now (sheet .exit)) c out parseNode r ⌝ }
@@ -137,48 +78,58 @@ fn begin_node(text: &[u8], sheet: &mut [u8], c: Cursor, out: usize) -> Begun
     }
 }
 
-// ---- nodes
+// ---- what stands before a container's block: its kind and its fields. The answer is the place of the count, which is left open.
 
-pub enum BlockRead {
+fn group_head(text: &[u8], sheet: &mut [u8], c: Cursor, out: usize) -> NodeRead
+    requires { ⌜ Ready (now text) c × Room (now text) out ⌝ }
+    ensures { λ r. ⌜ HeadMeans (now (text .entry)) (now (sheet .entry)) (now (sheet .exit)) c out parseGroup r ⌝ }
+{
+    match heads::parse_group(text, c) {
+        GroupRead::Refused(r, p) => NodeRead::Refused(r, p),
+        GroupRead::Is(mode, m) => {
+            let a = encode::put_byte(sheet, out, 5);
+            NodeRead::Is(encode::put_byte(sheet, a, mode), m)
+        }
+    }
+}
+
+fn stagger_head(text: &[u8], sheet: &mut [u8], c: Cursor, out: usize) -> NodeRead
+    requires { ⌜ Ready (now text) c × Room (now text) out ⌝ }
+    ensures { λ r. ⌜ HeadMeans (now (text .entry)) (now (sheet .entry)) (now (sheet .exit)) c out parseStagger r ⌝ }
+{
+    match heads::parse_stagger(text, c) {
+        StaggerRead::Refused(r, p) => NodeRead::Refused(r, p),
+        StaggerRead::Is(pattern, delay, m) => {
+            let a = encode::put_byte(sheet, out, 6);
+            let b = encode::put_opt_pattern(sheet, a, pattern);
+            NodeRead::Is(encode::put_opt_float(sheet, b, delay), m)
+        }
+    }
+}
+
+pub enum BraceRead {
     Is(Cursor),
     Refused(Refusal, usize),
 }
 
 // The `{` of a container's block, where `depth` containers more are allowed.
-fn open_block(text: &[u8], c: Cursor, depth: usize) -> BlockRead
+fn open_block(text: &[u8], c: Cursor, depth: usize) -> BraceRead
     requires { ⌜ Ready (now text) c ⌝ }
-    ensures { λ r. ⌜ BlockMeans (now (text .entry)) c depth r ⌝ }
+    ensures { λ r. ⌜ BraceMeans (now (text .entry)) c depth r ⌝ }
 {
     match cursor::mark(text, c, b'{') {
-        MarkRead::Missing(p) => BlockRead::Refused(Refusal::Missing, p),
+        MarkRead::Missing(p) => BraceRead::Refused(Refusal::Missing, p),
         MarkRead::Is(m) => {
             if depth == 0 {
                 let head = c.head;
-                return BlockRead::Refused(Refusal::TooManyNested, head.start);
+                return BraceRead::Refused(Refusal::TooManyNested, head.start);
             }
-            BlockRead::Is(m)
+            BraceRead::Is(m)
         }
     }
 }
 
-// What the next token is to a list of nodes.
-pub enum NodeItem {
-    Ends,
-    Passes,
-    Starts,
-}
-
-fn item_of(c: Cursor) -> NodeItem
-    ensures { λ r. ⌜ ((s : List ℕ) → Ready s c → ItemMeans s c r) ⌝ }
-{
-    if cursor::ends(c) {
-        return NodeItem::Ends;
-    }
-    if cursor::sees(c, b';') {
-        return NodeItem::Passes;
-    }
-    NodeItem::Starts
-}
+// ---- nodes and containers call each other; `depth` containers more are allowed
 
 // The place behind a node's records, the cursor behind it, and how many records there are.
 pub enum ParsedNode {
@@ -186,34 +137,122 @@ pub enum ParsedNode {
     Refused(Refusal, usize),
 }
 
-// The same of nodes, with how many stand beside each other before how many records there are.
-pub enum ParsedNodes {
-    Is(usize, Cursor, usize, usize),
+// Nodes beside each other: the place behind their records, the cursor behind them, how many they are, and how many records there are.
+pub struct Siblings {
+    pub end: usize,
+    pub next: Cursor,
+    pub width: usize,
+    pub records: usize,
+}
+
+// The nodes so far, to which more may come; or all of them.
+pub enum NodesNext {
+    More(Siblings),
+    Done(Siblings),
     Refused(Refusal, usize),
 }
 
-// A node, where `depth` containers more are allowed.
-pub fn parse_node(text: &[u8], sheet: &mut [u8], c: Cursor, out: usize, depth: usize) -> ParsedNode
-    requires { ⌜ Ready (now text) c × Reached (now text) c out ⌝ }
-    ensures { λ r. ⌜ NodeMeans (now (text .entry)) (now (sheet .entry)) (now (sheet .exit)) c out depth r ⌝ }
+pub enum ParsedNodes {
+    Is(Siblings),
+    Refused(Refusal, usize),
+}
+
+// The block of a container, its count at `count`; the records are those of the nodes in it, and the container's own.
+fn parse_block(text: &[u8], sheet: &mut [u8], c: Cursor, count: usize, depth: usize) -> ParsedNode
+    requires { ⌜ Ready (now text) c × Counted (now text) c count ⌝ }
+    ensures { λ r. ⌜ BlockMeans (now (text .entry)) (now (sheet .entry)) (now (sheet .exit)) c count depth r ⌝ }
 {
-    match begin_node(text, sheet, c, out) {
-        Begun::Refused(r, p) => ParsedNode::Refused(r, p),
-        Begun::Leaf(q, m) => ParsedNode::Is(q, m, 1),
-        Begun::Open(count, m) => match open_block(text, m, depth) {
-            BlockRead::Refused(r, p) => ParsedNode::Refused(r, p),
-            BlockRead::Is(e) => match parse_nodes(text, sheet, e, count + 2, depth - 1) {
-                ParsedNodes::Refused(r, p) => ParsedNode::Refused(r, p),
-                ParsedNodes::Is(q, n, width, records) => {
-                    encode::patch_count(sheet, count, width);
-                    ParsedNode::Is(q, cursor::leave_group(text, n), records + 1)
-                }
-            },
+    match open_block(text, c, depth) {
+        BraceRead::Refused(r, p) => ParsedNode::Refused(r, p),
+        BraceRead::Is(m) => match parse_nodes(text, sheet, m, count + 2, depth - 1) {
+            ParsedNodes::Refused(r, p) => ParsedNode::Refused(r, p),
+            ParsedNodes::Is(t) => {
+                let n = t.next;
+                encode::patch_count(sheet, count, t.width);
+                ParsedNode::Is(t.end, cursor::leave_group(text, n), t.records + 1)
+            }
         },
     }
 }
 
-// Nodes up to the group's end, `;` between them or not.
+fn parse_sequence(text: &[u8], sheet: &mut [u8], c: Cursor, out: usize, depth: usize) -> ParsedNode
+    requires { ⌜ Ready (now text) c × Headed (now text) c out ⌝ }
+    ensures { λ r. ⌜ NodeMeans 0 (heldBy parseSequence depth) (now (text .entry)) (now (sheet .entry)) (now (sheet .exit)) c out depth r ⌝ }
+{
+    let count = encode::put_byte(sheet, out, 3);
+    parse_block(text, sheet, c, count, depth)
+}
+
+fn parse_parallel(text: &[u8], sheet: &mut [u8], c: Cursor, out: usize, depth: usize) -> ParsedNode
+    requires { ⌜ Ready (now text) c × Headed (now text) c out ⌝ }
+    ensures { λ r. ⌜ NodeMeans 0 (heldBy parseParallel depth) (now (text .entry)) (now (sheet .entry)) (now (sheet .exit)) c out depth r ⌝ }
+{
+    let count = encode::put_byte(sheet, out, 4);
+    parse_block(text, sheet, c, count, depth)
+}
+
+fn parse_group(text: &[u8], sheet: &mut [u8], c: Cursor, out: usize, depth: usize) -> ParsedNode
+    requires { ⌜ Ready (now text) c × Headed (now text) c out ⌝ }
+    ensures { λ r. ⌜ NodeMeans 0 (heldBy parseGroup depth) (now (text .entry)) (now (sheet .entry)) (now (sheet .exit)) c out depth r ⌝ }
+{
+    match group_head(text, sheet, c, out) {
+        NodeRead::Refused(r, p) => ParsedNode::Refused(r, p),
+        NodeRead::Is(count, m) => parse_block(text, sheet, m, count, depth),
+    }
+}
+
+fn parse_stagger(text: &[u8], sheet: &mut [u8], c: Cursor, out: usize, depth: usize) -> ParsedNode
+    requires { ⌜ Ready (now text) c × Headed (now text) c out ⌝ }
+    ensures { λ r. ⌜ NodeMeans 0 (heldBy parseStagger depth) (now (text .entry)) (now (sheet .entry)) (now (sheet .exit)) c out depth r ⌝ }
+{
+    match stagger_head(text, sheet, c, out) {
+        NodeRead::Refused(r, p) => ParsedNode::Refused(r, p),
+        NodeRead::Is(count, m) => parse_block(text, sheet, m, count, depth),
+    }
+}
+
+// A node.
+pub fn parse_node(text: &[u8], sheet: &mut [u8], c: Cursor, out: usize, depth: usize) -> ParsedNode
+    requires { ⌜ Ready (now text) c × Reached (now text) c out ⌝ }
+    ensures { λ r. ⌜ NodeMeans 1 (parseNode (block depth)) (now (text .entry)) (now (sheet .entry)) (now (sheet .exit)) c out depth r ⌝ }
+{
+    match begin_node(text, sheet, c, out) {
+        Begun::Refused(r, p) => ParsedNode::Refused(r, p),
+        Begun::Leaf(q, m) => ParsedNode::Is(q, m, 1),
+        Begun::Container(i, m) => match i {
+            0 => parse_sequence(text, sheet, m, out, depth),
+            1 => parse_parallel(text, sheet, m, out, depth),
+            2 => parse_group(text, sheet, m, out, depth),
+            _ => parse_stagger(text, sheet, m, out, depth),
+        },
+    }
+}
+
+// The group's end ends a list of nodes, a `;` is passed, and a node is added.
+fn nodes_step(text: &[u8], sheet: &mut [u8], t: Siblings, depth: usize) -> NodesNext
+    requires { ⌜ Standing (now text) t ⌝ }
+    ensures { λ r. ⌜ StepMeans (now (text .entry)) (now (sheet .entry)) (now (sheet .exit)) depth t r ⌝ }
+{
+    let c = t.next;
+    if cursor::ends(c) {
+        return NodesNext::Done(t);
+    }
+    if cursor::sees(c, b';') {
+        let next = cursor::advance(text, c);
+        return NodesNext::More(Siblings { next, ..t });
+    }
+    match parse_node(text, sheet, c, t.end, depth) {
+        ParsedNode::Refused(r, p) => NodesNext::Refused(r, p),
+        ParsedNode::Is(end, next, more) => NodesNext::More(Siblings {
+            end,
+            next,
+            width: t.width + 1,
+            records: t.records + more,
+        }),
+    }
+}
+
+// Nodes up to the group's end.
 pub fn parse_nodes(
     text: &[u8],
     sheet: &mut [u8],
@@ -224,25 +263,19 @@ pub fn parse_nodes(
     requires { ⌜ Ready (now text) c × Reached (now text) c out ⌝ }
     ensures { λ r. ⌜ NodesMeans (now (text .entry)) (now (sheet .entry)) (now (sheet .exit)) c out depth r ⌝ }
 {
-    let mut m = c;
-    let mut at = out;
-    let mut width: usize = 0;
-    let mut records: usize = 0;
+    let mut t = Siblings {
+        end: out,
+        next: c,
+        width: 0,
+        records: 0,
+    };
     loop {
-        match item_of(m) {
-            NodeItem::Ends => return ParsedNodes::Is(at, m, width, records),
-            NodeItem::Passes => {
-                m = cursor::advance(text, m);
+        match nodes_step(text, sheet, t, depth) {
+            NodesNext::Refused(r, p) => return ParsedNodes::Refused(r, p),
+            NodesNext::Done(u) => return ParsedNodes::Is(u),
+            NodesNext::More(u) => {
+                t = u;
             }
-            NodeItem::Starts => match parse_node(text, sheet, m, at, depth) {
-                ParsedNode::Refused(r, p) => return ParsedNodes::Refused(r, p),
-                ParsedNode::Is(q, e, more) => {
-                    at = q;
-                    m = e;
-                    width += 1;
-                    records += more;
-                }
-            },
         }
     }
 }

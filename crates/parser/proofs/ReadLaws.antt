@@ -28,6 +28,7 @@ use Rattle.cursor.specs.Means.{run}
 use Rattle.cursor.specs.declared.Cursor.{Cursor}
 use Rattle.cursor.specs.declared.Left.the-variants as left
 use Rattle.blocks.specs.Means.{Reached, parseNodes, NodesWent}
+use Rattle.blocks.specs.declared.Siblings.{Siblings}
 use Rattle.blocks.proofs.BlockLaws.{block-bytes}
 use Rattle.error.specs.declared.Refusal.{Refusal}
 use Rattle.error.specs.declared.Refusal.the-variants.{TextTooLong, ScratchTooShort, Leftover, SheetTooShort}
@@ -50,14 +51,15 @@ module _ (t : List ℕ) (c : Cursor) (e : c .at ≡ 0) (l : c .left ≡ left.Not
   pub input-refused : (r : Refusal) (p : ℕ) → run t c (parseNodes 16) ≡ refused r p → treeOf t ≡ wrong r p
   input-refused r p h = input-run ∙ (rw h)
 
-  module _ (b a : List ℕ) (m : Cursor) (q w k : ℕ) (g : NodesWent t b a c m 2 q 16 w k) where
+  module _ {b a : List ℕ} {u : Siblings} (g : NodesWent t b a c 2 16 u) where
     -- "tokens left inside a delimiter": 13, at "the first"
-    pub input-left : (p : ℕ) → m .left ≡ left.At p → treeOf t ≡ wrong Leftover p
+    pub input-left : (p : ℕ) → u .next .left ≡ left.At p → treeOf t ≡ wrong Leftover p
     input-left p h = input-run ∙ (rw (g .went .took .is, h))
 
-    pub input-done : (a′ : List ℕ) (f : ℕ) → m .left ≡ left.Nothing → Writes a 0 (big 2 .write w) a′ f → Encoded t b a′ q k
+    pub input-done : {a′ : List ℕ} {f : ℕ} → u .next .left ≡ left.Nothing → Writes a 0 (big 2 .write (u .width)) a′ f
+        → Encoded t b a′ (u .end) (u .records)
     unfolding encode
-    input-done a′ f h o = record {
+    input-done h o = record {
       nodes = g .went .value;
       is = input-run ∙ (rw (g .went .took .is, h));
       writes = rw (← block-bytes (length t) 16 (g .went .value))

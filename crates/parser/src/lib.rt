@@ -23,7 +23,8 @@ fn parse_input(text: &[u8], sheet: &mut [u8]) -> ReadAnswer
     let c = cursor::start(text, 0, Left::Nothing);
     match blocks::parse_nodes(text, sheet, c, 2, 16) {
         ParsedNodes::Refused(refusal, place) => ReadAnswer::Refused { refusal, place },
-        ParsedNodes::Is(end, m, width, records) => {
+        ParsedNodes::Is(nodes) => {
+            let m = nodes.next;
             let left = m.left;
             match left {
                 Left::At(place) => ReadAnswer::Refused {
@@ -31,10 +32,10 @@ fn parse_input(text: &[u8], sheet: &mut [u8]) -> ReadAnswer
                     place,
                 },
                 Left::Nothing => {
-                    encode::patch_count(sheet, 0, width);
+                    encode::patch_count(sheet, 0, nodes.width);
                     ReadAnswer::Accepted {
-                        length: end,
-                        records,
+                        length: nodes.end,
+                        records: nodes.records,
                     }
                 }
             }

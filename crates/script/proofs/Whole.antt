@@ -44,7 +44,9 @@ module _
     (fits : (t : List ℕ) (ns : Nodes Key) → length t ≤ textLimit → parse t ≡ tree ns → Fits (length t) (mapTimes stored ns))
     (small : (t : List ℕ) (ns : Nodes Key) → length t ≤ textLimit → parse t ≡ tree ns
     → length (encode (length t) (mapTimes stored ns)) ≤ 49152) where
-  back : (t : List ℕ) (ns : Nodes Key) → length t ≤ textLimit → parse t ≡ tree ns → decode (length t) (sheetOf t ns) ≡ some (mapTimes stored ns)
+  back : (t : List ℕ) (ns : Nodes Key) → length t ≤ textLimit
+      → parse t ≡ tree ns
+      → decode (length t) (sheetOf t ns) ≡ some (mapTimes stored ns)
   back t ns h p = decodes (length t) (mapTimes stored ns) (fits t ns h p) (let s = small t ns h p in omega arith)
 
   pub claim : Claimed

@@ -1,5 +1,5 @@
 -- `blocks::begin_word` meets its contract. Assumes nothing.
-use Rattle.blocks.proofs.BeginLaws.{leaf-begun, leaf-refused, open-begun, open-refused, unknown-refused}
+use Rattle.blocks.proofs.BeginLaws.{leaf-begun, leaf-refused, container-begun, unknown-refused}
 use borrow.Author.Needs.{needs}
 use Rattle.blocks.proofs.begin_word.Statement.{statement}
 use Rattle.blocks.proofs.begin_word.Tie as tie
@@ -24,15 +24,6 @@ enum-known-q c = search needs
 
 enum-known-i-2 : tie.Need-enum-known-i-2
 enum-known-i-2 c = search needs
-
-parse-head-requires : tie.Need-parse-head-requires
-parse-head-requires c κs = search needs
-
-enum-known-r-2 : tie.Need-enum-known-r-2
-enum-known-r-2 c = search needs
-
-enum-known-q-2 : tie.Need-enum-known-q-2
-enum-known-q-2 c = search needs
 
 enum-told : tie.Need-enum-told
 enum-told c = search needs
@@ -79,55 +70,30 @@ returns-2 c =
     (rw (at-i .i .given .1, at-part .part .ensures) at (at-keyword-of .keyword-of .ensures))
     (rw (at-q .q .given .1) at (at-parse-leaf .parse-leaf .ensures))
 
-same-length-3 : tie.Need-same-length-3
-same-length-3 c = search needs
-
-returns-3 : tie.Need-returns-3
-returns-3 c =
-    let at-r2 = c .before in
-    let at-parse-head = at-r2 .before .before .before .before in
-    let at-i2 = at-parse-head .before .before .before in
-    let at-keyword-of = at-i2 .before .before in
-    let at-part = at-keyword-of .before in
-    let args = at-part .before .before .before .args in
-    open-refused
-    (args .text .now)
-    (args .sheet .now)
-    (at-parse-head .parse-head .last .1 .0)
-    (args .c)
-    (args .out)
-    _ _ _ _
-    (rw (at-i2 .i2 .given .1, at-part .part .ensures) at (at-keyword-of .keyword-of .ensures))
-    (rw (at-r2 .r2 .given .1) at (at-parse-head .parse-head .ensures))
-
-same-length-4 : tie.Need-same-length-4
-same-length-4 c = search needs
-
 returns-4 : tie.Need-returns-4
 returns-4 c =
-    let at-q2 = c .before in
-    let at-parse-head = at-q2 .before .before .before .before in
-    let at-i2 = at-parse-head .before .before .before in
-    let at-keyword-of = at-i2 .before .before in
-    let at-part = at-keyword-of .before in
-    let args = at-part .before .before .before .args in
-    open-begun
-    (args .text .now)
-    (args .sheet .now)
-    (at-parse-head .parse-head .last .1 .0)
-    (args .c)
-    (args .out)
-    _ _ _ _
-    (rw (at-i2 .i2 .given .1, at-part .part .ensures) at (at-keyword-of .keyword-of .ensures))
-    (rw (at-q2 .q2 .given .1) at (at-parse-head .parse-head .ensures))
-
-returns-5 : tie.Need-returns-5
-returns-5 c =
     let at-keyword-of = c .before .before .before in
     let at-part = at-keyword-of .before in
     let start = at-part .before .before .before in
     unknown-refused (start .args .text .now) (start .args .c) _ (start .pre .0)
     (rw (c .before .enum-told .given .1, at-part .part .ensures) at (at-keyword-of .keyword-of .ensures))
+
+returns-3 : tie.Need-returns-3
+returns-3 c =
+    let at-i2 = c .before in
+    let at-keyword-of = at-i2 .before .before in
+    let at-part = at-keyword-of .before in
+    let start = at-part .before .before .before in
+    let args = start .args in
+    container-begun
+    (args .text .now)
+    (args .sheet .now)
+    (args .sheet .now)
+    (args .c)
+    (args .out)
+    _ _
+    (start .pre .0)
+    (rw (at-i2 .i2 .given .1, at-part .part .ensures) at (at-keyword-of .keyword-of .ensures))
 
 pub begin-word-spec : {M : Type 1} → statement M
 begin-word-spec =
@@ -140,16 +106,10 @@ begin-word-spec =
     enum-known-r
     enum-known-q
     enum-known-i-2
-    parse-head-requires
-    enum-known-r-2
-    enum-known-q-2
     enum-told
     same-length
     returns
     same-length-2
     returns-2
-    same-length-3
     returns-3
-    same-length-4
-    returns-4
-    returns-5)
+    returns-4)

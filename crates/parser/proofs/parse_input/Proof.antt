@@ -1,3 +1,4 @@
+use Rattle.text.specs.Bytes.{at}
 -- `parser::parse_input` meets its contract. Assumes nothing.
 use Rattle.parser.proofs.ReadLaws.{input-done, input-left, input-reached, input-refused}
 use borrow.Author.Needs.{needs}
@@ -17,8 +18,8 @@ parse-nodes-requires c κs =
 enum-known-refusal : tie.Need-enum-known-refusal
 enum-known-refusal c = search needs
 
-enum-known-end : tie.Need-enum-known-end
-enum-known-end c = search needs
+enum-known-nodes : tie.Need-enum-known-nodes
+enum-known-nodes c = search needs
 
 enum-known-left : tie.Need-enum-known-left
 enum-known-left c = search needs
@@ -47,20 +48,12 @@ same-length-2 c = search needs
 returns-2 : tie.Need-returns-2
 returns-2 c =
     let at-left = c .before in
-    let at-end = at-left .before .before .before in
-    let at-parse-nodes = at-end .before .before .before .before in
+    let at-nodes = at-left .before .before .before .before in
+    let at-parse-nodes = at-nodes .before .before .before .before in
     let at-start = at-parse-nodes .before .before in
     let start = at-start .before .before .before in
-    input-left
-    (start .args .text .now)
-    (at-start .start .result)
-    (at-start .start .ensures .1)
-    (at-start .start .ensures .2)
-    (start .args .sheet .now)
-    (at-parse-nodes .parse-nodes .last .1 .0)
-    _ _ _ _
-    (rw (at-end .end .given .1) at (at-parse-nodes .parse-nodes .ensures))
-    _
+    let g = rw (at-nodes .nodes .given .1) at (at-parse-nodes .parse-nodes .ensures) in
+    input-left (start .args .text .now) (at-start .start .result) (at-start .start .ensures .1) (at-start .start .ensures .2) g _
     (at-left .left .given .1)
 
 same-length-3 : tie.Need-same-length-3
@@ -70,21 +63,17 @@ returns-3 : tie.Need-returns-3
 returns-3 c =
     let at-patch-count = c .before .before in
     let at-enum-told = at-patch-count .before .before in
-    let at-end = at-enum-told .before .before .before in
-    let at-parse-nodes = at-end .before .before .before .before in
+    let at-nodes = at-enum-told .before .before .before .before in
+    let at-parse-nodes = at-nodes .before .before .before .before in
     let at-start = at-parse-nodes .before .before in
     let start = at-start .before .before .before in
+    let g = rw (at-nodes .nodes .given .1) at (at-parse-nodes .parse-nodes .ensures) in
     input-done
     (start .args .text .now)
     (at-start .start .result)
     (at-start .start .ensures .1)
     (at-start .start .ensures .2)
-    (start .args .sheet .now)
-    (at-parse-nodes .parse-nodes .last .1 .0)
-    _ _ _ _
-    (rw (at-end .end .given .1) at (at-parse-nodes .parse-nodes .ensures))
-    (at-patch-count .patch-count .last .0)
-    _
+    g
     (at-enum-told .enum-told .given .1)
     (at-patch-count .patch-count .ensures)
 
@@ -95,7 +84,7 @@ parse-input-spec =
     start-requires
     parse-nodes-requires
     enum-known-refusal
-    enum-known-end
+    enum-known-nodes
     enum-known-left
     enum-told
     patch-count-requires

@@ -1,5 +1,6 @@
 -- `parser::read` meets its contract. Assumes nothing.
-use Rattle.parser.proofs.ReadLaws.{read-refused, read-tree, split-accepted, split-refused, split-zero, too-few, too-long, with-values}
+use Rattle.parser.proofs.ReadLaws.{read-refused, read-tree, split-accepted, split-refused}
+use Rattle.parser.proofs.ReadLaws.{split-zero, too-few, too-long, with-values}
 use mathlib.Core.Path.{sym}
 use borrow.Author.Needs.{needs}
 use Rattle.parser.proofs.read.Statement.{statement}
@@ -14,7 +15,8 @@ returns-2 : tie.Need-returns-2
 returns-2 c =
     let at-if1 = c .before in
     let start = at-if1 .before .before .before .before in
-    with-values (sym (too-few (start .args .text .now) (start .args .scratch .now) (start .args .sheet .now) (at-if1 .if1 .left) (c .if2 .taken)))
+    with-values
+    (sym (too-few (start .args .text .now) (start .args .scratch .now) (start .args .sheet .now) (at-if1 .if1 .left) (c .if2 .taken)))
 
 split-requires : tie.Need-split-requires
 split-requires c κs = search needs

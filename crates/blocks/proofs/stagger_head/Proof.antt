@@ -1,10 +1,10 @@
--- `blocks::parse_stagger` meets its contract. Assumes nothing.
+-- `blocks::stagger_head` meets its contract. Assumes nothing.
 use Rattle.blocks.proofs.HeadLaws.{length-pattern, stagger-went}
 use Rattle.encode.specs.Of.{optPatternOf}
 use native.Mathlib.Omega.{arith}
 use borrow.Author.Needs.{needs}
-use Rattle.blocks.proofs.parse_stagger.Statement.{statement}
-use Rattle.blocks.proofs.parse_stagger.Tie as tie
+use Rattle.blocks.proofs.stagger_head.Statement.{statement}
+use Rattle.blocks.proofs.stagger_head.Tie as tie
 
 parse-stagger-requires : tie.Need-parse-stagger-requires
 parse-stagger-requires c κs = search needs
@@ -61,8 +61,8 @@ returns-2 c =
     stagger-went _ _ ((rw (at-pattern .pattern .given .1) at (at-parse-stagger .parse-stagger .ensures)) .0)
     (at-put-byte .put-byte .ensures) (at-put-opt-pattern .put-opt-pattern .ensures) (at-put-opt-float .put-opt-float .ensures)
 
-pub parse-stagger-spec : {M : Type 1} → statement M
-parse-stagger-spec =
+pub stagger-head-spec : {M : Type 1} → statement M
+stagger-head-spec =
     tie.close
     (tie.spec
     parse-stagger-requires

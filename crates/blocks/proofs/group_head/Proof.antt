@@ -1,8 +1,8 @@
--- `blocks::parse_group` meets its contract. Assumes nothing.
+-- `blocks::group_head` meets its contract. Assumes nothing.
 use Rattle.blocks.proofs.HeadLaws.{group-went}
 use borrow.Author.Needs.{needs}
-use Rattle.blocks.proofs.parse_group.Statement.{statement}
-use Rattle.blocks.proofs.parse_group.Tie as tie
+use Rattle.blocks.proofs.group_head.Statement.{statement}
+use Rattle.blocks.proofs.group_head.Tie as tie
 
 parse-group-requires : tie.Need-parse-group-requires
 parse-group-requires c κs = search needs
@@ -34,8 +34,8 @@ returns-2 c =
     group-went ((rw (at-mode .mode .given .1) at (at-parse-group .parse-group .ensures)) .0) (at-put-byte .put-byte .ensures)
     (at-put-byte2 .put-byte2 .ensures)
 
-pub parse-group-spec : {M : Type 1} → statement M
-parse-group-spec =
+pub group-head-spec : {M : Type 1} → statement M
+group-head-spec =
     tie.close
     (tie.spec
     parse-group-requires
