@@ -350,5 +350,5 @@ pub leave-left : (s : List ℕ) (c m u : Cursor) → Ready s c → Behind s c m
 leave-left s c m u r b e i j l = record {
   is = rw (e, r .head .place, l, i, b .is);
   low = omega (arith, b .low);
-  ready = record { head = rw (i, j) (b .ready .head); high = rw i (b .ready .high) };
+  ready = record { head = rw (i, j) (b .ready .head); high = rw i (b .ready .high); short = b .ready .short };
 }

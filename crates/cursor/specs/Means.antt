@@ -8,6 +8,7 @@ use mathlib.Core.Path.{_≡_}
 use lib.Dec.{T}
 use lib.ListN.{length}
 use lib.Ieee.{isNan}
+use Rattle.text.specs.Limits.{textLimit}
 use Rattle.text.specs.Bytes.{part}
 use Rattle.number.specs.Number.{Written, bits}
 use Rattle.token.specs.Token.{Token, tokensFrom, place, rest}
@@ -47,10 +48,11 @@ abbrev pub leftOf : Left → Option ℕ
 leftOf left.Nothing = none
 leftOf (left.At p) = some p
 
--- the cursor stands in the text s, before its head
+-- the cursor stands in the text s, of at most the limit, before its head
 pub record Ready (s : List ℕ) (c : Cursor) : Type 0 where
   pub head : Lexes s (c .at) (c .head)
   pub high : c .at ≤ length s
+  pub short : length s ≤ textLimit
 
 -- what is noted at a cursor; a repetition takes a byte with each step
 abbrev pub notes : List ℕ → Cursor → Notes

@@ -4,6 +4,7 @@ ghost use mathlib.Core.Path.{_≡_};
 ghost use mathlib.Core.List.{List, [], _∷_};
 ghost use Prim.Native.Nat.{ℕ, _≤_, _<_};
 ghost use lib.ListN.{length};
+ghost use Rattle.text.specs.Limits.{textLimit};
 ghost use Rattle.text.specs.Words.{table};
 ghost use Rattle.token.specs.Token.{tokensFrom, isMark};
 ghost use Rattle.token.specs.Means.{kindOf};
@@ -88,7 +89,7 @@ pub enum Passing {
 
 // At a place of the text.
 pub fn start(text: &[u8], at: usize, left: Left) -> Cursor
-    requires { ⌜ at ≤ length (now text) ⌝ }
+    requires { ⌜ (at ≤ length (now text)) × (length (now text) ≤ textLimit) ⌝ }
     ensures { λ r. ⌜ Ready (now (text .entry)) r × (r .at ≡ at) × (r .left ≡ left) ⌝ }
 {
     let head = token::token(text, at);

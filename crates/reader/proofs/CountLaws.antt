@@ -1,9 +1,11 @@
 -- Laws of counting the tokens from a cursor on. Assumes nothing.
 use Prim.Native.Nat.{ℕ, zero, suc, _+_, _≤_, _<_}
-use mathlib.Core.Bool.{Bool, true, false, not}
+use mathlib.Core.Bool.{Bool, true, false, not, cond}
 use mathlib.Core.List.{List, [], _∷_}
 use mathlib.Core.Path.{_≡_, refl, sym, ap, _∙_}
 use native.Mathlib.Omega.{arith}
+use borrow.Author.Tests.{lt-ltb, le-ltb, ltb-false}
+use lib.Dec.{eqb, ltb}
 use lib.ListN.{length, drop}
 use Rattle.text.specs.Bytes.{isBlank}
 use Rattle.token.specs.Token.{Kind, name, number, quoted, mark, Token, token, Lexeme, bad}
@@ -16,7 +18,37 @@ use Rattle.grammar.specs.Rule.{seesByte}
 use Rattle.cursor.specs.Means.{Ready, tokens, Follows}
 use Rattle.cursor.specs.declared.Cursor.{Cursor}
 use Rattle.cursor.proofs.CursorLaws.{head-moves}
-use Rattle.reader.specs.Reader.{tokenCount}
+use Rattle.text.specs.Limits.{textLimit}
+use Rattle.reader.specs.Reader.{readable, tokenCount, isBlank as isBlankText}
+
+-- ---- the text that is read
+
+pub readable-short : (t : List ℕ) → length (readable t) ≤ textLimit
+unfolding readable
+readable-short t = go (ltb textLimit (length t)) refl
+  where
+    go : (b : Bool) → ltb textLimit (length t) ≡ b → length (cond b [] t) ≤ textLimit
+    go true e = omega arith
+    go false e = omega (arith, ltb-false)
+
+pub readable-whole : (t : List ℕ) → length t ≤ textLimit → readable t ≡ t
+unfolding readable
+readable-whole t h = rw (le-ltb _ _ h)
+
+pub readable-empty : (t : List ℕ) → textLimit < length t → readable t ≡ []
+unfolding readable
+readable-empty t h = rw (lt-ltb _ _ h)
+
+-- a text over the limit is not blank
+pub blank-long : (t : List ℕ) → textLimit < length t → false ≡ isBlankText t
+unfolding isBlankText
+blank-long t h = rw (lt-ltb _ _ h)
+
+pub blank-counted : (t : List ℕ) (n : ℕ) → length t ≤ textLimit → n ≡ tokenCount (tokensFrom (readable t) 0) → eqb n 0 ≡ isBlankText t
+unfolding isBlankText
+blank-counted t n h e = rw (e, readable-whole t h, le-ltb _ _ h)
+
+-- ---- tests
 
 pub not-true : (b : Bool) → not b ≡ true → b ≡ false
 not-true true e = sym e

@@ -19,7 +19,7 @@ use denote.Laws.{Is}
 use denote.Builtin.{u8}
 use denote.Ref.{RefT, now}
 use denote.Signature.{namedLft}
-use denote.Slice.{sliceVal, ShrSlice}
+use denote.Slice.{sliceVal, ShrSlice, shr-slice-tells}
 use denote.Steps.{only, nothing}
 use denote.Struct.Declared.{Declared}
 use denote.Struct.Laws as LL
@@ -30,6 +30,7 @@ use Rattle.cursor.specs.declared.Left.the-variants.{Nothing}
 use Rattle.cursor.specs.declared.Cursor.{Cursor}
 use Rattle.cursor.proofs.Cursor as C
 use Rattle.cursor.proofs.Cursor.Laws as C′
+use Rattle.reader.specs.Reader.{readable}
 use Rattle.reader.specs.declared.TokenReader.{TokenReader}
 use Rattle.reader.proofs.TokenReader as T
 use Rattle.reader.proofs.TokenReader.Laws as T′
@@ -51,8 +52,11 @@ textVal d = sliceVal (d .text .ptr) (length (d .text .now))
 abbrev pub cursorVal : Cursor → Val
 cursorVal c = LL.val C.the-type C′.the-laws c
 
+abbrev pub builtVal : Val → Val → Val
+builtVal t w = vstruct (vcons t (vcons w vnil))
+
 abbrev pub madeVal : TokenReader → Val → Val
-madeVal d w = vstruct (vcons (textVal d) (vcons w vnil))
+madeVal d w = builtVal (textVal d) w
 
 abbrev pub readerVal : TokenReader → Val
 readerVal d = madeVal d (cursorVal (d .cursor))
@@ -66,13 +70,13 @@ Fields κ d = owns (ShrSlice (named 0) κ u8 ∷ C.the-row ∷ []) (d .text, (d 
 
 -- what `new` says of the reader r over the text s
 abbrev pub Fresh : RefT (List ℕ) → TokenReader → Type 0
-Fresh s r = (r .text ≡ s) × Ready (now s) (r .cursor) × (r .cursor .at ≡ 0) × (r .cursor .left ≡ Nothing)
+Fresh s r = (now (r .text) ≡ readable (now s)) × Ready (now (r .text)) (r .cursor) × (r .cursor .at ≡ 0) × (r .cursor .left ≡ Nothing)
 
 pub fresh-ready : (s : RefT (List ℕ)) (r : TokenReader) → Fresh s r → Ready (now (r .text)) (r .cursor)
-fresh-ready s r e = subst⁻¹ (λ (x : RefT (List ℕ)). Ready (now x) (r .cursor)) (e .0) (e .1)
+fresh-ready s r e = e .1
 
-pub fresh-tokens : (s : RefT (List ℕ)) (r : TokenReader) → Fresh s r → tokens (now (r .text)) (r .cursor) ≡ tokensFrom (now s) 0
-fresh-tokens s r e = ap (λ (x : RefT (List ℕ)). tokensFrom (now x) (r .cursor .at)) (e .0) ∙ ap (tokensFrom (now s)) (e .2)
+pub fresh-tokens : (s : RefT (List ℕ)) (r : TokenReader) → Fresh s r → tokens (now (r .text)) (r .cursor) ≡ tokensFrom (readable (now s)) 0
+fresh-tokens s r e = ap (λ (x : List ℕ). tokensFrom x (r .cursor .at)) (e .0) ∙ ap (tokensFrom (readable (now s))) (e .2)
 
 -- the machine value of a cursor has its MIR type
 abbrev pub Typed : Val → Type 0
@@ -117,3 +121,25 @@ module _ {M : Type 1} (𝓤 : URA M) (H : Heap 𝓤) (A : Atoms 𝓤) (W : Given
       nothing ! $ move ! (2 ∷ 0 ∷ []) $ fjoin ! $ move ! (1 ∷ 0 ∷ []) $
       fjoin ! $
       by ! (own-shut 𝓤 H A W (D κ) (L κ) (d .text, (d .cursor, tt))))
+
+  -- the same of a text with the machine value t
+  pub built-typed : (κ : Lft) (d : TokenReader) (t w : Val)
+      → Is (ShrSlice (named 0) κ u8) (d .text) (t ∷ [])
+      → Is C.the-row (d .cursor) (w ∷ [])
+      → Holds (hasTy (T′.mir (named 0)) (builtVal t w)) × WT (builtVal t w)
+  built-typed κ d t w of is =
+      let e = ap only (shr-slice-tells (named 0) κ u8 (d .text) (t ∷ []) of) in
+      subst⁻¹ (λ (z : Val). Holds (hasTy (T′.mir (named 0)) (builtVal z w)) × WT (builtVal z w)) e
+      (made-typed κ d w (subst (λ (z : Val). Is (ShrSlice (named 0) κ u8) (d .text) (z ∷ [])) e of) is)
+
+  pub built : (κ : Lft) (d : TokenReader) (t w : Val)
+      → Is (ShrSlice (named 0) κ u8) (d .text) (t ∷ [])
+      → Is C.the-row (d .cursor) (w ∷ [])
+      → ent 𝓤
+      (sep 𝓤 (sem 𝓤 H A (ShrSlice (named 0) κ u8 .own (d .text) (t ∷ []))) (sem 𝓤 H A (C.the-row .own (d .cursor) (w ∷ []))))
+      (sem 𝓤 H A (B (κ, tt) .own d (builtVal t w ∷ [])))
+  built κ d t w of is =
+      subst⁻¹ (λ (z : Val). ent 𝓤
+      (sep 𝓤 (sem 𝓤 H A (ShrSlice (named 0) κ u8 .own (d .text) (z ∷ []))) (sem 𝓤 H A (C.the-row .own (d .cursor) (w ∷ []))))
+      (sem 𝓤 H A (B (κ, tt) .own d (builtVal z w ∷ []))))
+      (ap only (shr-slice-tells (named 0) κ u8 (d .text) (t ∷ []) of)) (made κ d w is)

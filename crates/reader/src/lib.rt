@@ -2,13 +2,14 @@
 // The borrow checker covers no function over such a struct, so each takes it apart and is walked by hand; `count_tokens`
 // and `second_is` stand above them with plain parameters, so whoever calls these needs no walk.
 ghost use mathlib.Core.Path.{_≡_};
-ghost use Prim.Native.Nat.{_<_};
-ghost use lib.Dec.{eqb};
+ghost use Prim.Native.Nat.{_<_, _≤_};
+ghost use lib.ListN.{length};
+ghost use Rattle.text.specs.Limits.{textLimit};
 ghost use Rattle.token.specs.Token.{tokensFrom, rest};
 ghost use Rattle.grammar.specs.Rule.{seesByte, theByte};
 ghost use Rattle.cursor.specs.Means.{Ready, tokens, Follows, MarkMeans, WordMeans};
 ghost use Rattle.cursor.specs.declared.Left.the-variants.{Nothing};
-ghost use Rattle.reader.specs.Reader.{tokenCount};
+ghost use Rattle.reader.specs.Reader.{readable, tokenCount, isBlank};
 use cursor::Cursor;
 use cursor::Left;
 use cursor::MarkRead;
@@ -19,8 +20,18 @@ pub struct TokenReader<'a> {
     pub cursor: Cursor,
 }
 
-// The work: a cursor at a text's start, and how many tokens stand from a cursor on.
+// The work: the text that is read, a cursor at its start, and how many tokens stand from a cursor on.
+fn readable(text: &[u8]) -> &[u8]
+    ensures { λ r. ⌜ now r ≡ readable (now (text .entry)) ⌝ }
+{
+    if text::TEXT_LIMIT < text.len() {
+        return &text[0..0];
+    }
+    text
+}
+
 fn first_cursor(text: &[u8]) -> Cursor
+    requires { ⌜ length (now text) ≤ textLimit ⌝ }
     ensures { λ r. ⌜ Ready (now (text .entry)) r × (r .at ≡ 0) × (r .left ≡ Nothing) ⌝ }
 {
     cursor::start(text, 0, Left::Nothing)
@@ -39,12 +50,13 @@ fn count_from(text: &[u8], c: Cursor) -> usize
     n
 }
 
-// At the text's start.
+// At the text's start. A text over the limit is read as the empty one.
 pub fn new<'a>(text: &'a [u8]) -> TokenReader<'a>
-    ensures { λ r. ⌜ (r .text ≡ text .entry) × Ready (now (text .entry)) (r .cursor) × (r .cursor .at ≡ 0) × (r .cursor .left ≡ Nothing) ⌝ }
+    ensures { λ r. ⌜ (now (r .text) ≡ readable (now (text .entry))) × Ready (now (r .text)) (r .cursor) × (r .cursor .at ≡ 0) × (r .cursor .left ≡ Nothing) ⌝ }
 {
-    let cursor = first_cursor(text);
-    TokenReader { text, cursor }
+    let part = readable(text);
+    let cursor = first_cursor(part);
+    TokenReader { text: part, cursor }
 }
 
 // Whether the next token is a mark.
@@ -91,23 +103,26 @@ pub fn count<'a>(r: TokenReader<'a>) -> usize
     count_from(r.text, r.cursor)
 }
 
-// How many tokens a text has.
+// How many tokens a text has, none if it is over the limit.
 pub fn count_tokens(text: &[u8]) -> usize
-    ensures { λ n. ⌜ n ≡ tokenCount (tokensFrom (now (text .entry)) 0) ⌝ }
+    ensures { λ n. ⌜ n ≡ tokenCount (tokensFrom (readable (now (text .entry))) 0) ⌝ }
 {
     count(new(text))
 }
 
 // Whether a text's second token is a mark, as the `{` behind a container's keyword is.
 pub fn second_is(text: &[u8], b: u8) -> bool
-    ensures { λ r. ⌜ r ≡ seesByte b (rest (tokensFrom (now (text .entry)) 0)) ⌝ }
+    ensures { λ r. ⌜ r ≡ seesByte b (rest (tokensFrom (readable (now (text .entry))) 0)) ⌝ }
 {
     sees(advance(new(text)), b)
 }
 
-// Whether a text has no tokens. Its parameter is plain, and so is that of what it calls: it needs no walk.
+// Whether a text of at most the limit has no tokens. Its parameter is plain, and so is that of what it calls: it needs no walk.
 pub fn is_blank(text: &[u8]) -> bool
-    ensures { λ r. ⌜ r ≡ eqb (tokenCount (tokensFrom (now (text .entry)) 0)) 0 ⌝ }
+    ensures { λ r. ⌜ r ≡ isBlank (now (text .entry)) ⌝ }
 {
+    if text::TEXT_LIMIT < text.len() {
+        return false;
+    }
     count_tokens(text) == 0
 }

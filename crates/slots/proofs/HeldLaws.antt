@@ -95,13 +95,13 @@ module _ (n : String) (fs : Fields) where
   beside-says (kept.Truth t) r y a b h = absurd (omega arith)
   beside-says (kept.Ever t) r y a b h = absurd (omega arith)
 
-rank-over : (old x : Kept) → rankOf (keptOver old x) ≡ rankOf x
-rank-over old kept.Absent = refl
-rank-over old (kept.Float f) = refl
-rank-over old (kept.Whole k) = refl
-rank-over old (kept.Case k) = refl
-rank-over old (kept.Truth b) = refl
-rank-over old (kept.Ever b) = refl
+rank-over : (old x : Kept) (y : fields.Content) → KeptIs x y → rankOf (keptOver old x) ≡ rankOf x
+rank-over old kept.Absent y h = absurd h
+rank-over old (kept.Float f) y h = refl
+rank-over old (kept.Whole k) y h = refl
+rank-over old (kept.Case k) y h = refl
+rank-over old (kept.Truth b) y h = refl
+rank-over old (kept.Ever b) y h = refl
 
 rank-low : (x : Kept) → rankOf x ≡ 6 → ⊥
 rank-low kept.Absent e = omega arith
@@ -130,7 +130,7 @@ pub this-said : (s : List ℕ) (lo hi k : ℕ) (old : Slot) (x : Content) (y : f
     → ContentIs s lo hi k x y → Said (sortRank k) (old .kept) n fs
     → Said (sortRank k) (slotWith old x .kept) n ((bytes n, y) ∷ fs)
 this-said s lo hi k old (content.InSlot x) y n fs h w = record {
-  rank = inr (rank-over (old .kept) x ∙ h .0);
+  rank = inr (rank-over (old .kept) x y (h .1) ∙ h .0);
   says = new-says n fs (sortRank k) (old .kept) x y w (h .0) (h .1);
 }
 this-said s lo hi k old (content.Beside x) y n fs h w =

@@ -124,9 +124,9 @@ everOf (kept.Case k) = false
 everOf (kept.Truth b) = false
 everOf (kept.Ever b) = b
 
--- a value over an earlier one
+-- a value over an earlier one, which stays where there is none
 abbrev pub keptOver : Kept → Kept → Kept
-keptOver old kept.Absent = kept.Absent
+keptOver old kept.Absent = old
 keptOver old (kept.Float f) = kept.Float f
 keptOver old (kept.Whole n) = kept.Whole n
 keptOver old (kept.Case k) = kept.Case k

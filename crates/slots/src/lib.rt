@@ -307,13 +307,13 @@ fn ever_of(x: Kept) -> bool
     }
 }
 
-// A value over an earlier one of the same field.
+// A value over an earlier one of the same field, which stays where there is none.
 fn over(old: Kept, x: Kept) -> Kept
     ensures { λ r. ⌜ r ≡ keptOver old x ⌝ }
 {
     match x {
         Kept::Ever(b) => Kept::Ever(either(b, ever_of(old))),
-        Kept::Absent => Kept::Absent,
+        Kept::Absent => old,
         Kept::Float(v) => Kept::Float(v),
         Kept::Whole(n) => Kept::Whole(n),
         Kept::Case(k) => Kept::Case(k),

@@ -4,6 +4,7 @@ ghost use mathlib.Core.Bool.{not, _||_};
 ghost use mathlib.Core.List.{List};
 ghost use Prim.Native.Nat.{ℕ, _-_, _^_, _≤_, _<_};
 ghost use lib.ListN.{length, drop, replicate};
+ghost use Rattle.text.specs.Limits.{textLimit};
 ghost use Rattle.text.specs.Bytes.{run, part, among, decimal, isDigit};
 ghost use Rattle.token.specs.Token.{isMark, nameAt, pointAt, pastFraction, suffixAt, pastSuffix, clings, placesOf, numberAt, quotedAt, lexeme};
 ghost use Rattle.token.specs.Split.{closer, closed, nestMark, nest, ended, split};
@@ -234,6 +235,7 @@ fn end_at(at: usize) -> Lexed
 
 // The token at a place, and the place after it. Where none can be cut it is the end.
 pub fn token(text: &[u8], at: usize) -> Lexed
+    requires { ⌜ length (now text) ≤ textLimit ⌝ }
     ensures { λ r. ⌜ Lexes (now (text .entry)) at r ⌝ }
 {
     let start = text::run_end(text, at, Class::Blank);
@@ -417,8 +419,9 @@ fn clear(words: &mut [u16])
     }
 }
 
-// Judges a text by the text rules. It uses the first 64 words of the scratch, and leaves all of it zero.
+// Judges a text of at most the limit by the text rules. It uses the first 64 words of the scratch, and leaves all of it zero.
 pub fn split(text: &[u8], scratch: &mut [u16]) -> SplitAnswer
+    requires { ⌜ length (now text) ≤ textLimit ⌝ }
     ensures { λ r. ⌜ splitOutcome r (now (scratch .exit)) ≡ splitting (now (text .entry)) (now (scratch .entry)) ⌝ }
 {
     if scratch.len() < 64 {

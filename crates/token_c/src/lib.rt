@@ -1,15 +1,18 @@
 // token's pass and its keyword test for C and Rust to link: what bench/token measures.
 ghost use mathlib.Core.Path.{_≡_};
 ghost use Rattle.token.specs.Names.{isKeyword};
-ghost use Rattle.token.specs.Means.{splitting};
-ghost use Rattle.token_c.specs.Answer.{Answers};
+ghost use Rattle.token_c.specs.Answer.{limited, Answers};
+use error::Refusal;
 use token::SplitAnswer;
 
-// token::split: 0, or the number of the refusal.
+// token::split: 0, or the number of the refusal; 1 for a text over the limit.
 #[no_mangle]
 pub extern "C" fn token_split(text: &[u8], scratch: &mut [u16]) -> u8
-    ensures { λ r. ⌜ Answers (splitting (now (text .entry)) (now (scratch .entry))) r (now (scratch .exit)) ⌝ }
+    ensures { λ r. ⌜ Answers (limited (now (text .entry)) (now (scratch .entry))) r (now (scratch .exit)) ⌝ }
 {
+    if text::TEXT_LIMIT < text.len() {
+        return error::number_of(Refusal::TextTooLong);
+    }
     match token::split(text, scratch) {
         SplitAnswer::Accepted => 0,
         SplitAnswer::Refused { refusal, place: _ } => error::number_of(refusal),

@@ -9,7 +9,7 @@ use Rattle.cursor.proofs.advance.Tie as tie
 start-requires : tie.Need-start-requires
 start-requires c κs =
     let start = c .before .before in
-    next-high (start .args .text .now) (start .args .c) (start .pre)
+    (next-high (start .args .text .now) (start .args .c) (start .pre), start .pre .short)
 
 returns : tie.Need-returns
 returns c =

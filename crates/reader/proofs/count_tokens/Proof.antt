@@ -41,7 +41,7 @@ use denote.Exit.{yes}
 use denote.Triple.Clauses.{ensured, lasts}
 use Rattle.token.specs.Token.{tokensFrom}
 use Rattle.cursor.specs.Means.{tokens}
-use Rattle.reader.specs.Reader.{tokenCount}
+use Rattle.reader.specs.Reader.{readable, tokenCount}
 use Rattle.reader.specs.declared.TokenReader.{TokenReader}
 use Rattle.reader.proofs.TokenReader as T
 use Rattle.reader.proofs.TokenReader.Laws as T′
@@ -80,7 +80,7 @@ module _ {M : Type 1} (𝓤 : URA M) (H : Heap 𝓤) (A : Atoms 𝓤) (W : Given
   abbrev Told : TokenReader → ℕ → Type 0
   Told r n = n ≡ tokenCount (tokens (now (r .text)) (r .cursor))
 
-  told : (r : TokenReader) (n : ℕ) → Fresh s r → Told r n → n ≡ tokenCount (tokensFrom (now s) 0)
+  told : (r : TokenReader) (n : ℕ) → Fresh s r → Told r n → n ≡ tokenCount (tokensFrom (readable (now s)) 0)
   told r n e t = t ∙ ap tokenCount (fresh-tokens s r e)
 
   -- the struct's type as a local of a body has it
@@ -124,7 +124,7 @@ module _ {M : Type 1} (𝓤 : URA M) (H : Heap 𝓤) (A : Atoms 𝓤) (W : Given
       → ent 𝓤 (ensured 𝓤 H A count.ended (count.clauses 𝓤 H A mem run) (κ, tt) (r, tt) tt t) (fact 𝓤 (Told r t))
   count-said r t = exE 𝓤 _ (λ ws. snd∗ 𝓤 (sem 𝓤 H A (lasts count.ended (κ, tt) (r, tt) ws)) (fact 𝓤 (Told r t)))
 
-  exits : (t : ℕ) (u : Val) → t ≡ tokenCount (tokensFrom (now s) 0)
+  exits : (t : ℕ) (u : Val) → t ≡ tokenCount (tokensFrom (readable (now s)) 0)
       → ent 𝓤 (⋆ 𝓤 H A (‵ (usize .own t (u ∷ [])) ∷ (‵ (flft κ q) ⊛ ‵ ftrue) ∷ ‵ Own ∷ [])) (Post u)
   exits t u e =
       qed W (‵ (usize .own t (u ∷ [])) ∷ (‵ (flft κ q) ⊛ ‵ ftrue) ∷ ‵ Own ∷ []) ∵

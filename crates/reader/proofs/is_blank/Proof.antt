@@ -1,16 +1,17 @@
 -- `reader::is_blank` meets its contract. Assumes nothing.
-use Prim.Native.Nat.{ℕ}
-use mathlib.Core.Path.{ap}
-use lib.Dec.{eqb}
 use borrow.Author.Needs.{needs}
+use Rattle.reader.proofs.CountLaws.{blank-long, blank-counted}
 use Rattle.reader.proofs.is_blank.Statement.{statement}
 use Rattle.reader.proofs.is_blank.Tie as tie
+
+returns : tie.Need-returns
+returns c = blank-long _ (c .if1 .taken)
 
 count-tokens-requires : tie.Need-count-tokens-requires
 count-tokens-requires c κs = search needs
 
-returns : tie.Need-returns
-returns c = ap (λ (n : ℕ). eqb n 0) (c .count-tokens .ensures)
+returns-2 : tie.Need-returns-2
+returns-2 c = blank-counted _ _ (c .before .if1 .left) (c .count-tokens .ensures)
 
 pub is-blank-spec : {M : Type 1} → statement M
-is-blank-spec = tie.close (tie.spec count-tokens-requires returns)
+is-blank-spec = tie.close (tie.spec returns count-tokens-requires returns-2)

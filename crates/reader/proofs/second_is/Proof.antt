@@ -42,6 +42,7 @@ use denote.Triple.Clauses.{ensured, lasts}
 use Rattle.token.specs.Token.{tokensFrom, rest}
 use Rattle.grammar.specs.Rule.{seesByte}
 use Rattle.cursor.specs.Means.{Ready, tokens, Follows}
+use Rattle.reader.specs.Reader.{readable}
 use Rattle.reader.specs.declared.TokenReader.{TokenReader}
 use Rattle.reader.proofs.TokenReader as T
 use Rattle.reader.proofs.TokenReader.Laws as T′
@@ -96,7 +97,7 @@ module _ {M : Type 1} (𝓤 : URA M) (H : Heap 𝓤) (A : Atoms 𝓤) (W : Given
   moved-ready : (r m : TokenReader) → Moved r m → Ready (now (m .text)) (m .cursor)
   moved-ready r m e = subst⁻¹ (λ (x : RefT (List ℕ)). Ready (now x) (m .cursor)) (e .0) (e .1 .ready)
 
-  told : (r m : TokenReader) (x : Bool) → Fresh s r → Moved r m → Seen m x → x ≡ seesByte b (rest (tokensFrom (now s) 0))
+  told : (r m : TokenReader) (x : Bool) → Fresh s r → Moved r m → Seen m x → x ≡ seesByte b (rest (tokensFrom (readable (now s)) 0))
   told r m x e f g =
       g ∙ ap (seesByte b) (ap (λ (t : RefT (List ℕ)). tokens (now t) (m .cursor)) (f .0) ∙ sym (f .1 .rest) ∙ ap rest (fresh-tokens s r e))
 
@@ -157,7 +158,7 @@ module _ {M : Type 1} (𝓤 : URA M) (H : Heap 𝓤) (A : Atoms 𝓤) (W : Given
       → ent 𝓤 (ensured 𝓤 H A sees.ended (sees.clauses 𝓤 H A mem run) (κ, tt) (m, (b, tt)) tt x) (fact 𝓤 (Seen m x))
   sees-said m x = exE 𝓤 _ (λ ws. snd∗ 𝓤 (sem 𝓤 H A (lasts sees.ended (κ, tt) (m, (b, tt)) ws)) (fact 𝓤 (Seen m x)))
 
-  exits : (x : Bool) (u : Val) → x ≡ seesByte b (rest (tokensFrom (now s) 0))
+  exits : (x : Bool) (u : Val) → x ≡ seesByte b (rest (tokensFrom (readable (now s)) 0))
       → ent 𝓤 (⋆ 𝓤 H A (‵ (bool .own x (u ∷ [])) ∷ (‵ (flft κ q) ⊛ ‵ ftrue) ∷ ‵ Own ∷ [])) (Post u)
   exits x u e =
       qed W (‵ (bool .own x (u ∷ [])) ∷ (‵ (flft κ q) ⊛ ‵ ftrue) ∷ ‵ Own ∷ []) ∵

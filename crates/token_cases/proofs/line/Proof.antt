@@ -1,3 +1,6 @@
+use Rattle.text.specs.Bytes.{bytes}
+use lib.Seq.{length-take-le}
+use native.Mathlib.Omega.{arith}
 -- `token_cases::line` meets its contract; the text is the part that was written. Assumes nothing.
 use mathlib.Core.Path.{sym}
 use lib.Seq.{length-take-le}
@@ -23,7 +26,8 @@ slice-aggregate-split-2 : tie.Need-slice-aggregate-split-2
 slice-aggregate-split-2 c = search needs
 
 split-requires : tie.Need-split-requires
-split-requires c κs = search needs
+split-requires c κs = let bytes = c .before .before .before .bytes in
+    omega (arith, length-take-le (bytes .result) (bytes .last .1 .0) (bytes .ensures), bytes .kept .1 .0)
 
 answer-requires : tie.Need-answer-requires
 answer-requires c κs = search needs
