@@ -1,29 +1,30 @@
 -- The elements of an array, read and written one at a time. Assumes nothing.
-use Prim.Native.Nat.{ℕ, suc, _+_, _*_, _-_, _^_, _≤_, _<_}
+use Prim.Native.Nat.{ℕ, _+_, _*_, _-_, _≤_, _<_}
 use mathlib.Core.Bool.{Bool, true, false, cond}
 use mathlib.Core.List.{List, [], _∷_, _++_}
-use mathlib.Core.Path.{_≡_, refl, sym, ap, _∙_, subst}
+use mathlib.Core.Path.{_≡_, refl, _∙_}
 use native.Mathlib.Omega.{arith}
+use lib.Ieee.{Float}
 use lib.ListN.{length, length-append}
 use Rattle.codec.specs.Codec.{eachOut, big}
-use Rattle.ast.specs.Tree.{ValueExpr, array, scalar}
+use Rattle.number.specs.Number.{bits}
+use Rattle.ast.specs.Tree.{array, scalar}
+use Rattle.ast.specs.declared.ValueExpr.the-variants.{Scalar, Array}
 use Rattle.sheet.specs.Sheet.{word, valueForm}
+use Rattle.encode.specs.Of.{Plain}
 use Rattle.encode.specs.Writes.{Writes}
 use Rattle.encode.proofs.OverLaws.{writes-none, writes-then, writes-counted}
 use Rattle.encode.proofs.FieldLaws.{each-more, length-word}
 use Rattle.error.specs.declared.Refusal.{Refusal}
 use Rattle.error.specs.declared.Refusal.the-variants.{Missing}
 use Rattle.grammar.specs.Rule.{leave, theByte, seesByte, skip, refuse, after, give, _>>_}
-use Rattle.grammar.specs.Rule.{Rule, Out, got, refused, listStep, eatByte, ends, repeat}
+use Rattle.grammar.specs.Rule.{Out, got, refused, listStep, eatByte, ends}
 use Rattle.grammar.specs.Values.{parseFloat, arrayItem, arrayItems, parseValue}
 use Rattle.cursor.specs.Means.{Ready, notes, tokens, run, Took}
 use Rattle.cursor.specs.declared.Cursor.{Cursor}
-use Rattle.fields.specs.Means.{Gives}
 use Rattle.fields.proofs.FieldLaws.{by-step}
 use Rattle.fields.proofs.ListLaws.{Listed, listed-start, listed-gives, listed-done}
-use Rattle.arrays.specs.Means.{Went, ArrayWent, arrayBehind, ArrayMeans, ValueMeans}
-use Rattle.arrays.specs.declared.ValueRead.{ValueRead}
-use Rattle.arrays.specs.declared.ValueRead.the-variants as values
+use Rattle.arrays.specs.Means.{Went, ArrayWent, arrayBehind, HeldWent}
 
 -- the array that began at c stands at m with xs, written from out to at: b has become a
 pub record Items (s b a : List ℕ) (c m : Cursor) (out at n : ℕ) : Type 0 where
@@ -131,9 +132,10 @@ pub array-went : (s b b′ a a′ : List ℕ) (c m u : Cursor) (out f q e n : �
     → Writes b out (1 ∷ []) b′ f
     → (w : Went 0 s b′ a c m (f + 2) q arrayItems (eachOut (word .write)))
     → n ≡ length (w .value)
-    → Writes a f (big 2 .write n) a′ e → Took 0 s m u leave tt → ArrayWent s b a′ c u out q
+    → Writes a f (big 2 .write n) a′ e → Took 0 s m u leave tt → ArrayWent s b a′ c u out n q
 array-went s b b′ a a′ c m u out f q e n o w k p l = record {
-  value = array (w .value);
+  xs = w .value;
+  count = k;
   took = record { is = rw (w .took .is, l .is); low = omega (arith, w .took .low, l .low); ready = l .ready };
   writes = writes-then o (writes-counted (length (w .value)) refl (w .writes) (rw k at p));
   paid = let x = o .place in omega (arith, w .paid, l .low, w .took .low);
@@ -166,42 +168,49 @@ regroup (got xs l ts) = left-with xs (leave l ts)
 regroup (refused r q) = refl
 
 -- a value that is an array, and one that is a number
-module _ (s : List ℕ) (c m : Cursor) (o : Took 1 s c m (theByte 91) tt) where
+module _ {s : List ℕ} {c m : Cursor} (o : Took 1 s c m (theByte 91) tt) where
   array-run : run s c parseValue ≡ run s m arrayBehind
   unfolding parseValue
   array-run = rw (mark-seen s c m 91 o, o .is) (regroup (run s m arrayItems))
 
-  pub value-array : (b a : List ℕ) (out q : ℕ) (u : Cursor) → ArrayWent s b a m u out q
-      → Went 1 s b a c u out q parseValue (valueForm .write)
-  value-array b a out q u w = record {
-    value = w .value;
+  pub array-held : {b a : List ℕ} {out n q : ℕ} {u : Cursor} → ArrayWent s b a m u out n q → HeldWent s b a c u out q (Array n)
+  array-held w = record {
+    value = array (w .xs);
     took = record { is = array-run ∙ w .took .is; low = omega (arith, o .low, w .took .low); ready = w .took .ready };
-    writes = w .writes;
+    held = (w .count, w .writes);
     paid = omega (arith, w .paid, o .low, w .took .low);
   }
 
-  pub value-refused : (r : Refusal) (q : ℕ) → run s m arrayBehind ≡ refused r q → run s c parseValue ≡ refused r q
-  value-refused r q h = array-run ∙ h
+  pub value-refused : {r : Refusal} {q : ℕ} → run s m arrayBehind ≡ refused r q → run s c parseValue ≡ refused r q
+  value-refused h = array-run ∙ h
 
 module _ (s : List ℕ) (c : Cursor) (e : seesByte 91 (tokens s c) ≡ false) where
-  pub scalar-went : (b a : List ℕ) (out q : ℕ) (m : Cursor) (x : ℕ) → Took 1 s c m parseFloat x
-      → Writes b out (valueForm .write (scalar x)) a q
-      → Went 1 s b a c m out q parseValue (valueForm .write)
+  pub scalar-held : (b : List ℕ) (out : ℕ) {m : Cursor} {x : Float} → Took 1 s c m parseFloat (bits x) → Plain x
+      → HeldWent s b b c m out out (Scalar x)
   unfolding parseValue
-  scalar-went b a out q m x t w = record {
-    value = scalar x;
+  scalar-held b out {x = x} t p = record {
+    value = scalar (bits x);
     took = record { is = rw (e, t .is); low = t .low; ready = t .ready };
-    writes = w;
-    paid = let y = w .place in let z = length-word x in omega (arith, t .low);
+    held = (refl, p, refl);
+    paid = omega arith;
   }
 
-  pub scalar-refused : (r : Refusal) (q : ℕ) → run s c parseFloat ≡ refused r q → run s c parseValue ≡ refused r q
+  pub scalar-refused : {r : Refusal} {q : ℕ} → run s c parseFloat ≡ refused r q → run s c parseValue ≡ refused r q
   unfolding parseValue
-  scalar-refused r q h = rw (e, h)
+  scalar-refused h = rw (e, h)
 
--- the answer behind an opener is the answer from it on
-pub value-behind : (s b a : List ℕ) (c m : Cursor) (out : ℕ) (x : ValueRead)
-    → Took 1 s c m (theByte 91) tt → ArrayMeans s b a m out x
-    → ValueMeans s b a c out x
-value-behind s b a c m out (values.Is q u) o w = value-array s c m o b a out q u w
-value-behind s b a c m out (values.Refused r q) o h = value-refused s c m o r q h
+-- ---- what is held, and then written
+
+module _ {s b a : List ℕ} {c m : Cursor} {out q : ℕ} where
+  pub array-written : {n : ℕ} → HeldWent s b a c m out q (Array n) → Went 1 s b a c m out q parseValue (valueForm .write)
+  array-written w = record { value = w .value; took = w .took; writes = w .held .1; paid = w .paid }
+
+  pub scalar-written : {x : Float} {a′ : List ℕ} {q′ : ℕ} → HeldWent s b a c m out q (Scalar x)
+      → Writes a out (valueForm .write (scalar (bits x))) a′ q′
+      → Went 1 s b a′ c m out q′ parseValue (valueForm .write)
+  scalar-written {x} w p = record {
+    value = scalar (bits x);
+    took = rw (w .held .0) at (w .took);
+    writes = rw (w .held .2) at p;
+    paid = let y = p .place in let z = length-word (bits x) in omega (arith, w .took .low);
+  }

@@ -5,16 +5,21 @@ use mathlib.Core.Path.{_≡_}
 use lib.ListN.{length}
 use Rattle.text.specs.Limits.{textLimit}
 use Rattle.codec.specs.Codec.{eachOut}
-use Rattle.ast.specs.Tree.{ValueExpr, array}
+use Rattle.number.specs.Number.{bits}
+use Rattle.ast.specs.Tree.{ValueExpr, scalar, array, componentCount}
+use Rattle.ast.specs.declared.ValueExpr as values
+use Rattle.ast.specs.declared.ValueExpr.the-variants.{Scalar, Array}
 use Rattle.sheet.specs.Sheet.{word, valueForm}
+use Rattle.encode.specs.Of.{Plain}
 use Rattle.encode.specs.Writes.{Writes}
-use Rattle.error.specs.declared.Refusal.{Refusal}
 use Rattle.grammar.specs.Rule.{Rule, refused, leave, give, _>>=_, _>>_}
 use Rattle.grammar.specs.Values.{arrayItems, parseValue}
 use Rattle.cursor.specs.Means.{run, Took}
 use Rattle.cursor.specs.declared.Cursor.{Cursor}
 use Rattle.arrays.specs.declared.ItemsRead.{ItemsRead}
 use Rattle.arrays.specs.declared.ItemsRead.the-variants as items
+use Rattle.arrays.specs.declared.HeldRead.{HeldRead}
+use Rattle.arrays.specs.declared.HeldRead.the-variants as held
 use Rattle.arrays.specs.declared.ValueRead.{ValueRead}
 use Rattle.arrays.specs.declared.ValueRead.the-variants as value
 
@@ -51,15 +56,31 @@ abbrev pub arrayBehind : Rule ValueExpr
 arrayBehind = arrayItems >>= λ xs. leave >> give (array xs)
 
 -- up to 3 bytes more than the text pays for: the case and the count
-pub record ArrayWent (s b a : List ℕ) (c m : Cursor) (out q : ℕ) : Type 0 where
-  pub value : ValueExpr
-  pub took : Took 0 s c m arrayBehind value
-  pub writes : Writes b out (valueForm .write value) a q
+pub record ArrayWent (s b a : List ℕ) (c m : Cursor) (out n q : ℕ) : Type 0 where
+  pub xs : List ℕ
+  pub took : Took 0 s c m arrayBehind (array xs)
+  pub count : n ≡ length xs
+  pub writes : Writes b out (valueForm .write (array xs)) a q
   pub paid : q ≤ out + 3 + 64 * (m .at - c .at)
 
-abbrev pub ArrayMeans : List ℕ → List ℕ → List ℕ → Cursor → ℕ → ValueRead → Type 0
-ArrayMeans s b a c out (value.Is q m) = ArrayWent s b a c m out q
-ArrayMeans s b a c out (value.Refused r q) = run s c arrayBehind ≡ refused r q
+abbrev pub ArrayMeans : List ℕ → List ℕ → List ℕ → Cursor → ℕ → ItemsRead → Type 0
+ArrayMeans s b a c out (items.Is n q m) = ArrayWent s b a c m out n q
+ArrayMeans s b a c out (items.Refused r q) = run s c arrayBehind ≡ refused r q
+
+-- v holds a value: a scalar's float, and nothing is written; or an array's count, and the array is written from out to q: b becomes a
+abbrev pub Held : List ℕ → List ℕ → ℕ → ℕ → ValueExpr → values.ValueExpr → Type 0
+Held b a out q value (Scalar x) = (value ≡ scalar (bits x)) × Plain x × (a ≡ b)
+Held b a out q value (Array n) = (n ≡ componentCount value) × Writes b out (valueForm .write value) a q
+
+pub record HeldWent (s b a : List ℕ) (c m : Cursor) (out q : ℕ) (v : values.ValueExpr) : Type 0 where
+  pub value : ValueExpr
+  pub took : Took 1 s c m parseValue value
+  pub held : Held b a out q value v
+  pub paid : q ≤ out + 64 * (m .at - c .at)
+
+abbrev pub HeldMeans : List ℕ → List ℕ → List ℕ → Cursor → ℕ → HeldRead → Type 0
+HeldMeans s b a c out (held.Is v q m) = HeldWent s b a c m out q v
+HeldMeans s b a c out (held.Refused r q) = run s c parseValue ≡ refused r q
 
 abbrev pub ValueMeans : List ℕ → List ℕ → List ℕ → Cursor → ℕ → ValueRead → Type 0
 ValueMeans s b a c out (value.Is q m) = Went 1 s b a c m out q parseValue (valueForm .write)

@@ -4,7 +4,8 @@ ghost use mathlib.Core.Path.{_≡_};
 ghost use Prim.Native.Nat.{_≤_, _<_, _^_};
 ghost use lib.ListN.{length};
 ghost use Rattle.cursor.specs.Means.{Ready};
-ghost use Rattle.arrays.specs.Means.{Wide, Wider, ItemsMeans, ArrayMeans, ValueMeans};
+ghost use Rattle.arrays.specs.Means.{Wide, Wider, ItemsMeans, ArrayMeans, HeldMeans, ValueMeans};
+use ast::ValueExpr;
 use cursor::Cursor;
 use cursor::FloatRead;
 use cursor::MarkRead;
@@ -13,6 +14,12 @@ use error::Refusal;
 // How many elements, the place behind what was written, and the cursor.
 pub enum ItemsRead {
     Is(usize, usize, Cursor),
+    Refused(Refusal, usize),
+}
+
+// A scalar, which is not written, or an array's count; the place behind what was written, and the cursor.
+pub enum HeldRead {
+    Is(ValueExpr, usize, Cursor),
     Refused(Refusal, usize),
 }
 
@@ -50,17 +57,34 @@ fn array_items(text: &[u8], sheet: &mut [u8], c: Cursor, out: usize) -> ItemsRea
 }
 
 // An array, behind its `[`: its case, its count, its elements.
-fn array_value(text: &[u8], sheet: &mut [u8], c: Cursor, out: usize) -> ValueRead
+fn array_value(text: &[u8], sheet: &mut [u8], c: Cursor, out: usize) -> ItemsRead
     requires { ⌜ Ready (now text) c × Wide (now text) out ⌝ }
     ensures { λ r. ⌜ ArrayMeans (now (text .entry)) (now (sheet .entry)) (now (sheet .exit)) c out r ⌝ }
 {
     let first = encode::put_byte(sheet, out, 1);
     match array_items(text, sheet, c, first + 2) {
-        ItemsRead::Refused(r, p) => ValueRead::Refused(r, p),
+        ItemsRead::Refused(r, p) => ItemsRead::Refused(r, p),
         ItemsRead::Is(n, end, m) => {
             encode::patch_count(sheet, first, n);
-            ValueRead::Is(end, cursor::leave_group(text, m))
+            ItemsRead::Is(n, end, cursor::leave_group(text, m))
         }
+    }
+}
+
+// A number, which is held and not written, or an array, written at `out` as it is read, since it has no bound.
+pub fn read_value(text: &[u8], sheet: &mut [u8], c: Cursor, out: usize) -> HeldRead
+    requires { ⌜ Ready (now text) c × Wide (now text) out ⌝ }
+    ensures { λ r. ⌜ HeldMeans (now (text .entry)) (now (sheet .entry)) (now (sheet .exit)) c out r ⌝ }
+{
+    match cursor::mark(text, c, b'[') {
+        MarkRead::Is(m) => match array_value(text, sheet, m, out) {
+            ItemsRead::Refused(r, p) => HeldRead::Refused(r, p),
+            ItemsRead::Is(n, end, e) => HeldRead::Is(ValueExpr::Array(n), end, e),
+        },
+        MarkRead::Missing(_) => match cursor::parse_float(text, c) {
+            FloatRead::Refused(r, p) => HeldRead::Refused(r, p),
+            FloatRead::Is(x, m) => HeldRead::Is(ValueExpr::Scalar(x), out, m),
+        },
     }
 }
 
@@ -69,11 +93,11 @@ pub fn parse_value(text: &[u8], sheet: &mut [u8], c: Cursor, out: usize) -> Valu
     requires { ⌜ Ready (now text) c × Wide (now text) out ⌝ }
     ensures { λ r. ⌜ ValueMeans (now (text .entry)) (now (sheet .entry)) (now (sheet .exit)) c out r ⌝ }
 {
-    match cursor::mark(text, c, b'[') {
-        MarkRead::Is(m) => array_value(text, sheet, m, out),
-        MarkRead::Missing(_) => match cursor::parse_float(text, c) {
-            FloatRead::Refused(r, p) => ValueRead::Refused(r, p),
-            FloatRead::Is(x, m) => ValueRead::Is(encode::put_scalar(sheet, out, x), m),
+    match read_value(text, sheet, c, out) {
+        HeldRead::Refused(r, p) => ValueRead::Refused(r, p),
+        HeldRead::Is(v, end, m) => match v {
+            ValueExpr::Scalar(x) => ValueRead::Is(encode::put_scalar(sheet, out, x), m),
+            ValueExpr::Array(_) => ValueRead::Is(end, m),
         },
     }
 }

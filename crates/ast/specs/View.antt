@@ -1,8 +1,9 @@
 -- How the code holds a tree's values: floats for bit patterns, counts for arrays and frames. Assumes nothing.
 use Prim.Native.Nat.{ℕ}
-use mathlib.Core.Bool.{Bool}
+use mathlib.Core.Bool.{Bool, true, false}
 use mathlib.Core.List.{List}
 use mathlib.Core.Option.{Option, none, some}
+use lib.Ieee.{Float}
 use lib.ListN.{length}
 use Rattle.number.specs.Number.{f32}
 use Rattle.ast.specs.Tree as tree
@@ -15,8 +16,6 @@ use Rattle.ast.specs.declared.LoopSpec as loops
 use Rattle.ast.specs.declared.LoopSpec.the-variants as loop
 use Rattle.ast.specs.declared.DampingMode as dampings
 use Rattle.ast.specs.declared.DampingMode.the-variants as damping
-use Rattle.ast.specs.declared.KeyframeTime as times
-use Rattle.ast.specs.declared.KeyframeTime.the-variants as time
 use Rattle.ast.specs.declared.StaggerPatternSpec as patterns
 use Rattle.ast.specs.declared.StaggerPatternSpec.the-variants as pattern
 use Rattle.ast.specs.declared.OptF32 as optFloats
@@ -65,6 +64,15 @@ abbrev pub countOf : values.ValueExpr → ℕ
 countOf (value.Scalar x) = 1
 countOf (value.Array n) = n
 
+abbrev pub isArray : values.ValueExpr → Bool
+isArray (value.Scalar x) = false
+isArray (value.Array n) = true
+
+-- the f32 of a scalar; 0.0 for an array
+abbrev pub scalarOf : values.ValueExpr → Float
+scalarOf (value.Scalar x) = x
+scalarOf (value.Array n) = f32 0
+
 abbrev pub easingView : tree.EasingSpec → easings.EasingSpec
 easingView (tree.named v s) = easing.Named v (spanView s)
 easingView (tree.cubicBezier a b c d) = easing.CubicBezier (f32 a) (f32 b) (f32 c) (f32 d)
@@ -85,9 +93,10 @@ dampingView (tree.criticallyDamped s) = damping.CriticallyDamped (f32 s)
 dampingView (tree.overdamped s r) = damping.Overdamped (f32 s) (f32 r)
 dampingView (tree.underdamped s r) = damping.Underdamped (f32 s) (f32 r)
 
-abbrev pub timeView : tree.KeyframeTime → times.KeyframeTime
-timeView (tree.percent x) = time.Percent (f32 x)
-timeView (tree.seconds x) = time.Seconds (f32 x)
+-- whether it is a percent, and the time
+abbrev pub timeView : tree.KeyframeTime → Bool × Float
+timeView (tree.percent x) = (true, f32 x)
+timeView (tree.seconds x) = (false, f32 x)
 
 abbrev pub patternView : tree.StaggerPatternSpec → patterns.StaggerPatternSpec
 patternView (tree.grid c r o) = pattern.Grid c r o
@@ -169,8 +178,19 @@ springView x = record {
   «damping_mode» = optDampingView (x .dampingMode);
 }
 
+-- an entry of a time, percent or not, a value and an easing
+abbrev pub entryOf : Bool → Float → values.ValueExpr → optEasings.OptEasing → entries.KeyframeEntry
+entryOf percent time v easing = record {
+  percent = percent;
+  time = time;
+  array = isArray v;
+  value = scalarOf v;
+  count = countOf v;
+  easing = easing;
+}
+
 abbrev pub entryView : tree.KeyframeEntry tree.KeyframeTime → entries.KeyframeEntry
-entryView x = record { time = timeView (x .time); value = valueView (x .value); easing = optEasingView (x .easing) }
+entryView x = entryOf (timeView (x .time) .0) (timeView (x .time) .1) (valueView (x .value)) (optEasingView (x .easing))
 
 abbrev pub keyframesView : tree.KeyframeSpec tree.KeyframeTime → tracks.KeyframeSpec
 keyframesView x = record { target = spanView (x .target); frames = length (x .frames); «loop_mode» = optLoopView (x .loopMode) }

@@ -1,6 +1,6 @@
 // ast.rs: the types of the tree, by value, one record at a time. Spans for diagnostics are left out.
 ghost use mathlib.Core.Path.{_≡_};
-ghost use Rattle.ast.specs.View.{countOf};
+ghost use Rattle.ast.specs.View.{countOf, entryOf};
 
 // A name or a string: its place in the text, quotes left off.
 pub struct Span {
@@ -49,11 +49,6 @@ pub enum DampingMode {
     CriticallyDamped(f32),
     Overdamped(f32, f32),
     Underdamped(f32, f32),
-}
-
-pub enum KeyframeTime {
-    Percent(f32),
-    Seconds(f32),
 }
 
 pub enum StaggerPatternSpec {
@@ -155,10 +150,14 @@ pub struct SpringSpec {
     pub damping_mode: OptDamping,
 }
 
-// One keyframe entry.
+// One keyframe entry, with the cases of its time and its value as fields: `KeyframeTime` is whether it is a percent, and the f32;
+// `ValueExpr` is whether it is an array, a scalar's f32 (0.0 for an array), and the number of components.
 pub struct KeyframeEntry {
-    pub time: KeyframeTime,
-    pub value: ValueExpr,
+    pub percent: bool,
+    pub time: f32,
+    pub array: bool,
+    pub value: f32,
+    pub count: usize,
     pub easing: OptEasing,
 }
 
@@ -244,5 +243,29 @@ pub fn component_count(value: ValueExpr) -> usize
     match value {
         ValueExpr::Scalar(_) => 1,
         ValueExpr::Array(count) => count,
+    }
+}
+
+// The entry that holds a time, a value and an easing.
+pub fn entry_of(percent: bool, time: f32, value: ValueExpr, easing: OptEasing) -> KeyframeEntry
+    ensures { λ r. ⌜ r ≡ entryOf percent time value easing ⌝ }
+{
+    match value {
+        ValueExpr::Scalar(x) => KeyframeEntry {
+            percent,
+            time,
+            array: false,
+            value: x,
+            count: 1,
+            easing,
+        },
+        ValueExpr::Array(count) => KeyframeEntry {
+            percent,
+            time,
+            array: true,
+            value: 0.0,
+            count,
+            easing,
+        },
     }
 }

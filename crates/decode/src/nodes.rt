@@ -101,7 +101,7 @@ pub struct AtRead {
     pub next: usize,
 }
 
-// One keyframe entry.
+// One keyframe entry, by value; an array's elements are passed.
 pub fn take_entry(s: &[u8], at: usize, n: usize) -> EntryRead
     ensures { λ r. ⌜ Reads (entryForm n) entryView (now (s .entry)) at (r .v) (r .next) ⌝ }
 {
@@ -109,17 +109,10 @@ pub fn take_entry(s: &[u8], at: usize, n: usize) -> EntryRead
     let value = take_value(s, time.next);
     let easing = take_opt_easing(s, value.next, n);
     let next = easing.next;
-    let time = time.v;
     let value = value.v;
     let easing = easing.v;
-    EntryRead {
-        v: KeyframeEntry {
-            time,
-            value,
-            easing,
-        },
-        next,
-    }
+    let v = ast::entry_of(time.percent, time.v, value, easing);
+    EntryRead { v, next }
 }
 
 pub fn take_tween(s: &[u8], at: usize, n: usize) -> TweenRead

@@ -12,7 +12,6 @@ use crate::fields::take_float;
 use crate::fields::take_span;
 use ast::DampingMode;
 use ast::EasingSpec;
-use ast::KeyframeTime;
 use ast::LoopSpec;
 use ast::StaggerPatternSpec;
 use ast::ValueExpr;
@@ -37,8 +36,10 @@ pub struct DampingRead {
     pub next: usize,
 }
 
+// Whether a time is a percent, and the time.
 pub struct TimeRead {
-    pub v: KeyframeTime,
+    pub percent: bool,
+    pub v: f32,
     pub next: usize,
 }
 
@@ -203,18 +204,20 @@ pub fn take_damping(s: &[u8], at: usize) -> DampingRead
 }
 
 pub fn take_time(s: &[u8], at: usize) -> TimeRead
-    ensures { λ r. ⌜ Reads timeForm timeView (now (s .entry)) at (r .v) (r .next) ⌝ }
+    ensures { λ r. ⌜ Reads timeForm timeView (now (s .entry)) at (r .percent, r .v) (r .next) ⌝ }
 {
     let k = take_byte(s, at, 2);
     let x = take_float(s, k.next);
     if k.v == 0 {
         return TimeRead {
-            v: KeyframeTime::Percent(x.v),
+            percent: true,
+            v: x.v,
             next: x.next,
         };
     }
     TimeRead {
-        v: KeyframeTime::Seconds(x.v),
+        percent: false,
+        v: x.v,
         next: x.next,
     }
 }

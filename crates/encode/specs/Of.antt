@@ -1,6 +1,6 @@
 -- The tree's value of what the code holds, each float as its bits; and that no float in it is a NaN. Assumes nothing.
 use Prim.Native.Nat.{ℕ}
-use mathlib.Core.Bool.{Bool, not}
+use mathlib.Core.Bool.{Bool, true, false, not}
 use mathlib.Core.Option.{Option, none, some}
 use lib.Dec.{T}
 use lib.Ieee.{Float, isNan}
@@ -13,8 +13,7 @@ use Rattle.ast.specs.declared.LoopSpec as loops
 use Rattle.ast.specs.declared.LoopSpec.the-variants as loop
 use Rattle.ast.specs.declared.DampingMode as dampings
 use Rattle.ast.specs.declared.DampingMode.the-variants as damping
-use Rattle.ast.specs.declared.KeyframeTime as times
-use Rattle.ast.specs.declared.KeyframeTime.the-variants as time
+use Rattle.ast.specs.declared.KeyframeEntry as entries
 use Rattle.ast.specs.declared.StaggerPatternSpec as patterns
 use Rattle.ast.specs.declared.StaggerPatternSpec.the-variants as pattern
 use Rattle.ast.specs.declared.OptF32 as optFloats
@@ -59,9 +58,10 @@ dampingOf (damping.CriticallyDamped s) = tree.criticallyDamped (bits s)
 dampingOf (damping.Overdamped s r) = tree.overdamped (bits s) (bits r)
 dampingOf (damping.Underdamped s r) = tree.underdamped (bits s) (bits r)
 
-abbrev pub keyTimeOf : times.KeyframeTime → tree.KeyframeTime
-keyTimeOf (time.Percent x) = tree.percent (bits x)
-keyTimeOf (time.Seconds x) = tree.seconds (bits x)
+-- of whether it is a percent, and the time
+abbrev pub keyTimeOf : Bool → Float → tree.KeyframeTime
+keyTimeOf true x = tree.percent (bits x)
+keyTimeOf false x = tree.seconds (bits x)
 
 abbrev pub patternOf : patterns.StaggerPatternSpec → tree.StaggerPatternSpec
 patternOf (pattern.Grid c r o) = tree.grid c r o
@@ -125,10 +125,6 @@ PlainDamping (damping.CriticallyDamped s) = Plain s
 PlainDamping (damping.Overdamped s r) = Plain s × Plain r
 PlainDamping (damping.Underdamped s r) = Plain s × Plain r
 
-abbrev pub PlainTime : times.KeyframeTime → Type 0
-PlainTime (time.Percent x) = Plain x
-PlainTime (time.Seconds x) = Plain x
-
 abbrev pub PlainPattern : patterns.StaggerPatternSpec → Type 0
 PlainPattern (pattern.Grid c r o) = Unit {0}
 PlainPattern (pattern.Random s a b) = Plain a × Plain b
@@ -154,3 +150,6 @@ PlainOptDamping (optDamping.Present d) = PlainDamping d
 abbrev pub PlainOptPattern : optPatterns.OptPattern → Type 0
 PlainOptPattern optPattern.Absent = Unit {0}
 PlainOptPattern (optPattern.Present p) = PlainPattern p
+
+abbrev pub PlainEntry : entries.KeyframeEntry → Type 0
+PlainEntry e = Plain (e .time) × Plain (e .value) × PlainOptEasing (e .easing)

@@ -15,7 +15,6 @@ ghost use Rattle.encode.specs.Of as of;
 ghost use Rattle.encode.specs.Of.{Plain};
 use ast::DampingMode;
 use ast::EasingSpec;
-use ast::KeyframeTime;
 use ast::LoopSpec;
 use ast::OptBool;
 use ast::OptCase;
@@ -206,14 +205,15 @@ pub fn put_damping(sheet: &mut [u8], at: usize, d: DampingMode) -> usize
     }
 }
 
-pub fn put_time(sheet: &mut [u8], at: usize, t: KeyframeTime) -> usize
-    requires { ⌜ (at < 2 ^ 32) × of.PlainTime t ⌝ }
-    ensures { λ r. ⌜ Writes (now (sheet .entry)) at (timeForm .write (of.keyTimeOf t)) (now (sheet .exit)) r ⌝ }
+// A keyframe's time, which is a percent or not.
+pub fn put_time(sheet: &mut [u8], at: usize, percent: bool, time: f32) -> usize
+    requires { ⌜ (at < 2 ^ 32) × Plain time ⌝ }
+    ensures { λ r. ⌜ Writes (now (sheet .entry)) at (timeForm .write (of.keyTimeOf percent time)) (now (sheet .exit)) r ⌝ }
 {
-    match t {
-        KeyframeTime::Percent(x) => put_case_float(sheet, at, 0, x),
-        KeyframeTime::Seconds(x) => put_case_float(sheet, at, 1, x),
+    if percent {
+        return put_case_float(sheet, at, 0, time);
     }
+    put_case_float(sheet, at, 1, time)
 }
 
 pub fn put_pattern(sheet: &mut [u8], at: usize, p: StaggerPatternSpec) -> usize

@@ -1,35 +1,36 @@
 -- What the functions of a track answer. Contracts cite these. Assumes nothing.
 use Prim.Native.Nat.{ℕ, _+_, _*_, _-_, _^_, _≤_, _<_}
 use mathlib.Core.Bool.{Bool, true, false, cond}
-use mathlib.Core.List.{List, [], _∷_, _++_}
+use mathlib.Core.List.{List, [], _++_}
 use mathlib.Core.Option.{Option, none, some}
 use mathlib.Core.Path.{_≡_}
+use lib.Ieee.{Float}
 use lib.ListN.{length}
 use Rattle.text.specs.Limits.{textLimit}
-use Rattle.number.specs.Number.{Written}
+use Rattle.number.specs.Number.{Written, bits}
 use Rattle.number.specs.Time.{Key}
 use Rattle.codec.specs.Codec.{eachOut, big, opt}
-use Rattle.ast.specs.Tree.{KeyframeEntry, EasingSpec, mapFrames}
-use Rattle.ast.specs.declared.KeyframeTime.{KeyframeTime}
-use Rattle.sheet.specs.Sheet.{timeForm, easingForm, loopForm, entryForm}
-use Rattle.encode.specs.Of.{keyTimeOf, PlainTime, optEasingOf, PlainOptEasing, optLoopOf}
+use Rattle.ast.specs.Tree.{KeyframeEntry, EasingSpec, scalar, mapFrames}
+use Rattle.ast.specs.View.{entryOf}
+use Rattle.ast.specs.declared.ValueExpr as values
+use Rattle.ast.specs.declared.KeyframeEntry as entries
+use Rattle.sheet.specs.Sheet.{timeForm, valueForm, easingForm, loopForm, entryForm}
+use Rattle.encode.specs.Of.{keyTimeOf, optEasingOf, optLoopOf, Plain, PlainOptEasing, PlainEntry}
 use Rattle.encode.specs.Writes.{Writes}
-use Rattle.token.specs.Means.{writtenOf}
 use Rattle.grammar.specs.Rule.{Rule, got, refused, give, if, sees, seesName, skip, eat, the, leave, repeat, Next, more, done, _>>=_, _>>_}
 use Rattle.grammar.specs.Values.{parseEasing}
 use Rattle.grammar.specs.Grammar.{stored, parseKeyframeTime, keyframeEntry, trackStep, Track}
 use Rattle.cursor.specs.Means.{Ready, notes, tokens, run, Took}
 use Rattle.cursor.specs.declared.Cursor.{Cursor}
-use Rattle.arrays.specs.Means.{Went}
-use Rattle.arrays.specs.declared.ValueRead.{ValueRead}
-use Rattle.arrays.specs.declared.ValueRead.the-variants as value
+use Rattle.arrays.specs.Means.{Held}
 use Rattle.nodes.specs.declared.NodeRead.{NodeRead}
 use Rattle.nodes.specs.declared.NodeRead.the-variants as node
 use Rattle.keyframes.specs.declared.TimeRead.{TimeRead}
 use Rattle.keyframes.specs.declared.TimeRead.the-variants as time
 use Rattle.keyframes.specs.declared.EasingIf.{EasingIf}
 use Rattle.keyframes.specs.declared.EasingIf.the-variants as easing
-use Rattle.keyframes.specs.declared.Entry.{Entry}
+use Rattle.keyframes.specs.declared.EntryRead.{EntryRead}
+use Rattle.keyframes.specs.declared.EntryRead.the-variants as entry
 use Rattle.keyframes.specs.declared.Track as tracks
 use Rattle.keyframes.specs.declared.TrackNext.{TrackNext}
 use Rattle.keyframes.specs.declared.TrackNext.the-variants as turn
@@ -50,19 +51,19 @@ percentSign point = cond point (give false) (eat "%")
 abbrev pub keyOf : Bool → Bool → Written → Key
 keyOf p negative w = record { percent = p; negative = negative; written = w }
 
--- the time that is stored for the key k
-pub record Stores (k : Key) (t : KeyframeTime) : Type 0 where
-  pub is : keyTimeOf t ≡ stored k
-  pub plain : PlainTime t
+-- the time that is stored for the key k, and whether it is a percent
+pub record Stores (k : Key) (percent : Bool) (x : Float) : Type 0 where
+  pub is : keyTimeOf percent x ≡ stored k
+  pub plain : Plain x
 
--- the rule p takes a key, whose time is t
-pub record TookTime (s : List ℕ) (c m : Cursor) (p : Rule Key) (t : KeyframeTime) : Type 0 where
+-- the rule p takes a key, whose time is x
+pub record TookTime (s : List ℕ) (c m : Cursor) (p : Rule Key) (percent : Bool) (x : Float) : Type 0 where
   pub key : Key
   pub took : Took 1 s c m p key
-  pub stores : Stores key t
+  pub stores : Stores key percent x
 
 abbrev pub TimeMeans : List ℕ → Cursor → Rule Key → TimeRead → Type 0
-TimeMeans s c p (time.Is t m) = TookTime s c m p t
+TimeMeans s c p (time.Is percent x m) = TookTime s c m p percent x
 TimeMeans s c p (time.Refused r q) = run s c p ≡ refused r q
 
 -- ---- a frame
@@ -83,16 +84,37 @@ EasingMeans s c (easing.Refused r q) = run s c easingIf ≡ refused r q
 abbrev pub framesBytes : ℕ → List (KeyframeEntry Key) → List ℕ
 framesBytes n fs = eachOut (entryForm n .write) (mapFrames stored fs)
 
--- a time is written at `out`, then an easing at `end`: b becomes a
-pub record Framed (b a : List ℕ) (out end : ℕ) (e : Entry) (q : ℕ) : Type 0 where
-  pub mid : List ℕ
-  pub behind : ℕ
-  pub time : Writes b out (timeForm .write (keyTimeOf (e .time))) mid behind
-  pub easing : (n : ℕ) → Writes mid end (opt (easingForm n) .write (optEasingOf (e .easing))) a q
+-- the grammar takes a frame, and e holds it; its array, if it has one, is written behind the place of its time, and ends at `end`: b
+-- becomes a. The text pays for the 18 bytes of an easing too.
+pub record EntryWent (s b a : List ℕ) (c m : Cursor) (out end : ℕ) (e : entries.KeyframeEntry) : Type 0 where
+  pub frame : KeyframeEntry Key
+  pub took : Took 1 s c m keyframeEntry frame
+  pub value : values.ValueExpr
+  pub holds : e ≡ entryOf (e .percent) (e .time) value (e .easing)
+  pub time : keyTimeOf (e .percent) (e .time) ≡ stored (frame .time)
+  pub held : Held b a (out + 5) end (frame .value) value
+  pub easing : optEasingOf (e .easing) ≡ frame .easing
+  pub plain : PlainEntry e
+  pub paid : end + 18 ≤ out + 64 * (m .at - c .at)
 
-abbrev pub FrameMeans : List ℕ → List ℕ → List ℕ → Cursor → ℕ → ValueRead → Type 0
-FrameMeans s b a c out (value.Is q m) = Went 1 s b a c m out q keyframeEntry (λ f. framesBytes (length s) (f ∷ []))
-FrameMeans s b a c out (value.Refused r q) = run s c keyframeEntry ≡ refused r q
+abbrev pub EntryMeans : List ℕ → List ℕ → List ℕ → Cursor → ℕ → EntryRead → Type 0
+EntryMeans s b a c out (entry.Is e end m) = EntryWent s b a c m out end e
+EntryMeans s b a c out (entry.Refused r q) = run s c keyframeEntry ≡ refused r q
+
+-- a value is an array, which ends at `end`; or the scalar x, which is written
+abbrev pub ValuePut : Bool → List ℕ → List ℕ → ℕ → ℕ → Float → ℕ → Type 0
+ValuePut true b a at end x q = (a ≡ b) × (q ≡ end)
+ValuePut false b a at end x q = Writes b at (valueForm .write (scalar (bits x))) a q
+
+-- a time is written at `out`, then a value and an easing: b becomes a
+pub record EntryPut (b a : List ℕ) (out end : ℕ) (e : entries.KeyframeEntry) (q : ℕ) : Type 0 where
+  pub timed : List ℕ
+  pub valueAt : ℕ
+  pub valued : List ℕ
+  pub easingAt : ℕ
+  pub time : Writes b out (timeForm .write (keyTimeOf (e .percent) (e .time))) timed valueAt
+  pub value : ValuePut (e .array) timed valued valueAt end (e .value) easingAt
+  pub easing : (n : ℕ) → Writes valued easingAt (opt (easingForm n) .write (optEasingOf (e .easing))) a q
 
 -- ---- a track
 

@@ -4,16 +4,16 @@
 ghost use mathlib.Core.Path.{_≡_};
 ghost use mathlib.Core.Bool.{_&&_};
 ghost use mathlib.Core.List.{List};
-ghost use Prim.Native.Nat.{ℕ, _<_, _^_};
+ghost use Prim.Native.Nat.{ℕ, _+_, _<_, _^_};
 ghost use Rattle.token.specs.Means.{Small, writtenOf};
-ghost use Rattle.encode.specs.Of.{PlainTime, PlainOptEasing};
+ghost use Rattle.encode.specs.Of.{PlainEntry};
 ghost use Rattle.grammar.specs.Grammar.{parseKeyframeTime, trackLoop, trackFrame, trackStep, parseKeyframes};
 ghost use Rattle.cursor.specs.Means.{Ready, Took};
 ghost use Rattle.arrays.specs.Means.{Room};
 ghost use Rattle.nodes.specs.Means.{LeafMeans};
-ghost use Rattle.keyframes.specs.Means.{Inner, percentSign, keyOf, Stores, TimeMeans, keyMark, EasingMeans, Framed, FrameMeans, separator, StepMeans, Standing, TrackMeans, BlockMeans};
-use arrays::ValueRead;
-use ast::KeyframeTime;
+ghost use Rattle.keyframes.specs.Means.{Inner, percentSign, keyOf, Stores, TimeMeans, keyMark, EasingMeans, ValuePut, EntryPut, EntryMeans, separator, StepMeans, Standing, TrackMeans, BlockMeans};
+use arrays::HeldRead;
+use ast::KeyframeEntry;
 use ast::OptEasing;
 use ast::OptLoop;
 use cursor::Cursor;
@@ -27,8 +27,9 @@ use token::Number;
 use values::EasingRead;
 use values::LoopRead;
 
+// Whether a time is a percent, the time that is stored, and the cursor.
 pub enum TimeRead {
-    Is(KeyframeTime, Cursor),
+    Is(bool, f32, Cursor),
     Refused(Refusal, usize),
 }
 
@@ -37,11 +38,10 @@ pub enum EasingIf {
     Refused(Refusal, usize),
 }
 
-// A keyframe entry but for its value, which stands in the sheet as soon as it is read, since an array has no bound. One at a time is
-// held, by value: the stored time, an f32 in its enum, and the easing.
-pub struct Entry {
-    pub time: KeyframeTime,
-    pub easing: OptEasing,
+// An entry, the place behind its array's bytes, and the cursor. An array stands in the sheet as soon as it is read.
+pub enum EntryRead {
+    Is(KeyframeEntry, usize, Cursor),
+    Refused(Refusal, usize),
 }
 
 // The track so far: how many frames, the place behind the last one's bytes, the loop mode, and the cursor.
@@ -91,14 +91,14 @@ fn all(a: bool, b: bool) -> bool
 }
 
 // The time that is stored for a key.
-fn time_of(percent: bool, negative: bool, n: Number) -> KeyframeTime
+fn time_of(percent: bool, negative: bool, n: Number) -> f32
     requires { ⌜ Small n ⌝ }
-    ensures { λ r. ⌜ Stores (keyOf percent negative (writtenOf n)) r ⌝ }
+    ensures { λ r. ⌜ Stores (keyOf percent negative (writtenOf n)) percent r ⌝ }
 {
     if percent {
-        return KeyframeTime::Percent(number::percent(negative, n.digits));
+        return number::percent(negative, n.digits);
     }
-    KeyframeTime::Seconds(number::decimal(negative, n.digits, n.places))
+    number::decimal(negative, n.digits, n.places)
 }
 
 pub fn parse_keyframe_time(text: &[u8], c: Cursor) -> TimeRead
@@ -114,7 +114,7 @@ pub fn parse_keyframe_time(text: &[u8], c: Cursor) -> TimeRead
                 let head = next.head;
                 return TimeRead::Refused(Refusal::Malformed, head.start);
             }
-            TimeRead::Is(time_of(sign.taken, negative, n), next)
+            TimeRead::Is(sign.taken, time_of(sign.taken, negative, n), next)
         }
     }
 }
@@ -128,9 +128,9 @@ fn key_mark(text: &[u8], c: Cursor) -> TimeRead
 {
     match parse_keyframe_time(text, c) {
         TimeRead::Refused(r, p) => TimeRead::Refused(r, p),
-        TimeRead::Is(t, m) => match cursor::mark(text, m, b':') {
+        TimeRead::Is(percent, time, m) => match cursor::mark(text, m, b':') {
             MarkRead::Missing(p) => TimeRead::Refused(Refusal::Missing, p),
-            MarkRead::Is(n) => TimeRead::Is(t, n),
+            MarkRead::Is(n) => TimeRead::Is(percent, time, n),
         },
     }
 }
@@ -149,35 +149,47 @@ fn keyframe_easing(text: &[u8], c: Cursor) -> EasingIf
     }
 }
 
-// Writes an entry around its value, which ends at `end`: the time in front of it, at `out`, and the easing behind it.
-fn put_entry(sheet: &mut [u8], out: usize, end: usize, e: Entry) -> usize
-    requires { ⌜ (out < 2 ^ 31) × (end < 2 ^ 31) × PlainTime (e .time) × PlainOptEasing (e .easing) ⌝ }
-    ensures { λ r. ⌜ Framed (now (sheet .entry)) (now (sheet .exit)) out end e r ⌝ }
-{
-    let time = e.time;
-    let easing = e.easing;
-    encode::put_time(sheet, out, time);
-    encode::put_opt_easing(sheet, end, easing)
-}
-
-// A frame, written at `out`: a time, of 5 bytes, a value and an easing.
-fn keyframe_entry(text: &[u8], sheet: &mut [u8], c: Cursor, out: usize) -> ValueRead
+// A frame's entry, by value. If its value is an array, that is written 5 bytes behind `out`, where the entry's time will stand.
+fn keyframe_entry(text: &[u8], sheet: &mut [u8], c: Cursor, out: usize) -> EntryRead
     requires { ⌜ Ready (now text) c × Inner 2097152 (now text) out ⌝ }
-    ensures { λ r. ⌜ FrameMeans (now (text .entry)) (now (sheet .entry)) (now (sheet .exit)) c out r ⌝ }
+    ensures { λ r. ⌜ EntryMeans (now (text .entry)) (now (sheet .entry)) (now (sheet .exit)) c out r ⌝ }
 {
     match key_mark(text, c) {
-        TimeRead::Refused(r, p) => ValueRead::Refused(r, p),
-        TimeRead::Is(time, m) => match arrays::parse_value(text, sheet, m, out + 5) {
-            ValueRead::Refused(r, p) => ValueRead::Refused(r, p),
-            ValueRead::Is(end, n) => match keyframe_easing(text, n) {
-                EasingIf::Refused(r, p) => ValueRead::Refused(r, p),
-                EasingIf::Is(easing, u) => ValueRead::Is(
-                    put_entry(sheet, out, end, Entry { time, easing }),
+        TimeRead::Refused(r, p) => EntryRead::Refused(r, p),
+        TimeRead::Is(percent, time, m) => match arrays::read_value(text, sheet, m, out + 5) {
+            HeldRead::Refused(r, p) => EntryRead::Refused(r, p),
+            HeldRead::Is(value, end, n) => match keyframe_easing(text, n) {
+                EasingIf::Refused(r, p) => EntryRead::Refused(r, p),
+                EasingIf::Is(easing, u) => EntryRead::Is(
+                    ast::entry_of(percent, time, value, easing),
+                    end,
                     u,
                 ),
             },
         },
     }
+}
+
+// Writes an entry's value, if it is a scalar; an array is written already, and ends at `end`.
+fn put_value(sheet: &mut [u8], at: usize, end: usize, e: KeyframeEntry) -> usize
+    requires { ⌜ (at < 2 ^ 32) × PlainEntry e ⌝ }
+    ensures { λ r. ⌜ ValuePut (e .array) (now (sheet .entry)) (now (sheet .exit)) at end (e .value) r ⌝ }
+{
+    if e.array {
+        return end;
+    }
+    encode::put_scalar(sheet, at, e.value)
+}
+
+// Writes an entry: its time, its value and its easing.
+fn put_entry(sheet: &mut [u8], out: usize, end: usize, e: KeyframeEntry) -> usize
+    requires { ⌜ (out + 10 < 2 ^ 31) × (end < 2 ^ 31) × PlainEntry e ⌝ }
+    ensures { λ r. ⌜ EntryPut (now (sheet .entry)) (now (sheet .exit)) out end e r ⌝ }
+{
+    let easing = e.easing;
+    let value_at = encode::put_time(sheet, out, e.percent, e.time);
+    let easing_at = put_value(sheet, value_at, end, e);
+    encode::put_opt_easing(sheet, easing_at, easing)
 }
 
 // ---- a track
@@ -226,8 +238,9 @@ fn track_frame(text: &[u8], sheet: &mut [u8], t: Track) -> TrackNext
     let c = t.next;
     let loop_mode = t.loop_mode;
     match keyframe_entry(text, sheet, c, t.end) {
-        ValueRead::Refused(r, p) => TrackNext::Refused(r, p),
-        ValueRead::Is(end, m) => {
+        EntryRead::Refused(r, p) => TrackNext::Refused(r, p),
+        EntryRead::Is(entry, behind, m) => {
+            let end = put_entry(sheet, t.end, behind, entry);
             let ate = separator(text, m);
             let next = ate.next;
             let longer = Track {

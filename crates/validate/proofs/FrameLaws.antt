@@ -13,8 +13,8 @@ use Rattle.text.specs.Words.{orElse}
 use Rattle.number.specs.Number.{f32}
 use Rattle.number.specs.Time.{near, anyNear}
 use Rattle.codec.specs.Codec.{Form, andThen, big, each, eachIn, opt}
-use Rattle.ast.specs.Tree.{Span, KeyframeEntry, KeyframeSpec, KeyframeTime, LoopSpec}
-use Rattle.ast.specs.View.{entryView, keyframesView}
+use Rattle.ast.specs.Tree.{Span, KeyframeEntry, KeyframeSpec, KeyframeTime, percent, seconds, LoopSpec}
+use Rattle.ast.specs.View.{timeView, entryView, keyframesView}
 use Rattle.ast.specs.declared.KeyframeEntry as entries
 use Rattle.ast.specs.declared.KeyframeSpec as tracks
 use Rattle.sheet.specs.Sheet.{spanForm, entryForm, toKeyframes, loopForm}
@@ -24,7 +24,8 @@ use Rattle.error.specs.declared.Refusal.the-variants.{UnknownEasing, DuplicateT
 use Rattle.codec.proofs.Laws.{inverse, each-lawful}
 use Rattle.sheet.proofs.Laws.{entryL}
 use Rattle.validate.specs.Rules.{given, unknownEasing, first, timeOf, validateFrames, validateKeyframes}
-use Rattle.validate.specs.Means.{Stands, FramesAt}
+use Rattle.validate.specs.Means.{Tells, Stands, FramesTell, FramesAt}
+use Rattle.validate.specs.declared.faults.Fault.the-variants.{None, Is}
 
 pub none≢some : {A B : Type 0} {a : A} → Prim.Path (Option A) none (some a) → B
 none≢some e = let z : _≡_ {A = ℕ} 0 1 = cc in absurd (omega arith)
@@ -79,6 +80,15 @@ Entry = KeyframeEntry KeyframeTime
 
 abbrev pub stamp : Entry → Float
 stamp x = f32 (timeOf (x .time))
+
+-- percent and seconds share one scale
+time-is : (x : KeyframeTime) → timeView x .1 ≡ f32 (timeOf x)
+time-is (percent x) = refl
+time-is (seconds x) = refl
+
+-- what is seen of an entry has its time
+stamp-is : (x : Entry) {v : entries.KeyframeEntry} → entryView x ≡ v → stamp x ≡ v .time
+stamp-is x e = sym (time-is (x .time)) ∙ ap (λ v. v .time) e
 
 abbrev pub stamps : List Entry → List Float
 stamps [] = []
@@ -176,6 +186,81 @@ module _ (t s : List ℕ) (n : ℕ) (fs : List Entry) where
         let k : take (i + 1) fs ≡ take i fs ++ w .value ∷ [] = take-add i 1 fs ∙ ap (λ (l : List Entry). take i fs ++ take 1 l) (w .list) in
         ap (λ (l : List Float). validateFrames t l (drop (i + 1) fs)) (ap stamps k ∙ stamps-append (take i fs) (w .value ∷ []))
         ∙ sym (rw (e, q) at head) ∙ g
+
+-- ---- what the two loops keep, whichever frames stand there
+
+module _ (t s : List ℕ) (from count : ℕ) where
+  abbrev Frames : List Entry → Type 0
+  Frames fs = Stands (each (entryForm (length t)) count) s from fs
+
+  -- the frames before i are passed, and the one at i stands at a
+  pub record Going (i a : ℕ) : Type 0 where
+    pub is : (fs : List Entry) → Frames fs → Left (entryForm (length t)) s count fs i a × Passed t s count fs i
+
+  -- of the frames before i the first j were tried, and the one at j stands at b
+  pub record Trying (time : Float) (i j b : ℕ) : Type 0 where
+    pub is : (fs : List Entry) → Frames fs → Left (entryForm (length t)) s count fs j b × Tried t s count fs time i j
+
+  pub going-start : Going 0 from
+  going-start = record { is = λ fs h. (left-start (entryForm (length t)) s count fs from h, refl) }
+
+  pub trying-start : (time : Float) (i : ℕ) → Trying time i 0 from
+  trying-start time i = record { is = λ fs h. (left-start (entryForm (length t)) s count fs from h, tried-start t s count fs time i) }
+
+-- v is read at a, up to b
+abbrev Frame : List ℕ → List ℕ → ℕ → entries.KeyframeEntry → ℕ → Type 0
+Frame t s a v b = Reads (entryForm (length t)) entryView s a v b
+
+module _ {t s : List ℕ} {from count : ℕ} where
+  -- the frame at i is e
+  module _ {i a b : ℕ} {e : entries.KeyframeEntry} (g : Going t s from count i a) (l : i < count) (r : Frame t s a e b) where
+    abbrev at-i : (fs : List Entry) → Frames t s from count fs → Next (entryForm (length t)) s count fs entryView e i b
+    at-i fs h = left-next (entryForm (length t)) s count fs i a b l (g .is fs h .0) r
+
+    -- what is told of its time is told of the definition's
+    timed : (fs : List Entry) (h : Frames t s from count fs) {q : Bool} → anyNear (e .time) (stamps (take i fs)) ≡ q
+        → anyNear (stamp (at-i fs h .value)) (stamps (take i fs)) ≡ q
+    timed fs h z = ap (λ y. anyNear y (stamps (take i fs))) (stamp-is (at-i fs h .value) (at-i fs h .seen)) ∙ z
+
+    -- the frame at j < i is v
+    module _ {j c d : ℕ} {v : entries.KeyframeEntry} (y : Trying t s from count (e .time) i j c) (k : j < i) (w : Frame t s c v d) where
+      abbrev at-j : (fs : List Entry) → Frames t s from count fs → Next (entryForm (length t)) s count fs entryView v j d
+      at-j fs h = left-next (entryForm (length t)) s count fs j c d (omega arith) (y .is fs h .0) w
+
+      tested : (fs : List Entry) (h : Frames t s from count fs) {q : Bool} → near (v .time) (e .time) ≡ q
+          → near (stamp (at-j fs h .value)) (e .time) ≡ q
+      tested fs h z = ap (λ x. near x (e .time)) (stamp-is (at-j fs h .value) (at-j fs h .seen)) ∙ z
+
+      pub trying-next : near (v .time) (e .time) ≡ false → Trying t s from count (e .time) i (j + 1) d
+      trying-next z = record {
+        is = λ fs h. (at-j fs h .on, tried-next t s count fs (e .time) i j k (at-j fs h) (tested fs h z) (y .is fs h .1));
+      }
+
+      pub duplicate-found : near (v .time) (e .time) ≡ true → FramesTell t s from count (Is DuplicateTime)
+      duplicate-found z fs h =
+          passed-near t s count fs i (at-i fs h)
+          (timed fs h (tried-hit t s count fs (e .time) i j k (at-j fs h) (tested fs h z) (y .is fs h .1))) (g .is fs h .1)
+
+    -- all before i were tried
+    module _ {j c : ℕ} (y : Trying t s from count (e .time) i j c) (k : i ≤ j) {q : Bool}
+        (u : Tells entryView (λ x. given (unknownEasing t) (x .easing)) e q) where
+      apart : (fs : List Entry) (h : Frames t s from count fs) → anyNear (stamp (at-i fs h .value)) (stamps (take i fs)) ≡ false
+      apart fs h = timed fs h (tried-end t s count fs (e .time) i j k (y .is fs h .1))
+
+      pub easing-unknown : q ≡ true → FramesTell t s from count (Is UnknownEasing)
+      easing-unknown z fs h =
+          passed-bad t s count fs i (at-i fs h) (apart fs h) (sym (u (at-i fs h .value) (at-i fs h .seen)) ∙ z) (g .is fs h .1)
+
+      pub going-next : q ≡ false → Going t s from count (i + 1) b
+      going-next z = record {
+        is = λ fs h. (
+          at-i fs h .on,
+          passed-next t s count fs i (at-i fs h) (apart fs h) (sym (u (at-i fs h .value) (at-i fs h .seen)) ∙ z) (g .is fs h .1),
+        );
+      }
+
+  pub going-done : {i a : ℕ} → Going t s from count i a → count ≤ i → FramesTell t s from count None
+  going-done {i} {a} g l fs h = passed-end t s count fs i a l (g .is fs h .0) (g .is fs h .1)
 
 -- ---- a track
 

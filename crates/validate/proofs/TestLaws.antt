@@ -12,19 +12,17 @@ use Rattle.text.specs.Bytes.{part}
 use Rattle.number.specs.Number.{f32}
 use Rattle.easing.specs.Names.{isEasing}
 use Rattle.ast.specs.Tree as tree
-use Rattle.ast.specs.View.{valueView, countOf, easingView, timeView, optFloatView, optRangeView, optEasingView, patternView, optPatternView}
+use Rattle.ast.specs.View.{valueView, countOf, easingView, optFloatView, optRangeView, optEasingView, patternView, optPatternView}
 use Rattle.ast.specs.declared.ValueExpr as values
 use Rattle.ast.specs.declared.EasingSpec as easings
 use Rattle.ast.specs.declared.EasingSpec.the-variants as easing
-use Rattle.ast.specs.declared.KeyframeTime as times
-use Rattle.ast.specs.declared.KeyframeTime.the-variants as time
 use Rattle.ast.specs.declared.StaggerPatternSpec as patterns
 use Rattle.ast.specs.declared.StaggerPatternSpec.the-variants as pattern
 use Rattle.ast.specs.declared.OptPattern.the-variants as optPattern
 use Rattle.ast.specs.declared.OptF32.the-variants as optFloat
 use Rattle.ast.specs.declared.OptRange.the-variants as optRange
 use Rattle.ast.specs.declared.OptEasing.the-variants as optEasing
-use Rattle.validate.specs.Rules.{nought, one, negative, notPositive, outsideUnit, given, unknownEasing, mismatched, timeOf, emptyGrid}
+use Rattle.validate.specs.Rules.{nought, one, negative, notPositive, outsideUnit, given, unknownEasing, mismatched, emptyGrid}
 use Rattle.validate.specs.Means.{Tells}
 
 -- ---- numbers
@@ -92,19 +90,6 @@ pub mismatch-tells : {v w : values.ValueExpr} (a b : tree.ValueExpr) → valueVi
     → valueView b ≡ w
     → not (eqb (countOf v) (countOf w)) ≡ mismatched a b
 mismatch-tells a b e q = sym (λ i. not (eqb ((count-is a ∙ ap countOf e) i) ((count-is b ∙ ap countOf q) i)))
-
--- ---- times
-
-abbrev stored : times.KeyframeTime → Float
-stored (time.Percent x) = x
-stored (time.Seconds x) = x
-
-stored-is : (t : tree.KeyframeTime) → stored (timeView t) ≡ f32 (timeOf t)
-stored-is (tree.percent x) = refl
-stored-is (tree.seconds x) = refl
-
-pub time-tells : (x : times.KeyframeTime) → Tells timeView (λ t. f32 (timeOf t)) x (stored x)
-time-tells x t h = sym (ap stored h) ∙ stored-is t
 
 -- ---- easings
 

@@ -1,25 +1,31 @@
 // A track's rules: enough frames, no time twice, easings of known names.
-ghost use Rattle.number.specs.Number.{f32};
-ghost use Rattle.ast.specs.View.{timeView};
-ghost use Rattle.validate.specs.Rules.{timeOf};
+ghost use mathlib.Core.Path.{_≡_};
+ghost use Rattle.number.specs.Time.{near};
+ghost use Rattle.ast.specs.View.{entryView};
+ghost use Rattle.validate.specs.Rules.{given, unknownEasing};
 ghost use Rattle.validate.specs.Means.{Tells, FramesTell, FramesAt, TrackTells};
 use crate::faults::Fault;
 use crate::faults::some_unknown;
+use ast::KeyframeEntry;
 use ast::KeyframeSpec;
-use ast::KeyframeTime;
 use decode::fields::take_field;
 use decode::fields::take_span;
 use decode::nodes::take_entry;
 use error::Refusal;
 
-// Percent and seconds share one scale.
-fn time_of(time: KeyframeTime) -> f32
-    ensures { λ r. ⌜ Tells timeView (λ t. f32 (timeOf t)) time r ⌝ }
+// Whether an entry's time is a duplicate of an earlier one. Percent and seconds share one scale.
+fn is_duplicate(earlier: f32, entry: KeyframeEntry) -> bool
+    ensures { λ r. ⌜ r ≡ near earlier (entry .time) ⌝ }
 {
-    match time {
-        KeyframeTime::Percent(x) => x,
-        KeyframeTime::Seconds(x) => x,
-    }
+    number::duplicate(earlier, entry.time)
+}
+
+// Whether an entry's easing has no known name.
+fn has_unknown_easing(text: &[u8], entry: KeyframeEntry) -> bool
+    ensures { λ r. ⌜ Tells entryView (λ x. given (unknownEasing (now (text .entry))) (x .easing)) entry r ⌝ }
+{
+    let easing = entry.easing;
+    some_unknown(text, easing)
 }
 
 // The first fault of so many frames from a place on. Each frame's time is tried against those of the frames before it, which
@@ -34,23 +40,19 @@ fn validate_frames(text: &[u8], s: &[u8], first: usize, count: usize) -> Fault
     'frames: while i < count {
         let frame = take_entry(s, at, n);
         let entry = frame.v;
-        let stored = entry.time;
-        let time = time_of(stored);
         let mut j: usize = 0;
         let mut back = first;
         while j < i {
             let earlier = take_entry(s, back, n);
-            let before = earlier.v;
-            let existing = before.time;
-            if number::duplicate(time_of(existing), time) {
+            let existing = earlier.v;
+            if is_duplicate(existing.time, entry) {
                 fault = Fault::Is(Refusal::DuplicateTime);
                 break 'frames;
             }
             back = earlier.next;
             j += 1;
         }
-        let easing = entry.easing;
-        if some_unknown(text, easing) {
+        if has_unknown_easing(text, entry) {
             fault = Fault::Is(Refusal::UnknownEasing);
             break 'frames;
         }

@@ -11,11 +11,13 @@ parse-keyframe-time-requires c κs = search needs
 enum-known-r : tie.Need-enum-known-r
 enum-known-r c = search needs
 
-enum-known-t : tie.Need-enum-known-t
-enum-known-t c = search needs
+enum-known-percent : tie.Need-enum-known-percent
+enum-known-percent c = search needs
 
 mark-requires : tie.Need-mark-requires
-mark-requires c κs = ((rw (c .before .t .given .1) at (c .before .before .before .parse-keyframe-time .ensures)) .took .ready, omega arith)
+mark-requires c κs =
+    let at-parse-keyframe-time = c .before .before .before in
+    ((rw (c .before .percent .given .1) at (at-parse-keyframe-time .parse-keyframe-time .ensures)) .took .ready, omega arith)
 
 enum-known-p : tie.Need-enum-known-p
 enum-known-p c = search needs
@@ -32,17 +34,17 @@ returns c =
 returns-2 : tie.Need-returns-2
 returns-2 c =
     let at-mark = c .before .before .before in
-    let at-t = at-mark .before .before in
-    let at-parse-keyframe-time = at-t .before .before in
-    no-colon _ _ _ _ (rw (at-t .t .given .1) at (at-parse-keyframe-time .parse-keyframe-time .ensures)) _
+    let at-percent = at-mark .before .before in
+    let at-parse-keyframe-time = at-percent .before .before in
+    no-colon (rw (at-percent .percent .given .1) at (at-parse-keyframe-time .parse-keyframe-time .ensures)) _
     (rw (c .before .p .given .1) at (at-mark .mark .ensures))
 
 returns-3 : tie.Need-returns-3
 returns-3 c =
     let at-mark = c .before .before .before in
-    let at-t = at-mark .before .before in
-    let at-parse-keyframe-time = at-t .before .before in
-    took-key _ _ _ _ (rw (at-t .t .given .1) at (at-parse-keyframe-time .parse-keyframe-time .ensures)) _
+    let at-percent = at-mark .before .before in
+    let at-parse-keyframe-time = at-percent .before .before in
+    took-key (rw (at-percent .percent .given .1) at (at-parse-keyframe-time .parse-keyframe-time .ensures))
     (rw (c .before .n .given .1) at (at-mark .mark .ensures))
 
 pub key-mark-spec : {M : Type 1} → statement M
@@ -51,7 +53,7 @@ key-mark-spec =
     (tie.spec
     parse-keyframe-time-requires
     enum-known-r
-    enum-known-t
+    enum-known-percent
     mark-requires
     enum-known-p
     enum-known-n

@@ -1,8 +1,7 @@
--- `keyframes::keyframe_entry` meets its contract. Assumes nothing.
+-- `keyframes::keyframe_entry` meets its contract: a key, a value, an easing. Assumes nothing.
 use native.Mathlib.Omega.{arith}
-use Rattle.keyframes.proofs.TimeLaws.{frame-no-easing, frame-no-key, frame-no-value, frame-went}
-use mathlib.Core.Path.{refl}
 use borrow.Author.Needs.{needs}
+use Rattle.keyframes.proofs.EntryLaws.{entry-went, frame-no-easing, frame-no-key, frame-no-value}
 use Rattle.keyframes.proofs.keyframe_entry.Statement.{statement}
 use Rattle.keyframes.proofs.keyframe_entry.Tie as tie
 
@@ -12,32 +11,32 @@ key-mark-requires c κs = search needs
 enum-known-r : tie.Need-enum-known-r
 enum-known-r c = search needs
 
-enum-known-time : tie.Need-enum-known-time
-enum-known-time c = search needs
+enum-known-percent : tie.Need-enum-known-percent
+enum-known-percent c = search needs
 
-add-parse-value : tie.Need-add-parse-value
-add-parse-value c = search needs
+add-read-value : tie.Need-add-read-value
+add-read-value c = search needs
 
-parse-value-requires : tie.Need-parse-value-requires
-parse-value-requires c κs =
-    let at-time = c .before .before in
-    let at-key-mark = at-time .before .before in
+read-value-requires : tie.Need-read-value-requires
+read-value-requires c κs =
+    let at-percent = c .before .before in
+    let at-key-mark = at-percent .before .before in
     let pre = at-key-mark .before .before .before .pre in (
-      (rw (at-time .time .given .1) at (at-key-mark .key-mark .ensures)) .took .ready,
+      (rw (at-percent .percent .given .1) at (at-key-mark .key-mark .ensures)) .took .ready,
       record { short = pre .1 .short; low = omega (arith, pre .1 .low) },
     )
 
 enum-known-r-2 : tie.Need-enum-known-r-2
 enum-known-r-2 c = search needs
 
-enum-known-end : tie.Need-enum-known-end
-enum-known-end c = search needs
+enum-known-value : tie.Need-enum-known-value
+enum-known-value c = search needs
 
 keyframe-easing-requires : tie.Need-keyframe-easing-requires
 keyframe-easing-requires c κs =
-    let at-end = c .before in
-    let at-parse-value = at-end .before .before .before .before in
-    (rw (at-end .end .given .1) at (at-parse-value .parse-value .ensures)) .took .ready
+    let at-value = c .before in
+    let at-read-value = at-value .before .before .before .before in
+    (rw (at-value .value .given .1) at (at-read-value .read-value .ensures)) .took .ready
 
 enum-known-r-3 : tie.Need-enum-known-r-3
 enum-known-r-3 c = search needs
@@ -45,25 +44,14 @@ enum-known-r-3 c = search needs
 enum-known-easing : tie.Need-enum-known-easing
 enum-known-easing c = search needs
 
-put-entry-requires : tie.Need-put-entry-requires
-put-entry-requires c κs =
-    let at-easing = c .before .before in
-    let at-keyframe-easing = at-easing .before .before in
-    let at-end = at-keyframe-easing .before .before in
-    let at-parse-value = at-end .before .before .before .before in
-    let at-time = at-parse-value .before .before .before in
-    let at-key-mark = at-time .before .before in
-    let pre = at-key-mark .before .before .before .pre in
-    let t = rw (at-time .time .given .1) at (at-key-mark .key-mark .ensures) in
-    let w = rw (at-end .end .given .1) at (at-parse-value .parse-value .ensures) in
-    let e = rw (at-easing .easing .given .1) at (at-keyframe-easing .keyframe-easing .ensures) in
-    (omega (arith, pre .1 .low), omega (arith, pre .1 .low, pre .1 .short, w .paid, w .took .ready .high), t .stores .plain, e .1)
+entry-of-requires : tie.Need-entry-of-requires
+entry-of-requires c κs = search needs
 
 returns : tie.Need-returns
 returns c =
     let at-key-mark = c .before .before .before in
     let args = at-key-mark .before .before .before .args in
-    frame-no-key (args .text .now) (args .c) _ _ (rw (c .before .r .given .1) at (at-key-mark .key-mark .ensures))
+    frame-no-key (args .text .now) (args .c) (rw (c .before .r .given .1) at (at-key-mark .key-mark .ensures))
 
 same-length : tie.Need-same-length
 same-length c = search needs
@@ -71,11 +59,11 @@ same-length c = search needs
 returns-2 : tie.Need-returns-2
 returns-2 c =
     let at-r2 = c .before in
-    let at-parse-value = at-r2 .before .before .before .before in
-    let at-time = at-parse-value .before .before .before in
-    let at-key-mark = at-time .before .before in
-    frame-no-value _ _ _ _ (rw (at-time .time .given .1) at (at-key-mark .key-mark .ensures)) _ _
-    (rw (at-r2 .r2 .given .1) at (at-parse-value .parse-value .ensures))
+    let at-read-value = at-r2 .before .before .before .before in
+    let at-percent = at-read-value .before .before .before in
+    let at-key-mark = at-percent .before .before in
+    frame-no-value (rw (at-percent .percent .given .1) at (at-key-mark .key-mark .ensures))
+    (rw (at-r2 .r2 .given .1) at (at-read-value .read-value .ensures))
 
 same-length-2 : tie.Need-same-length-2
 same-length-2 c = search needs
@@ -83,15 +71,15 @@ same-length-2 c = search needs
 returns-3 : tie.Need-returns-3
 returns-3 c =
     let at-keyframe-easing = c .before .before .before in
-    let at-end = at-keyframe-easing .before .before in
-    let at-parse-value = at-end .before .before .before .before in
-    let at-time = at-parse-value .before .before .before in
-    let at-key-mark = at-time .before .before in
-    frame-no-easing _ _ _ _
-    (rw (at-time .time .given .1) at (at-key-mark .key-mark .ensures))
-    _ _ _ _ _
-    (rw (at-end .end .given .1) at (at-parse-value .parse-value .ensures))
-    _ _
+    let at-value = at-keyframe-easing .before .before in
+    let at-read-value = at-value .before .before .before .before in
+    let at-percent = at-read-value .before .before .before in
+    let at-key-mark = at-percent .before .before in
+    let start = at-key-mark .before .before .before in
+    frame-no-easing
+    (rw (at-percent .percent .given .1) at (at-key-mark .key-mark .ensures))
+    (start .args .out)
+    (rw (at-value .value .given .1) at (at-read-value .read-value .ensures))
     (rw (c .before .r3 .given .1) at (at-keyframe-easing .keyframe-easing .ensures))
 
 same-length-3 : tie.Need-same-length-3
@@ -99,28 +87,17 @@ same-length-3 c = search needs
 
 returns-4 : tie.Need-returns-4
 returns-4 c =
-    let at-put-entry = c .before .before in
-    let at-easing = at-put-entry .before .before .before in
+    let at-easing = c .before .before in
     let at-keyframe-easing = at-easing .before .before in
-    let at-end = at-keyframe-easing .before .before in
-    let at-parse-value = at-end .before .before .before .before in
-    let at-time = at-parse-value .before .before .before in
-    let at-key-mark = at-time .before .before in
-    let args = at-key-mark .before .before .before .args in
-    let t = rw (at-time .time .given .1) at (at-key-mark .key-mark .ensures) in
-    let w = rw (at-end .end .given .1) at (at-parse-value .parse-value .ensures) in
+    let at-value = at-keyframe-easing .before .before in
+    let at-read-value = at-value .before .before .before .before in
+    let at-percent = at-read-value .before .before .before in
+    let at-key-mark = at-percent .before .before in
+    let start = at-key-mark .before .before .before in
     let e = rw (at-easing .easing .given .1) at (at-keyframe-easing .keyframe-easing .ensures) in
-    frame-went
-    (args .text .now)
-    (args .c)
-    _ _ t
-    (args .sheet .now)
-    _ _ _ _ w
-    (args .out)
-    refl _ _ refl
-    (e .0)
-    _ _
-    (at-put-entry .put-entry .ensures)
+    rw (c .entry-of .ensures)
+    (entry-went (rw (at-percent .percent .given .1) at (at-key-mark .key-mark .ensures)) (start .args .out)
+    (rw (at-value .value .given .1) at (at-read-value .read-value .ensures)) (e .0) (e .1))
 
 pub keyframe-entry-spec : {M : Type 1} → statement M
 keyframe-entry-spec =
@@ -128,15 +105,15 @@ keyframe-entry-spec =
     (tie.spec
     key-mark-requires
     enum-known-r
-    enum-known-time
-    add-parse-value
-    parse-value-requires
+    enum-known-percent
+    add-read-value
+    read-value-requires
     enum-known-r-2
-    enum-known-end
+    enum-known-value
     keyframe-easing-requires
     enum-known-r-3
     enum-known-easing
-    put-entry-requires
+    entry-of-requires
     returns
     same-length
     returns-2

@@ -58,7 +58,6 @@ returns-3 c =
     _
     (at-percent-sign .percent-sign .ensures)
     (sym (at-all .all .ensures) ∙ c .before .if1 .left)
-    _
     (c .time-of .ensures)
 
 pub parse-keyframe-time-spec : {M : Type 1} → statement M

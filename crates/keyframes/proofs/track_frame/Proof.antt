@@ -1,8 +1,9 @@
 -- `keyframes::track_frame` meets its contract. Assumes nothing.
 use mathlib.Core.Bool.{false, true}
 use native.Mathlib.Omega.{arith}
-use Rattle.keyframes.proofs.TrackLaws.{frame-refused, frame-step}
 use borrow.Author.Needs.{needs}
+use Rattle.keyframes.proofs.EntryLaws.{frame-went}
+use Rattle.keyframes.proofs.TrackLaws.{frame-refused, frame-step}
 use Rattle.keyframes.proofs.track_frame.Statement.{statement}
 use Rattle.keyframes.proofs.track_frame.Tie as tie
 
@@ -12,21 +13,32 @@ keyframe-entry-requires c κs = search needs
 enum-known-r : tie.Need-enum-known-r
 enum-known-r c = search needs
 
-enum-known-end : tie.Need-enum-known-end
-enum-known-end c = search needs
+enum-known-entry : tie.Need-enum-known-entry
+enum-known-entry c = search needs
+
+put-entry-requires : tie.Need-put-entry-requires
+put-entry-requires c κs =
+    let at-entry = c .before .before in
+    let at-keyframe-entry = at-entry .before .before .before .before in
+    let c10 = at-keyframe-entry .before .before .before .before in
+    let pre = c10 .before .pre in
+    let w = rw (at-entry .entry .given .1) at (at-keyframe-entry .keyframe-entry .ensures) in
+    (omega (arith, pre .inner .low), omega (arith, pre .inner .low, pre .inner .short, w .paid, w .took .ready .high), w .plain)
 
 separator-requires : tie.Need-separator-requires
 separator-requires c κs =
-    let at-end = c .before in
-    let at-keyframe-entry = at-end .before .before .before .before in
-    (rw (at-end .end .given .1) at (at-keyframe-entry .keyframe-entry .ensures)) .took .ready
+    let c4 = c .before .before .before .before in
+    let at-entry = c4 .before in
+    let at-keyframe-entry = at-entry .before .before .before .before in
+    (rw (at-entry .entry .given .1) at (at-keyframe-entry .keyframe-entry .ensures)) .took .ready
 
-add-t17 : tie.Need-add-t17
-add-t17 c =
+add-t21 : tie.Need-add-t21
+add-t21 c =
     let c4 = c .before .before .before .before in
     let c8 = c4 .before .before .before .before in
     let c12 = c8 .before .before .before .before in
-    let pre = c12 .before .pre in
+    let c16 = c12 .before .before .before .before in
+    let pre = c16 .before .pre in
     omega (arith, pre .few, pre .inner .low)
 
 same-length : tie.Need-same-length
@@ -35,16 +47,17 @@ same-length c = search needs
 returns : tie.Need-returns
 returns c =
     let at-separator = c .before .before .before in
-    let at-end = at-separator .before .before in
-    let at-keyframe-entry = at-end .before .before .before .before in
-    let c13 = at-keyframe-entry .before .before .before .before in
-    let args = c13 .before .args in
+    let at-put-entry = at-separator .before .before .before in
+    let at-entry = at-put-entry .before .before .before in
+    let at-keyframe-entry = at-entry .before .before .before .before in
+    let c17 = at-keyframe-entry .before .before .before .before in
+    let args = c17 .before .args in
     frame-step
     (args .text .now)
     (args .t)
     (args .sheet .now)
     _ _ _ _
-    (rw (at-end .end .given .1) at (at-keyframe-entry .keyframe-entry .ensures))
+    (frame-went (rw (at-entry .entry .given .1) at (at-keyframe-entry .keyframe-entry .ensures)) (at-put-entry .put-entry .ensures))
     _
     (at-separator .separator .ensures)
     1
@@ -69,16 +82,17 @@ same-length-3 c = search needs
 returns-3 : tie.Need-returns-3
 returns-3 c =
     let at-separator = c .before .before .before in
-    let at-end = at-separator .before .before in
-    let at-keyframe-entry = at-end .before .before .before .before in
-    let c13 = at-keyframe-entry .before .before .before .before in
-    let args = c13 .before .args in
+    let at-put-entry = at-separator .before .before .before in
+    let at-entry = at-put-entry .before .before .before in
+    let at-keyframe-entry = at-entry .before .before .before .before in
+    let c17 = at-keyframe-entry .before .before .before .before in
+    let args = c17 .before .args in
     frame-step
     (args .text .now)
     (args .t)
     (args .sheet .now)
     _ _ _ _
-    (rw (at-end .end .given .1) at (at-keyframe-entry .keyframe-entry .ensures))
+    (frame-went (rw (at-entry .entry .given .1) at (at-keyframe-entry .keyframe-entry .ensures)) (at-put-entry .put-entry .ensures))
     _
     (at-separator .separator .ensures)
     0
@@ -92,9 +106,10 @@ track-frame-spec =
     (tie.spec
     keyframe-entry-requires
     enum-known-r
-    enum-known-end
+    enum-known-entry
+    put-entry-requires
     separator-requires
-    add-t17
+    add-t21
     same-length
     returns
     same-length-2

@@ -1,5 +1,7 @@
 -- `decode::nodes::take_entry` meets its contract: one field after the other. Assumes nothing.
+use mathlib.Core.Path.{_∙_, sym}
 use borrow.Author.Needs.{needs}
+use Rattle.ast.specs.View.{entryOf}
 use Rattle.sheet.specs.Sheet.{ofEntry, toEntry}
 use Rattle.decode.proofs.ReadLaws.{_&_}
 use Rattle.decode.proofs.ReadLaws as laws
@@ -15,13 +17,17 @@ take-value-requires c κs = search needs
 take-opt-easing-requires : tie.Need-take-opt-easing-requires
 take-opt-easing-requires c κs = search needs
 
+entry-of-requires : tie.Need-entry-of-requires
+entry-of-requires c κs = search needs
+
 returns : tie.Need-returns
 returns c =
-    let at-take-time = c .before .before in
+    let at-take-value = c .before .before in
+    let at-take-time = at-take-value .before in
     laws.through toEntry ofEntry
-    (laws.seen (at-take-time .take-time .ensures & c .before .take-value .ensures & c .take-opt-easing .ensures)
-    (λ p e i. record { time = e i .0; value = e i .1 .0; easing = e i .1 .1 }))
+    (laws.seen (at-take-time .take-time .ensures & at-take-value .take-value .ensures & c .before .take-opt-easing .ensures)
+    (λ p e. (λ i. entryOf (e i .0 .0) (e i .0 .1) (e i .1 .0) (e i .1 .1)) ∙ sym (c .entry-of .ensures)))
 
 pub take-entry-spec : {M : Type 1} → statement M
 take-entry-spec =
-    tie.close (tie.spec take-time-requires take-value-requires take-opt-easing-requires returns)
+    tie.close (tie.spec take-time-requires take-value-requires take-opt-easing-requires entry-of-requires returns)

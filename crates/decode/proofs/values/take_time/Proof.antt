@@ -1,7 +1,7 @@
 -- `decode::values::take_time` meets its contract: one case a position. Assumes nothing.
+use mathlib.Core.Bool.{false, true}
 use native.Mathlib.Omega.{arith}
 use borrow.Author.Needs.{needs}
-use Rattle.ast.specs.declared.KeyframeTime.the-variants as time
 use Rattle.sheet.specs.Sheet.{splitTime, timeCases}
 use Rattle.decode.proofs.ReadLaws as laws
 use Rattle.decode.proofs.values.take_time.Statement.{statement}
@@ -18,7 +18,7 @@ returns c =
     let at-take-float = c .before .before in
     let at-take-byte = at-take-float .before in
     laws.chosen timeCases splitTime 0 (at-take-byte .take-byte .ensures .reads) (c .if1 .taken) (at-take-float .take-float .ensures)
-    (λ x e i. time.Percent (e i))
+    (λ x e i. (true, e i))
 
 returns-2 : tie.Need-returns-2
 returns-2 c =
@@ -28,7 +28,7 @@ returns-2 c =
     (at-take-byte .take-byte .ensures .reads)
     (omega (arith, at-take-byte .take-byte .ensures .small, c .if1 .left))
     (at-take-float .take-float .ensures)
-    (λ x e i. time.Seconds (e i))
+    (λ x e i. (false, e i))
 
 pub take-time-spec : {M : Type 1} → statement M
 take-time-spec = tie.close (tie.spec take-byte-requires take-float-requires returns returns-2)

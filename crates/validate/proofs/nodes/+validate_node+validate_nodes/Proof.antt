@@ -161,7 +161,7 @@ validate-nodes-validate-node-requires : (t : ℕ)
     validate-nodes-μ-loop
 validate-nodes-validate-node-requires t c κs =
     let start = c .before .before .before .before in
-    (omega (arith, start .pre .0, c .before .loop .inv), c .before .loop .inv .1)
+    (omega (arith, start .pre .0, c .before .loop .inv), omega (arith, start .pre .1, c .before .loop .inv .1))
 
 validate-nodes-enum-known-w : (t : ℕ)
     → validate-nodes-lts.Need-enum-known-w (nodes-calls t) (validate-nodes-at t) validate-nodes.Post validate-nodes-Inv-loop

@@ -1,0 +1,100 @@
+-- `arrays::read_value` meets its contract: behind a `[` an array, else a scalar. Assumes nothing.
+use borrow.Author.Needs.{needs}
+use Rattle.arrays.proofs.ArrayLaws.{array-held, mark-unseen, scalar-held, scalar-refused, value-refused}
+use Rattle.arrays.proofs.read_value.Statement.{statement}
+use Rattle.arrays.proofs.read_value.Tie as tie
+
+mark-requires : tie.Need-mark-requires
+mark-requires c κs = search needs
+
+enum-known-m : tie.Need-enum-known-m
+enum-known-m c = search needs
+
+array-value-requires : tie.Need-array-value-requires
+array-value-requires c κs =
+    let at-m = c .before .before in
+    let at-mark = at-m .before .before in
+    let start = at-mark .before .before .before in
+    ((rw (at-m .m .given .1) at (at-mark .mark .ensures)) .ready, start .pre .1)
+
+enum-known-r : tie.Need-enum-known-r
+enum-known-r c = search needs
+
+enum-known-n : tie.Need-enum-known-n
+enum-known-n c = search needs
+
+enum-told : tie.Need-enum-told
+enum-told c = search needs
+
+parse-float-requires : tie.Need-parse-float-requires
+parse-float-requires c κs = search needs
+
+enum-known-r-2 : tie.Need-enum-known-r-2
+enum-known-r-2 c = search needs
+
+enum-known-x : tie.Need-enum-known-x
+enum-known-x c = search needs
+
+same-length : tie.Need-same-length
+same-length c = search needs
+
+returns : tie.Need-returns
+returns c =
+    let at-r = c .before in
+    let at-array-value = at-r .before .before .before .before in
+    let at-m = at-array-value .before .before .before in
+    let at-mark = at-m .before .before in
+    value-refused (rw (at-m .m .given .1) at (at-mark .mark .ensures)) (rw (at-r .r .given .1) at (at-array-value .array-value .ensures))
+
+same-length-2 : tie.Need-same-length-2
+same-length-2 c = search needs
+
+returns-2 : tie.Need-returns-2
+returns-2 c =
+    let at-n = c .before in
+    let at-array-value = at-n .before .before .before .before in
+    let at-m = at-array-value .before .before .before in
+    let at-mark = at-m .before .before in
+    array-held (rw (at-m .m .given .1) at (at-mark .mark .ensures)) (rw (at-n .n .given .1) at (at-array-value .array-value .ensures))
+
+returns-3 : tie.Need-returns-3
+returns-3 c =
+    let at-parse-float = c .before .before .before in
+    let at-enum-told = at-parse-float .before in
+    let at-mark = at-enum-told .before .before in
+    let args = at-mark .before .before .before .args in
+    scalar-refused
+    (args .text .now)
+    (args .c)
+    (mark-unseen (args .text .now) (args .c) 91 _ (rw (at-enum-told .enum-told .given .1) at (at-mark .mark .ensures)))
+    (rw (c .before .r2 .given .1) at (at-parse-float .parse-float .ensures))
+
+returns-4 : tie.Need-returns-4
+returns-4 c =
+    let at-parse-float = c .before .before .before in
+    let at-enum-told = at-parse-float .before in
+    let at-mark = at-enum-told .before .before in
+    let args = at-mark .before .before .before .args in
+    let t = rw (c .before .x .given .1) at (at-parse-float .parse-float .ensures) in
+    scalar-held (args .text .now) (args .c)
+    (mark-unseen (args .text .now) (args .c) 91 _ (rw (at-enum-told .enum-told .given .1) at (at-mark .mark .ensures))) _ _ (t .0) (t .1)
+
+pub read-value-spec : {M : Type 1} → statement M
+read-value-spec =
+    tie.close
+    (tie.spec
+    mark-requires
+    enum-known-m
+    array-value-requires
+    enum-known-r
+    enum-known-n
+    enum-told
+    parse-float-requires
+    enum-known-r-2
+    enum-known-x
+    same-length
+    returns
+    same-length-2
+    returns-2
+    returns-3
+    returns-4)
