@@ -1,4 +1,4 @@
-// What programs that answer stored cases share: lines, fields and hexadecimal.
+// What programs that answer stored cases share: lines, fields and hexadecimal. For our own crates: a place in the line is required.
 ghost use Prim.Native.Nat.{_≤_, _<_};
 ghost use lib.ListN.{length};
 

@@ -1,4 +1,4 @@
-// Bytes, numbers, truth values, floats, names and strings.
+// Bytes, numbers, truth values, floats, names and strings. For our own crates: a byte is read below a bound above 0, a number in at most 4 bytes.
 ghost use Prim.Native.Nat.{_+_, _^_, _≤_, _<_};
 ghost use lib.ListN.{length};
 ghost use Rattle.number.specs.Number.{f32};

@@ -1,4 +1,4 @@
-// What is absent or present: a byte 0, or 1 and the value.
+// What is absent or present: a byte 0, or 1 and the value. For our own crates: a case is read below a bound.
 ghost use Prim.Native.Nat.{_<_};
 ghost use Rattle.codec.specs.Codec.{_▹_, below, opt};
 ghost use Rattle.sheet.specs.Sheet.{word, flag, valueForm, easingForm, loopForm, dampingForm, patternForm};

@@ -11,7 +11,8 @@ use Rattle.token.specs.Token.{Token}
 use Rattle.ast.specs.declared.Span.{Span}
 use Rattle.error.specs.declared.Refusal.{Refusal}
 use Rattle.error.specs.declared.Refusal.the-variants as cause
-use Rattle.grammar.specs.Rule.{Notes, Out, got, refused, after, Rule, Next, next, iterate, listStep, eat, goOn, give, _>>=_, _>>_, the, need}
+use Rattle.grammar.specs.Rule.{Notes, Out, got, refused, after, Rule, Next, next}
+use Rattle.grammar.specs.Rule.{iterate, listStep, eat, goOn, give, _>>=_, _>>_, the, need}
 use Rattle.grammar.specs.Fields as fields
 use Rattle.grammar.specs.Fields.{Table, Fields, Entry, Content, rowOf, fieldHead, fieldValue}
 use Rattle.grammar.specs.Fields.{fieldName, pairName, fieldsStep, onePair, parseFieldList, pairs}

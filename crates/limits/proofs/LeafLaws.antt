@@ -20,7 +20,8 @@ use Rattle.sheet.specs.Sheet.{Forest, valueForm, nodeForm, springForm, waveform
 use Rattle.sheet.proofs.Laws.{flagL, dampingL, tweenL, pathL, morphL, drawL, colorL, nodeL}
 use Rattle.error.specs.declared.Refusal.the-variants.{MissingDuration, Malformed, UnknownSpringPreset}
 use Rattle.grammar.specs.Rule.{Rule, _>>_, give, if, sees, skip, inside}
-use Rattle.grammar.specs.Fields.{Fields, aDamping, pairs, parseFieldList, lastNumber, lastTruth, lastEasing, lastValue, lastDamping, ever, last}
+use Rattle.grammar.specs.Fields.{Fields, aDamping, pairs, parseFieldList, lastNumber}
+use Rattle.grammar.specs.Fields.{lastTruth, lastEasing, lastValue, lastDamping, ever, last}
 use Rattle.grammar.specs.Grammar.{stored, tweenFields, parseTween, springFields, parseSpringPreset, springPreset}
 use Rattle.grammar.specs.Grammar.{integrator, criticalDamping, overDamping, underDamping, parseSpring, offset, pathFields, parsePath}
 use Rattle.grammar.specs.Grammar.{morphFields, parseMorph, drawFields, parseDraw, space, colorFields, parseColor}

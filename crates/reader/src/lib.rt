@@ -1,6 +1,7 @@
 // A token reader: the text and a cursor in it, in one struct, with thin functions over the cursor by value.
 // The borrow checker covers no function over such a struct, so each takes it apart and is walked by hand; `count_tokens`
-// and `second_is` stand above them with plain parameters, so whoever calls these needs no walk.
+// and `second_is` stand above them with plain parameters, so whoever calls these needs no walk. The functions over a reader are for our
+// own crates: each requires a cursor that stands in the text.
 ghost use mathlib.Core.Path.{_≡_};
 ghost use Prim.Native.Nat.{_<_, _≤_};
 ghost use lib.ListN.{length};

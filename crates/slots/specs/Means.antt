@@ -57,7 +57,10 @@ use Rattle.error.specs.declared.Refusal.the-variants.{MissingDuration}
 
 -- the rules of the sorts; a sort past the list is the last
 unfoldable pub sortRules : List (Rule fields.Content)
-sortRules = number ∷ count ∷ space ∷ springPreset ∷ integrator ∷ flag ∷ flag ∷ easing ∷ loopMode ∷ offset ∷ criticalDamping ∷ overDamping ∷ underDamping ∷ []
+sortRules =
+    number ∷ count ∷ space ∷ springPreset ∷ integrator ∷ flag
+    ∷ flag ∷ easing ∷ loopMode ∷ offset ∷ criticalDamping
+    ∷ overDamping ∷ underDamping ∷ []
 
 unfoldable pub sortRule : ℕ → Rule fields.Content
 sortRule k = getD sortRules k value

@@ -15,7 +15,8 @@ use Rattle.error.specs.declared.Refusal.the-variants.{Unbalanced, TooManyOpen, 
 use Rattle.token.specs.Token.{Kind, Token, token, bad, piece, lexeme}
 use Rattle.token.specs.Split.{Nest, unfit, awaits, closer, closed, nestMark, nest, halt, takes}
 use Rattle.token.specs.Split.{nested, step, Split, unlexed, tokens, before, ended, splitFrom, split}
-use Rattle.token.specs.Means.{kindOf, Pieces, held, afterOpener, Awaits, DepthMeans, answerOf, answerFrom, GoesOn, splitOutcome, splitting}
+use Rattle.token.specs.Means.{kindOf, Pieces, held, afterOpener, Awaits, DepthMeans}
+use Rattle.token.specs.Means.{answerOf, answerFrom, GoesOn, splitOutcome, splitting}
 use Rattle.token.specs.declared.Depth.{Depth}
 use Rattle.token.specs.declared.SplitAnswer.{SplitAnswer}
 use Rattle.token.specs.declared.SplitAnswer.the-variants.{Refused}

@@ -140,4 +140,5 @@ splitOutcome a s = (a, s)
 -- 01: "2 to 5 at the first place left to right"; "After reading, unless 1 or 16, scratch is all zero"; fewer words than 64 do not do
 unfoldable pub splitting : List ℕ → List ℕ → SplitAnswer × List ℕ
 splitting t s =
-    cond (ltb (length s) 64) (splitOutcome (answer.Refused ScratchTooShort 0) s) (splitOutcome (answerOf (split t)) (replicate (length s) 0))
+    cond (ltb (length s) 64) (splitOutcome (answer.Refused ScratchTooShort 0) s)
+    (splitOutcome (answerOf (split t)) (replicate (length s) 0))

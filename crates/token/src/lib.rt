@@ -1,4 +1,5 @@
 // Tokens of a text: the one at a place, and the pass that judges a whole text by the text rules.
+// For our own crates: both require a text of at most the limit.
 ghost use mathlib.Core.Path.{_≡_};
 ghost use mathlib.Core.Bool.{not, _||_};
 ghost use mathlib.Core.List.{List};

@@ -28,7 +28,8 @@ use Rattle.grammar.specs.Grammar.{gridFields, gridPattern, randomFields, random
 use Rattle.grammar.specs.Grammar.{openingFields, openingField, openingStep, parseStagger, offset, pathFields, parsePath}
 use Rattle.grammar.specs.Grammar.{morphFields, parseMorph, drawFields, parseDraw, space, colorFields, parseColor, waveformKind}
 use Rattle.grammar.specs.Grammar.{waveformFields, parseWaveform, parsePresetCall, parseLabel, atSign, parseAt, leaves}
-use Rattle.grammar.specs.Grammar.{containers, orContainer, beginning, nodeBy, parseNode, oneNode, nodesStep, block, animatoInput, underDamping}
+use Rattle.grammar.specs.Grammar.{containers, orContainer, beginning, nodeBy, parseNode}
+use Rattle.grammar.specs.Grammar.{oneNode, nodesStep, block, animatoInput, underDamping}
 use Rattle.limits.proofs.ListLaws.{_also_}
 use Rattle.unpack.proofs.StepLaws.{Stays, Found, Rows, gives, refuses, then, and, grouped, conds, tests}
 use Rattle.unpack.proofs.StepLaws.{needs, skips, the-mark, two-marks, eats, a-word, a-text, a-choice}
@@ -289,8 +290,11 @@ module _ (n : ℕ) where
   grid-stays : Stays n gridPattern
   unfolding gridPattern gridFields
   grid-stays =
-      in-group 40 (then (pairs-stay gridFields (count-row also count-row also origin-row also tt)) (λ fs.
-      then (needs StaggerGridIncomplete (lastNumber "cols" fs)) (λ c. then (needs StaggerGridIncomplete (lastNumber "rows" fs)) (λ r. gives))))
+      in-group 40
+      (then (pairs-stay gridFields (count-row also count-row also origin-row also tt))
+      (λ fs.
+      then (needs StaggerGridIncomplete (lastNumber "cols" fs))
+      (λ c. then (needs StaggerGridIncomplete (lastNumber "rows" fs)) (λ r. gives))))
 
   random-stays : Stays n randomPattern
   unfolding randomPattern randomFields

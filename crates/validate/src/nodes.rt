@@ -1,4 +1,4 @@
-// Nodes in preorder, each by its rules, to the first refusal.
+// Nodes in preorder, each by its rules, to the first refusal. For our own crates: an ordinal is at most one more than its place.
 ghost use Prim.Native.Nat.{_+_, _≤_};
 ghost use lib.ListN.{length};
 ghost use Rattle.validate.specs.Walks.{NodeWalk, NodesWalk};

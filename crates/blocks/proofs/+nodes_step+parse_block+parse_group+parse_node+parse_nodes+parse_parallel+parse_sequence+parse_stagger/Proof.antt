@@ -14,30 +14,23 @@ use Rattle.blocks.proofs.BlockLaws.{block-reached, inside-refused, bloc
 use Rattle.blocks.proofs.BlockLaws.{Growing, growing-start, growing-standing, growing-end, growing-refused, growing-more}
 use borrow.Fn.Kinds.{In}
 use borrow.Fn.PlainCycle.{Measures, is, falls, and}
+use Rattle.blocks.proofs.+nodes_step+parse_block+parse_group+parse_node+parse_nodes+parse_parallel+parse_sequence+parse_stagger as of
 use Rattle.blocks.proofs.nodes_step.Reads as nodes-step
 use Rattle.blocks.proofs.nodes_step.Kinds as nodes-step-kinds
-use Rattle.blocks.proofs.+nodes_step+parse_block+parse_group+parse_node+parse_nodes+parse_parallel+parse_sequence+parse_stagger.Lts-nodes_step as nodes-step-lts
 use Rattle.blocks.proofs.parse_block.Reads as parse-block
 use Rattle.blocks.proofs.parse_block.Kinds as parse-block-kinds
-use Rattle.blocks.proofs.+nodes_step+parse_block+parse_group+parse_node+parse_nodes+parse_parallel+parse_sequence+parse_stagger.Lts-parse_block as parse-block-lts
 use Rattle.blocks.proofs.parse_group.Reads as parse-group
 use Rattle.blocks.proofs.parse_group.Kinds as parse-group-kinds
-use Rattle.blocks.proofs.+nodes_step+parse_block+parse_group+parse_node+parse_nodes+parse_parallel+parse_sequence+parse_stagger.Lts-parse_group as parse-group-lts
 use Rattle.blocks.proofs.parse_node.Reads as parse-node
 use Rattle.blocks.proofs.parse_node.Kinds as parse-node-kinds
-use Rattle.blocks.proofs.+nodes_step+parse_block+parse_group+parse_node+parse_nodes+parse_parallel+parse_sequence+parse_stagger.Lts-parse_node as parse-node-lts
 use Rattle.blocks.proofs.parse_nodes.Reads as parse-nodes
 use Rattle.blocks.proofs.parse_nodes.Kinds as parse-nodes-kinds
-use Rattle.blocks.proofs.+nodes_step+parse_block+parse_group+parse_node+parse_nodes+parse_parallel+parse_sequence+parse_stagger.Lts-parse_nodes as parse-nodes-lts
 use Rattle.blocks.proofs.parse_parallel.Reads as parse-parallel
 use Rattle.blocks.proofs.parse_parallel.Kinds as parse-parallel-kinds
-use Rattle.blocks.proofs.+nodes_step+parse_block+parse_group+parse_node+parse_nodes+parse_parallel+parse_sequence+parse_stagger.Lts-parse_parallel as parse-parallel-lts
 use Rattle.blocks.proofs.parse_sequence.Reads as parse-sequence
 use Rattle.blocks.proofs.parse_sequence.Kinds as parse-sequence-kinds
-use Rattle.blocks.proofs.+nodes_step+parse_block+parse_group+parse_node+parse_nodes+parse_parallel+parse_sequence+parse_stagger.Lts-parse_sequence as parse-sequence-lts
 use Rattle.blocks.proofs.parse_stagger.Reads as parse-stagger
 use Rattle.blocks.proofs.parse_stagger.Kinds as parse-stagger-kinds
-use Rattle.blocks.proofs.+nodes_step+parse_block+parse_group+parse_node+parse_nodes+parse_parallel+parse_sequence+parse_stagger.Lts-parse_stagger as parse-stagger-lts
 use Rattle.blocks.proofs.begin_node.Reads as begin-node-reads
 use Rattle.blocks.proofs.group_head.Reads as group-head-reads
 use Rattle.blocks.proofs.open_block.Reads as open-block-reads
@@ -164,7 +157,7 @@ parse-stagger-below t =
     parse-stagger.Pre
 
 -- what each knows of the functions that it calls
-abbrev nodes-step-calls : ℕ → nodes-step-lts.Claims
+abbrev nodes-step-calls : ℕ → of.Lts-nodes_step.Claims
 nodes-step-calls t = (
   ends-reads.Asked,
   ends-reads.Learnt,
@@ -176,7 +169,7 @@ nodes-step-calls t = (
   parse-node.Post,
 )
 
-abbrev parse-block-calls : ℕ → parse-block-lts.Claims
+abbrev parse-block-calls : ℕ → of.Lts-parse_block.Claims
 parse-block-calls t = (
   open-block-reads.Asked,
   open-block-reads.Learnt,
@@ -188,7 +181,7 @@ parse-block-calls t = (
   leave-group-reads.Learnt,
 )
 
-abbrev parse-group-calls : ℕ → parse-group-lts.Claims
+abbrev parse-group-calls : ℕ → of.Lts-parse_group.Claims
 parse-group-calls t = (
   group-head-reads.Asked,
   group-head-reads.Learnt,
@@ -196,7 +189,7 @@ parse-group-calls t = (
   parse-block.Post,
 )
 
-abbrev parse-node-calls : ℕ → parse-node-lts.Claims
+abbrev parse-node-calls : ℕ → of.Lts-parse_node.Claims
 parse-node-calls t = (
   begin-node-reads.Asked,
   begin-node-reads.Learnt,
@@ -210,13 +203,13 @@ parse-node-calls t = (
   parse-stagger.Post,
 )
 
-abbrev parse-nodes-calls : ℕ → parse-nodes-lts.Claims
+abbrev parse-nodes-calls : ℕ → of.Lts-parse_nodes.Claims
 parse-nodes-calls t = (
   nodes-step-below t,
   nodes-step.Post,
 )
 
-abbrev parse-parallel-calls : ℕ → parse-parallel-lts.Claims
+abbrev parse-parallel-calls : ℕ → of.Lts-parse_parallel.Claims
 parse-parallel-calls t = (
   put-byte-reads.Asked,
   put-byte-reads.Learnt,
@@ -224,7 +217,7 @@ parse-parallel-calls t = (
   parse-block.Post,
 )
 
-abbrev parse-sequence-calls : ℕ → parse-sequence-lts.Claims
+abbrev parse-sequence-calls : ℕ → of.Lts-parse_sequence.Claims
 parse-sequence-calls t = (
   put-byte-reads.Asked,
   put-byte-reads.Learnt,
@@ -232,7 +225,7 @@ parse-sequence-calls t = (
   parse-block.Post,
 )
 
-abbrev parse-stagger-calls : ℕ → parse-stagger-lts.Claims
+abbrev parse-stagger-calls : ℕ → of.Lts-parse_stagger.Claims
 parse-stagger-calls t = (
   stagger-head-reads.Asked,
   stagger-head-reads.Learnt,
@@ -240,23 +233,23 @@ parse-stagger-calls t = (
   parse-block.Post,
 )
 
-nodes-step-ends-requires : (t : ℕ) → nodes-step-lts.Need-ends-requires (nodes-step-calls t) (nodes-step-at t) nodes-step.Post
+nodes-step-ends-requires : (t : ℕ) → of.Lts-nodes_step.Need-ends-requires (nodes-step-calls t) (nodes-step-at t) nodes-step.Post
 nodes-step-ends-requires t c κs = search needs
 
-nodes-step-returns : (t : ℕ) → nodes-step-lts.Need-returns (nodes-step-calls t) (nodes-step-at t) nodes-step.Post
+nodes-step-returns : (t : ℕ) → of.Lts-nodes_step.Need-returns (nodes-step-calls t) (nodes-step-at t) nodes-step.Post
 nodes-step-returns t c =
     let at-ends = c .before in
     let start = at-ends .before .before .before .before in
     let r = start .pre .1 .ready in
     step-end _ _ _ r (sym (at-ends .ends .ensures (start .args .text .now) r) ∙ c .if1 .taken)
 
-nodes-step-sees-requires : (t : ℕ) → nodes-step-lts.Need-sees-requires (nodes-step-calls t) (nodes-step-at t) nodes-step.Post
+nodes-step-sees-requires : (t : ℕ) → of.Lts-nodes_step.Need-sees-requires (nodes-step-calls t) (nodes-step-at t) nodes-step.Post
 nodes-step-sees-requires t c κs = search needs
 
-nodes-step-advance-requires : (t : ℕ) → nodes-step-lts.Need-advance-requires (nodes-step-calls t) (nodes-step-at t) nodes-step.Post
+nodes-step-advance-requires : (t : ℕ) → of.Lts-nodes_step.Need-advance-requires (nodes-step-calls t) (nodes-step-at t) nodes-step.Post
 nodes-step-advance-requires t c κs = search needs
 
-nodes-step-returns-2 : (t : ℕ) → nodes-step-lts.Need-returns-2 (nodes-step-calls t) (nodes-step-at t) nodes-step.Post
+nodes-step-returns-2 : (t : ℕ) → of.Lts-nodes_step.Need-returns-2 (nodes-step-calls t) (nodes-step-at t) nodes-step.Post
 nodes-step-returns-2 t c =
     let at-sees = c .before .before in
     let at-if1 = at-sees .before in
@@ -267,19 +260,19 @@ nodes-step-returns-2 t c =
     let f = sym (at-sees .sees .ensures (start .args .text .now) r) ∙ c .before .if2 .taken in
     step-pass _ _ (start .args .t) r e f (c .advance .ensures)
 
-nodes-step-parse-node-requires : (t : ℕ) → nodes-step-lts.Need-parse-node-requires (nodes-step-calls t) (nodes-step-at t) nodes-step.Post
+nodes-step-parse-node-requires : (t : ℕ) → of.Lts-nodes_step.Need-parse-node-requires (nodes-step-calls t) (nodes-step-at t) nodes-step.Post
 nodes-step-parse-node-requires t c κs = search needs
 
-nodes-step-enum-known-r : (t : ℕ) → nodes-step-lts.Need-enum-known-r (nodes-step-calls t) (nodes-step-at t) nodes-step.Post
+nodes-step-enum-known-r : (t : ℕ) → of.Lts-nodes_step.Need-enum-known-r (nodes-step-calls t) (nodes-step-at t) nodes-step.Post
 nodes-step-enum-known-r t c = search needs
 
-nodes-step-enum-known-end : (t : ℕ) → nodes-step-lts.Need-enum-known-end (nodes-step-calls t) (nodes-step-at t) nodes-step.Post
+nodes-step-enum-known-end : (t : ℕ) → of.Lts-nodes_step.Need-enum-known-end (nodes-step-calls t) (nodes-step-at t) nodes-step.Post
 nodes-step-enum-known-end t c = search needs
 
-nodes-step-add-t22 : (t : ℕ) → nodes-step-lts.Need-add-t22 (nodes-step-calls t) (nodes-step-at t) nodes-step.Post
+nodes-step-add-t22 : (t : ℕ) → of.Lts-nodes_step.Need-add-t22 (nodes-step-calls t) (nodes-step-at t) nodes-step.Post
 nodes-step-add-t22 t c = search needs
 
-nodes-step-add-t23 : (t : ℕ) → nodes-step-lts.Need-add-t23 (nodes-step-calls t) (nodes-step-at t) nodes-step.Post
+nodes-step-add-t23 : (t : ℕ) → of.Lts-nodes_step.Need-add-t23 (nodes-step-calls t) (nodes-step-at t) nodes-step.Post
 nodes-step-add-t23 t c =
     let at-end = c .before .before .before in
     let at-parse-node = at-end .before .before .before .before in
@@ -289,10 +282,10 @@ nodes-step-add-t23 t c =
     let h = rw (at-end .end .given .1) at (at-parse-node .parse-node .ensures) in
     omega (arith, h .few, pre .1 .few, h .went .took .ready .high, pre .1 .reached .short)
 
-nodes-step-same-length : (t : ℕ) → nodes-step-lts.Need-same-length (nodes-step-calls t) (nodes-step-at t) nodes-step.Post
+nodes-step-same-length : (t : ℕ) → of.Lts-nodes_step.Need-same-length (nodes-step-calls t) (nodes-step-at t) nodes-step.Post
 nodes-step-same-length t c = search needs
 
-nodes-step-returns-3 : (t : ℕ) → nodes-step-lts.Need-returns-3 (nodes-step-calls t) (nodes-step-at t) nodes-step.Post
+nodes-step-returns-3 : (t : ℕ) → of.Lts-nodes_step.Need-returns-3 (nodes-step-calls t) (nodes-step-at t) nodes-step.Post
 nodes-step-returns-3 t c =
     let at-r = c .before in
     let at-parse-node = at-r .before .before .before .before in
@@ -307,10 +300,10 @@ nodes-step-returns-3 t c =
     let f = sym (at-sees .sees .ensures (args .text .now) r) ∙ at-if2 .if2 .left in
     step-refused (args .sheet .now) (args .depth) (args .t) r e f (rw (at-r .r .given .1) at (at-parse-node .parse-node .ensures))
 
-nodes-step-same-length-2 : (t : ℕ) → nodes-step-lts.Need-same-length-2 (nodes-step-calls t) (nodes-step-at t) nodes-step.Post
+nodes-step-same-length-2 : (t : ℕ) → of.Lts-nodes_step.Need-same-length-2 (nodes-step-calls t) (nodes-step-at t) nodes-step.Post
 nodes-step-same-length-2 t c = search needs
 
-nodes-step-returns-4 : (t : ℕ) → nodes-step-lts.Need-returns-4 (nodes-step-calls t) (nodes-step-at t) nodes-step.Post
+nodes-step-returns-4 : (t : ℕ) → of.Lts-nodes_step.Need-returns-4 (nodes-step-calls t) (nodes-step-at t) nodes-step.Post
 nodes-step-returns-4 t c =
     let at-end = c .before .before .before in
     let at-parse-node = at-end .before .before .before .before in
@@ -326,26 +319,26 @@ nodes-step-returns-4 t c =
     step-node (args .sheet .now) (args .depth) (args .t) r e f (rw (at-end .end .given .1) at (at-parse-node .parse-node .ensures))
 
 parse-block-open-block-requires : (t : ℕ)
-    → parse-block-lts.Need-open-block-requires (parse-block-calls t) (parse-block-at t) parse-block.Post
+    → of.Lts-parse_block.Need-open-block-requires (parse-block-calls t) (parse-block-at t) parse-block.Post
 parse-block-open-block-requires t c κs = search needs
 
-parse-block-enum-known-r : (t : ℕ) → parse-block-lts.Need-enum-known-r (parse-block-calls t) (parse-block-at t) parse-block.Post
+parse-block-enum-known-r : (t : ℕ) → of.Lts-parse_block.Need-enum-known-r (parse-block-calls t) (parse-block-at t) parse-block.Post
 parse-block-enum-known-r t c = search needs
 
-parse-block-enum-known-m : (t : ℕ) → parse-block-lts.Need-enum-known-m (parse-block-calls t) (parse-block-at t) parse-block.Post
+parse-block-enum-known-m : (t : ℕ) → of.Lts-parse_block.Need-enum-known-m (parse-block-calls t) (parse-block-at t) parse-block.Post
 parse-block-enum-known-m t c = search needs
 
-parse-block-add-parse-nodes : (t : ℕ) → parse-block-lts.Need-add-parse-nodes (parse-block-calls t) (parse-block-at t) parse-block.Post
+parse-block-add-parse-nodes : (t : ℕ) → of.Lts-parse_block.Need-add-parse-nodes (parse-block-calls t) (parse-block-at t) parse-block.Post
 parse-block-add-parse-nodes t c = search needs
 
-parse-block-sub-parse-nodes : (t : ℕ) → parse-block-lts.Need-sub-parse-nodes (parse-block-calls t) (parse-block-at t) parse-block.Post
+parse-block-sub-parse-nodes : (t : ℕ) → of.Lts-parse_block.Need-sub-parse-nodes (parse-block-calls t) (parse-block-at t) parse-block.Post
 parse-block-sub-parse-nodes t c =
     let at-m = c .before .before in
     let at-open-block = at-m .before .before in
     omega (arith, (rw (at-m .m .given .1) at (at-open-block .open-block .ensures)) .1)
 
 parse-block-parse-nodes-requires : (t : ℕ)
-    → parse-block-lts.Need-parse-nodes-requires (parse-block-calls t) (parse-block-at t) parse-block.Post
+    → of.Lts-parse_block.Need-parse-nodes-requires (parse-block-calls t) (parse-block-at t) parse-block.Post
 parse-block-parse-nodes-requires t c κs =
     let at-m = c .before .before in
     let at-open-block = at-m .before .before in
@@ -353,14 +346,14 @@ parse-block-parse-nodes-requires t c κs =
     let z = rw (at-m .m .given .1) at (at-open-block .open-block .ensures) in
     (omega (arith, pre .0, z .0 .low, z .0 .ready .high), (z .0 .ready, block-reached (z .0) _ (z .1) (pre .1 .1)))
 
-parse-block-enum-known-r-2 : (t : ℕ) → parse-block-lts.Need-enum-known-r-2 (parse-block-calls t) (parse-block-at t) parse-block.Post
+parse-block-enum-known-r-2 : (t : ℕ) → of.Lts-parse_block.Need-enum-known-r-2 (parse-block-calls t) (parse-block-at t) parse-block.Post
 parse-block-enum-known-r-2 t c = search needs
 
-parse-block-enum-known-t : (t : ℕ) → parse-block-lts.Need-enum-known-t (parse-block-calls t) (parse-block-at t) parse-block.Post
+parse-block-enum-known-t : (t : ℕ) → of.Lts-parse_block.Need-enum-known-t (parse-block-calls t) (parse-block-at t) parse-block.Post
 parse-block-enum-known-t t c = search needs
 
 parse-block-patch-count-requires : (t : ℕ)
-    → parse-block-lts.Need-patch-count-requires (parse-block-calls t) (parse-block-at t) parse-block.Post
+    → of.Lts-parse_block.Need-patch-count-requires (parse-block-calls t) (parse-block-at t) parse-block.Post
 parse-block-patch-count-requires t c κs =
     let c4 = c .before .before .before .before in
     let c8 = c4 .before .before .before .before in
@@ -369,14 +362,14 @@ parse-block-patch-count-requires t c κs =
     omega (arith, pre .1 .1 .low, pre .1 .1 .short, pre .1 .0 .high)
 
 parse-block-leave-group-requires : (t : ℕ)
-    → parse-block-lts.Need-leave-group-requires (parse-block-calls t) (parse-block-at t) parse-block.Post
+    → of.Lts-parse_block.Need-leave-group-requires (parse-block-calls t) (parse-block-at t) parse-block.Post
 parse-block-leave-group-requires t c κs =
     let c4 = c .before .before .before .before in
     let at-t = c4 .before .before in
     let at-parse-nodes = at-t .before .before .before .before in
     (rw (at-t .t .given .1) at (at-parse-nodes .parse-nodes .ensures)) .went .took .ready
 
-parse-block-add-t21 : (t : ℕ) → parse-block-lts.Need-add-t21 (parse-block-calls t) (parse-block-at t) parse-block.Post
+parse-block-add-t21 : (t : ℕ) → of.Lts-parse_block.Need-add-t21 (parse-block-calls t) (parse-block-at t) parse-block.Post
 parse-block-add-t21 t c =
     let c4 = c .before .before .before .before in
     let at-t = c4 .before .before .before .before in
@@ -386,13 +379,13 @@ parse-block-add-t21 t c =
     let g = rw (at-t .t .given .1) at (at-parse-nodes .parse-nodes .ensures) in
     omega (arith, g .few, g .went .took .ready .high, start .pre .1 .1 .short)
 
-parse-block-returns : (t : ℕ) → parse-block-lts.Need-returns (parse-block-calls t) (parse-block-at t) parse-block.Post
+parse-block-returns : (t : ℕ) → of.Lts-parse_block.Need-returns (parse-block-calls t) (parse-block-at t) parse-block.Post
 parse-block-returns t c = rw (c .before .r .given .1) at (c .before .before .before .open-block .ensures)
 
-parse-block-same-length : (t : ℕ) → parse-block-lts.Need-same-length (parse-block-calls t) (parse-block-at t) parse-block.Post
+parse-block-same-length : (t : ℕ) → of.Lts-parse_block.Need-same-length (parse-block-calls t) (parse-block-at t) parse-block.Post
 parse-block-same-length t c = search needs
 
-parse-block-returns-2 : (t : ℕ) → parse-block-lts.Need-returns-2 (parse-block-calls t) (parse-block-at t) parse-block.Post
+parse-block-returns-2 : (t : ℕ) → of.Lts-parse_block.Need-returns-2 (parse-block-calls t) (parse-block-at t) parse-block.Post
 parse-block-returns-2 t c =
     let at-r2 = c .before in
     let at-parse-nodes = at-r2 .before .before .before .before in
@@ -401,10 +394,10 @@ parse-block-returns-2 t c =
     let z = rw (at-m .m .given .1) at (at-open-block .open-block .ensures) in
     inside-refused (z .0) _ (z .1) (rw (at-r2 .r2 .given .1) at (at-parse-nodes .parse-nodes .ensures))
 
-parse-block-same-length-2 : (t : ℕ) → parse-block-lts.Need-same-length-2 (parse-block-calls t) (parse-block-at t) parse-block.Post
+parse-block-same-length-2 : (t : ℕ) → of.Lts-parse_block.Need-same-length-2 (parse-block-calls t) (parse-block-at t) parse-block.Post
 parse-block-same-length-2 t c = search needs
 
-parse-block-returns-3 : (t : ℕ) → parse-block-lts.Need-returns-3 (parse-block-calls t) (parse-block-at t) parse-block.Post
+parse-block-returns-3 : (t : ℕ) → of.Lts-parse_block.Need-returns-3 (parse-block-calls t) (parse-block-at t) parse-block.Post
 parse-block-returns-3 t c =
     let at-patch-count = c .before .before .before .before in
     let at-t = at-patch-count .before .before .before .before in
@@ -416,17 +409,17 @@ parse-block-returns-3 t c =
     (c .before .leave-group .ensures)
 
 parse-group-group-head-requires : (t : ℕ)
-    → parse-group-lts.Need-group-head-requires (parse-group-calls t) (parse-group-at t) parse-group.Post
+    → of.Lts-parse_group.Need-group-head-requires (parse-group-calls t) (parse-group-at t) parse-group.Post
 parse-group-group-head-requires t c κs = search needs
 
-parse-group-enum-known-r : (t : ℕ) → parse-group-lts.Need-enum-known-r (parse-group-calls t) (parse-group-at t) parse-group.Post
+parse-group-enum-known-r : (t : ℕ) → of.Lts-parse_group.Need-enum-known-r (parse-group-calls t) (parse-group-at t) parse-group.Post
 parse-group-enum-known-r t c = search needs
 
-parse-group-enum-known-count : (t : ℕ) → parse-group-lts.Need-enum-known-count (parse-group-calls t) (parse-group-at t) parse-group.Post
+parse-group-enum-known-count : (t : ℕ) → of.Lts-parse_group.Need-enum-known-count (parse-group-calls t) (parse-group-at t) parse-group.Post
 parse-group-enum-known-count t c = search needs
 
 parse-group-parse-block-requires : (t : ℕ)
-    → parse-group-lts.Need-parse-block-requires (parse-group-calls t) (parse-group-at t) parse-group.Post
+    → of.Lts-parse_group.Need-parse-block-requires (parse-group-calls t) (parse-group-at t) parse-group.Post
 parse-group-parse-block-requires t c κs =
     let at-count = c .before .before in
     let at-group-head = at-count .before .before .before .before in
@@ -434,20 +427,20 @@ parse-group-parse-block-requires t c κs =
     let h = rw (at-count .count .given .1) at (at-group-head .group-head .ensures) in
     (omega (arith, pre .0, h .took .low), (h .took .ready, head-counted h (pre .1 .1)))
 
-parse-group-same-length : (t : ℕ) → parse-group-lts.Need-same-length (parse-group-calls t) (parse-group-at t) parse-group.Post
+parse-group-same-length : (t : ℕ) → of.Lts-parse_group.Need-same-length (parse-group-calls t) (parse-group-at t) parse-group.Post
 parse-group-same-length t c = search needs
 
-parse-group-returns : (t : ℕ) → parse-group-lts.Need-returns (parse-group-calls t) (parse-group-at t) parse-group.Post
+parse-group-returns : (t : ℕ) → of.Lts-parse_group.Need-returns (parse-group-calls t) (parse-group-at t) parse-group.Post
 parse-group-returns t c =
     let at-r = c .before in
     let at-group-head = at-r .before .before .before .before in
     let args = at-group-head .before .before .before .before .args in
     head-refused (args .text .now) (args .c) parseGroup (args .depth) (rw (at-r .r .given .1) at (at-group-head .group-head .ensures))
 
-parse-group-same-length-2 : (t : ℕ) → parse-group-lts.Need-same-length-2 (parse-group-calls t) (parse-group-at t) parse-group.Post
+parse-group-same-length-2 : (t : ℕ) → of.Lts-parse_group.Need-same-length-2 (parse-group-calls t) (parse-group-at t) parse-group.Post
 parse-group-same-length-2 t c = search needs
 
-parse-group-returns-2 : (t : ℕ) → parse-group-lts.Need-returns-2 (parse-group-calls t) (parse-group-at t) parse-group.Post
+parse-group-returns-2 : (t : ℕ) → of.Lts-parse_group.Need-returns-2 (parse-group-calls t) (parse-group-at t) parse-group.Post
 parse-group-returns-2 t c =
     let at-parse-block = c .before .before in
     let at-count = at-parse-block .before .before .before in
@@ -455,20 +448,20 @@ parse-group-returns-2 t c =
     head-block (rw (at-count .count .given .1) at (at-group-head .group-head .ensures)) _ _ (at-parse-block .parse-block .result)
     (at-parse-block .parse-block .ensures)
 
-parse-node-begin-node-requires : (t : ℕ) → parse-node-lts.Need-begin-node-requires (parse-node-calls t) (parse-node-at t) parse-node.Post
+parse-node-begin-node-requires : (t : ℕ) → of.Lts-parse_node.Need-begin-node-requires (parse-node-calls t) (parse-node-at t) parse-node.Post
 parse-node-begin-node-requires t c κs = search needs
 
-parse-node-enum-known-r : (t : ℕ) → parse-node-lts.Need-enum-known-r (parse-node-calls t) (parse-node-at t) parse-node.Post
+parse-node-enum-known-r : (t : ℕ) → of.Lts-parse_node.Need-enum-known-r (parse-node-calls t) (parse-node-at t) parse-node.Post
 parse-node-enum-known-r t c = search needs
 
-parse-node-enum-known-q : (t : ℕ) → parse-node-lts.Need-enum-known-q (parse-node-calls t) (parse-node-at t) parse-node.Post
+parse-node-enum-known-q : (t : ℕ) → of.Lts-parse_node.Need-enum-known-q (parse-node-calls t) (parse-node-at t) parse-node.Post
 parse-node-enum-known-q t c = search needs
 
-parse-node-enum-known-i : (t : ℕ) → parse-node-lts.Need-enum-known-i (parse-node-calls t) (parse-node-at t) parse-node.Post
+parse-node-enum-known-i : (t : ℕ) → of.Lts-parse_node.Need-enum-known-i (parse-node-calls t) (parse-node-at t) parse-node.Post
 parse-node-enum-known-i t c = search needs
 
 parse-node-parse-sequence-requires : (t : ℕ)
-    → parse-node-lts.Need-parse-sequence-requires (parse-node-calls t) (parse-node-at t) parse-node.Post
+    → of.Lts-parse_node.Need-parse-sequence-requires (parse-node-calls t) (parse-node-at t) parse-node.Post
 parse-node-parse-sequence-requires t c κs =
     let at-i = c .before .before .before in
     let at-begin-node = at-i .before .before .before .before in
@@ -477,7 +470,7 @@ parse-node-parse-sequence-requires t c κs =
     (omega (arith, pre .0, g .low, g .ready .high), (g .ready, keyword-headed g (pre .1 .1)))
 
 parse-node-parse-parallel-requires : (t : ℕ)
-    → parse-node-lts.Need-parse-parallel-requires (parse-node-calls t) (parse-node-at t) parse-node.Post
+    → of.Lts-parse_node.Need-parse-parallel-requires (parse-node-calls t) (parse-node-at t) parse-node.Post
 parse-node-parse-parallel-requires t c κs =
     let at-i = c .before .before .before in
     let at-begin-node = at-i .before .before .before .before in
@@ -485,7 +478,7 @@ parse-node-parse-parallel-requires t c κs =
     let g = rw (at-i .i .given .1) at (at-begin-node .begin-node .ensures) in
     (omega (arith, pre .0, g .low, g .ready .high), (g .ready, keyword-headed g (pre .1 .1)))
 
-parse-node-parse-group-requires : (t : ℕ) → parse-node-lts.Need-parse-group-requires (parse-node-calls t) (parse-node-at t) parse-node.Post
+parse-node-parse-group-requires : (t : ℕ) → of.Lts-parse_node.Need-parse-group-requires (parse-node-calls t) (parse-node-at t) parse-node.Post
 parse-node-parse-group-requires t c κs =
     let at-i = c .before .before .before in
     let at-begin-node = at-i .before .before .before .before in
@@ -494,7 +487,7 @@ parse-node-parse-group-requires t c κs =
     (omega (arith, pre .0, g .low, g .ready .high), (g .ready, keyword-headed g (pre .1 .1)))
 
 parse-node-parse-stagger-requires : (t : ℕ)
-    → parse-node-lts.Need-parse-stagger-requires (parse-node-calls t) (parse-node-at t) parse-node.Post
+    → of.Lts-parse_node.Need-parse-stagger-requires (parse-node-calls t) (parse-node-at t) parse-node.Post
 parse-node-parse-stagger-requires t c κs =
     let at-i = c .before .before .before in
     let at-begin-node = at-i .before .before .before .before in
@@ -502,30 +495,30 @@ parse-node-parse-stagger-requires t c κs =
     let g = rw (at-i .i .given .1) at (at-begin-node .begin-node .ensures) in
     (omega (arith, pre .0, g .low, g .ready .high), (g .ready, keyword-headed g (pre .1 .1)))
 
-parse-node-same-length : (t : ℕ) → parse-node-lts.Need-same-length (parse-node-calls t) (parse-node-at t) parse-node.Post
+parse-node-same-length : (t : ℕ) → of.Lts-parse_node.Need-same-length (parse-node-calls t) (parse-node-at t) parse-node.Post
 parse-node-same-length t c = search needs
 
-parse-node-returns : (t : ℕ) → parse-node-lts.Need-returns (parse-node-calls t) (parse-node-at t) parse-node.Post
+parse-node-returns : (t : ℕ) → of.Lts-parse_node.Need-returns (parse-node-calls t) (parse-node-at t) parse-node.Post
 parse-node-returns t c =
     let at-r = c .before in
     let at-begin-node = at-r .before .before .before .before in
     let start = at-begin-node .before .before .before .before in
     (rw (at-r .r .given .1) at (at-begin-node .begin-node .ensures)) (block (start .args .depth))
 
-parse-node-same-length-2 : (t : ℕ) → parse-node-lts.Need-same-length-2 (parse-node-calls t) (parse-node-at t) parse-node.Post
+parse-node-same-length-2 : (t : ℕ) → of.Lts-parse_node.Need-same-length-2 (parse-node-calls t) (parse-node-at t) parse-node.Post
 parse-node-same-length-2 t c = search needs
 
-parse-node-returns-2 : (t : ℕ) → parse-node-lts.Need-returns-2 (parse-node-calls t) (parse-node-at t) parse-node.Post
+parse-node-returns-2 : (t : ℕ) → of.Lts-parse_node.Need-returns-2 (parse-node-calls t) (parse-node-at t) parse-node.Post
 parse-node-returns-2 t c =
     let at-q = c .before in
     let at-begin-node = at-q .before .before .before .before in
     let start = at-begin-node .before .before .before .before in
     node-leaf (start .args .depth) (rw (at-q .q .given .1) at (at-begin-node .begin-node .ensures))
 
-parse-node-same-length-3 : (t : ℕ) → parse-node-lts.Need-same-length-3 (parse-node-calls t) (parse-node-at t) parse-node.Post
+parse-node-same-length-3 : (t : ℕ) → of.Lts-parse_node.Need-same-length-3 (parse-node-calls t) (parse-node-at t) parse-node.Post
 parse-node-same-length-3 t c = search needs
 
-parse-node-returns-3 : (t : ℕ) → parse-node-lts.Need-returns-3 (parse-node-calls t) (parse-node-at t) parse-node.Post
+parse-node-returns-3 : (t : ℕ) → of.Lts-parse_node.Need-returns-3 (parse-node-calls t) (parse-node-at t) parse-node.Post
 unfolding containers
 parse-node-returns-3 t c =
     let at-parse-sequence = c .before .before in
@@ -536,10 +529,10 @@ parse-node-returns-3 t c =
       (λ z. absurd (omega arith), (λ z. absurd (omega arith), (λ z. absurd (omega arith), tt))),
     )
 
-parse-node-same-length-4 : (t : ℕ) → parse-node-lts.Need-same-length-4 (parse-node-calls t) (parse-node-at t) parse-node.Post
+parse-node-same-length-4 : (t : ℕ) → of.Lts-parse_node.Need-same-length-4 (parse-node-calls t) (parse-node-at t) parse-node.Post
 parse-node-same-length-4 t c = search needs
 
-parse-node-returns-4 : (t : ℕ) → parse-node-lts.Need-returns-4 (parse-node-calls t) (parse-node-at t) parse-node.Post
+parse-node-returns-4 : (t : ℕ) → of.Lts-parse_node.Need-returns-4 (parse-node-calls t) (parse-node-at t) parse-node.Post
 unfolding containers
 parse-node-returns-4 t c =
     let at-parse-parallel = c .before .before in
@@ -550,10 +543,10 @@ parse-node-returns-4 t c =
       (λ z. at-parse-parallel .parse-parallel .ensures, (λ z. absurd (omega arith), (λ z. absurd (omega arith), tt))),
     )
 
-parse-node-same-length-5 : (t : ℕ) → parse-node-lts.Need-same-length-5 (parse-node-calls t) (parse-node-at t) parse-node.Post
+parse-node-same-length-5 : (t : ℕ) → of.Lts-parse_node.Need-same-length-5 (parse-node-calls t) (parse-node-at t) parse-node.Post
 parse-node-same-length-5 t c = search needs
 
-parse-node-returns-5 : (t : ℕ) → parse-node-lts.Need-returns-5 (parse-node-calls t) (parse-node-at t) parse-node.Post
+parse-node-returns-5 : (t : ℕ) → of.Lts-parse_node.Need-returns-5 (parse-node-calls t) (parse-node-at t) parse-node.Post
 unfolding containers
 parse-node-returns-5 t c =
     let at-parse-group = c .before .before in
@@ -562,10 +555,10 @@ parse-node-returns-5 t c =
     node-container (rw (at-i .i .given .1) at (at-begin-node .begin-node .ensures)) _ _ _ (at-parse-group .parse-group .result)
     (λ z. absurd (omega arith), (λ z. absurd (omega arith), (λ z. at-parse-group .parse-group .ensures, (λ z. absurd (omega arith), tt))))
 
-parse-node-same-length-6 : (t : ℕ) → parse-node-lts.Need-same-length-6 (parse-node-calls t) (parse-node-at t) parse-node.Post
+parse-node-same-length-6 : (t : ℕ) → of.Lts-parse_node.Need-same-length-6 (parse-node-calls t) (parse-node-at t) parse-node.Post
 parse-node-same-length-6 t c = search needs
 
-parse-node-returns-6 : (t : ℕ) → parse-node-lts.Need-returns-6 (parse-node-calls t) (parse-node-at t) parse-node.Post
+parse-node-returns-6 : (t : ℕ) → of.Lts-parse_node.Need-returns-6 (parse-node-calls t) (parse-node-at t) parse-node.Post
 unfolding containers
 parse-node-returns-6 t c =
     let at-parse-stagger = c .before .before in
@@ -580,20 +573,20 @@ parse-node-returns-6 t c =
       ),
     )
 
-abbrev parse-nodes-Inv-loop : parse-nodes-lts.InvT-loop
+abbrev parse-nodes-Inv-loop : of.Lts-parse_nodes.InvT-loop
 parse-nodes-Inv-loop text sheet₀ out depth t₀ sheet t = Growing text sheet₀ sheet (t₀ .next) out depth t
 
-abbrev parse-nodes-μ-loop : parse-nodes-lts.MeasureT-loop
+abbrev parse-nodes-μ-loop : of.Lts-parse_nodes.MeasureT-loop
 parse-nodes-μ-loop text sheet₀ out depth t₀ sheet t = length text - t .next .at
 
 parse-nodes-loop-holds : (t : ℕ)
-    → parse-nodes-lts.Need-loop-holds (parse-nodes-calls t) (parse-nodes-at t) parse-nodes.Post parse-nodes-Inv-loop parse-nodes-μ-loop
+    → of.Lts-parse_nodes.Need-loop-holds (parse-nodes-calls t) (parse-nodes-at t) parse-nodes.Post parse-nodes-Inv-loop parse-nodes-μ-loop
 parse-nodes-loop-holds t c =
     let start = c .before .before in
     growing-start (start .args .sheet .now) (start .args .out) (start .args .depth) (start .pre .1 .0)
 
 parse-nodes-nodes-step-requires : (t : ℕ)
-    → parse-nodes-lts.Need-nodes-step-requires (parse-nodes-calls t) (parse-nodes-at t) parse-nodes.Post parse-nodes-Inv-loop
+    → of.Lts-parse_nodes.Need-nodes-step-requires (parse-nodes-calls t) (parse-nodes-at t) parse-nodes.Post parse-nodes-Inv-loop
     parse-nodes-μ-loop
 parse-nodes-nodes-step-requires t c κs =
     let pre = c .before .before .before .before .pre in
@@ -601,11 +594,11 @@ parse-nodes-nodes-step-requires t c κs =
     (omega (arith, pre .0, c .before .loop .inv .listed .low), s)
 
 parse-nodes-enum-known-r : (t : ℕ)
-    → parse-nodes-lts.Need-enum-known-r (parse-nodes-calls t) (parse-nodes-at t) parse-nodes.Post parse-nodes-Inv-loop parse-nodes-μ-loop
+    → of.Lts-parse_nodes.Need-enum-known-r (parse-nodes-calls t) (parse-nodes-at t) parse-nodes.Post parse-nodes-Inv-loop parse-nodes-μ-loop
 parse-nodes-enum-known-r t c = search needs
 
 parse-nodes-same-length : (t : ℕ)
-    → parse-nodes-lts.Need-same-length (parse-nodes-calls t) (parse-nodes-at t) parse-nodes.Post parse-nodes-Inv-loop parse-nodes-μ-loop
+    → of.Lts-parse_nodes.Need-same-length (parse-nodes-calls t) (parse-nodes-at t) parse-nodes.Post parse-nodes-Inv-loop parse-nodes-μ-loop
 parse-nodes-same-length t c =
     let c4 = c .before .before .before .before in
     let at-nodes-step = c4 .before in
@@ -614,7 +607,7 @@ parse-nodes-same-length t c =
 
 parse-nodes-returns :
     (t : ℕ) →
-    parse-nodes-lts.Need-returns
+    of.Lts-parse_nodes.Need-returns
     (nodes-step-below t, nodes-step.Post)
     (parse-nodes-at t)
     parse-nodes.Post
@@ -627,11 +620,11 @@ parse-nodes-returns t c =
     growing-refused (at-loop .loop .inv) (rw (at-r .r .given .1) at (at-nodes-step .nodes-step .ensures))
 
 parse-nodes-enum-known-u : (t : ℕ)
-    → parse-nodes-lts.Need-enum-known-u (parse-nodes-calls t) (parse-nodes-at t) parse-nodes.Post parse-nodes-Inv-loop parse-nodes-μ-loop
+    → of.Lts-parse_nodes.Need-enum-known-u (parse-nodes-calls t) (parse-nodes-at t) parse-nodes.Post parse-nodes-Inv-loop parse-nodes-μ-loop
 parse-nodes-enum-known-u t c = search needs
 
 parse-nodes-same-length-2 : (t : ℕ)
-    → parse-nodes-lts.Need-same-length-2 (parse-nodes-calls t) (parse-nodes-at t) parse-nodes.Post parse-nodes-Inv-loop parse-nodes-μ-loop
+    → of.Lts-parse_nodes.Need-same-length-2 (parse-nodes-calls t) (parse-nodes-at t) parse-nodes.Post parse-nodes-Inv-loop parse-nodes-μ-loop
 parse-nodes-same-length-2 t c =
     let c4 = c .before .before .before .before in
     let at-nodes-step = c4 .before in
@@ -639,7 +632,7 @@ parse-nodes-same-length-2 t c =
     at-nodes-step .nodes-step .kept .1 .0 ∙ writes-keeps (at-loop .loop .inv .writes)
 
 parse-nodes-returns-2 : (t : ℕ)
-    → parse-nodes-lts.Need-returns-2 (parse-nodes-calls t) (parse-nodes-at t) parse-nodes.Post parse-nodes-Inv-loop parse-nodes-μ-loop
+    → of.Lts-parse_nodes.Need-returns-2 (parse-nodes-calls t) (parse-nodes-at t) parse-nodes.Post parse-nodes-Inv-loop parse-nodes-μ-loop
 parse-nodes-returns-2 t c =
     let at-u = c .before in
     let at-nodes-step = at-u .before .before .before .before in
@@ -647,11 +640,11 @@ parse-nodes-returns-2 t c =
     growing-end (at-loop .loop .inv) (rw (at-u .u .given .1) at (at-nodes-step .nodes-step .ensures))
 
 parse-nodes-enum-known-u-2 : (t : ℕ)
-    → parse-nodes-lts.Need-enum-known-u-2 (parse-nodes-calls t) (parse-nodes-at t) parse-nodes.Post parse-nodes-Inv-loop parse-nodes-μ-loop
+    → of.Lts-parse_nodes.Need-enum-known-u-2 (parse-nodes-calls t) (parse-nodes-at t) parse-nodes.Post parse-nodes-Inv-loop parse-nodes-μ-loop
 parse-nodes-enum-known-u-2 t c = search needs
 
 parse-nodes-loop-less : (t : ℕ)
-    → parse-nodes-lts.Need-loop-less (parse-nodes-calls t) (parse-nodes-at t) parse-nodes.Post parse-nodes-Inv-loop parse-nodes-μ-loop
+    → of.Lts-parse_nodes.Need-loop-less (parse-nodes-calls t) (parse-nodes-at t) parse-nodes.Post parse-nodes-Inv-loop parse-nodes-μ-loop
 parse-nodes-loop-less t c =
     let at-u2 = c .before in
     let at-nodes-step = at-u2 .before .before .before .before in
@@ -659,7 +652,7 @@ parse-nodes-loop-less t c =
     omega (arith, z .took Nodes.none .low, z .took Nodes.none .ready .high)
 
 parse-nodes-loop-again : (t : ℕ)
-    → parse-nodes-lts.Need-loop-again (parse-nodes-calls t) (parse-nodes-at t) parse-nodes.Post parse-nodes-Inv-loop parse-nodes-μ-loop
+    → of.Lts-parse_nodes.Need-loop-again (parse-nodes-calls t) (parse-nodes-at t) parse-nodes.Post parse-nodes-Inv-loop parse-nodes-μ-loop
 parse-nodes-loop-again t c =
     let at-u2 = c .before in
     let at-nodes-step = at-u2 .before .before .before .before in
@@ -667,18 +660,18 @@ parse-nodes-loop-again t c =
     growing-more (at-loop .loop .inv) (rw (at-u2 .u2 .given .1) at (at-nodes-step .nodes-step .ensures))
 
 parse-parallel-put-byte-requires : (t : ℕ)
-    → parse-parallel-lts.Need-put-byte-requires (parse-parallel-calls t) (parse-parallel-at t) parse-parallel.Post
+    → of.Lts-parse_parallel.Need-put-byte-requires (parse-parallel-calls t) (parse-parallel-at t) parse-parallel.Post
 parse-parallel-put-byte-requires t c κs = search needs
 
 parse-parallel-parse-block-requires : (t : ℕ)
-    → parse-parallel-lts.Need-parse-block-requires (parse-parallel-calls t) (parse-parallel-at t) parse-parallel.Post
+    → of.Lts-parse_parallel.Need-parse-block-requires (parse-parallel-calls t) (parse-parallel-at t) parse-parallel.Post
 parse-parallel-parse-block-requires t c κs = search needs
 
 parse-parallel-same-length : (t : ℕ)
-    → parse-parallel-lts.Need-same-length (parse-parallel-calls t) (parse-parallel-at t) parse-parallel.Post
+    → of.Lts-parse_parallel.Need-same-length (parse-parallel-calls t) (parse-parallel-at t) parse-parallel.Post
 parse-parallel-same-length t c = search needs
 
-parse-parallel-returns : (t : ℕ) → parse-parallel-lts.Need-returns (parse-parallel-calls t) (parse-parallel-at t) parse-parallel.Post
+parse-parallel-returns : (t : ℕ) → of.Lts-parse_parallel.Need-returns (parse-parallel-calls t) (parse-parallel-at t) parse-parallel.Post
 parse-parallel-returns t c =
     let at-parse-block = c .before .before in
     let at-put-byte = at-parse-block .before .before .before .before in
@@ -687,18 +680,18 @@ parse-parallel-returns t c =
     (at-parse-block .parse-block .ensures)
 
 parse-sequence-put-byte-requires : (t : ℕ)
-    → parse-sequence-lts.Need-put-byte-requires (parse-sequence-calls t) (parse-sequence-at t) parse-sequence.Post
+    → of.Lts-parse_sequence.Need-put-byte-requires (parse-sequence-calls t) (parse-sequence-at t) parse-sequence.Post
 parse-sequence-put-byte-requires t c κs = search needs
 
 parse-sequence-parse-block-requires : (t : ℕ)
-    → parse-sequence-lts.Need-parse-block-requires (parse-sequence-calls t) (parse-sequence-at t) parse-sequence.Post
+    → of.Lts-parse_sequence.Need-parse-block-requires (parse-sequence-calls t) (parse-sequence-at t) parse-sequence.Post
 parse-sequence-parse-block-requires t c κs = search needs
 
 parse-sequence-same-length : (t : ℕ)
-    → parse-sequence-lts.Need-same-length (parse-sequence-calls t) (parse-sequence-at t) parse-sequence.Post
+    → of.Lts-parse_sequence.Need-same-length (parse-sequence-calls t) (parse-sequence-at t) parse-sequence.Post
 parse-sequence-same-length t c = search needs
 
-parse-sequence-returns : (t : ℕ) → parse-sequence-lts.Need-returns (parse-sequence-calls t) (parse-sequence-at t) parse-sequence.Post
+parse-sequence-returns : (t : ℕ) → of.Lts-parse_sequence.Need-returns (parse-sequence-calls t) (parse-sequence-at t) parse-sequence.Post
 parse-sequence-returns t c =
     let at-parse-block = c .before .before in
     let at-put-byte = at-parse-block .before .before .before .before in
@@ -707,18 +700,18 @@ parse-sequence-returns t c =
     (at-parse-block .parse-block .ensures)
 
 parse-stagger-stagger-head-requires : (t : ℕ)
-    → parse-stagger-lts.Need-stagger-head-requires (parse-stagger-calls t) (parse-stagger-at t) parse-stagger.Post
+    → of.Lts-parse_stagger.Need-stagger-head-requires (parse-stagger-calls t) (parse-stagger-at t) parse-stagger.Post
 parse-stagger-stagger-head-requires t c κs = search needs
 
-parse-stagger-enum-known-r : (t : ℕ) → parse-stagger-lts.Need-enum-known-r (parse-stagger-calls t) (parse-stagger-at t) parse-stagger.Post
+parse-stagger-enum-known-r : (t : ℕ) → of.Lts-parse_stagger.Need-enum-known-r (parse-stagger-calls t) (parse-stagger-at t) parse-stagger.Post
 parse-stagger-enum-known-r t c = search needs
 
 parse-stagger-enum-known-count : (t : ℕ)
-    → parse-stagger-lts.Need-enum-known-count (parse-stagger-calls t) (parse-stagger-at t) parse-stagger.Post
+    → of.Lts-parse_stagger.Need-enum-known-count (parse-stagger-calls t) (parse-stagger-at t) parse-stagger.Post
 parse-stagger-enum-known-count t c = search needs
 
 parse-stagger-parse-block-requires : (t : ℕ)
-    → parse-stagger-lts.Need-parse-block-requires (parse-stagger-calls t) (parse-stagger-at t) parse-stagger.Post
+    → of.Lts-parse_stagger.Need-parse-block-requires (parse-stagger-calls t) (parse-stagger-at t) parse-stagger.Post
 parse-stagger-parse-block-requires t c κs =
     let at-count = c .before .before in
     let at-stagger-head = at-count .before .before .before .before in
@@ -726,20 +719,20 @@ parse-stagger-parse-block-requires t c κs =
     let h = rw (at-count .count .given .1) at (at-stagger-head .stagger-head .ensures) in
     (omega (arith, pre .0, h .took .low), (h .took .ready, head-counted h (pre .1 .1)))
 
-parse-stagger-same-length : (t : ℕ) → parse-stagger-lts.Need-same-length (parse-stagger-calls t) (parse-stagger-at t) parse-stagger.Post
+parse-stagger-same-length : (t : ℕ) → of.Lts-parse_stagger.Need-same-length (parse-stagger-calls t) (parse-stagger-at t) parse-stagger.Post
 parse-stagger-same-length t c = search needs
 
-parse-stagger-returns : (t : ℕ) → parse-stagger-lts.Need-returns (parse-stagger-calls t) (parse-stagger-at t) parse-stagger.Post
+parse-stagger-returns : (t : ℕ) → of.Lts-parse_stagger.Need-returns (parse-stagger-calls t) (parse-stagger-at t) parse-stagger.Post
 parse-stagger-returns t c =
     let at-r = c .before in
     let at-stagger-head = at-r .before .before .before .before in
     let args = at-stagger-head .before .before .before .before .args in
     head-refused (args .text .now) (args .c) parseStagger (args .depth) (rw (at-r .r .given .1) at (at-stagger-head .stagger-head .ensures))
 
-parse-stagger-same-length-2 : (t : ℕ) → parse-stagger-lts.Need-same-length-2 (parse-stagger-calls t) (parse-stagger-at t) parse-stagger.Post
+parse-stagger-same-length-2 : (t : ℕ) → of.Lts-parse_stagger.Need-same-length-2 (parse-stagger-calls t) (parse-stagger-at t) parse-stagger.Post
 parse-stagger-same-length-2 t c = search needs
 
-parse-stagger-returns-2 : (t : ℕ) → parse-stagger-lts.Need-returns-2 (parse-stagger-calls t) (parse-stagger-at t) parse-stagger.Post
+parse-stagger-returns-2 : (t : ℕ) → of.Lts-parse_stagger.Need-returns-2 (parse-stagger-calls t) (parse-stagger-at t) parse-stagger.Post
 parse-stagger-returns-2 t c =
     let at-parse-block = c .before .before in
     let at-count = at-parse-block .before .before .before in
@@ -759,7 +752,7 @@ pub +nodes-step+parse-block+parse-group+parse-node+parse-nodes+parse-parallel+pa
     μ-parse-parallel
     μ-parse-sequence
     μ-parse-stagger
-    (λ t. nodes-step-lts.spec (nodes-step-calls t) (nodes-step-at t)
+    (λ t. of.Lts-nodes_step.spec (nodes-step-calls t) (nodes-step-at t)
     nodes-step.Post
     (nodes-step-ends-requires t)
     (nodes-step-returns t)
@@ -775,7 +768,7 @@ pub +nodes-step+parse-block+parse-group+parse-node+parse-nodes+parse-parallel+pa
     (nodes-step-returns-3 t)
     (nodes-step-same-length-2 t)
     (nodes-step-returns-4 t))
-    (λ t. parse-block-lts.spec (parse-block-calls t) (parse-block-at t)
+    (λ t. of.Lts-parse_block.spec (parse-block-calls t) (parse-block-at t)
     parse-block.Post
     (parse-block-open-block-requires t)
     (parse-block-enum-known-r t)
@@ -793,7 +786,7 @@ pub +nodes-step+parse-block+parse-group+parse-node+parse-nodes+parse-parallel+pa
     (parse-block-returns-2 t)
     (parse-block-same-length-2 t)
     (parse-block-returns-3 t))
-    (λ t. parse-group-lts.spec (parse-group-calls t) (parse-group-at t)
+    (λ t. of.Lts-parse_group.spec (parse-group-calls t) (parse-group-at t)
     parse-group.Post
     (parse-group-group-head-requires t)
     (parse-group-enum-known-r t)
@@ -803,7 +796,7 @@ pub +nodes-step+parse-block+parse-group+parse-node+parse-nodes+parse-parallel+pa
     (parse-group-returns t)
     (parse-group-same-length-2 t)
     (parse-group-returns-2 t))
-    (λ t. parse-node-lts.spec (parse-node-calls t) (parse-node-at t)
+    (λ t. of.Lts-parse_node.spec (parse-node-calls t) (parse-node-at t)
     parse-node.Post
     (parse-node-begin-node-requires t)
     (parse-node-enum-known-r t)
@@ -825,7 +818,7 @@ pub +nodes-step+parse-block+parse-group+parse-node+parse-nodes+parse-parallel+pa
     (parse-node-returns-5 t)
     (parse-node-same-length-6 t)
     (parse-node-returns-6 t))
-    (λ t. parse-nodes-lts.spec (parse-nodes-calls t) (parse-nodes-at t)
+    (λ t. of.Lts-parse_nodes.spec (parse-nodes-calls t) (parse-nodes-at t)
     parse-nodes.Post
     parse-nodes-Inv-loop
     parse-nodes-μ-loop
@@ -840,19 +833,19 @@ pub +nodes-step+parse-block+parse-group+parse-node+parse-nodes+parse-parallel+pa
     (parse-nodes-enum-known-u-2 t)
     (parse-nodes-loop-less t)
     (parse-nodes-loop-again t))
-    (λ t. parse-parallel-lts.spec (parse-parallel-calls t) (parse-parallel-at t)
+    (λ t. of.Lts-parse_parallel.spec (parse-parallel-calls t) (parse-parallel-at t)
     parse-parallel.Post
     (parse-parallel-put-byte-requires t)
     (parse-parallel-parse-block-requires t)
     (parse-parallel-same-length t)
     (parse-parallel-returns t))
-    (λ t. parse-sequence-lts.spec (parse-sequence-calls t) (parse-sequence-at t)
+    (λ t. of.Lts-parse_sequence.spec (parse-sequence-calls t) (parse-sequence-at t)
     parse-sequence.Post
     (parse-sequence-put-byte-requires t)
     (parse-sequence-parse-block-requires t)
     (parse-sequence-same-length t)
     (parse-sequence-returns t))
-    λ t. parse-stagger-lts.spec
+    λ t. of.Lts-parse_stagger.spec
     (stagger-head-reads.Asked, stagger-head-reads.Learnt, parse-block-below t, parse-block.Post)
     (parse-stagger-at t)
     parse-stagger.Post

@@ -16,7 +16,9 @@ enum-known-length : tie.Need-enum-known-length
 enum-known-length c = search needs
 
 array-share-prefix-out : tie.Need-array-share-prefix-out
-array-share-prefix-out c = given-fits _ _ _ _ (sym (rw (c .before .length .given .1) at (c .before .before .before .before .line .ensures .0)))
+array-share-prefix-out c =
+    let at-line = c .before .before .before .before in
+    given-fits _ _ _ _ (sym (rw (c .before .length .given .1) at (at-line .line .ensures .0)))
 
 slice-aggregate-write-all : tie.Need-slice-aggregate-write-all
 slice-aggregate-write-all c =

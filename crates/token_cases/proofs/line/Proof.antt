@@ -26,7 +26,8 @@ slice-aggregate-split-2 : tie.Need-slice-aggregate-split-2
 slice-aggregate-split-2 c = search needs
 
 split-requires : tie.Need-split-requires
-split-requires c κs = let bytes = c .before .before .before .bytes in
+split-requires c κs =
+    let bytes = c .before .before .before .bytes in
     omega (arith, length-take-le (bytes .result) (bytes .last .1 .0) (bytes .ensures), bytes .kept .1 .0)
 
 answer-requires : tie.Need-answer-requires
