@@ -478,7 +478,8 @@ parse-node-parse-parallel-requires t c κs =
     let g = rw (at-i .i .given .1) at (at-begin-node .begin-node .ensures) in
     (omega (arith, pre .0, g .low, g .ready .high), (g .ready, keyword-headed g (pre .1 .1)))
 
-parse-node-parse-group-requires : (t : ℕ) → of.Lts-parse_node.Need-parse-group-requires (parse-node-calls t) (parse-node-at t) parse-node.Post
+parse-node-parse-group-requires : (t : ℕ)
+    → of.Lts-parse_node.Need-parse-group-requires (parse-node-calls t) (parse-node-at t) parse-node.Post
 parse-node-parse-group-requires t c κs =
     let at-i = c .before .before .before in
     let at-begin-node = at-i .before .before .before .before in
@@ -624,7 +625,8 @@ parse-nodes-enum-known-u : (t : ℕ)
 parse-nodes-enum-known-u t c = search needs
 
 parse-nodes-same-length-2 : (t : ℕ)
-    → of.Lts-parse_nodes.Need-same-length-2 (parse-nodes-calls t) (parse-nodes-at t) parse-nodes.Post parse-nodes-Inv-loop parse-nodes-μ-loop
+    → of.Lts-parse_nodes.Need-same-length-2 (parse-nodes-calls t) (parse-nodes-at t) parse-nodes.Post parse-nodes-Inv-loop
+    parse-nodes-μ-loop
 parse-nodes-same-length-2 t c =
     let c4 = c .before .before .before .before in
     let at-nodes-step = c4 .before in
@@ -640,7 +642,8 @@ parse-nodes-returns-2 t c =
     growing-end (at-loop .loop .inv) (rw (at-u .u .given .1) at (at-nodes-step .nodes-step .ensures))
 
 parse-nodes-enum-known-u-2 : (t : ℕ)
-    → of.Lts-parse_nodes.Need-enum-known-u-2 (parse-nodes-calls t) (parse-nodes-at t) parse-nodes.Post parse-nodes-Inv-loop parse-nodes-μ-loop
+    → of.Lts-parse_nodes.Need-enum-known-u-2 (parse-nodes-calls t) (parse-nodes-at t) parse-nodes.Post parse-nodes-Inv-loop
+    parse-nodes-μ-loop
 parse-nodes-enum-known-u-2 t c = search needs
 
 parse-nodes-loop-less : (t : ℕ)
@@ -703,7 +706,8 @@ parse-stagger-stagger-head-requires : (t : ℕ)
     → of.Lts-parse_stagger.Need-stagger-head-requires (parse-stagger-calls t) (parse-stagger-at t) parse-stagger.Post
 parse-stagger-stagger-head-requires t c κs = search needs
 
-parse-stagger-enum-known-r : (t : ℕ) → of.Lts-parse_stagger.Need-enum-known-r (parse-stagger-calls t) (parse-stagger-at t) parse-stagger.Post
+parse-stagger-enum-known-r : (t : ℕ)
+    → of.Lts-parse_stagger.Need-enum-known-r (parse-stagger-calls t) (parse-stagger-at t) parse-stagger.Post
 parse-stagger-enum-known-r t c = search needs
 
 parse-stagger-enum-known-count : (t : ℕ)
@@ -729,7 +733,8 @@ parse-stagger-returns t c =
     let args = at-stagger-head .before .before .before .before .args in
     head-refused (args .text .now) (args .c) parseStagger (args .depth) (rw (at-r .r .given .1) at (at-stagger-head .stagger-head .ensures))
 
-parse-stagger-same-length-2 : (t : ℕ) → of.Lts-parse_stagger.Need-same-length-2 (parse-stagger-calls t) (parse-stagger-at t) parse-stagger.Post
+parse-stagger-same-length-2 : (t : ℕ)
+    → of.Lts-parse_stagger.Need-same-length-2 (parse-stagger-calls t) (parse-stagger-at t) parse-stagger.Post
 parse-stagger-same-length-2 t c = search needs
 
 parse-stagger-returns-2 : (t : ℕ) → of.Lts-parse_stagger.Need-returns-2 (parse-stagger-calls t) (parse-stagger-at t) parse-stagger.Post
