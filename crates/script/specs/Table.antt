@@ -8,7 +8,7 @@ use lib.ListN.{take, replicate}
 use Rattle.text.specs.Bytes.{bytes, same}
 use Rattle.parser.specs.Reading.{reading, scratchWords}
 use Rattle.validate.specs.Checking.{checking}
-use Rattle.script.specs.Output.{output}
+use Rattle.script.specs.Output.{sheetBytes, output}
 use Rattle.error.specs.Answer.{checkValues}
 use Rattle.error.specs.Refusal.{numberOf}
 use Rattle.error.specs.declared.ReadAnswer.{ReadAnswer}
@@ -39,7 +39,7 @@ readValues (Refused r p, scratch, sheet) = numberOf r ∷ p ∷ []
 
 -- reading with the program's buffers
 abbrev pub read : String → List ℕ
-read s = readValues (reading (bytes s) (replicate scratchWords 0) (replicate 49152 0))
+read s = readValues (reading (bytes s) (replicate scratchWords 0) (replicate sheetBytes 0))
 
 -- checking what reading gave; of a refusal nothing
 abbrev pub checkRead : List ℕ → List ℕ → List ℕ

@@ -1,10 +1,11 @@
-// The three operations for C and Rust to link.
+// The operations for C and Rust to link.
 ghost use mathlib.Core.Path.{_≡_};
 ghost use Prim.Native.Nat.{_%_, _^_};
 ghost use Rattle.parser.specs.Reading.{reading};
 ghost use Rattle.validate.specs.Checking.{checking};
 ghost use Rattle.line.specs.Lining.{lining};
-ghost use Rattle.strip.specs.Packed.{packedRefusal, packedSheet, packedCheck, readOutcome, lineOutcome};
+ghost use Rattle.script.specs.Output.{printing};
+ghost use Rattle.strip.specs.Packed.{packedRefusal, packedSheet, packedCheck, readOutcome, lineOutcome, printOutcome};
 use error::CheckAnswer;
 use error::LineAnswer;
 use error::ReadAnswer;
@@ -59,6 +60,17 @@ pub extern "C" fn strip_line(text: &[u8], sheet: &[u8], ordinal: u32, out: &mut 
     ensures { λ r. ⌜ (r, now (out .exit)) ≡ lineOutcome (lining (now (text .entry)) (now (sheet .entry)) ordinal (now (out .entry))) ⌝ }
 {
     match line::line(text, sheet, ordinal as usize, out) {
+        LineAnswer::Accepted { length } => low(length),
+        LineAnswer::Refused { refusal, place } => pack_refusal(refusal, place),
+    }
+}
+
+// print::print.
+#[no_mangle]
+pub extern "C" fn strip_print(text: &[u8], scratch: &mut [u16], sheet: &mut [u8], page: &mut [u8]) -> u64
+    ensures { λ r. ⌜ (r, now (scratch .exit), now (sheet .exit), now (page .exit)) ≡ printOutcome (printing (now (text .entry)) (now (scratch .entry)) (now (sheet .entry)) (now (page .entry))) ⌝ }
+{
+    match print::print(text, scratch, sheet, page) {
         LineAnswer::Accepted { length } => low(length),
         LineAnswer::Refused { refusal, place } => pack_refusal(refusal, place),
     }
