@@ -17,14 +17,14 @@ fn run_all(input: &[u8], scratch: &mut [u16], sheet: &mut [u8], page: &mut [u8])
     let mut at: usize = 0;
     while at < input.len() {
         let end = cases::find(input, at, 0);
-        run(&input[at..end], scratch, sheet, page);
+        print_page(&input[at..end], scratch, sheet, page);
         at = end + 1;
     }
 }
 
-fn run(text: &[u8], scratch: &mut [u16], sheet: &mut [u8], page: &mut [u8]) {
-    let LineAnswer::Accepted { length } = print::print(text, scratch, sheet, page) else {
-        return;
-    };
-    io::write_all(STDOUT_FILENO, &page[..length]);
+// Has all that is printed made on the page, and writes it at once.
+fn print_page(text: &[u8], scratch: &mut [u16], sheet: &mut [u8], page: &mut [u8]) {
+    if let LineAnswer::Accepted { length } = print::print(text, scratch, sheet, page) {
+        io::write_all(STDOUT_FILENO, &page[..length]);
+    }
 }

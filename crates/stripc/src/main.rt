@@ -52,19 +52,25 @@ fn read_input(text: &mut [u8]) -> Input
     }
 }
 
-// All that is printed is made on one page, and written at once.
 fn run(text: &[u8]) {
     let mut scratch = [0u16; parser::SCRATCH_WORDS];
     let mut sheet = [0u8; print::SHEET_BYTES];
     let mut page = [0u8; print::PAGE_BYTES];
-    let LineAnswer::Accepted { length } = print::print(text, &mut scratch, &mut sheet, &mut page)
-    else {
-        return;
-    };
-    if !io::write_all(STDOUT_FILENO, &page[..length]) {
+    if !print_page(text, &mut scratch, &mut sheet, &mut page) {
         io::write_all(
             STDERR_FILENO,
             b"stripc: standard output cannot be written\n",
         );
+    }
+}
+
+// Has all that is printed made on the page, and writes it at once. Says whether it was written.
+fn print_page(text: &[u8], scratch: &mut [u16], sheet: &mut [u8], page: &mut [u8]) -> bool {
+    match print::print(text, scratch, sheet, page) {
+        LineAnswer::Accepted { length } => io::write_all(STDOUT_FILENO, &page[..length]),
+        LineAnswer::Refused {
+            refusal: _,
+            place: _,
+        } => false,
     }
 }
