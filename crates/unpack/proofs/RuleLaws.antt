@@ -28,8 +28,7 @@ use Rattle.grammar.specs.Grammar.{gridFields, gridPattern, randomFields, random
 use Rattle.grammar.specs.Grammar.{openingFields, openingField, openingStep, parseStagger, offset, pathFields, parsePath}
 use Rattle.grammar.specs.Grammar.{morphFields, parseMorph, drawFields, parseDraw, space, colorFields, parseColor, waveformKind}
 use Rattle.grammar.specs.Grammar.{waveformFields, parseWaveform, parsePresetCall, parseLabel, atSign, parseAt, leaves}
-use Rattle.grammar.specs.Grammar.{containers, orContainer, beginning, nodeBy, parseNode, oneNode, nodesStep, block, animatoInput}
-use Rattle.grammar.specs.Grammar.{under as underdamping}
+use Rattle.grammar.specs.Grammar.{containers, orContainer, beginning, nodeBy, parseNode, oneNode, nodesStep, block, animatoInput, underDamping}
 use Rattle.limits.proofs.ListLaws.{_also_}
 use Rattle.unpack.proofs.StepLaws.{Stays, Found, Rows, gives, refuses, then, and, grouped, conds, tests}
 use Rattle.unpack.proofs.StepLaws.{needs, skips, the-mark, two-marks, eats, a-word, a-text, a-choice}
@@ -230,7 +229,7 @@ module _ (n : ℕ) where
       then (needs MissingDuration (lastNumber "duration" fs)) (λ d. gives)))))))
 
   spring-rows : Rows n springFields
-  unfolding springFields springPreset parseSpringPreset integrator criticalDamping overDamping underdamping
+  unfolding springFields springPreset parseSpringPreset integrator criticalDamping overDamping underDamping
   spring-rows =
       then (a-choice UnknownSpringPreset (words ("gentle" ∷ "wobbly" ∷ "stiff" ∷ "slow" ∷ "snappy" ∷ []))) (λ k. gives)
       also number-row
