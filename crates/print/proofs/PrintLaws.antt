@@ -29,7 +29,8 @@ use Rattle.line.specs.Line.{line}
 use Rattle.line.proofs.LineLaws.{length-line, puts-whole}
 use Rattle.parser.specs.Reading.{reading, scratchWords}
 use Rattle.validate.specs.Checking.{checking}
-use Rattle.script.specs.Output.{decimalOut, accept, refusal, whenChecked, whenRead, printed, output, paged, printing, lineBytes, sheetBytes, pageBytes}
+use Rattle.script.specs.Output.{decimalOut, accept, refusal, whenChecked, whenRead, printed}
+use Rattle.script.specs.Output.{output, paged, printing, lineBytes, sheetBytes, pageBytes}
 use Rattle.script.specs.Means.{linesOf}
 use Rattle.script.proofs.OutputLaws.{Held, held, lines-held, printed-small}
 use Rattle.print.specs.Means.{Lines}
@@ -96,14 +97,18 @@ module _ {n : ℕ} {s : List ℕ} {rs : List (List ℕ)} {i start end : ℕ} (x 
 -- `before` was to have
 pub record Going (n : ℕ) (s : List ℕ) (rs : List (List ℕ)) (c : ℕ) (before page : List ℕ) (i start end at : ℕ) : Type 0 where
   pub stands : Stands n s rs i start end
-  pub on : (after : List ℕ) (m : ℕ) → Puts page at (linesOf lineBytes c i (drop i rs)) after m → Puts before 0 (linesOf lineBytes c 0 rs) after m
+  pub on : (after : List ℕ) (m : ℕ)
+      → Puts page at (linesOf lineBytes c i (drop i rs)) after m
+      → Puts before 0 (linesOf lineBytes c 0 rs) after m
 
-pub goes : {n : ℕ} {s : List ℕ} {rs : List (List ℕ)} {end : ℕ} (c : ℕ) (page : List ℕ) → Stands n s rs 0 0 end → Going n s rs c page page 0 0 end 0
+pub goes : {n : ℕ} {s : List ℕ} {rs : List (List ℕ)} {end : ℕ} (c : ℕ) (page : List ℕ)
+    → Stands n s rs 0 0 end → Going n s rs c page page 0 0 end 0
 goes c page x = record { stands = x; on = λ after m p. p }
 
 module _ {n : ℕ} {s : List ℕ} {rs : List (List ℕ)} {c : ℕ} {before page : List ℕ} {i start end at : ℕ}
     (x : Going n s rs c before page i start end at) where
-  pub goes-refused : {after : List ℕ} {m : ℕ} → leb (2 * (end - start) + 7) lineBytes ≡ false → Puts page at (refusal OutputTooShort i) after m
+  pub goes-refused : {after : List ℕ} {m : ℕ} → leb (2 * (end - start) + 7) lineBytes ≡ false
+      → Puts page at (refusal OutputTooShort i) after m
       → Puts before 0 (linesOf lineBytes c 0 rs) after m
   goes-refused e p = x .on _ _ (rw (line-refused (x .stands) lineBytes c e) p)
 
@@ -113,7 +118,8 @@ module _ {n : ℕ} {s : List ℕ} {rs : List (List ℕ)} {c : ℕ} {before page 
         → Puts before 0 (linesOf lineBytes c 0 rs) after m
     lined-on after m q = x .on after m (rw (line-first (x .stands) lineBytes c e) (puts-then p q))
 
-    pub goes-last : {after : List ℕ} {m : ℕ} → length s ≤ end → Puts next put (accept c) after m → Puts before 0 (linesOf lineBytes c 0 rs) after m
+    pub goes-last : {after : List ℕ} {m : ℕ} → length s ≤ end → Puts next put (accept c) after m
+        → Puts before 0 (linesOf lineBytes c 0 rs) after m
     goes-last h q = lined-on _ _ (rw (line-last (x .stands) lineBytes c h) q)
 
     pub goes-on : {m : ℕ} → Stands n s rs (i + 1) end m → Going n s rs c before next (i + 1) end m put

@@ -12,7 +12,9 @@ use verdict::Verdict;
 
 // The program's buffers: the sheet that it gives reading, the output of a line, and a page that is long enough for every text.
 pub const SHEET_BYTES: usize = 49152;
+
 pub const LINE_BYTES: usize = 65536;
+
 pub const PAGE_BYTES: usize = 147456;
 
 // ---- words and numbers

@@ -89,7 +89,8 @@ dropped (q ∷ rs) zero r qs e = (ap (λ (l : List (List ℕ)). getElem? l 0) e,
 dropped (q ∷ rs) (suc i) r qs e = dropped rs i r qs e
 
 module _ (t sheet : List ℕ) (ns : Forest) (o : opening t sheet ≡ opened ns) (n : ℕ) where
-  lined-at : (i : ℕ) (out : List ℕ) {r : List ℕ} → getElem? (allRecords (length t) ns) i ≡ some r → lining t sheet i out ≡ placed i out (line r)
+  lined-at : (i : ℕ) (out : List ℕ) {r : List ℕ} → getElem? (allRecords (length t) ns) i ≡ some r
+      → lining t sheet i out ≡ placed i out (line r)
   unfolding lining
   lined-at i out e = rw (o, e)
 

@@ -65,4 +65,5 @@ line-parts t sheet i out g = line-back 131077 i (omega arith) g (lining t sheet 
 
 pub print-parts : (t scratch sheet page : List ℕ)
     → LineParts (printing t scratch sheet page .0) (packedLine (printing t scratch sheet page .0))
-print-parts t scratch sheet page = line-back pageBytes 0 (omega arith) (omega arith) (printing t scratch sheet page .0) (print-within t scratch sheet page)
+print-parts t scratch sheet page =
+    line-back pageBytes 0 (omega arith) (omega arith) (printing t scratch sheet page .0) (print-within t scratch sheet page)

@@ -20,7 +20,8 @@ use Rattle.sheet.specs.Records.{allRecords}
 use Rattle.sheet.specs.Opening.{Opened, opened, shut, opening}
 use Rattle.grammar.specs.Rule.{Notes, Out, got, refused}
 use Rattle.grammar.specs.Grammar.{stored, animatoInput}
-use Rattle.parser.specs.Reading.{Parsed, tree, wrong, unlessLeft, finished, parsed, parse, answered, early, unlessEarly, reading, scratchWords}
+use Rattle.parser.specs.Reading.{Parsed, tree, wrong, unlessLeft, finished, parsed, parse}
+use Rattle.parser.specs.Reading.{answered, early, unlessEarly, reading, scratchWords}
 use Rattle.limits.proofs.Limits.{parses-fits, parses-small}
 use Rattle.presets.specs.Colors.{colors}
 use Rattle.validate.specs.Rules.{validateNodes}

@@ -1,66 +1,58 @@
+-- `shelf::print_page` meets its contract. Assumes nothing.
 use mathlib.Core.Path.{sym}
 use lib.Seq.{length-take-le}
 use Rattle.print.proofs.PrintLaws.{printed-fits}
 use borrow.Author.Needs.{needs}
 use Rattle.shelf.proofs.print_page.Statement.{statement}
 use Rattle.shelf.proofs.print_page.Tie as tie
-use Rattle.shelf.proofs.print_page.Reads as reads
-use Rattle.shelf.proofs.print_page.Lts as lts
-use Rattle.io.proofs.write_all.Reads as write-all-reads
-use Rattle.print.proofs.print.Reads as print-reads
 
--- src/main.rt:27:46
 print-requires : tie.Need-print-requires
 print-requires c κs = search needs
 
--- src/main.rt:27:35
 enum-known-length : tie.Need-enum-known-length
 enum-known-length c = search needs
 
--- src/main.rt:28:38
 slice-reshare-prefix-write-all : tie.Need-slice-reshare-prefix-write-all
-slice-reshare-prefix-write-all c = printed-fits _ _ _ _ (rw (c .before .length .given .1) at (c .before .before .before .before .before .before .before .before .before .print .ensures))
+slice-reshare-prefix-write-all c =
+    let at-length = c .before in
+    let c5 = at-length .before .before .before .before in
+    let at-print = c5 .before .before .before .before in
+    printed-fits _ _ _ _ (rw (at-length .length .given .1) at (at-print .print .ensures))
 
--- src/main.rt:28:38
 slice-aggregate-write-all : tie.Need-slice-aggregate-write-all
-slice-aggregate-write-all c = sym (length-take-le _ _ (printed-fits _ _ _ _ (rw (c .before .before .length .given .1) at (c .before .before .before .before .before .before .before .before .before .before .print .ensures))))
+slice-aggregate-write-all c =
+    let at-length = c .before .before in
+    let c6 = at-length .before .before .before .before in
+    let at-print = c6 .before .before .before .before in
+    sym (length-take-le _ _ (printed-fits _ _ _ _ (rw (at-length .length .given .1) at (at-print .print .ensures))))
 
--- src/main.rt:28:9
 write-all-requires : tie.Need-write-all-requires
 write-all-requires c κs = search needs
 
 enum-told : tie.Need-enum-told
 enum-told c = search needs
 
--- src/main.rt:26:1
 same-length : tie.Need-same-length
 same-length c = search needs
 
--- src/main.rt:26:1
 same-length-2 : tie.Need-same-length-2
 same-length-2 c = search needs
 
--- src/main.rt:26:1
 same-length-3 : tie.Need-same-length-3
 same-length-3 c = search needs
 
--- src/main.rt:26:1
 returns : tie.Need-returns
 returns c = search needs
 
--- src/main.rt:26:1
 same-length-4 : tie.Need-same-length-4
 same-length-4 c = search needs
 
--- src/main.rt:26:1
 same-length-5 : tie.Need-same-length-5
 same-length-5 c = search needs
 
--- src/main.rt:26:1
 same-length-6 : tie.Need-same-length-6
 same-length-6 c = search needs
 
--- src/main.rt:26:1
 returns-2 : tie.Need-returns-2
 returns-2 c = search needs
 
