@@ -10,14 +10,16 @@ cargo test -j 1 --offline --manifest-path bindings/rust/Cargo.toml --target-dir 
 mkdir -p "$out"
 ${CC:-cc} -std=c99 -Wall -Wextra -Werror -O2 -o "$out/example" bindings/c/example.c target/staticlib/libstrip.a
 
-# expect TEXT OUTPUT: the example's output for a script, both with escapes.
+# expect TEXT OUTPUT: the example's output for a script, both with escapes, call by call and on a page.
 expect() {
-    printf "$1" | "$out/example" > "$out/got"
     printf "$2" > "$out/wanted"
-    cmp "$out/got" "$out/wanted"
+    for how in calls page; do
+        printf "$1" | "$out/example" $how > "$out/got"
+        cmp "$out/got" "$out/wanted"
+    done
 }
 expect 'at 0.5;' '00020001FF\n00060E3F00000000B3\naccept 1\n'
 expect '' '0002000000\naccept 0\n'
 expect 'tween' 'refuse 6 at 5\n'
 expect 'keyframes p {50%%: 0, 0.5s: 1}' 'refuse 26 at 1\n'
-echo "C example: 4 passed"
+echo "C example: 4 passed, each in two ways"

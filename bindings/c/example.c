@@ -1,12 +1,17 @@
-/* Reads a script from standard input, checks it, and prints its lines, then `accept N`; or `refuse R at P`. */
+/*
+ * Reads a script from standard input, checks it, and prints its lines, then `accept N`; or `refuse R at P`. With the argument `page`
+ * one call does it all.
+ */
 #include "strip.h"
 
 #include <stdio.h>
+#include <string.h>
 
 static uint8_t text[STRIP_TEXT_BYTES + 1];
 static uint16_t scratch[STRIP_SCRATCH_WORDS];
 static uint8_t sheet[STRIP_SHEET_BYTES];
 static uint8_t output[65536];
+static uint8_t page[STRIP_PAGE_BYTES];
 
 /* Prints a refusal, if there is one, and says whether there is. */
 static int refused(uint64_t answer) {
@@ -16,11 +21,17 @@ static int refused(uint64_t answer) {
     return 1;
 }
 
-int main(void) {
+int main(int argc, char **argv) {
     size_t length = fread(text, 1, sizeof text, stdin);
     if (ferror(stdin)) {
         perror("standard input");
         return 1;
+    }
+    if (argc > 1 && strcmp(argv[1], "page") == 0) {
+        uint64_t printed =
+            strip_print(text, length, scratch, STRIP_SCRATCH_WORDS, sheet, STRIP_SHEET_BYTES, page, STRIP_PAGE_BYTES);
+        fwrite(page, 1, strip_value(printed), stdout);
+        return 0;
     }
     uint64_t reading = strip_read(text, length, scratch, STRIP_SCRATCH_WORDS, sheet, STRIP_SHEET_BYTES);
     if (refused(reading))

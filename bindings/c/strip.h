@@ -1,6 +1,6 @@
 /*
- * Motion scripts of shelf-edge strips: reading a script into a sheet of bytes, checking the sheet, and lining its records in
- * hexadecimal. `rt staticlib strip` writes the library, target/staticlib/libstrip.a.
+ * Motion scripts of shelf-edge strips: reading a script into a sheet of bytes, checking the sheet, lining its records in
+ * hexadecimal, and all of it at once on a page. `rt staticlib strip` writes the library, target/staticlib/libstrip.a.
  *
  * No pointer is NULL, not even where its length is 0. What is written to overlaps nothing else that is lent. A length is in
  * elements. Nothing is allocated.
@@ -17,10 +17,11 @@
 extern "C" {
 #endif
 
-/* The longest text, the fewest words of scratch, and a sheet long enough for every text. */
+/* The longest text, the fewest words of scratch, a sheet long enough for every text, and the shortest page, which is so too. */
 #define STRIP_TEXT_BYTES 16384
 #define STRIP_SCRATCH_WORDS 16384
 #define STRIP_SHEET_BYTES 49152
+#define STRIP_PAGE_BYTES 147456
 
 /* The causes of refusal. */
 enum strip_refusal {
@@ -73,6 +74,14 @@ uint64_t strip_check(const uint8_t *text, size_t text_length, const uint8_t *she
  */
 uint64_t strip_line(const uint8_t *text, size_t text_length, const uint8_t *sheet, size_t sheet_length, uint32_t ordinal,
                     uint8_t *output, size_t output_length);
+
+/*
+ * Reads and checks a text, and writes at the front of a page what the program prints for it: a line for each record, then
+ * `accept N`; or `refuse R at P`. Accepted: strip_value is the length of what is written; past it the page is as it was, and scratch
+ * and sheet are as strip_read leaves them. A page of fewer than STRIP_PAGE_BYTES is refused with 32 at 0, and nothing is touched.
+ */
+uint64_t strip_print(const uint8_t *text, size_t text_length, uint16_t *scratch, size_t scratch_length, uint8_t *sheet,
+                     size_t sheet_length, uint8_t *page, size_t page_length);
 
 /* The parts of an answer. */
 static inline enum strip_refusal strip_number(uint64_t answer) { return (enum strip_refusal)(answer >> 56); }

@@ -1,6 +1,6 @@
-//! Motion scripts of shelf-edge strips: reading a script into a sheet of bytes, checking the sheet, and lining its records in
-//! hexadecimal. The three functions call a library that is proved: each answer and every byte that is written equals a
-//! definition. They allocate nothing, and what they write to is lent.
+//! Motion scripts of shelf-edge strips: reading a script into a sheet of bytes, checking the sheet, lining its records in
+//! hexadecimal, and all of it at once on a page. The four functions call a library that is proved: each answer and every byte
+//! that is written equals a definition. They allocate nothing, and what they write to is lent.
 //!
 //! ```
 //! use strip::{CheckAnswer, LineAnswer, ReadAnswer, Refusal};
@@ -20,6 +20,12 @@
 //! assert_eq!(strip::line(text, sheet, 1, &mut output), LineAnswer::Accepted { length: 19 });
 //! assert_eq!(&output[..19], b"00060E3F00000000B3\n");
 //!
+//! // all that the program prints for a text, in one call
+//! let mut page = vec![0; strip::PAGE_BYTES];
+//! let answer = strip::print(text, &mut scratch, &mut vec![0; strip::SHEET_BYTES], &mut page);
+//! assert_eq!(answer, LineAnswer::Accepted { length: 39 });
+//! assert_eq!(&page[..39], b"00020001FF\n00060E3F00000000B3\naccept 1\n");
+//!
 //! // a refusal has a number, a name and a place
 //! let answer = strip::read(b"at 0.5; tween", &mut scratch, &mut vec![0; strip::SHEET_BYTES]);
 //! assert_eq!(answer, ReadAnswer::Refused { refusal: Refusal::Missing, place: 13 });
@@ -37,6 +43,8 @@ pub const TEXT_BYTES: usize = 16_384;
 pub const SCRATCH_WORDS: usize = 16_384;
 /// A sheet of so many bytes is long enough for every text.
 pub const SHEET_BYTES: usize = 49_152;
+/// The shortest page that printing takes, which is long enough for every text.
+pub const PAGE_BYTES: usize = 147_456;
 
 /// What [`read`] answers.
 #[derive(Clone, Copy, Debug, PartialEq, Eq)]
@@ -71,19 +79,19 @@ pub enum CheckAnswer {
     },
 }
 
-/// What [`line`] answers.
+/// What [`line`] and [`print`] answer.
 #[derive(Clone, Copy, Debug, PartialEq, Eq)]
 pub enum LineAnswer {
-    /// The output's first `length` bytes are the line, its LF included.
+    /// The output's first `length` bytes are the line, its LF included, or the page's all that is printed.
     Accepted {
-        /// The line's length in bytes.
+        /// The length in bytes.
         length: usize,
     },
-    /// There is no line, and the output is as it was.
+    /// Nothing is written, and the output or the page is as it was.
     Refused {
         /// Why.
         refusal: Refusal,
-        /// The ordinal; for [`Refusal::BadForm`] a place in the text; for what is no sheet 0.
+        /// 0 for a page; the ordinal for a line; for [`Refusal::BadForm`] a place in the text; for what is no sheet 0.
         place: usize,
     },
 }
@@ -92,6 +100,7 @@ extern "C" {
     fn strip_read(text: *const u8, text_length: usize, scratch: *mut u16, words: usize, sheet: *mut u8, room: usize) -> u64;
     fn strip_check(text: *const u8, text_length: usize, sheet: *const u8, sheet_length: usize) -> u64;
     fn strip_line(text: *const u8, text_length: usize, sheet: *const u8, sheet_length: usize, ordinal: u32, output: *mut u8, room: usize) -> u64;
+    fn strip_print(text: *const u8, text_length: usize, scratch: *mut u16, words: usize, sheet: *mut u8, room: usize, page: *mut u8, page_room: usize) -> u64;
 }
 
 /// Reads a text into a sheet. Afterwards scratch is all zero, and the sheet zero past its length, or everywhere on a refusal;
@@ -120,7 +129,29 @@ pub fn check(text: &[u8], sheet: &[u8]) -> CheckAnswer {
 /// needs 2n + 7 bytes of output.
 pub fn line(text: &[u8], sheet: &[u8], ordinal: u32, output: &mut [u8]) -> LineAnswer {
     // SAFETY: the three slices are whole, and the output overlaps neither of the others.
-    let answer = unsafe { strip_line(text.as_ptr(), text.len(), sheet.as_ptr(), sheet.len(), ordinal, output.as_mut_ptr(), output.len()) };
+    line_answer(unsafe { strip_line(text.as_ptr(), text.len(), sheet.as_ptr(), sheet.len(), ordinal, output.as_mut_ptr(), output.len()) })
+}
+
+/// Reads and checks a text, and writes at the front of a page what the program prints for it: a line for each record, then
+/// `accept N`; or `refuse R at P`. Past that the page is as it was; scratch and sheet are as [`read`] leaves them. A page of fewer
+/// than [`PAGE_BYTES`] is refused with [`Refusal::OutputTooShort`], and nothing is touched.
+pub fn print(text: &[u8], scratch: &mut [u16], sheet: &mut [u8], page: &mut [u8]) -> LineAnswer {
+    // SAFETY: the four slices are whole, and do not overlap.
+    line_answer(unsafe {
+        strip_print(
+            text.as_ptr(),
+            text.len(),
+            scratch.as_mut_ptr(),
+            scratch.len(),
+            sheet.as_mut_ptr(),
+            sheet.len(),
+            page.as_mut_ptr(),
+            page.len(),
+        )
+    })
+}
+
+fn line_answer(answer: u64) -> LineAnswer {
     match refused(answer) {
         Some((refusal, place)) => LineAnswer::Refused { refusal, place },
         None => LineAnswer::Accepted { length: value(answer) },

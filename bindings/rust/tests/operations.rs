@@ -1,5 +1,5 @@
 //! Each operation, its refusals, and what it leaves in what is lent.
-use strip::{check, line, read, CheckAnswer, LineAnswer, ReadAnswer, Refusal, SCRATCH_WORDS, SHEET_BYTES, TEXT_BYTES};
+use strip::{check, line, print, read, CheckAnswer, LineAnswer, ReadAnswer, Refusal, PAGE_BYTES, SCRATCH_WORDS, SHEET_BYTES, TEXT_BYTES};
 
 /// The sheet of a text that reading accepts, and its count of records.
 fn sheet_of(text: &[u8]) -> (Vec<u8>, usize) {
@@ -31,6 +31,38 @@ fn a_script_is_read_checked_and_lined() {
     assert_eq!(output[11..], [7; 21]);
     assert_eq!(line(text, &sheet, 1, &mut output), LineAnswer::Accepted { length: 19 });
     assert_eq!(&output[..19], b"00060E3F00000000B3\n");
+}
+
+/// What printing writes for a text, on a page that is otherwise as it was.
+fn printed(text: &[u8]) -> Vec<u8> {
+    let (mut scratch, mut sheet, mut page) = (vec![1; SCRATCH_WORDS], vec![2; SHEET_BYTES], vec![3; PAGE_BYTES]);
+    let LineAnswer::Accepted { length } = print(text, &mut scratch, &mut sheet, &mut page) else {
+        panic!("{:?} is refused", String::from_utf8_lossy(text));
+    };
+    assert!(page[length..].iter().all(|&b| b == 3));
+    page.truncate(length);
+    page
+}
+
+#[test]
+fn a_script_is_printed_on_a_page() {
+    assert_eq!(printed(b"at 0.5;"), b"00020001FF\n00060E3F00000000B3\naccept 1\n");
+    assert_eq!(printed(b""), b"0002000000\naccept 0\n");
+    assert_eq!(printed(b"tween"), b"refuse 6 at 5\n");
+    assert_eq!(printed(b"keyframes p {50%: 0, 0.5s: 1}"), b"refuse 26 at 1\n");
+    assert_eq!(printed(&vec![b' '; TEXT_BYTES + 1]), b"refuse 1 at 0\n");
+    // lines, and then a record whose line is longer than 65,536 bytes
+    let frames: String = (0..99).map(|k| format!("{k}:0,")).collect();
+    let text = format!("at 1;keyframes p{{{frames}99:[{}]}}", vec!["0"; 7938].join(","));
+    assert_eq!(printed(text.as_bytes()), b"00020002FE\n00060E3F8000000033\nrefuse 32 at 2\n");
+}
+
+#[test]
+fn a_page_of_fewer_bytes_is_refused_and_nothing_is_touched() {
+    let (mut scratch, mut sheet, mut page) = (vec![1; SCRATCH_WORDS], vec![2; SHEET_BYTES], vec![3; PAGE_BYTES - 1]);
+    let answer = print(b"at 1", &mut scratch, &mut sheet, &mut page);
+    assert_eq!(answer, LineAnswer::Refused { refusal: Refusal::OutputTooShort, place: 0 });
+    assert!(scratch.iter().all(|&w| w == 1) && sheet.iter().all(|&b| b == 2) && page.iter().all(|&b| b == 3));
 }
 
 #[test]

@@ -81,23 +81,24 @@ module _ (s : List ℕ) (short : length s ≤ textLimit) where
   pub record Headed (k q : ℕ) (c : Container) (m : ℕ) : Type 0 where
     pub ok : HeadOk c
     pub paid : headSize c + 1 + 3 * q ≤ 3 * m + 3 * k
+    pub on : q ≤ m
 
   abbrev pub HeadRule : ℕ → Rule Container → Type 0
   HeadRule k p = (q : ℕ) → q ≤ length s → Runs s p q (Headed k q)
 
   pub sequence-runs : HeadRule 8 parseSequence
   unfolding parseSequence
-  sequence-runs q h = gives h (record { ok = tt; paid = omega arith })
+  sequence-runs q h = gives h (record { ok = tt; paid = omega arith; on = omega arith })
 
   pub parallel-runs : HeadRule 8 parseParallel
   unfolding parseParallel
-  parallel-runs q h = gives h (record { ok = tt; paid = omega arith })
+  parallel-runs q h = gives h (record { ok = tt; paid = omega arith; on = omega arith })
 
   pub group-runs : HeadRule 5 parseGroup
   unfolding parseGroup
   group-runs q h =
       then (a-choice h Malformed (words ("sequence" ∷ "parallel" ∷ [])))
-      (λ k m g x. gives g (record { ok = x .0; paid = omega (arith, x .1) }))
+      (λ k m g x. gives g (record { ok = x .0; paid = omega (arith, x .1); on = omega (arith, x .1) }))
 
   -- ---- stagger
 
@@ -219,4 +220,8 @@ module _ (s : List ℕ) (short : length s ≤ textLimit) where
       then (repeats (Opened q) (Opened q) (λ x m o. o) openingStep
       (λ x m g o. tests (sees "{") (λ e. gives g o) (λ e. field-runs q x m g o)) h (record { pattern = tt; delay = tt; low = omega arith }))
       (λ x m g o. gives g
-      (record { ok = (on-ok patternL (x .0) (o .pattern), on-ok wordL (x .1) (o .delay)); paid = omega (arith, o .low) }))
+      (record {
+        ok = (on-ok patternL (x .0) (o .pattern), on-ok wordL (x .1) (o .delay));
+        paid = omega (arith, o .low);
+        on = o .low;
+      }))

@@ -1,5 +1,5 @@
 -- What the grammar's tree of a text is to the sheet, for every text that has one: what demand 3 needs of reading. Assumes nothing.
-use Prim.Native.Nat.{ℕ, suc, _≤_, _<_}
+use Prim.Native.Nat.{ℕ, suc, _*_, _≤_, _<_}
 use mathlib.Core.Bool.{false}
 use mathlib.Core.List.{List, [], _∷_}
 use mathlib.Core.Option.{Option, none, some}
@@ -13,7 +13,7 @@ use Rattle.number.specs.Time.{Key}
 use Rattle.token.specs.Token.{Token}
 use Rattle.token.specs.Split.{Split, unlexed, tokens, split}
 use Rattle.token.proofs.StreamLaws.{split-reads, clean}
-use Rattle.ast.specs.Tree.{Nodes, mapTimes}
+use Rattle.ast.specs.Tree.{Nodes, records, mapTimes}
 use Rattle.sheet.specs.Sheet.{encode}
 use Rattle.sheet.specs.Opening.{foreignFrom, opened, opening}
 use Rattle.sheet.proofs.Laws.{Fits, innerL, decodes}
@@ -91,6 +91,10 @@ pub parses-small : (t : List ℕ) (ns : Nodes Key) → length t ≤ textLimit �
     → length (encode (length t) (mapTimes stored ns)) ≤ 49152
 unfolding encode
 parses-small t ns short e = let w = whole t ns short e in top-small t short 16 (mapTimes stored ns) (w .at) (w .high) (w .post .paid)
+
+-- at least 3 bytes of the text for each record
+pub parses-few : (t : List ℕ) (ns : Nodes Key) → length t ≤ textLimit → parse t ≡ tree ns → 3 * records ns ≤ length t
+parses-few t ns short e = let w = whole t ns short e in omega (arith, w .high, w .post .many)
 
 -- so checking and lining, given that text and its sheet, open it: none of 1, 2 and 20 is due
 pub parses-opens : (t : List ℕ) (ns : Nodes Key) → length t ≤ textLimit → parse t ≡ tree ns

@@ -1,7 +1,7 @@
 -- Nodes and blocks, by the number of containers that may still nest. Assumes nothing.
 use Prim.Native.Nat.{ℕ, zero, suc, _+_, _-_, _*_, _≤_}
 use Prim.Native.String.{String}
-use mathlib.Core.List.{List, []}
+use mathlib.Core.List.{List, [], _++_}
 use mathlib.Core.Option.{Option, none, some}
 use mathlib.Core.Path.{_≡_, refl, ap, _∙_}
 use native.Mathlib.Omega.{arith}
@@ -10,12 +10,14 @@ use Rattle.text.specs.Limits.{textLimit}
 use Rattle.text.specs.Bytes.{bytes}
 use Rattle.text.specs.Words.{under}
 use Rattle.number.specs.Time.{Key}
-use Rattle.codec.specs.Codec.{Form, big}
+use Rattle.codec.specs.Codec.{Form, big, opt}
 use Rattle.codec.proofs.Laws.{All, Law}
 use Rattle.encode.proofs.FieldLaws.{small, length-big}
-use Rattle.ast.specs.Tree.{Leaf, Container, Nodes, leaf, box, MotionNode, single, holding, push, append, width, mapLeaf, mapTimes}
+use Rattle.ast.specs.Tree as tree
+use Rattle.ast.specs.Tree.{Leaf, Container, KeyframeTime, Nodes, leaf, box, MotionNode, single, holding, push, append}
+use Rattle.ast.specs.Tree.{width, records, mapLeaf, mapTimes}
 use Rattle.sheet.specs.Sheet as sheets
-use Rattle.sheet.specs.Sheet.{Forest, Node, nodeForm, forest}
+use Rattle.sheet.specs.Sheet.{Forest, Node, word, nodeForm, forest}
 use Rattle.sheet.proofs.Laws.{nodeL, OkNodes, innerL}
 use Rattle.error.specs.declared.Refusal.the-variants.{Missing, TooManyNested}
 use Rattle.grammar.specs.Rule.{Rule, give, refuse, ends, sees, repeat, more}
@@ -76,6 +78,43 @@ module _ (n : ℕ) (inner : Form Forest) where
       (forest n inner (width (append rest (push x Nodes.none))) .write (append rest (push x Nodes.none)))
       ∙ omega arith
 
+-- ---- how many records
+
+-- a node's own, and those of the nodes in it
+abbrev pub recordsIn : MotionNode Key → ℕ
+recordsIn (single l) = 1
+recordsIn (holding c ns) = suc (records ns)
+
+records-more : (ns : Nodes Key) (x : MotionNode Key) → records (append ns (push x Nodes.none)) ≡ records ns + recordsIn x
+records-more Nodes.none (single l) = refl
+records-more Nodes.none (holding c ns) = omega arith
+records-more (leaf l rest) x = let e = records-more rest x in omega arith
+records-more (box c ns rest) x = let e = records-more rest x in omega arith
+
+opt-some : (o : Option ℕ) (bs : List ℕ) (k : ℕ) → k ≤ length bs → suc k ≤ length (opt word .write o ++ bs)
+opt-some none bs k h = omega arith
+opt-some (some a) bs k h = omega arith
+
+-- a leaf's record has 5 bytes or more
+leaf-long : (n : ℕ) (inner : Form Forest) (l : Leaf KeyframeTime) → 5 ≤ length (nodeForm n inner .write (single l))
+leaf-long n inner (tree.tween x) = omega arith
+leaf-long n inner (tree.spring x) = omega arith
+leaf-long n inner (tree.keyframes x) = omega arith
+leaf-long n inner (tree.path x) = omega arith
+leaf-long n inner (tree.morph x) = omega arith
+leaf-long n inner (tree.draw x) = omega arith
+leaf-long n inner (tree.color x) = omega arith
+leaf-long n inner (tree.waveform x) =
+    let four = opt word .write (x .dutyCycle)
+    ++ (opt word .write (x .seed) ++ (opt word .write (x .smoothness) ++ opt word .write (x .duration)))
+    in
+    let five = opt word .write (x .phase) ++ four in
+    let six = opt word .write (x .amplitude) ++ five in
+    omega (arith, opt-some (x .frequency) six 2 (opt-some (x .amplitude) five 1 (opt-some (x .phase) four 0 (omega arith))))
+leaf-long n inner (tree.preset x) = omega arith
+leaf-long n inner (tree.label x) = omega arith
+leaf-long n inner (tree.at x) = omega arith
+
 -- ---- a node
 
 module _ (s : List ℕ) (short : length s ≤ textLimit) {inner : Form Forest} (b : Law inner) where
@@ -83,11 +122,13 @@ module _ (s : List ℕ) (short : length s ≤ textLimit) {inner : Form Forest} (
   pub record Blocked (q : ℕ) (ns : Nodes Key) (m : ℕ) : Type 0 where
     pub ok : b .ok (mapTimes stored ns)
     pub paid : length (inner .write (mapTimes stored ns)) + 1 + 3 * q ≤ 3 * m
+    pub many : 3 * records ns + q ≤ m
 
-  -- a node from q to m, with 2 bytes to spare for the count of the nodes beside it
+  -- a node from q to m, with 2 bytes to spare for the count of the nodes beside it; 3 bytes of text or more for each record
   pub record Noded (q : ℕ) (x : MotionNode Key) (m : ℕ) : Type 0 where
     pub ok : nodeL (length s) b .ok (node x)
     pub paid : length (nodeForm (length s) inner .write (node x)) + 2 + 3 * q ≤ 3 * m
+    pub many : 3 * recordsIn x + q ≤ m
 
   module _ (p : Rule (Nodes Key)) (blocks : (q : ℕ) → q ≤ length s → Runs s p q (Blocked q)) where
     -- behind the keyword w, i is the place of what follows
@@ -96,11 +137,18 @@ module _ (s : List ℕ) (short : length s ≤ textLimit) {inner : Form Forest} (
           → LeafRule s short b k r → w .1 ≡ bytes v → Runs s (nodeBy p (aLeaf r)) i (Noded q)
       leaf-by r v k l y e =
           then (y i h (x .behind))
-          (λ a m g z. let f = ap length e in gives g (record { ok = z .ok; paid = omega (arith, z .paid, x .low, x .end) }))
+          (λ a m g z.
+          let f = ap length e in
+          gives g
+          (record {
+            ok = z .ok;
+            paid = omega (arith, z .paid, x .low, x .end);
+            many = omega (arith, leaf-long (length s) inner (mapLeaf stored a), z .paid, x .low, x .end);
+          }))
 
-      box-by : (r : Rule Container) (v : String) (k : ℕ) → length (bytes v) ≡ k
+      box-by : (r : Rule Container) (v : String) (k : ℕ) → length (bytes v) ≡ k → 3 ≤ k
           → HeadRule s short k r → w .1 ≡ bytes v → Runs s (nodeBy p (aContainer r)) i (Noded q)
-      box-by r v k l y e =
+      box-by r v k l three y e =
           then (y i h)
           (λ c m1 g1 x1.
           then (blocks m1 g1)
@@ -110,6 +158,7 @@ module _ (s : List ℕ) (short : length s ≤ textLimit) {inner : Form Forest} (
           (record {
             ok = head-ok (length s) b c (mapTimes stored ns) (x1 .ok) (x2 .ok);
             paid = omega (arith, head-size (length s) inner c (mapTimes stored ns), x .low, x .end, x1 .paid, x2 .paid);
+            many = omega (arith, x .low, x .end, x1 .on, x2 .many);
           })))
 
       all-leaves : All (λ f. w .1 ≡ bytes (f .0) → Runs s (nodeBy p (aLeaf (f .1))) i (Noded q)) leaves
@@ -131,10 +180,10 @@ module _ (s : List ℕ) (short : length s ≤ textLimit) {inner : Form Forest} (
       all-containers : All (λ f. w .1 ≡ bytes (f .0) → Runs s (nodeBy p (aContainer (f .1))) i (Noded q)) containers
       unfolding containers
       all-containers =
-          box-by _ "sequence" 8 refl (sequence-runs s short)
-          also box-by _ "parallel" 8 refl (parallel-runs s short)
-          also box-by _ "group" 5 refl (group-runs s short)
-          also box-by _ "stagger" 7 refl (stagger-runs s short)
+          box-by _ "sequence" 8 refl (omega arith) (sequence-runs s short)
+          also box-by _ "parallel" 8 refl (omega arith) (parallel-runs s short)
+          also box-by _ "group" 5 refl (omega arith) (group-runs s short)
+          also box-by _ "stagger" 7 refl (omega arith) (stagger-runs s short)
           also tt
 
       begins : Runs s (nodeBy p (beginning (w .1))) i (Noded q)
@@ -159,6 +208,7 @@ module _ (s : List ℕ) (short : length s ≤ textLimit) {inner : Form Forest} (
       pub ok : OkNodes (length s) b (mapTimes stored ns)
       pub count : width (mapTimes stored ns) + q ≤ m
       pub paid : recordBytes (length s) inner (mapTimes stored ns) + 2 * width (mapTimes stored ns) + 3 * q ≤ 3 * m
+      pub many : 3 * records ns + q ≤ m
 
     several-more : (q : ℕ) (ns : Nodes Key) (m : ℕ) (x : MotionNode Key) (k : ℕ)
         → Several q ns m → Noded m x k → Several q (append ns (push x Nodes.none)) k
@@ -169,6 +219,7 @@ module _ (s : List ℕ) (short : length s ≤ textLimit) {inner : Form Forest} (
           ok = rw e (ok-more (length s) b (mapTimes stored ns) (node x) (y .ok) (z .ok));
           count = rw (e, c) (omega (arith, y .count, z .paid));
           paid = rw (e, bytes-more, c) (omega (arith, y .paid, z .paid));
+          many = omega (arith, records-more ns x, y .many, z .many);
         }
 
     step-runs : (q : ℕ) (ns : Nodes Key) (m : ℕ) → m ≤ length s → Several q ns m → Runs s (nodesStep p ns) m (Onto (Several q) (Several q))
@@ -177,7 +228,13 @@ module _ (s : List ℕ) (short : length s ≤ textLimit) {inner : Form Forest} (
         tests ends (λ e. gives g y)
         (λ e. tests (sees ";")
         (λ f. and {f = give (more ns)} (skips-mark g 59 refl f)
-        (λ k h u z. gives h (record { ok = y .ok; count = omega (arith, y .count, z .on); paid = omega (arith, y .paid, z .on) })))
+        (λ k h u z. gives h
+        (record {
+          ok = y .ok;
+          count = omega (arith, y .count, z .on);
+          paid = omega (arith, y .paid, z .on);
+          many = omega (arith, y .many, z .on);
+        })))
         (λ f. then (node-runs m g) (λ x k h z. gives h (several-more q ns m x k y z))))
 
     pub nodes-run : (q : ℕ) → q ≤ length s → Runs s (repeat (nodesStep p) Nodes.none) q (Several q)
@@ -189,7 +246,7 @@ module _ (s : List ℕ) (short : length s ≤ textLimit) {inner : Form Forest} (
         (nodesStep p)
         (step-runs q)
         h
-        (record { ok = tt; count = omega arith; paid = omega arith })
+        (record { ok = tt; count = omega arith; paid = omega arith; many = omega arith })
 
 -- ---- blocks
 
@@ -219,6 +276,7 @@ module _ (s : List ℕ) (short : length s ≤ textLimit) where
         record {
           ok = sized-ok d (mapTimes stored ns) (omega (arith, x .inner .count, x .left .low)) (x .inner .ok);
           paid = rw (sized-length d (mapTimes stored ns)) (omega (arith, x .low, x .inner .paid, x .left .low));
+          many = omega (arith, x .low, x .inner .many, x .left .low);
         }) .run
         l;
   }

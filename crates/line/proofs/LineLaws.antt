@@ -95,14 +95,20 @@ room-for n room h = go (leb n ((room - 7) / 2)) refl
     go true e = sym (le-leb (2 * n + 7) room (omega (arith, leb-true n ((room - 7) / 2) e)))
     go false e = sym (lt-leb (2 * n + 7) room (omega (arith, leb-false n ((room - 7) / 2) e)))
 
+-- what is written where there is room for all of it
+pub puts-whole : {out bs after : List ℕ} {end : ℕ} → length bs ≤ length out → Puts out 0 bs after end
+    → (end ≡ length bs) × (after ≡ bs ++ drop (length bs) out)
+puts-whole {out} {bs} h p =
+    let b : sets out 0 bs ≡ bs ++ drop (0 + length bs) out = sets-eq bs out 0 (rw zero-add h) in
+    (p .place ∙ (rw (zero-add, sub-zero, take-all (length out) bs h)), p .bytes ∙ b ∙ (rw zero-add))
+
 module _ (i : ℕ) (out r : List ℕ) where
   pub with-room : {after : List ℕ} {end : ℕ} → leb (2 * length r + 7) (length out) ≡ true
       → Puts out 0 (line r) after end → placed i out (line r) ≡ (Accepted end, after)
   with-room {after} {end} e p =
       let h : length (line r) ≤ length out = omega (arith, length-line r, leb-true (2 * length r + 7) (length out) e) in
-      let n : end ≡ length (line r) = p .place ∙ (rw (zero-add, sub-zero, take-all (length out) (line r) h)) in
-      let b : sets out 0 (line r) ≡ line r ++ drop (0 + length (line r)) out = sets-eq (line r) out 0 (rw zero-add h) in
-      rw (le-ltb _ _ h, n, p .bytes, b, zero-add)
+      let w = puts-whole h p in
+      rw (le-ltb _ _ h, w .0, w .1)
 
   pub without-room : leb (2 * length r + 7) (length out) ≡ false → placed i out (line r) ≡ (Refused OutputTooShort i, out)
   without-room e =

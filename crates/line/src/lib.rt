@@ -66,12 +66,12 @@ fn put_bytes(out: &mut [u8], at: usize, bytes: &[u8]) -> usize
     end
 }
 
-// Writes a record's line at the front, and gives its length.
-fn put_line(out: &mut [u8], bytes: &[u8]) -> usize
-    ensures { λ r. ⌜ Puts (now (out .entry)) 0 (line (now (bytes .entry))) (now (out .exit)) r ⌝ }
+// Writes a record's line at a place, as far as there is room, and gives the place behind it.
+pub fn put_line(out: &mut [u8], at: usize, bytes: &[u8]) -> usize
+    ensures { λ r. ⌜ Puts (now (out .entry)) at (line (now (bytes .entry))) (now (out .exit)) r ⌝ }
 {
     let n = bytes.len();
-    let high = put_byte(out, 0, (n / 256 % 256) as u8);
+    let high = put_byte(out, at, (n / 256 % 256) as u8);
     let low = put_byte(out, high, (n % 256) as u8);
     let body = put_bytes(out, low, bytes);
     let end = put_byte(out, body, check_byte(bytes));
@@ -81,7 +81,7 @@ fn put_line(out: &mut [u8], bytes: &[u8]) -> usize
 // ---- lining
 
 // Whether an output of so many bytes has room for the line of a record of n bytes, which takes 2n + 7.
-fn has_room(room: usize, n: usize) -> bool
+pub fn has_room(room: usize, n: usize) -> bool
     ensures { λ r. ⌜ r ≡ leb (2 * n + 7) room ⌝ }
 {
     if room < 7 {
@@ -96,7 +96,7 @@ fn place_line(bytes: &[u8], ordinal: usize, out: &mut [u8]) -> LineAnswer
 {
     if has_room(out.len(), bytes.len()) {
         return LineAnswer::Accepted {
-            length: put_line(out, bytes),
+            length: put_line(out, 0, bytes),
         };
     }
     LineAnswer::Refused {

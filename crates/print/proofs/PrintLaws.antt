@@ -1,36 +1,39 @@
--- Laws of what is printed: words, numbers and pieces. Assumes nothing.
-use Prim.Native.Nat.{ℕ, zero, suc, _+_, _-_, _/_, _%_, _≤_, _<_}
+-- Laws of what is printed: words and numbers, lines, the page. Assumes nothing.
+use Prim.Native.Nat.{ℕ, zero, suc, _+_, _*_, _-_, _/_, _%_, _≤_, _<_}
 use mathlib.Core.Bool.{Bool, true, false, cond}
-use mathlib.Core.List.{List, [], _∷_, _++_, append-nil, flatten}
+use mathlib.Core.List.{List, [], _∷_, _++_}
+use mathlib.Core.Option.{Option, none, some}
 use mathlib.Core.Path.{_≡_, refl, sym, ap, _∙_}
 use native.Mathlib.Omega.{arith}
 use native.Mathlib.Numerals.{add-one}
-use native.Mathlib.Nat.{sub-zero}
-use lib.Dec.{ltb}
-use lib.ListN.{length, getD, take, drop, replicate, length-append, length-replicate}
-use lib.Seq.{drop-cons, take-all, length-sets}
-use borrow.Author.Tests.{le-ltb, lt-ltb, ltb-true, ltb-false}
+use lib.Dec.{leb, ltb}
+use lib.ListN.{length, getD, getElem?, take, drop, replicate, length-append, length-replicate}
+use lib.Seq.{drop-cons, drop-drop, take-at, take-append-seam}
+use borrow.Author.Tests.{le-ltb, lt-ltb, leb-true, leb-false}
 use Rattle.error.specs.declared.Refusal.{Refusal}
-use Rattle.error.specs.Refusal.{numberOf}
-use Rattle.error.specs.declared.LineAnswer.the-variants as line
-use Rattle.text.specs.Bytes.{bytes}
-use Rattle.text.specs.Write.{Puts}
-use Rattle.text.proofs.WriteLaws.{puts-front, puts-fits}
-use Rattle.line.specs.Lining.{lining}
-use Rattle.line.proofs.LineLaws.{given-fits}
+use Rattle.error.specs.declared.Refusal.the-variants.{OutputTooShort}
+use Rattle.error.specs.declared.ReadAnswer.{ReadAnswer}
 use Rattle.error.specs.declared.ReadAnswer.the-variants as read
 use Rattle.error.specs.declared.CheckAnswer.{CheckAnswer}
 use Rattle.error.specs.declared.CheckAnswer.the-variants as check
-use Rattle.parser.specs.Means.{outcome}
+use Rattle.error.specs.declared.LineAnswer.{LineAnswer}
+use Rattle.error.specs.declared.LineAnswer.the-variants as lined
+use Rattle.text.specs.Bytes.{part}
+use Rattle.text.specs.Write.{Puts}
+use Rattle.text.proofs.WriteLaws.{puts-then}
+use Rattle.sheet.specs.Sheet.{Forest, decode}
+use Rattle.sheet.specs.Records.{allRecords}
+use Rattle.sheet.proofs.Flat.{concat}
+use Rattle.records.proofs.PlaceLaws.{Stands, no-more}
+use Rattle.line.specs.Line.{line}
+use Rattle.line.proofs.LineLaws.{length-line, puts-whole}
 use Rattle.parser.specs.Reading.{reading, scratchWords}
 use Rattle.validate.specs.Checking.{checking}
-use Rattle.verdict.specs.declared.Verdict.{Verdict}
-use Rattle.verdict.specs.declared.Verdict.the-variants.{Unread, Checked}
-use Rattle.verdict.specs.Verdict.{readOf, Answered}
-use Rattle.script.specs.Output.{decimalOut, accept, refusal, lines, whenRead, printed, output}
-use Rattle.print.specs.Pieces.{pending, judgedStage, firstStage, ahead, afterLine, Begins, Steps, Run}
-use Rattle.print.specs.declared.Stage.{Stage}
-use Rattle.print.specs.declared.Stage.the-variants.{Line, Accept, Refuse, Done}
+use Rattle.script.specs.Output.{decimalOut, accept, refusal, whenChecked, whenRead, printed}
+use Rattle.script.specs.Output.{output, paged, printing, lineBytes, sheetBytes, pageBytes}
+use Rattle.script.specs.Means.{linesOf}
+use Rattle.script.proofs.OutputLaws.{Held, held, lines-held, printed-small}
+use Rattle.print.specs.Means.{Lines}
 
 -- ---- words and numbers
 
@@ -52,127 +55,156 @@ unfolding decimalOut
 decimal-more zero n h l = absurd (omega arith)
 decimal-more (suc k) n h l = let e : suc k - 1 ≡ k = omega arith in rw (e, decimalOut, le-ltb n 10 l)
 
-decimal-short : (k n : ℕ) → length (decimalOut k n) ≤ k
-unfolding decimalOut
-decimal-short zero n = omega arith
-decimal-short (suc k) n = go (ltb n 10) (decimal-short k (n / 10))
-  where
-    go : (b : Bool) → length (decimalOut k (n / 10)) ≤ k
-        → length {A = ℕ} (elim b [ true ↦ (48 + n) ∷ [] | false ↦ decimalOut k (n / 10) ++ (48 + n % 10) ∷ [] ]) ≤ suc k
-    go true h = omega arith
-    go false h = omega (arith, length-append (decimalOut k (n / 10)) ((48 + n % 10) ∷ []))
+-- ---- lines
 
-pub accept-short : (n : ℕ) → length (accept n) ≤ 32
-unfolding accept
-accept-short n =
-    omega (
-      arith,
-      decimal-short 10 n,
-      length-append (bytes "accept ") (decimalOut 10 n),
-      length-append (bytes "accept " ++ decimalOut 10 n) (10 ∷ []),
-    )
+none-left : (rs : List (List ℕ)) (i : ℕ) → none ≡ getElem? rs i → drop i rs ≡ []
+none-left [] zero e = refl
+none-left [] (suc i) e = refl
+none-left (r ∷ rs) zero e = absurd (let z : _≡_ {A = ℕ} 0 1 = cc in omega arith)
+none-left (r ∷ rs) (suc i) e = none-left rs i e
 
-pub refusal-short : (r : Refusal) (p : ℕ) → length (refusal r p) ≤ 32
-unfolding refusal
-refusal-short r p =
-    let a = bytes "refuse " in
-    let b = decimalOut 10 (numberOf r) in
-    let c = bytes " at " in
-    let d = decimalOut 10 p in
-    omega (
-      arith,
-      decimal-short 10 (numberOf r),
-      decimal-short 10 p,
-      length-append a b,
-      length-append (a ++ b) c,
-      length-append (a ++ b ++ c) d,
-      length-append (a ++ b ++ c ++ d) (10 ∷ []),
-    )
+module _ {n : ℕ} {s : List ℕ} {rs : List (List ℕ)} {i start end : ℕ} (x : Stands n s rs i start end) (room c : ℕ) where
+  long : length (x .this) ≡ end - start
+  long = let z = x .long in omega arith
 
--- ---- pieces
+  this-is : part s start (end - start) ≡ x .this
+  this-is = ap (take (end - start)) (x .here) ∙ take-at (x .this) (concat (x .those)) (end - start) long
 
-pub line-left : (size n i : ℕ) → ltb 0 (ahead (Line size n i)) ≡ true
-line-left size n i = lt-ltb 0 (n - i + 2) (omega arith)
+  after-this : drop (i + 1) rs ≡ x .those
+  after-this = sym (drop-drop 1 i rs) ∙ ap (drop 1) (x .listed)
 
-module _ (t sheet out : List ℕ) where
-  -- a stage that one piece ends
-  pub step-last : (a : Stage) (bs after : List ℕ) (n : ℕ) → pending t sheet out a ≡ bs
-      → ahead a ≡ 1 → length bs ≤ 32 → Puts out 0 bs after n
-      → Steps t sheet out a after n Done
-  step-last a bs after n e one short p = record {
-    kept = ap length (p .bytes) ∙ length-sets out 0 bs;
-    fits = puts-fits p;
-    piece = λ room. e ∙ sym (take-all (length out) bs (omega arith)) ∙ sym (puts-front p) ∙ sym (append-nil _);
-    falls = λ h. omega (arith, one);
-  }
+  -- the line of the record that stands there, and what follows it
+  line-first : leb (2 * (end - start) + 7) room ≡ true
+      → linesOf room c i (drop i rs) ≡ line (part s start (end - start)) ++ linesOf room c (i + 1) (drop (i + 1) rs)
+  unfolding linesOf
+  line-first e =
+      let h : length (line (x .this)) ≤ room = omega (arith, length-line (x .this), long, leb-true (2 * (end - start) + 7) room e) in
+      rw (x .listed, linesOf, le-ltb room (length (line (x .this))) h, this-is, after-this, add-one)
 
-  pub step-done : Steps t sheet out Done out 0 Done
-  step-done = record { kept = refl; fits = omega arith; piece = λ room. refl; falls = λ h. h }
+  -- the program has no room for it
+  line-refused : leb (2 * (end - start) + 7) room ≡ false → linesOf room c i (drop i rs) ≡ refusal OutputTooShort i
+  unfolding linesOf
+  line-refused e =
+      let h : room < length (line (x .this)) = omega (arith, length-line (x .this), long, leb-false (2 * (end - start) + 7) room e) in
+      rw (x .listed, linesOf, lt-ltb room (length (line (x .this))) h)
 
-  module _ (size n i : ℕ) where
-    -- the lines behind that of the ordinal i
-    lines-after : (after : List ℕ) (b : Bool) → ltb i n ≡ b
-        → lines t (take size sheet) n (n - i) (suc i) after ≡ pending t sheet after (cond b (Line size n (i + 1)) (Accept n))
-    unfolding lines
-    lines-after after true q = let h = ltb-true i n q in let e : n - i ≡ suc (n - (i + 1)) = omega arith in rw (e, add-one)
-    lines-after after false q = let h = ltb-false i n q in let e : n - i ≡ 0 = omega arith in rw e
+  -- no record follows
+  line-last : length s ≤ end → linesOf room c (i + 1) (drop (i + 1) rs) ≡ accept c
+  unfolding linesOf
+  line-last h = rw (none-left rs (i + 1) (no-more n s rs x (i + 1) h (omega arith)))
 
-    ahead-after : (b : Bool) → ltb i n ≡ b → ahead (cond b (Line size n (i + 1)) (Accept n)) < n - i + 2
-    ahead-after true q = let h = ltb-true i n q in omega arith
-    ahead-after false q = omega arith
+-- the record i stands from start to end, and the page has the lines before it, up to the place `at`: with what follows, it has all that
+-- `before` was to have
+pub record Going (n : ℕ) (s : List ℕ) (rs : List (List ℕ)) (c : ℕ) (before page : List ℕ) (i start end at : ℕ) : Type 0 where
+  pub stands : Stands n s rs i start end
+  pub on : (after : List ℕ) (m : ℕ)
+      → Puts page at (linesOf lineBytes c i (drop i rs)) after m
+      → Puts before 0 (linesOf lineBytes c 0 rs) after m
 
-    pub step-line : (m : ℕ) (after : List ℕ) → length after ≡ length out
-        → (line.Accepted m, after) ≡ lining t (take size sheet) i out
-        → Steps t sheet out (Line size n i) after m (afterLine size n i)
-    unfolding lines
-    step-line m after k e = record {
-      kept = k;
-      fits = given-fits t (take size sheet) i out (sym e);
-      piece = λ room. rw (← e) (ap (λ (l : List ℕ). take m after ++ l) (lines-after after (ltb i n) refl));
-      falls = λ h. ahead-after (ltb i n) refl;
-    }
+pub goes : {n : ℕ} {s : List ℕ} {rs : List (List ℕ)} {end : ℕ} (c : ℕ) (page : List ℕ)
+    → Stands n s rs 0 0 end → Going n s rs c page page 0 0 end 0
+goes c page x = record { stands = x; on = λ after m p. p }
 
-    pub step-refused : (r : Refusal) (p : ℕ) (after : List ℕ) → length after ≡ length out
-        → (line.Refused r p, after) ≡ lining t (take size sheet) i out
-        → Steps t sheet out (Line size n i) after 0 (Refuse r p)
-    unfolding lines
-    step-refused r p after k e = record { kept = k; fits = omega arith; piece = λ room. rw (← e); falls = λ h. omega arith }
+module _ {n : ℕ} {s : List ℕ} {rs : List (List ℕ)} {c : ℕ} {before page : List ℕ} {i start end at : ℕ}
+    (x : Going n s rs c before page i start end at) where
+  pub goes-refused : {after : List ℕ} {m : ℕ} → leb (2 * (end - start) + 7) lineBytes ≡ false
+      → Puts page at (refusal OutputTooShort i) after m
+      → Puts before 0 (linesOf lineBytes c 0 rs) after m
+  goes-refused e p = x .on _ _ (rw (line-refused (x .stands) lineBytes c e) p)
 
--- ---- the first stage
+  module _ {next : List ℕ} {put : ℕ} (e : leb (2 * (end - start) + 7) lineBytes ≡ true)
+      (p : Puts page at (line (part s start (end - start))) next put) where
+    lined-on : (after : List ℕ) (m : ℕ) → Puts next put (linesOf lineBytes c (i + 1) (drop (i + 1) rs)) after m
+        → Puts before 0 (linesOf lineBytes c 0 rs) after m
+    lined-on after m q = x .on after m (rw (line-first (x .stands) lineBytes c e) (puts-then p q))
 
-module _ (t scratch sheet words left : List ℕ) where
-  checked-stage : (n c : ℕ) (v : CheckAnswer) → v ≡ checking t (take n left)
-      → (out : List ℕ)
-      → pending t left out (judgedStage n c v) ≡ whenRead t out (read.Accepted n c, words, left)
-  checked-stage n c check.Accepted e out = rw (← e, sub-zero)
-  checked-stage n c (check.Refused r p) e out = rw (← e)
+    pub goes-last : {after : List ℕ} {m : ℕ} → length s ≤ end → Puts next put (accept c) after m
+        → Puts before 0 (linesOf lineBytes c 0 rs) after m
+    goes-last h q = lined-on _ _ (rw (line-last (x .stands) lineBytes c h) q)
 
-  begins : (v : Verdict) → Answered t left v → (out : List ℕ)
-      → pending t left out (firstStage v) ≡ whenRead t out (outcome (readOf v) words left)
-  begins (Unread r p) e out = refl
-  begins (Checked n c v) e out = checked-stage n c v e out
+    pub goes-on : {m : ℕ} → Stands n s rs (i + 1) end m → Going n s rs c before next (i + 1) end m put
+    goes-on y = record { stands = y; on = lined-on }
 
-  pub the-first : (v : Verdict)
-      → outcome (readOf v) words left ≡ reading t scratch sheet
-      → Answered t left v → Begins t scratch sheet left (firstStage v)
-  the-first v e f out = begins v f out ∙ ap (whenRead t out) e
+-- ---- the page
 
--- ---- the whole output
+module _ (t scratch sheet page : List ℕ) where
+  pub page-short : length page < pageBytes → (lined.Refused OutputTooShort 0, scratch, sheet, page) ≡ printing t scratch sheet page
+  unfolding printing
+  page-short h = rw (lt-ltb (length page) pageBytes h)
 
--- the pieces of all steps, one behind the other, are what was to be printed
-pub pieces-whole : (t sheet out : List ℕ) (a : Stage) (ps : List (List ℕ))
-    → 32 ≤ length out → Run t sheet out a ps → pending t sheet out a ≡ flatten ps
-unfolding flatten
-pieces-whole t sheet out a [] room e = ap (pending t sheet out) e
-pieces-whole t sheet out a (p ∷ ps) room (after, n, b, s, e, run) =
-    s .piece room
-    ∙ ap (λ (l : List ℕ). take n after ++ l) (pieces-whole t sheet after b ps (omega (arith, s .kept)) run)
-    ∙ ap (λ (l : List ℕ). l ++ flatten ps) (sym e)
+  pub page-long : pageBytes ≤ length page
+      → printing t scratch sheet page ≡ paged (reading t scratch sheet) (printed t scratch sheet (replicate lineBytes 0)) page
+  unfolding printing
+  page-long h = rw (le-ltb (length page) pageBytes h)
 
--- with the program's buffers: what is printed from the stage that `begin` gives on is the program's output
-pub output-whole : (t sheet : List ℕ) (a : Stage) (ps : List (List ℕ))
-    → Begins t (replicate scratchWords 0) (replicate 49152 0) sheet a
-    → Run t sheet (replicate 65536 0) a ps → flatten ps ≡ output t
+  -- what is printed once reading has accepted
+  checked : {n c : ℕ} {words left : List ℕ} {v : CheckAnswer} → (read.Accepted n c, words, left) ≡ reading t scratch sheet
+      → v ≡ checking t (take n left)
+      → printed t scratch sheet (replicate lineBytes 0) ≡ whenChecked t (take n left) c (replicate lineBytes 0) v
+  checked {n} {c} {left = left} e f =
+      ap (whenRead t (replicate lineBytes 0)) (sym e) ∙ ap (whenChecked t (take n left) c (replicate lineBytes 0)) (sym f)
+
+  module _ (room : pageBytes ≤ length page) {words left after : List ℕ} {m : ℕ} where
+    page-filled : {a : ReadAnswer} {bs : List ℕ} → (a, words, left) ≡ reading t scratch sheet
+        → printed t scratch sheet (replicate lineBytes 0) ≡ bs → Puts page 0 bs after m
+        → (lined.Accepted m, words, left, after) ≡ printing t scratch sheet page
+    page-filled e f p =
+        let h = printed-small t scratch sheet (replicate lineBytes 0) in
+        let w = puts-whole (omega (arith, ap length f)) p in
+        (λ i. (lined.Accepted (w .0 i), words, left, w .1 i)) ∙ (λ i. paged (e i) (sym f i) page) ∙ sym (page-long room)
+
+    pub page-unread : {r : Refusal} {p : ℕ} → (read.Refused r p, words, left) ≡ reading t scratch sheet → Puts page 0 (refusal r p) after m
+        → (lined.Accepted m, words, left, after) ≡ printing t scratch sheet page
+    page-unread e p = page-filled e (ap (whenRead t (replicate lineBytes 0)) (sym e)) p
+
+    module _ {n c : ℕ} (e : (read.Accepted n c, words, left) ≡ reading t scratch sheet) where
+      pub page-refused : {r : Refusal} {p : ℕ} → check.Refused r p ≡ checking t (take n left) → Puts page 0 (refusal r p) after m
+          → (lined.Accepted m, words, left, after) ≡ printing t scratch sheet page
+      page-refused f p = page-filled e (checked e f) p
+
+      pub page-lined : check.Accepted ≡ checking t (take n left) → Lines (length t) (take n left) c page after m
+          → (lined.Accepted m, words, left, after) ≡ printing t scratch sheet page
+      page-lined f p =
+          let h = held t scratch sheet e in
+          let rs = allRecords (length t) (h .nodes) in
+          let l = lines-held t (replicate lineBytes 0) h ∙ ap (λ (k : ℕ). linesOf k c 0 rs) (length-replicate {A = ℕ} lineBytes 0) in
+          page-filled e (checked e f ∙ l) (p (h .nodes) (h .decodes))
+
+  -- the length that is given is one of the page
+  pub printed-fits : {n : ℕ} {words left after : List ℕ} → (lined.Accepted n, words, left, after) ≡ printing t scratch sheet page
+      → n ≤ length after
+  unfolding printing
+  printed-fits {n} {words} {left} {after} e = go (ltb (length page) pageBytes) e
+    where
+      bs : List ℕ
+      bs = printed t scratch sheet (replicate lineBytes 0)
+
+      go : (b : Bool)
+          → (lined.Accepted n, words, left, after)
+          ≡ cond {A = LineAnswer × List ℕ × List ℕ × List ℕ} b (lined.Refused OutputTooShort 0, scratch, sheet, page)
+          (paged (reading t scratch sheet) bs page)
+          → n ≤ length after
+      go true q =
+          let z : _≡_ {A = ℕ} 0 1 = cc (ap (λ (x : LineAnswer × List ℕ × List ℕ × List ℕ). x .0) q) in
+          absurd (omega arith)
+      go false q =
+          let h : lined.Accepted n ≡ lined.Accepted (length bs) = ap (λ (x : LineAnswer × List ℕ × List ℕ × List ℕ). x .0) q in
+          let k : n ≡ length bs = cc in
+          omega (
+            arith,
+            k,
+            ap (λ (x : LineAnswer × List ℕ × List ℕ × List ℕ). length (x .3)) q,
+            length-append bs (drop (length bs) page),
+          )
+
+-- with the program's buffers the front of the page is the program's output
+pub print-whole : (t page : List ℕ) → pageBytes ≤ length page
+    → (printing t (replicate scratchWords 0) (replicate sheetBytes 0) page .0 ≡ lined.Accepted (length (output t)))
+    × (take (length (output t)) (printing t (replicate scratchWords 0) (replicate sheetBytes 0) page .3) ≡ output t)
 unfolding output
-output-whole t sheet a ps e run =
-    sym (pieces-whole t sheet (replicate 65536 0) a ps (rw length-replicate (omega arith)) run) ∙ e (replicate 65536 0)
+print-whole t page h =
+    let e = page-long t (replicate scratchWords 0) (replicate sheetBytes 0) page h in
+    let bs = output t in (
+      ap (λ (x : LineAnswer × List ℕ × List ℕ × List ℕ). x .0) e,
+      ap (λ (x : LineAnswer × List ℕ × List ℕ × List ℕ). take (length bs) (x .3)) e ∙ take-append-seam bs (drop (length bs) page),
+    )

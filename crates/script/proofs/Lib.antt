@@ -3,3 +3,4 @@ pub mod Tracks
 pub mod Reading
 pub mod Whole
 pub mod Closed
+pub mod OutputLaws

@@ -1,3 +1,4 @@
 pub mod Output
+pub mod Means
 pub mod Claim
 pub mod Table

@@ -1,15 +1,16 @@
 -- 01: what the program prints for its input. Assumes nothing.
 use Prim.Native.Nat.{ℕ, zero, suc, _+_, _/_, _%_}
-use mathlib.Core.Bool.{true, false}
+use mathlib.Core.Bool.{true, false, cond}
 use mathlib.Core.List.{List, [], _∷_, _++_}
 use lib.Dec.{ltb}
-use lib.ListN.{take, replicate}
+use lib.ListN.{length, take, drop, replicate}
 use Rattle.text.specs.Bytes.{bytes}
 use Rattle.parser.specs.Reading.{reading, scratchWords}
 use Rattle.validate.specs.Checking.{checking}
 use Rattle.line.specs.Lining.{lining}
 use Rattle.error.specs.Refusal.{numberOf}
 use Rattle.error.specs.declared.Refusal.{Refusal}
+use Rattle.error.specs.declared.Refusal.the-variants.{OutputTooShort}
 use Rattle.error.specs.declared.ReadAnswer.{ReadAnswer}
 use Rattle.error.specs.declared.ReadAnswer.the-variants as read
 use Rattle.error.specs.declared.CheckAnswer.{CheckAnswer}
@@ -53,6 +54,29 @@ whenRead t out (read.Refused r p, scratch, sheet) = refusal r p
 abbrev pub printed : List ℕ → List ℕ → List ℕ → List ℕ → List ℕ
 printed t scratch sheet out = whenRead t out (reading t scratch sheet)
 
--- with the program's: 16,384 words, 49,152 bytes, 65,536 bytes
+-- "the program lends 65,536 and gives reading a sheet of 49,152"
+abbrev pub lineBytes : ℕ
+lineBytes = 65536
+
+abbrev pub sheetBytes : ℕ
+sheetBytes = 49152
+
+-- with the program's buffers
 unfoldable pub output : List ℕ → List ℕ
-output t = printed t (replicate scratchWords 0) (replicate 49152 0) (replicate 65536 0)
+output t = printed t (replicate scratchWords 0) (replicate sheetBytes 0) (replicate lineBytes 0)
+
+-- ---- printing: the same text on a page that is lent
+
+-- nine bytes for each byte that a text may have
+abbrev pub pageBytes : ℕ
+pageBytes = 147456
+
+-- the text bs at the front of the page, which past it is as it was; the scratch and the sheet are as reading leaves them
+abbrev pub paged : ReadAnswer × List ℕ × List ℕ → List ℕ → List ℕ → LineAnswer × List ℕ × List ℕ × List ℕ
+paged left bs page = (line.Accepted (length bs), left .1, left .2, bs ++ drop (length bs) page)
+
+-- the answer, and the scratch, the sheet and the page afterwards; 32 at 0 for a shorter page, and then nothing is touched
+unfoldable pub printing : List ℕ → List ℕ → List ℕ → List ℕ → LineAnswer × List ℕ × List ℕ × List ℕ
+printing t scratch sheet page =
+    cond (ltb (length page) pageBytes) (line.Refused OutputTooShort 0, scratch, sheet, page)
+    (paged (reading t scratch sheet) (printed t scratch sheet (replicate lineBytes 0)) page)

@@ -8,7 +8,7 @@ use lib.ListN.{take, replicate}
 use Rattle.text.specs.Bytes.{bytes, same}
 use Rattle.parser.specs.Reading.{reading, scratchWords}
 use Rattle.validate.specs.Checking.{checking}
-use Rattle.script.specs.Output.{output}
+use Rattle.script.specs.Output.{sheetBytes, output}
 use Rattle.error.specs.Answer.{readValues, checkValues}
 use Rattle.error.specs.declared.ReadAnswer.{ReadAnswer}
 use Rattle.error.specs.declared.ReadAnswer.the-variants.{Accepted, Refused}
@@ -38,7 +38,7 @@ sheetValues (Refused r p, scratch, sheet) = readValues (Refused r p)
 
 -- reading with the program's buffers
 abbrev pub read : String → List ℕ
-read s = sheetValues (reading (bytes s) (replicate scratchWords 0) (replicate 49152 0))
+read s = sheetValues (reading (bytes s) (replicate scratchWords 0) (replicate sheetBytes 0))
 
 -- checking what reading gave; of a refusal nothing
 abbrev pub checkRead : List ℕ → List ℕ → List ℕ

@@ -43,6 +43,10 @@ readOutcome x = (packedRead (x .0), x .1, x .2)
 abbrev pub lineOutcome : LineAnswer × List ℕ → ℕ × List ℕ
 lineOutcome x = (packedLine (x .0), x .1)
 
+-- printing answers as lining does: the page's length, or a refusal and its place
+abbrev pub printOutcome : LineAnswer × List ℕ × List ℕ × List ℕ → ℕ × List ℕ × List ℕ × List ℕ
+printOutcome x = (packedLine (x .0), x .1, x .2, x .3)
+
 -- ---- its parts
 
 abbrev pub numberIn : ℕ → ℕ

@@ -1,10 +1,11 @@
-// The three operations for C and Rust to link.
+// The operations for C and Rust to link.
 ghost use mathlib.Core.Path.{_≡_};
 ghost use Prim.Native.Nat.{_%_, _^_};
 ghost use Rattle.parser.specs.Reading.{reading};
 ghost use Rattle.validate.specs.Checking.{checking};
 ghost use Rattle.line.specs.Lining.{lining};
-ghost use Rattle.strip.specs.Packed.{packedRefusal, packedSheet, packedCheck, readOutcome, lineOutcome};
+ghost use Rattle.script.specs.Output.{printing};
+ghost use Rattle.strip.specs.Packed.{packedRefusal, packedSheet, packedCheck, packedLine, readOutcome, lineOutcome, printOutcome};
 use error::CheckAnswer;
 use error::LineAnswer;
 use error::ReadAnswer;
@@ -29,6 +30,16 @@ fn pack_sheet(length: usize, records: usize) -> u64
     ensures { λ r. ⌜ r ≡ packedSheet length records ⌝ }
 {
     (records % 65536 * 16777216 + length % 16777216) as u64
+}
+
+// A line's or a page's length, or a refusal.
+fn pack_line(answer: LineAnswer) -> u64
+    ensures { λ r. ⌜ r ≡ packedLine answer ⌝ }
+{
+    match answer {
+        LineAnswer::Accepted { length } => low(length),
+        LineAnswer::Refused { refusal, place } => pack_refusal(refusal, place),
+    }
 }
 
 // parser::read.
@@ -58,8 +69,18 @@ pub extern "C" fn strip_check(text: &[u8], sheet: &[u8]) -> u64
 pub extern "C" fn strip_line(text: &[u8], sheet: &[u8], ordinal: u32, out: &mut [u8]) -> u64
     ensures { λ r. ⌜ (r, now (out .exit)) ≡ lineOutcome (lining (now (text .entry)) (now (sheet .entry)) ordinal (now (out .entry))) ⌝ }
 {
-    match line::line(text, sheet, ordinal as usize, out) {
-        LineAnswer::Accepted { length } => low(length),
-        LineAnswer::Refused { refusal, place } => pack_refusal(refusal, place),
-    }
+    pack_line(line::line(text, sheet, ordinal as usize, out))
+}
+
+// print::print.
+#[no_mangle]
+pub extern "C" fn strip_print(
+    text: &[u8],
+    scratch: &mut [u16],
+    sheet: &mut [u8],
+    page: &mut [u8],
+) -> u64
+    ensures { λ r. ⌜ (r, now (scratch .exit), now (sheet .exit), now (page .exit)) ≡ printOutcome (printing (now (text .entry)) (now (scratch .entry)) (now (sheet .entry)) (now (page .entry))) ⌝ }
+{
+    pack_line(print::print(text, scratch, sheet, page))
 }

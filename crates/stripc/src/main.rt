@@ -1,8 +1,10 @@
 // The program: reads a script from standard input and prints its lines and `accept N`, or `refuse R at P`.
 ghost use Prim.Native.Nat.{_≤_};
 ghost use lib.ListN.{length};
+use error::LineAnswer;
 use libc::STDERR_FILENO;
 use libc::STDIN_FILENO;
+use libc::STDOUT_FILENO;
 
 // How many bytes were read, and whether a read failed.
 struct Input {
@@ -52,12 +54,23 @@ fn read_input(text: &mut [u8]) -> Input
 
 fn run(text: &[u8]) {
     let mut scratch = [0u16; parser::SCRATCH_WORDS];
-    let mut sheet = [0u8; 49152];
-    let mut out = [0u8; 65536];
-    if !print::print(text, &mut scratch, &mut sheet, &mut out) {
+    let mut sheet = [0u8; print::SHEET_BYTES];
+    let mut page = [0u8; print::PAGE_BYTES];
+    if !print_page(text, &mut scratch, &mut sheet, &mut page) {
         io::write_all(
             STDERR_FILENO,
             b"stripc: standard output cannot be written\n",
         );
+    }
+}
+
+// Has all that is printed made on the page, and writes it at once. Says whether it was written.
+fn print_page(text: &[u8], scratch: &mut [u16], sheet: &mut [u8], page: &mut [u8]) -> bool {
+    match print::print(text, scratch, sheet, page) {
+        LineAnswer::Accepted { length } => io::write_all(STDOUT_FILENO, &page[..length]),
+        LineAnswer::Refused {
+            refusal: _,
+            place: _,
+        } => false,
     }
 }

@@ -14,7 +14,7 @@ use Rattle.text.specs.Bytes.{isForeign}
 use Rattle.text.specs.Words.{orElse}
 use Rattle.codec.specs.Codec.{big}
 use Rattle.ast.specs.Tree as tree
-use Rattle.ast.specs.Tree.{Nodes, KeyframeTime, Leaf, Container, leaf, box, single, holding, width, records, mapTimes}
+use Rattle.ast.specs.Tree.{Nodes, KeyframeTime, Leaf, Container, leaf, box, single, holding, width, records}
 use Rattle.sheet.specs.Sheet.{Forest, encode, decode}
 use Rattle.sheet.specs.Records.{recordOf, recordsOf, allRecords}
 use Rattle.sheet.specs.Opening.{Opened, opened, shut, foreignFrom, unlessForeign, opening}
@@ -77,11 +77,6 @@ one-of (q ∷ rs) (suc i) r e = omega (arith, one-of rs i r e, length-append q (
 pub sheet-one : (n : ℕ) (ns : Forest) → Fits n ns → (i : ℕ) (r : List ℕ)
     → getElem? (allRecords n ns) i ≡ some r → length r ≤ length (encode n ns)
 sheet-one n ns h i r e = omega (arith, one-of (allRecords n ns) i r e, ap length (sheet-flat n ns h))
-
-pub records-same : {A B : Type 0} (f : A → B) (ns : Nodes A) → records (mapTimes f ns) ≡ records ns
-records-same f Nodes.none = refl
-records-same f (leaf l rest) = ap suc (records-same f rest)
-records-same f (box k ns rest) = (λ i. suc (records-same f ns i + records-same f rest i))
 
 -- ---- the ordinal of a broken rule
 

@@ -7,6 +7,7 @@ use native.Mathlib.Omega.{arith}
 use Rattle.parser.specs.Reading.{reading}
 use Rattle.validate.specs.Checking.{checking}
 use Rattle.line.specs.Lining.{lining}
+use Rattle.script.specs.Output.{pageBytes, printing}
 use Rattle.error.specs.Refusal.{numberOf}
 use Rattle.error.specs.declared.ReadAnswer.{ReadAnswer}
 use Rattle.error.specs.declared.ReadAnswer.the-variants as read
@@ -16,7 +17,7 @@ use Rattle.error.specs.declared.LineAnswer.{LineAnswer}
 use Rattle.error.specs.declared.LineAnswer.the-variants as line
 use Rattle.strip.specs.Packed.{packedRead, packedCheck, packedLine, numberIn, valueIn, lengthIn, recordsIn}
 use Rattle.strip.proofs.PackedLaws.{refusal-number, refusal-place, sheet-number, sheet-length, sheet-records, line-number, line-length}
-use Rattle.unpack.proofs.Within.{ReadWithin, read-within, CheckWithin, check-within, LineWithin, line-within}
+use Rattle.unpack.proofs.Within.{ReadWithin, read-within, CheckWithin, check-within, LineWithin, line-within, print-within}
 
 -- ---- reading
 
@@ -51,11 +52,18 @@ abbrev pub LineParts : LineAnswer → ℕ → Type 0
 LineParts (line.Accepted n) w = (numberIn w ≡ 0) × (valueIn w ≡ n)
 LineParts (line.Refused r p) w = (numberIn w ≡ numberOf r) × (valueIn w ≡ p)
 
-line-back : (i : ℕ) → i < 2 ^ 32 → (a : LineAnswer) → LineWithin i a → LineParts a (packedLine a)
-line-back i g (line.Accepted n) h = (line-number n, line-length n (omega arith))
-line-back i g (line.Refused r p) (inl h) = (refusal-number r p, refusal-place r p (omega arith))
-line-back i g (line.Refused r p) (inr h) = (refusal-number r p, refusal-place r p (omega arith))
+line-back : (most i : ℕ) → most < 2 ^ 32 → i < 2 ^ 32 → (a : LineAnswer) → LineWithin most i a → LineParts a (packedLine a)
+line-back most i m g (line.Accepted n) h = (line-number n, line-length n (omega arith))
+line-back most i m g (line.Refused r p) (inl h) = (refusal-number r p, refusal-place r p (omega arith))
+line-back most i m g (line.Refused r p) (inr h) = (refusal-number r p, refusal-place r p (omega arith))
 
 pub line-parts : (t sheet : List ℕ) (i : ℕ) (out : List ℕ) → i < 2 ^ 32
     → LineParts (lining t sheet i out .0) (packedLine (lining t sheet i out .0))
-line-parts t sheet i out g = line-back i g (lining t sheet i out .0) (line-within t sheet i out)
+line-parts t sheet i out g = line-back 131077 i (omega arith) g (lining t sheet i out .0) (line-within t sheet i out)
+
+-- ---- printing
+
+pub print-parts : (t scratch sheet page : List ℕ)
+    → LineParts (printing t scratch sheet page .0) (packedLine (printing t scratch sheet page .0))
+print-parts t scratch sheet page =
+    line-back pageBytes 0 (omega arith) (omega arith) (printing t scratch sheet page .0) (print-within t scratch sheet page)

@@ -1,4 +1,4 @@
--- The places, lengths and counts that the three operations answer with are small. Assumes nothing.
+-- The places, lengths and counts that the operations answer with are small. Assumes nothing.
 use Prim.Native.Nat.{ℕ, zero, suc, _+_, _≤_}
 use mathlib.Core.Bool.{Bool, true, false, cond}
 use mathlib.Core.List.{List, [], _∷_, _++_}
@@ -7,7 +7,7 @@ use mathlib.Core.Option.{Option, none, some}
 use mathlib.Core.Path.{_≡_, refl}
 use native.Mathlib.Omega.{arith}
 use lib.Dec.{ltb}
-use lib.ListN.{length, drop, getElem?}
+use lib.ListN.{length, drop, replicate, getElem?}
 use borrow.Author.Tests.{ltb-false}
 use Rattle.text.specs.Limits.{textLimit}
 use Rattle.number.specs.Time.{Key}
@@ -29,6 +29,8 @@ use Rattle.validate.specs.Checking.{answerOf, judged, verdict, checking}
 use Rattle.line.specs.Line.{line}
 use Rattle.line.specs.Lining.{ofRecord, ofOpened, lining}
 use Rattle.line.proofs.LineLaws.{length-line}
+use Rattle.script.specs.Output.{printed, paged, pageBytes, lineBytes, printing}
+use Rattle.script.proofs.OutputLaws.{records-same, printed-small}
 use Rattle.error.specs.declared.Refusal.{Refusal}
 use Rattle.error.specs.declared.Refusal.the-variants.{TextTooLong, ScratchTooShort, SheetTooShort, OutputTooShort}
 use Rattle.error.specs.declared.ReadAnswer.{ReadAnswer}
@@ -39,7 +41,7 @@ use Rattle.error.specs.declared.LineAnswer.{LineAnswer}
 use Rattle.error.specs.declared.LineAnswer.the-variants as lines
 use Rattle.unpack.proofs.StepLaws.{Near, LeftNear, OutNear}
 use Rattle.unpack.proofs.RuleLaws.{input-stays}
-use Rattle.unpack.proofs.SheetLaws.{sheet-some, records-same, Below, nodes-below, Within, opening-within}
+use Rattle.unpack.proofs.SheetLaws.{sheet-some, Below, nodes-below, Within, opening-within}
 
 -- ---- reading: a text's tokens, and its refusals 2 to 5
 
@@ -154,25 +156,41 @@ check-within t sheet = verdict-within t (opening t sheet) (opening-within t shee
 
 -- ---- lining: a line is at most 131,077 bytes; a refusal's place is the ordinal, or at most 16,384
 
-abbrev pub LineWithin : ℕ → LineAnswer → Type 0
-LineWithin i (lines.Accepted n) = n ≤ 131077
-LineWithin i (lines.Refused r p) = (p ≡ i) ⊎ (p ≤ textLimit)
+abbrev pub LineWithin : ℕ → ℕ → LineAnswer → Type 0
+LineWithin most i (lines.Accepted n) = n ≤ most
+LineWithin most i (lines.Refused r p) = (p ≡ i) ⊎ (p ≤ textLimit)
 
 placed-within : (i : ℕ) (out l : List ℕ) (b : Bool) → length l ≤ 131077
-    → LineWithin i
+    → LineWithin 131077 i
     (cond {A = LineAnswer × List ℕ} b (lines.Refused OutputTooShort i, out) (lines.Accepted (length l), l ++ drop (length l) out) .0)
 placed-within i out l true h = inl refl
 placed-within i out l false h = h
 
 record-within : (i : ℕ) (out : List ℕ) (o : Option (List ℕ)) → ((r : List ℕ) → o ≡ some r → length r ≤ 65535)
-    → LineWithin i (ofRecord i out o .0)
+    → LineWithin 131077 i (ofRecord i out o .0)
 record-within i out none h = inl refl
 record-within i out (some r) h = placed-within i out (line r) (ltb (length out) (length (line r))) (omega (arith, h r refl, length-line r))
 
-opened-within : (n i : ℕ) (out : List ℕ) (o : Opened) → Within n o → LineWithin i (ofOpened n i out o .0)
+opened-within : (n i : ℕ) (out : List ℕ) (o : Opened) → Within n o → LineWithin 131077 i (ofOpened n i out o .0)
 opened-within n i out (shut r p) h = inr h
 opened-within n i out (opened ns) h = record-within i out (getElem? (allRecords n ns) i) (λ r e. h .short i r e)
 
-pub line-within : (t sheet : List ℕ) (i : ℕ) (out : List ℕ) → LineWithin i (lining t sheet i out .0)
+pub line-within : (t sheet : List ℕ) (i : ℕ) (out : List ℕ) → LineWithin 131077 i (lining t sheet i out .0)
 unfolding lining
 line-within t sheet i out = opened-within (length t) i out (opening t sheet) (opening-within t sheet)
+
+-- ---- printing: a page has at most 147,456 bytes of text
+
+pub print-within : (t scratch sheet page : List ℕ) → LineWithin pageBytes 0 (printing t scratch sheet page .0)
+unfolding printing
+print-within t scratch sheet page = go (ltb (length page) pageBytes)
+  where
+    bs : List ℕ
+    bs = printed t scratch sheet (replicate lineBytes 0)
+
+    go : (b : Bool)
+        → LineWithin pageBytes 0
+        (cond {A = LineAnswer × List ℕ × List ℕ × List ℕ} b (lines.Refused OutputTooShort 0, scratch, sheet, page)
+        (paged (reading t scratch sheet) bs page) .0)
+    go true = inl refl
+    go false = printed-small t scratch sheet (replicate lineBytes 0)

@@ -1,113 +1,124 @@
 -- `print::print` meets its contract. Assumes nothing.
-use mathlib.Core.Path.{_≡_, refl, sym, _∙_}
-use lib.ListN.{length}
-use lib.Seq.{length-take-le}
-use borrow.Author.Tests.{ltb-true}
+use Rattle.print.proofs.PrintLaws.{page-short, page-unread, page-refused, page-lined}
 use borrow.Author.Needs.{needs}
-use Rattle.print.specs.Pieces.{ahead}
 use Rattle.print.proofs.print.Statement.{statement}
 use Rattle.print.proofs.print.Tie as tie
 
-abbrev Inv-loop : tie.InvT-loop
-Inv-loop text scratch sheet out₀ stage₀ out stage = length out ≡ length out₀
+returns : tie.Need-returns
+returns c = page-short _ _ _ _ (c .if1 .taken)
 
-abbrev μ-loop : tie.MeasureT-loop
-μ-loop text scratch sheet out₀ stage₀ out stage = ahead stage
+read-and-check-requires : tie.Need-read-and-check-requires
+read-and-check-requires c κs = search needs
 
-begin-requires : tie.Need-begin-requires Inv-loop μ-loop
-begin-requires c κs = search needs
+enum-known-refusal : tie.Need-enum-known-refusal
+enum-known-refusal c = search needs
 
-loop-holds : tie.Need-loop-holds Inv-loop μ-loop
-loop-holds c = refl
+put-refusal-requires : tie.Need-put-refusal-requires
+put-refusal-requires c κs = search needs
 
-is-left-requires : tie.Need-is-left-requires Inv-loop μ-loop
-is-left-requires c κs = search needs
+enum-known-length : tie.Need-enum-known-length
+enum-known-length c = search needs
 
-step-requires : tie.Need-step-requires Inv-loop μ-loop
-step-requires c κs = search needs
+enum-known-answer : tie.Need-enum-known-answer
+enum-known-answer c = search needs
 
-slice-reshare-prefix-write-all : tie.Need-slice-reshare-prefix-write-all Inv-loop μ-loop
-slice-reshare-prefix-write-all c = c .before .before .step .ensures .fits
+put-refusal-requires-2 : tie.Need-put-refusal-requires-2
+put-refusal-requires-2 c κs = search needs
 
-slice-aggregate-write-all : tie.Need-slice-aggregate-write-all Inv-loop μ-loop
-slice-aggregate-write-all c = sym (length-take-le _ _ (c .before .before .before .step .ensures .fits))
+enum-told : tie.Need-enum-told
+enum-told c = search needs
 
-write-all-requires : tie.Need-write-all-requires Inv-loop μ-loop
-write-all-requires c κs = search needs
+part-requires : tie.Need-part-requires
+part-requires c κs = search needs
 
-same-length : tie.Need-same-length Inv-loop μ-loop
+put-lines-requires : tie.Need-put-lines-requires
+put-lines-requires c κs = search needs
+
+same-length : tie.Need-same-length
 same-length c = search needs
 
-same-length-2 : tie.Need-same-length-2 Inv-loop μ-loop
+same-length-2 : tie.Need-same-length-2
 same-length-2 c = search needs
 
-same-length-3 : tie.Need-same-length-3 Inv-loop μ-loop
-same-length-3 c =
-    let c4 = c .before .before .before .before in
-    let at-step = c4 .before in
-    let c9 = at-step .before .before .before .before in
-    let at-loop = c9 .before in
-    at-step .step .kept .1 .1 .0 ∙ at-loop .loop .inv
+same-length-3 : tie.Need-same-length-3
+same-length-3 c = search needs
 
-returns : tie.Need-returns Inv-loop μ-loop
-returns c =
-    let c4 = c .before .before .before .before in
-    let c8 = c4 .before .before .before .before in
-    let c12 = c8 .before .before .before .before in
-    let call = c12 .before .before .before in
-    (call .begin .ensures .0, call .begin .ensures .1 .0)
+returns-2 : tie.Need-returns-2
+returns-2 c =
+    let at-put-refusal = c .before .before in
+    let at-refusal = at-put-refusal .before .before .before in
+    let c9 = at-refusal .before .before .before .before in
+    let at-read-and-check = c9 .before .before in
+    let at-if1 = at-read-and-check .before .before .before in
+    page-unread _ _ _ _ (at-if1 .if1 .left) (rw (at-refusal .refusal .given .1) at (at-read-and-check .read-and-check .ensures .0))
+    (at-put-refusal .put-refusal .ensures)
 
-loop-less : tie.Need-loop-less Inv-loop μ-loop
-loop-less c =
-    let c4 = c .before .before .before .before in
-    let made = c4 .before in
-    let at-if1 = made .before .before .before in
-    let at-is-left = at-if1 .before in
-    made .step .ensures .falls (ltb-true 0 _ (sym (at-is-left .is-left .ensures) ∙ at-if1 .if1 .taken))
-
-loop-again : tie.Need-loop-again Inv-loop μ-loop
-loop-again c =
-    let c4 = c .before .before .before .before in
-    let at-step = c4 .before in
-    let c9 = at-step .before .before .before .before in
-    let at-loop = c9 .before in
-    at-step .step .kept .1 .1 .0 ∙ at-loop .loop .inv
-
-same-length-4 : tie.Need-same-length-4 Inv-loop μ-loop
+same-length-4 : tie.Need-same-length-4
 same-length-4 c = search needs
 
-same-length-5 : tie.Need-same-length-5 Inv-loop μ-loop
+same-length-5 : tie.Need-same-length-5
 same-length-5 c = search needs
 
-same-length-6 : tie.Need-same-length-6 Inv-loop μ-loop
-same-length-6 c = c .before .before .loop .inv
+same-length-6 : tie.Need-same-length-6
+same-length-6 c = search needs
 
-returns-2 : tie.Need-returns-2 Inv-loop μ-loop
-returns-2 c =
-    let c4 = c .before .before .before .before in
-    let call = c4 .before .before .before in
-    (call .begin .ensures .0, call .begin .ensures .1 .0)
+returns-3 : tie.Need-returns-3
+returns-3 c =
+    let at-put-refusal2 = c .before .before in
+    let at-answer = at-put-refusal2 .before .before .before in
+    let at-length = at-answer .before .before .before in
+    let c12 = at-length .before .before .before .before in
+    let at-read-and-check = c12 .before .before in
+    let at-if1 = at-read-and-check .before .before .before in
+    page-refused _ _ _ _ (at-if1 .if1 .left) (rw (at-length .length .given .1) at (at-read-and-check .read-and-check .ensures .0))
+    (rw (at-length .length .given .1, at-answer .answer .given .1) at (at-read-and-check .read-and-check .ensures .1 .0))
+    (at-put-refusal2 .put-refusal2 .ensures)
+
+same-length-7 : tie.Need-same-length-7
+same-length-7 c = search needs
+
+same-length-8 : tie.Need-same-length-8
+same-length-8 c = search needs
+
+same-length-9 : tie.Need-same-length-9
+same-length-9 c = search needs
+
+returns-4 : tie.Need-returns-4
+returns-4 c =
+    let at-put-lines = c .before .before in
+    let at-part = at-put-lines .before .before in
+    let at-enum-told = at-part .before .before in
+    let at-length = at-enum-told .before .before .before in
+    let c13 = at-length .before .before .before .before in
+    let at-read-and-check = c13 .before .before in
+    let at-if1 = at-read-and-check .before .before .before in
+    page-lined _ _ _ _ (at-if1 .if1 .left) (rw (at-length .length .given .1) at (at-read-and-check .read-and-check .ensures .0))
+    (rw (at-length .length .given .1, at-enum-told .enum-told .given .1) at (at-read-and-check .read-and-check .ensures .1 .0))
+    (rw (at-part .part .ensures) at (at-put-lines .put-lines .ensures))
 
 pub print-spec : {M : Type 1} → statement M
 print-spec =
     tie.close
     (tie.spec
-    Inv-loop
-    μ-loop
-    begin-requires
-    loop-holds
-    is-left-requires
-    step-requires
-    slice-reshare-prefix-write-all
-    slice-aggregate-write-all
-    write-all-requires
+    returns
+    read-and-check-requires
+    enum-known-refusal
+    put-refusal-requires
+    enum-known-length
+    enum-known-answer
+    put-refusal-requires-2
+    enum-told
+    part-requires
+    put-lines-requires
     same-length
     same-length-2
     same-length-3
-    returns
-    loop-less
-    loop-again
+    returns-2
     same-length-4
     same-length-5
     same-length-6
-    returns-2)
+    returns-3
+    same-length-7
+    same-length-8
+    same-length-9
+    returns-4)

@@ -7,11 +7,11 @@ use Rattle.shelf.proofs.run_all.Statement.{statement}
 use Rattle.shelf.proofs.run_all.Tie as tie
 
 abbrev Inv-loop : tie.InvT-loop
-Inv-loop input scratch₀ sheet₀ out₀ at₀ scratch sheet out at =
-    (length scratch ≡ length scratch₀) × (length sheet ≡ length sheet₀) × (length out ≡ length out₀)
+Inv-loop input scratch₀ sheet₀ page₀ at₀ scratch sheet page at =
+    (length scratch ≡ length scratch₀) × (length sheet ≡ length sheet₀) × (length page ≡ length page₀)
 
 abbrev μ-loop : tie.MeasureT-loop
-μ-loop input scratch₀ sheet₀ out₀ at₀ scratch sheet out at = length input - at
+μ-loop input scratch₀ sheet₀ page₀ at₀ scratch sheet page at = length input - at
 
 loop-holds : tie.Need-loop-holds Inv-loop μ-loop
 loop-holds c = search needs
@@ -19,17 +19,17 @@ loop-holds c = search needs
 find-requires : tie.Need-find-requires Inv-loop μ-loop
 find-requires c κs = search needs
 
-sub-print : tie.Need-sub-print Inv-loop μ-loop
-sub-print c = search needs
+sub-print-page : tie.Need-sub-print-page Inv-loop μ-loop
+sub-print-page c = search needs
 
-part-print-start : tie.Need-part-print-start Inv-loop μ-loop
-part-print-start c = search needs
+part-print-page-start : tie.Need-part-print-page-start Inv-loop μ-loop
+part-print-page-start c = search needs
 
-part-print-end : tie.Need-part-print-end Inv-loop μ-loop
-part-print-end c = search needs
+part-print-page-end : tie.Need-part-print-page-end Inv-loop μ-loop
+part-print-page-end c = search needs
 
-print-requires : tie.Need-print-requires Inv-loop μ-loop
-print-requires c κs = search needs
+print-page-requires : tie.Need-print-page-requires Inv-loop μ-loop
+print-page-requires c κs = search needs
 
 add-at : tie.Need-add-at Inv-loop μ-loop
 add-at c = search needs
@@ -60,10 +60,10 @@ run-all-spec =
     μ-loop
     loop-holds
     find-requires
-    sub-print
-    part-print-start
-    part-print-end
-    print-requires
+    sub-print-page
+    part-print-page-start
+    part-print-page-end
+    print-page-requires
     add-at
     loop-less
     loop-again
