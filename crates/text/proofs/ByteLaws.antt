@@ -43,7 +43,13 @@ foreign-is b = go (ltb b 32) (ltb 126 b) refl refl
     go true false h k = rw (lt-leb 32 b (ltb-true b 32 h)) (none-of (eqb b 9) (eqb b 10) (eqb b 13))
     go false true h k =
         let c = ltb-true 126 b k in
-        rw (lt-leb b 126 c, le-leb 32 b (omega arith), ne-eqb b 9 (λ e. omega arith), ne-eqb b 10 (λ e. omega arith), ne-eqb b 13 (λ e. omega arith))
+        rw (
+          lt-leb b 126 c,
+          le-leb 32 b (omega arith),
+          ne-eqb b 9 (λ e. omega arith),
+          ne-eqb b 10 (λ e. omega arith),
+          ne-eqb b 13 (λ e. omega arith),
+        )
     go false false h k = rw (le-leb 32 b (ltb-false b 32 h), le-leb b 126 (ltb-false 126 b k))
 
 -- ---- runs

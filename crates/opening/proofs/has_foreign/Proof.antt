@@ -31,7 +31,8 @@ loop-less c = search needs
 loop-again : tie.Need-loop-again Inv-loop μ-loop
 loop-again c =
     let at-loop-test = c .before .before in
-    laws.asked-next _ _ (at-loop-test .before .loop .any) (at-loop-test .loop-test .taken) (c .in-class .ensures) (at-loop-test .before .loop .inv)
+    let loop = at-loop-test .before .loop in
+    laws.asked-next _ _ (loop .any) (at-loop-test .loop-test .taken) (c .in-class .ensures) (loop .inv)
 
 returns : tie.Need-returns Inv-loop μ-loop
 returns c = laws.asked-all _ _ _ (c .loop-test .left) (c .before .loop .inv)

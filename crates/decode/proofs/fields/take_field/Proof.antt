@@ -48,15 +48,13 @@ shared-slice-read-v c = omega (arith, c .before .loop-test .taken, c .before .be
 cast-v : tie.Need-cast-v Inv-loop μ-loop
 cast-v c =
     let at-loop = c .before .before in
-    let c4 = at-loop .before .before in
-    let start = c4 .before .before in
+    let start = at-loop .before .before .before .before in
     omega (arith, c .shared-slice-known2 .given (start .args .at + at-loop .loop .k))
 
 add-v-2 : tie.Need-add-v-2 Inv-loop μ-loop
 add-v-2 c =
     let at-loop = c .before .before in
-    let c4 = at-loop .before .before in
-    let start = c4 .before .before in
+    let start = at-loop .before .before .before .before in
     let l = at-loop .loop in
     let i = start .args .at + l .k in
     let b : getD (start .args .s .now) i 0 < 256 = omega (arith, c .shared-slice-known2 .given i) in
@@ -71,8 +69,7 @@ loop-less c = search needs
 loop-again : tie.Need-loop-again Inv-loop μ-loop
 loop-again c =
     let at-loop = c .before .before in
-    let c4 = at-loop .before .before in
-    let start = c4 .before .before in
+    let start = at-loop .before .before .before .before in
     let l = at-loop .loop in
     let i = start .args .at + l .k in
     let b : getD (start .args .s .now) i 0 < 256 = omega (arith, c .shared-slice-known2 .given i) in
