@@ -1,16 +1,16 @@
 -- One law for each combinator of forms: what reading its parts gives is what reading it gives. Assumes nothing.
-use Prim.Native.Nat.{ℕ, zero, suc, _+_, _*_, _-_, _^_, _≤_, _<_}
+use Prim.Native.Nat.{ℕ, zero, suc, _+_, _*_, _-_, _/_, _^_, _≤_, _<_}
 use mathlib.Core.Bool.{Bool, true, false, cond}
 use mathlib.Core.List.{List, [], _∷_}
 use mathlib.Core.Option.{Option, none, some}
 use mathlib.Core.Path.{_≡_, refl, _∙_, ap, subst}
 use mathlib.Core.Logic.{_⊎_, inl, inr, ⊎-elim}
-use native.Mathlib.Nat.{le-trans, le-of-suc-le-suc, eq-or-lt-of-le, pow-suc}
+use native.Mathlib.Nat.{le-trans, le-of-suc-le-suc, pow-suc}
 use native.Mathlib.Numerals.{add-one}
 use native.Mathlib.Omega.{arith}
 use borrow.Author.Tests.{lt-ltb, le-ltb, ltb-false}
 use lib.Dec.{ltb}
-use lib.ListN.{length, drop, getD, drop-of-length-le}
+use lib.ListN.{length, length-append, length-drop, drop, getD, drop-of-length-le}
 use lib.Seq.{drop-cons}
 use Rattle.codec.specs.Codec.{
   Form,
@@ -34,7 +34,7 @@ use Rattle.codec.specs.Codec.{
   sized,
   each,
 }
-use Rattle.codec.proofs.Laws.{makeAt, below-lawful}
+use Rattle.codec.proofs.Laws.{makeAt, below-lawful, big-lawful}
 use Rattle.decode.specs.Reads.{Lost, Reads, got, bad, Number, same}
 
 -- ---- places
@@ -208,6 +208,21 @@ room (suc (suc zero)) v b l h q = omega arith
 room (suc (suc (suc zero))) v b l h q = omega arith
 room (suc (suc (suc (suc k)))) v b l h q = omega arith
 
+length-big : (j v : ℕ) → length (big j .write v) ≡ j
+length-big zero v = refl
+length-big (suc j) v = rw length-append (let h = length-big j (v / 256) in omega arith)
+
+-- it has as many bytes as it is wide
+big-needs : (j : ℕ) (bs : List ℕ) → length bs < j → big j .read bs ≡ none
+big-needs j bs h = go (big j .read bs) refl
+  where
+    go : (o : Option (ℕ × List ℕ)) → big j .read bs ≡ o → o ≡ none
+    go none e = refl
+    go (some z) e =
+        let b = ap length (big-lawful j .forth bs z e .0) ∙ length-append (big j .write (z .0)) (z .1) in
+        let c = length-big j (z .0) in
+        absurd (omega arith)
+
 module _ (s : List ℕ) (at : ℕ) where
   pub big-next : (k v : ℕ) → at + k < length s → getD s (at + k) 0 < 256 → big k .read (drop at s) ≡ some (v, drop (at + k) s)
       → big (k + 1) .read (drop at s) ≡ some (v * 256 + getD s (at + k) 0, drop (at + (k + 1)) s)
@@ -215,20 +230,12 @@ module _ (s : List ℕ) (at : ℕ) where
       let q : at + (k + 1) ≡ suc (at + k) = omega arith in
       rw (q, add-one, e, drop-cons s (at + k) 0 h, lt-ltb _ _ b)
 
-  big-up : (j k : ℕ) → k ≤ j → big k .read (drop at s) ≡ none → big j .read (drop at s) ≡ none
-  big-up zero k h e = let q : k ≡ 0 = omega arith in rw q at e
-  big-up (suc j) k h e = ⊎-elim (λ q. rw q at e) (λ l. rw (big-up j k (le-of-suc-le-suc l) e)) (eq-or-lt-of-le h)
-
-  -- j bytes are wanted: the bytes ended before; they end behind k; k are read, and that is all
+  -- j bytes are wanted: the bytes ended before; they end behind less than j; k are read, and that is all
   pub big-lost : (j : ℕ) {m : ℕ} → Lost s at → Lost s m → Number (big j) (256 ^ j) s at 0 m
   big-lost j h o = record { reads = stays-lost (big j) s h o; small = some-room j }
 
-  pub big-short : (j k v : ℕ) {m : ℕ} → length s ≤ at + k → big k .read (drop at s) ≡ some (v, drop (at + k) s) → k < j → Lost s m
-      → Number (big j) (256 ^ j) s at 0 m
-  big-short j k v h e l o = record {
-    reads = bad o (λ i. big-up j (suc k) l (rw (e, drop-of-length-le s {i = at + k} h)));
-    small = some-room j;
-  }
+  pub big-short : (j : ℕ) {m : ℕ} → at ≤ length s → length s - at < j → Lost s m → Number (big j) (256 ^ j) s at 0 m
+  big-short j h l o = record { reads = bad o (λ i. big-needs j (drop at s) (rw length-drop l)); small = some-room j }
 
   pub big-got : (j k v : ℕ) → k ≡ j → big k .read (drop at s) ≡ some (v, drop (at + k) s) → at + k ≤ length s → v < 256 ^ k
       → Number (big j) (256 ^ j) s at v (at + k)

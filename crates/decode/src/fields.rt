@@ -68,15 +68,15 @@ pub fn take_field(s: &[u8], at: usize, width: usize) -> FieldRead
             next: lost(s),
         };
     }
+    if s.len() - at < width {
+        return FieldRead {
+            v: 0,
+            next: lost(s),
+        };
+    }
     let mut v: u32 = 0;
     let mut k: usize = 0;
     while k < width {
-        if s.len() <= at + k {
-            return FieldRead {
-                v: 0,
-                next: lost(s),
-            };
-        }
         v = v * 256 + s[at + k] as u32;
         k += 1;
     }

@@ -1,6 +1,6 @@
 -- The first foreign byte, and the first refusal. Assumes nothing.
 use Prim.Native.Nat.{ℕ, suc, _+_, _≤_, _<_}
-use mathlib.Core.Bool.{Bool, true, false, cond}
+use mathlib.Core.Bool.{Bool, true, false, _||_, cond}
 use mathlib.Core.List.{List}
 use mathlib.Core.Option.{Option, none, some}
 use mathlib.Core.Path.{_≡_, refl, sym, _∙_, ap}
@@ -39,6 +39,37 @@ module _ (t : List ℕ) (i : ℕ) where
   pub foreign-none : length t ≤ i → foreignFrom i (drop i t) ≡ none
   unfolding foreignFrom
   foreign-none h = rw (drop-of-length-le t {i = i} h)
+
+-- ---- whether there is one
+
+or-assoc : (a b c : Bool) → ((a || b) || c) ≡ (a || (b || c))
+or-assoc true b c = refl
+or-assoc false b c = refl
+
+module _ (t : List ℕ) (i : ℕ) (any : Bool) where
+  -- it is among those before i, or from there on
+  abbrev pub Asked : Type 0
+  Asked = (any || isSome (foreignFrom i (drop i t))) ≡ isSome (foreignFrom 0 t)
+
+  pub asked-next : i < length t → {b : Bool} → b ≡ isForeign (getD t i 0) → Asked
+      → ((any || b) || isSome (foreignFrom (i + 1) (drop (i + 1) t))) ≡ isSome (foreignFrom 0 t)
+  asked-next h {b} e g = or-assoc any b _ ∙ ap (λ (x : Bool). any || x) (go b (sym e)) ∙ g
+    where
+      go : (b : Bool) → isForeign (getD t i 0) ≡ b
+          → (b || isSome (foreignFrom (i + 1) (drop (i + 1) t))) ≡ isSome (foreignFrom i (drop i t))
+      go true q = sym (ap isSome (foreign-here t i h q))
+      go false q = sym (ap isSome (foreign-later t i h q))
+
+  pub asked-all : length t ≤ i → Asked → any ≡ isSome (foreignFrom 0 t)
+  asked-all h g = sym (or-false any) ∙ ap (λ (o : Option ℕ). any || isSome o) (sym (foreign-none t i h)) ∙ g
+    where
+      or-false : (a : Bool) → (a || false) ≡ a
+      or-false true = refl
+      or-false false = refl
+
+pub not-there : (o : Option ℕ) → false ≡ isSome o → none ≡ o
+not-there none e = refl
+not-there (some i) e = let z : _≡_ {A = ℕ} 0 1 = cc in absurd (omega arith)
 
 -- ---- the first refusal
 

@@ -1,5 +1,6 @@
 // What checking and lining refuse first: a text that is too long, a byte that no script holds, bytes that are no sheet.
 ghost use mathlib.Core.Path.{_≡_};
+ghost use Rattle.text.specs.Words.{isSome};
 ghost use Rattle.text.specs.Means.{placeOf};
 ghost use Rattle.sheet.specs.Opening.{foreignFrom, opening};
 ghost use Rattle.opening.specs.Means.{answerOf};
@@ -13,10 +14,26 @@ pub enum Opening {
     Shut { refusal: Refusal, place: usize },
 }
 
-// The place of the first byte that no script holds.
+// Whether a text has a byte that no script holds. All bytes are asked, so that the loop is made into vectors.
+fn has_foreign(text: &[u8]) -> bool
+    ensures { λ r. ⌜ r ≡ isSome (foreignFrom 0 (now (text .entry))) ⌝ }
+{
+    let mut any = false;
+    let mut i = 0;
+    while i < text.len() {
+        any = any | text::in_class(Class::Foreign, text[i]);
+        i += 1;
+    }
+    any
+}
+
+// The place of the first byte that no script holds. It is looked for only where there is one.
 pub fn first_foreign(text: &[u8]) -> Found
     ensures { λ r. ⌜ placeOf r ≡ foreignFrom 0 (now (text .entry)) ⌝ }
 {
+    if !has_foreign(text) {
+        return Found::Nothing;
+    }
     let mut i = 0;
     while i < text.len() {
         if text::in_class(Class::Foreign, text[i]) {

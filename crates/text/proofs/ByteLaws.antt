@@ -1,15 +1,15 @@
 -- Laws of sets of bytes, runs and parts. Assumes nothing.
 use Prim.Native.Nat.{ℕ, zero, suc, _+_, _-_, _≤_, _<_}
 use mathlib.Core.List.{List, [], _∷_}
-use mathlib.Core.Bool.{Bool, true, false, _&&_}
+use mathlib.Core.Bool.{Bool, true, false, _&&_, _||_, not}
 use mathlib.Core.Path.{_≡_, refl, sym, _∙_}
 use native.Mathlib.Omega.{arith}
 use native.Mathlib.Numerals.{add-one}
-use lib.Dec.{leb}
+use lib.Dec.{leb, ltb, eqb}
 use lib.ListN.{length, getD, take, drop, drop-of-length-le, length-drop}
 use lib.Seq.{drop-cons, take-nil, take-all}
-use borrow.Author.Tests.{eq-eqb, ne-eqb, leb-true}
-use Rattle.text.specs.Bytes.{run, oneOf, part, within, lower, lowered}
+use borrow.Author.Tests.{eq-eqb, ne-eqb, leb-true, le-leb, lt-leb, ltb-true, ltb-false}
+use Rattle.text.specs.Bytes.{run, oneOf, isForeign, part, within, lower, lowered}
 
 -- ---- sets of bytes
 
@@ -24,6 +24,33 @@ has-no s i b h e = rw (add-one, drop-cons s i 0, ne-eqb b (getD s i 0) (λ q. e 
 pub has-end : (s : List ℕ) (i b : ℕ) → length s ≤ i → oneOf (drop i s) b ≡ false
 unfolding oneOf
 has-end s i b h = rw (drop-of-length-le s h)
+
+-- ---- foreign bytes
+
+none-of : (p q r : Bool) → ((((true && not p) && not q) && not r) || false) ≡ not (p || (q || (r || false)))
+none-of true q r = refl
+none-of false true r = refl
+none-of false false true = refl
+none-of false false false = refl
+
+-- three tests below the printable bytes, and one above them
+pub foreign-is : (b : ℕ) → ((((ltb b 32 && not (eqb b 9)) && not (eqb b 10)) && not (eqb b 13)) || ltb 126 b) ≡ isForeign b
+unfolding oneOf
+foreign-is b = go (ltb b 32) (ltb 126 b) refl refl
+  where
+    go : (x y : Bool) → ltb b 32 ≡ x → ltb 126 b ≡ y → ((((x && not (eqb b 9)) && not (eqb b 10)) && not (eqb b 13)) || y) ≡ isForeign b
+    go true true h k = absurd (let a = ltb-true b 32 h in let c = ltb-true 126 b k in omega arith)
+    go true false h k = rw (lt-leb 32 b (ltb-true b 32 h)) (none-of (eqb b 9) (eqb b 10) (eqb b 13))
+    go false true h k =
+        let c = ltb-true 126 b k in
+        rw (
+          lt-leb b 126 c,
+          le-leb 32 b (omega arith),
+          ne-eqb b 9 (λ e. omega arith),
+          ne-eqb b 10 (λ e. omega arith),
+          ne-eqb b 13 (λ e. omega arith),
+        )
+    go false false h k = rw (le-leb 32 b (ltb-false b 32 h), le-leb b 126 (ltb-false 126 b k))
 
 -- ---- runs
 

@@ -98,13 +98,11 @@ fn is_hex(b: u8) -> bool
     has(b"abcdefABCDEF", b)
 }
 
+// Without a branch, so that a loop over bytes is made into vectors.
 fn is_foreign(b: u8) -> bool
     ensures { λ r. ⌜ r ≡ isForeign b ⌝ }
 {
-    if between(b' ', b'~', b) {
-        return false;
-    }
-    !has(b"\t\n\r", b)
+    (b < b' ') & (b != b'\t') & (b != b'\n') & (b != b'\r') | (b'~' < b)
 }
 
 // Whether b is of the class k.

@@ -21,7 +21,7 @@ use Rattle.sheet.proofs.Laws as sheet-laws
 use Rattle.opening.proofs.OpenLaws.{the-tree, the-refusal}
 use Rattle.validate.specs.Rules.{validateNodes}
 use Rattle.validate.specs.Checking.{answerOf as verdictOf, judged, checking}
-use Rattle.validate.specs.Means.{Stands}
+use Rattle.validate.specs.Means.{InLimit, Stands}
 use Rattle.validate.specs.Walks.{NodesWalk}
 use Rattle.validate.specs.declared.nodes.Walk.the-variants as walk
 use Rattle.validate.proofs.FrameLaws.{none≢some}
@@ -42,6 +42,9 @@ head n s ns e r = go r all
     go (bad o j) k = none≢some (rw (j (omega arith)) at k)
 
 module _ (t s : List ℕ) where
+  pub short : Open ≡ answerOf (opening t s) → InLimit s
+  short o = sheet-laws.decoded (length t) s (the-tree t s o .nodes) (the-tree t s o .decodes) .short
+
   pub shut : {r : Refusal} {p : ℕ} → Shut r p ≡ answerOf (opening t s) → Refused r p ≡ checking t s
   unfolding checking
   shut e = rw (the-refusal (opening t s) e)

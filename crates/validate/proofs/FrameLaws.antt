@@ -1,30 +1,33 @@
 -- The search over a track's frames. Assumes nothing.
-use Prim.Native.Nat.{ℕ, suc, _+_, _-_, _≤_, _<_}
+use Prim.Native.Nat.{ℕ, suc, _+_, _*_, _-_, _≤_, _<_}
 use mathlib.Core.Bool.{Bool, true, false, _||_}
 use mathlib.Core.List.{List, [], _∷_, _++_}
 use mathlib.Core.Option.{Option, none, some, Option·some-injective}
 use mathlib.Core.Path.{_≡_, refl, sym, _∙_, ap}
 use native.Mathlib.Omega.{arith}
-use lib.ListN.{length, take, drop}
-use lib.Seq.{drop-drop, take-add}
+use lib.ListN.{length, length-append, length-drop, take, drop, getD, set, length-set}
+use lib.Seq.{drop-drop, drop-cons, take-add, take-set-le, getD-set-same}
+use lib.Dec.{lit≤}
 use lib.Ieee.{Float}
 use borrow.Author.Tests.{lt-ltb, le-ltb}
 use Rattle.text.specs.Words.{orElse}
 use Rattle.number.specs.Number.{f32}
 use Rattle.number.specs.Time.{near, anyNear}
-use Rattle.codec.specs.Codec.{Form, andThen, big, each, eachIn, opt}
-use Rattle.ast.specs.Tree.{Span, KeyframeEntry, KeyframeSpec, KeyframeTime, percent, seconds, LoopSpec}
+use Rattle.codec.specs.Codec.{Form, andThen, big, each, eachIn, eachOut, opt}
+use Rattle.ast.specs.Tree.{Span, ValueExpr, scalar, array, EasingSpec, KeyframeEntry}
+use Rattle.ast.specs.Tree.{KeyframeSpec, KeyframeTime, percent, seconds, LoopSpec}
 use Rattle.ast.specs.View.{timeView, entryView, keyframesView}
 use Rattle.ast.specs.declared.KeyframeEntry as entries
 use Rattle.ast.specs.declared.KeyframeSpec as tracks
-use Rattle.sheet.specs.Sheet.{spanForm, entryForm, toKeyframes, loopForm}
+use Rattle.sheet.specs.Sheet.{spanForm, timeForm, valueForm, easingForm, entryForm, toKeyframes, loopForm}
 use Rattle.decode.specs.Reads.{Reads, got, bad, same}
 use Rattle.error.specs.declared.Refusal.{Refusal}
 use Rattle.error.specs.declared.Refusal.the-variants.{UnknownEasing, DuplicateTime, TooFewFrames}
 use Rattle.codec.proofs.Laws.{inverse, each-lawful}
 use Rattle.sheet.proofs.Laws.{entryL}
 use Rattle.validate.specs.Rules.{given, unknownEasing, first, timeOf, validateFrames, validateKeyframes}
-use Rattle.validate.specs.Means.{Tells, Stands, FramesTell, FramesAt}
+use Rattle.validate.specs.Means.{InLimit, Tells, Stands, FramesTell, FramesAt, TrackTells}
+use Rattle.validate.specs.declared.faults.Fault.{Fault}
 use Rattle.validate.specs.declared.faults.Fault.the-variants.{None, Is}
 
 pub none≢some : {A B : Type 0} {a : A} → Prim.Path (Option A) none (some a) → B
@@ -94,6 +97,10 @@ abbrev pub stamps : List Entry → List Float
 stamps [] = []
 stamps (x ∷ xs) = stamp x ∷ stamps xs
 
+-- one more of some values
+taken-next : (xs : List Entry) (i : ℕ) {x : Entry} {ys : List Entry} → drop i xs ≡ x ∷ ys → take (i + 1) xs ≡ take i xs ++ x ∷ []
+taken-next xs i e = take-add i 1 xs ∙ ap (λ (l : List Entry). take i xs ++ take 1 l) e
+
 stamps-append : (xs ys : List Entry) → stamps (xs ++ ys) ≡ stamps xs ++ stamps ys
 stamps-append [] ys = refl
 stamps-append (x ∷ xs) ys = ap (λ (l : List Float). stamp x ∷ l) (stamps-append xs ys)
@@ -106,16 +113,15 @@ any-nil : (time : Float) → anyNear time [] ≡ false
 unfolding anyNear
 any-nil time = refl
 
-module _ (t s : List ℕ) (n : ℕ) (fs : List Entry) where
-  abbrev form : Form Entry
-  form = entryForm (length t)
+-- ---- the search, over the times that are kept
 
-  -- the frame at i is to be tried against those before it, of which j were
-  abbrev pub Tried : Float → ℕ → ℕ → Type 0
-  Tried time i j = anyNear time (stamps (take i fs)) ≡ anyNear time (stamps (take (i - j) (drop j fs)))
+module _ (us : List Float) (time : Float) where
+  -- of the first i times those from j on are left to be tried
+  abbrev pub Tried : ℕ → ℕ → Type 0
+  Tried i j = anyNear time (take i us) ≡ anyNear time (take (i - j) (drop j us))
 
-  pub tried-start : (time : Float) (i : ℕ) → Tried time i 0
-  tried-start time i = let z : i - 0 ≡ i = omega arith in rw z
+  pub tried-start : (i : ℕ) → Tried i 0
+  tried-start i = let z : i - 0 ≡ i = omega arith in rw z
 
   or-rest : (a b : Bool) → a ≡ false → (a || b) ≡ b
   or-rest a b e = rw e
@@ -123,25 +129,41 @@ module _ (t s : List ℕ) (n : ℕ) (fs : List Entry) where
   or-first : (a b : Bool) → a ≡ true → (a || b) ≡ true
   or-first a b e = rw e
 
-  module _ (time : Float) (i j : ℕ) {v : entries.KeyframeEntry} {b : ℕ} (l : j < i) (w : Next form s n fs entryView v j b) where
+  module _ {i j : ℕ} (d : Float) (l : j < i) (k : i ≤ length us) where
     -- one more of them
-    unroll : anyNear time (stamps (take (i - j) (drop j fs)))
-        ≡ (near (stamp (w .value)) time || anyNear time (stamps (take (i - (j + 1)) (drop (j + 1) fs))))
+    unroll : anyNear time (take (i - j) (drop j us)) ≡ (near (getD us j d) time || anyNear time (take (i - (j + 1)) (drop (j + 1) us)))
     unroll =
         let z : i - j ≡ suc (i - (j + 1)) = omega arith in
-        ap (λ (l : List Entry). anyNear time (stamps (take (i - j) l))) (w .list)
-        ∙ ap (λ (m : ℕ). anyNear time (stamps (take m (w .value ∷ drop (j + 1) fs)))) z
-        ∙ any-cons time (stamp (w .value)) (stamps (take (i - (j + 1)) (drop (j + 1) fs)))
+        let y : suc j ≡ j + 1 = omega arith in
+        ap (λ (l : List Float). anyNear time (take (i - j) l)) (drop-cons us j d (omega arith))
+        ∙ ap (λ (m : ℕ). anyNear time (take m (getD us j d ∷ drop (suc j) us))) z
+        ∙ any-cons time (getD us j d) (take (i - (j + 1)) (drop (suc j) us))
+        ∙ ap (λ (m : ℕ). near (getD us j d) time || anyNear time (take (i - (j + 1)) (drop m us))) y
 
-    pub tried-next : near (stamp (w .value)) time ≡ false → Tried time i j → Tried time i (j + 1)
-    tried-next e g = g ∙ unroll ∙ or-rest (near (stamp (w .value)) time) _ e
+    pub tried-next : near (getD us j d) time ≡ false → Tried i j → Tried i (j + 1)
+    tried-next e g = g ∙ unroll ∙ or-rest (near (getD us j d) time) _ e
 
-    pub tried-hit : near (stamp (w .value)) time ≡ true → Tried time i j → anyNear time (stamps (take i fs)) ≡ true
-    tried-hit e g = g ∙ unroll ∙ or-first (near (stamp (w .value)) time) _ e
+    pub tried-hit : near (getD us j d) time ≡ true → Tried i j → anyNear time (take i us) ≡ true
+    tried-hit e g = g ∙ unroll ∙ or-first (near (getD us j d) time) _ e
 
-  pub tried-end : (time : Float) (i j : ℕ) → i ≤ j → Tried time i j → anyNear time (stamps (take i fs)) ≡ false
-  tried-end time i j l g =
-      let z : i - j ≡ 0 = omega arith in g ∙ ap (λ (m : ℕ). anyNear time (stamps (take m (drop j fs)))) z ∙ any-nil time
+  pub tried-end : {i j : ℕ} → i ≤ j → Tried i j → anyNear time (take i us) ≡ false
+  tried-end {i} {j} l g =
+      let z : i - j ≡ 0 = omega arith in g ∙ ap (λ (m : ℕ). anyNear time (take m (drop j us))) z ∙ any-nil time
+
+-- one more time is kept
+kept-more : (us : List Float) (i : ℕ) (x : Float) → i < length us → take (i + 1) (set us i x) ≡ take i us ++ x ∷ []
+kept-more us i x h =
+    let k : i < length (set us i x) = rw length-set h in
+    take-add i 1 (set us i x)
+    ∙ ap (λ (l : List Float). take i (set us i x) ++ take 1 l) (drop-cons (set us i x) i x k)
+    ∙ ap (λ (l : List Float). l ++ getD (set us i x) i x ∷ []) (take-set-le i us i x (omega arith))
+    ∙ ap (λ (y : Float). take i us ++ y ∷ []) (getD-set-same us i x x h)
+
+-- ---- frames that are passed
+
+module _ (t s : List ℕ) (n : ℕ) (fs : List Entry) where
+  abbrev form : Form Entry
+  form = entryForm (length t)
 
   -- the frames before i are passed
   abbrev pub Passed : ℕ → Type 0
@@ -183,8 +205,8 @@ module _ (t s : List ℕ) (n : ℕ) (fs : List Entry) where
     pub passed-next : near-one ≡ false → no-easing ≡ false → Passed i → Passed (i + 1)
     unfolding first
     passed-next e q g =
-        let k : take (i + 1) fs ≡ take i fs ++ w .value ∷ [] = take-add i 1 fs ∙ ap (λ (l : List Entry). take i fs ++ take 1 l) (w .list) in
-        ap (λ (l : List Float). validateFrames t l (drop (i + 1) fs)) (ap stamps k ∙ stamps-append (take i fs) (w .value ∷ []))
+        ap (λ (l : List Float). validateFrames t l (drop (i + 1) fs))
+        (ap stamps (taken-next fs i (w .list)) ∙ stamps-append (take i fs) (w .value ∷ []))
         ∙ sym (rw (e, q) at head) ∙ g
 
 -- ---- what the two loops keep, whichever frames stand there
@@ -193,73 +215,52 @@ module _ (t s : List ℕ) (from count : ℕ) where
   abbrev Frames : List Entry → Type 0
   Frames fs = Stands (each (entryForm (length t)) count) s from fs
 
-  -- the frames before i are passed, and the one at i stands at a
-  pub record Going (i a : ℕ) : Type 0 where
+  -- the frames before i are passed, the one at i stands at a, and the first of the times us are theirs
+  pub record Going (us : List Float) (i a : ℕ) : Type 0 where
     pub is : (fs : List Entry) → Frames fs → Left (entryForm (length t)) s count fs i a × Passed t s count fs i
+    pub kept : (fs : List Entry) → Frames fs → take i us ≡ stamps (take i fs)
 
-  -- of the frames before i the first j were tried, and the one at j stands at b
-  pub record Trying (time : Float) (i j b : ℕ) : Type 0 where
-    pub is : (fs : List Entry) → Frames fs → Left (entryForm (length t)) s count fs j b × Tried t s count fs time i j
+  pub going-start : (us : List Float) → Going us 0 from
+  going-start us = record { is = λ fs h. (left-start (entryForm (length t)) s count fs from h, refl); kept = λ fs h. refl }
 
-  pub going-start : Going 0 from
-  going-start = record { is = λ fs h. (left-start (entryForm (length t)) s count fs from h, refl) }
-
-  pub trying-start : (time : Float) (i : ℕ) → Trying time i 0 from
-  trying-start time i = record { is = λ fs h. (left-start (entryForm (length t)) s count fs from h, tried-start t s count fs time i) }
-
--- v is read at a, up to b
-abbrev Frame : List ℕ → List ℕ → ℕ → entries.KeyframeEntry → ℕ → Type 0
-Frame t s a v b = Reads (entryForm (length t)) entryView s a v b
-
-module _ {t s : List ℕ} {from count : ℕ} where
+module _ {t s : List ℕ} {from count : ℕ} {us : List Float} where
   -- the frame at i is e
-  module _ {i a b : ℕ} {e : entries.KeyframeEntry} (g : Going t s from count i a) (l : i < count) (r : Frame t s a e b) where
-    abbrev at-i : (fs : List Entry) → Frames t s from count fs → Next (entryForm (length t)) s count fs entryView e i b
-    at-i fs h = left-next (entryForm (length t)) s count fs i a b l (g .is fs h .0) r
+  module _ {i a b : ℕ} {e : entries.KeyframeEntry} (g : Going t s from count us i a) (l : i < count)
+      (r : Reads (entryForm (length t)) entryView s a e b) where
+    abbrev here : (fs : List Entry) → Frames t s from count fs → Next (entryForm (length t)) s count fs entryView e i b
+    here fs h = left-next (entryForm (length t)) s count fs i a b l (g .is fs h .0) r
 
-    -- what is told of its time is told of the definition's
-    timed : (fs : List Entry) (h : Frames t s from count fs) {q : Bool} → anyNear (e .time) (stamps (take i fs)) ≡ q
-        → anyNear (stamp (at-i fs h .value)) (stamps (take i fs)) ≡ q
-    timed fs h z = ap (λ y. anyNear y (stamps (take i fs))) (stamp-is (at-i fs h .value) (at-i fs h .seen)) ∙ z
+    abbrev its-stamp : (fs : List Entry) (h : Frames t s from count fs) → stamp (here fs h .value) ≡ e .time
+    its-stamp fs h = stamp-is (here fs h .value) (here fs h .seen)
 
-    -- the frame at j < i is v
-    module _ {j c d : ℕ} {v : entries.KeyframeEntry} (y : Trying t s from count (e .time) i j c) (k : j < i) (w : Frame t s c v d) where
-      abbrev at-j : (fs : List Entry) → Frames t s from count fs → Next (entryForm (length t)) s count fs entryView v j d
-      at-j fs h = left-next (entryForm (length t)) s count fs j c d (omega arith) (y .is fs h .0) w
+    -- what the search told is told of the definition's times
+    searched : (fs : List Entry) (h : Frames t s from count fs) {q : Bool} → anyNear (e .time) (take i us) ≡ q
+        → anyNear (stamp (here fs h .value)) (stamps (take i fs)) ≡ q
+    searched fs h z = (λ k. anyNear (its-stamp fs h k) (sym (g .kept fs h) k)) ∙ z
 
-      tested : (fs : List Entry) (h : Frames t s from count fs) {q : Bool} → near (v .time) (e .time) ≡ q
-          → near (stamp (at-j fs h .value)) (e .time) ≡ q
-      tested fs h z = ap (λ x. near x (e .time)) (stamp-is (at-j fs h .value) (at-j fs h .seen)) ∙ z
+    pub duplicate-found : anyNear (e .time) (take i us) ≡ true → FramesTell t s from count (Is DuplicateTime)
+    duplicate-found z fs h = passed-near t s count fs i (here fs h) (searched fs h z) (g .is fs h .1)
 
-      pub trying-next : near (v .time) (e .time) ≡ false → Trying t s from count (e .time) i (j + 1) d
-      trying-next z = record {
-        is = λ fs h. (at-j fs h .on, tried-next t s count fs (e .time) i j k (at-j fs h) (tested fs h z) (y .is fs h .1));
-      }
-
-      pub duplicate-found : near (v .time) (e .time) ≡ true → FramesTell t s from count (Is DuplicateTime)
-      duplicate-found z fs h =
-          passed-near t s count fs i (at-i fs h)
-          (timed fs h (tried-hit t s count fs (e .time) i j k (at-j fs h) (tested fs h z) (y .is fs h .1))) (g .is fs h .1)
-
-    -- all before i were tried
-    module _ {j c : ℕ} (y : Trying t s from count (e .time) i j c) (k : i ≤ j) {q : Bool}
+    -- none was near
+    module _ (z : anyNear (e .time) (take i us) ≡ false) {q : Bool}
         (u : Tells entryView (λ x. given (unknownEasing t) (x .easing)) e q) where
-      apart : (fs : List Entry) (h : Frames t s from count fs) → anyNear (stamp (at-i fs h .value)) (stamps (take i fs)) ≡ false
-      apart fs h = timed fs h (tried-end t s count fs (e .time) i j k (y .is fs h .1))
+      told : (fs : List Entry) (h : Frames t s from count fs) {o : Bool} → q ≡ o → given (unknownEasing t) (here fs h .value .easing) ≡ o
+      told fs h y = sym (u (here fs h .value) (here fs h .seen)) ∙ y
 
       pub easing-unknown : q ≡ true → FramesTell t s from count (Is UnknownEasing)
-      easing-unknown z fs h =
-          passed-bad t s count fs i (at-i fs h) (apart fs h) (sym (u (at-i fs h .value) (at-i fs h .seen)) ∙ z) (g .is fs h .1)
+      easing-unknown y fs h = passed-bad t s count fs i (here fs h) (searched fs h z) (told fs h y) (g .is fs h .1)
 
-      pub going-next : q ≡ false → Going t s from count (i + 1) b
-      going-next z = record {
-        is = λ fs h. (
-          at-i fs h .on,
-          passed-next t s count fs i (at-i fs h) (apart fs h) (sym (u (at-i fs h .value) (at-i fs h .seen)) ∙ z) (g .is fs h .1),
-        );
+      pub going-next : q ≡ false → i < length us → Going t s from count (set us i (e .time)) (i + 1) b
+      going-next y k = record {
+        is = λ fs h. (here fs h .on, passed-next t s count fs i (here fs h) (searched fs h z) (told fs h y) (g .is fs h .1));
+        kept = λ fs h.
+            kept-more us i (e .time) k
+            ∙ (λ j. g .kept fs h j ++ sym (its-stamp fs h) j ∷ [])
+            ∙ sym (stamps-append (take i fs) (here fs h .value ∷ []))
+            ∙ ap stamps (sym (taken-next fs i (here fs h .list)));
       }
 
-  pub going-done : {i a : ℕ} → Going t s from count i a → count ≤ i → FramesTell t s from count None
+  pub going-done : {i a : ℕ} → Going t s from count us i a → count ≤ i → FramesTell t s from count None
   going-done {i} {a} g l fs h = passed-end t s count fs i a l (g .is fs h .0) (g .is fs h .1)
 
 -- ---- a track
@@ -298,6 +299,38 @@ frames-at n {s = s} {m = m} (got a e i g l) (got c e′ i′ g′ l′) x h =
                   ∙ p ∙ ap (λ (fs : List Entry). some (fs, z .1)) e;
             }
 
+-- an entry has at least 9 bytes
+entry-bytes : (n : ℕ) (x : Entry) → 9 ≤ length (entryForm n .write x)
+entry-bytes n x =
+    rw (length-append (timeForm .write (x .time)), length-append (valueForm .write (x .value)))
+    (let a = time-bytes (x .time) in let b = value-bytes (x .value) in let c = easing-bytes (x .easing) in omega arith)
+  where
+    time-bytes : (y : KeyframeTime) → 5 ≤ length (timeForm .write y)
+    time-bytes (percent y) = lit≤ tt
+    time-bytes (seconds y) = lit≤ tt
+
+    value-bytes : (v : ValueExpr) → 3 ≤ length (valueForm .write v)
+    value-bytes (scalar y) = lit≤ tt
+    value-bytes (array ys) = omega arith
+
+    easing-bytes : (o : Option EasingSpec) → 1 ≤ length (opt (easingForm n) .write o)
+    easing-bytes none = lit≤ tt
+    easing-bytes (some e) = omega arith
+
+entries-bytes : (n : ℕ) (fs : List Entry) → 9 * length fs ≤ length (eachOut (entryForm n .write) fs)
+entries-bytes n [] = omega arith
+entries-bytes n (x ∷ fs) = rw (length-append (entryForm n .write x)) (let a = entry-bytes n x in let b = entries-bytes n fs in omega arith)
+
+-- so a sheet holds at most 7,281
+pub few-frames : (n count : ℕ) {s : List ℕ} {at : ℕ} {fs : List Entry} → Stands (each (entryForm n) count) s at fs → 9 * count ≤ length s
+few-frames n count {s} {at} {fs} h =
+    let (e, k) = each-lawful (entryForm n) (entryL n .ok) (entryL n .law) count .forth (drop at s) (fs, h .rest) (h .reads) in
+    let a = ap length e ∙ length-append (eachOut (entryForm n .write) fs) (h .rest) in
+    let b = entries-bytes n fs in
+    let c = length-drop at s in
+    let d : length fs ≡ count = k .0 in
+    omega arith
+
 module _ (t : List ℕ) (x : KeyframeSpec KeyframeTime) (v : tracks.KeyframeSpec) (e : keyframesView x ≡ v) where
   pub few : v .frames < 2 → some TooFewFrames ≡ validateKeyframes t x
   unfolding validateKeyframes first
@@ -306,3 +339,15 @@ module _ (t : List ℕ) (x : KeyframeSpec KeyframeTime) (v : tracks.KeyframeSpec
   pub enough : 2 ≤ v .frames → validateFrames t [] (x .frames) ≡ validateKeyframes t x
   unfolding validateKeyframes first
   enough h = let z : length (x .frames) ≡ v .frames = ap (λ w. w .frames) e in rw (z, le-ltb (v .frames) 2 h)
+
+module _ (t s : List ℕ) (at : ℕ) (v : tracks.KeyframeSpec) {first : ℕ} (f : FramesAt (length t) s at first) where
+  -- the fault of its frames is the track's
+  pub frames-tell : (r : Fault) → 2 ≤ v .frames → FramesTell t s first (v .frames) r → TrackTells t s at v r
+  frames-tell r l g x h e =
+      let k : length (x .frames) ≡ v .frames = ap (λ w. w .frames) e in g (x .frames) (rw k at (f x h)) ∙ enough t x v e l
+
+  -- no sheet holds more than 8,192 frames
+  pub too-many : (r : Fault) → InLimit s → 8192 < v .frames → TrackTells t s at v r
+  too-many r l g x h e =
+      let k : length (x .frames) ≡ v .frames = ap (λ w. w .frames) e in
+      absurd (let z = few-frames (length t) (length (x .frames)) (f x h) in omega arith)

@@ -19,6 +19,10 @@ abbrev pub faultOf : Fault → Option Refusal
 faultOf None = none
 faultOf (Is r) = some r
 
+-- 01: "Bytes are a sheet for a text if they are at most 65,535"
+abbrev pub InLimit : List ℕ → Type 0
+InLimit s = length s ≤ 65535
+
 -- r is what f gives, of whatever `view` shows as v
 abbrev pub Tells : {A X B : Type 0} → (A → X) → (A → B) → X → B → Type 0
 Tells {A} view f v r = (a : A) → view a ≡ v → r ≡ f a

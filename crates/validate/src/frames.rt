@@ -1,9 +1,11 @@
 // A track's rules: enough frames, no time twice, easings of known names.
+ghost use Prim.Native.Nat.{_≤_};
 ghost use mathlib.Core.Path.{_≡_};
+ghost use lib.ListN.{length};
 ghost use Rattle.number.specs.Time.{near};
 ghost use Rattle.ast.specs.View.{entryView};
 ghost use Rattle.validate.specs.Rules.{given, unknownEasing};
-ghost use Rattle.validate.specs.Means.{Tells, FramesTell, FramesAt, TrackTells};
+ghost use Rattle.validate.specs.Means.{InLimit, Tells, FramesTell, FramesAt, TrackTells};
 use crate::faults::Fault;
 use crate::faults::some_unknown;
 use ast::KeyframeEntry;
@@ -28,9 +30,10 @@ fn has_unknown_easing(text: &[u8], entry: KeyframeEntry) -> bool
     some_unknown(text, easing)
 }
 
-// The first fault of so many frames from a place on. Each frame's time is tried against those of the frames before it, which
-// are decoded again; the search ends at the first pair of duplicates. A frame's easing comes after its time.
-fn validate_frames(text: &[u8], s: &[u8], first: usize, count: usize) -> Fault
+// The first fault of so many frames from a place on. Each frame's time is tried against those of the frames before it, which are kept
+// in `times`; the search ends at the first pair of duplicates. A frame's easing comes after its time.
+fn validate_frames(text: &[u8], s: &[u8], first: usize, count: usize, times: &mut [f32]) -> Fault
+    requires { ⌜ count ≤ length (now times) ⌝ }
     ensures { λ r. ⌜ FramesTell (now (text .entry)) (now (s .entry)) first count r ⌝ }
 {
     let n = text.len();
@@ -41,25 +44,40 @@ fn validate_frames(text: &[u8], s: &[u8], first: usize, count: usize) -> Fault
         let frame = take_entry(s, at, n);
         let entry = frame.v;
         let mut j: usize = 0;
-        let mut back = first;
         while j < i {
-            let earlier = take_entry(s, back, n);
-            let existing = earlier.v;
-            if is_duplicate(existing.time, entry) {
+            if is_duplicate(times[j], entry) {
                 fault = Fault::Is(Refusal::DuplicateTime);
                 break 'frames;
             }
-            back = earlier.next;
             j += 1;
         }
         if has_unknown_easing(text, entry) {
             fault = Fault::Is(Refusal::UnknownEasing);
             break 'frames;
         }
+        times[i] = entry.time;
         at = frame.next;
         i += 1;
     }
     fault
+}
+
+// The first fault of a track of at most 64 frames.
+fn short_track(text: &[u8], s: &[u8], first: usize, count: usize) -> Fault
+    requires { ⌜ count ≤ 64 ⌝ }
+    ensures { λ r. ⌜ FramesTell (now (text .entry)) (now (s .entry)) first count r ⌝ }
+{
+    let mut times: [f32; 64] = [0.0; 64];
+    validate_frames(text, s, first, count, &mut times)
+}
+
+// The first fault of a track of at most 8,192 frames.
+fn long_track(text: &[u8], s: &[u8], first: usize, count: usize) -> Fault
+    requires { ⌜ count ≤ 8192 ⌝ }
+    ensures { λ r. ⌜ FramesTell (now (text .entry)) (now (s .entry)) first count r ⌝ }
+{
+    let mut times: [f32; 8192] = [0.0; 8192];
+    validate_frames(text, s, first, count, &mut times)
 }
 
 // Where the frames of the track at a place begin: behind its target and its count of frames.
@@ -73,6 +91,7 @@ fn frames_at(s: &[u8], at: usize, n: usize) -> usize
 
 // The track whose fields stand at a place.
 pub fn validate_keyframes(text: &[u8], s: &[u8], at: usize, spec: KeyframeSpec) -> Fault
+    requires { ⌜ InLimit (now s) ⌝ }
     ensures { λ r. ⌜ TrackTells (now (text .entry)) (now (s .entry)) at spec r ⌝ }
 {
     let count = spec.frames;
@@ -80,5 +99,12 @@ pub fn validate_keyframes(text: &[u8], s: &[u8], at: usize, spec: KeyframeSpec) 
         return Fault::Is(Refusal::TooFewFrames);
     }
     let first = frames_at(s, at, text.len());
-    validate_frames(text, s, first, count)
+    if count <= 64 {
+        return short_track(text, s, first, count);
+    }
+    if count <= 8192 {
+        return long_track(text, s, first, count);
+    }
+    // A frame has 9 bytes or more: no sheet holds so many.
+    Fault::None
 }

@@ -6,6 +6,7 @@ ghost use Rattle.decode.specs.Reads.{Reads};
 ghost use Rattle.records.specs.Record.{recordForm};
 ghost use Rattle.records.specs.declared.Kind.the-variants.{Leaf, Container};
 ghost use lib.ListN.{length};
+ghost use Rattle.validate.specs.Means.{InLimit};
 ghost use Rattle.validate.specs.Walks.{recordView, checkView, checkOf, FieldsTell, LeafKind, ContainerKind};
 use crate::faults::Fault;
 use crate::frames::validate_keyframes;
@@ -54,7 +55,7 @@ fn leaf(fault: Fault, next: usize) -> RecordCheck
 
 // A leaf of a kind: its fields at a place.
 fn validate_leaf(text: &[u8], s: &[u8], at: usize, kind: u8) -> RecordCheck
-    requires { ⌜ LeafKind kind ⌝ }
+    requires { ⌜ LeafKind kind × InLimit (now s) ⌝ }
     ensures { λ r. ⌜ FieldsTell (now (text .entry)) (now (s .entry)) kind at r ⌝ }
 {
     let n = text.len();
@@ -135,6 +136,7 @@ fn validate_container(s: &[u8], at: usize, kind: u8) -> RecordCheck
 
 // The record at a place, without the nodes in it.
 pub fn validate_record(text: &[u8], s: &[u8], at: usize) -> RecordCheck
+    requires { ⌜ InLimit (now s) ⌝ }
     ensures { λ r. ⌜ Reads (recordForm (length (now (text .entry)))) (recordView (now (text .entry))) (now (s .entry)) at (checkView r) (r .next) ⌝ }
 {
     let k = take_byte(s, at, 15);

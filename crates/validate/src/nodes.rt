@@ -1,6 +1,6 @@
 // Nodes in preorder, each by its rules, to the first refusal. For our own crates: an ordinal is at most one more than its place.
 ghost use Prim.Native.Nat.{_+_, _≤_};
-ghost use lib.ListN.{length};
+ghost use Rattle.validate.specs.Means.{InLimit};
 ghost use Rattle.validate.specs.Walks.{NodeWalk, NodesWalk};
 use crate::faults::Fault;
 use crate::kinds::validate_record;
@@ -16,7 +16,7 @@ pub enum Walk {
 
 // The node at a place, with the nodes in it, its record being of an ordinal.
 fn validate_node(text: &[u8], s: &[u8], at: usize, ordinal: usize) -> Walk
-    requires { ⌜ ordinal ≤ at + 1 ⌝ }
+    requires { ⌜ (ordinal ≤ at + 1) × InLimit (now s) ⌝ }
     ensures { λ r. ⌜ NodeWalk (now (text .entry)) (now (s .entry)) at ordinal r ⌝ }
 {
     if s.len() <= at {
@@ -39,7 +39,7 @@ fn validate_node(text: &[u8], s: &[u8], at: usize, ordinal: usize) -> Walk
 
 // So many nodes from a place on, the first record being of an ordinal.
 pub fn validate_nodes(text: &[u8], s: &[u8], at: usize, count: usize, ordinal: usize) -> Walk
-    requires { ⌜ ordinal ≤ at + 1 ⌝ }
+    requires { ⌜ (ordinal ≤ at + 1) × InLimit (now s) ⌝ }
     ensures { λ r. ⌜ NodesWalk (now (text .entry)) (now (s .entry)) at count ordinal r ⌝ }
 {
     let mut a = at;

@@ -1,8 +1,9 @@
--- `opening::first_foreign` meets its contract: the loop keeps which byte is the first foreign one. Assumes nothing.
+-- `opening::first_foreign` meets its contract: there is none, or the loop keeps which byte is the first. Assumes nothing.
 use Prim.Native.Nat.{_-_}
 use mathlib.Core.Path.{_≡_, refl, sym, _∙_}
 use lib.ListN.{length, drop}
 use borrow.Author.Needs.{needs}
+use borrow.Author.Tests.{not-true}
 use Rattle.sheet.specs.Opening.{foreignFrom}
 use Rattle.opening.proofs.OpenLaws as laws
 use Rattle.opening.proofs.first_foreign.Statement.{statement}
@@ -14,6 +15,12 @@ Inv-loop text i₀ i = foreignFrom i (drop i text) ≡ foreignFrom 0 text
 abbrev μ-loop : tie.MeasureT-loop
 μ-loop text i₀ i = length text - i
 
+has-foreign-requires : tie.Need-has-foreign-requires Inv-loop μ-loop
+has-foreign-requires c κs = search needs
+
+returns : tie.Need-returns Inv-loop μ-loop
+returns c = laws.not-there _ (sym (not-true _ (c .if1 .taken)) ∙ c .before .has-foreign .ensures)
+
 loop-holds : tie.Need-loop-holds Inv-loop μ-loop
 loop-holds c = refl
 
@@ -23,11 +30,11 @@ shared-slice-read-in-class c = search needs
 in-class-requires : tie.Need-in-class-requires Inv-loop μ-loop
 in-class-requires c κs = search needs
 
-returns : tie.Need-returns Inv-loop μ-loop
-returns c =
+returns-2 : tie.Need-returns-2 Inv-loop μ-loop
+returns-2 c =
     let at-loop-test = c .before .before .before in
     let at-loop = at-loop-test .before in
-    sym (laws.foreign-here _ _ (at-loop-test .loop-test .taken) (sym (c .before .in-class .ensures) ∙ c .if1 .taken)) ∙ at-loop .loop .inv
+    sym (laws.foreign-here _ _ (at-loop-test .loop-test .taken) (sym (c .before .in-class .ensures) ∙ c .if2 .taken)) ∙ at-loop .loop .inv
 
 add-i : tie.Need-add-i Inv-loop μ-loop
 add-i c = search needs
@@ -39,10 +46,10 @@ loop-again : tie.Need-loop-again Inv-loop μ-loop
 loop-again c =
     let at-loop-test = c .before .before .before in
     let at-loop = at-loop-test .before in
-    sym (laws.foreign-later _ _ (at-loop-test .loop-test .taken) (sym (c .before .in-class .ensures) ∙ c .if1 .left)) ∙ at-loop .loop .inv
+    sym (laws.foreign-later _ _ (at-loop-test .loop-test .taken) (sym (c .before .in-class .ensures) ∙ c .if2 .left)) ∙ at-loop .loop .inv
 
-returns-2 : tie.Need-returns-2 Inv-loop μ-loop
-returns-2 c = sym (laws.foreign-none _ _ (c .loop-test .left)) ∙ c .before .loop .inv
+returns-3 : tie.Need-returns-3 Inv-loop μ-loop
+returns-3 c = sym (laws.foreign-none _ _ (c .loop-test .left)) ∙ c .before .loop .inv
 
 pub first-foreign-spec : {M : Type 1} → statement M
 first-foreign-spec =
@@ -50,11 +57,13 @@ first-foreign-spec =
     (tie.spec
     Inv-loop
     μ-loop
+    has-foreign-requires
+    returns
     loop-holds
     shared-slice-read-in-class
     in-class-requires
-    returns
+    returns-2
     add-i
     loop-less
     loop-again
-    returns-2)
+    returns-3)

@@ -1,24 +1,10 @@
--- `text::is_foreign` meets its contract: each way out has the answers of the calls before it. Assumes nothing.
-use mathlib.Core.Path.{sym, _∙_}
-use borrow.Author.Needs.{needs}
+-- `text::is_foreign` meets its contract. Assumes nothing.
+use Rattle.text.proofs.ByteLaws.{foreign-is}
 use Rattle.text.proofs.is_foreign.Statement.{statement}
 use Rattle.text.proofs.is_foreign.Tie as tie
 
-between-requires : tie.Need-between-requires
-between-requires c κs = search needs
-
 returns : tie.Need-returns
-returns c = rw (sym (c .before .between .ensures) ∙ c .if1 .taken)
-
-slice-aggregate-has : tie.Need-slice-aggregate-has
-slice-aggregate-has c = search needs
-
-has-requires : tie.Need-has-requires
-has-requires c κs = search needs
-
-returns-2 : tie.Need-returns-2
-returns-2 c = rw (sym (c .before .before .before .between .ensures) ∙ c .before .before .if1 .left, c .has .ensures)
+returns c = foreign-is (c .args .b)
 
 pub is-foreign-spec : {M : Type 1} → statement M
-is-foreign-spec =
-    tie.close (tie.spec between-requires returns slice-aggregate-has has-requires returns-2)
+is-foreign-spec = tie.close (tie.spec returns)

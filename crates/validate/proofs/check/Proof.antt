@@ -1,3 +1,4 @@
+use native.Mathlib.Omega.{arith}
 -- `validate::check` meets its contract: what is shut is refused so; the walk of an open sheet gives the verdict. Assumes nothing.
 use mathlib.Core.Path.{sym, _∙_}
 use borrow.Author.Needs.{needs}
@@ -25,7 +26,10 @@ cast-validate-nodes : tie.Need-cast-validate-nodes
 cast-validate-nodes c = search needs
 
 validate-nodes-requires : tie.Need-validate-nodes-requires
-validate-nodes-requires c κs = search needs
+validate-nodes-requires c κs =
+    let at-enum-told = c .before .before in
+    let at-open-sheet = at-enum-told .before .before in
+    (omega arith, laws.short _ _ (sym (at-enum-told .enum-told .given .1) ∙ at-open-sheet .open-sheet .ensures))
 
 enum-known-walk : tie.Need-enum-known-walk
 enum-known-walk c = search needs

@@ -12,7 +12,8 @@ use Rattle.decode.proofs.fields.take_field.Statement.{statement}
 use Rattle.decode.proofs.fields.take_field.Tie as tie
 
 abbrev Inv-loop : tie.InvT-loop
-Inv-loop s at width v₀ k₀ v k = (k ≤ width) × (at + k ≤ length s) × (v < 256 ^ k) × (big k .read (drop at s) ≡ some (v, drop (at + k) s))
+Inv-loop s at width v₀ k₀ v k =
+    (k ≤ width) × (at + width ≤ length s) × (v < 256 ^ k) × (big k .read (drop at s) ≡ some (v, drop (at + k) s))
 
 abbrev μ-loop : tie.MeasureT-loop
 μ-loop s at width v₀ k₀ v k = width - k
@@ -23,41 +24,37 @@ lost-requires c κs = search needs
 returns : tie.Need-returns Inv-loop μ-loop
 returns c = laws.big-lost _ _ (c .before .before .before .args .width) (c .before .if1 .taken) (c .lost .ensures)
 
-loop-holds : tie.Need-loop-holds Inv-loop μ-loop
-loop-holds c = (omega arith, omega (arith, c .if1 .left), omega arith, rw add-zero)
-
-add-if2 : tie.Need-add-if2 Inv-loop μ-loop
-add-if2 c = search needs
+sub-if2 : tie.Need-sub-if2 Inv-loop μ-loop
+sub-if2 c = search needs
 
 lost-requires-2 : tie.Need-lost-requires-2 Inv-loop μ-loop
 lost-requires-2 c κs = search needs
 
 returns-2 : tie.Need-returns-2 Inv-loop μ-loop
-returns-2 c =
-    let at-if2 = c .before in
-    let at-loop-test = at-if2 .before in
-    let at-loop = at-loop-test .before in
-    laws.big-short _ _ _ _ _ (at-if2 .if2 .taken) (at-loop .loop .inv .3) (at-loop-test .loop-test .taken) (c .lost2 .ensures)
+returns-2 c = laws.big-short _ _ _ (c .before .before .if1 .left) (c .before .if2 .taken) (c .lost2 .ensures)
+
+loop-holds : tie.Need-loop-holds Inv-loop μ-loop
+loop-holds c = (omega arith, omega (arith, c .before .if1 .left, c .if2 .left), omega arith, rw add-zero)
 
 mul-v : tie.Need-mul-v Inv-loop μ-loop
-mul-v c = let l = c .before .before .loop in omega (arith, laws.room (l .k) (l .v) 0 (omega arith) (l .inv .2) (omega arith))
+mul-v c = let l = c .before .loop in omega (arith, laws.room (l .k) (l .v) 0 (omega arith) (l .inv .2) (omega arith))
 
 add-v : tie.Need-add-v Inv-loop μ-loop
 add-v c = search needs
 
 shared-slice-read-v : tie.Need-shared-slice-read-v Inv-loop μ-loop
-shared-slice-read-v c = search needs
+shared-slice-read-v c = omega (arith, c .before .loop-test .taken, c .before .before .loop .inv .1)
 
 cast-v : tie.Need-cast-v Inv-loop μ-loop
 cast-v c =
-    let at-loop = c .before .before .before in
-    let start = at-loop .before .before .before in
+    let at-loop = c .before .before in
+    let start = at-loop .before .before .before .before in
     omega (arith, c .shared-slice-known2 .given (start .args .at + at-loop .loop .k))
 
 add-v-2 : tie.Need-add-v-2 Inv-loop μ-loop
 add-v-2 c =
-    let at-loop = c .before .before .before in
-    let start = at-loop .before .before .before in
+    let at-loop = c .before .before in
+    let start = at-loop .before .before .before .before in
     let l = at-loop .loop in
     let i = start .args .at + l .k in
     let b : getD (start .args .s .now) i 0 < 256 = omega (arith, c .shared-slice-known2 .given i) in
@@ -71,19 +68,21 @@ loop-less c = search needs
 
 loop-again : tie.Need-loop-again Inv-loop μ-loop
 loop-again c =
-    let at-if2 = c .before in
-    let at-loop = at-if2 .before .before in
-    let start = at-loop .before .before .before in
+    let at-loop = c .before .before in
+    let start = at-loop .before .before .before .before in
     let l = at-loop .loop in
     let i = start .args .at + l .k in
     let b : getD (start .args .s .now) i 0 < 256 = omega (arith, c .shared-slice-known2 .given i) in
-    (omega arith, omega (arith, at-if2 .if2 .left), laws.grow _ _ _ (l .inv .2) b, laws.big-next _ _ _ _ (at-if2 .if2 .left) b (l .inv .3))
+    let h : i < length (start .args .s .now) = omega (arith, c .before .loop-test .taken, l .inv .1) in
+    (omega arith, l .inv .1, laws.grow _ _ _ (l .inv .2) b, laws.big-next _ _ _ _ h b (l .inv .3))
 
 add-t6 : tie.Need-add-t6 Inv-loop μ-loop
 add-t6 c = search needs
 
 returns-3 : tie.Need-returns-3 Inv-loop μ-loop
-returns-3 c = laws.big-got _ _ _ _ _ (omega arith) (c .before .loop .inv .3) (c .before .loop .inv .1) (c .before .loop .inv .2)
+returns-3 c =
+    let l = c .before .loop in
+    laws.big-got _ _ _ _ _ (omega arith) (l .inv .3) (omega (arith, l .inv .0, l .inv .1)) (l .inv .2)
 
 pub take-field-spec : {M : Type 1} → statement M
 take-field-spec =
@@ -93,10 +92,10 @@ take-field-spec =
     μ-loop
     lost-requires
     returns
-    loop-holds
-    add-if2
+    sub-if2
     lost-requires-2
     returns-2
+    loop-holds
     mul-v
     add-v
     shared-slice-read-v

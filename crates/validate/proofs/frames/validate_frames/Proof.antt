@@ -1,8 +1,9 @@
--- `validate::frames::validate_frames` meets its contract: the outer loop has passed the frames before i, the inner one has tried the first
--- j of these. Assumes nothing.
+-- `validate::frames::validate_frames` meets its contract: the outer loop has passed the frames before i and keeps their times, the inner
+-- one has tried the first j of these. Assumes nothing.
 use Prim.Native.Nat.{_-_, _≤_}
 use mathlib.Core.Path.{_≡_, refl, sym, _∙_}
 use native.Mathlib.Omega.{arith}
+use lib.ListN.{length, length-set}
 use borrow.Author.Needs.{needs}
 use Rattle.validate.specs.declared.faults.Fault.the-variants.{None}
 use Rattle.validate.proofs.FrameLaws as frames
@@ -10,34 +11,44 @@ use Rattle.validate.proofs.frames.validate_frames.Statement.{statement}
 use Rattle.validate.proofs.frames.validate_frames.Tie as tie
 
 abbrev Inv-loop : tie.InvT-loop
-Inv-loop text s first count n fault₀ i at frame entry j₀ back₀ fault j back =
-    (fault ≡ fault₀) × frames.Trying text s first count (entry .time) i j back
+Inv-loop text s first count times n fault₀ i at frame entry j₀ fault j = (fault ≡ fault₀) × frames.Tried times (entry .time) i j
 
 abbrev μ-loop : tie.MeasureT-loop
-μ-loop text s first count n fault₀ i at frame entry j₀ back₀ fault j back = i - j
+μ-loop text s first count times n fault₀ i at frame entry j₀ fault j = i - j
 
 abbrev Inv-frames : tie.InvT-frames
-Inv-frames text s first count n fault₀ i₀ at₀ fault i at = (i ≤ count) × (fault ≡ None) × frames.Going text s first count i at
+Inv-frames text s first count times₀ n fault₀ i₀ at₀ times fault i at =
+    (i ≤ count) × (length times ≡ length times₀) × (fault ≡ None) × frames.Going text s first count times i at
 
 abbrev μ-frames : tie.MeasureT-frames
-μ-frames text s first count n fault₀ i₀ at₀ fault i at = count - i
+μ-frames text s first count times₀ n fault₀ i₀ at₀ times fault i at = count - i
 
 frames-holds : tie.Need-frames-holds Inv-loop μ-loop Inv-frames μ-frames
 frames-holds c =
-    let args = c .before .before .args in
-    (omega arith, refl, frames.going-start (args .text .now) (args .s .now) (args .first) (args .count))
+    let args = c .before .before .before .args in
+    (omega arith, refl, refl, frames.going-start (args .text .now) (args .s .now) (args .first) (args .count) _)
 
 take-entry-requires : tie.Need-take-entry-requires Inv-loop μ-loop Inv-frames μ-frames
 take-entry-requires c κs = search needs
 
 loop-holds : tie.Need-loop-holds Inv-loop μ-loop Inv-frames μ-frames
 loop-holds c =
-    let c4 = c .before .before .before .before in
-    let args = c4 .before .before .args in
-    (refl, frames.trying-start (args .text .now) (args .s .now) (args .first) (args .count) _ _)
+    let at-frames = c .before .before .before in
+    (refl, frames.tried-start (at-frames .frames .times) (c .before .take-entry .result .v .time) (at-frames .frames .i))
 
-take-entry-requires-2 : tie.Need-take-entry-requires-2 Inv-loop μ-loop Inv-frames μ-frames
-take-entry-requires-2 c κs = search needs
+mul-is-duplicate : tie.Need-mul-is-duplicate Inv-loop μ-loop Inv-frames μ-frames
+mul-is-duplicate c =
+    let c4 = c .before .before .before .before in
+    let at-frames = c4 .before in
+    let start = at-frames .before .before .before .before in
+    omega (arith, start .pre, at-frames .frames .inv)
+
+slice-read-is-duplicate : tie.Need-slice-read-is-duplicate Inv-loop μ-loop Inv-frames μ-frames
+slice-read-is-duplicate c =
+    let c4 = c .before .before .before .before in
+    let at-frames = c4 .before .before in
+    let start = at-frames .before .before .before .before in
+    omega (arith, start .pre, at-frames .frames .inv)
 
 is-duplicate-requires : tie.Need-is-duplicate-requires Inv-loop μ-loop Inv-frames μ-frames
 is-duplicate-requires c κs = search needs
@@ -50,25 +61,39 @@ loop-less c = omega arith
 
 loop-again : tie.Need-loop-again Inv-loop μ-loop Inv-frames μ-frames
 loop-again c =
-    let at-take-entry2 = c .before .before .before in
-    let at-loop-test = at-take-entry2 .before in
+    let at-loop-test = c .before .before .before in
     let at-loop = at-loop-test .before in
-    let at-take-entry = at-loop .before .before in
-    let at-frames-test = at-take-entry .before in
-    let at-frames = at-frames-test .before in (
+    let at-frames = at-loop .before .before .before .before in
+    let start = at-frames .before .before .before .before in (
       at-loop .loop .inv .0,
-      frames.trying-next
-          (at-frames .frames .inv .2)
-          (at-frames-test .frames-test .taken)
-          (at-take-entry .take-entry .ensures)
-          (at-loop .loop .inv .1)
+      frames.tried-next
+          (at-frames .frames .times)
+          _ _
           (at-loop-test .loop-test .taken)
-          (at-take-entry2 .take-entry2 .ensures)
-          (sym (c .before .is-duplicate .ensures) ∙ c .if1 .left),
+          (omega (arith, start .pre, at-frames .frames .inv .0, at-frames .frames .inv .1))
+          (sym (c .before .is-duplicate .ensures) ∙ c .if1 .left)
+          (at-loop .loop .inv .1),
     )
 
-has-unknown-easing-requires : tie.Need-has-unknown-easing-requires Inv-loop μ-loop Inv-frames μ-frames
+has-unknown-easing-requires :
+    tie.Need-has-unknown-easing-requires Inv-loop μ-loop Inv-frames μ-frames
 has-unknown-easing-requires c κs = search needs
+
+mul-times : tie.Need-mul-times Inv-loop μ-loop Inv-frames μ-frames
+mul-times c =
+    let c4 = c .before .before .before .before in
+    let at-frames-test = c4 .before .before in
+    let at-frames = at-frames-test .before in
+    let start = at-frames .before .before .before .before in
+    omega (arith, start .pre, at-frames .frames .inv, at-frames-test .frames-test .taken)
+
+slice-write-times : tie.Need-slice-write-times Inv-loop μ-loop Inv-frames μ-frames
+slice-write-times c =
+    let c4 = c .before .before .before .before in
+    let at-frames-test = c4 .before .before in
+    let at-frames = at-frames-test .before in
+    let start = at-frames .before .before .before .before in
+    omega (arith, start .pre, at-frames .frames .inv, at-frames-test .frames-test .taken)
 
 add-i : tie.Need-add-i Inv-loop μ-loop Inv-frames μ-frames
 add-i c = omega arith
@@ -82,38 +107,45 @@ frames-again c =
     let at-loop = at-loop-test .before in
     let at-take-entry = at-loop .before .before in
     let at-frames-test = at-take-entry .before in
-    let at-frames = at-frames-test .before in (
+    let at-frames = at-frames-test .before in
+    let start = at-frames .before .before .before .before in (
       omega arith,
-      at-loop .loop .inv .0 ∙ at-frames .frames .inv .1,
+      length-set (at-frames .frames .times) _ _ ∙ at-frames .frames .inv .1,
+      at-loop .loop .inv .0 ∙ at-frames .frames .inv .2,
       frames.going-next
-          (at-frames .frames .inv .2)
+          (at-frames .frames .inv .3)
           (at-frames-test .frames-test .taken)
           (at-take-entry .take-entry .ensures)
-          (at-loop .loop .inv .1)
-          (at-loop-test .loop-test .left)
+          (frames.tried-end (at-frames .frames .times) _ (at-loop-test .loop-test .left) (at-loop .loop .inv .1))
           (c .before .has-unknown-easing .ensures)
-          (c .if2 .left),
+          (c .if2 .left)
+          (omega (arith, start .pre, at-frames .frames .inv .1, at-frames-test .frames-test .taken)),
     )
 
+same-length : tie.Need-same-length Inv-loop μ-loop Inv-frames μ-frames
+same-length c = search needs
+
 returns : tie.Need-returns Inv-loop μ-loop Inv-frames μ-frames
-returns c = rw (c .before .frames .inv .1) (frames.going-done (c .before .frames .inv .2) (c .frames-test .left))
+returns c = rw (c .before .frames .inv .2) (frames.going-done (c .before .frames .inv .3) (c .frames-test .left))
+
+same-length-2 : tie.Need-same-length-2 Inv-loop μ-loop Inv-frames μ-frames
+same-length-2 c = search needs
 
 returns-2 : tie.Need-returns-2 Inv-loop μ-loop Inv-frames μ-frames
 returns-2 c =
-    let at-take-entry2 = c .before .before .before in
-    let at-loop-test = at-take-entry2 .before in
+    let at-loop-test = c .before .before .before in
     let at-loop = at-loop-test .before in
     let at-take-entry = at-loop .before .before in
     let at-frames-test = at-take-entry .before in
     let at-frames = at-frames-test .before in
-    frames.duplicate-found
-    (at-frames .frames .inv .2)
-    (at-frames-test .frames-test .taken)
-    (at-take-entry .take-entry .ensures)
-    (at-loop .loop .inv .1)
-    (at-loop-test .loop-test .taken)
-    (at-take-entry2 .take-entry2 .ensures)
-    (sym (c .before .is-duplicate .ensures) ∙ c .if1 .taken)
+    let start = at-frames .before .before .before .before in
+    frames.duplicate-found (at-frames .frames .inv .3) (at-frames-test .frames-test .taken) (at-take-entry .take-entry .ensures)
+    (frames.tried-hit (at-frames .frames .times) _ _ (at-loop-test .loop-test .taken)
+    (omega (arith, start .pre, at-frames .frames .inv .0, at-frames .frames .inv .1))
+    (sym (c .before .is-duplicate .ensures) ∙ c .if1 .taken) (at-loop .loop .inv .1))
+
+same-length-3 : tie.Need-same-length-3 Inv-loop μ-loop Inv-frames μ-frames
+same-length-3 c = search needs
 
 returns-3 : tie.Need-returns-3 Inv-loop μ-loop Inv-frames μ-frames
 returns-3 c =
@@ -123,11 +155,10 @@ returns-3 c =
     let at-frames-test = at-take-entry .before in
     let at-frames = at-frames-test .before in
     frames.easing-unknown
-    (at-frames .frames .inv .2)
+    (at-frames .frames .inv .3)
     (at-frames-test .frames-test .taken)
     (at-take-entry .take-entry .ensures)
-    (at-loop .loop .inv .1)
-    (at-loop-test .loop-test .left)
+    (frames.tried-end (at-frames .frames .times) _ (at-loop-test .loop-test .left) (at-loop .loop .inv .1))
     (c .before .has-unknown-easing .ensures)
     (c .if2 .taken)
 
@@ -142,15 +173,21 @@ validate-frames-spec =
     frames-holds
     take-entry-requires
     loop-holds
-    take-entry-requires-2
+    mul-is-duplicate
+    slice-read-is-duplicate
     is-duplicate-requires
     add-j
     loop-less
     loop-again
     has-unknown-easing-requires
+    mul-times
+    slice-write-times
     add-i
     frames-less
     frames-again
+    same-length
     returns
+    same-length-2
     returns-2
+    same-length-3
     returns-3)

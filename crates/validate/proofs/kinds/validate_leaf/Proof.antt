@@ -220,7 +220,7 @@ returns-11 c =
     let m = at-match .match .rest in
     rw (c .leaf11 .ensures)
     (laws.chosen (kinds (length (start-2 .args .text .now)) countForm) (splitNode _ _) 14 b
-    (kind-laws.last-kind _ (start-2 .pre) (m .0 .0 .0 .0 .0 .0 .0 .0 .0 .1) (m .0 .0 .0 .0 .0 .0 .0 .0 .1) (m .0 .0 .0 .0 .0 .0 .0 .1)
+    (kind-laws.last-kind _ (start-2 .pre .0) (m .0 .0 .0 .0 .0 .0 .0 .0 .0 .1) (m .0 .0 .0 .0 .0 .0 .0 .0 .1) (m .0 .0 .0 .0 .0 .0 .0 .1)
     (m .0 .0 .0 .0 .0 .0 .1) (m .0 .0 .0 .0 .0 .1) (m .0 .0 .0 .0 .1) (m .0 .0 .0 .1) (m .0 .0 .1) (m .0 .1) (m .1))
     (c .before .take-at .ensures) (λ x e. kind-laws.leaf-is (start-2 .args .text .now) (tree.at x) refl))
 

@@ -13,8 +13,10 @@ validate-container-requires c κs = search needs
 
 validate-leaf-requires : tie.Need-validate-leaf-requires
 validate-leaf-requires c κs =
-    ⊎-elim (λ w. (inl (omega arith), c .before .take-byte .ensures .small)) (λ w. (inr (omega arith), c .before .take-byte .ensures .small))
-    (c .if1 .came)
+    let at-take-byte = c .before in (
+      (⊎-elim (λ w. inl (omega arith)) (λ w. inr (omega arith)) (c .if1 .came), at-take-byte .take-byte .ensures .small),
+      at-take-byte .before .before .before .pre,
+    )
 
 returns : tie.Need-returns
 returns c = c .validate-container .ensures _ _ (c .before .before .before .take-byte .ensures .reads)

@@ -63,7 +63,7 @@ nodes-calls t = (validate-node-below t, validate-node.Post)
 validate-node-returns : (t : ℕ) → validate-node-lts.Need-returns (node-calls t) (validate-node-at t) validate-node.Post
 validate-node-returns t c =
     let start = c .before .before .before in
-    record { on = (omega arith, start .pre .1); is = λ d x h. walks.no-node (start .args .text .now) _ (c .if1 .taken) d x h }
+    record { on = (omega arith, start .pre .1 .0); is = λ d x h. walks.no-node (start .args .text .now) _ (c .if1 .taken) d x h }
 
 validate-node-validate-record-requires : (t : ℕ)
     → validate-node-lts.Need-validate-record-requires (node-calls t) (validate-node-at t) validate-node.Post
@@ -92,7 +92,7 @@ validate-node-add-t13 t c =
     let c4 = c .before .before .before .before in
     let at-if1 = c4 .before in
     let start = at-if1 .before .before .before in
-    omega (arith, at-if1 .if1 .left, start .pre .1)
+    omega (arith, at-if1 .if1 .left, start .pre .1 .0)
 
 validate-node-enum-known-kind : (t : ℕ) → validate-node-lts.Need-enum-known-kind (node-calls t) (validate-node-at t) validate-node.Post
 validate-node-enum-known-kind t c = search needs
@@ -103,7 +103,7 @@ validate-node-add-validate-nodes t c =
     let c4 = c .before .before .before .before in
     let at-if1 = c4 .before .before in
     let start = at-if1 .before .before .before in
-    omega (arith, at-if1 .if1 .left, start .pre .1)
+    omega (arith, at-if1 .if1 .left, start .pre .1 .0)
 
 validate-node-validate-nodes-requires : (t : ℕ)
     → validate-node-lts.Need-validate-nodes-requires (node-calls t) (validate-node-at t) validate-node.Post
@@ -113,7 +113,7 @@ validate-node-validate-nodes-requires t c κs =
     let at-if1 = at-validate-record .before in
     let pre = at-if1 .before .before .before .pre in
     let m = moves _ (at-validate-record .validate-record .ensures) (at-if1 .if1 .left) in
-    (omega (arith, m, at-if1 .if1 .left, pre .0), omega (arith, m, pre .1))
+    (omega (arith, m, at-if1 .if1 .left, pre .0), (omega (arith, m, pre .1 .0), pre .1 .1))
 
 validate-node-returns-3 : (t : ℕ) → validate-node-lts.Need-returns-3 (node-calls t) (validate-node-at t) validate-node.Post
 validate-node-returns-3 t c =
@@ -123,7 +123,7 @@ validate-node-returns-3 t c =
     let start = at-if1 .before .before .before in
     let m = moves _ (at-validate-record .validate-record .ensures) (at-if1 .if1 .left) in
     record {
-      on = (nearer (at-validate-record .validate-record .ensures), omega (arith, m, start .pre .1));
+      on = (nearer (at-validate-record .validate-record .ensures), omega (arith, m, start .pre .1 .0));
       is = λ d x h. walks.clean-leaf _ _ _
           (walks.opens _ _
           (rw (at-enum-told .enum-told .given .1, c .enum-told2 .given .1) at (at-validate-record .validate-record .ensures)) d x h);
@@ -153,15 +153,19 @@ validate-nodes-loop-holds : (t : ℕ)
     validate-nodes-μ-loop
 validate-nodes-loop-holds t c =
     let start = c .before .before in
-    let args = start .args in
-    (omega arith, start .pre .1, omega arith, walks.going-start (args .text .now) (args .s .now) (args .ordinal) (args .at) (args .count))
+    let args = start .args in (
+      omega arith,
+      start .pre .1 .0,
+      omega arith,
+      walks.going-start (args .text .now) (args .s .now) (args .ordinal) (args .at) (args .count),
+    )
 
 validate-nodes-validate-node-requires : (t : ℕ)
     → validate-nodes-lts.Need-validate-node-requires (nodes-calls t) (validate-nodes-at t) validate-nodes.Post validate-nodes-Inv-loop
     validate-nodes-μ-loop
 validate-nodes-validate-node-requires t c κs =
     let start = c .before .before .before .before in
-    (omega (arith, start .pre .0, c .before .loop .inv), omega (arith, start .pre .1, c .before .loop .inv .1))
+    (omega (arith, start .pre .0, c .before .loop .inv), (omega (arith, start .pre .1 .0, c .before .loop .inv .1), start .pre .1 .1))
 
 validate-nodes-enum-known-w : (t : ℕ)
     → validate-nodes-lts.Need-enum-known-w (nodes-calls t) (validate-nodes-at t) validate-nodes.Post validate-nodes-Inv-loop
