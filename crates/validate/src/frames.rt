@@ -1,4 +1,4 @@
-// A track's rules: enough frames, no time twice, easings of known names.
+// A track's rules: enough frames, no time twice, easings of known names. For our own crates: bytes of at most a sheet's limit.
 ghost use Prim.Native.Nat.{_≤_};
 ghost use mathlib.Core.Path.{_≡_};
 ghost use lib.ListN.{length};

@@ -1,4 +1,4 @@
-// A record: its fields, decoded, by the rules of its kind.
+// A record: its fields, decoded, by the rules of its kind. For our own crates: bytes of at most a sheet's limit.
 ghost use Prim.Native.Nat.{ℕ};
 ghost use mathlib.Core.List.{List};
 ghost use mathlib.Core.Path.{_≡_};
