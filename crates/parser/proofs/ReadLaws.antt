@@ -2,6 +2,7 @@
 use Prim.Native.Nat.{ℕ, _+_, _-_, _≤_, _<_}
 use mathlib.Core.Bool.{Bool, true, false}
 use mathlib.Core.List.{List, _++_}
+use mathlib.Core.Option.{none, some}
 use mathlib.Core.Path.{_≡_, refl, sym, ap, _∙_}
 use native.Mathlib.Omega.{arith}
 use native.Mathlib.Nat.{zero-add, sub-zero}
@@ -24,10 +25,10 @@ use Rattle.encode.proofs.OverLaws.{writes-counted}
 use Rattle.encode.proofs.ClearLaws.{written}
 use Rattle.grammar.specs.Rule.{refused}
 use Rattle.grammar.specs.Grammar.{stored, animatoInput}
-use Rattle.cursor.specs.Means.{run}
+use Rattle.cursor.specs.Means.{nothing, leftOf, run, Begins}
 use Rattle.cursor.specs.declared.Cursor.{Cursor}
-use Rattle.cursor.specs.declared.Left.the-variants as left
-use Rattle.blocks.specs.Means.{Reached, parseNodes, NodesWent}
+use Rattle.cursor.proofs.CursorLaws.{left-none}
+use Rattle.blocks.specs.Means.{parseNodes, NodesWent}
 use Rattle.blocks.specs.declared.Siblings.{Siblings}
 use Rattle.blocks.proofs.BlockLaws.{block-bytes}
 use Rattle.error.specs.declared.Refusal.{Refusal}
@@ -40,23 +41,20 @@ use Rattle.parser.specs.Means.{treeOf, Encoded, TreeMeans, settled, outc
 
 -- ---- the grammar, from the text's start on
 
-module _ (t : List ℕ) (c : Cursor) (e : c .at ≡ 0) (l : c .left ≡ left.Nothing) where
+module _ (t : List ℕ) (c : Cursor) (i : Begins t 0 nothing c) where
   input-run : treeOf t ≡ finished (run t c (parseNodes 16))
   unfolding animatoInput
-  input-run = rw (e, l)
-
-  pub input-reached : length t ≤ textLimit → Reached t c 2
-  input-reached h = record { short = h; low = omega arith }
+  input-run = rw (i .is, left-none (c .left) (i .left))
 
   pub input-refused : (r : Refusal) (p : ℕ) → run t c (parseNodes 16) ≡ refused r p → treeOf t ≡ wrong r p
   input-refused r p h = input-run ∙ (rw h)
 
   module _ {b a : List ℕ} {u : Siblings} (g : NodesWent t b a c 2 16 u) where
     -- "tokens left inside a delimiter": 13, at "the first"
-    pub input-left : (p : ℕ) → u .next .left ≡ left.At p → treeOf t ≡ wrong Leftover p
+    pub input-left : (p : ℕ) → leftOf (u .next .left) ≡ some p → treeOf t ≡ wrong Leftover p
     input-left p h = input-run ∙ (rw (g .went .took .is, h))
 
-    pub input-done : {a′ : List ℕ} {f : ℕ} → u .next .left ≡ left.Nothing → Writes a 0 (big 2 .write (u .width)) a′ f
+    pub input-done : {a′ : List ℕ} {f : ℕ} → leftOf (u .next .left) ≡ none → Writes a 0 (big 2 .write (u .width)) a′ f
         → Encoded t b a′ (u .end) (u .records)
     unfolding encode
     input-done h o = record {

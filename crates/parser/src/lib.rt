@@ -20,13 +20,12 @@ fn parse_input(text: &[u8], sheet: &mut [u8]) -> ReadAnswer
     requires { ⌜ length (now text) ≤ textLimit ⌝ }
     ensures { λ r. ⌜ TreeMeans (now (text .entry)) (now (sheet .entry)) (now (sheet .exit)) r ⌝ }
 {
-    let c = cursor::start(text, 0, Left::Nothing);
+    let c = cursor::first(text);
     match blocks::parse_nodes(text, sheet, c, 2, 16) {
         ParsedNodes::Refused(refusal, place) => ReadAnswer::Refused { refusal, place },
         ParsedNodes::Is(nodes) => {
             let m = nodes.next;
-            let left = m.left;
-            match left {
+            match cursor::leftover(m) {
                 Left::At(place) => ReadAnswer::Refused {
                     refusal: Refusal::Leftover,
                     place,

@@ -322,4 +322,4 @@ TimedMeans g i (timed.Refused r q) =
     (g .end ≡ ended.Refused r q)
     ⊎ ((e : Cursor) × (g .end ≡ ended.Is e)
     × (floatIn (keptAt (g .slots) i) ≡ optFloat.Absent)
-    × (r ≡ MissingDuration) × (q ≡ e .head .start))
+    × (r ≡ MissingDuration) × (q ≡ e .at))

@@ -631,10 +631,7 @@ pub fn duration_in(g: Gathered, i: usize) -> Timed
         Ended::Refused(r, p) => Timed::Refused(r, p),
         Ended::Is(e) => match float_at(slots, i) {
             OptF32::Present(x) => Timed::Is(x, e),
-            OptF32::Absent => {
-                let head = e.head;
-                Timed::Refused(Refusal::MissingDuration, head.start)
-            }
+            OptF32::Absent => Timed::Refused(Refusal::MissingDuration, cursor::place(e)),
         },
     }
 }

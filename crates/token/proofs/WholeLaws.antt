@@ -192,7 +192,7 @@ module _ (t : List ℕ) (w : ℕ) (fits : w ≤ length t) (digits : (j : ℕ) �
       }
 
 -- the digits of a number, q of them after the point, up to e
-digits-below : (t : List ℕ) (w e q : ℕ) (x : Bool) → e ≡ pastFraction x t w
+pub digits-below : (t : List ℕ) (w e q : ℕ) (x : Bool) → e ≡ pastFraction x t w
     → q ≡ placesOf x w e → w ≤ run isDigit t → w ≤ 10 → q ≤ 9
     → decimal (decimal 0 (take w t)) (part t (suc w) q) < 10 ^ 19
 digits-below t w e q x k l h g b =

@@ -7,10 +7,10 @@ ghost use Prim.Native.Nat.{ℕ, _-_, _^_, _≤_, _<_};
 ghost use lib.ListN.{length, drop, replicate};
 ghost use Rattle.text.specs.Limits.{textLimit};
 ghost use Rattle.text.specs.Bytes.{run, part, among, decimal, isDigit};
-ghost use Rattle.token.specs.Token.{isMark, nameAt, pointAt, pastFraction, suffixAt, pastSuffix, clings, placesOf, numberAt, quotedAt, lexeme};
+ghost use Rattle.token.specs.Token.{nameAt, pointAt, pastFraction, suffixAt, pastSuffix, clings, placesOf, numberAt, quotedAt, writtenAt, lexeme};
 ghost use Rattle.token.specs.Split.{closer, closed, nestMark, nest, ended, split};
-ghost use Rattle.token.specs.Names.{isKeyword, wordOf};
-ghost use Rattle.token.specs.Means.{kindOf, isSpelt, excessOf, CutMeans, endAt, Lexes, held, afterOpener, DepthMeans, answerOf, answerFrom, TurnMeans, splitOutcome, splitting};
+ghost use Rattle.token.specs.Names.{isKeyword};
+ghost use Rattle.token.specs.Means.{writtenOf, kindOf, excessOf, Digits, Small, CutMeans, lexedOf, Lexes, held, afterOpener, DepthMeans, answerOf, answerFrom, TurnMeans, splitOutcome, splitting};
 use error::Refusal;
 use text::Class;
 
@@ -22,11 +22,11 @@ pub struct Number {
     pub suffix: bool,
 }
 
-// A name has its size, a string that of what stands between its quotes. Mark 0 is the end.
+// What a token is. Mark 0 is the end.
 pub enum Tok {
-    Name(usize),
-    Num(Number),
-    Quoted(usize),
+    Name,
+    Num,
+    Quoted,
     Mark(u8),
 }
 
@@ -38,9 +38,9 @@ pub enum Cut {
 
 // A token, its place, and the place after it.
 pub struct Lexed {
-    pub start: usize,
+    pub start: u16,
+    pub end: u16,
     pub tok: Tok,
-    pub next: usize,
 }
 
 // ---- the token that a text begins with
@@ -52,7 +52,7 @@ fn name_at(t: &[u8]) -> Cut
     if text::byte_at(t, n) == b'"' {
         return Cut::Bad(Refusal::BadForm);
     }
-    Cut::Piece(Tok::Name(n), n)
+    Cut::Piece(Tok::Name, n)
 }
 
 fn quoted_at(t: &[u8]) -> Cut
@@ -64,8 +64,7 @@ fn quoted_at(t: &[u8]) -> Cut
         if text::in_class(Class::NameByte, text::byte_at(t, n)) {
             return Cut::Bad(Refusal::BadForm);
         }
-        let size = e - 1;
-        return Cut::Piece(Tok::Quoted(size), n);
+        return Cut::Piece(Tok::Quoted, n);
     }
     Cut::Bad(Refusal::BadForm)
 }
@@ -183,17 +182,27 @@ fn number_at(t: &[u8]) -> Cut
     if clings {
         return Cut::Bad(Refusal::BadForm);
     }
+    Cut::Piece(Tok::Num, n)
+}
+
+// The number that a text begins with.
+pub fn number_of(t: &[u8]) -> Number
+    requires { ⌜ Digits (now t) ⌝ }
+    ensures { λ r. ⌜ (writtenOf r ≡ writtenAt (now (t .entry))) × Small r ⌝ }
+{
+    let w = text::run_end(t, 0, Class::Digit);
+    let point = has_point(t, w);
+    let end = past_fraction(t, w, point);
+    let suffix = has_suffix(t, end);
+    let places = places_of(point, w, end);
     let whole = value(t, 0, 0, w);
     let digits = value(t, whole, end - places, places);
-    Cut::Piece(
-        Tok::Num(Number {
-            digits: digits,
-            places: places,
-            point: point,
-            suffix: suffix,
-        }),
-        n,
-    )
+    Number {
+        digits,
+        places,
+        point,
+        suffix,
+    }
 }
 
 fn is_mark(b: u8) -> bool
@@ -224,35 +233,37 @@ fn first(t: &[u8]) -> Cut
 
 // ---- the token at a place
 
-fn end_at(at: usize) -> Lexed
-    ensures { λ r. ⌜ r ≡ endAt at ⌝ }
+// A place in a text, in 16 bits.
+fn short(n: usize) -> u16
+    requires { ⌜ n ≤ textLimit ⌝ }
+    ensures { λ r. ⌜ r ≡ n ⌝ }
+{
+    n as u16
+}
+
+fn token_at(start: usize, end: usize, tok: Tok) -> Lexed
+    requires { ⌜ (start ≤ textLimit) × (end ≤ textLimit) ⌝ }
+    ensures { λ r. ⌜ r ≡ lexedOf start end tok ⌝ }
 {
     Lexed {
-        start: at,
-        tok: Tok::Mark(0),
-        next: at,
+        start: short(start),
+        end: short(end),
+        tok,
     }
 }
 
 // The token at a place, and the place after it. Where none can be cut it is the end.
 pub fn token(text: &[u8], at: usize) -> Lexed
-    requires { ⌜ length (now text) ≤ textLimit ⌝ }
+    requires { ⌜ (at ≤ length (now text)) × (length (now text) ≤ textLimit) ⌝ }
     ensures { λ r. ⌜ Lexes (now (text .entry)) at r ⌝ }
 {
     let start = text::run_end(text, at, Class::Blank);
     if text.len() <= start {
-        return end_at(start);
+        return token_at(start, start, Tok::Mark(0));
     }
     match first(&text[start..]) {
-        Cut::Bad(_) => end_at(start),
-        Cut::Piece(k, n) => {
-            let next = start + n;
-            Lexed {
-                start: start,
-                tok: k,
-                next: next,
-            }
-        }
+        Cut::Bad(_) => token_at(start, start, Tok::Mark(0)),
+        Cut::Piece(k, n) => token_at(start, start + n, k),
     }
 }
 
@@ -338,13 +349,13 @@ fn nest_mark(b: u8, words: &mut [u16], depth: usize) -> Depth
 // What a token makes of the delimiters.
 fn nest(k: Tok, words: &mut [u16], depth: usize) -> Depth
     requires { ⌜ (64 ≤ length (now words)) × (depth ≤ 64) ⌝ }
-    ensures { λ r. ⌜ ((t : List ℕ) → DepthMeans (nest (kindOf t k) (held (now (words .entry)) depth)) (now (words .exit)) r) ⌝ }
+    ensures { λ r. ⌜ ((t : List ℕ) (n : ℕ) → DepthMeans (nest (kindOf t n k) (held (now (words .entry)) depth)) (now (words .exit)) r) ⌝ }
 {
     match k {
         Tok::Mark(b) => nest_mark(b, words, depth),
-        Tok::Name(_) => Depth::Open(depth),
-        Tok::Num(_) => Depth::Open(depth),
-        Tok::Quoted(_) => Depth::Open(depth),
+        Tok::Name => Depth::Open(depth),
+        Tok::Num => Depth::Open(depth),
+        Tok::Quoted => Depth::Open(depth),
     }
 }
 
@@ -436,33 +447,9 @@ pub fn split(text: &[u8], scratch: &mut [u16]) -> SplitAnswer
     answer
 }
 
-// ---- what a token is
+// ---- the words that are no names
 
-// Whether a token is the mark b.
-pub fn seen(k: Tok, b: u8) -> bool
-    ensures { λ r. ⌜ ((t : List ℕ) → r ≡ isMark (kindOf t k) b) ⌝ }
-{
-    match k {
-        Tok::Mark(c) => c == b,
-        Tok::Name(_) => false,
-        Tok::Num(_) => false,
-        Tok::Quoted(_) => false,
-    }
-}
-
-// Whether the token that begins at `start` is a name or a keyword of these bytes.
-pub fn spells(text: &[u8], start: usize, k: Tok, word: &[u8]) -> bool
-    ensures { λ r. ⌜ r ≡ isSpelt (wordOf (kindOf (drop start (now (text .entry))) k)) (now (word .entry)) ⌝ }
-{
-    match k {
-        Tok::Name(n) => text::is_word(text::part(text, start, n), word),
-        Tok::Num(_) => false,
-        Tok::Quoted(_) => false,
-        Tok::Mark(_) => false,
-    }
-}
-
-// The words that are no names, by their lengths, each behind a byte that is its length.
+// By their lengths, each behind a byte that is its length.
 const KEYWORDS_1: [u8; 2] = *b"\x01_";
 
 const KEYWORDS_2: [u8; 15] = *b"\x02as\x02fn\x02if\x02in\x02do";

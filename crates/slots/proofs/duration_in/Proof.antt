@@ -20,6 +20,9 @@ enum-known-x c = search needs
 enum-told : tie.Need-enum-told
 enum-told c = search needs
 
+place-requires : tie.Need-place-requires
+place-requires c κs = search needs
+
 returns : tie.Need-returns
 returns c = inl (c .before .end .given .1)
 
@@ -33,7 +36,7 @@ returns-3 : tie.Need-returns-3
 returns-3 c =
     let at-float-at = c .before .before .before in
     let at-end2 = at-float-at .before .before in
-    inr (_, at-end2 .end2 .given .1, sym (at-float-at .float-at .ensures) ∙ c .before .enum-told .given .1, refl, refl)
+    inr (_, at-end2 .end2 .given .1, sym (at-float-at .float-at .ensures) ∙ c .before .enum-told .given .1, refl, c .place .ensures)
 
 pub duration-in-spec : {M : Type 1} → statement M
 duration-in-spec =
@@ -44,6 +47,7 @@ duration-in-spec =
     float-at-requires
     enum-known-x
     enum-told
+    place-requires
     returns
     returns-2
     returns-3)
