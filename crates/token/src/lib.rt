@@ -1,16 +1,16 @@
 // Tokens of a text: the one at a place, and the pass that judges a whole text by the text rules.
 // For our own crates: both require a text of at most the limit.
 ghost use mathlib.Core.Path.{_≡_};
-ghost use mathlib.Core.Bool.{not, _||_};
-ghost use mathlib.Core.List.{List};
+ghost use mathlib.Core.Bool.{true, false, not, _||_};
+ghost use mathlib.Core.List.{List, []};
 ghost use Prim.Native.Nat.{ℕ, _-_, _^_, _≤_, _<_};
 ghost use lib.ListN.{length, drop, replicate};
 ghost use Rattle.text.specs.Limits.{textLimit};
-ghost use Rattle.text.specs.Bytes.{run, part, among, decimal, isDigit};
+ghost use Rattle.text.specs.Bytes.{bytes, run, part, oneOf, among, decimal, isDigit};
 ghost use Rattle.token.specs.Token.{nameAt, pointAt, pastFraction, suffixAt, pastSuffix, clings, placesOf, numberAt, quotedAt, writtenAt, lexeme};
-ghost use Rattle.token.specs.Split.{closer, closed, nestMark, nest, ended, split};
+ghost use Rattle.token.specs.Split.{awaits, closer, closed, nestMark, nest, ended, split};
 ghost use Rattle.token.specs.Names.{isKeyword};
-ghost use Rattle.token.specs.Means.{writtenOf, kindOf, excessOf, Digits, Small, CutMeans, lexedOf, Lexes, held, afterOpener, DepthMeans, answerOf, answerFrom, TurnMeans, splitOutcome, splitting};
+ghost use Rattle.token.specs.Means.{writtenOf, kindOf, excessOf, Digits, Small, CutMeans, lexedOf, Lexes, held, afterOpener, DepthMeans, answerOf, answerFrom, TurnMeans, splitOutcome, splitting, nestByte, quotedBy, isClosed, nestsFrom, Skips};
 use error::Refusal;
 use text::Class;
 
@@ -445,6 +445,99 @@ pub fn split(text: &[u8], scratch: &mut [u16]) -> SplitAnswer
     let answer = pass(text, scratch);
     clear(scratch);
     answer
+}
+
+// ---- the delimiters alone, for a text whose tokens are all cut
+
+// Whether a byte is surely no delimiter and no quote: a letter, a digit and most marks are told by one test.
+fn is_plain(b: u8) -> bool
+    ensures { λ r. ⌜ (r ≡ true → oneOf (bytes "\"([{)]}") b ≡ false) ⌝ }
+{
+    let c = b | 32;
+    (42 <= c) & (c <= 122)
+}
+
+// The first place from one on whose byte may be a delimiter or a quote.
+fn plain_end(text: &[u8], from: usize) -> usize
+    requires { ⌜ from ≤ length (now text) ⌝ }
+    ensures { λ r. ⌜ Skips (now (text .entry)) from r ⌝ }
+{
+    let mut i = from;
+    while i < text.len() {
+        if !is_plain(text[i]) {
+            return i;
+        }
+        i += 1;
+    }
+    i
+}
+
+// Whether a string is open behind a byte.
+fn quoted_by(quoted: bool, b: u8) -> bool
+    ensures { λ r. ⌜ r ≡ quotedBy quoted b ⌝ }
+{
+    if b == b'"' {
+        return !quoted;
+    }
+    quoted
+}
+
+// What a byte makes of the delimiters; in a string, nothing.
+fn nest_byte(quoted: bool, b: u8, words: &mut [u16], depth: usize) -> Depth
+    requires { ⌜ (64 ≤ length (now words)) × (depth ≤ 64) ⌝ }
+    ensures { λ r. ⌜ DepthMeans (nestByte quoted b (awaits (held (now (words .entry)) depth))) (now (words .exit)) r ⌝ }
+{
+    if quoted {
+        return Depth::Open(depth);
+    }
+    nest_mark(b, words, depth)
+}
+
+// Whether nothing is open.
+fn is_closed(quoted: bool, depth: usize) -> bool
+    ensures { λ r. ⌜ ((s : List ℕ) → r ≡ isClosed quoted (awaits (held s depth))) ⌝ }
+{
+    if depth == 0 {
+        return !quoted;
+    }
+    false
+}
+
+// Whether the delimiters of a text fit.
+fn delimiters_fit(text: &[u8], words: &mut [u16]) -> bool
+    requires { ⌜ 64 ≤ length (now words) ⌝ }
+    ensures { λ r. ⌜ r ≡ nestsFrom false (awaits []) (now (text .entry)) ⌝ }
+{
+    let mut from = 0;
+    let mut quoted = false;
+    let mut depth = 0;
+    loop {
+        let at = plain_end(text, from);
+        if text.len() <= at {
+            return is_closed(quoted, depth);
+        }
+        let b = text[at];
+        match nest_byte(quoted, b, words, depth) {
+            Depth::Unfit(_) => return false,
+            Depth::Open(d) => {
+                from = at + 1;
+                quoted = quoted_by(quoted, b);
+                depth = d;
+            }
+        }
+    }
+}
+
+// Whether the delimiters of a text fit. Where each of its tokens can be cut, the text rules then allow it: that is far quicker than
+// `split`. It uses the first 64 words of the scratch, and leaves all of it zero.
+pub fn nests(text: &[u8], scratch: &mut [u16]) -> bool
+    requires { ⌜ 64 ≤ length (now scratch) ⌝ }
+    ensures { λ r. ⌜ r ≡ nestsFrom false (awaits []) (now (text .entry)) ⌝ }
+    ensures zero { λ _. ⌜ now (scratch .exit) ≡ replicate (length (now (scratch .entry))) 0 ⌝ }
+{
+    let r = delimiters_fit(text, scratch);
+    clear(scratch);
+    r
 }
 
 // ---- the words that are no names
