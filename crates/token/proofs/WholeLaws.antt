@@ -27,7 +27,7 @@ pub either : (a b : Bool) {P : Type 0} → (a ≡ true → P) → (b ≡ true �
 either true b f g h = f refl
 either false b f g h = g h
 
-both : (a b : Bool) → (a && b) ≡ true → (a ≡ true) × (b ≡ true)
+pub both : (a b : Bool) → (a && b) ≡ true → (a ≡ true) × (b ≡ true)
 both true b h = (refl, h)
 both false b h = absurd (never h)
 

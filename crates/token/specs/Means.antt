@@ -1,18 +1,21 @@
 -- What the answers of the code mean. Contracts cite these. Assumes nothing.
-use Prim.Native.Nat.{ℕ, zero, suc, _-_, _^_, _≤_, _<_}
+use Prim.Native.Nat.{ℕ, zero, suc, _+_, _-_, _*_, _^_, _≤_, _<_}
 use mathlib.Core.List.{List, [], _∷_}
 use Prim.Native.Char.{code}
-use mathlib.Core.Bool.{Bool, true, false, not, cond}
+use Prim.Native.String.{String}
+use mathlib.Core.Bool.{Bool, true, false, _&&_, not, cond}
 use mathlib.Core.Path.{_≡_}
 use lib.Dec.{ltb, eqb}
 use lib.ListN.{length, getD, take, drop, replicate}
 use Rattle.text.specs.Bytes.{run, isDigit}
+use Rattle.text.specs.Words.{words}
 use Rattle.number.specs.Number.{Written}
 use Rattle.token.specs.Token.{Kind, name, number, quoted, mark, Token, token, Lexeme, bad, piece, writtenAt}
 use Rattle.token.specs.Token.{tokensFrom, place, kind, isMark, rest}
 use Rattle.error.specs.declared.Refusal.{Refusal}
 use Rattle.error.specs.declared.Refusal.the-variants.{BadForm, TooManyDigits, TooManyOpen, ScratchTooShort}
 use Rattle.token.specs.Split.{Nest, unfit, awaits, closer, nestMark, Split, unlexed, tokens, splitFrom, split}
+use Rattle.token.specs.Names.{keywords}
 use Rattle.token.specs.declared.Number.{Number}
 use Rattle.token.specs.declared.Tok.{Tok}
 use Rattle.token.specs.declared.Tok.the-variants as tok
@@ -171,3 +174,31 @@ pub record Skips (s : List ℕ) (from to : ℕ) : Type 0 where
   pub same : (q : Bool) (x : Nest) → nestsFrom q x (drop from s) ≡ nestsFrom q x (drop to s)
   pub low : from ≤ to
   pub high : to ≤ length s
+
+-- ---- keywords as numbers
+
+-- the bytes of a word as one number, the first the least, under a 1: no two words of bytes have the same
+unfoldable pub pack : List ℕ → ℕ
+pack [] = 1
+pack (b ∷ w) = pack w * 256 + b
+
+unfoldable pub packs : List (List ℕ) → List ℕ
+packs [] = []
+packs (w ∷ ws) = pack w ∷ packs ws
+
+-- those words whose length passes a test
+unfoldable pub sized : (ℕ → Bool) → List (List ℕ) → List (List ℕ)
+sized p [] = []
+sized p (w ∷ ws) = cond (p (length w)) (w ∷ sized p ws) (sized p ws)
+
+abbrev pub upTo4 : ℕ → Bool
+upTo4 n = ltb n 5
+
+abbrev pub upTo7 : ℕ → Bool
+upTo7 n = ltb 4 n && ltb n 8
+
+unfoldable pub packedKeywords : (ℕ → Bool) → List ℕ
+packedKeywords p = packs (sized p (words keywords))
+
+abbrev pub longKeywords : List String
+longKeywords = "continue" ∷ "abstract" ∷ "override" ∷ []
