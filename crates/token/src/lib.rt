@@ -209,7 +209,21 @@ pub fn number_of(t: &[u8]) -> Number
 fn is_mark(b: u8) -> bool
     ensures { λ r. ⌜ r ≡ among ":;,=>.+-%([{)]}" b ⌝ }
 {
-    text::has(b":;,=>.+-%([{)]}", b)
+    (b == b':')
+        | (b == b';')
+        | (b == b',')
+        | (b == b'=')
+        | (b == b'>')
+        | (b == b'.')
+        | (b == b'+')
+        | (b == b'-')
+        | (b == b'%')
+        | (b == b'(')
+        | (b == b'[')
+        | (b == b'{')
+        | (b == b')')
+        | (b == b']')
+        | (b == b'}')
 }
 
 // The token that a text begins with; no blank stands first.
