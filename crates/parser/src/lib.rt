@@ -59,8 +59,7 @@ fn parse_input(text: &[u8], sheet: &mut [u8]) -> Input
     }
 }
 
-// Whether the text rules allow a text, told by its delimiters alone. They tell it of a text that was read to its end; of another this
-// says no.
+// Whether the text rules allow a text that was read to its end, by its delimiters alone. Of another text it is not known here.
 fn is_allowed(text: &[u8], scratch: &mut [u16], whole: bool) -> bool
     requires { ⌜ (64 ≤ length (now scratch)) × Ended (now text) whole ⌝ }
     ensures { λ r. ⌜ AllowedMeans (now (text .entry)) (now (scratch .entry)) (now (scratch .exit)) r ⌝ }
@@ -71,7 +70,7 @@ fn is_allowed(text: &[u8], scratch: &mut [u16], whole: bool) -> bool
     false
 }
 
-// Judges a text by the text rules: `split` cuts it a second time only where it must.
+// Judges a text by the text rules. `split`, which cuts it a second time, is asked only where the delimiters do not tell.
 fn judge(text: &[u8], scratch: &mut [u16], whole: bool) -> SplitAnswer
     requires { ⌜ (length (now text) ≤ textLimit) × (64 ≤ length (now scratch)) × Ended (now text) whole ⌝ }
     ensures { λ r. ⌜ splitOutcome r (now (scratch .exit)) ≡ splitting (now (text .entry)) (now (scratch .entry)) ⌝ }

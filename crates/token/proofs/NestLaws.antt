@@ -1,16 +1,15 @@
--- The pass over the delimiters alone: where each token of a text can be cut and the delimiters fit, the text is split. And the place of the
--- last token, which tells that each can be cut, is the same wherever a reader stands. Assumes nothing.
+-- The delimiters alone: where each token of a text can be cut and the delimiters fit, the text is split (`nests-splits`). The place of the
+-- last token, which tells that each can be cut, is the same wherever a reader stands (`last-rest`). Assumes nothing.
 use Prim.Native.Nat.{ℕ, zero, suc, _+_, _-_, _≤_, _<_}
 use mathlib.Core.List.{List, [], _∷_}
-use mathlib.Core.Bool.{Bool, true, false, _&&_, _||_, not, cond}
+use mathlib.Core.Bool.{Bool, true, false, not, cond}
 use mathlib.Core.Path.{_≡_, refl, sym, ap, _∙_, subst}
 use native.Mathlib.Omega.{arith}
 use native.Mathlib.Numerals.{add-one}
 use lib.Dec.{eqb}
-use lib.ListN.{length, getD, drop, length-drop, drop-of-length-le}
-use lib.Seq.{drop-cons, drop-drop, drop-nil}
-use borrow.Author.Tests.{eqb-true, ne-eqb}
-use Rattle.text.specs.Bytes.{bytes, oneOf, among, isName, isBlank, isInside}
+use lib.ListN.{length, getD, drop, drop-of-length-le}
+use lib.Seq.{drop-cons}
+use Rattle.text.specs.Bytes.{bytes, oneOf, among, isBlank, isInside}
 use Rattle.error.specs.declared.Refusal.{Refusal}
 use Rattle.token.specs.Token.{Kind, name, number, quoted, mark, Token, token, Lexeme, bad}
 use Rattle.token.specs.Token.{piece, lexeme, cutBy, further, cut, tokensFrom, isMark, rest}
@@ -18,12 +17,12 @@ use Rattle.token.specs.Split.{Nest, unfit, awaits, nestMark, nest, blank
 use Rattle.token.specs.Split.{unlexed, tokens, before, stepped, more, awaited, splitFrom, split}
 use Rattle.token.specs.Means.{lastPlace, held, Awaits, nestByte, quotedBy, isClosed, nestsFrom, Skips, answerOf}
 use Rattle.token.specs.declared.SplitAnswer.the-variants.{Accepted}
-use Rattle.token.proofs.WholeLaws.{never, either, neither, every, every-in, isWordByte, Fits, Spelled, whole-of}
+use Rattle.token.proofs.WholeLaws.{never, neither, every, every-in, isWordByte, Fits, Spelled, whole-of}
 use Rattle.token.proofs.StreamLaws.{IsTokens}
 
 -- ---- the place of the last token
 
--- some token is cut from any bytes, so what it is of no token does not count
+-- some token is always cut, so the place for none does not count
 cut-last : (l : List ℕ) (k p q r : ℕ) → lastPlace q (cut k p l) ≡ lastPlace r (cut k p l)
 unfolding cut lastPlace
 cut-last [] k p q r = refl

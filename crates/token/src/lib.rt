@@ -1,5 +1,5 @@
-// Tokens of a text: the one at a place, and the pass that judges a whole text by the text rules.
-// For our own crates: both require a text of at most the limit.
+// Tokens of a text: the one at a place; the pass that judges a whole text by the text rules, and the quicker one over its delimiters alone;
+// the words that are no names. For our own crates: the first two require a text of at most the limit.
 ghost use mathlib.Core.Path.{_≡_};
 ghost use mathlib.Core.Bool.{true, false, not, _||_};
 ghost use mathlib.Core.List.{List, []};
@@ -543,8 +543,8 @@ fn delimiters_fit(text: &[u8], words: &mut [u16]) -> bool
     }
 }
 
-// Whether the delimiters of a text fit. Where each of its tokens can be cut, the text rules then allow it: that is far quicker than
-// `split`. It uses the first 64 words of the scratch, and leaves all of it zero.
+// Whether the delimiters of a text fit: where each of its tokens can be cut, the text rules then allow it. It uses the first 64 words of
+// the scratch, and leaves all of it zero.
 pub fn nests(text: &[u8], scratch: &mut [u16]) -> bool
     requires { ⌜ 64 ≤ length (now scratch) ⌝ }
     ensures { λ r. ⌜ r ≡ nestsFrom false (awaits []) (now (text .entry)) ⌝ }

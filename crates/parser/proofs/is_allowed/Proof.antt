@@ -1,7 +1,5 @@
 -- `parser::is_allowed` meets its contract. Assumes nothing.
-use mathlib.Core.Path.{refl, sym, subst}
 use borrow.Author.Needs.{needs}
-use Rattle.parser.specs.Means.{Ended}
 use Rattle.parser.proofs.ReadLaws.{allowed}
 use Rattle.parser.proofs.is_allowed.Statement.{statement}
 use Rattle.parser.proofs.is_allowed.Tie as tie
