@@ -47,10 +47,10 @@ use Rattle.cursor.specs.declared.Cursor.{Cursor}
 use Rattle.fields.specs.Means.{FieldAt, FieldMeans, PairAt, PairMeans}
 use Rattle.fields.specs.declared.NextField.the-variants as found
 use Rattle.fields.proofs.ListLaws.{Listed, listed-start, listed-gives, listed-done, field-refused, field-more}
-use Rattle.fields.proofs.ListLaws.{pair-refused, pair-more, pair-moves, pair-last}
+use Rattle.fields.proofs.ListLaws.{pair-refused, pair-more, pair-last}
 use Rattle.values.proofs.RowLaws.{row-at, elem-lt}
 use Rattle.cells.specs.Means.{Cell, float, whole, case, truth, ever, easing, loopMode, range, damping, place}
-use Rattle.cells.specs.Means.{CellSays, AllSay, StepTook, StepRefused, ListTook}
+use Rattle.cells.specs.Means.{CellSays, AllSay, RowTook, StepTook, StepRefused, ListTook}
 use Rattle.cells.proofs.CellLaws.{quietBut, put, all-wider}
 
 -- ---- the last arm of a match: what is left after n keys
@@ -59,7 +59,7 @@ abbrev pub Past : ℕ → ℕ → Type 0
 Past zero i = Unit {0}
 Past (suc n) i = Past n i × (i ≡ n → ⊥)
 
-past : (n i : ℕ) → Past n i → n ≤ i
+pub past : (n i : ℕ) → Past n i → n ≤ i
 past zero i h = omega arith
 past (suc n) i h = let z = past n i (h .0) in let y = h .1 in omega (arith, z, y)
 
@@ -70,7 +70,8 @@ last-row n i h l = let z = past n i h in omega (arith, z, l)
 
 module _ {s : List ℕ} {c : Cursor} {t : Table} {i : ℕ} (j : ℕ) (n : String) (at : i < length t → i ≡ j) where
   -- by any rule
-  row-refused : {p : Rule Content} {r : Refusal} {q : ℕ} → getElem? t j ≡ some (n, p) → run s c p ≡ refused r q → StepRefused s c t i r q
+  pub row-refused : {p : Rule Content} {r : Refusal} {q : ℕ} → getElem? t j ≡ some (n, p)
+      → run s c p ≡ refused r q → StepRefused s c t i r q
   row-refused {p} {r} {q} e h = record {
     by = λ row g.
         subst (λ (w : String × Rule Content). run s c (w .1) ≡ refused r q) (row-at t i j row _ (at (elem-lt t i row g)) e g) h;
@@ -80,21 +81,15 @@ module _ {s : List ℕ} {c : Cursor} {t : Table} {i : ℕ} (j : ℕ) (n : String
       → getElem? t j ≡ some (n, p) → getElem? xs k ≡ some old → quietBut xs k (bytes n) y ≡ true
       → ((lo : ℕ) (fs : Fields) → lo ≤ c .at → CellSays s lo (m .at) old fs → CellSays s lo (m .at) new ((bytes n, y) ∷ fs))
       → Took 1 s c m p y → StepTook s c m t i xs (set xs k new)
-  row-took {p} {m} {y} {xs} k old new e o q u h =
-      let says : (lo : ℕ) (fs : Fields) → lo ≤ c .at → AllSay s lo (c .at) xs fs → AllSay s lo (m .at) (set xs k new) ((bytes n, y) ∷ fs) =
-      λ lo fs b z.
-      put s lo (m .at) (bytes n) y fs xs k old new q o (u lo fs b)
-      (all-wider s lo (c .at) (m .at) (omega (arith, h .low)) fs xs z)
-      in
-      record {
-        by = λ row g.
-            subst
-            (λ (w : String × Rule Content). (y : Content) × Took 1 s c m (w .1) y
-            × ((lo : ℕ) (fs : Fields) → lo ≤ c .at → AllSay s lo (c .at) xs fs
-            → AllSay s lo (m .at) (set xs k new) ((bytes (w .0), y) ∷ fs)))
-            (row-at t i j row _ (at (elem-lt t i row g)) e g)
-            (y, h, says);
-      }
+  row-took {p} {m} {y} {xs} k old new e o q u h = record {
+    by = λ row g.
+        subst (RowTook s c m xs (set xs k new)) (row-at t i j row _ (at (elem-lt t i row g)) e g) (
+          y,
+          h,
+          λ lo fs b z. put s lo (m .at) (bytes n) y fs xs k old new q o (u lo fs b)
+              (all-wider s lo (c .at) (m .at) (omega (arith, h .low)) fs xs z),
+        );
+  }
 
   -- by a rule whose value makes a content
   pub step-refused : {A : Type 0} (p : Rule A) (f : A → Content) {r : Refusal} {q : ℕ}
@@ -182,9 +177,6 @@ module _ {s : List ℕ} {c : Cursor} {t : Table} {i : ℕ} (j : ℕ) (n : String
   a-case p k x {o} e z q h = step-took p aNumber k (case n o) (case n (optCase.Present x)) e z q (λ lo fs b u. rw (same-refl (bytes n))) h
 
   -- `start..end`
-  pub no-range : {p : Rule Content} {r : Refusal} {q : ℕ} → getElem? t j ≡ some (n, p) → run s c p ≡ refused r q → StepRefused s c t i r q
-  no-range e h = row-refused e h
-
   pub a-range : {p : Rule Content} {m : Cursor} {xs : List Cell} (k : ℕ) (x y : Float) {o : optRanges.OptRange} → getElem? t j ≡ some (n, p)
       → getElem? xs k ≡ some (range o) → quietBut xs k (bytes n) (aRange (bits x, bits y)) ≡ true
       → Took 1 s c m p (aRange (bits x, bits y)) → of.Plain x → of.Plain y → StepTook s c m t i xs (set xs k (range (optRange.Present x y)))
@@ -316,11 +308,12 @@ module _ {s : List ℕ} {c m : Cursor} {t : Table} {xs : List Cell} (k : Gatheri
             say = say-more z;
           }
 
-      pub pairs-moves : Took 0 s w e (eatByte 44) true → m .at < e .at
-      pairs-moves z = let y = u .by (f .row) (f .is) in pair-moves s t c m v [] (k .fields) (k .listed) i f w e (y .0) (y .1) z
-
       pub pairs-last : Took 0 s w e (eatByte 44) false → ListTook s c e (pairs t) ys
       unfolding pairs
       pairs-last z =
           let y = u .by (f .row) (f .is) in
           record { fields = _; took = pair-last s t c m v [] (k .fields) (k .listed) i f w e (y .0) (y .1) z; say = say-more z }
+
+pub pairs-moves : {s : List ℕ} {m v w e : Cursor} {t : Table} {i : ℕ} {xs ys : List Cell} {b : Bool} → PairAt s m t i v
+    → StepTook s v w t i xs ys → Took 0 s w e (eatByte 44) b → Ready s e × (m .at < e .at)
+pairs-moves f u z = let y = u .by (f .row) (f .is) in (z .ready, omega (arith, f .low, y .1 .low, z .low))

@@ -51,6 +51,7 @@ pub record ValueAt (s : List ℕ) (lo hi : ℕ) (c : Cursor) (v : ValueExpr) : T
   pub high : next .at ≤ hi
   pub paid : length (valueForm .write v) ≤ 64 * (next .at - c .at)
 
+-- a value is kept as the cursor before it
 abbrev pub PlaceSays : List ℕ → ℕ → ℕ → OptPlace → Option ValueExpr → Type 0
 PlaceSays s lo hi optPlace.Absent v = v ≡ none
 PlaceSays s lo hi (optPlace.Present c) v = (x : ValueExpr) × (v ≡ some x) × ValueAt s lo hi c x
@@ -73,17 +74,21 @@ abbrev pub AllSay : List ℕ → ℕ → ℕ → List Cell → Fields → Type 0
 AllSay s lo hi [] fs = Unit {0}
 AllSay s lo hi (x ∷ xs) fs = CellSays s lo hi x fs × AllSay s lo hi xs fs
 
--- the value of the row i of the table t is taken from c to m: what held xs then holds ys
+-- the value of a row is taken from c to m: what held xs then holds ys
+abbrev pub RowTook : List ℕ → Cursor → Cursor → List Cell → List Cell → String × Rule Content → Type 0
+RowTook s c m xs ys row =
+    (y : Content) × Took 1 s c m (row .1) y
+    × ((lo : ℕ) (fs : Fields) → lo ≤ c .at → AllSay s lo (c .at) xs fs → AllSay s lo (m .at) ys ((bytes (row .0), y) ∷ fs))
+
+-- that of the row i of the table t
 pub record StepTook (s : List ℕ) (c m : Cursor) (t : Table) (i : ℕ) (xs ys : List Cell) : Type 0 where
-  pub by : (row : String × Rule Content) → getElem? t i ≡ some row
-      → (y : Content) × Took 1 s c m (row .1) y
-      × ((lo : ℕ) (fs : Fields) → lo ≤ c .at → AllSay s lo (c .at) xs fs → AllSay s lo (m .at) ys ((bytes (row .0), y) ∷ fs))
+  pub by : (row : String × Rule Content) → getElem? t i ≡ some row → RowTook s c m xs ys row
 
 -- it is refused
 pub record StepRefused (s : List ℕ) (c : Cursor) (t : Table) (i : ℕ) (r : Refusal) (q : ℕ) : Type 0 where
   pub by : (row : String × Rule Content) → getElem? t i ≡ some row → run s c (row .1) ≡ refused r q
 
--- fields are taken from c to m by the rule p, and xs holds what they say
+-- fields are taken from c to m by the rule p, and xs holds what they say, the last value of each
 pub record ListTook (s : List ℕ) (c m : Cursor) (p : Rule Fields) (xs : List Cell) : Type 0 where
   pub fields : Fields
   pub took : Took 0 s c m p fields

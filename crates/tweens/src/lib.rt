@@ -1,7 +1,6 @@
 // parser.rs, parse_tween and parse_spring: two values, written into the sheet as they are read, and fields behind them.
 // The functions are for our own crates: each requires a cursor that stands in a text of at most 16,384 bytes, and a place that leaves
 // room for every sum.
-ghost use mathlib.Core.Path.{_≡_};
 ghost use mathlib.Core.Option.{Option};
 ghost use Prim.Native.Nat.{ℕ, _+_, _≤_, _<_, _^_};
 ghost use lib.ListN.{length};
