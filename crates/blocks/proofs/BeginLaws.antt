@@ -48,7 +48,7 @@ module _ (s b a : List ℕ) (c : Cursor) (out : ℕ) (w : List ℕ) where
 -- "`unknown_keyword`": 7, behind the word
 pub unknown-refused : (s : List ℕ) (c : Cursor) (w : List ℕ) → Ready s c → KeywordMeans w keyword.Unknown
     → (blk : Rule (Nodes Key))
-    → run s c (behindWord w blk) ≡ refused UnknownKeyword (c .head .start)
+    → run s c (behindWord w blk) ≡ refused UnknownKeyword (c .at)
 unknown-refused s c w r k blk = rw (k, r .head .place)
 
 -- ---- from the keyword on

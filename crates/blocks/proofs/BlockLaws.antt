@@ -47,7 +47,7 @@ no-brace s c (suc d) q h = rw h
 -- "a 17th container inside 16 others": 12, at "its `{`"
 pub too-deep : (s : List ℕ) (c m : Cursor) (d : ℕ) → Ready s c → Took 1 s c m (theByte 123) tt
     → d ≡ 0
-    → run s c (block d) ≡ refused TooManyNested (c .head .start)
+    → run s c (block d) ≡ refused TooManyNested (c .at)
 unfolding block
 too-deep s c m d r t e = rw (e, mark-seen s c m 123 t, r .head .place)
 

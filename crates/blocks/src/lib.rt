@@ -60,10 +60,7 @@ fn begin_word(text: &[u8], sheet: &mut [u8], word: Span, c: Cursor, out: usize) 
             NodeRead::Is(q, m) => Begun::Leaf(q, m),
         },
         Keyword::Container(i) => Begun::Container(i, c),
-        Keyword::Unknown => {
-            let head = c.head;
-            Begun::Refused(Refusal::UnknownKeyword, head.start)
-        }
+        Keyword::Unknown => Begun::Refused(Refusal::UnknownKeyword, cursor::place(c)),
     }
 }
 
@@ -121,8 +118,7 @@ fn open_block(text: &[u8], c: Cursor, depth: usize) -> BraceRead
         MarkRead::Missing(p) => BraceRead::Refused(Refusal::Missing, p),
         MarkRead::Is(m) => {
             if depth == 0 {
-                let head = c.head;
-                return BraceRead::Refused(Refusal::TooManyNested, head.start);
+                return BraceRead::Refused(Refusal::TooManyNested, cursor::place(c));
             }
             BraceRead::Is(m)
         }

@@ -15,9 +15,12 @@ use Rattle.text.specs.Bytes.{bytes, part, among}
 use Rattle.text.specs.Words.{isSome}
 use Rattle.number.specs.Number.{Written, whole, bits}
 use Rattle.token.specs.Token.{Kind, name, number, quoted, mark, Token, token, tokensFrom, place, kind, isMark, rest}
-use Rattle.token.specs.Means.{Lexes, Small, kindOf, writtenOf}
+use Rattle.token.specs.Means.{Lexes, Small, kindOf, writtenOf, lastPlace}
+use Rattle.text.specs.Limits.{textLimit}
+use Rattle.token.proofs.NestLaws.{last-rest}
+use Rattle.token.specs.declared.Lexed.{Lexed}
 use Rattle.token.specs.declared.Number.{Number}
-use Rattle.token.specs.declared.Tok.the-variants.{Name, Num, Quoted}
+use Rattle.token.specs.declared.Tok.the-variants.{Name, Quoted}
 use Rattle.token.specs.Names.{isKeyword, unless, wordOf, nameOf, quoteOf}
 use Rattle.grammar.specs.Values.{truth}
 use Rattle.grammar.specs.Rule.{isWord, seesBytes, word, text, Rule, Out, got, refused, seesByte, seesPair, theByte, bothBytes}
@@ -25,19 +28,42 @@ use Rattle.grammar.specs.Rule.{eatByte, skip, _>>_, Signed, absent, plus, minus
 use Rattle.grammar.specs.Rule.{taken, signed, Pass, halts, closes, goes, closing, depth, weigh, behind, ends, isEnd, firstOf, leave}
 use Rattle.error.specs.declared.Refusal.{Refusal}
 use Rattle.error.specs.declared.Refusal.the-variants.{Missing}
-use Rattle.cursor.specs.Means.{leftOf, Ready, notes, tokens, run, Took, Follows, Behind, sign, past, Numbers}
+use Rattle.cursor.specs.Means.{nothing, leftOf, headOf, Ready, notes, tokens, run, Took, Begins, Follows, Behind, sign, past, Numbers}
 use Rattle.cursor.specs.declared.Cursor.{Cursor}
 
 -- ---- the head
 
-pub head-kind : (s : List ℕ) (c : Cursor) → Ready s c → kind (tokens s c) ≡ kindOf (drop (c .head .start) s) (c .head .tok)
+pub head-kind : (s : List ℕ) (c : Cursor) → Ready s c → kind (tokens s c) ≡ kindOf (drop (c .at) s) (c .end - c .at) (c .kind)
 head-kind s c r = r .head .kind
 
-pub head-place : (s : List ℕ) (c : Cursor) → Ready s c → place (tokens s c) ≡ c .head .start
+pub head-place : (s : List ℕ) (c : Cursor) → Ready s c → place (tokens s c) ≡ c .at
 head-place s c r = r .head .place
 
-pub next-high : (s : List ℕ) (c : Cursor) → Ready s c → c .head .next ≤ length s
-next-high s c r = r .head .high (r .high)
+-- a token that was cut from `at` on, as the next of a cursor
+pub begins : (s : List ℕ) (at left : ℕ) (x : Lexed) → length s ≤ textLimit → lastPlace 0 (tokensFrom s at) ≡ lastPlace 0 (tokensFrom s 0)
+    → Lexes s at x
+    → Begins s at left (record { at = x .start; end = x .end; left = left; kind = x .tok })
+begins s at left x h e l = record {
+  is = l .same;
+  low = l .low;
+  left = refl;
+  ready = record {
+    head = record {
+      same = refl;
+      kind = rw (sym (l .same)) (l .kind);
+      place = rw (sym (l .same)) (l .place);
+      rest = rw (sym (l .same)) (l .rest);
+      low = omega arith;
+      some = l .some;
+      high = l .high;
+      moved = l .moved;
+      stands = l .stands;
+    };
+    high = omega (arith, l .some, l .high);
+    short = h;
+    last = rw (sym (l .same)) e;
+  };
+}
 
 pub no-end : (k : Kind) (b : ℕ) → isMark k b ≡ true → 0 < b → isMark k 0 ≡ false
 no-end (name w) b e h = refl
@@ -46,12 +72,16 @@ no-end (quoted w) b e h = refl
 no-end (mark d) b e h = ne-eqb d 0 (λ z. let q = eqb-true d b e in omega arith)
 
 -- a head that is not the text's end takes a byte
-pub head-moves : (s : List ℕ) (c : Cursor) → Ready s c → isMark (kind (tokens s c)) 0 ≡ false → c .at < c .head .next
+pub head-moves : (s : List ℕ) (c : Cursor) → Ready s c → isMark (kind (tokens s c)) 0 ≡ false → c .at < c .end
 head-moves s c r e = r .head .moved (sym (ap (λ (k : Kind). isMark k 0) (r .head .kind)) ∙ e)
 
+-- the tokens behind a head end where those of the text do
+pub head-last : (s : List ℕ) (c : Cursor) → Ready s c → lastPlace 0 (tokensFrom s (c .end)) ≡ lastPlace 0 (tokensFrom s 0)
+head-last s c r = ap (lastPlace 0) (sym (r .head .rest)) ∙ last-rest s (c .at) ∙ r .last
+
 -- and no head goes back
-pub head-low : (s : List ℕ) (c : Cursor) → Ready s c → c .at ≤ c .head .next
-head-low s c r = omega (arith, r .head .low, r .head .some)
+pub head-low : (s : List ℕ) (c : Cursor) → Ready s c → c .at ≤ c .end
+head-low s c r = r .head .some
 
 -- ---- m stands behind the head of c
 
@@ -84,34 +114,35 @@ pub fewer : {A : Type 0} {s : List ℕ} {c m : Cursor} {p : Rule A} {x : A} → 
 fewer t = record { is = t .is; low = omega (arith, t .low); ready = t .ready }
 
 pub mark-missing : (s : List ℕ) (c : Cursor) → Ready s c → (d : ℕ) → seesByte d (tokens s c) ≡ false
-    → run s c (theByte d) ≡ refused Missing (c .head .start)
+    → run s c (theByte d) ≡ refused Missing (c .at)
 mark-missing s c r d e = rw (e, r .head .place)
 
 -- ---- words and strings
 
-pub small-number : (s : List ℕ) (c : Cursor) (n : Number) → Ready s c → c .head .tok ≡ Num n → Small n
-small-number s c n r k = rw k at (r .head .stands)
+-- the size of the next token
+pub sized : (s : List ℕ) (c : Cursor) → Ready s c → c .at + (c .end - c .at) ≤ length s
+sized s c r = omega (arith, r .head .some, r .head .high)
 
-pub name-in : (s : List ℕ) (c : Cursor) (n : ℕ) → Ready s c → c .head .tok ≡ Name n → c .head .start + n ≤ length s
-name-in s c n r k = let a = rw k at (r .head .stands) in omega (arith, next-high s c r)
+pub took-word : (s : List ℕ) (c m : Cursor) (r : Ready s c) (f : Follows s c m)
+    → c .kind ≡ Name → isKeyword (part s (c .at) (c .end - c .at)) ≡ false
+    → Took 1 s c m word (c .at, part s (c .at) (c .end - c .at))
+took-word s c m r f k e = took s c m r f word _ (rw (r .head .kind, k)) (rw (r .head .kind, k, e, r .head .place))
 
-pub took-word : (s : List ℕ) (c m : Cursor) (r : Ready s c) (f : Follows s c m) (n : ℕ)
-    → c .head .tok ≡ Name n → isKeyword (part s (c .head .start) n) ≡ false
-    → Took 1 s c m word (c .head .start, part s (c .head .start) n)
-took-word s c m r f n k e = took s c m r f word _ (rw (r .head .kind, k)) (rw (r .head .kind, k, e, r .head .place))
-
-pub no-word : (s : List ℕ) (c : Cursor) → Ready s c → nameOf (kind (tokens s c)) ≡ none → run s c word ≡ refused Missing (c .head .start)
+pub no-word : (s : List ℕ) (c : Cursor) → Ready s c → nameOf (kind (tokens s c)) ≡ none → run s c word ≡ refused Missing (c .at)
 no-word s c r e = rw (e, r .head .place)
 
 -- what stands between the quotes of a string, in the text
-pub string-in : (s : List ℕ) (c : Cursor) (n : ℕ) → Ready s c → c .head .tok ≡ Quoted n → c .head .start + 1 + n ≤ length s
-string-in s c n r k = let a = rw k at (r .head .stands) in omega (arith, next-high s c r)
+pub quotes : (s : List ℕ) (c : Cursor) → Ready s c → c .kind ≡ Quoted → 2 ≤ c .end - c .at
+quotes s c r k = rw k at (r .head .stands)
 
-pub took-string : (s : List ℕ) (c m : Cursor) (r : Ready s c) (f : Follows s c m) (n : ℕ)
-    → c .head .tok ≡ Quoted n → Took 1 s c m text (c .head .start + 1, n)
-took-string s c m r f n k = took s c m r f text _ (rw (r .head .kind, k)) (rw (r .head .kind, k, r .head .place, add-one))
+pub string-in : (s : List ℕ) (c : Cursor) → Ready s c → c .kind ≡ Quoted → c .at + 1 + (c .end - c .at - 2) ≤ length s
+string-in s c r k = let a = quotes s c r k in omega (arith, sized s c r)
 
-pub no-string : (s : List ℕ) (c : Cursor) → Ready s c → quoteOf (kind (tokens s c)) ≡ none → run s c text ≡ refused Missing (c .head .start)
+pub took-string : (s : List ℕ) (c m : Cursor) (r : Ready s c) (f : Follows s c m)
+    → c .kind ≡ Quoted → Took 1 s c m text (c .at + 1, c .end - c .at - 2)
+took-string s c m r f k = took s c m r f text _ (rw (r .head .kind, k)) (rw (r .head .kind, k, r .head .place, add-one))
+
+pub no-string : (s : List ℕ) (c : Cursor) → Ready s c → quoteOf (kind (tokens s c)) ≡ none → run s c text ≡ refused Missing (c .at)
 no-string s c r e = rw (e, r .head .place)
 
 -- the word of the head is no end
@@ -133,7 +164,7 @@ unfolding truth
 took-false s c m r f d e = took s c m r f truth false (word-end (kind (tokens s c)) (bytes "false") e) (rw (d, e))
 
 pub no-truth : (s : List ℕ) (c : Cursor) → Ready s c → seesBytes (bytes "true") (tokens s c) ≡ false
-    → seesBytes (bytes "false") (tokens s c) ≡ false → run s c truth ≡ refused Missing (c .head .start)
+    → seesBytes (bytes "false") (tokens s c) ≡ false → run s c truth ≡ refused Missing (c .at)
 unfolding truth
 no-truth s c r d e = rw (d, e, r .head .place)
 
@@ -147,7 +178,7 @@ some-unless false w = refl
 -- u stands behind the second of two marks
 pub took-both : (s : List ℕ) (c m u : Cursor) (r : Ready s c) (f : Follows s c m) (g : Follows s m u) (a b : ℕ) → 0 < a
     → seesByte a (tokens s c) ≡ true → seesByte b (tokens s m) ≡ true
-    → m .head .start ≡ c .head .start + 1 → Took 1 s c u (bothBytes a b) tt
+    → m .at ≡ c .at + 1 → Took 1 s c u (bothBytes a b) tt
 took-both s c m u r f g a b h x y e =
     let q : place (tokens s m) ≡ suc (place (tokens s c)) = head-place s m (f .ready) ∙ e ∙ (rw (add-one, r .head .place)) in
     record {
@@ -163,7 +194,7 @@ no-pair true false z h = refl
 no-pair false y z h = refl
 
 pub both-missing : (s : List ℕ) (c : Cursor) → Ready s c → (a b : ℕ) → seesPair a b (tokens s c) ≡ false
-    → run s c (bothBytes a b) ≡ refused Missing (c .head .start)
+    → run s c (bothBytes a b) ≡ refused Missing (c .at)
 both-missing s c r a b e = rw (e, r .head .place)
 
 -- the first is not there; or the second; or they are not adjacent
@@ -175,47 +206,45 @@ pub pair-second : (s : List ℕ) (c m : Cursor) (f : Follows s c m) (a b : ℕ)
 pair-second s c m f a b e = no-pair (seesByte a (tokens s c)) _ _ (inr (inl (rw (f .rest, e))))
 
 pub pair-apart : (s : List ℕ) (c m : Cursor) (r : Ready s c) (f : Follows s c m) (a b : ℕ)
-    → (m .head .start ≡ c .head .start + 1 → ⊥) → seesPair a b (tokens s c) ≡ false
+    → (m .at ≡ c .at + 1 → ⊥) → seesPair a b (tokens s c) ≡ false
 pair-apart s c m r f a b n =
     no-pair (seesByte a (tokens s c)) (seesByte b (rest (tokens s c))) _
     (inr
-    (inr (rw (f .rest, head-place s m (f .ready), r .head .place) (ne-eqb (m .head .start) (suc (c .head .start)) (λ e. n (omega arith))))))
+    (inr (rw (f .rest, head-place s m (f .ready), r .head .place) (ne-eqb (m .at) (suc (c .at)) (λ e. n (omega arith))))))
 
 -- ---- numbers
 
 module _ (s : List ℕ) (c m : Cursor) (r : Ready s c) (f : Follows s c m) where
-  pub plus-number : (n : Number) → seesByte 45 (tokens s c) ≡ false → c .head .tok ≡ Num n → Small n → Numbers s c false n m
-  plus-number n e k l = record {
-    sees = rw (e, r .head .kind, k);
+  pub plus-number : (n : Number) → seesByte 45 (tokens s c) ≡ false → (kind (tokens s c) ≡ number (writtenOf n)) × Small n
+      → Numbers s c false n m
+  plus-number n e k = record {
+    sees = rw (e, k .0);
     past = f .rest;
     left = f .left;
-    low = let a = head-moves s c r (rw (r .head .kind, k)) in omega (arith, f .at);
+    low = let a = head-moves s c r (rw (k .0)) in omega (arith, f .at);
     ready = f .ready;
-    small = l;
+    small = k .1;
   }
 
   pub minus-number : (u : Cursor) → Follows s m u → (n : Number) → seesByte 45 (tokens s c) ≡ true
-      → m .head .tok ≡ Num n → Small n → Numbers s c true n u
-  minus-number u g n e k l = record {
-    sees = rw (e, f .rest, f .ready .head .kind, k);
+      → (kind (tokens s m) ≡ number (writtenOf n)) × Small n → Numbers s c true n u
+  minus-number u g n e k = record {
+    sees = rw (e, f .rest, k .0);
     past = rw (f .rest, g .rest);
     left = g .left ∙ f .left;
     low = let a = head-moves s c r (no-end (kind (tokens s c)) 45 e (omega arith)) in
         let b = moved-low s m u (f .ready) g in
         omega (arith, f .at);
     ready = g .ready;
-    small = l;
+    small = k .1;
   }
 
-  pub no-minus : seesByte 45 (tokens s c) ≡ true
-      → ((t : List ℕ) → plain (kindOf t (m .head .tok)) ≡ absent)
-      → seesNumber (tokens s c) ≡ absent
-  no-minus e k = rw (e, f .rest, f .ready .head .kind, k)
+  pub no-minus : seesByte 45 (tokens s c) ≡ true → plain (kind (tokens s m)) ≡ absent → seesNumber (tokens s c) ≡ absent
+  no-minus e k = rw (e, f .rest, k)
 
 pub no-number : (s : List ℕ) (c : Cursor) → Ready s c → seesByte 45 (tokens s c) ≡ false
-    → ((t : List ℕ) → plain (kindOf t (c .head .tok)) ≡ absent)
-    → seesNumber (tokens s c) ≡ absent
-no-number s c r e k = rw (e, r .head .kind, k)
+    → plain (kind (tokens s c)) ≡ absent → seesNumber (tokens s c) ≡ absent
+no-number s c r e k = rw (e, k)
 
 module _ (s : List ℕ) (c m : Cursor) (b : Bool) (n : Number) (h : Numbers s c b n m) where
   by-sign : (r : Refusal) (x : Bool) (v : Signed) → v ≡ sign x (writtenOf n)
@@ -344,11 +373,20 @@ pub leave-end : (s : List ℕ) (c m : Cursor) → Ready s c → Follows s c m �
 leave-end s c m r f e = record { is = rw (e, f .rest, f .left); low = let a = moved-low s c m r f in omega arith; ready = f .ready }
 
 pub leave-left : (s : List ℕ) (c m u : Cursor) → Ready s c → Behind s c m
-    → ends (tokens s c) ≡ false → u .at ≡ m .at → u .head ≡ m .head
-    → leftOf (u .left) ≡ firstOf (leftOf (c .left)) (c .head .start)
+    → ends (tokens s c) ≡ false → u .at ≡ m .at → headOf u ≡ headOf m
+    → leftOf (u .left) ≡ firstOf (leftOf (c .left)) (c .at)
     → Took 0 s c u leave tt
 leave-left s c m u r b e i j l = record {
   is = rw (e, r .head .place, l, i, b .is);
   low = omega (arith, b .low);
-  ready = record { head = rw (i, j) (b .ready .head); high = rw i (b .ready .high); short = b .ready .short };
+  ready = record { head = rw (j, i) (b .ready .head); high = rw i (b .ready .high); short = b .ready .short; last = rw i (b .ready .last) };
 }
+
+-- what is noted, where something was left before or not
+pub left-none : (p : ℕ) → p ≡ nothing → leftOf p ≡ none
+unfolding leftOf
+left-none p e = rw e
+
+pub left-some : (p : ℕ) → (p ≡ nothing → ⊥) → leftOf p ≡ some p
+unfolding leftOf
+left-some p n = rw (ne-eqb p nothing n)

@@ -1,21 +1,21 @@
 -- What a cursor is, and what the answers of the functions over it mean, in terms of the grammar's rules. Contracts cite these.
 -- Assumes nothing.
 use Prim.Native.Nat.{ℕ, suc, _+_, _≤_, _<_}
-use mathlib.Core.Bool.{Bool, true, false, not}
+use mathlib.Core.Bool.{Bool, true, false, not, cond}
 use mathlib.Core.List.{List}
 use mathlib.Core.Option.{Option, none, some}
 use mathlib.Core.Path.{_≡_}
-use lib.Dec.{T}
+use lib.Dec.{T, eqb}
 use lib.ListN.{length}
 use lib.Ieee.{isNan}
 use Rattle.text.specs.Limits.{textLimit}
 use Rattle.text.specs.Bytes.{part}
 use Rattle.number.specs.Number.{Written, bits}
-use Rattle.token.specs.Token.{Token, tokensFrom, place, rest}
-use Rattle.token.specs.Means.{Lexes, Small, writtenOf, kindOf}
+use Rattle.token.specs.Token.{Token, tokensFrom, place, kind, rest}
+use Rattle.token.specs.Token as numbers
+use Rattle.token.specs.Means.{Lexes, Small, writtenOf, lexedOf, lastPlace}
 use Rattle.token.specs.declared.Number.{Number}
-use Rattle.token.specs.declared.Tok.{Tok}
-use Rattle.token.specs.declared.Tok.the-variants as tok
+use Rattle.token.specs.declared.Lexed.{Lexed}
 use Rattle.ast.specs.declared.Span.{Span}
 use Rattle.error.specs.declared.Refusal.the-variants as cause
 use Rattle.grammar.specs.Rule.{Notes, Out, got, refused, Rule, Signed, absent, plus, minus}
@@ -44,15 +44,28 @@ use Rattle.cursor.specs.declared.Passing.the-variants as passing
 
 -- ---- the cursor
 
-abbrev pub leftOf : Left → Option ℕ
-leftOf left.Nothing = none
-leftOf (left.At p) = some p
+-- what a cursor has where nothing was left: no place of a text
+abbrev pub nothing : ℕ
+nothing = 65535
 
--- the cursor stands in the text s, of at most the limit, before its head
+-- the first place where tokens were left, as a cursor has it
+unfoldable pub leftOf : ℕ → Option ℕ
+leftOf p = cond (eqb p nothing) none (some p)
+
+abbrev pub leftIs : Left → Option ℕ
+leftIs left.Nothing = none
+leftIs (left.At p) = some p
+
+-- the next token
+abbrev pub headOf : Cursor → Lexed
+headOf c = lexedOf (c .at) (c .end) (c .kind)
+
+-- the cursor stands in the text s, of at most the limit, on its next token; the tokens from there on end where those of the text do
 pub record Ready (s : List ℕ) (c : Cursor) : Type 0 where
-  pub head : Lexes s (c .at) (c .head)
+  pub head : Lexes s (c .at) (headOf c)
   pub high : c .at ≤ length s
   pub short : length s ≤ textLimit
+  pub last : lastPlace 0 (tokensFrom s (c .at)) ≡ lastPlace 0 (tokensFrom s 0)
 
 -- what is noted at a cursor; a repetition takes a byte with each step
 abbrev pub notes : List ℕ → Cursor → Notes
@@ -71,10 +84,17 @@ pub record Took {A : Type 0} (e : ℕ) (s : List ℕ) (c m : Cursor) (p : Rule A
   pub low : c .at + e ≤ m .at
   pub ready : Ready s m
 
+-- r stands on the first token from `at` on
+pub record Begins (s : List ℕ) (at noted : ℕ) (r : Cursor) : Type 0 where
+  pub is : tokensFrom s at ≡ tokens s r
+  pub low : at ≤ r .at
+  pub left : r .left ≡ noted
+  pub ready : Ready s r
+
 -- m stands behind the head of c
 pub record Follows (s : List ℕ) (c m : Cursor) : Type 0 where
   pub rest : rest (tokens s c) ≡ tokens s m
-  pub at : m .at ≡ c .head .next
+  pub at : c .end ≤ m .at
   pub left : m .left ≡ c .left
   pub ready : Ready s m
 
@@ -126,9 +146,10 @@ abbrev pub NumberMeans : List ℕ → Cursor → NumberRead → Type 0
 NumberMeans s c (number.Is b n m) = Numbers s c b n m
 NumberMeans s c (number.Missing q) = (seesNumber (tokens s c) ≡ absent) × (place (tokens s c) ≡ q)
 
-abbrev pub NumberView : Tok → NumberSeen → Type 0
-NumberView k (seen.Is n) = k ≡ tok.Num n
-NumberView k seen.Not = (t : List ℕ) → plain (kindOf t k) ≡ absent
+-- the next token as a number
+abbrev pub NumberView : List ℕ → Cursor → NumberSeen → Type 0
+NumberView s c (seen.Is n) = (kind (tokens s c) ≡ numbers.number (writtenOf n)) × Small n
+NumberView s c seen.Not = plain (kind (tokens s c)) ≡ absent
 
 abbrev pub FloatMeans : List ℕ → Cursor → Rule ℕ → FloatRead → Type 0
 FloatMeans s c p (float.Is v m) = Took 1 s c m p (bits v) × T (not (isNan v))

@@ -2,20 +2,19 @@
 // The functions are for our own crates: each requires a cursor that stands in the text.
 ghost use mathlib.Core.Path.{_≡_};
 ghost use mathlib.Core.List.{List, [], _∷_};
-ghost use Prim.Native.Nat.{ℕ, _≤_, _<_};
+ghost use Prim.Native.Nat.{ℕ, _-_, _≤_, _<_};
 ghost use lib.ListN.{length};
 ghost use Rattle.text.specs.Limits.{textLimit};
 ghost use Rattle.text.specs.Words.{table};
 ghost use Rattle.token.specs.Token.{tokensFrom, isMark};
-ghost use Rattle.token.specs.Means.{kindOf};
+ghost use Rattle.token.specs.Means.{kindOf, lastPlace};
 ghost use Rattle.number.specs.Number.{nearest};
 ghost use Rattle.token.specs.Means.{writtenOf};
 ghost use Rattle.grammar.specs.Rule.{seesByte, seesPair, seesBytes, seesName, isEnd, ends, theByte, bothBytes, eatByte, word, text as quotedText, choiceIn, weigh, behind, firstOf, leave};
 ghost use Rattle.grammar.specs.Values.{parseFloat, parseUint, truth};
-ghost use Rattle.cursor.specs.Means.{leftOf, Ready, Took, Follows, Behind, passOf, NumberView, MarkMeans, WordMeans, StringMeans, NumberMeans, FloatMeans, UintMeans, TruthMeans, CaseMeans};
+ghost use Rattle.cursor.specs.Means.{nothing, leftOf, leftIs, Ready, Begins, Took, Follows, Behind, passOf, NumberView, MarkMeans, WordMeans, StringMeans, NumberMeans, FloatMeans, UintMeans, TruthMeans, CaseMeans};
 use ast::Span;
 use error::Refusal;
-use token::Lexed;
 use token::Number;
 use token::Tok;
 
@@ -25,12 +24,17 @@ pub enum Left {
     At(usize),
 }
 
-// Where a reader stands, the token that comes next, and what is noted.
+// Where a reader stands: the next token, from its first byte to behind its last, and what is noted. In 8 bytes: it is passed by
+// value at every call.
 pub struct Cursor {
-    pub at: usize,
-    pub head: Lexed,
-    pub left: Left,
+    pub at: u16,
+    pub end: u16,
+    pub left: u16,
+    pub kind: Tok,
 }
+
+// Where nothing was left.
+const NOTHING: u16 = 65535;
 
 // What was taken, and the cursor behind it; or the place where it is missing, or a refusal and its place.
 pub enum MarkRead {
@@ -87,13 +91,59 @@ pub enum Passing {
 
 // ---- the cursor
 
-// At a place of the text.
-pub fn start(text: &[u8], at: usize, left: Left) -> Cursor
-    requires { ⌜ (at ≤ length (now text)) × (length (now text) ≤ textLimit) ⌝ }
-    ensures { λ r. ⌜ Ready (now (text .entry)) r × (r .at ≡ at) × (r .left ≡ left) ⌝ }
+// A place of a cursor.
+fn wide(n: u16) -> usize
+    ensures { λ r. ⌜ r ≡ n ⌝ }
+{
+    n as usize
+}
+
+// The place of the next token.
+pub fn place(c: Cursor) -> usize
+    ensures { λ r. ⌜ r ≡ c .at ⌝ }
+{
+    wide(c.at)
+}
+
+// The bytes of the next token.
+fn size(c: Cursor) -> usize
+    requires { ⌜ c .at ≤ c .end ⌝ }
+    ensures { λ r. ⌜ r ≡ c .end - c .at ⌝ }
+{
+    wide(c.end) - wide(c.at)
+}
+
+// What is noted.
+pub fn leftover(c: Cursor) -> Left
+    ensures { λ r. ⌜ leftIs r ≡ leftOf (c .left) ⌝ }
+{
+    if c.left == NOTHING {
+        return Left::Nothing;
+    }
+    Left::At(wide(c.left))
+}
+
+// Before the first token from a place on.
+fn start(text: &[u8], at: usize, left: u16) -> Cursor
+    requires { ⌜ (at ≤ length (now text)) × (length (now text) ≤ textLimit) × (lastPlace 0 (tokensFrom (now text) at) ≡ lastPlace 0 (tokensFrom (now text) 0)) ⌝ }
+    ensures { λ r. ⌜ Begins (now (text .entry)) at left r ⌝ }
 {
     let head = token::token(text, at);
-    Cursor { at, head, left }
+    let kind = head.tok;
+    Cursor {
+        at: head.start,
+        end: head.end,
+        left,
+        kind,
+    }
+}
+
+// Before a text's first token.
+pub fn first(text: &[u8]) -> Cursor
+    requires { ⌜ length (now text) ≤ textLimit ⌝ }
+    ensures { λ r. ⌜ Begins (now (text .entry)) 0 nothing r ⌝ }
+{
+    start(text, 0, NOTHING)
 }
 
 // Behind the next token; at the text's end it stays.
@@ -101,21 +151,19 @@ pub fn advance(text: &[u8], c: Cursor) -> Cursor
     requires { ⌜ Ready (now text) c ⌝ }
     ensures { λ r. ⌜ Follows (now (text .entry)) c r ⌝ }
 {
-    let head = c.head;
-    let left = c.left;
-    start(text, head.next, left)
+    start(text, wide(c.end), c.left)
 }
 
 // ---- looking at the next token
 
 fn is_mark(k: Tok, b: u8) -> bool
-    ensures { λ r. ⌜ ((t : List ℕ) → r ≡ isMark (kindOf t k) b) ⌝ }
+    ensures { λ r. ⌜ ((t : List ℕ) (n : ℕ) → r ≡ isMark (kindOf t n k) b) ⌝ }
 {
     match k {
         Tok::Mark(d) => d == b,
-        Tok::Name(_) => false,
-        Tok::Num(_) => false,
-        Tok::Quoted(_) => false,
+        Tok::Name => false,
+        Tok::Num => false,
+        Tok::Quoted => false,
     }
 }
 
@@ -123,19 +171,18 @@ fn is_mark(k: Tok, b: u8) -> bool
 pub fn sees(c: Cursor, b: u8) -> bool
     ensures { λ r. ⌜ ((s : List ℕ) → Ready s c → r ≡ seesByte b (tokensFrom s (c .at))) ⌝ }
 {
-    let head = c.head;
-    let k = head.tok;
+    let k = c.kind;
     is_mark(k, b)
 }
 
 fn is_end(k: Tok) -> bool
-    ensures { λ r. ⌜ ((t : List ℕ) → r ≡ isEnd (kindOf t k)) ⌝ }
+    ensures { λ r. ⌜ ((t : List ℕ) (n : ℕ) → r ≡ isEnd (kindOf t n k)) ⌝ }
 {
     match k {
         Tok::Mark(b) => text::has(b"\0)]}", b),
-        Tok::Name(_) => false,
-        Tok::Num(_) => false,
-        Tok::Quoted(_) => false,
+        Tok::Name => false,
+        Tok::Num => false,
+        Tok::Quoted => false,
     }
 }
 
@@ -143,36 +190,35 @@ fn is_end(k: Tok) -> bool
 pub fn ends(c: Cursor) -> bool
     ensures { λ r. ⌜ ((s : List ℕ) → Ready s c → r ≡ ends (tokensFrom s (c .at))) ⌝ }
 {
-    let head = c.head;
-    let k = head.tok;
+    let k = c.kind;
     is_end(k)
 }
 
 // Whether the next token is that word, a name or a keyword.
 pub fn sees_word(text: &[u8], c: Cursor, word: &[u8]) -> bool
-    ensures { λ r. ⌜ (Ready (now (text .entry)) c → r ≡ seesBytes (now (word .entry)) (tokensFrom (now (text .entry)) (c .at))) ⌝ }
+    requires { ⌜ Ready (now text) c ⌝ }
+    ensures { λ r. ⌜ r ≡ seesBytes (now (word .entry)) (tokensFrom (now (text .entry)) (c .at)) ⌝ }
 {
-    let head = c.head;
-    let k = head.tok;
+    let k = c.kind;
     match k {
-        Tok::Name(n) => text::is_word(text::part(text, head.start, n), word),
+        Tok::Name => text::is_word(text::part(text, place(c), size(c)), word),
         Tok::Mark(_) => false,
-        Tok::Num(_) => false,
-        Tok::Quoted(_) => false,
+        Tok::Num => false,
+        Tok::Quoted => false,
     }
 }
 
 // Whether the next token is a name that is no keyword.
 pub fn sees_name(text: &[u8], c: Cursor) -> bool
-    ensures { λ r. ⌜ (Ready (now (text .entry)) c → r ≡ seesName (tokensFrom (now (text .entry)) (c .at))) ⌝ }
+    requires { ⌜ Ready (now text) c ⌝ }
+    ensures { λ r. ⌜ r ≡ seesName (tokensFrom (now (text .entry)) (c .at)) ⌝ }
 {
-    let head = c.head;
-    let k = head.tok;
+    let k = c.kind;
     match k {
-        Tok::Name(n) => !token::is_keyword(text::part(text, head.start, n)),
+        Tok::Name => !token::is_keyword(text::part(text, place(c), size(c))),
         Tok::Mark(_) => false,
-        Tok::Num(_) => false,
-        Tok::Quoted(_) => false,
+        Tok::Num => false,
+        Tok::Quoted => false,
     }
 }
 
@@ -185,8 +231,7 @@ pub fn mark(text: &[u8], c: Cursor, b: u8) -> MarkRead
     if sees(c, b) {
         return MarkRead::Is(advance(text, c));
     }
-    let head = c.head;
-    MarkRead::Missing(head.start)
+    MarkRead::Missing(place(c))
 }
 
 // Two marks side by side.
@@ -194,17 +239,16 @@ pub fn both(text: &[u8], c: Cursor, a: u8, b: u8) -> MarkRead
     requires { ⌜ Ready (now text) c × (0 < a) × (0 < b) ⌝ }
     ensures { λ r. ⌜ MarkMeans (now (text .entry)) c (bothBytes a b) r ⌝ }
 {
-    let head = c.head;
+    let at = place(c);
     if sees(c, a) {
         let m = advance(text, c);
-        let second = m.head;
         if sees(m, b) {
-            if second.start == head.start + 1 {
+            if place(m) == at + 1 {
                 return MarkRead::Is(advance(text, m));
             }
         }
     }
-    MarkRead::Missing(head.start)
+    MarkRead::Missing(at)
 }
 
 // Takes a mark if it is there.
@@ -227,19 +271,19 @@ pub fn word(text: &[u8], c: Cursor) -> WordRead
     requires { ⌜ Ready (now text) c ⌝ }
     ensures { λ r. ⌜ WordMeans (now (text .entry)) c r ⌝ }
 {
-    let head = c.head;
-    let k = head.tok;
-    let start = head.start;
+    let k = c.kind;
+    let start = place(c);
     match k {
-        Tok::Name(size) => {
+        Tok::Name => {
+            let size = size(c);
             if token::is_keyword(text::part(text, start, size)) {
                 return WordRead::Missing(start);
             }
             WordRead::Is(Span { start, size }, advance(text, c))
         }
         Tok::Mark(_) => WordRead::Missing(start),
-        Tok::Num(_) => WordRead::Missing(start),
-        Tok::Quoted(_) => WordRead::Missing(start),
+        Tok::Num => WordRead::Missing(start),
+        Tok::Quoted => WordRead::Missing(start),
     }
 }
 
@@ -248,20 +292,20 @@ pub fn string(text: &[u8], c: Cursor) -> WordRead
     requires { ⌜ Ready (now text) c ⌝ }
     ensures { λ r. ⌜ StringMeans (now (text .entry)) c r ⌝ }
 {
-    let head = c.head;
-    let k = head.tok;
-    let start = head.start;
+    let k = c.kind;
+    let start = place(c);
     match k {
-        Tok::Quoted(size) => WordRead::Is(
-            Span {
+        Tok::Quoted => {
+            let size = size(c) - 2;
+            let span = Span {
                 start: start + 1,
                 size,
-            },
-            advance(text, c),
-        ),
-        Tok::Name(_) => WordRead::Missing(start),
+            };
+            WordRead::Is(span, advance(text, c))
+        }
+        Tok::Name => WordRead::Missing(start),
         Tok::Mark(_) => WordRead::Missing(start),
-        Tok::Num(_) => WordRead::Missing(start),
+        Tok::Num => WordRead::Missing(start),
     }
 }
 
@@ -276,8 +320,7 @@ pub fn truth(text: &[u8], c: Cursor) -> TruthRead
     if sees_word(text, c, b"false") {
         return TruthRead::Is(false, advance(text, c));
     }
-    let head = c.head;
-    TruthRead::Missing(head.start)
+    TruthRead::Missing(place(c))
 }
 
 // A name among some, as its position there.
@@ -289,24 +332,27 @@ pub fn choice(text: &[u8], c: Cursor, names: &[u8], refusal: Refusal) -> CaseRea
         WordRead::Missing(p) => CaseRead::Refused(Refusal::Missing, p),
         WordRead::Is(w, m) => match text::find(names, text::part(text, w.start, w.size)) {
             text::Found::At(i) => CaseRead::Is(i, m),
-            text::Found::Nothing => {
-                let head = m.head;
-                CaseRead::Refused(refusal, head.start)
-            }
+            text::Found::Nothing => CaseRead::Refused(refusal, place(m)),
         },
     }
 }
 
 // ---- numbers
 
-fn number_of(k: Tok) -> NumberSeen
-    ensures { λ r. ⌜ NumberView k r ⌝ }
+// The next token, if it is a number: its value is made here, where it is taken.
+fn number_seen(text: &[u8], c: Cursor) -> NumberSeen
+    requires { ⌜ Ready (now text) c ⌝ }
+    ensures { λ r. ⌜ NumberView (now (text .entry)) c r ⌝ }
 {
+    let k = c.kind;
     match k {
-        Tok::Num(n) => NumberSeen::Is(n),
+        Tok::Num => {
+            let at = place(c);
+            NumberSeen::Is(token::number_of(&text[at..]))
+        }
         Tok::Mark(_) => NumberSeen::Not,
-        Tok::Name(_) => NumberSeen::Not,
-        Tok::Quoted(_) => NumberSeen::Not,
+        Tok::Name => NumberSeen::Not,
+        Tok::Quoted => NumberSeen::Not,
     }
 }
 
@@ -315,20 +361,16 @@ pub fn number(text: &[u8], c: Cursor) -> NumberRead
     requires { ⌜ Ready (now text) c ⌝ }
     ensures { λ r. ⌜ NumberMeans (now (text .entry)) c r ⌝ }
 {
-    let head = c.head;
     if sees(c, b'-') {
         let m = advance(text, c);
-        let second = m.head;
-        let k = second.tok;
-        return match number_of(k) {
+        return match number_seen(text, m) {
             NumberSeen::Is(n) => NumberRead::Is(true, n, advance(text, m)),
-            NumberSeen::Not => NumberRead::Missing(head.start),
+            NumberSeen::Not => NumberRead::Missing(place(c)),
         };
     }
-    let k = head.tok;
-    match number_of(k) {
+    match number_seen(text, c) {
         NumberSeen::Is(n) => NumberRead::Is(false, n, advance(text, c)),
-        NumberSeen::Not => NumberRead::Missing(head.start),
+        NumberSeen::Not => NumberRead::Missing(place(c)),
     }
 }
 
@@ -353,15 +395,11 @@ pub fn parse_uint(text: &[u8], c: Cursor) -> UintRead
         NumberRead::Missing(p) => UintRead::Refused(Refusal::Missing, p),
         NumberRead::Is(negative, n, m) => {
             if n.point {
-                let head = c.head;
-                return UintRead::Refused(Refusal::Missing, head.start);
+                return UintRead::Refused(Refusal::Missing, place(c));
             }
             match number::whole(negative, n.digits) {
                 number::Uint::Is(v) => UintRead::Is(v, m),
-                number::Uint::Refused => {
-                    let head = m.head;
-                    UintRead::Refused(Refusal::Malformed, head.start)
-                }
+                number::Uint::Refused => UintRead::Refused(Refusal::Malformed, place(m)),
             }
         }
     }
@@ -372,7 +410,7 @@ pub fn parse_uint(text: &[u8], c: Cursor) -> UintRead
 // What a token is to a reader that leaves a group, d deeper ones being open.
 fn pass_of(k: Tok, d: usize) -> Passing
     requires { ⌜ d < 18446744073709551615 ⌝ }
-    ensures { λ r. ⌜ ((t : List ℕ) → passOf r ≡ weigh (kindOf t k) d) ⌝ }
+    ensures { λ r. ⌜ ((t : List ℕ) (n : ℕ) → passOf r ≡ weigh (kindOf t n k) d) ⌝ }
 {
     match k {
         Tok::Mark(b) => {
@@ -390,9 +428,9 @@ fn pass_of(k: Tok, d: usize) -> Passing
             }
             Passing::Goes(d)
         }
-        Tok::Name(_) => Passing::Goes(d),
-        Tok::Num(_) => Passing::Goes(d),
-        Tok::Quoted(_) => Passing::Goes(d),
+        Tok::Name => Passing::Goes(d),
+        Tok::Num => Passing::Goes(d),
+        Tok::Quoted => Passing::Goes(d),
     }
 }
 
@@ -404,8 +442,7 @@ fn past_group(text: &[u8], c: Cursor) -> Cursor
     let mut m = c;
     let mut d: usize = 0;
     loop {
-        let head = m.head;
-        let k = head.tok;
+        let k = m.kind;
         match pass_of(k, d) {
             Passing::Halts => return m,
             Passing::Closes => return advance(text, m),
@@ -417,13 +454,15 @@ fn past_group(text: &[u8], c: Cursor) -> Cursor
     }
 }
 
-fn first_of(left: Left, p: usize) -> Left
-    ensures { λ r. ⌜ leftOf r ≡ firstOf (leftOf left) p ⌝ }
+// What is noted at a place where tokens are left.
+fn first_of(was: u16, p: u16) -> u16
+    requires { ⌜ p ≤ textLimit ⌝ }
+    ensures { λ r. ⌜ leftOf r ≡ firstOf (leftOf was) p ⌝ }
 {
-    match left {
-        Left::Nothing => Left::At(p),
-        Left::At(q) => Left::At(q),
+    if was != NOTHING {
+        return was;
     }
+    p
 }
 
 // Leaves a group: what is left in it is passed over, and noted.
@@ -434,15 +473,13 @@ pub fn leave_group(text: &[u8], c: Cursor) -> Cursor
     if ends(c) {
         return advance(text, c);
     }
-    let left = c.left;
-    let head = c.head;
-    let noted = first_of(left, head.start);
+    let noted = first_of(c.left, c.at);
     let m = past_group(text, c);
-    let at = m.at;
-    let next = m.head;
+    let kind = m.kind;
     Cursor {
-        at,
-        head: next,
+        at: m.at,
+        end: m.end,
         left: noted,
+        kind,
     }
 }

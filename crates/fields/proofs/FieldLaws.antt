@@ -1,5 +1,5 @@
 -- Laws of lists of fields, whatever their table. Assumes nothing.
-use Prim.Native.Nat.{ℕ, zero, suc, _+_, _≤_, _<_}
+use Prim.Native.Nat.{ℕ, zero, suc, _+_, _≤_, _<_, _-_}
 use Prim.Native.String.{String}
 use mathlib.Core.Bool.{Bool, true, false}
 use mathlib.Core.List.{List, [], _∷_}
@@ -216,19 +216,19 @@ take-same (suc n) [] = refl
 take-same (suc n) (x ∷ l) = ap {B = List ℕ} (λ t. x ∷ t) (take-same n l)
 
 -- the bytes of the head, where it is a word
-head-spelled : (s : List ℕ) (c : Cursor) → Ready s c → (v : List ℕ) → kind (tokens s c) ≡ name v → part s (c .head .start) (length v) ≡ v
-head-spelled s c r v e = go (c .head .tok) (sym (r .head .kind) ∙ e)
+head-spelled : (s : List ℕ) (c : Cursor) → Ready s c → (v : List ℕ) → kind (tokens s c) ≡ name v → part s (c .at) (length v) ≡ v
+head-spelled s c r v e = go (c .end - c .at) (c .kind) (sym (r .head .kind) ∙ e)
   where
-    go : (k : Tok) → kindOf (drop (c .head .start) s) k ≡ name v → part s (c .head .start) (length v) ≡ v
-    go (Name n) q = let w : take n (drop (c .head .start) s) ≡ v = cc in rw (← w) (take-same n (drop (c .head .start) s))
-    go (Num n) q = absurd (let z : _≡_ {A = ℕ} 0 1 = cc in omega arith)
-    go (Quoted n) q = absurd (let z : _≡_ {A = ℕ} 0 1 = cc in omega arith)
-    go (Mark n) q = absurd (let z : _≡_ {A = ℕ} 0 1 = cc in omega arith)
+    go : (n : ℕ) (k : Tok) → kindOf (drop (c .at) s) n k ≡ name v → part s (c .at) (length v) ≡ v
+    go n Name q = let w : take n (drop (c .at) s) ≡ v = cc in rw (← w) (take-same n (drop (c .at) s))
+    go n Num q = absurd (let z : _≡_ {A = ℕ} 0 1 = cc in omega arith)
+    go n Quoted q = absurd (let z : _≡_ {A = ℕ} 0 1 = cc in omega arith)
+    go n (Mark b) q = absurd (let z : _≡_ {A = ℕ} 0 1 = cc in omega arith)
 
 -- `loop` as a field's name
 pub took-loop : (s : List ℕ) (c m : Cursor) (r : Ready s c) (f : Follows s c m)
     → seesBytes (bytes "loop") (tokens s c) ≡ true
-    → Took 1 s c m fieldName (part s (c .head .start) 4)
+    → Took 1 s c m fieldName (part s (c .at) 4)
 unfolding fieldName
 took-loop s c m r f e =
     let k = word-name (kind (tokens s c)) (bytes "loop") e in

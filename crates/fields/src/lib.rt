@@ -31,7 +31,7 @@ pub enum NextField {
 }
 
 fn item_of(k: Tok) -> Item
-    ensures { λ r. ⌜ ((t : List ℕ) → itemIs r ≡ itemOf (kindOf t k)) ⌝ }
+    ensures { λ r. ⌜ ((t : List ℕ) (n : ℕ) → itemIs r ≡ itemOf (kindOf t n k)) ⌝ }
 {
     match k {
         Tok::Mark(b) => {
@@ -46,9 +46,9 @@ fn item_of(k: Tok) -> Item
             }
             Item::Starts
         }
-        Tok::Name(_) => Item::Starts,
-        Tok::Num(_) => Item::Starts,
-        Tok::Quoted(_) => Item::Starts,
+        Tok::Name => Item::Starts,
+        Tok::Num => Item::Starts,
+        Tok::Quoted => Item::Starts,
     }
 }
 
@@ -58,9 +58,8 @@ fn field_name(text: &[u8], c: Cursor) -> WordRead
     ensures { λ r. ⌜ NameMeans (now (text .entry)) c fieldName r ⌝ }
 {
     if cursor::sees_word(text, c, b"loop") {
-        let head = c.head;
         let name = Span {
-            start: head.start,
+            start: cursor::place(c),
             size: 4,
         };
         return WordRead::Is(name, cursor::advance(text, c));
@@ -77,10 +76,7 @@ fn after_name(text: &[u8], name: Span, c: Cursor, rows: &[u8]) -> NextField
         MarkRead::Missing(p) => NextField::Refused(Refusal::Missing, p),
         MarkRead::Is(m) => match text::find(rows, text::part(text, name.start, name.size)) {
             text::Found::At(i) => NextField::Field(i, m),
-            text::Found::Nothing => {
-                let head = m.head;
-                NextField::Refused(Refusal::UnknownKeyword, head.start)
-            }
+            text::Found::Nothing => NextField::Refused(Refusal::UnknownKeyword, cursor::place(m)),
         },
     }
 }
@@ -103,8 +99,7 @@ pub fn parse_field_list(text: &[u8], c: Cursor, rows: &[u8]) -> NextField
 {
     let mut m = c;
     loop {
-        let head = m.head;
-        let k = head.tok;
+        let k = m.kind;
         match item_of(k) {
             Item::Halts => return NextField::Done(m),
             Item::Closes => return NextField::Done(cursor::advance(text, m)),

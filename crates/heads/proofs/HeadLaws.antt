@@ -87,12 +87,12 @@ random-max f x p fs h = record { seed = h .seed; min = h .min; plain-min = h .pl
 -- ---- patterns
 
 module _ (s : List ℕ) (c m : Cursor) (f : GridFields) (h : TookRows GridHeld gridFields s c m f) where
-  pub no-cols : f .cols ≡ optWord.Absent → run s c gridInside ≡ refused StaggerGridIncomplete (m .head .start)
+  pub no-cols : f .cols ≡ optWord.Absent → run s c gridInside ≡ refused StaggerGridIncomplete (m .at)
   unfolding gridInside
   no-cols e = rw (h .1 .is, ← h .2 .cols, e, h .1 .ready .head .place)
 
   pub no-rows : (a : ℕ) → f .cols ≡ optWord.Present a → f .rows ≡ optWord.Absent
-      → run s c gridInside ≡ refused StaggerGridIncomplete (m .head .start)
+      → run s c gridInside ≡ refused StaggerGridIncomplete (m .at)
   unfolding gridInside
   no-rows a d e = rw (h .1 .is, ← h .2 .cols, d, ← h .2 .rows, e, h .1 .ready .head .place)
 

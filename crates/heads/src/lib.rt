@@ -190,14 +190,14 @@ fn grid_inside(text: &[u8], c: Cursor) -> PatternRead
     match grid_fields(text, c) {
         GridRead::Refused(r, p) => PatternRead::Refused(r, p),
         GridRead::Is(f, m) => {
-            let head = m.head;
+            let place = cursor::place(m);
             let counted = f.cols;
             let OptU32::Present(cols) = counted else {
-                return PatternRead::Refused(Refusal::StaggerGridIncomplete, head.start);
+                return PatternRead::Refused(Refusal::StaggerGridIncomplete, place);
             };
             let counted_rows = f.rows;
             let OptU32::Present(rows) = counted_rows else {
-                return PatternRead::Refused(Refusal::StaggerGridIncomplete, head.start);
+                return PatternRead::Refused(Refusal::StaggerGridIncomplete, place);
             };
             let written = f.origin;
             let origin = case_or(written, 4);

@@ -53,7 +53,7 @@ no-time s c q e = rw (e .0, e .1)
 
 module _ (s : List ℕ) (c m u : Cursor) (negative : Bool) (n : numbers.Number) (v : Numbers s c negative n m) (p : Bool)
     (t : Took 0 s m u (percentSign (n .point)) p) where
-  pub percent-suffix : (p && n .suffix) ≡ true → run s c parseKeyframeTime ≡ refused Malformed (u .head .start)
+  pub percent-suffix : (p && n .suffix) ≡ true → run s c parseKeyframeTime ≡ refused Malformed (u .at)
   unfolding parseKeyframeTime
   percent-suffix e = rw (took-number s c m negative n v Malformed .is, t .is, e, head-place s u (t .ready))
 

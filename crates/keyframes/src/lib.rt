@@ -111,8 +111,7 @@ pub fn parse_keyframe_time(text: &[u8], c: Cursor) -> TimeRead
             let sign = percent_sign(text, m, n.point);
             let next = sign.next;
             if all(sign.taken, n.suffix) {
-                let head = next.head;
-                return TimeRead::Refused(Refusal::Malformed, head.start);
+                return TimeRead::Refused(Refusal::Malformed, cursor::place(next));
             }
             TimeRead::Is(sign.taken, time_of(sign.taken, negative, n), next)
         }

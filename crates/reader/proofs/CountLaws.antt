@@ -80,7 +80,7 @@ counted-none s c r = record { is = omega arith; few = omega arith; ready = r }
 
 module _ (s : List ℕ) (c m : Cursor) (n : ℕ) (h : Counted s c m n) where
   pub counted-below : seesByte 0 (tokens s m) ≡ false → m .at < length s
-  counted-below e = let a = head-moves s m (h .ready) e in omega (arith, h .ready .head .high (h .ready .high))
+  counted-below e = let a = head-moves s m (h .ready) e in omega (arith, h .ready .head .high)
 
   pub counted-all : seesByte 0 (tokens s m) ≡ true → n ≡ tokenCount (tokens s c)
   counted-all e = let a = none-left (tokens s m) e in omega (arith, h .is)

@@ -1,7 +1,7 @@
 -- What a token reader owns: the text and the cursor together, and what they own had twice; and what a new one is. The walks cite these.
 -- Assumes nothing.
 use Prim.Native.Nat.{ℕ}
-use mathlib.Core.Path.{_≡_, ap, _∙_, subst, subst⁻¹}
+use mathlib.Core.Path.{_≡_, sym, ap, _∙_, subst, subst⁻¹}
 use mathlib.Core.List.{List, [], _∷_}
 use lib.Dec.{T as Holds}
 use lib.ListN.{length}
@@ -25,8 +25,7 @@ use denote.Struct.Declared.{Declared}
 use denote.Struct.Laws as LL
 use denote.Struct.Rest.{own-open, own-shut}
 use Rattle.token.specs.Token.{tokensFrom}
-use Rattle.cursor.specs.Means.{Ready, tokens}
-use Rattle.cursor.specs.declared.Left.the-variants.{Nothing}
+use Rattle.cursor.specs.Means.{nothing as unnoted, Ready, tokens, Begins}
 use Rattle.cursor.specs.declared.Cursor.{Cursor}
 use Rattle.cursor.proofs.Cursor as C
 use Rattle.cursor.proofs.Cursor.Laws as C′
@@ -70,13 +69,13 @@ Fields κ d = owns (ShrSlice (named 0) κ u8 ∷ C.the-row ∷ []) (d .text, (d 
 
 -- what `new` says of the reader r over the text s
 abbrev pub Fresh : RefT (List ℕ) → TokenReader → Type 0
-Fresh s r = (now (r .text) ≡ readable (now s)) × Ready (now (r .text)) (r .cursor) × (r .cursor .at ≡ 0) × (r .cursor .left ≡ Nothing)
+Fresh s r = (now (r .text) ≡ readable (now s)) × Begins (now (r .text)) 0 unnoted (r .cursor)
 
 pub fresh-ready : (s : RefT (List ℕ)) (r : TokenReader) → Fresh s r → Ready (now (r .text)) (r .cursor)
-fresh-ready s r e = e .1
+fresh-ready s r e = e .1 .ready
 
 pub fresh-tokens : (s : RefT (List ℕ)) (r : TokenReader) → Fresh s r → tokens (now (r .text)) (r .cursor) ≡ tokensFrom (readable (now s)) 0
-fresh-tokens s r e = ap (λ (x : List ℕ). tokensFrom x (r .cursor .at)) (e .0) ∙ ap (tokensFrom (readable (now s))) (e .2)
+fresh-tokens s r e = sym (e .1 .is) ∙ ap (λ (x : List ℕ). tokensFrom x 0) (e .0)
 
 -- the machine value of a cursor has its MIR type
 abbrev pub Typed : Val → Type 0

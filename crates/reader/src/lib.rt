@@ -3,16 +3,12 @@
 // and `second_is` stand above them with plain parameters, so whoever calls these needs no walk. The functions over a reader are for our
 // own crates: each requires a cursor that stands in the text.
 ghost use mathlib.Core.Path.{_≡_};
-ghost use Prim.Native.Nat.{_<_, _≤_};
-ghost use lib.ListN.{length};
-ghost use Rattle.text.specs.Limits.{textLimit};
+ghost use Prim.Native.Nat.{_<_};
 ghost use Rattle.token.specs.Token.{tokensFrom, rest};
 ghost use Rattle.grammar.specs.Rule.{seesByte, theByte};
-ghost use Rattle.cursor.specs.Means.{Ready, tokens, Follows, MarkMeans, WordMeans};
-ghost use Rattle.cursor.specs.declared.Left.the-variants.{Nothing};
+ghost use Rattle.cursor.specs.Means.{nothing, Ready, tokens, Begins, Follows, MarkMeans, WordMeans};
 ghost use Rattle.reader.specs.Reader.{readable, tokenCount, isBlank};
 use cursor::Cursor;
-use cursor::Left;
 use cursor::MarkRead;
 use cursor::WordRead;
 
@@ -21,7 +17,7 @@ pub struct TokenReader<'a> {
     pub cursor: Cursor,
 }
 
-// The work: the text that is read, a cursor at its start, and how many tokens stand from a cursor on.
+// The work: the text that is read, and how many tokens stand from a cursor on.
 fn readable(text: &[u8]) -> &[u8]
     ensures { λ r. ⌜ now r ≡ readable (now (text .entry)) ⌝ }
 {
@@ -29,13 +25,6 @@ fn readable(text: &[u8]) -> &[u8]
         return &text[0..0];
     }
     text
-}
-
-fn first_cursor(text: &[u8]) -> Cursor
-    requires { ⌜ length (now text) ≤ textLimit ⌝ }
-    ensures { λ r. ⌜ Ready (now (text .entry)) r × (r .at ≡ 0) × (r .left ≡ Nothing) ⌝ }
-{
-    cursor::start(text, 0, Left::Nothing)
 }
 
 fn count_from(text: &[u8], c: Cursor) -> usize
@@ -53,10 +42,10 @@ fn count_from(text: &[u8], c: Cursor) -> usize
 
 // At the text's start. A text over the limit is read as the empty one.
 pub fn new<'a>(text: &'a [u8]) -> TokenReader<'a>
-    ensures { λ r. ⌜ (now (r .text) ≡ readable (now (text .entry))) × Ready (now (r .text)) (r .cursor) × (r .cursor .at ≡ 0) × (r .cursor .left ≡ Nothing) ⌝ }
+    ensures { λ r. ⌜ (now (r .text) ≡ readable (now (text .entry))) × Begins (now (r .text)) 0 nothing (r .cursor) ⌝ }
 {
     let part = readable(text);
-    let cursor = first_cursor(part);
+    let cursor = cursor::first(part);
     TokenReader { text: part, cursor }
 }
 

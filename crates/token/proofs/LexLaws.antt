@@ -12,8 +12,8 @@ use Rattle.text.specs.Bytes.{run, part, among, decimal, isName, isDigit, isLett
 use Rattle.text.proofs.ByteLaws.{run-le}
 use Rattle.error.specs.declared.Refusal.the-variants.{BadForm}
 use Rattle.token.specs.Token.{name, number, quoted, mark, Lexeme, bad, piece, nameAt, quotedAt, pointAt}
-use Rattle.token.specs.Token.{pastFraction, suffixAt, pastSuffix, clings, placesOf, numberBy, numberAt, lexeme}
-use Rattle.token.specs.Means.{excessOf, CutMeans}
+use Rattle.token.specs.Token.{pastFraction, suffixAt, pastSuffix, clings, placesOf, writtenBy, numberBy, numberAt, writtenAt, lexeme}
+use Rattle.token.specs.Means.{excessOf, Digits, CutMeans}
 use Rattle.token.specs.declared.Cut.{Cut}
 
 -- a byte that is not 0 stands inside
@@ -44,12 +44,13 @@ quoted-is t n b c e h g = rw (sym e, h, g)
 -- r is the place of the closing `"`
 pub quoted-at-is : (t : List ℕ) (r : ℕ) (b c : Bool) → r ≡ 1 + run isInside (drop 1 t)
     → eqb (getD t r 0) 34 ≡ b → isName (getD t (r + 1) 0) ≡ c
-    → quotedAt t ≡ cond (b && not c) (piece (quoted (r - 1)) (r + 1)) (bad BadForm)
+    → quotedAt t ≡ cond (b && not c) (piece (quoted (r + 1 - 2)) (r + 1)) (bad BadForm)
 quoted-at-is t r b c e h g =
     let n : r - 1 ≡ run isInside (drop 1 t) = omega arith in
     let s : suc (r - 1) ≡ r = omega arith in
     let k : r - 1 + 2 ≡ r + 1 = omega arith in
-    quoted-is t (r - 1) b c n (rw s h) (rw k g) ∙ (rw k)
+    let z : r + 1 - 2 ≡ r - 1 = omega arith in
+    quoted-is t (r - 1) b c n (rw s h) (rw k g) ∙ (rw (k, z))
 
 -- ---- numbers
 
@@ -115,8 +116,36 @@ module _ {t : List ℕ} {w : ℕ} {x : Bool} {e : ℕ} {z : Bool} {n : ℕ} (p :
       → q ≡ placesOf x w e → q ≤ 9
       → v ≡ decimal (decimal 0 (take w t)) (part t (suc w) q)
       → numberAt t ≡ piece (number (record { digits = v; places = q; point = x; suffix = z })) n
-  unfolding numberBy
+  unfolding numberBy writtenBy
   number-fine v q h a g b d = number-is ∙ (rw (h, sym g, le-ltb 10 w a, le-ltb 9 q b, sym d))
+
+  -- the same number, by the text alone
+  written-is : writtenAt t ≡ writtenBy t w x e z
+  unfolding writtenAt
+  written-is = rw (sym (p .whole), sym (p .point), sym (p .end), sym (p .suffix))
+
+  pub number-written : (q : ℕ) → clings t (not (x || z)) n ≡ false → w ≤ 10 → q ≡ placesOf x w e → q ≤ 9
+      → numberAt t ≡ piece (number (writtenAt t)) n
+  unfolding numberBy
+  number-written q h a g b = number-is ∙ (rw (h, sym g, le-ltb 10 w a, le-ltb 9 q b, sym written-is))
+
+  pub number-digits : (q : ℕ) → w ≤ 10 → q ≡ placesOf x w e → q ≤ 9 → Digits t
+  unfolding writtenBy
+  number-digits q a g b = record { whole = omega (arith, p .whole); places = rw (written-is, sym g) b }
+
+  pub digits-few : (q : ℕ) → q ≡ placesOf x w e → Digits t → q ≤ 9
+  unfolding writtenBy
+  digits-few q g d = rw (written-is, sym g) at (d .places)
+
+  -- the digits before the point, h, and those behind it make one number
+  pub value-is : (h v q : ℕ) → h ≡ decimal 0 (part t 0 w) → v ≡ decimal h (part t (e - q) q) → q ≡ placesOf x w e
+      → v ≡ decimal (decimal 0 (take w t)) (part t (suc w) q)
+  value-is h v q a b g = b ∙ (rw (a, fraction-is t w e q x (p .end) g))
+
+  pub written-parts : (v q : ℕ) → q ≡ placesOf x w e → v ≡ decimal (decimal 0 (take w t)) (part t (suc w) q)
+      → record { digits = v; places = q; point = x; suffix = z } ≡ writtenAt t
+  unfolding writtenBy
+  written-parts v q g d = sym (written-is ∙ (rw (sym g, sym d)))
 
 -- ---- the first byte decides
 

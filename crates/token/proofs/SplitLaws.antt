@@ -136,12 +136,12 @@ module _ (s : List ℕ) (p start : ℕ) (r : start ≡ p + run isBlank (drop p s
     over-bad x e = ap answerOf (to-start ∙ step-halt start cs _ x some-left (step-bad cs _ x (past-blanks s p start r h) e))
 
     module _ (k : Tok) (n : ℕ) (m : Pieces (drop start s) (lexeme (drop start s)) k n) where
-      pub over-unfit : (x : Refusal) → nest (kindOf (drop start s) k) cs ≡ unfit x → answerFrom s p cs ≡ Refused x start
+      pub over-unfit : (x : Refusal) → nest (kindOf (drop start s) n k) cs ≡ unfit x → answerFrom s p cs ≡ Refused x start
       over-unfit x e =
           ap answerOf (to-start ∙ step-halt start cs _ x some-left (step-piece cs _ _ n _ (past-blanks s p start r h) (m .is) e))
 
       pub goes-on : (words : List ℕ) (d : ℕ)
-          → Awaits (nest (kindOf (drop start s) k) cs) words d
+          → Awaits (nest (kindOf (drop start s) n k) cs) words d
           → GoesOn s p (answerFrom s p cs) words (start + n) d
       goes-on words d a =
           let x = whole-of (drop start s) _ n (m .is) in
@@ -149,7 +149,7 @@ module _ (s : List ℕ) (p start : ℕ) (r : start ≡ p + run isBlank (drop p s
           let q = step-takes start n cs _ _ _ (x .some) (x .high) (step-piece cs _ _ n _ (past-blanks s p start r h) (m .is) (a .is)) in
           record {
             is = ap answerOf (to-start ∙ q)
-                ∙ answer-before (token start (kindOf (drop start s) k)) (splitFrom 0 (start + n) (held words d) (drop n (drop start s)))
+                ∙ answer-before (token start (kindOf (drop start s) n k)) (splitFrom 0 (start + n) (held words d) (drop n (drop start s)))
                 ∙ (rw drop-drop);
             low = omega (arith, x .some);
             high = omega arith;

@@ -11,9 +11,9 @@ use Rattle.text.specs.Bytes.{run, isBlank}
 use Rattle.text.proofs.ByteLaws.{run-yes, run-no, run-stop}
 use Rattle.error.specs.declared.Refusal.{Refusal}
 use Rattle.token.specs.Token.{Kind, name, number, quoted, mark, Token, token, bad, piece, lexeme, cut, tokensFrom, isMark}
-use Rattle.token.specs.Means.{kindOf, Sized, Stands, Pieces, endAt, Lexes}
+use Rattle.token.specs.Means.{kindOf, Pieces, lexedOf, Lexes}
 use Rattle.token.specs.declared.Tok.{Tok}
-use Rattle.token.specs.declared.Tok.the-variants.{Name, Num, Quoted, Mark}
+use Rattle.token.specs.declared.Tok.the-variants.{Mark}
 use Rattle.token.proofs.LexLaws.{run-fits}
 use Rattle.token.proofs.WholeLaws.{Fits, whole-of}
 
@@ -86,12 +86,6 @@ no-end (number w) n h = refl
 no-end (quoted m) n h = refl
 no-end (mark b) n h = h
 
-stood : (k : Tok) (start n : ℕ) (t : List ℕ) → Sized k n → Fits (kindOf t k) n → Stands k start (start + n)
-stood (Name m) start n t e h = rw e
-stood (Num m) start n t e h = record { places = h .0; digits = h .1 }
-stood (Quoted m) start n t e h = rw h
-stood (Mark b) start n t e h = tt
-
 -- no blank stands behind a run of blanks
 pub past-blanks : (s : List ℕ) (p start : ℕ) → start ≡ p + run isBlank (drop p s)
     → start < length s → isBlank (getD (drop start s) 0 0) ≡ false
@@ -109,46 +103,54 @@ module _ (s : List ℕ) (p start : ℕ) (r : start ≡ p + run isBlank (drop p s
   unfolding tokensFrom
   from-start = blanks (cut 0) cut-blank p (drop p s) ∙ (rw drop-drop (rw (sym r)))
 
+  pub start-high : p ≤ length s → start ≤ length s
+  start-high h = omega (arith, run-fits isBlank s p h)
+
   -- no token can be cut at start
-  none-at : tokensFrom s start ≡ token start (mark 0) ∷ [] → Lexes s p (endAt start)
-  none-at q′ =
+  none-at : p ≤ length s → tokensFrom s start ≡ token start (mark 0) ∷ [] → Lexes s p (lexedOf start start (Mark 0))
+  none-at h q′ =
       let q : tokensFrom s p ≡ token start (mark 0) ∷ [] = from-start ∙ q′ in
       record {
+        same = from-start;
         kind = rw q;
         place = rw q;
         rest = rw (q, q′);
         low = omega arith;
         some = omega arith;
-        high = λ h. omega (arith, run-fits isBlank s p h);
+        high = start-high h;
         moved = λ e. absurd (no e);
         stands = tt;
       }
 
-  pub lexes-end : length s ≤ start → Lexes s p (endAt start)
-  lexes-end h = none-at (past-end s start h)
+  module _ (h : p ≤ length s) where
+    pub lexes-end : length s ≤ start → Lexes s p (lexedOf start start (Mark 0))
+    lexes-end g = none-at h (past-end s start g)
 
-  pub lexes-bad : start < length s → (x : Refusal) → lexeme (drop start s) ≡ bad x → Lexes s p (endAt start)
-  unfolding tokensFrom
-  lexes-bad h x e = none-at (cut-bad start x (drop start s) (rw length-drop (omega arith)) (past-blanks s p start r h) e)
+    pub lexes-bad : start < length s → (x : Refusal) → lexeme (drop start s) ≡ bad x → Lexes s p (lexedOf start start (Mark 0))
+    unfolding tokensFrom
+    lexes-bad g x e = none-at h (cut-bad start x (drop start s) (rw length-drop (omega arith)) (past-blanks s p start r g) e)
 
-  pub lexes-piece : start < length s → (k : Tok) (n : ℕ)
-      → Pieces (drop start s) (lexeme (drop start s)) k n
-      → Lexes s p (record { start = start; tok = k; next = start + n })
-  unfolding tokensFrom
-  lexes-piece h k n m =
-      let x = whole-of (drop start s) _ n (m .is) in
-      let g : n ≤ length s - start = rw length-drop at (x .high) in
-      let q : tokensFrom s p ≡ token start (kindOf (drop start s) k) ∷ tokensFrom s (start + n) = from-start
-      ∙ cut-piece start n _ (drop start s) (rw length-drop (omega arith)) (past-blanks s p start r h) (m .is) (x .some) (x .high)
-      ∙ (rw drop-drop)
-      in
-      record {
-        kind = rw q;
-        place = rw q;
-        rest = rw (q, no-end (kindOf (drop start s) k) n (x .fits));
-        low = omega arith;
-        some = omega arith;
-        high = λ h. omega arith;
-        moved = λ e. omega (arith, x .some);
-        stands = stood k start n (drop start s) (m .sized) (x .fits);
-      }
+  module _ (h : start < length s) (k : Tok) (n : ℕ) (m : Pieces (drop start s) (lexeme (drop start s)) k n) where
+    pub piece-high : start + n ≤ length s
+    piece-high = omega (arith, rw length-drop at (whole-of (drop start s) _ n (m .is) .high))
+
+    pub lexes-piece : Lexes s p (lexedOf start (start + n) k)
+    unfolding tokensFrom
+    lexes-piece =
+        let x = whole-of (drop start s) _ n (m .is) in
+        let z : start + n - start ≡ n = omega arith in
+        let q : tokensFrom s p ≡ token start (kindOf (drop start s) n k) ∷ tokensFrom s (start + n) = from-start
+        ∙ cut-piece start n _ (drop start s) (rw length-drop (omega arith)) (past-blanks s p start r h) (m .is) (x .some) (x .high)
+        ∙ (rw drop-drop)
+        in
+        record {
+          same = from-start;
+          kind = rw (q, z);
+          place = rw q;
+          rest = rw (q, no-end (kindOf (drop start s) n k) n (x .fits));
+          low = omega arith;
+          some = omega arith;
+          high = piece-high;
+          moved = λ e. omega (arith, x .some);
+          stands = rw z (m .stands);
+        }

@@ -1,17 +1,21 @@
 -- What the answers of the code mean. Contracts cite these. Assumes nothing.
-use Prim.Native.Nat.{ℕ, zero, suc, _+_, _^_, _≤_, _<_}
+use Prim.Native.Nat.{ℕ, zero, suc, _+_, _-_, _*_, _^_, _≤_, _<_}
 use mathlib.Core.List.{List, [], _∷_}
-use mathlib.Core.Bool.{Bool, false, cond}
-use mathlib.Core.Option.{Option, none, some}
+use Prim.Native.Char.{code}
+use Prim.Native.String.{String}
+use mathlib.Core.Bool.{Bool, true, false, _&&_, not, cond}
 use mathlib.Core.Path.{_≡_}
-use lib.Dec.{ltb}
+use lib.Dec.{ltb, eqb}
 use lib.ListN.{length, getD, take, drop, replicate}
-use Rattle.text.specs.Bytes.{same}
+use Rattle.text.specs.Bytes.{run, isDigit}
+use Rattle.text.specs.Words.{words}
 use Rattle.number.specs.Number.{Written}
-use Rattle.token.specs.Token.{Kind, name, number, quoted, mark, Lexeme, bad, piece, tokensFrom, place, kind, isMark, rest}
+use Rattle.token.specs.Token.{Kind, name, number, quoted, mark, Token, token, Lexeme, bad, piece, writtenAt}
+use Rattle.token.specs.Token.{tokensFrom, place, kind, isMark, rest}
 use Rattle.error.specs.declared.Refusal.{Refusal}
 use Rattle.error.specs.declared.Refusal.the-variants.{BadForm, TooManyDigits, TooManyOpen, ScratchTooShort}
-use Rattle.token.specs.Split.{Nest, unfit, awaits, closer, Split, unlexed, tokens, splitFrom, split}
+use Rattle.token.specs.Split.{Nest, unfit, awaits, closer, nestMark, Split, unlexed, tokens, splitFrom, split}
+use Rattle.token.specs.Names.{keywords}
 use Rattle.token.specs.declared.Number.{Number}
 use Rattle.token.specs.declared.Tok.{Tok}
 use Rattle.token.specs.declared.Tok.the-variants as tok
@@ -30,17 +34,12 @@ use Rattle.token.specs.declared.Turn.the-variants as turn
 abbrev pub writtenOf : Number → Written
 writtenOf n = record { digits = n .digits; places = n .places; point = n .point; suffix = n .suffix }
 
--- the kind that a token is, t being the text from its start on
-abbrev pub kindOf : List ℕ → Tok → Kind
-kindOf t (tok.Name n) = name (take n t)
-kindOf t (tok.Num n) = number (writtenOf n)
-kindOf t (tok.Quoted n) = quoted n
-kindOf t (tok.Mark b) = mark b
-
--- whether a word is these bytes
-abbrev pub isSpelt : Option (List ℕ) → List ℕ → Bool
-isSpelt none bs = false
-isSpelt (some w) bs = same w bs
+-- the kind that a token of n bytes is, t being the text from its start on
+abbrev pub kindOf : List ℕ → ℕ → Tok → Kind
+kindOf t n tok.Name = name (take n t)
+kindOf t n tok.Num = number (writtenAt t)
+kindOf t n tok.Quoted = quoted (n - 2)
+kindOf t n (tok.Mark b) = mark b
 
 -- ---- the token that a text begins with
 
@@ -48,16 +47,26 @@ isSpelt (some w) bs = same w bs
 abbrev pub excessOf : Bool → Refusal
 excessOf clings = cond clings BadForm TooManyDigits
 
--- a name is as long as its token
-abbrev pub Sized : Tok → ℕ → Type 0
-Sized (tok.Name m) n = m ≡ n
-Sized (tok.Num m) n = Unit {0}
-Sized (tok.Quoted m) n = Unit {0}
-Sized (tok.Mark b) n = Unit {0}
+-- what the digit limits of 01 leave of the number that t begins with
+pub record Digits (t : List ℕ) : Type 0 where
+  pub whole : run isDigit t ≤ 10
+  pub places : writtenAt t .places ≤ 9
+
+-- and of the number that the code makes of it
+pub record Small (n : Number) : Type 0 where
+  pub places : n .places ≤ 9
+  pub digits : n .digits < 10 ^ 19
+
+-- what else is known of a token of n bytes that t begins with; of the end, a mark 0, nothing
+abbrev pub Stands : List ℕ → ℕ → Tok → Type 0
+Stands t n tok.Name = Unit {0}
+Stands t n tok.Num = Digits t
+Stands t n tok.Quoted = 2 ≤ n
+Stands t n (tok.Mark b) = Unit {0}
 
 pub record Pieces (t : List ℕ) (x : Lexeme) (k : Tok) (n : ℕ) : Type 0 where
-  pub is : x ≡ piece (kindOf t k) n
-  pub sized : Sized k n
+  pub is : x ≡ piece (kindOf t n k) n
+  pub stands : Stands t n k
 
 -- the lexeme x of t, as the code has it
 abbrev pub CutMeans : List ℕ → Lexeme → Cut → Type 0
@@ -66,31 +75,25 @@ CutMeans t x (cut.Piece k n) = Pieces t x k n
 
 -- ---- the token at a place
 
-abbrev pub endAt : ℕ → Lexed
-endAt at = record { start = at; tok = tok.Mark 0; next = at }
-
--- what the digit limits of 01 leave of a number
-pub record Small (n : Number) : Type 0 where
-  pub places : n .places ≤ 9
-  pub digits : n .digits < 10 ^ 19
-
--- what else is known of a token from start to next; of the end, a mark 0, nothing
-abbrev pub Stands : Tok → ℕ → ℕ → Type 0
-Stands (tok.Name m) start next = next ≡ start + m
-Stands (tok.Num m) start next = Small m
-Stands (tok.Quoted m) start next = next ≡ start + (m + 2)
-Stands (tok.Mark b) start next = Unit {0}
+abbrev pub lexedOf : ℕ → ℕ → Tok → Lexed
+lexedOf start end k = record { start = start; end = end; tok = k }
 
 -- r is the first of the tokens from `at` on, with its place and the place after it; only the end takes no byte
 pub record Lexes (s : List ℕ) (at : ℕ) (r : Lexed) : Type 0 where
-  pub kind : kind (tokensFrom s at) ≡ kindOf (drop (r .start) s) (r .tok)
+  pub same : tokensFrom s at ≡ tokensFrom s (r .start)
+  pub kind : kind (tokensFrom s at) ≡ kindOf (drop (r .start) s) (r .end - r .start) (r .tok)
   pub place : place (tokensFrom s at) ≡ r .start
-  pub rest : rest (tokensFrom s at) ≡ tokensFrom s (r .next)
+  pub rest : rest (tokensFrom s at) ≡ tokensFrom s (r .end)
   pub low : at ≤ r .start
-  pub some : r .start ≤ r .next
-  pub high : at ≤ length s → r .next ≤ length s
-  pub moved : isMark (kindOf (drop (r .start) s) (r .tok)) 0 ≡ false → at < r .next
-  pub stands : Stands (r .tok) (r .start) (r .next)
+  pub some : r .start ≤ r .end
+  pub high : r .end ≤ length s
+  pub moved : isMark (kindOf (drop (r .start) s) (r .end - r .start) (r .tok)) 0 ≡ false → r .start < r .end
+  pub stands : Stands (drop (r .start) s) (r .end - r .start) (r .tok)
+
+-- the place of the last of some tokens, p where there is none; a text's tokens end at its length where each of them can be cut
+unfoldable pub lastPlace : ℕ → List Token → ℕ
+lastPlace p [] = p
+lastPlace p (token q k ∷ ts) = lastPlace q ts
 
 -- ---- the pass over a whole text
 
@@ -142,3 +145,60 @@ unfoldable pub splitting : List ℕ → List ℕ → SplitAnswer × List ℕ
 splitting t s =
     cond (ltb (length s) 64) (splitOutcome (answer.Refused ScratchTooShort 0) s)
     (splitOutcome (answerOf (split t)) (replicate (length s) 0))
+
+-- ---- the delimiters alone, byte by byte: where each token of a text can be cut, it is split if they fit (proofs/NestLaws)
+
+-- what a byte makes of the awaited closers; in a string, nothing
+abbrev pub nestByte : Bool → ℕ → Nest → Nest
+nestByte true b x = x
+nestByte false b (unfit r) = unfit r
+nestByte false b (awaits cs) = nestMark b cs
+
+-- whether a string is open behind a byte
+abbrev pub quotedBy : Bool → ℕ → Bool
+quotedBy q b = cond (eqb b (code "\"")) (not q) q
+
+-- whether nothing is open
+abbrev pub isClosed : Bool → Nest → Bool
+isClosed q (unfit r) = false
+isClosed q (awaits []) = not q
+isClosed q (awaits (c ∷ cs)) = false
+
+-- whether the delimiters of a text fit, x being awaited before it, in a string or not
+unfoldable pub nestsFrom : Bool → Nest → List ℕ → Bool
+nestsFrom q x [] = isClosed q x
+nestsFrom q x (b ∷ t) = nestsFrom (quotedBy q b) (nestByte q b x) t
+
+-- the bytes from a place to another change nothing
+pub record Skips (s : List ℕ) (from to : ℕ) : Type 0 where
+  pub same : (q : Bool) (x : Nest) → nestsFrom q x (drop from s) ≡ nestsFrom q x (drop to s)
+  pub low : from ≤ to
+  pub high : to ≤ length s
+
+-- ---- keywords as numbers
+
+-- the bytes of a word as one number, the first the least, under a 1: no two words of bytes have the same
+unfoldable pub pack : List ℕ → ℕ
+pack [] = 1
+pack (b ∷ w) = pack w * 256 + b
+
+unfoldable pub packs : List (List ℕ) → List ℕ
+packs [] = []
+packs (w ∷ ws) = pack w ∷ packs ws
+
+-- those words whose length passes a test
+unfoldable pub sized : (ℕ → Bool) → List (List ℕ) → List (List ℕ)
+sized p [] = []
+sized p (w ∷ ws) = cond (p (length w)) (w ∷ sized p ws) (sized p ws)
+
+abbrev pub upTo4 : ℕ → Bool
+upTo4 n = ltb n 5
+
+abbrev pub upTo7 : ℕ → Bool
+upTo7 n = ltb 4 n && ltb n 8
+
+unfoldable pub packedKeywords : (ℕ → Bool) → List ℕ
+packedKeywords p = packs (sized p (words keywords))
+
+abbrev pub longKeywords : List String
+longKeywords = "continue" ∷ "abstract" ∷ "override" ∷ []

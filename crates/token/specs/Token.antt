@@ -58,19 +58,21 @@ clings t plain n = isName (at t n) || (plain && eqb (at t n) (code ".") && not (
 unfoldable pub placesOf : Bool → ℕ → ℕ → ℕ
 placesOf point w end = cond point (end - suc w) 0
 
+-- the number of w digits, a point and more digits up to end or not, an `s` or not
+unfoldable pub writtenBy : List ℕ → ℕ → Bool → ℕ → Bool → Written
+writtenBy t w point end s = record {
+  digits = decimal (decimal 0 (take w t)) (part t (suc w) (placesOf point w end));
+  places = placesOf point w end;
+  point = point;
+  suffix = s;
+}
+
 -- "More than 10 digits before or 9 after the point, leading zeros counted: refusal 3. Both: 2."
 -- w digits, a point and more digits up to end or not, an `s` or not, up to n
 unfoldable pub numberBy : List ℕ → ℕ → Bool → ℕ → Bool → ℕ → Lexeme
 numberBy t w point end s n =
     cond (clings t (not (point || s)) n) (bad BadForm)
-    (cond (ltb 10 w || ltb 9 (placesOf point w end)) (bad TooManyDigits)
-    (piece (number (record {
-      digits = decimal (decimal 0 (take w t)) (part t (suc w) (placesOf point w end));
-      places = placesOf point w end;
-      point = point;
-      suffix = s;
-    }))
-    n))
+    (cond (ltb 10 w || ltb 9 (placesOf point w end)) (bad TooManyDigits) (piece (number (writtenBy t w point end s)) n))
 
 -- "A number is 1 or more digits, then possibly a point and 1 or more digits, then possibly a single `s`."
 unfoldable pub numberAt : List ℕ → Lexeme
@@ -80,6 +82,14 @@ numberAt t =
     let end = pastFraction point t w in
     let s = suffixAt t end in
     numberBy t w point end s (pastSuffix s end)
+
+-- the number that a text begins with, whatever follows it
+unfoldable pub writtenAt : List ℕ → Written
+writtenAt t =
+    let w = run isDigit t in
+    let point = pointAt t w in
+    let end = pastFraction point t w in
+    writtenBy t w point end (suffixAt t end)
 
 -- "A string holds printable ASCII without `"` and `\`. Any other byte, no closing `"` or a name character right after it: 2, at its opening
 -- `"`."

@@ -445,8 +445,7 @@ pub fn parse_easing(text: &[u8], c: Cursor) -> EasingRead
     ensures { λ r. ⌜ EasingMeans (now (text .entry)) c parseEasing r ⌝ }
 {
     if cursor::sees(c, b'(') {
-        let head = c.head;
-        return EasingRead::Refused(Refusal::Malformed, head.start);
+        return EasingRead::Refused(Refusal::Malformed, cursor::place(c));
     }
     match cursor::word(text, c) {
         WordRead::Missing(p) => EasingRead::Refused(Refusal::Missing, p),
@@ -507,10 +506,7 @@ pub fn parse_loop_mode(text: &[u8], c: Cursor) -> LoopRead
             text::part(text, name.start, name.size),
         ) {
             text::Found::At(i) => mode(text, m, i),
-            text::Found::Nothing => {
-                let head = m.head;
-                LoopRead::Refused(Refusal::Malformed, head.start)
-            }
+            text::Found::Nothing => LoopRead::Refused(Refusal::Malformed, cursor::place(m)),
         },
     }
 }

@@ -28,6 +28,9 @@ enum-known-i-2 c = search needs
 enum-told : tie.Need-enum-told
 enum-told c = search needs
 
+place-requires : tie.Need-place-requires
+place-requires c κs = search needs
+
 same-length : tie.Need-same-length
 same-length c = search needs
 
@@ -75,8 +78,9 @@ returns-4 c =
     let at-keyword-of = c .before .before .before in
     let at-part = at-keyword-of .before in
     let start = at-part .before .before .before in
-    unknown-refused (start .args .text .now) (start .args .c) _ (start .pre .0)
-    (rw (c .before .enum-told .given .1, at-part .part .ensures) at (at-keyword-of .keyword-of .ensures))
+    rw (c .place .ensures)
+    (unknown-refused (start .args .text .now) (start .args .c) _ (start .pre .0)
+    (rw (c .before .enum-told .given .1, at-part .part .ensures) at (at-keyword-of .keyword-of .ensures)))
 
 returns-3 : tie.Need-returns-3
 returns-3 c =
@@ -107,6 +111,7 @@ begin-word-spec =
     enum-known-q
     enum-known-i-2
     enum-told
+    place-requires
     same-length
     returns
     same-length-2

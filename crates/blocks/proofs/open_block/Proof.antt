@@ -14,19 +14,17 @@ enum-known-p c = search needs
 enum-known-m : tie.Need-enum-known-m
 enum-known-m c = search needs
 
+place-requires : tie.Need-place-requires
+place-requires c κs = search needs
+
 returns : tie.Need-returns
 returns c =
     let at-m = c .before .before .before in
     let at-mark = at-m .before .before in
     let start = at-mark .before .before in
-    too-deep
-    (start .args .text .now)
-    (start .args .c)
-    _
-    (start .args .depth)
-    (start .pre)
-    (rw (at-m .m .given .1) at (at-mark .mark .ensures))
-    (c .before .if1 .taken)
+    rw (c .place .ensures)
+    (too-deep (start .args .text .now) (start .args .c) _ (start .args .depth) (start .pre)
+    (rw (at-m .m .given .1) at (at-mark .mark .ensures)) (c .before .if1 .taken))
 
 returns-2 : tie.Need-returns-2
 returns-2 c =
@@ -39,4 +37,4 @@ returns-3 c = (rw (c .before .before .m .given .1) at (c .before .before .before
 
 pub open-block-spec : {M : Type 1} → statement M
 open-block-spec =
-    tie.close (tie.spec mark-requires enum-known-p enum-known-m returns returns-2 returns-3)
+    tie.close (tie.spec mark-requires enum-known-p enum-known-m place-requires returns returns-2 returns-3)

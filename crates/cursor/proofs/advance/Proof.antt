@@ -1,25 +1,34 @@
 -- `cursor::advance` meets its contract. Assumes nothing.
-use mathlib.Core.Path.{ap, sym, _∙_}
 use Rattle.text.specs.Bytes.{at}
-use Rattle.cursor.proofs.CursorLaws.{next-high}
-use Rattle.token.specs.Token.{rest, tokensFrom}
+use Rattle.token.specs.Token.{rest}
+use mathlib.Core.Path.{ap, sym, _∙_}
+use native.Mathlib.Omega.{arith}
+use Rattle.token.specs.Token.{tokensFrom}
+use borrow.Author.Needs.{needs}
+use Rattle.cursor.proofs.CursorLaws.{head-last}
 use Rattle.cursor.proofs.advance.Statement.{statement}
 use Rattle.cursor.proofs.advance.Tie as tie
 
+wide-requires : tie.Need-wide-requires
+wide-requires c κs = search needs
+
 start-requires : tie.Need-start-requires
 start-requires c κs =
-    let start = c .before .before in
-    (next-high (start .args .text .now) (start .args .c) (start .pre), start .pre .short)
+    let start = c .before .before in (
+      search needs,
+      start .pre .short,
+      rw (c .wide .ensures) (head-last (start .args .text .now) (start .args .c) (start .pre)),
+    )
 
 returns : tie.Need-returns
 returns c =
     let start = c .before .before .before in
     record {
-      rest = start .pre .head .rest ∙ ap (tokensFrom (start .args .text .now)) (sym (c .start .ensures .1));
-      at = c .start .ensures .1;
-      left = c .start .ensures .2;
-      ready = c .start .ensures .0;
+      rest = start .pre .head .rest ∙ ap (tokensFrom (start .args .text .now)) (sym (c .before .wide .ensures)) ∙ c .start .ensures .is;
+      at = omega (arith, c .before .wide .ensures, c .start .ensures .low);
+      left = c .start .ensures .left;
+      ready = c .start .ensures .ready;
     }
 
 pub advance-spec : {M : Type 1} → statement M
-advance-spec = tie.close (tie.spec start-requires returns)
+advance-spec = tie.close (tie.spec wide-requires start-requires returns)

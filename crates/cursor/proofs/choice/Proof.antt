@@ -1,7 +1,7 @@
 -- `cursor::choice` meets its contract. Assumes nothing.
-use mathlib.Core.Option.{some, none}
-use mathlib.Core.Path.{ap, sym, _∙_, _≡_}
 use Rattle.text.specs.Bytes.{at}
+use mathlib.Core.Path.{_≡_, ap, sym, _∙_}
+use mathlib.Core.Option.{some, none}
 use Rattle.text.specs.Words.{find}
 use Rattle.text.specs.Means.{placeOf}
 use borrow.Author.Needs.{needs}
@@ -29,6 +29,9 @@ enum-known-i c = search needs
 enum-told : tie.Need-enum-told
 enum-told c = search needs
 
+place-requires : tie.Need-place-requires
+place-requires c κs = search needs
+
 returns : tie.Need-returns
 returns c = let e = rw (c .before .p .given .1) at (c .before .before .before .word .ensures) in rw e
 
@@ -54,7 +57,7 @@ returns-3 c =
     let f : find _ 0 _ ≡ none = sym (at-find .find .ensures ∙ ap (find _ 0) (at-part .part .ensures))
     ∙ ap placeOf (c .before .enum-told .given .1)
     in
-    rw (t .0 .is, f, t .0 .ready .head .place)
+    rw (t .0 .is, f, t .0 .ready .head .place, c .place .ensures)
 
 pub choice-spec : {M : Type 1} → statement M
 choice-spec =
@@ -67,6 +70,7 @@ choice-spec =
     find-requires
     enum-known-i
     enum-told
+    place-requires
     returns
     returns-2
     returns-3)

@@ -1,19 +1,14 @@
 -- `cursor::first_of` meets its contract. Assumes nothing.
-use borrow.Author.Needs.{needs}
+use Rattle.cursor.proofs.CursorLaws.{left-none, left-some}
+use native.Mathlib.Omega.{arith}
 use Rattle.cursor.proofs.first_of.Statement.{statement}
 use Rattle.cursor.proofs.first_of.Tie as tie
 
-enum-told : tie.Need-enum-told
-enum-told c = search needs
-
-enum-known-left : tie.Need-enum-known-left
-enum-known-left c = search needs
-
 returns : tie.Need-returns
-returns c = rw (c .enum-told .given .1)
+returns c = rw (left-some _ (c .if1 .taken))
 
 returns-2 : tie.Need-returns-2
-returns-2 c = rw (c .before .left .given .1)
+returns-2 c = rw (left-none _ (c .if1 .left)) (left-some _ (λ e. omega (arith, c .before .pre)))
 
 pub first-of-spec : {M : Type 1} → statement M
-first-of-spec = tie.close (tie.spec enum-told enum-known-left returns returns-2)
+first-of-spec = tie.close (tie.spec returns returns-2)

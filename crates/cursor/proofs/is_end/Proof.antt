@@ -22,16 +22,16 @@ enum-told-3 : tie.Need-enum-told-3
 enum-told-3 c = search needs
 
 returns : tie.Need-returns
-returns c t = rw (c .before .before .before .k .given .1) (c .has .ensures)
+returns c t n = rw (c .before .before .before .k .given .1) (c .has .ensures)
 
 returns-2 : tie.Need-returns-2
-returns-2 c t = rw (c .enum-told .given .1)
+returns-2 c t n = rw (c .enum-told .given .1)
 
 returns-3 : tie.Need-returns-3
-returns-3 c t = rw (c .enum-told2 .given .1)
+returns-3 c t n = rw (c .enum-told2 .given .1)
 
 returns-4 : tie.Need-returns-4
-returns-4 c t = rw (c .enum-told3 .given .1)
+returns-4 c t n = rw (c .enum-told3 .given .1)
 
 pub is-end-spec : {M : Type 1} → statement M
 is-end-spec =

@@ -1,6 +1,6 @@
 -- `cursor::leave_group` meets its contract. Assumes nothing.
-use Rattle.cursor.proofs.CursorLaws.{leave-end, leave-left}
 use mathlib.Core.Path.{refl, sym, _∙_}
+use Rattle.cursor.proofs.CursorLaws.{leave-end, leave-left}
 use borrow.Author.Needs.{needs}
 use Rattle.cursor.proofs.leave_group.Statement.{statement}
 use Rattle.cursor.proofs.leave_group.Tie as tie
@@ -15,12 +15,7 @@ returns : tie.Need-returns
 returns c =
     let at-ends = c .before .before in
     let start = at-ends .before .before in
-    leave-end
-    (start .args .text .now)
-    (start .args .c)
-    (c .advance .result)
-    (start .pre)
-    (c .advance .ensures)
+    leave-end (start .args .text .now) (start .args .c) (c .advance .result) (start .pre) (c .advance .ensures)
     (sym (at-ends .ends .ensures (start .args .text .now) (start .pre)) ∙ c .before .if1 .taken)
 
 first-of-requires : tie.Need-first-of-requires
@@ -31,20 +26,11 @@ past-group-requires c κs = search needs
 
 returns-2 : tie.Need-returns-2
 returns-2 c =
-    let at-first-of = c .before .before in
-    let at-if1 = at-first-of .before .before in
+    let at-if1 = c .before .before in
     let at-ends = at-if1 .before in
     let start = at-ends .before .before in
-    leave-left
-    (start .args .text .now)
-    (start .args .c)
-    (c .before .past-group .result)
-    _
-    (start .pre)
-    (c .before .past-group .ensures)
-    (sym (at-ends .ends .ensures (start .args .text .now) (start .pre)) ∙ at-if1 .if1 .left)
-    refl refl
-    (at-first-of .first-of .ensures)
+    leave-left (start .args .text .now) (start .args .c) (c .past-group .result) _ (start .pre) (c .past-group .ensures)
+    (sym (at-ends .ends .ensures (start .args .text .now) (start .pre)) ∙ at-if1 .if1 .left) refl refl (c .before .first-of .ensures)
 
 pub leave-group-spec : {M : Type 1} → statement M
 leave-group-spec =

@@ -1,7 +1,6 @@
 -- `cursor::mark` meets its contract. Assumes nothing.
-use Rattle.cursor.proofs.CursorLaws.{took-mark}
-use Rattle.cursor.proofs.CursorLaws.{mark-missing}
 use mathlib.Core.Path.{sym, _∙_}
+use Rattle.cursor.proofs.CursorLaws.{took-mark, mark-missing}
 use borrow.Author.Needs.{needs}
 use Rattle.cursor.proofs.mark.Statement.{statement}
 use Rattle.cursor.proofs.mark.Tie as tie
@@ -17,23 +16,20 @@ returns c =
     let at-sees = c .before .before in
     let start = at-sees .before .before in
     let args = start .args in
-    took-mark
-    (args .text .now)
-    (args .c)
-    (c .advance .result)
-    (start .pre .0)
-    (c .advance .ensures)
-    (args .b)
-    (start .pre .1)
+    took-mark (args .text .now) (args .c) (c .advance .result) (start .pre .0) (c .advance .ensures) (args .b) (start .pre .1)
     (sym (at-sees .sees .ensures (args .text .now) (start .pre .0)) ∙ c .before .if1 .taken)
+
+place-requires : tie.Need-place-requires
+place-requires c κs = search needs
 
 returns-2 : tie.Need-returns-2
 returns-2 c =
     let at-sees = c .before .before in
     let start = at-sees .before .before in
     let args = start .args in
-    mark-missing (args .text .now) (args .c) (start .pre .0) (args .b)
-    (sym (at-sees .sees .ensures (args .text .now) (start .pre .0)) ∙ c .before .if1 .left)
+    rw (c .place .ensures)
+    (mark-missing (args .text .now) (args .c) (start .pre .0) (args .b)
+    (sym (at-sees .sees .ensures (args .text .now) (start .pre .0)) ∙ c .before .if1 .left))
 
 pub mark-spec : {M : Type 1} → statement M
-mark-spec = tie.close (tie.spec sees-requires advance-requires returns returns-2)
+mark-spec = tie.close (tie.spec sees-requires advance-requires returns place-requires returns-2)

@@ -1,10 +1,10 @@
 -- `cursor::parse_uint` meets its contract. Assumes nothing.
 use Rattle.text.specs.Bytes.{at}
-use Rattle.token.specs.Means.{writtenOf}
-use Rattle.error.specs.declared.Refusal.the-variants.{Missing, Malformed}
-use Rattle.cursor.proofs.CursorLaws.{head-place, took-whole, whole-missing}
-use Rattle.grammar.specs.Values.{parseUint}
 use mathlib.Core.Path.{refl, sym}
+use Rattle.token.specs.Means.{writtenOf}
+use Rattle.error.specs.declared.Refusal.the-variants.{Missing}
+use Rattle.grammar.specs.Values.{parseUint}
+use Rattle.cursor.proofs.CursorLaws.{head-place, took-whole, whole-missing}
 use borrow.Author.Needs.{needs}
 use Rattle.cursor.proofs.parse_uint.Statement.{statement}
 use Rattle.cursor.proofs.parse_uint.Tie as tie
@@ -18,6 +18,9 @@ enum-known-p c = search needs
 enum-known-negative : tie.Need-enum-known-negative
 enum-known-negative c = search needs
 
+place-requires : tie.Need-place-requires
+place-requires c κs = search needs
+
 returns : tie.Need-returns
 unfolding parseUint
 returns c =
@@ -27,7 +30,7 @@ returns c =
     let args = start .args in
     let n = rw (at-negative .negative .given .1) at (at-number .number .ensures) in
     let e = whole-missing (args .text .now) (args .c) _ _ _ n Missing (c .before .if1 .taken) in
-    rw (e, head-place (args .text .now) (args .c) (start .pre))
+    rw (e, head-place (args .text .now) (args .c) (start .pre), c .place .ensures)
 
 whole-requires : tie.Need-whole-requires
 whole-requires c κs = search needs
@@ -37,6 +40,9 @@ enum-known-v c = search needs
 
 enum-told : tie.Need-enum-told
 enum-told c = search needs
+
+place-requires-2 : tie.Need-place-requires-2
+place-requires-2 c κs = search needs
 
 returns-2 : tie.Need-returns-2
 unfolding parseUint
@@ -66,7 +72,7 @@ returns-4 c =
     let n = rw (at-negative .negative .given .1) at (at-number .number .ensures) in
     let t = took-whole (args .text .now) (args .c) _ _ _ n Missing (at-if1 .if1 .left) in
     let v = rw (c .before .enum-told .given .1) at (at-whole .whole .ensures (writtenOf (at-negative .negative .given .0 .1 .0)) refl) in
-    rw (t .is, sym v, n .ready .head .place)
+    rw (t .is, sym v, n .ready .head .place, c .place2 .ensures)
 
 pub parse-uint-spec : {M : Type 1} → statement M
 parse-uint-spec =
@@ -75,10 +81,12 @@ parse-uint-spec =
     number-requires
     enum-known-p
     enum-known-negative
+    place-requires
     returns
     whole-requires
     enum-known-v
     enum-told
+    place-requires-2
     returns-2
     returns-3
     returns-4)

@@ -13,7 +13,7 @@ enum-known-k c = search needs
 
 returns : tie.Need-returns
 unfolding weigh
-returns c t = rw (c .before .before .k .given .1, c .if1 .taken)
+returns c t n = rw (c .before .before .k .given .1, c .if1 .taken)
 
 slice-aggregate-has : tie.Need-slice-aggregate-has
 slice-aggregate-has c = search needs
@@ -23,7 +23,7 @@ has-requires c κs = search needs
 
 returns-2 : tie.Need-returns-2
 unfolding weigh
-returns-2 c t =
+returns-2 c t n =
     let at-has = c .before .before in
     let at-if1 = at-has .before .before in
     let at-k = at-if1 .before .before in
@@ -34,7 +34,7 @@ sub-t12 c = search needs
 
 returns-3 : tie.Need-returns-3
 unfolding weigh
-returns-3 c t =
+returns-3 c t n =
     let at-has = c .before .before in
     let at-if1 = at-has .before .before in
     let at-k = at-if1 .before .before in
@@ -52,7 +52,7 @@ add-t16 c = search needs
 
 returns-4 : tie.Need-returns-4
 unfolding weigh
-returns-4 c t =
+returns-4 c t n =
     let at-if2 = c .before .before .before in
     let at-has = at-if2 .before in
     let at-if1 = at-has .before .before in
@@ -76,7 +76,7 @@ enum-told-3 c = search needs
 
 returns-5 : tie.Need-returns-5
 unfolding weigh
-returns-5 c t =
+returns-5 c t n =
     let at-if2 = c .before .before .before in
     let at-has = at-if2 .before in
     let at-if1 = at-has .before .before in
@@ -90,15 +90,15 @@ returns-5 c t =
 
 returns-6 : tie.Need-returns-6
 unfolding weigh
-returns-6 c t = rw (c .enum-told .given .1)
+returns-6 c t n = rw (c .enum-told .given .1)
 
 returns-7 : tie.Need-returns-7
 unfolding weigh
-returns-7 c t = rw (c .enum-told2 .given .1)
+returns-7 c t n = rw (c .enum-told2 .given .1)
 
 returns-8 : tie.Need-returns-8
 unfolding weigh
-returns-8 c t = rw (c .enum-told3 .given .1)
+returns-8 c t n = rw (c .enum-told3 .given .1)
 
 pub pass-of-spec : {M : Type 1} → statement M
 pass-of-spec =

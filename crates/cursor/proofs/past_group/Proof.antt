@@ -21,7 +21,7 @@ loop-holds : tie.Need-loop-holds Inv-loop μ-loop
 loop-holds c = leaving-start (c .before .args .text .now) (c .before .args .c) (c .before .pre)
 
 pass-of-requires : tie.Need-pass-of-requires Inv-loop μ-loop
-pass-of-requires c κs = omega (arith, c .before .loop .inv .deep, c .before .loop .inv .ready .high)
+pass-of-requires c κs = omega (arith, c .loop .inv .deep, c .loop .inv .ready .high)
 
 enum-told : tie.Need-enum-told Inv-loop μ-loop
 enum-told c = search needs
@@ -29,7 +29,7 @@ enum-told c = search needs
 returns : tie.Need-returns Inv-loop μ-loop
 returns c =
     let at-pass-of = c .before .before in
-    let at-loop = at-pass-of .before .before in
+    let at-loop = at-pass-of .before in
     let loop = at-loop .loop in
     let args = at-loop .before .before .args in
     leaving-halts
@@ -39,18 +39,18 @@ returns c =
     (loop .d)
     (loop .inv)
     (ap (λ (k : Kind). weigh k (loop .d)) (head-kind (args .text .now) (loop .m) (loop .inv .ready))
-    ∙ sym (at-pass-of .pass-of .ensures _) ∙ ap passOf (c .enum-told .given .1))
+    ∙ sym (at-pass-of .pass-of .ensures _ _) ∙ ap passOf (c .enum-told .given .1))
 
 enum-told-2 : tie.Need-enum-told-2 Inv-loop μ-loop
 enum-told-2 c = search needs
 
 advance-requires : tie.Need-advance-requires Inv-loop μ-loop
-advance-requires c κs = c .before .before .before .before .loop .inv .ready
+advance-requires c κs = c .before .before .before .loop .inv .ready
 
 returns-2 : tie.Need-returns-2 Inv-loop μ-loop
 returns-2 c =
     let at-pass-of = c .before .before .before in
-    let at-loop = at-pass-of .before .before in
+    let at-loop = at-pass-of .before in
     let loop = at-loop .loop in
     let args = at-loop .before .before .args in
     leaving-closes
@@ -62,27 +62,26 @@ returns-2 c =
     (c .advance .result)
     (c .advance .ensures)
     (ap (λ (k : Kind). weigh k (loop .d)) (head-kind (args .text .now) (loop .m) (loop .inv .ready))
-    ∙ sym (at-pass-of .pass-of .ensures _) ∙ ap passOf (c .before .enum-told2 .given .1))
+    ∙ sym (at-pass-of .pass-of .ensures _ _) ∙ ap passOf (c .before .enum-told2 .given .1))
 
 enum-known-e : tie.Need-enum-known-e Inv-loop μ-loop
 enum-known-e c = search needs
 
 advance-requires-2 : tie.Need-advance-requires-2 Inv-loop μ-loop
 advance-requires-2 c κs =
-    let c4 = c .before .before .before .before in
-    let at-loop = c4 .before in
+    let at-loop = c .before .before .before .before in
     at-loop .loop .inv .ready
 
 loop-less : tie.Need-loop-less Inv-loop μ-loop
 loop-less c =
     let at-e = c .before .before in
     let at-pass-of = at-e .before .before in
-    let at-loop = at-pass-of .before .before in
+    let at-loop = at-pass-of .before in
     let loop = at-loop .loop in
     let args = at-loop .before .before .args in
     let a = leaving-moves (args .text .now) (args .c) (loop .m) (loop .d) (loop .inv) (c .advance2 .result) (c .advance2 .ensures) _
     (ap (λ (k : Kind). weigh k (loop .d)) (head-kind (args .text .now) (loop .m) (loop .inv .ready))
-    ∙ sym (at-pass-of .pass-of .ensures _) ∙ ap passOf (at-e .e .given .1))
+    ∙ sym (at-pass-of .pass-of .ensures _ _) ∙ ap passOf (at-e .e .given .1))
     in
     omega (arith, c .advance2 .ensures .ready .high)
 
@@ -90,7 +89,7 @@ loop-again : tie.Need-loop-again Inv-loop μ-loop
 loop-again c =
     let at-e = c .before .before in
     let at-pass-of = at-e .before .before in
-    let at-loop = at-pass-of .before .before in
+    let at-loop = at-pass-of .before in
     let loop = at-loop .loop in
     let args = at-loop .before .before .args in
     leaving-goes
@@ -103,7 +102,7 @@ loop-again c =
     (c .advance2 .ensures)
     _
     (ap (λ (k : Kind). weigh k (loop .d)) (head-kind (args .text .now) (loop .m) (loop .inv .ready))
-    ∙ sym (at-pass-of .pass-of .ensures _) ∙ ap passOf (at-e .e .given .1))
+    ∙ sym (at-pass-of .pass-of .ensures _ _) ∙ ap passOf (at-e .e .given .1))
 
 pub past-group-spec : {M : Type 1} → statement M
 past-group-spec =

@@ -4,8 +4,14 @@ use borrow.Author.Needs.{needs}
 use Rattle.cursor.proofs.sees_word.Statement.{statement}
 use Rattle.cursor.proofs.sees_word.Tie as tie
 
-enum-known-k : tie.Need-enum-known-k
-enum-known-k c = search needs
+enum-told : tie.Need-enum-told
+enum-told c = search needs
+
+place-requires : tie.Need-place-requires
+place-requires c κs = search needs
+
+size-requires : tie.Need-size-requires
+size-requires c κs = search needs
 
 part-requires : tie.Need-part-requires
 part-requires c κs = search needs
@@ -13,37 +19,46 @@ part-requires c κs = search needs
 is-word-requires : tie.Need-is-word-requires
 is-word-requires c κs = search needs
 
-enum-told : tie.Need-enum-told
-enum-told c = search needs
-
 enum-told-2 : tie.Need-enum-told-2
 enum-told-2 c = search needs
 
 enum-told-3 : tie.Need-enum-told-3
 enum-told-3 c = search needs
 
+enum-told-4 : tie.Need-enum-told-4
+enum-told-4 c = search needs
+
 returns : tie.Need-returns
-returns c r = c .is-word .ensures ∙ (rw (r .head .kind, c .before .before .before .k .given .1, c .before .part .ensures))
+returns c =
+    let at-size = c .before .before in
+    let at-place = at-size .before in
+    let at-enum-told = at-place .before in
+    let start = at-enum-told .before .before .before .before in
+    c .is-word .ensures
+    ∙ (rw
+    (start .pre .head .kind, at-enum-told .enum-told .given .1, c .before .part .ensures, at-place .place .ensures, at-size .size .ensures))
 
 returns-2 : tie.Need-returns-2
-returns-2 c r = rw (r .head .kind, c .enum-told .given .1)
+returns-2 c = rw (c .before .before .before .before .pre .head .kind, c .enum-told2 .given .1)
 
 returns-3 : tie.Need-returns-3
-returns-3 c r = rw (r .head .kind, c .enum-told2 .given .1)
+returns-3 c = rw (c .before .before .before .before .pre .head .kind, c .enum-told3 .given .1)
 
 returns-4 : tie.Need-returns-4
-returns-4 c r = rw (r .head .kind, c .enum-told3 .given .1)
+returns-4 c = rw (c .before .before .before .before .pre .head .kind, c .enum-told4 .given .1)
 
 pub sees-word-spec : {M : Type 1} → statement M
 sees-word-spec =
     tie.close
     (tie.spec
-    enum-known-k
+    enum-told
+    place-requires
+    size-requires
     part-requires
     is-word-requires
-    enum-told
     enum-told-2
     enum-told-3
+    enum-told-4
     returns
     returns-2
     returns-3

@@ -1,6 +1,6 @@
 -- `cursor::truth` meets its contract. Assumes nothing.
-use Rattle.cursor.proofs.CursorLaws.{no-truth, took-false, took-true}
 use mathlib.Core.Path.{sym, _∙_}
+use Rattle.cursor.proofs.CursorLaws.{took-true, took-false, no-truth}
 use borrow.Author.Needs.{needs}
 use Rattle.cursor.proofs.truth.Statement.{statement}
 use Rattle.cursor.proofs.truth.Tie as tie
@@ -24,7 +24,7 @@ returns c =
     (c .advance .result)
     (start .pre)
     (c .advance .ensures)
-    (sym (at-sees-word .sees-word .ensures (start .pre)) ∙ c .before .if1 .taken)
+    (sym (at-sees-word .sees-word .ensures) ∙ c .before .if1 .taken)
 
 slice-aggregate-sees-word-2 : tie.Need-slice-aggregate-sees-word-2
 slice-aggregate-sees-word-2 c = search needs
@@ -47,8 +47,11 @@ returns-2 c =
     (c .advance2 .result)
     (start .pre)
     (c .advance2 .ensures)
-    (sym (at-sees-word .sees-word .ensures (start .pre)) ∙ at-if1 .if1 .left)
-    (sym (at-sees-word2 .sees-word2 .ensures (start .pre)) ∙ c .before .if2 .taken)
+    (sym (at-sees-word .sees-word .ensures) ∙ at-if1 .if1 .left)
+    (sym (at-sees-word2 .sees-word2 .ensures) ∙ c .before .if2 .taken)
+
+place-requires : tie.Need-place-requires
+place-requires c κs = search needs
 
 returns-3 : tie.Need-returns-3
 returns-3 c =
@@ -56,12 +59,9 @@ returns-3 c =
     let at-if1 = at-sees-word2 .before .before in
     let at-sees-word = at-if1 .before in
     let start = at-sees-word .before .before .before in
-    no-truth
-    (start .args .text .now)
-    (start .args .c)
-    (start .pre)
-    (sym (at-sees-word .sees-word .ensures (start .pre)) ∙ at-if1 .if1 .left)
-    (sym (at-sees-word2 .sees-word2 .ensures (start .pre)) ∙ c .before .if2 .left)
+    rw (c .place .ensures)
+    (no-truth (start .args .text .now) (start .args .c) (start .pre) (sym (at-sees-word .sees-word .ensures) ∙ at-if1 .if1 .left)
+    (sym (at-sees-word2 .sees-word2 .ensures) ∙ c .before .if2 .left))
 
 pub truth-spec : {M : Type 1} → statement M
 truth-spec =
@@ -75,4 +75,5 @@ truth-spec =
     sees-word-requires-2
     advance-requires-2
     returns-2
+    place-requires
     returns-3)

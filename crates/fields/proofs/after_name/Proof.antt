@@ -1,10 +1,8 @@
 -- `fields::after_name` meets its contract. Assumes nothing.
-use Rattle.fields.proofs.FieldLaws.{looked-up}
-use mathlib.Core.Path.{ap, sym, _∙_}
 use Rattle.text.specs.Bytes.{at}
+use mathlib.Core.Path.{ap, _∙_}
 use Rattle.text.specs.Means.{placeOf}
-use Rattle.fields.proofs.FieldLaws.{row-found, row-none}
-use Rattle.cursor.proofs.CursorLaws.{took}
+use Rattle.fields.proofs.FieldLaws.{looked-up, row-found, row-none}
 use borrow.Author.Needs.{needs}
 use Rattle.fields.proofs.after_name.Statement.{statement}
 use Rattle.fields.proofs.after_name.Tie as tie
@@ -30,6 +28,9 @@ enum-known-i c = search needs
 enum-told : tie.Need-enum-told
 enum-told c = search needs
 
+place-requires : tie.Need-place-requires
+place-requires c κs = search needs
+
 returns : tie.Need-returns
 returns c t e = let h = rw (c .before .p .given .1) at (c .before .before .before .mark .ensures) in rw h
 
@@ -54,7 +55,7 @@ returns-3 c t e =
     let f = row-none t _
     (looked-up t _ _ _ _ e (at-part .part .ensures) (at-find .find .ensures) ∙ ap placeOf (c .before .enum-told .given .1))
     in
-    rw (m .is, f, m .ready .head .place)
+    rw (m .is, f, m .ready .head .place, c .place .ensures)
 
 pub after-name-spec : {M : Type 1} → statement M
 after-name-spec =
@@ -67,6 +68,7 @@ after-name-spec =
     find-requires
     enum-known-i
     enum-told
+    place-requires
     returns
     returns-2
     returns-3)

@@ -1,7 +1,6 @@
 -- `fields::field_name` meets its contract. Assumes nothing.
-use Rattle.fields.proofs.FieldLaws.{named}
 use mathlib.Core.Path.{sym, _∙_}
-use Rattle.fields.proofs.FieldLaws.{took-loop}
+use Rattle.fields.proofs.FieldLaws.{took-loop, named}
 use borrow.Author.Needs.{needs}
 use Rattle.fields.proofs.field_name.Statement.{statement}
 use Rattle.fields.proofs.field_name.Tie as tie
@@ -12,6 +11,9 @@ slice-aggregate-sees-word c = search needs
 sees-word-requires : tie.Need-sees-word-requires
 sees-word-requires c κs = search needs
 
+place-requires : tie.Need-place-requires
+place-requires c κs = search needs
+
 advance-requires : tie.Need-advance-requires
 advance-requires c κs = search needs
 
@@ -20,13 +22,9 @@ returns c =
     let at-if1 = c .before .before in
     let at-sees-word = at-if1 .before in
     let start = at-sees-word .before .before .before in
-    took-loop
-    (start .args .text .now)
-    (start .args .c)
-    (c .advance .result)
-    (start .pre)
-    (c .advance .ensures)
-    (sym (at-sees-word .sees-word .ensures (start .pre)) ∙ at-if1 .if1 .taken)
+    rw (c .before .place .ensures)
+    (took-loop (start .args .text .now) (start .args .c) (c .advance .result) (start .pre) (c .advance .ensures)
+    (sym (at-sees-word .sees-word .ensures) ∙ at-if1 .if1 .taken))
 
 word-requires : tie.Need-word-requires
 word-requires c κs = search needs
@@ -34,9 +32,8 @@ word-requires c κs = search needs
 returns-2 : tie.Need-returns-2
 returns-2 c =
     let at-sees-word = c .before .before in
-    let start = at-sees-word .before .before .before in
-    named (start .args .text .now) (start .args .c) (c .word .result)
-    (sym (at-sees-word .sees-word .ensures (start .pre)) ∙ c .before .if1 .left) (c .word .ensures)
+    let args = at-sees-word .before .before .before .args in
+    named (args .text .now) (args .c) (c .word .result) (sym (at-sees-word .sees-word .ensures) ∙ c .before .if1 .left) (c .word .ensures)
 
 pub field-name-spec : {M : Type 1} → statement M
 field-name-spec =
@@ -44,6 +41,7 @@ field-name-spec =
     (tie.spec
     slice-aggregate-sees-word
     sees-word-requires
+    place-requires
     advance-requires
     returns
     word-requires

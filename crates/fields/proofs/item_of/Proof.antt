@@ -17,18 +17,18 @@ has-requires c κs = search needs
 
 returns : tie.Need-returns
 unfolding itemOf
-returns c t = rw (c .before .before .before .before .k .given .1, sym (c .before .has .ensures) ∙ c .if1 .taken)
+returns c t n = rw (c .before .before .before .before .k .given .1, sym (c .before .has .ensures) ∙ c .if1 .taken)
 
 returns-2 : tie.Need-returns-2
 unfolding itemOf
-returns-2 c t =
+returns-2 c t n =
     let at-has = c .before .before in
     let at-k = at-has .before .before .before in
     rw (at-k .k .given .1, sym (at-has .has .ensures) ∙ c .before .if1 .left, c .if2 .taken)
 
 returns-3 : tie.Need-returns-3
 unfolding itemOf
-returns-3 c t =
+returns-3 c t n =
     let at-if1 = c .before .before in
     let at-has = at-if1 .before in
     let at-k = at-has .before .before .before in
@@ -45,7 +45,7 @@ enum-told-3 c = search needs
 
 returns-4 : tie.Need-returns-4
 unfolding itemOf
-returns-4 c t =
+returns-4 c t n =
     let at-if1 = c .before .before in
     let at-has = at-if1 .before in
     let at-k = at-has .before .before .before in
@@ -53,15 +53,15 @@ returns-4 c t =
 
 returns-5 : tie.Need-returns-5
 unfolding itemOf
-returns-5 c t = rw (c .enum-told .given .1)
+returns-5 c t n = rw (c .enum-told .given .1)
 
 returns-6 : tie.Need-returns-6
 unfolding itemOf
-returns-6 c t = rw (c .enum-told2 .given .1)
+returns-6 c t n = rw (c .enum-told2 .given .1)
 
 returns-7 : tie.Need-returns-7
 unfolding itemOf
-returns-7 c t = rw (c .enum-told3 .given .1)
+returns-7 c t n = rw (c .enum-told3 .given .1)
 
 pub item-of-spec : {M : Type 1} → statement M
 item-of-spec =

@@ -21,9 +21,9 @@ use Rattle.fields.proofs.parse_field_list.Tie as tie
 
 -- what the head of m is to the list
 item : (s : List ℕ) (m : Cursor) (r : Ready s m) (x y : Item)
-    → ((t : List ℕ) → itemIs x ≡ itemOf (kindOf t (m .head .tok)))
+    → ((t : List ℕ) (n : ℕ) → itemIs x ≡ itemOf (kindOf t n (m .kind)))
     → x ≡ y → itemOf (kind (tokens s m)) ≡ itemIs y
-item s m r x y h e = ap itemOf (r .head .kind) ∙ sym (h _) ∙ ap itemIs e
+item s m r x y h e = ap itemOf (r .head .kind) ∙ sym (h _ _) ∙ ap itemIs e
 
 abbrev Inv-loop : tie.InvT-loop
 Inv-loop text rows m₀ m = Passed text m₀ m
@@ -45,7 +45,7 @@ enum-told c = search needs
 returns : tie.Need-returns Inv-loop μ-loop
 returns c t e =
     let at-item-of = c .before .before in
-    let at-loop = at-item-of .before .before in
+    let at-loop = at-item-of .before in
     let loop = at-loop .loop in
     let args = at-loop .before .before .before .args in (
       loop .inv .ready,
@@ -59,12 +59,12 @@ enum-told-2 : tie.Need-enum-told-2 Inv-loop μ-loop
 enum-told-2 c = search needs
 
 advance-requires : tie.Need-advance-requires Inv-loop μ-loop
-advance-requires c κs = c .before .before .before .before .loop .inv .ready
+advance-requires c κs = c .before .before .before .loop .inv .ready
 
 returns-2 : tie.Need-returns-2 Inv-loop μ-loop
 returns-2 c t e =
     let at-item-of = c .before .before .before in
-    let at-loop = at-item-of .before .before in
+    let at-loop = at-item-of .before in
     let loop = at-loop .loop in
     let args = at-loop .before .before .before .args in (
       c .advance .ensures .ready,
@@ -79,12 +79,12 @@ enum-told-3 : tie.Need-enum-told-3 Inv-loop μ-loop
 enum-told-3 c = search needs
 
 advance-requires-2 : tie.Need-advance-requires-2 Inv-loop μ-loop
-advance-requires-2 c κs = c .before .before .before .before .loop .inv .ready
+advance-requires-2 c κs = c .before .before .before .loop .inv .ready
 
 loop-less : tie.Need-loop-less Inv-loop μ-loop
 loop-less c =
     let at-item-of = c .before .before .before in
-    let at-loop = at-item-of .before .before in
+    let at-loop = at-item-of .before in
     let loop = at-loop .loop in
     let args = at-loop .before .before .before .args in
     let a = passes-moves (args .text .now) [] (loop .m) (loop .inv .ready) (c .advance2 .result) (c .advance2 .ensures)
@@ -95,7 +95,7 @@ loop-less c =
 loop-again : tie.Need-loop-again Inv-loop μ-loop
 loop-again c =
     let at-item-of = c .before .before .before in
-    let at-loop = at-item-of .before .before in
+    let at-loop = at-item-of .before in
     let loop = at-loop .loop in
     let args = at-loop .before .before .before .args in
     passed-on
@@ -111,12 +111,12 @@ enum-told-4 : tie.Need-enum-told-4 Inv-loop μ-loop
 enum-told-4 c = search needs
 
 start-field-requires : tie.Need-start-field-requires Inv-loop μ-loop
-start-field-requires c κs = c .before .before .before .before .loop .inv .ready
+start-field-requires c κs = c .before .before .before .loop .inv .ready
 
 returns-3 : tie.Need-returns-3 Inv-loop μ-loop
 returns-3 c t e =
     let at-item-of = c .before .before .before in
-    let at-loop = at-item-of .before .before in
+    let at-loop = at-item-of .before in
     let loop = at-loop .loop in
     let args = at-loop .before .before .before .args in
     passed-field

@@ -1,12 +1,10 @@
+-- `heads::grid_inside` meets its contract. Assumes nothing.
+use Rattle.text.specs.Bytes.{at}
 use Rattle.heads.specs.Means.{gridInside}
 use Rattle.heads.proofs.HeadLaws.{no-cols, no-rows, took-grid}
 use borrow.Author.Needs.{needs}
 use Rattle.heads.proofs.grid_inside.Statement.{statement}
 use Rattle.heads.proofs.grid_inside.Tie as tie
-use Rattle.heads.proofs.grid_inside.Reads as reads
-use Rattle.heads.proofs.grid_inside.Lts as lts
-use Rattle.heads.proofs.case_or.Reads as case-or-reads
-use Rattle.heads.proofs.grid_fields.Reads as grid-fields-reads
 
 grid-fields-requires : tie.Need-grid-fields-requires
 grid-fields-requires c κs = search needs
@@ -17,6 +15,9 @@ enum-known-r c = search needs
 enum-known-f : tie.Need-enum-known-f
 enum-known-f c = search needs
 
+place-requires : tie.Need-place-requires
+place-requires c κs = search needs
+
 enum-known-counted : tie.Need-enum-known-counted
 enum-known-counted c = search needs
 
@@ -25,11 +26,13 @@ enum-told c = search needs
 
 returns : tie.Need-returns
 returns c =
-    let at-f = c .before .before .before .before in
+    let at-place = c .before .before in
+    let at-f = at-place .before .before in
     let at-grid-fields = at-f .before .before in
     let args = at-grid-fields .before .before .args in
-    no-cols (args .text .now) (args .c) _ (at-f .f .given .0 .0) (rw (at-f .f .given .1) at (at-grid-fields .grid-fields .ensures))
-    (c .enum-told .given .1)
+    rw (at-place .place .ensures)
+    (no-cols (args .text .now) (args .c) _ (at-f .f .given .0 .0) (rw (at-f .f .given .1) at (at-grid-fields .grid-fields .ensures))
+    (c .enum-told .given .1))
 
 enum-known-counted-rows : tie.Need-enum-known-counted-rows
 enum-known-counted-rows c = search needs
@@ -40,18 +43,14 @@ enum-told-2 c = search needs
 returns-2 : tie.Need-returns-2
 returns-2 c =
     let at-counted = c .before .before .before in
-    let at-f = at-counted .before .before .before .before in
+    let at-place = at-counted .before .before in
+    let at-f = at-place .before .before in
     let at-grid-fields = at-f .before .before in
     let args = at-grid-fields .before .before .args in
-    no-rows
-    (args .text .now)
-    (args .c)
-    _
-    (at-f .f .given .0 .0)
-    (rw (at-f .f .given .1) at (at-grid-fields .grid-fields .ensures))
-    _
+    rw (at-place .place .ensures)
+    (no-rows (args .text .now) (args .c) _ (at-f .f .given .0 .0) (rw (at-f .f .given .1) at (at-grid-fields .grid-fields .ensures)) _
     (at-counted .counted .given .1)
-    (c .enum-told2 .given .1)
+    (c .enum-told2 .given .1))
 
 case-or-requires : tie.Need-case-or-requires
 case-or-requires c κs = search needs
@@ -67,16 +66,9 @@ returns-4 c =
     let at-f = at-counted .before .before .before .before in
     let at-grid-fields = at-f .before .before in
     let args = at-grid-fields .before .before .args in (
-      took-grid
-          (args .text .now)
-          (args .c)
-          _
-          (at-f .f .given .0 .0)
-          (rw (at-f .f .given .1) at (at-grid-fields .grid-fields .ensures))
-          _ _ _
-          (at-counted .counted .given .1)
-          (at-counted-rows .counted-rows .given .1)
-          (c .case-or .ensures),
+      took-grid (args .text .now) (args .c) _ (at-f .f .given .0 .0) (rw (at-f .f .given .1) at (at-grid-fields .grid-fields .ensures))
+          _ _ _ (at-counted .counted .given .1)
+          (at-counted-rows .counted-rows .given .1) (c .case-or .ensures),
       tt,
     )
 
@@ -87,6 +79,7 @@ grid-inside-spec =
     grid-fields-requires
     enum-known-r
     enum-known-f
+    place-requires
     enum-known-counted
     enum-told
     returns

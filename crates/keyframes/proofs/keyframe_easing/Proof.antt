@@ -13,7 +13,7 @@ returns : tie.Need-returns
 returns c =
     let start = c .before .before .before in (
       no-easing (start .args .text .now) (start .args .c) (start .pre)
-          (sym (c .before .sees-name .ensures (start .pre)) ∙ not-true (c .before .sees-name .result) (c .if1 .taken)),
+          (sym (c .before .sees-name .ensures) ∙ not-true (c .before .sees-name .result) (c .if1 .taken)),
       tt,
     )
 
@@ -35,7 +35,7 @@ returns-2 c =
     easing-refused
     (start .args .text .now)
     (start .args .c)
-    (sym (at-sees-name .sees-name .ensures (start .pre)) ∙ not-false (at-sees-name .sees-name .result) (at-if1 .if1 .left))
+    (sym (at-sees-name .sees-name .ensures) ∙ not-false (at-sees-name .sees-name .result) (at-if1 .if1 .left))
     _ _
     (rw (c .before .r .given .1) at (at-parse-easing .parse-easing .ensures))
 
@@ -49,7 +49,7 @@ returns-3 c =
       easing-took
           (start .args .text .now)
           (start .args .c)
-          (sym (at-sees-name .sees-name .ensures (start .pre)) ∙ not-false (at-sees-name .sees-name .result) (at-if1 .if1 .left))
+          (sym (at-sees-name .sees-name .ensures) ∙ not-false (at-sees-name .sees-name .result) (at-if1 .if1 .left))
           _ _
           (t .0),
       t .1,

@@ -20,6 +20,9 @@ percent-sign-requires c κs = (rw (c .before .negative .given .1) at (c .before 
 all-requires : tie.Need-all-requires
 all-requires c κs = search needs
 
+place-requires : tie.Need-place-requires
+place-requires c κs = search needs
+
 returns : tie.Need-returns
 returns c =
     let at-all = c .before .before in
@@ -27,8 +30,9 @@ returns c =
     let at-negative = at-percent-sign .before .before in
     let at-number = at-negative .before .before in
     let args = at-number .before .before .args in
-    percent-suffix (args .text .now) (args .c) _ _ _ _ (rw (at-negative .negative .given .1) at (at-number .number .ensures)) _
-    (at-percent-sign .percent-sign .ensures) (sym (at-all .all .ensures) ∙ c .before .if1 .taken)
+    rw (c .place .ensures)
+    (percent-suffix (args .text .now) (args .c) _ _ _ _ (rw (at-negative .negative .given .1) at (at-number .number .ensures)) _
+    (at-percent-sign .percent-sign .ensures) (sym (at-all .all .ensures) ∙ c .before .if1 .taken))
 
 time-of-requires : tie.Need-time-of-requires
 time-of-requires c κs =
@@ -69,6 +73,7 @@ parse-keyframe-time-spec =
     enum-known-negative
     percent-sign-requires
     all-requires
+    place-requires
     returns
     time-of-requires
     returns-2

@@ -39,7 +39,7 @@ returns-2 c =
     (args .t)
     (sym (at-ends .ends .ensures (args .text .now) (start .pre .ready)) ∙ at-if1 .if1 .left)
     (c .track-loop .result)
-    (sym (at-sees-word .sees-word .ensures (start .pre .ready)) ∙ c .before .if2 .taken)
+    (sym (at-sees-word .sees-word .ensures) ∙ c .before .if2 .taken)
     (c .track-loop .ensures (args .sheet .now))
 
 track-frame-requires : tie.Need-track-frame-requires
@@ -64,7 +64,7 @@ returns-3 c =
     (args .t)
     (sym (at-ends .ends .ensures (args .text .now) (start .pre .ready)) ∙ at-if1 .if1 .left)
     (at-track-frame .track-frame .result)
-    (sym (at-sees-word .sees-word .ensures (start .pre .ready)) ∙ at-if2 .if2 .left)
+    (sym (at-sees-word .sees-word .ensures) ∙ at-if2 .if2 .left)
     (at-track-frame .track-frame .ensures)
 
 pub track-step-spec : {M : Type 1} → statement M

@@ -1,5 +1,5 @@
 -- `reader::new` meets its contract. Assumes nothing.
--- A walk of its MIR, by hand: `readable` gives the part of the text that is read and `first_cursor` a cursor in it, and a reader is made
+-- A walk of its MIR, by hand: `readable` gives the part of the text that is read and `cursor::first` a cursor in it, and a reader is made
 -- of both. All that is known of either is that it meets its contract.
 -- A `&[u8]` is Copy, so what it owns is had for the callee, for the exit and for the result.
 use mathlib.Core.Path.{_≡_, refl, subst⁻¹}
@@ -38,9 +38,8 @@ use denote.Triple.Table.{entered, cited}
 use denote.Triple.Walked.{says, Stays, stay-none-slice, walkOf, goes-none-slice, Walks, ends-at, walked, walk-meets}
 use denote.Exit.{yes}
 use denote.Triple.Clauses.{ensured, lasts}
-use Rattle.cursor.specs.Means.{Ready}
+use Rattle.cursor.specs.Means.{nothing as unnoted, Begins}
 use Rattle.cursor.specs.declared.Cursor.{Cursor}
-use Rattle.cursor.specs.declared.Left.the-variants.{Nothing}
 use Rattle.cursor.proofs.Cursor as Cu
 use Rattle.text.specs.Limits.{textLimit}
 use Rattle.reader.specs.Reader.{readable}
@@ -51,10 +50,10 @@ use Rattle.reader.proofs.readable as part
 use Rattle.reader.proofs.readable.Symbol as part-def
 use Rattle.reader.proofs.readable.Symbol.{name as #reader·readable}
 use Rattle.reader.proofs.readable.Met as part-thm
-use Rattle.reader.proofs.first_cursor as first
-use Rattle.reader.proofs.first_cursor.Symbol as first-def
-use Rattle.reader.proofs.first_cursor.Symbol.{name as #reader·first-cursor}
-use Rattle.reader.proofs.first_cursor.Met as first-thm
+use Rattle.cursor.proofs.first as first
+use Rattle.cursor.proofs.first.Symbol as first-def
+use Rattle.cursor.proofs.first.Symbol.{name as #cursor·first}
+use Rattle.cursor.proofs.first.Met as first-thm
 use Rattle.reader.proofs.new.Key.{name as #reader·new}
 use Rattle.reader.proofs.new as new
 use Rattle.reader.proofs.new.Statement as stated
@@ -82,7 +81,7 @@ module _ {M : Type 1} (𝓤 : URA M) (H : Heap 𝓤) (A : Atoms 𝓤) (W : Given
   Read r = now r ≡ readable (now s)
 
   abbrev Means : RefT (List ℕ) → Cursor → Type 0
-  Means r c = Ready (now r) c × (c .at ≡ 0) × (c .left ≡ Nothing)
+  Means r c = Begins (now r) 0 unnoted c
 
   read-short : (r : RefT (List ℕ)) → Read r → length (now r) ≤ textLimit
   read-short r e = subst⁻¹ (λ (l : List ℕ). length l ≤ textLimit) e (readable-short (now s))
@@ -113,7 +112,7 @@ module _ {M : Type 1} (𝓤 : URA M) (H : Heap 𝓤) (A : Atoms 𝓤) (W : Given
   part-said : (r : RefT (List ℕ)) → ent 𝓤 (ensured 𝓤 H A part.ended (part.clauses 𝓤 H A mem run) (κ, tt) (s, tt) tt r) (fact 𝓤 (Read r))
   part-said r = exE 𝓤 _ (λ ws. snd∗ 𝓤 (sem 𝓤 H A (lasts part.ended (κ, tt) (s, tt) ws)) (fact 𝓤 (Read r)))
 
-  -- the call of `first_cursor`, at the part r with the machine value u
+  -- the call of `cursor::first`, at the part r with the machine value u
   abbrev to-first : RefT (List ℕ) → Val → First 𝓤 H A mem run .Ghost
   to-first r u = (((κ, tt), (q, tt), tt, (r, tt), (u ∷ [], tt)), tt)
 
@@ -133,13 +132,13 @@ module _ {M : Type 1} (𝓤 : URA M) (H : Heap 𝓤) (A : Atoms 𝓤) (W : Given
   exits r u of e c w is f =
       qed W (‵ (Cu.the-row .own c (w ∷ [])) ∷ (‵ (flft κ q) ⊛ ‵ ftrue) ∷ ‵ (Own r u) ∷ ‵ (Own s v) ∷ []) ∵
       suffices ! _ (ends-at 𝓤 H A new.ended stayed (new.clauses 𝓤 H A mem run) W (((κ, tt), (q, tt), tt, (s, tt), (v ∷ [], tt)), tt)
-      (builtVal u w) (reader r c) (tt, tt) (tt, tt)) $ says ! (e, f .0, f .1, f .2) $
+      (builtVal u w) (reader r c) (tt, tt) (tt, tt)) $ says ! (e, f) $
       move ! (1 ∷ []) $ frame ! $ move ! (2 ∷ []) $
       -- [what the text owns; what the cursor owns; what the part owns]
       nothing ! $ move ! (1 ∷ 0 ∷ []) $ fjoin ! $ frame ! $ move ! (1 ∷ []) $ by ! (built 𝓤 H A W κ (reader r c) u w of is)
 
   module _ (C : Calls 𝓤 H) (Λ : Loops 𝓤 H) (fm : FmC 𝓤 H (W .laws) C) (known-part : Triple 𝓤 (C #reader·readable) (Part 𝓤 H A mem run))
-      (known-first : Triple 𝓤 (C #reader·first-cursor) (First 𝓤 H A mem run)) where
+      (known-first : Triple 𝓤 (C #cursor·first) (First 𝓤 H A mem run)) where
     walk : Is (ShrSlice (named 0) κ u8) s (v ∷ [])
         → ent 𝓤 (onEntry 𝓤 H A new.signature (κ, tt) (q, tt) (s, tt) (v ∷ [], tt)) (WpFn 𝓤 H C Λ code.function (v ∷ []) Post)
     walk p =
@@ -158,7 +157,7 @@ module _ {M : Type 1} (𝓤 : URA M) (H : Heap 𝓤) (A : Atoms 𝓤) (W : Given
         peeks ! (ShrSlice (named 0) κ u8) (Is (ShrSlice (named 0) κ u8)) (shows 𝓤 H A (ShrSlice (named 0) κ u8)) r (u ∷ []) (λ of.
         land ! (from ! (stop !)) (init ! 5 refl (shr-slice-lawful 𝓤 H A W erased κ u8 .typed r (u ∷ []) of .0)) $
         use1 W (‵ (Own r u) ⊛ ‵ (Own r u)) (shr-slice-copy 𝓤 H A W (named 0) κ u8 .twice r (u ∷ [])) $ split ! $ move ! (0 ∷ 2 ∷ []) $
-        -- `first_cursor`
+        -- `cursor::first`
         use2 W (raw (First 𝓤 H A mem run .pre (to-first r u))) (goes-first r u e) $
         calls-at ! fm (First 𝓤 H A mem run) known-first (to-first r u) (and-then ! (load ! (from ! (stop !)) (look ! 5 refl)) (no-more !))
         (λ w.
@@ -178,7 +177,7 @@ module _ {M : Type 1} (𝓤 : URA M) (H : Heap 𝓤) (A : Atoms 𝓤) (W : Given
 
 module _ {M : Type 1} (𝓤 : URA M) (H : Heap 𝓤) (A : Atoms 𝓤) (W : Given 𝓤 H A) (mem : Memory → SProp 𝓤) (run : Routine → Fun 𝓤) where
   new-walks : (C : Calls 𝓤 H) (Λ : Loops 𝓤 H) → FmC 𝓤 H (W .laws) C
-      → Triple 𝓤 (C #reader·readable) (Part 𝓤 H A mem run) → Triple 𝓤 (C #reader·first-cursor) (First 𝓤 H A mem run)
+      → Triple 𝓤 (C #reader·readable) (Part 𝓤 H A mem run) → Triple 𝓤 (C #cursor·first) (First 𝓤 H A mem run)
       → Walks 𝓤 H A new.ended stayed (WpFn 𝓤 H C Λ code.function) (new.clauses 𝓤 H A mem run)
   new-walks C Λ fm known-part known-first =
       walked 𝓤 H A new.ended stayed (new.clauses 𝓤 H A mem run) (WpFn 𝓤 H C Λ code.function) (λ κs. (slice-vals, tt))
@@ -188,7 +187,7 @@ module _ {M : Type 1} (𝓤 : URA M) (H : Heap 𝓤) (A : Atoms 𝓤) (W : Given
 
 new-meets : {M : Type 1} (𝓤 : URA M) (H : Heap 𝓤) (A : Atoms 𝓤) (W : Given 𝓤 H A) (mem : Memory → SProp 𝓤) (run : Routine → Fun 𝓤)
     (𝓣 : Tables 𝓤 H)
-    → Triple 𝓤 (𝓣 .C #reader·readable) (Part 𝓤 H A mem run) → Triple 𝓤 (𝓣 .C #reader·first-cursor) (First 𝓤 H A mem run)
+    → Triple 𝓤 (𝓣 .C #reader·readable) (Part 𝓤 H A mem run) → Triple 𝓤 (𝓣 .C #cursor·first) (First 𝓤 H A mem run)
     → Meets 𝓤 H A new.signature (WpFn 𝓤 H (𝓣 .C) (𝓣 .Λ) code.function) (new.spec 𝓤 H A mem run)
 new-meets 𝓤 H A W mem run 𝓣 known-part known-first =
     walk-meets 𝓤 H A new.ended stayed W (goes-none-slice 𝓤 H A W 1 (0 ∷ []) tt (plain (λ _. u8)) yes, tt) (new.clauses 𝓤 H A mem run)
@@ -203,5 +202,5 @@ new-spec 𝓤 H 𝓜 𝓖 𝓡 =
     (new-meets 𝓤 H (𝓖 .A) (givenOf 𝓤 H 𝓜 𝓖) (𝓜 .mem) (𝓡 .run) (tablesOf 𝓤 H 𝓜 (tables 𝓤 H 𝓜 𝓡 code.env))
     (cited 𝓤 H (Part 𝓤 H (𝓖 .A) (𝓜 .mem) (𝓡 .run)) 𝓜 𝓡 code.env #reader·readable part-def.routine code.calls-reader·readable
     (part-thm.met 𝓤 H 𝓜 𝓖 𝓡))
-    (cited 𝓤 H (First 𝓤 H (𝓖 .A) (𝓜 .mem) (𝓡 .run)) 𝓜 𝓡 code.env #reader·first-cursor first-def.routine code.calls-reader·first-cursor
+    (cited 𝓤 H (First 𝓤 H (𝓖 .A) (𝓜 .mem) (𝓡 .run)) 𝓜 𝓡 code.env #cursor·first first-def.routine code.calls-cursor·first
     (first-thm.met 𝓤 H 𝓜 𝓖 𝓡)))

@@ -85,7 +85,7 @@ returns-4 c =
     (rw e (sym (at-in-class2 .in-class2 .ensures) ∙ at-if2 .if2 .left)) (rw e (ne-eqb _ 34 (at-if3 .if3 .left)))
     (rw e (sym (c .before .is-mark .ensures) ∙ c .if4 .taken))
     in
-    record { is = rw e at q; sized = tt }
+    record { is = rw e at q; stands = tt }
 
 returns-5 : tie.Need-returns-5
 returns-5 c =

@@ -1,6 +1,6 @@
 -- `token::name_at` meets its contract. Assumes nothing.
 use mathlib.Core.Bool.{false, true}
-use mathlib.Core.Path.{refl, sym, _∙_}
+use mathlib.Core.Path.{sym, _∙_}
 use native.Mathlib.Nat.{zero-add}
 use borrow.Author.Needs.{needs}
 use borrow.Author.Tests.{eq-eqb, ne-eqb}
@@ -28,7 +28,7 @@ returns-2 c =
     record {
       is = name-is (start .args .t .now) (at-run-end .run-end .result) false (at-run-end .run-end .ensures ∙ zero-add _)
           (ne-eqb _ 34 (λ q. c .if1 .left (c .before .byte-at .ensures ∙ q)));
-      sized = refl;
+      stands = tt;
     }
 
 pub name-at-spec : {M : Type 1} → statement M

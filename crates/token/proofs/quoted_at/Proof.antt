@@ -5,7 +5,6 @@ use native.Mathlib.Omega.{arith}
 use borrow.Author.Needs.{needs}
 use borrow.Author.Tests.{eq-eqb, ne-eqb}
 use Rattle.token.proofs.LexLaws.{inside, quoted-at-is}
-use Rattle.token.proofs.NameLaws.{sized}
 use Rattle.token.proofs.quoted_at.Statement.{statement}
 use Rattle.token.proofs.quoted_at.Tie as tie
 
@@ -43,9 +42,6 @@ returns c =
     (eq-eqb _ 34 (sym (at-byte-at .byte-at .ensures) ∙ at-if1 .if1 .taken))
     (rw (sym (at-byte-at2 .byte-at2 .ensures)) (sym (c .before .in-class .ensures) ∙ c .if2 .taken))
 
-sub-size : tie.Need-sub-size
-sub-size c = search needs
-
 returns-2 : tie.Need-returns-2
 returns-2 c =
     let at-byte-at2 = c .before .before in
@@ -61,7 +57,7 @@ returns-2 c =
           (at-run-end .run-end .ensures)
           (eq-eqb _ 34 (sym (at-byte-at .byte-at .ensures) ∙ at-if1 .if1 .taken))
           (rw (sym (at-byte-at2 .byte-at2 .ensures)) (sym (c .before .in-class .ensures) ∙ c .if2 .left));
-      sized = tt;
+      stands = omega (arith, at-run-end .run-end .ensures);
     }
 
 returns-3 : tie.Need-returns-3
@@ -81,6 +77,5 @@ quoted-at-spec =
     byte-at-requires-2
     in-class-requires
     returns
-    sub-size
     returns-2
     returns-3)

@@ -91,7 +91,7 @@ returns-3 c =
     let m = rw (rest-of (args .text .now) (run-end .result), at-k .k .given .1) at (at-first .first .ensures) in
     rw (c .halt2 .ensures)
     (sym (over-unfit (args .text .now) (args .at) (run-end .result) (run-end .ensures) _ (omega arith) _ _ m _
-    (rw (at-r2 .r2 .given .1) at (at-nest .nest .ensures (drop (run-end .result) (args .text .now))))))
+    (rw (at-r2 .r2 .given .1) at (at-nest .nest .ensures (drop (run-end .result) (args .text .now)) (at-k .k .given .0 .1 .0)))))
 
 same-length-2 : tie.Need-same-length-2
 same-length-2 c = search needs
@@ -114,7 +114,7 @@ returns-4 c =
     _
     (omega arith)
     _ _ m _ _
-    (rw (at-d .d .given .1) at (at-nest .nest .ensures (drop (run-end .result) (args .text .now))))
+    (rw (at-d .d .given .1) at (at-nest .nest .ensures (drop (run-end .result) (args .text .now)) (at-k .k .given .0 .1 .0)))
 
 pub step-spec : {M : Type 1} → statement M
 step-spec =

@@ -1,25 +1,26 @@
--- `token::token` meets its contract; what stands behind the blanks is what `first` finds there. Assumes nothing.
-use native.Mathlib.Omega.{arith}
-use lib.ListN.{length-drop}
-use borrow.Author.Needs.{needs}
+-- `token::token` meets its contract. Assumes nothing.
 use Rattle.text.specs.Bytes.{at}
-use Rattle.token.proofs.TokenLaws.{rest-of, lexes-end, lexes-bad, lexes-piece}
-use Rattle.token.proofs.WholeLaws.{whole-of}
+use native.Mathlib.Omega.{arith}
+use Rattle.token.proofs.TokenLaws.{rest-of, start-high, piece-high, lexes-end, lexes-bad, lexes-piece}
+use borrow.Author.Needs.{needs}
 use Rattle.token.proofs.token.Statement.{statement}
 use Rattle.token.proofs.token.Tie as tie
 
 run-end-requires : tie.Need-run-end-requires
 run-end-requires c κs = search needs
 
-end-at-requires : tie.Need-end-at-requires
-end-at-requires c κs = search needs
+token-at-requires : tie.Need-token-at-requires
+token-at-requires c κs =
+    let start = c .before .before .before in
+    let h = start-high (start .args .text .now) (start .args .at) _ (c .before .run-end .ensures) (start .pre .0) in
+    (omega arith, omega arith)
 
 returns : tie.Need-returns
 returns c =
     let at-run-end = c .before .before in
-    let args = at-run-end .before .before .args in
-    rw (c .end-at .ensures)
-    (lexes-end (args .text .now) (args .at) (at-run-end .run-end .result) (at-run-end .run-end .ensures) (omega arith))
+    let start = at-run-end .before .before in
+    rw (c .token-at .ensures)
+    (lexes-end (start .args .text .now) (start .args .at) _ (at-run-end .run-end .ensures) (start .pre .0) (c .before .if1 .taken))
 
 sub-first : tie.Need-sub-first
 sub-first c = search needs
@@ -36,57 +37,67 @@ first-requires c κs = search needs
 enum-told : tie.Need-enum-told
 enum-told c = search needs
 
-end-at-requires-2 : tie.Need-end-at-requires-2
-end-at-requires-2 c κs = search needs
+token-at-requires-2 : tie.Need-token-at-requires-2
+token-at-requires-2 c κs = search needs
 
 enum-known-k : tie.Need-enum-known-k
 enum-known-k c = search needs
 
-add-next : tie.Need-add-next
-add-next c =
+add-token-at : tie.Need-add-token-at
+add-token-at c =
     let at-first = c .before .before .before in
-    let at-run-end = at-first .before .before .before in
-    let start = at-run-end .before .before in
-    let m = rw (rest-of (start .args .text .now) (at-run-end .run-end .result), c .before .k .given .1) at (at-first .first .ensures) in
-    omega (arith, rw length-drop at (whole-of _ _ _ (m .is) .high))
+    let at-if1 = at-first .before .before in
+    let at-run-end = at-if1 .before in
+    let args = at-run-end .before .before .args in
+    let m = rw (rest-of (args .text .now) (at-run-end .run-end .result), c .before .k .given .1) at (at-first .first .ensures) in
+    omega (arith, piece-high (args .text .now) (args .at) _ (at-run-end .run-end .ensures) (at-if1 .if1 .left) _ _ m)
+
+token-at-requires-3 : tie.Need-token-at-requires-3
+token-at-requires-3 c κs =
+    let at-first = c .before .before .before in
+    let at-if1 = at-first .before .before in
+    let at-run-end = at-if1 .before in
+    let args = at-run-end .before .before .args in
+    let m = rw (rest-of (args .text .now) (at-run-end .run-end .result), c .before .k .given .1) at (at-first .first .ensures) in
+    let h = piece-high (args .text .now) (args .at) _ (at-run-end .run-end .ensures) (at-if1 .if1 .left) _ _ m in
+    (omega arith, omega arith)
 
 returns-2 : tie.Need-returns-2
 returns-2 c =
     let at-first = c .before .before .before in
-    let at-run-end = at-first .before .before .before in
-    let args = at-run-end .before .before .args in
-    rw (c .end-at2 .ensures)
-    (lexes-bad (args .text .now) (args .at) (at-run-end .run-end .result) (at-run-end .run-end .ensures) (omega arith) _
-    (rw (rest-of (args .text .now) (at-run-end .run-end .result), c .before .enum-told .given .1) at (at-first .first .ensures)))
+    let at-if1 = at-first .before .before in
+    let at-run-end = at-if1 .before in
+    let start = at-run-end .before .before in
+    rw (c .token-at2 .ensures)
+    (lexes-bad (start .args .text .now) (start .args .at) _ (at-run-end .run-end .ensures) (start .pre .0) (at-if1 .if1 .left) _
+    (rw (rest-of (start .args .text .now) (at-run-end .run-end .result), c .before .enum-told .given .1) at (at-first .first .ensures)))
 
 returns-3 : tie.Need-returns-3
 returns-3 c =
-    let at-first = c .before .before .before in
-    let at-run-end = at-first .before .before .before in
+    let at-k = c .before .before in
+    let at-first = at-k .before .before in
+    let at-if1 = at-first .before .before in
+    let at-run-end = at-if1 .before in
     let args = at-run-end .before .before .args in
-    lexes-piece
-    (args .text .now)
-    (args .at)
-    (at-run-end .run-end .result)
-    (at-run-end .run-end .ensures)
-    (omega arith)
-    _ _
-    (rw (rest-of (args .text .now) (at-run-end .run-end .result), c .before .k .given .1) at (at-first .first .ensures))
+    rw (c .token-at3 .ensures)
+    (lexes-piece (args .text .now) (args .at) _ (at-run-end .run-end .ensures) (at-if1 .if1 .left) _ _
+    (rw (rest-of (args .text .now) (at-run-end .run-end .result), at-k .k .given .1) at (at-first .first .ensures)))
 
 pub token-spec : {M : Type 1} → statement M
 token-spec =
     tie.close
     (tie.spec
     run-end-requires
-    end-at-requires
+    token-at-requires
     returns
     sub-first
     part-first-start
     part-first-end
     first-requires
     enum-told
-    end-at-requires-2
+    token-at-requires-2
     enum-known-k
-    add-next
+    add-token-at
+    token-at-requires-3
     returns-2
     returns-3)

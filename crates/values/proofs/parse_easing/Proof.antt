@@ -10,12 +10,16 @@ use Rattle.values.proofs.parse_easing.Tie as tie
 sees-requires : tie.Need-sees-requires
 sees-requires c κs = search needs
 
+place-requires : tie.Need-place-requires
+place-requires c κs = search needs
+
 returns : tie.Need-returns
 unfolding parseEasing
 returns c =
     let at-sees = c .before .before in
     let start = at-sees .before .before in
-    rw (sym (at-sees .sees .ensures (start .args .text .now) (start .pre)) ∙ c .before .if1 .taken, start .pre .head .place)
+    rw
+    (sym (at-sees .sees .ensures (start .args .text .now) (start .pre)) ∙ c .before .if1 .taken, start .pre .head .place, c .place .ensures)
 
 word-requires : tie.Need-word-requires
 word-requires c κs = search needs
@@ -61,6 +65,7 @@ parse-easing-spec =
     tie.close
     (tie.spec
     sees-requires
+    place-requires
     returns
     word-requires
     enum-known-p

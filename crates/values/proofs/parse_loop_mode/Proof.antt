@@ -42,6 +42,9 @@ mode-requires c κs =
 enum-told : tie.Need-enum-told
 enum-told c = search needs
 
+place-requires : tie.Need-place-requires
+place-requires c κs = search needs
+
 returns : tie.Need-returns
 unfolding parseLoopMode
 returns c = let h = rw (c .before .p .given .1) at (c .before .before .before .word .ensures) in rw h
@@ -72,7 +75,7 @@ returns-3 c =
     let u = under-none loopModes _
     (looked-up (wordsOf loopModes) _ _ _ (at-part .part .ensures) (at-find .find .ensures) ∙ ap placeOf (c .before .enum-told .given .1))
     in
-    rw (w .0 .is, u, w .0 .ready .head .place)
+    rw (w .0 .is, u, w .0 .ready .head .place, c .place .ensures)
 
 pub parse-loop-mode-spec : {M : Type 1} → statement M
 parse-loop-mode-spec =
@@ -87,6 +90,7 @@ parse-loop-mode-spec =
     enum-known-i
     mode-requires
     enum-told
+    place-requires
     returns
     returns-2
     returns-3)

@@ -1,0 +1,77 @@
+-- `cursor::number_seen` meets its contract. Assumes nothing.
+use Rattle.text.specs.Bytes.{at}
+use mathlib.Core.Path.{ap, sym}
+use Rattle.token.specs.Token.{number}
+use Rattle.token.proofs.TokenLaws.{rest-of}
+use borrow.Author.Needs.{needs}
+use Rattle.cursor.proofs.number_seen.Statement.{statement}
+use Rattle.cursor.proofs.number_seen.Tie as tie
+
+enum-told : tie.Need-enum-told
+enum-told c = search needs
+
+place-requires : tie.Need-place-requires
+place-requires c κs = search needs
+
+sub-number-of : tie.Need-sub-number-of
+sub-number-of c = search needs
+
+part-number-of-start : tie.Need-part-number-of-start
+part-number-of-start c = search needs
+
+part-number-of-end : tie.Need-part-number-of-end
+part-number-of-end c = search needs
+
+number-of-requires : tie.Need-number-of-requires
+number-of-requires c κs =
+    let at-enum-told = c .before .before in
+    let start = at-enum-told .before .before .before in
+    rw (rest-of (start .args .text .now) (c .before .place .result), c .before .place .ensures)
+    (rw (at-enum-told .enum-told .given .1) at (start .pre .head .stands))
+
+enum-told-2 : tie.Need-enum-told-2
+enum-told-2 c = search needs
+
+enum-told-3 : tie.Need-enum-told-3
+enum-told-3 c = search needs
+
+enum-told-4 : tie.Need-enum-told-4
+enum-told-4 c = search needs
+
+returns : tie.Need-returns
+returns c =
+    let at-place = c .before .before in
+    let at-enum-told = at-place .before in
+    let start = at-enum-told .before .before .before in (
+      rw (start .pre .head .kind, at-enum-told .enum-told .given .1)
+          (ap number
+          (sym (rw (rest-of (start .args .text .now) (at-place .place .result), at-place .place .ensures) at (c .number-of .ensures .0)))),
+      c .number-of .ensures .1,
+    )
+
+returns-2 : tie.Need-returns-2
+returns-2 c = rw (c .before .before .before .pre .head .kind, c .enum-told2 .given .1)
+
+returns-3 : tie.Need-returns-3
+returns-3 c = rw (c .before .before .before .pre .head .kind, c .enum-told3 .given .1)
+
+returns-4 : tie.Need-returns-4
+returns-4 c = rw (c .before .before .before .pre .head .kind, c .enum-told4 .given .1)
+
+pub number-seen-spec : {M : Type 1} → statement M
+number-seen-spec =
+    tie.close
+    (tie.spec
+    enum-told
+    place-requires
+    sub-number-of
+    part-number-of-start
+    part-number-of-end
+    number-of-requires
+    enum-told-2
+    enum-told-3
+    enum-told-4
+    returns
+    returns-2
+    returns-3
+    returns-4)

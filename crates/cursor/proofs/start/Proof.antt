@@ -1,0 +1,14 @@
+-- `cursor::start` meets its contract. Assumes nothing.
+use Rattle.cursor.proofs.CursorLaws.{begins}
+use borrow.Author.Needs.{needs}
+use Rattle.cursor.proofs.start.Statement.{statement}
+use Rattle.cursor.proofs.start.Tie as tie
+
+token-requires : tie.Need-token-requires
+token-requires c κs = search needs
+
+returns : tie.Need-returns
+returns c = begins _ _ _ _ (c .before .before .pre .1) (c .before .before .pre .2) (c .token .ensures)
+
+pub start-spec : {M : Type 1} → statement M
+start-spec = tie.close (tie.spec token-requires returns)
