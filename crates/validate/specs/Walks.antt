@@ -24,8 +24,8 @@ use Rattle.validate.specs.declared.nodes.Walk.the-variants.{Refused, Pas
 
 -- the first fault of a node's own fields
 abbrev pub recordFault : List ℕ → Node → Option Refusal
-recordFault t (single l) = validateLeaf colors t l
-recordFault t (holding k ns) = validateContainer k
+recordFault t (single p l) = validateLeaf colors t l
+recordFault t (holding p k ns) = validateContainer k
 
 abbrev pub recordView : List ℕ → Node → Option Refusal × Kind
 recordView t x = (recordFault t x, kindView x)
