@@ -13,7 +13,7 @@ use Rattle.codec.proofs.Laws.{Small, All, Law, optL}
 use Rattle.encode.proofs.FieldLaws.{small}
 use Rattle.ast.specs.Tree.{StaggerPatternSpec, grid, Container, sequence, parallel, group, stagger, holding}
 use Rattle.sheet.specs.Sheet.{Forest, word, nodeForm, patternForm}
-use Rattle.sheet.proofs.Laws.{wordL, patternL, nodeL}
+use Rattle.sheet.proofs.Laws.{wordL, patternL, startL, nodeL}
 use Rattle.error.specs.declared.Refusal.the-variants.{Malformed, UnknownKeyword, StaggerGridIncomplete}
 use Rattle.grammar.specs.Rule.{Rule, give, need, _>>=_, _>>_, eat, sees, goOn}
 use Rattle.grammar.specs.Fields.{lastNumber, pairs}
@@ -54,24 +54,24 @@ HeadOk (stagger p d) = optL patternL .ok p × optL wordL .ok d
 
 -- how many bytes of its record stand before the nodes at most
 abbrev pub headSize : Container → ℕ
-headSize sequence = 1
-headSize parallel = 1
-headSize (group mode) = 2
-headSize (stagger p d) = 20
+headSize sequence = 3
+headSize parallel = 3
+headSize (group mode) = 4
+headSize (stagger p d) = 22
 
-pub head-ok : (n : ℕ) {inner : Form Forest} (b : Law inner) (c : Container) (ns : Forest)
-    → HeadOk c → b .ok ns → nodeL n b .ok (holding c ns)
-head-ok n b sequence ns h o = o
-head-ok n b parallel ns h o = o
-head-ok n b (group mode) ns h o = (h, o)
-head-ok n b (stagger p d) ns h o = (h .0, (h .1, o))
+pub head-ok : (n : ℕ) {inner : Form Forest} (b : Law inner) (start : ℕ) (c : Container) (ns : Forest)
+    → startL n .ok start → HeadOk c → b .ok ns → nodeL n b .ok (holding start c ns)
+head-ok n b start sequence ns i h o = (i, o)
+head-ok n b start parallel ns i h o = (i, o)
+head-ok n b start (group mode) ns i h o = (i, (h, o))
+head-ok n b start (stagger p d) ns i h o = (i, (h .0, (h .1, o)))
 
-pub head-size : (n : ℕ) (inner : Form Forest) (c : Container) (ns : Forest)
-    → length (nodeForm n inner .write (holding c ns)) ≤ headSize c + length (inner .write ns)
-head-size n inner sequence ns = omega arith
-head-size n inner parallel ns = omega arith
-head-size n inner (group mode) ns = omega arith
-head-size n inner (stagger p d) ns = omega (arith, sum .most)
+pub head-size : (n : ℕ) (inner : Form Forest) (start : ℕ) (c : Container) (ns : Forest)
+    → length (nodeForm n inner .write (holding start c ns)) ≤ headSize c + length (inner .write ns)
+head-size n inner start sequence ns = omega arith
+head-size n inner start parallel ns = omega arith
+head-size n inner start (group mode) ns = omega arith
+head-size n inner start (stagger p d) ns = omega (arith, sum .most)
   where
     sum : Most (opt patternForm .write p ++ (opt word .write d ++ inner .write ns)) (14 + (5 + length (inner .write ns)))
     sum = opt-most patternForm 13 pattern-most p ⊕ opt-word n d ⊕ all (inner .write ns)

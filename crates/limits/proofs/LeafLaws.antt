@@ -17,7 +17,7 @@ use Rattle.number.specs.Time.{Key}
 use Rattle.ast.specs.Tree.{Span, ValueExpr, DampingMode, criticallyDamped, overdamped, underdamped, TweenSpec, SpringSpec}
 use Rattle.ast.specs.Tree.{PathSpec, MorphSpec, DrawSpec, ColorSpec, WaveformSpec, PresetCall, Leaf, single, mapLeaf}
 use Rattle.sheet.specs.Sheet.{Forest, valueForm, nodeForm, springForm, waveformForm, presetForm}
-use Rattle.sheet.proofs.Laws.{flagL, dampingL, tweenL, pathL, morphL, drawL, colorL, nodeL}
+use Rattle.sheet.proofs.Laws.{flagL, dampingL, tweenL, pathL, morphL, drawL, colorL, startL, nodeL}
 use Rattle.error.specs.declared.Refusal.the-variants.{MissingDuration, Malformed, UnknownSpringPreset}
 use Rattle.grammar.specs.Rule.{Rule, _>>_, give, if, sees, skip, inside}
 use Rattle.grammar.specs.Fields.{Fields, aDamping, pairs, parseFieldList, lastNumber}
@@ -43,10 +43,10 @@ flag-ok false = omega arith
 
 -- `b` is the law of the form of the nodes in a container
 module _ (s : List ℕ) (short : length s ≤ textLimit) {inner : Form Forest} (b : Law inner) where
-  -- a leaf from q to m, behind its keyword of k bytes; with 2 bytes to spare
+  -- a leaf from q to m, behind its keyword of k bytes, wherever that starts; with 2 bytes to spare
   pub record Leafed (k q : ℕ) (l : Leaf Key) (m : ℕ) : Type 0 where
-    pub ok : nodeL (length s) b .ok (single (mapLeaf stored l))
-    pub paid : length (nodeForm (length s) inner .write (single (mapLeaf stored l))) + 2 + 3 * q ≤ 3 * m + 3 * k
+    pub ok : (start : ℕ) → startL (length s) .ok start → nodeL (length s) b .ok (single start (mapLeaf stored l))
+    pub paid : (start : ℕ) → length (nodeForm (length s) inner .write (single start (mapLeaf stored l))) + 2 + 3 * q ≤ 3 * m + 3 * k
 
   abbrev pub LeafRule : ℕ → Rule (Leaf Key) → Type 0
   LeafRule k p = (q : ℕ) → q ≤ length s → isName (getD s q 0) ≡ false → Runs s p q (Leafed k q)
@@ -67,9 +67,9 @@ module _ (s : List ℕ) (short : length s ≤ textLimit) {inner : Form Forest} (
       also tt
 
   tween-leafed : (x : TweenSpec) (q m : ℕ) → tweenL (length s) .ok x
-      → 56 + length (valueForm .write (x .from)) + length (valueForm .write (x .to)) + 3 * q ≤ 3 * m + 15
+      → 58 + length (valueForm .write (x .from)) + length (valueForm .write (x .to)) + 3 * q ≤ 3 * m + 15
       → Leafed 5 q (Leaf.tween x) m
-  tween-leafed x q m o p = record { ok = o; paid = omega (arith, tween-size (length s) x) }
+  tween-leafed x q m o p = record { ok = λ start i. (i, o); paid = λ start. omega (arith, tween-size (length s) x) }
 
   pub tween-runs : LeafRule 5 parseTween
   unfolding parseTween limit same
@@ -171,7 +171,8 @@ module _ (s : List ℕ) (short : length s ≤ textLimit) {inner : Form Forest} (
       let n = length s in
       let f = x6 .fair in
       gives g6 (record {
-        ok = x1 .ok
+        ok = λ start i. i
+            also x1 .ok
             also x3 .ok
             also x5 .ok
             also case-opt n fs f "preset" 5 refl
@@ -182,7 +183,7 @@ module _ (s : List ℕ) (short : length s ≤ textLimit) {inner : Form Forest} (
             also word-opt n fs f "epsilon" refl
             also case-opt n fs f "integrator" 2 refl
             also damping-opt n fs f;
-        paid = omega (arith, spring-total t v w fs f, x1 .apart e, x2, x3 .paid, x4, x5 .paid, x6 .paid);
+        paid = λ start. omega (arith, spring-total t v w fs f, x1 .apart e, x2, x3 .paid, x4, x5 .paid, x6 .paid);
       })))))))
 
   -- ---- path, morph, draw, color: their duration pays
@@ -220,8 +221,8 @@ module _ (s : List ℕ) (short : length s ≤ textLimit) {inner : Form Forest} (
       also loop-row s short "loop" (omega arith)
       also tt
 
-  path-leafed : (x : PathSpec) (q m : ℕ) → pathL (length s) .ok x → 50 + 3 * q ≤ 3 * m + 12 → Leafed 4 q (Leaf.path x) m
-  path-leafed x q m o p = record { ok = o; paid = omega (arith, path-size (length s) x) }
+  path-leafed : (x : PathSpec) (q m : ℕ) → pathL (length s) .ok x → 52 + 3 * q ≤ 3 * m + 12 → Leafed 4 q (Leaf.path x) m
+  path-leafed x q m o p = record { ok = λ start i. (i, o); paid = λ start. omega (arith, path-size (length s) x) }
 
   opt-flag-ok : (o : Option Bool) → optL flagL .ok o
   opt-flag-ok none = tt
@@ -255,8 +256,8 @@ module _ (s : List ℕ) (short : length s ≤ textLimit) {inner : Form Forest} (
       also easing-row s short "easing" (omega arith)
       also tt
 
-  morph-leafed : (x : MorphSpec) (q m : ℕ) → morphL (length s) .ok x → 37 + 3 * q ≤ 3 * m + 15 → Leafed 5 q (Leaf.morph x) m
-  morph-leafed x q m o p = record { ok = o; paid = omega (arith, morph-size (length s) x) }
+  morph-leafed : (x : MorphSpec) (q m : ℕ) → morphL (length s) .ok x → 39 + 3 * q ≤ 3 * m + 15 → Leafed 5 q (Leaf.morph x) m
+  morph-leafed x q m o p = record { ok = λ start i. (i, o); paid = λ start. omega (arith, morph-size (length s) x) }
 
   pub morph-runs : LeafRule 5 parseMorph
   unfolding parseMorph limit same
@@ -279,8 +280,8 @@ module _ (s : List ℕ) (short : length s ≤ textLimit) {inner : Form Forest} (
       also easing-row s short "easing" (omega arith)
       also tt
 
-  draw-leafed : (x : DrawSpec) (q m : ℕ) → drawL (length s) .ok x → 29 + 3 * q ≤ 3 * m + 12 → Leafed 4 q (Leaf.draw x) m
-  draw-leafed x q m o p = record { ok = o; paid = omega (arith, draw-size (length s) x) }
+  draw-leafed : (x : DrawSpec) (q m : ℕ) → drawL (length s) .ok x → 31 + 3 * q ≤ 3 * m + 12 → Leafed 4 q (Leaf.draw x) m
+  draw-leafed x q m o p = record { ok = λ start i. (i, o); paid = λ start. omega (arith, draw-size (length s) x) }
 
   pub draw-runs : LeafRule 4 parseDraw
   unfolding parseDraw limit same
@@ -302,8 +303,8 @@ module _ (s : List ℕ) (short : length s ≤ textLimit) {inner : Form Forest} (
       also easing-row s short "easing" (omega arith)
       also tt
 
-  color-leafed : (x : ColorSpec) (q m : ℕ) → colorL (length s) .ok x → 38 + 3 * q ≤ 3 * m + 15 → Leafed 5 q (Leaf.color x) m
-  color-leafed x q m o p = record { ok = o; paid = omega (arith, color-size (length s) x) }
+  color-leafed : (x : ColorSpec) (q m : ℕ) → colorL (length s) .ok x → 40 + 3 * q ≤ 3 * m + 15 → Leafed 5 q (Leaf.color x) m
+  color-leafed x q m o p = record { ok = λ start i. (i, o); paid = λ start. omega (arith, color-size (length s) x) }
 
   pub color-runs : LeafRule 5 parseColor
   unfolding parseColor limit same
@@ -365,7 +366,8 @@ module _ (s : List ℕ) (short : length s ≤ textLimit) {inner : Form Forest} (
       let n = length s in
       let f = x2 .fair in
       gives g2 (record {
-        ok = x1 .0
+        ok = λ start i. i
+            also x1 .0
             also word-opt n fs f "frequency" refl
             also word-opt n fs f "amplitude" refl
             also word-opt n fs f "phase" refl
@@ -373,7 +375,7 @@ module _ (s : List ℕ) (short : length s ≤ textLimit) {inner : Form Forest} (
             also word-opt n fs f "seed" refl
             also word-opt n fs f "smoothness" refl
             also word-opt n fs f "duration" refl;
-        paid = omega (arith, waveform-total k fs f, x1 .1, x2 .paid);
+        paid = λ start. omega (arith, waveform-total k fs f, x1 .1, x2 .paid);
       })))
 
   -- ---- preset, label, at
@@ -417,15 +419,15 @@ module _ (s : List ℕ) (short : length s ≤ textLimit) {inner : Form Forest} (
       let n = length s in
       let f = x3 .fair in
       gives g3 (record {
-        ok = x1 .ok also word-opt n gs f "duration" refl also easing-opt n gs f;
-        paid = omega (arith, preset-total t gs f, x1 .on, x2 .paid, x3 .paid);
+        ok = λ start i. i also x1 .ok also word-opt n gs f "duration" refl also easing-opt n gs f;
+        paid = λ start. omega (arith, preset-total t gs f, x1 .on, x2 .paid, x3 .paid);
       }))))
 
   pub label-runs : LeafRule 5 parseLabel
   unfolding parseLabel
   label-runs q h e =
       then (string-runs s short q h)
-      (λ t m g x. and (the-mark g 59 refl) (λ n f u y. gives f (record { ok = x .0; paid = omega (arith, x .1, y) })))
+      (λ t m g x. and (the-mark g 59 refl) (λ n f u y. gives f (record { ok = λ start i. (i, x .0); paid = λ start. omega (arith, x .1, y) })))
 
   sign-runs : (q : ℕ) → q ≤ length s → Runs s atSign q (λ v m. q ≤ m)
   unfolding atSign
@@ -440,4 +442,7 @@ module _ (s : List ℕ) (short : length s ≤ textLimit) {inner : Form Forest} (
       then (sign-runs q h) (λ v m g x.
       then (a-number g Malformed) (λ w n f y.
       and (eats f 59 refl) (λ o i c z.
-      gives i (record { ok = (small 4 _ (bits-lt _ (nearest-fits _ _)), flag-ok (v .0)); paid = omega (arith, y .on, eaten n c o z) }))))
+      gives i (record {
+        ok = λ start j. (j, (small 4 _ (bits-lt _ (nearest-fits _ _)), flag-ok (v .0)));
+        paid = λ start. omega (arith, y .on, eaten n c o z);
+      }))))

@@ -82,7 +82,7 @@ tween-most n x =
       word-most (optWordOf (x .round)),
     )
 
-module _ (s b a : List ℕ) (c m : Cursor) (out at : ℕ) (e : EndsWent s b a c m 0 out at) where
+module _ (s b a : List ℕ) (c m : Cursor) (out at : ℕ) (e : EndsWent s b a c m out at) where
   pub tween-refused : (r : Refusal) (q : ℕ) → run s m (timely tweenFields) ≡ refused r q → run s c parseTween ≡ refused r q
   tween-refused r q h = tween-run s c ∙ (rw (e .took .is) (timely-refused s m tweenFields (λ fs d. give (tweenLeaf (e .value) fs d)) r q h))
 
@@ -126,7 +126,7 @@ module _ (s b a : List ℕ) (c m : Cursor) (out at : ℕ) (e : EndsWent s b a c 
         low = omega (arith, e .took .low, t .took .low);
         ready = t .took .ready;
       };
-      writes = record-written 0
+      writes = record-written
           (spanForm (length s) .write (e .value .0))
           (valueForm .write (e .value .1 .0))
           (valueForm .write (e .value .1 .1))

@@ -54,7 +54,7 @@ put-tween-fields-requires c κs =
     let t = timed-at (start .args .text .now) _ tweenSorts _ tweenFields 0 number refl refl (at-tween-fields .tween-fields .result)
     (at-tween-fields .tween-fields .ensures) _ _ (rw (at-duration .duration .given .1) at (at-duration-in .duration-in .ensures))
     in
-    let r = ends-room _ _ _ _ _ _ _ _ (start .pre .1) e in
+    let r = ends-room _ _ _ _ _ _ _ (start .pre .1) e in
     (omega (arith, r), rw (at-tween-from .tween-from .ensures) (tween-plain _ _ _ _ _ _ _ e (at-tween-fields .tween-fields .result) _ _ t))
 
 same-length : tie.Need-same-length
