@@ -1,10 +1,13 @@
 -- The beginning of a node: its keyword, and what stands behind it. Assumes nothing.
 use Prim.Native.Nat.{ℕ, _<_}
+use Prim.Native.String.{String}
 use mathlib.Core.List.{List}
+use mathlib.Core.Option.{some}
 use mathlib.Core.Path.{_≡_}
 use native.Mathlib.Omega.{arith}
+use lib.ListN.{getElem?}
 use Rattle.number.specs.Time.{Key}
-use Rattle.ast.specs.Tree.{Nodes}
+use Rattle.ast.specs.Tree.{Leaf, Nodes}
 use Rattle.encode.specs.Writes.{Writes}
 use Rattle.encode.proofs.OverLaws.{writes-then}
 use Rattle.error.specs.declared.Refusal.{Refusal}
@@ -26,33 +29,31 @@ use Rattle.blocks.proofs.KindLaws.{the-given, place-low, leaf-kind}
 -- ---- behind the keyword
 
 -- the place in the table is one of it
-pub leaf-low : {w : List ℕ} (i : ℕ) → KeywordMeans w (keyword.Leaf i) → i < 11
+pub leaf-low : (w : List ℕ) (i : ℕ) → KeywordMeans w (keyword.Leaf i) → i < 11
 unfolding leaves
-leaf-low i k = place-low leaves i (k .0) (k .1)
+leaf-low w i k = place-low leaves i (k .0) (k .1)
 
-pub container-low : {w : List ℕ} (i : ℕ) → KeywordMeans w (keyword.Container i) → i < 4
+pub container-low : (w : List ℕ) (i : ℕ) → KeywordMeans w (keyword.Container i) → i < 4
 unfolding containers
-container-low i k = place-low containers i (k .0) (k .1)
+container-low w i k = place-low containers i (k .0) (k .1)
 
 module _ (s b b₁ : List ℕ) (c : Cursor) (out at start : ℕ) (w : List ℕ) (i : ℕ) where
   -- the front of a leaf's record is written, and its fields behind it
-  module _ (k : KeywordMeans w (keyword.Leaf i)) where
-    pub leaf-begun : (a : List ℕ) (q : ℕ) (m : Cursor) → Writes b out (frontBytes (leafKindAt i) start) b₁ at
-        → LeafAtMeans s b₁ a c at i (read.Is q m) → LeafBegun 0 s b a c m out q (behindWord start w)
-    leaf-begun a q m f h =
-        let l = h (k .0) (k .1) in
-        let e : leafKind (l .value) ≡ leafKindAt i = the-given (leaf-kind i (k .0) (k .1)) _ _ _ _ _ (l .took .is) in
-        record {
-          start = start;
-          value = l .value;
-          took = λ blk. record { is = rw (k .2, l .took .is); low = omega (arith, l .took .low); ready = l .took .ready };
-          writes = rw e (writes-then f (l .writes));
-          paid = omega (arith, f .place, l .paid);
-        }
-
-    pub leaf-refused : (a : List ℕ) (r : Refusal) (q : ℕ) → LeafAtMeans s b₁ a c at i (read.Refused r q)
-        → (blk : Rule (Nodes Key)) → run s c (behindWord start w blk) ≡ refused r q
-    leaf-refused a r q h blk = rw (k .2, h (k .0) (k .1))
+  pub leaf-begun : KeywordMeans w (keyword.Leaf i) → (a : List ℕ) (q : ℕ) (m : Cursor)
+      → Writes b out (frontBytes (leafKindAt i) start) b₁ at
+      → LeafAtMeans s b₁ a c at i (read.Is q m)
+      → LeafBegun 0 s b a c m out q (behindWord start w)
+  leaf-begun k a q m f h =
+      let l = h (k .0) (k .1) in
+      let e : leafKind (l .value) ≡ leafKindAt i = the-given (leaf-kind i (k .0) (k .1)) _ _ _ _ _ (l .took .is) in
+      record {
+        start = start;
+        value = l .value;
+        took = λ blk. record { is = rw (k .2, l .took .is); low = omega (arith, l .took .low); ready = l .took .ready };
+        low = omega (arith, l .took .low);
+        writes = rw e (writes-then f (l .writes));
+        paid = omega (arith, f .place, l .paid);
+      }
 
   pub container-begun : Ready s c → KeywordMeans w (keyword.Container i) → Writes b out (frontBytes (containerKindAt i) start) b₁ at
       → ContainerBegun 0 s b b₁ c c out at i (behindWord start w)
@@ -65,6 +66,11 @@ module _ (s b b₁ : List ℕ) (c : Cursor) (out at start : ℕ) (w : List ℕ) 
     ready = r;
     writes = f;
   }
+
+pub leaf-refused : (s : List ℕ) (c : Cursor) (start : ℕ) (w : List ℕ) (i : ℕ) (r : Refusal) (q : ℕ) → KeywordMeans w (keyword.Leaf i)
+    → ((row : String × Rule (Leaf Key)) → getElem? leaves i ≡ some row → run s c (row .1) ≡ refused r q)
+    → (blk : Rule (Nodes Key)) → run s c (behindWord start w blk) ≡ refused r q
+leaf-refused s c start w i r q k h blk = rw (k .2, h (k .0) (k .1))
 
 -- "`unknown_keyword`": 7, behind the word
 pub unknown-refused : (s : List ℕ) (c : Cursor) (start : ℕ) (w : List ℕ) → Ready s c → KeywordMeans w keyword.Unknown
@@ -87,8 +93,9 @@ from-keyword s b a c m out p w (begun.Leaf q e) t h = record {
   start = h .start;
   value = h .value;
   took = λ blk. record { is = rw (t .is, h .took blk .is); low = omega (arith, t .low, h .took blk .low); ready = h .took blk .ready };
+  low = omega (arith, t .low, h .low);
   writes = h .writes;
-  paid = omega (arith, t .low, h .paid);
+  paid = omega (arith, t .low, h .low, h .paid);
 }
 from-keyword s b a c m out p w (begun.Container i q e) t h = record {
   row = h .row;

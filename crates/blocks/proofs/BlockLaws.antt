@@ -139,7 +139,7 @@ node-leaf {s} d h = record {
 }
 
 -- a container's rule from its head and its block, as a node's rule has it
-module _ {s : List ℕ} {m : Cursor} (p : Rule Container) {d : ℕ} where
+module _ (s : List ℕ) (m : Cursor) (p : Rule Container) (d : ℕ) where
   held-as : (start : ℕ) → run s m (nodeBy (block d) start (aContainer p)) ≡ after (run s m (heldBy p d)) (λ x. give (holding start (x .0) (x .1)))
   held-as start = go (run s m p)
     where
@@ -147,6 +147,7 @@ module _ {s : List ℕ} {m : Cursor} (p : Rule Container) {d : ℕ} where
           → after o (λ ns. give (holding start k ns)) ≡ after (after o (λ ns. give (k, ns))) (λ (x : Held). give (holding start (x .0) (x .1)))
       more k (got ns l ts) = refl
       more k (refused r q) = refl
+
       go : (o : Out Container)
           → after o (λ k. block d >>= λ ns. give (holding start k ns))
           ≡ after (after o (λ k. block d >>= λ ns. give (k, ns))) (λ (x : Held). give (holding start (x .0) (x .1)))
@@ -170,12 +171,12 @@ module _ {s b b₁ : List ℕ} {c m : Cursor} {out at i : ℕ} (g : ContainerBeg
       → NodeMeans 1 (parseNode (block d)) s b a c out d r
   from-row a d (node.Is q e k) h =
       let x = h .went .value in
-      let z : containerKind (x .0) ≡ containerKindAt i = held-kind (g .row .1) (container-kind i (g .row) (g .found)) (h .went .took .is) in
+      let z : containerKind (x .0) ≡ containerKindAt i = held-kind _ d (g .row .1) (container-kind i (g .row) (g .found)) _ _ _ _ _ (h .went .took .is) in
       record {
         went = record {
           value = holding (g .start) (x .0) (x .1);
           took = record {
-            is = g .is (block d) ∙ held-node (g .row .1) (g .start) (h .went .took .is);
+            is = g .is (block d) ∙ held-node s m (g .row .1) d (g .start) (h .went .took .is);
             low = omega (arith, g .low, h .went .took .low);
             ready = h .went .took .ready;
           };
@@ -186,7 +187,7 @@ module _ {s b b₁ : List ℕ} {c m : Cursor} {out at i : ℕ} (g : ContainerBeg
         count = omega (arith, h .count);
         few = omega (arith, g .low, h .few);
       }
-  from-row a d (node.Refused r q) h = g .is (block d) ∙ held-refused (g .row .1) (g .start) h
+  from-row a d (node.Refused r q) h = g .is (block d) ∙ held-refused s m (g .row .1) d (g .start) h
 
   -- the row i of the table is read
   pub node-container : (a : List ℕ) (d : ℕ) (r : ParsedNode)

@@ -2,14 +2,20 @@
 use Prim.Native.Nat.{ℕ, zero, suc, _<_}
 use Prim.Native.String.{String}
 use mathlib.Core.List.{List, [], _∷_}
-use mathlib.Core.Option.{some}
+use mathlib.Core.Option.{none, some}
 use mathlib.Core.Path.{_≡_, refl, subst}
 use native.Mathlib.Omega.{arith}
 use lib.ListN.{length, getElem?}
 use Rattle.number.specs.Time.{Key}
 use Rattle.token.specs.Token.{Token}
 use Rattle.ast.specs.Tree.{Leaf, Container, Nodes}
-use Rattle.grammar.specs.Rule.{Notes, Out, got, refused, after, Rule, _>>=_, give}
+use Rattle.error.specs.declared.Refusal.the-variants.{MissingDuration, Malformed}
+use Rattle.grammar.specs.Rule.{Notes, Out, got, refused, after, Rule, _>>=_, _>>_, give, need, if, sees, skip, the, both, eat, choice}
+use Rattle.grammar.specs.Rule.{signed, seesNumber, inside, repeat}
+use Rattle.grammar.specs.Fields.{parseFieldList, pairs, lastNumber}
+use Rattle.grammar.specs.Values.{ident, string, parseValue}
+use Rattle.grammar.specs.Grammar.{tweenFields, springFields, trackStep, pathFields, morphFields, drawFields, colorFields, waveformKind}
+use Rattle.grammar.specs.Grammar.{waveformFields, atSign, openingStep}
 use Rattle.grammar.specs.Grammar.{leaves, parseTween, parseSpring, parseKeyframes, parsePath, parseMorph, parseDraw, parseColor}
 use Rattle.grammar.specs.Grammar.{parseWaveform, parsePresetCall, parseLabel, parseAt}
 use Rattle.grammar.specs.Grammar.{block, containers, parseSequence, parseParallel, parseGroup, parseStagger}
@@ -31,8 +37,8 @@ always : {A : Type 0} {P : A → Type 0} {a : A} → P a → Always P (give a)
 always h = record { by = λ l ts. h }
 
 -- the last of some rules gives it
-behind : {A B : Type 0} {P : B → Type 0} {p : Rule A} {f : A → Rule B} → ((a : A) → Always P (f a)) → Always P (p >>= f)
-behind {A} {B} {P} {p} {f} h = record { by = λ l ts. go (p l ts) }
+behind : {A B : Type 0} {P : B → Type 0} (p : Rule A) {f : A → Rule B} → ((a : A) → Always P (f a)) → Always P (p >>= f)
+behind {A} {B} {P} p {f} h = record { by = λ l ts. go (p l ts) }
   where
     go : (o : Out A) → Given P (after o f)
     go (got a l ts) = h a .by l ts
@@ -56,47 +62,47 @@ LeafOf k p = Always (λ (l : Leaf Key). leafKind l ≡ k) p
 
 tween-kind : LeafOf 0 parseTween
 unfolding parseTween
-tween-kind = behind (λ a. behind (λ a. behind (λ a. behind (λ a. behind (λ a. behind (λ a. behind (λ a. always refl)))))))
+tween-kind = behind ident (λ target. behind (the ":") (λ u. behind parseValue (λ from. behind (both "=" ">") (λ v. behind parseValue (λ to. behind (parseFieldList tweenFields []) (λ fs. behind (need MissingDuration (lastNumber "duration" fs)) (λ duration. always refl)))))))
 
 spring-kind : LeafOf 1 parseSpring
 unfolding parseSpring
-spring-kind = behind (λ a. behind (λ a. behind (λ a. behind (λ a. behind (λ a. behind (λ a. always refl))))))
+spring-kind = behind ident (λ target. behind (the ":") (λ u. behind parseValue (λ from. behind (both "=" ">") (λ v. behind parseValue (λ to. behind (parseFieldList springFields []) (λ fs. always refl))))))
 
 keyframes-kind : LeafOf 2 parseKeyframes
 unfolding parseKeyframes
-keyframes-kind = behind (λ a. behind (λ a. always refl))
+keyframes-kind = behind ident (λ target. behind (inside "{" (repeat trackStep ([], none))) (λ s. always refl))
 
 path-kind : LeafOf 7 parsePath
 unfolding parsePath
-path-kind = behind (λ a. behind (λ a. behind (λ a. behind (λ a. behind (λ a. always refl)))))
+path-kind = behind ident (λ target. behind (choice Malformed ("along" ∷ [])) (λ k. behind string (λ svg. behind (parseFieldList pathFields []) (λ fs. behind (need MissingDuration (lastNumber "duration" fs)) (λ duration. always refl)))))
 
 morph-kind : LeafOf 8 parseMorph
 unfolding parseMorph
-morph-kind = behind (λ a. behind (λ a. behind (λ a. behind (λ a. behind (λ a. always refl)))))
+morph-kind = behind string (λ from. behind (both "=" ">") (λ u. behind string (λ to. behind (parseFieldList morphFields []) (λ fs. behind (need MissingDuration (lastNumber "duration" fs)) (λ duration. always refl)))))
 
 draw-kind : LeafOf 9 parseDraw
 unfolding parseDraw
-draw-kind = behind (λ a. behind (λ a. behind (λ a. always refl)))
+draw-kind = behind string (λ svg. behind (parseFieldList drawFields []) (λ fs. behind (need MissingDuration (lastNumber "duration" fs)) (λ duration. always refl)))
 
 color-kind : LeafOf 10 parseColor
 unfolding parseColor
-color-kind = behind (λ a. behind (λ a. behind (λ a. behind (λ a. behind (λ a. behind (λ a. behind (λ a. always refl)))))))
+color-kind = behind ident (λ target. behind (the ":") (λ u. behind string (λ from. behind (both "=" ">") (λ v. behind string (λ to. behind (parseFieldList colorFields []) (λ fs. behind (need MissingDuration (lastNumber "duration" fs)) (λ duration. always refl)))))))
 
 waveform-kind : LeafOf 11 parseWaveform
 unfolding parseWaveform
-waveform-kind = behind (λ a. behind (λ a. always refl))
+waveform-kind = behind waveformKind (λ kind. behind (parseFieldList waveformFields []) (λ fs. always refl))
 
 preset-kind : LeafOf 12 parsePresetCall
 unfolding parsePresetCall
-preset-kind = behind (λ a. behind (λ a. behind (λ a. always refl)))
+preset-kind = behind ident (λ name. behind (if (sees "(") (inside "(" (pairs drawFields)) (give [])) (λ fs. behind (if (sees ",") (skip >> parseFieldList drawFields fs) (give fs)) (λ gs. always refl)))
 
 label-kind : LeafOf 13 parseLabel
 unfolding parseLabel
-label-kind = behind (λ a. behind (λ a. always refl))
+label-kind = behind string (λ s. behind (the ";") (λ u. always refl))
 
 at-kind : LeafOf 14 parseAt
 unfolding parseAt
-at-kind = behind (λ a. behind (λ a. behind (λ a. always refl)))
+at-kind = behind atSign (λ sign. behind (signed seesNumber Malformed) (λ w. behind (eat ";") (λ c. always refl)))
 
 -- the rule at the place i of the table
 pub leaf-kind : (i : ℕ) (row : String × Rule (Leaf Key)) → getElem? leaves i ≡ some row → LeafOf (leafKindAt i) (row .1)
@@ -120,11 +126,11 @@ parallel-kind = always refl
 
 group-kind : ContainerOf 5 parseGroup
 unfolding parseGroup
-group-kind = behind (λ a. always refl)
+group-kind = behind (choice Malformed ("sequence" ∷ "parallel" ∷ [])) (λ mode. always refl)
 
 stagger-kind : ContainerOf 6 parseStagger
 unfolding parseStagger
-stagger-kind = behind (λ a. always refl)
+stagger-kind = behind (repeat openingStep (none, none)) (λ s. always refl)
 
 pub container-kind : (i : ℕ) (row : String × Rule Container) → getElem? containers i ≡ some row
     → ContainerOf (containerKindAt i) (row .1)
@@ -134,17 +140,19 @@ container-kind i row e =
     ((λ j. rw j sequence-kind), ((λ j. rw j parallel-kind), ((λ j. rw j group-kind), ((λ j. rw j stagger-kind), tt))))
 
 -- the container of a rule that reads more behind it
-pub held-kind : {l m : Notes} {ts us : List Token} {k d : ℕ} (p : Rule Container) {x : Held} → ContainerOf k p → heldBy p d l ts ≡ got x m us
+pub held-kind : (k d : ℕ) (p : Rule Container) → ContainerOf k p → (l m : Notes) (ts us : List Token) (x : Held) → heldBy p d l ts ≡ got x m us
     → containerKind (x .0) ≡ k
-held-kind {l} {m} {ts} {us} {k} {d} p {x} h e = the-given held l m ts us x e
+held-kind k d p h l m ts us x e = the-given held l m ts us x e
   where
     inside : (o : Out (Nodes Key)) (c : Container) → containerKind c ≡ k
         → Given (λ (y : Held). containerKind (y .0) ≡ k) (after o (λ ns. give (c, ns)))
     inside (got ns l ts) c z = z
     inside (refused r q) c z = tt
+
     go : (o : Out Container) → Given (λ (c : Container). containerKind c ≡ k) o
         → Given (λ (y : Held). containerKind (y .0) ≡ k) (after o (λ c. block d >>= λ ns. give (c, ns)))
     go (got c l ts) z = inside (block d l ts) c z
     go (refused r q) z = tt
+
     held : Always (λ (y : Held). containerKind (y .0) ≡ k) (heldBy p d)
     held = record { by = λ l ts. go (p l ts) (h .by l ts) }

@@ -71,6 +71,7 @@ pub record LeafBegun (e : ℕ) (s b a : List ℕ) (c m : Cursor) (out q : ℕ) (
   pub start : ℕ
   pub value : Leaf Key
   pub took : (blk : Rule (Nodes Key)) → Took e s c m (p blk) (single start value)
+  pub low : c .at + e ≤ m .at
   pub writes : Writes b out (frontBytes (leafKind value) start ++ leafBytes (length s) value) a q
   pub paid : q + 64 * e ≤ out + 3 + 64 * (m .at - c .at)
 
@@ -161,7 +162,6 @@ pub record NodeWent (e : ℕ) (p : Rule (MotionNode Key)) (s b a : List ℕ) (c 
 abbrev pub NodeMeans : (e : ℕ) → Rule (MotionNode Key) → (s b a : List ℕ) → Cursor → ℕ → ℕ → ParsedNode → Type 0
 NodeMeans e p s b a c out d (node.Is q m k) = NodeWent e p s b a c m out q d k
 NodeMeans e p s b a c out d (node.Refused r q) = run s c p ≡ refused r q
-
 
 -- a container's block from c to m, written from its count on up to q; with the container there are k records
 pub record BlockWent (s b a : List ℕ) (c m : Cursor) (count q d k : ℕ) : Type 0 where

@@ -31,9 +31,7 @@ pub fn parse_label(text: &[u8], sheet: &mut [u8], c: Cursor, out: usize) -> Node
         WordRead::Missing(p) => NodeRead::Refused(Refusal::Missing, p),
         WordRead::Is(s, m) => match cursor::mark(text, m, b';') {
             MarkRead::Missing(p) => NodeRead::Refused(Refusal::Missing, p),
-            MarkRead::Is(n) => {
-                NodeRead::Is(encode::put_span(sheet, out, s), n)
-            }
+            MarkRead::Is(n) => { NodeRead::Is(encode::put_span(sheet, out, s), n) }
         },
     }
 }
