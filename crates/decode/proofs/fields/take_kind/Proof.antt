@@ -24,7 +24,8 @@ returns : tie.Need-returns
 returns c =
     let at-take-field = c .before .before in
     let at-take-byte = at-take-field .before in
-    let n = at-take-byte .before .before .args .n in
+    let start = at-take-byte .before .before in
+    let n = start .args .n in
     record {
       between = at-take-byte .take-byte .result .next;
       kindAt = at-take-byte .take-byte .ensures;
@@ -37,7 +38,8 @@ returns-2 c =
     let at-if1 = c .before in
     let at-take-field = at-if1 .before .before in
     let at-take-byte = at-take-field .before in
-    let n = at-take-byte .before .before .args .n in
+    let start = at-take-byte .before .before in
+    let n = start .args .n in
     record {
       between = at-take-byte .take-byte .result .next;
       kindAt = at-take-byte .take-byte .ensures;
