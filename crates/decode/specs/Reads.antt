@@ -29,7 +29,7 @@ pub record Number (c : Form ℕ) (limit : ℕ) (s : List ℕ) (at v next : ℕ) 
   pub reads : Reads c same s at v next
   pub small : v < limit
 
--- a record's kind, then the start of its node's keyword in a text of n bytes
+-- a record's kind, then, from `between` on, the start of its node's keyword in a text of n bytes
 pub record KindAndStart (n : ℕ) (s : List ℕ) (at kind start next : ℕ) : Type 0 where
   pub between : ℕ
   pub kindAt : Number (below 15) 15 s at kind between
