@@ -49,7 +49,8 @@ module _ (t : List ℕ) (c : Cursor) (i : Begins t 0 nothing c) where
   input-run = rw (i .is, left-none (c .left) (i .left))
 
   -- a refusal tells nothing of the text's end
-  input-wrong : (b a : List ℕ) (r : Refusal) (p : ℕ) (x : Input) → x ≡ inputOf (Refused r p) false → treeOf t ≡ wrong r p → InputMeans t b a x
+  input-wrong : (b a : List ℕ) (r : Refusal) (p : ℕ) (x : Input) → x ≡ inputOf (Refused r p) false
+      → treeOf t ≡ wrong r p → InputMeans t b a x
   input-wrong b a r p x e h = rw e (record { tree = h; ended = λ q. absurd (let z : _≡_ {A = ℕ} 0 1 = cc in omega arith) })
 
   pub input-refused : {b a : List ℕ} (r : Refusal) (p : ℕ) (x : Input) → x ≡ inputOf (Refused r p) false
@@ -121,7 +122,8 @@ tree-settled t s b a (Accepted n k) z m =
 
 module _ (t s : List ℕ) (l : 64 ≤ length s) where
   -- the delimiters fit, and each token of the text can be cut
-  pub allowed : (s′ : List ℕ) (x : Bool) → Ended t true → x ≡ nestsFrom false (awaits []) t → s′ ≡ replicate (length s) 0 → AllowedMeans t s s′ x
+  pub allowed : (s′ : List ℕ) (x : Bool) → Ended t true → x ≡ nestsFrom false (awaits []) t
+      → s′ ≡ replicate (length s) 0 → AllowedMeans t s s′ x
   unfolding splitting
   allowed s′ true h e z = rw (le-ltb (length s) 64 l, nests-splits t (h refl) (sym e), z)
   allowed s′ false h e z = tt

@@ -1,4 +1,5 @@
 // parser.rs, parse_spring: the fields of a spring, one step for each.
+ghost use Prim.Native.Nat.{_≤_};
 ghost use Rattle.cursor.specs.Means.{Ready};
 ghost use Rattle.spring_step.specs.Means.{PastMeans, SpringStepMeans, SpringListMeans};
 use ast::DampingMode;
@@ -51,6 +52,57 @@ fn past_value(text: &[u8], c: Cursor) -> PastRead
     match arrays::parse_value(text, &mut unwritten, c, 0) {
         arrays::ValueRead::Refused(r, p) => PastRead::Refused(r, p),
         arrays::ValueRead::Is(_, m) => PastRead::Is(m),
+    }
+}
+
+// A damping mode, the value of the last three rows, onto the fields before it.
+fn damping_step(text: &[u8], c: Cursor, row: usize, kept: SpringFields) -> SpringStep
+    requires { ⌜ Ready (now text) c × (7 ≤ row) ⌝ }
+    ensures { λ r. ⌜ SpringStepMeans (now (text .entry)) c row kept r ⌝ }
+{
+    match row {
+        7 => match values::parse_float_in_parens(text, c) {
+            FloatRead::Refused(r, p) => SpringStep::Refused(r, p),
+            FloatRead::Is(x, m) => {
+                let mode = DampingMode::CriticallyDamped(x);
+                let damping_mode = OptDamping::Present(mode);
+                SpringStep::Is(
+                    SpringFields {
+                        damping_mode,
+                        ..kept
+                    },
+                    m,
+                )
+            }
+        },
+        8 => match values::parse_two_floats_in_parens(text, c) {
+            PairRead::Refused(r, p) => SpringStep::Refused(r, p),
+            PairRead::Is(x, y, m) => {
+                let mode = DampingMode::Overdamped(x, y);
+                let damping_mode = OptDamping::Present(mode);
+                SpringStep::Is(
+                    SpringFields {
+                        damping_mode,
+                        ..kept
+                    },
+                    m,
+                )
+            }
+        },
+        _ => match values::parse_two_floats_in_parens(text, c) {
+            PairRead::Refused(r, p) => SpringStep::Refused(r, p),
+            PairRead::Is(x, y, m) => {
+                let mode = DampingMode::Underdamped(x, y);
+                let damping_mode = OptDamping::Present(mode);
+                SpringStep::Is(
+                    SpringFields {
+                        damping_mode,
+                        ..kept
+                    },
+                    m,
+                )
+            }
+        },
     }
 }
 
@@ -109,48 +161,7 @@ fn spring_step(text: &[u8], c: Cursor, row: usize, kept: SpringFields) -> Spring
                 SpringStep::Is(SpringFields { integrator, ..kept }, m)
             }
         },
-        7 => match values::parse_float_in_parens(text, c) {
-            FloatRead::Refused(r, p) => SpringStep::Refused(r, p),
-            FloatRead::Is(x, m) => {
-                let mode = DampingMode::CriticallyDamped(x);
-                let damping_mode = OptDamping::Present(mode);
-                SpringStep::Is(
-                    SpringFields {
-                        damping_mode,
-                        ..kept
-                    },
-                    m,
-                )
-            }
-        },
-        8 => match values::parse_two_floats_in_parens(text, c) {
-            PairRead::Refused(r, p) => SpringStep::Refused(r, p),
-            PairRead::Is(x, y, m) => {
-                let mode = DampingMode::Overdamped(x, y);
-                let damping_mode = OptDamping::Present(mode);
-                SpringStep::Is(
-                    SpringFields {
-                        damping_mode,
-                        ..kept
-                    },
-                    m,
-                )
-            }
-        },
-        _ => match values::parse_two_floats_in_parens(text, c) {
-            PairRead::Refused(r, p) => SpringStep::Refused(r, p),
-            PairRead::Is(x, y, m) => {
-                let mode = DampingMode::Underdamped(x, y);
-                let damping_mode = OptDamping::Present(mode);
-                SpringStep::Is(
-                    SpringFields {
-                        damping_mode,
-                        ..kept
-                    },
-                    m,
-                )
-            }
-        },
+        _ => damping_step(text, c, row, kept),
     }
 }
 

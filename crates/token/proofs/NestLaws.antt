@@ -165,7 +165,8 @@ unfolding nestsFrom nestMark oneOf
 quote-step true cs t = refl
 quote-step false cs t = refl
 
-mark-step : (b : ℕ) (cs t : List ℕ) → among ":;,=>.+-%([{)]}" b ≡ true → nestsFrom false (awaits cs) (b ∷ t) ≡ nestsFrom false (nestMark b cs) t
+mark-step : (b : ℕ) (cs t : List ℕ) → among ":;,=>.+-%([{)]}" b ≡ true
+    → nestsFrom false (awaits cs) (b ∷ t) ≡ nestsFrom false (nestMark b cs) t
 unfolding nestsFrom every oneOf
 mark-step b cs t h = rw (no-quote b (apart (among ":;,=>.+-%([{)]}") (bytes "\"") b refl h))
 
@@ -183,7 +184,8 @@ string-step cs m (b ∷ t) h s =
     first ∙ inner ∙ last ∙ (rw e)
 
 -- the byte pass over a token does what the token does to the delimiters
-token-step : (cs t : List ℕ) (k : Kind) (n : ℕ) → lexeme t ≡ piece k n → nestsFrom false (awaits cs) t ≡ nestsFrom false (nest k cs) (drop n t)
+token-step : (cs t : List ℕ) (k : Kind) (n : ℕ) → lexeme t ≡ piece k n
+    → nestsFrom false (awaits cs) t ≡ nestsFrom false (nest k cs) (drop n t)
 token-step cs t k n e = go k (whole-of t k n e .high) (whole-of t k n e .fits) (whole-of t k n e .spelled)
   where
     go : (k : Kind) → n ≤ length t → Fits k n → Spelled t k n → nestsFrom false (awaits cs) t ≡ nestsFrom false (nest k cs) (drop n t)

@@ -218,7 +218,8 @@ module _ (t : List ℕ) (w : ℕ) (fits : w ≤ length t) (digits : (j : ℕ) �
         w
         (run isDigit (drop (suc w) t))
         digits
-        (subst (λ (x : ℕ). isWordByte x ≡ true) (sym (eqb-true (getD t w 0) 46 (both (eqb (getD t w 0) 46) (isDigit (getD t (suc w) 0)) h .0)))
+        (subst (λ (x : ℕ). isWordByte x ≡ true)
+        (sym (eqb-true (getD t w 0) 46 (both (eqb (getD t w 0) 46) (isDigit (getD t (suc w) 0)) h .0)))
         refl)
         (λ i q. digit-word (getD t (suc w + i) 0) (run-in-at isDigit t (suc w) i q));
   }

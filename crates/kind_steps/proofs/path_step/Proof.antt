@@ -1,5 +1,6 @@
 -- `kind_steps::path_step` meets its contract. Assumes nothing.
-use Rattle.cells.proofs.StepLaws.{no-float, a-float, no-easing, an-easing, no-loop, a-loop, no-truth, a-truth, row-refused, a-range, last-row}
+use Rattle.cells.proofs.StepLaws.{no-float, a-float, no-easing, an-easing, no-loop, a-loop}
+use Rattle.cells.proofs.StepLaws.{no-truth, a-truth, row-refused, a-range, last-row}
 use mathlib.Core.Path.{refl}
 use Rattle.text.specs.Bytes.{same}
 use Rattle.grammar.specs.Grammar.{pathFields}

@@ -23,7 +23,8 @@ same-length-2 c = search needs
 returns-2 : tie.Need-returns-2
 returns-2 c =
     let at-split = c .before .before in
-    let at-is-allowed = at-split .before .before .before .before .before in
+    let c6 = at-split .before .before .before .before in
+    let at-is-allowed = c6 .before in
     let start = at-is-allowed .before .before .before .before in
     at-split .split .ensures
     ∙ split-same (start .args .text .now) (start .args .scratch .now) (start .pre .1) (at-is-allowed .is-allowed .last .1 .0)

@@ -1,18 +1,15 @@
 -- `spring_step::spring_step` meets its contract. Assumes nothing.
-use Rattle.cells.proofs.StepLaws.{no-float, a-float, step-refused, a-case, a-damping, no-value, a-value, last-row}
+use Rattle.cells.proofs.StepLaws.{no-float, a-float, step-refused, a-case, no-value, a-value, past}
 use Rattle.heads.proofs.NameLaws.{choice-below}
 use mathlib.Core.Path.{refl}
 use mathlib.Core.List.{[], _∷_}
-use Prim.Native.Nat.{ℕ}
 use native.Mathlib.Omega.{arith}
-use Rattle.ast.specs.Tree as tree
 use Rattle.text.specs.Bytes.{same}
 use Rattle.text.specs.Words.{entries}
 use Rattle.error.specs.declared.Refusal.the-variants.{Malformed, UnknownSpringPreset}
 use Rattle.grammar.specs.Rule.{choice}
-use Rattle.grammar.specs.Fields.{aNumber, aDamping}
-use Rattle.grammar.specs.Values.{parseFloatInParens, parseTwoFloatsInParens}
-use Rattle.grammar.specs.Grammar.{springFields, springPreset, parseSpringPreset, integrator, criticalDamping, overDamping, underDamping}
+use Rattle.grammar.specs.Fields.{aNumber}
+use Rattle.grammar.specs.Grammar.{springFields, springPreset, parseSpringPreset, integrator}
 use borrow.Author.Needs.{needs}
 use Rattle.spring_step.proofs.spring_step.Statement.{statement}
 use Rattle.spring_step.proofs.spring_step.Tie as tie
@@ -29,9 +26,9 @@ enum-known-r c = search needs
 enum-known-i : tie.Need-enum-known-i
 enum-known-i c = search needs
 
-cast-t67 : tie.Need-cast-t67
+cast-t47 : tie.Need-cast-t47
 unfolding entries
-cast-t67 c =
+cast-t47 c =
     let at-choice = c .before .before .before in
     let b = choice-below _ _ _ _ _ _ (rw (c .before .i .given .1) at (at-choice .choice .ensures)) in
     omega (arith, b)
@@ -93,39 +90,15 @@ enum-known-r-7 c = search needs
 enum-known-i-2 : tie.Need-enum-known-i-2
 enum-known-i-2 c = search needs
 
-cast-t131 : tie.Need-cast-t131
+cast-t111 : tie.Need-cast-t111
 unfolding entries
-cast-t131 c =
+cast-t111 c =
     let at-choice2 = c .before .before .before in
     let b = choice-below _ _ _ _ _ _ (rw (c .before .i2 .given .1) at (at-choice2 .choice2 .ensures)) in
     omega (arith, b)
 
-parse-float-in-parens-requires : tie.Need-parse-float-in-parens-requires
-parse-float-in-parens-requires c κs = search needs
-
-enum-known-r-8 : tie.Need-enum-known-r-8
-enum-known-r-8 c = search needs
-
-enum-known-x-5 : tie.Need-enum-known-x-5
-enum-known-x-5 c = search needs
-
-parse-two-floats-in-parens-requires : tie.Need-parse-two-floats-in-parens-requires
-parse-two-floats-in-parens-requires c κs = search needs
-
-enum-known-r-9 : tie.Need-enum-known-r-9
-enum-known-r-9 c = search needs
-
-enum-known-x-6 : tie.Need-enum-known-x-6
-enum-known-x-6 c = search needs
-
-parse-two-floats-in-parens-requires-2 : tie.Need-parse-two-floats-in-parens-requires-2
-parse-two-floats-in-parens-requires-2 c κs = search needs
-
-enum-known-r-10 : tie.Need-enum-known-r-10
-enum-known-r-10 c = search needs
-
-enum-known-x-7 : tie.Need-enum-known-x-7
-enum-known-x-7 c = search needs
+damping-step-requires : tie.Need-damping-step-requires
+damping-step-requires c κs = (c .before .before .pre, past 7 _ (c .match .rest))
 
 returns : tie.Need-returns
 unfolding springFields entries springPreset parseSpringPreset
@@ -239,59 +212,7 @@ returns-14 c =
     (rw (c .before .i2 .given .1) at (at-choice2 .choice2 .ensures))
 
 returns-15 : tie.Need-returns-15
-unfolding springFields criticalDamping
-returns-15 c =
-    let at-parse-float-in-parens = c .before .before .before in
-    let at-match = at-parse-float-in-parens .before in
-    step-refused 7 "critically_damped" (λ l. at-match .match .keys8) parseFloatInParens (λ s. aDamping (tree.criticallyDamped s)) refl
-    (rw (c .before .r8 .given .1) at (at-parse-float-in-parens .parse-float-in-parens .ensures))
-
-returns-16 : tie.Need-returns-16
-unfolding springFields same criticalDamping
-returns-16 c =
-    let at-parse-float-in-parens = c .before .before .before in
-    let at-match = at-parse-float-in-parens .before in
-    let t = rw (c .before .x5 .given .1) at (at-parse-float-in-parens .parse-float-in-parens .ensures) in
-    a-damping 7 "critically_damped" (λ l. at-match .match .keys8) parseFloatInParens (λ (s : ℕ). tree.criticallyDamped s) 7 _ _ refl refl
-    refl refl (t .0) (t .1)
-
-returns-17 : tie.Need-returns-17
-unfolding springFields overDamping
-returns-17 c =
-    let at-parse-two-floats-in-parens = c .before .before .before in
-    let at-match = at-parse-two-floats-in-parens .before in
-    step-refused 8 "overdamped" (λ l. at-match .match .keys9) parseTwoFloatsInParens (λ p. aDamping (tree.overdamped (p .0) (p .1))) refl
-    (rw (c .before .r9 .given .1) at (at-parse-two-floats-in-parens .parse-two-floats-in-parens .ensures))
-
-returns-18 : tie.Need-returns-18
-unfolding springFields same overDamping
-returns-18 c =
-    let at-parse-two-floats-in-parens = c .before .before .before in
-    let at-match = at-parse-two-floats-in-parens .before in
-    let t = rw (c .before .x6 .given .1) at (at-parse-two-floats-in-parens .parse-two-floats-in-parens .ensures) in
-    a-damping 8 "overdamped" (λ l. at-match .match .keys9) parseTwoFloatsInParens (λ (p : ℕ × ℕ). tree.overdamped (p .0) (p .1)) 7 _ _ refl
-    refl refl refl (t .took) (t .first, t .second)
-
-returns-19 : tie.Need-returns-19
-unfolding springFields underDamping
-returns-19 c =
-    let at-parse-two-floats-in-parens2 = c .before .before .before in
-    let at-match = at-parse-two-floats-in-parens2 .before in
-    step-refused 9 "underdamped"
-    (λ l. last-row 9 _ (at-match .match .rest) l)
-    parseTwoFloatsInParens
-    (λ p. aDamping (tree.underdamped (p .0) (p .1)))
-    refl
-    (rw (c .before .r10 .given .1) at (at-parse-two-floats-in-parens2 .parse-two-floats-in-parens2 .ensures))
-
-returns-20 : tie.Need-returns-20
-unfolding springFields same underDamping
-returns-20 c =
-    let at-parse-two-floats-in-parens2 = c .before .before .before in
-    let at-match = at-parse-two-floats-in-parens2 .before in
-    let t = rw (c .before .x7 .given .1) at (at-parse-two-floats-in-parens2 .parse-two-floats-in-parens2 .ensures) in
-    a-damping 9 "underdamped" (λ l. last-row 9 _ (at-match .match .rest) l) parseTwoFloatsInParens
-    (λ (p : ℕ × ℕ). tree.underdamped (p .0) (p .1)) 7 _ _ refl refl refl refl (t .took) (t .first, t .second)
+returns-15 c = search needs
 
 pub spring-step-spec : {M : Type 1} → statement M
 spring-step-spec =
@@ -301,7 +222,7 @@ spring-step-spec =
     choice-requires
     enum-known-r
     enum-known-i
-    cast-t67
+    cast-t47
     parse-float-requires
     enum-known-r-2
     enum-known-x
@@ -321,16 +242,8 @@ spring-step-spec =
     choice-requires-2
     enum-known-r-7
     enum-known-i-2
-    cast-t131
-    parse-float-in-parens-requires
-    enum-known-r-8
-    enum-known-x-5
-    parse-two-floats-in-parens-requires
-    enum-known-r-9
-    enum-known-x-6
-    parse-two-floats-in-parens-requires-2
-    enum-known-r-10
-    enum-known-x-7
+    cast-t111
+    damping-step-requires
     returns
     returns-2
     returns-3
@@ -345,9 +258,4 @@ spring-step-spec =
     returns-12
     returns-13
     returns-14
-    returns-15
-    returns-16
-    returns-17
-    returns-18
-    returns-19
-    returns-20)
+    returns-15)

@@ -1,5 +1,5 @@
--- `token::delimiters_fit` meets its contract; the loop keeps whether the delimiters fit: they do from `from` on, with the closers that the words
--- hold, or not. Assumes nothing.
+-- `token::delimiters_fit` meets its contract; the loop keeps whether the delimiters fit: they do from `from` on, with the closers that the
+-- words hold, or not. Assumes nothing.
 use Prim.Native.Nat.{_-_, _≤_}
 use mathlib.Core.Bool.{false}
 use mathlib.Core.List.{[]}
@@ -71,8 +71,9 @@ quoted-by-requires c κs = search needs
 
 loop-less : tie.Need-loop-less Inv-loop μ-loop
 loop-less c =
-    let at-nest-byte = c .before .before .before .before .before .before in
-    let at-plain-end = at-nest-byte .before .before .before .before in
+    let c4 = c .before .before .before .before in
+    let c8 = c4 .before .before .before .before in
+    let at-plain-end = c8 .before .before in
     omega (arith, at-plain-end .plain-end .ensures .low)
 
 loop-again : tie.Need-loop-again Inv-loop μ-loop

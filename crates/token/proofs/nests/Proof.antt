@@ -18,8 +18,10 @@ same-length c = search needs
 returns : tie.Need-returns
 returns c =
     let at-clear = c .before .before in
-    let at-delimiters-fit = at-clear .before .before .before .before in
-    (at-delimiters-fit .delimiters-fit .ensures, at-clear .clear .ensures ∙ ap (λ (n : ℕ). replicate n 0) (at-delimiters-fit .delimiters-fit .kept .1 .0))
+    let at-delimiters-fit = at-clear .before .before .before .before in (
+      at-delimiters-fit .delimiters-fit .ensures,
+      at-clear .clear .ensures ∙ ap (λ (n : ℕ). replicate n 0) (at-delimiters-fit .delimiters-fit .kept .1 .0),
+    )
 
 pub nests-spec : {M : Type 1} → statement M
 nests-spec = tie.close (tie.spec delimiters-fit-requires clear-requires same-length returns)

@@ -29,16 +29,20 @@ cast-b c = omega (arith, c .shared-slice-known .given (c .before .before .loop .
 
 mul-v : tie.Need-mul-v Inv-loop μ-loop
 mul-v c =
-    let loop = c .before .before .loop in
-    let start = c .before .before .before in
-    let v = pack-small (start .args .word .now) (λ j l. omega (arith, c .shared-slice-known .given j)) (loop .i) (omega arith) (start .pre) in
+    let at-loop = c .before .before in
+    let loop = at-loop .loop in
+    let start = at-loop .before in
+    let v = pack-small (start .args .word .now) (λ j l. omega (arith, c .shared-slice-known .given j)) (loop .i) (omega arith) (start .pre)
+    in
     omega (arith, loop .inv .1, c .shared-slice-known .given (loop .i - 1))
 
 add-v : tie.Need-add-v Inv-loop μ-loop
 add-v c =
-    let loop = c .before .before .loop in
-    let start = c .before .before .before in
-    let v = pack-small (start .args .word .now) (λ j l. omega (arith, c .shared-slice-known .given j)) (loop .i) (omega arith) (start .pre) in
+    let at-loop = c .before .before in
+    let loop = at-loop .loop in
+    let start = at-loop .before in
+    let v = pack-small (start .args .word .now) (λ j l. omega (arith, c .shared-slice-known .given j)) (loop .i) (omega arith) (start .pre)
+    in
     omega (arith, loop .inv .1, c .shared-slice-known .given (loop .i - 1))
 
 loop-less : tie.Need-loop-less Inv-loop μ-loop
@@ -46,10 +50,13 @@ loop-less c = search needs
 
 loop-again : tie.Need-loop-again Inv-loop μ-loop
 loop-again c =
-    let loop = c .before .before .loop in
-    let start = c .before .before .before in
-    let e : loop .i ≡ suc (loop .i - 1) = omega arith in
-    (omega (arith, loop .inv .0), rw (pack-at (start .args .word .now) (loop .i - 1) (omega (arith, loop .inv .0)), sym e, sym (loop .inv .1)))
+    let at-loop = c .before .before in
+    let loop = at-loop .loop in
+    let start = at-loop .before in
+    let e : loop .i ≡ suc (loop .i - 1) = omega arith in (
+      omega (arith, loop .inv .0),
+      rw (pack-at (start .args .word .now) (loop .i - 1) (omega (arith, loop .inv .0)), sym e, sym (loop .inv .1)),
+    )
 
 returns : tie.Need-returns Inv-loop μ-loop
 returns c =
