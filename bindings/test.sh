@@ -18,7 +18,7 @@ expect() {
         cmp "$out/got" "$out/wanted"
     done
 }
-expect 'at 0.5;' '00020001FF\n00060E3F00000000B3\naccept 1\n'
+expect 'at 0.5;' '00020001FF\n00080E00003F00000000B3\naccept 1\n'
 expect '' '0002000000\naccept 0\n'
 expect 'tween' 'refuse 6 at 5\n'
 expect 'keyframes p {50%%: 0, 0.5s: 1}' 'refuse 26 at 1\n'

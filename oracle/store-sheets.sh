@@ -1,6 +1,7 @@
 #!/bin/sh
 # Makes the cases of crates/sheet_cases anew: good sheets, each kind of node first in some, and each of them with every byte
-# one more, one less, removed and doubled; then 16 and 17 containers nested. Of a text only the length matters: it is all `x`.
+# one more, one less, removed and doubled; then the sheets of answers/reference.txt, and 16 and 17 containers nested. Of a text
+# only the length matters: it is all `x`.
 # usage: oracle/store-sheets.sh   after oracle/build.sh
 set -eu
 here=$(cd "$(dirname "$0")" && pwd)
@@ -8,6 +9,7 @@ oracle=$here/../target/oracle/places/release/oracle
 crate=$here/../crates/sheet_cases
 work=$(mktemp -d)
 trap 'rm -rf "$work"' EXIT
+. "$here/hex.sh"
 
 # Texts as so many `x`.
 plain() {
@@ -40,17 +42,16 @@ damaged() {
         }'
 }
 
-# nested COUNT: that many containers, each in the one before.
-nested() {
-    printf '78\t0001'
-    i=1
-    while [ "$i" -lt "$1" ]; do
-        printf 030001
-        i=$((i + 1))
-    done
-    echo 030000
+reference() {
+    awk -F'\t' '$1 ~ /check$/ { print $2 }' "$here/answers/reference.txt" | to_hex > "$work/texts"
+    awk -F'\t' '$1 ~ /check$/ { print $3 }' "$here/answers/reference.txt" | paste "$work/texts" - | plain
 }
 
-{ good | damaged; nested 16; nested 17; } > "$work/cases"
+# nested COUNT: that many containers, each in the one before.
+nested() {
+    printf '78\t0001%s0300000000\n' "$(many $(($1 - 1)) 0300000001)"
+}
+
+{ good | damaged; reference; nested 16; nested 17; } > "$work/cases"
 awk -F'\t' '{ print length($1) / 2 "\t" $2 }' "$work/cases" > "$crate/stdin"
 "$oracle" records < "$work/cases" > "$crate/stdout"

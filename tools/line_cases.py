@@ -5,7 +5,7 @@ import gzip, subprocess
 
 ORACLE = "target/oracle/places/release/oracle"
 ROOM = 101  # the bytes of output that line_cases lends
-SHELF = [("", "0000"), ("617420302E353B", "00010E3F00000000")]  # P1 and P2
+SHELF = [("", "0000"), ("617420302E353B", "00010E00003F00000000")]  # P1 and P2
 LONG = [(bytes(16385), b""), (bytes(16384), b"")]  # line_cases makes these two itself
 
 

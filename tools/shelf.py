@@ -1,6 +1,6 @@
 #!/usr/bin/env python3
 """Makes crates/shelf/stdin and stdout: 01's shelf tests, but for P13, which is no script, scripts at its limits, and those of examples/. The records
-of the first two are written here by hand from 01, and their lines follow by its rule; what the examples print is in examples/*.out. Each script ends
+of the first two are written here by hand from 01 and 02 (a), and their lines follow by its rule; what the examples print is in examples/*.out. Each script ends
 with a byte 0. Run from the repository's root."""
 import glob
 
@@ -20,16 +20,16 @@ def refused(number, place):
     return [f"refuse {number} at {place}"]
 
 
-# kind, target, from, to; then duration, easing, delay, time scale, loop, snap, round, reverse
-TWEEN = "00 0006 0001 00 00000000 00 3F800000"
-# kind, target, count; then frames of time, value, easing; then loop
-FRAMES = "02 000A 0001 0002 {} 00"
+# kind, start, target, from, to; then duration, easing, delay, time scale, loop, snap, round, reverse
+TWEEN = "00 0000 0006 0001 00 00000000 00 3F800000"
+# kind, start, target, count; then frames of time, value, easing; then loop
+FRAMES = "02 0000 000A 0001 0002 {} 00"
 
 SHELF = [
     ("", accepted(0)),
-    ("at 0.5;", accepted(1, "0E 3F000000 00")),
-    ("at -0", accepted(1, "0E 80000000 01")),
-    ("at --1", accepted(1, "0E 3F800000 01")),
+    ("at 0.5;", accepted(1, "0E 0000 3F000000 00")),
+    ("at -0", accepted(1, "0E 0000 80000000 01")),
+    ("at --1", accepted(1, "0E 0000 3F800000 01")),
     ("tween p: 0 => 1 duration: 0.5s easing: linear", accepted(1, TWEEN + "3F000000 01 00 00 0027 0006 00 00 00 00 00 00")),
     ("tween p: 0 => 1 duration: 1 reverse: true reverse: false", accepted(1, TWEEN + "3F800000 00 00 00 00 00 00 01")),
     ("tween p: 0 => 1 duration: 1 easing: steps(3, 4)", refused(13, 43)),
@@ -41,20 +41,20 @@ SHELF = [
     ("tween p: 0 => 1 duration: -0", accepted(1, TWEEN + "80000000 00 00 00 00 00 00 00")),
     ("tween p: 0 => 1 duration: -1", refused(21, 1)),
     ("keyframes p {16777216: 0, 16777217: 1}", refused(26, 1)),
-    ("at 0.1", accepted(1, "0E 3DCCCCCD 00")),
+    ("at 0.1", accepted(1, "0E 0000 3DCCCCCD 00")),
 ]
 
 # 16,384 and 16,385 bytes; 16 and 17 containers; 64 and 65 openers; 10 and 11 digits; 0 to [5] and to []
 LIMITS = [
-    ("at 0.5;".ljust(16384), accepted(1, "0E 3F000000 00")),
+    ("at 0.5;".ljust(16384), accepted(1, "0E 0000 3F000000 00")),
     ("at 0.5;".ljust(16385), refused(1, 0)),
-    ("sequence {" * 16 + "}" * 16, accepted(1, *["03 0001"] * 15, "03 0000")),
+    ("sequence {" * 16 + "}" * 16, accepted(1, *[f"03 {10 * i:04X} 0001" for i in range(15)], "03 0096 0000")),
     ("sequence {" * 17 + "}" * 17, refused(12, 169)),
     ("(" * 64 + ")" * 64, refused(6, 0)),
     ("(" * 65 + ")" * 65, refused(5, 64)),
-    ("at 1234567890", accepted(1, "0E 4E932C06 00")),
+    ("at 1234567890", accepted(1, "0E 0000 4E932C06 00")),
     ("at 12345678901", refused(3, 3)),
-    ("tween p: 0 => [5] duration: 1", accepted(1, "00 0006 0001 00 00000000 01 0001 40A00000 3F800000 00 00 00 00 00 00 00")),
+    ("tween p: 0 => [5] duration: 1", accepted(1, "00 0000 0006 0001 00 00000000 01 0001 40A00000 3F800000 00 00 00 00 00 00 00")),
     ("tween p: 0 => [] duration: 1", refused(22, 1)),
 ]
 
@@ -64,7 +64,7 @@ def too_long():
     frames = ",".join(f"{i}:0" for i in range(99))
     numbers = (16384 - len("keyframes p{" + frames + ",99:[]}")) // 2
     text = "keyframes p{" + frames + ",99:[" + ",".join(["0"] * numbers) + "]}"
-    record = 7 + 99 * 11 + (5 + 3 + 4 * numbers + 1) + 1
+    record = 9 + 99 * 11 + (5 + 3 + 4 * numbers + 1) + 1
     assert len(text) <= 16384 and record <= 49150 and 2 * record + 7 > 65536
     return (text, [line(bytes.fromhex("0001")), "refuse 32 at 1"])
 

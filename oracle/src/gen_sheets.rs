@@ -40,8 +40,9 @@ fn case(random: &mut Random) -> (Vec<u8>, Vec<u8>) {
     let (mut text, mut sheet) = good(random);
     match random.below(20) {
         0..=4 => {}
-        5..=9 => put_floats(random, &mut sheet),
-        10..=13 => put_part(random, &mut sheet, text.len()),
+        5..=8 => put_floats(random, &mut sheet),
+        9..=11 => put_part(random, &mut sheet, text.len()),
+        12..=13 => put_start(random, &mut sheet, text.len()),
         14..=18 => put_bytes(random, &mut sheet.bytes),
         _ => change_text(random, &mut text),
     }
@@ -71,6 +72,17 @@ fn put_floats(random: &mut Random, sheet: &mut Sheet) {
         let at = random.pick(&sheet.floats);
         sheet.bytes[at..at + 4].copy_from_slice(&float(random).to_be_bytes());
     }
+}
+
+/// Moves the start of a node to the last place of the text, to its end, past it, or elsewhere.
+fn put_start(random: &mut Random, sheet: &mut Sheet, text: usize) {
+    if sheet.starts.is_empty() {
+        return;
+    }
+    let at = random.pick(&sheet.starts);
+    let inside = random.below(text + 1);
+    let start = random.pick(&[0, text - 1, text - 1, text, text, text + 1, 65_535, inside]);
+    sheet.bytes[at..at + 2].copy_from_slice(&(start as u16).to_be_bytes());
 }
 
 /// Moves a name to, or past, the text's end, or elsewhere.
@@ -132,7 +144,7 @@ fn nested(random: &mut Random) -> (Vec<u8>, Vec<u8>) {
         bytes.extend([0, (level + 1 < depth) as u8 + second as u8]);
     }
     for _ in 0..later {
-        bytes.extend([14, 0x3F, 0x80, 0, 0, random.pick(&[0, 0, 0, 1, 2])]);
+        bytes.extend([14, 0, 0, 0x3F, 0x80, 0, 0, random.pick(&[0, 0, 0, 1, 2])]);
     }
     (b"p".to_vec(), bytes)
 }
@@ -140,14 +152,14 @@ fn nested(random: &mut Random) -> (Vec<u8>, Vec<u8>) {
 /// A container's record without its count of nodes.
 fn container(random: &mut Random) -> Vec<u8> {
     match random.below(6) {
-        0 => vec![3],
-        1 => vec![4],
-        2 => vec![5, random.pick(&[0, 1])],
-        3 => vec![6, 0, 0],
-        4 => vec![6, 1, 2, 1, 0x7F, 0xC0, 0, 0],
+        0 => vec![3, 0, 0],
+        1 => vec![4, 0, 0],
+        2 => vec![5, 0, 0, random.pick(&[0, 1])],
+        3 => vec![6, 0, 0, 0, 0],
+        4 => vec![6, 0, 0, 1, 2, 1, 0x7F, 0xC0, 0, 0],
         _ => {
             let rows = random.pick(&[0, 1, 1, 1, 1, 1]);
-            vec![6, 1, 0, 0, 0, 0, 1, 0, 0, 0, rows, random.pick(&[0, 4, 8]), 0]
+            vec![6, 0, 0, 1, 0, 0, 0, 0, 1, 0, 0, 0, rows, random.pick(&[0, 4, 8]), 0]
         }
     }
 }
@@ -155,7 +167,7 @@ fn container(random: &mut Random) -> Vec<u8> {
 /// A track whose times lie close together, or are no numbers.
 fn track(random: &mut Random) -> (Vec<u8>, Vec<u8>) {
     let text = b"p linear Linear ease".to_vec();
-    let mut bytes = vec![0, 1, 2, 0, 0, 0, 1, 0];
+    let mut bytes = vec![0, 1, 2, 0, 0, 0, 0, 0, 1, 0];
     let count = random.pick(&[0, 1, 2, 2, 2, 2, 3, 3, 4, 5]);
     bytes.push(count);
     let mut time = float(random);
@@ -189,11 +201,11 @@ fn next_time(random: &mut Random, time: u32) -> u32 {
 /// 65,533 to 65,537 bytes of labels, with a few `at` to make up the length.
 fn large(random: &mut Random) -> (Vec<u8>, Vec<u8>) {
     let size: usize = random.pick(&[65_533, 65_534, 65_535, 65_535, 65_536, 65_537]);
-    let sixes = (size - 2) % 5;
-    let fives = (size - 2 - 6 * sixes) / 5;
-    let mut bytes = ((sixes + fives) as u16).to_be_bytes().to_vec();
-    bytes.extend([14, 0, 0, 0, 0, 0].repeat(sixes));
-    bytes.extend([13, 0, 0, 0, 1].repeat(fives));
+    let eights = (size - 2) % 7;
+    let sevens = (size - 2 - 8 * eights) / 7;
+    let mut bytes = ((eights + sevens) as u16).to_be_bytes().to_vec();
+    bytes.extend([14, 0, 0, 0, 0, 0, 0, 0].repeat(eights));
+    bytes.extend([13, 0, 0, 0, 0, 0, 1].repeat(sevens));
     assert_eq!(bytes.len(), size);
     (b"p".to_vec(), bytes)
 }

@@ -3,7 +3,7 @@
 use proc_macro2::Span;
 
 /// One name or string: start and length in the text.
-#[derive(Clone, Copy, Debug, PartialEq, Eq)]
+#[derive(Clone, Copy, Debug, Default, PartialEq, Eq)]
 pub struct Part {
     pub start: usize,
     pub length: usize,
@@ -25,6 +25,7 @@ pub struct EasingPart {
 /// The parts taken for one node, in the order taken.
 #[derive(Clone, Debug, Default)]
 pub struct NodeParts {
+    pub keyword: Part,
     pub names: Vec<Part>,
     pub easings: Vec<EasingPart>,
 }
@@ -95,12 +96,12 @@ mod noted {
         let mut nodes: Vec<NodeParts> = Vec::new();
         for event in events {
             let Event::Token { line, span } = event else { continue };
+            let part = part(text, *span);
             if *line == lines::KEYWORD {
-                nodes.push(NodeParts::default());
+                nodes.push(NodeParts { keyword: part, ..NodeParts::default() });
                 continue;
             }
             let node = nodes.last_mut().expect("a keyword first");
-            let part = part(text, *span);
             if lines::NAMES.contains(line) {
                 node.names.push(part);
             } else if *line == lines::EASING {

@@ -37,7 +37,7 @@ fn script(size: usize) -> Vec<u8> {
 
 /// A sheet of one track for the text `x`, its frames' times distinct.
 fn track(frames: u16) -> Vec<u8> {
-    let mut sheet = vec![0, 1, 2, 0, 0, 0, 1];
+    let mut sheet = vec![0, 1, 2, 0, 0, 0, 0, 0, 1];
     sheet.extend(frames.to_be_bytes());
     for i in 0..frames {
         sheet.push(1);

@@ -12,24 +12,36 @@
 //!     panic!("a refusal");
 //! };
 //! let sheet = &sheet[..length];
-//! assert_eq!((sheet, records), (&[0, 1, 14, 0x3F, 0, 0, 0, 0][..], 1));
+//! assert_eq!((sheet, records), (&[0, 1, 14, 0, 0, 0x3F, 0, 0, 0, 0][..], 1));
 //! assert_eq!(strip::check(text, sheet), CheckAnswer::Accepted);
 //!
 //! // the head is record 0, and a node's ordinals begin at 1
 //! let mut output = [0; 64];
-//! assert_eq!(strip::line(text, sheet, 1, &mut output), LineAnswer::Accepted { length: 19 });
-//! assert_eq!(&output[..19], b"00060E3F00000000B3\n");
+//! assert_eq!(strip::line(text, sheet, 1, &mut output), LineAnswer::Accepted { length: 23 });
+//! assert_eq!(&output[..23], b"00080E00003F00000000B3\n");
 //!
 //! // all that the program prints for a text, in one call
 //! let mut page = vec![0; strip::PAGE_BYTES];
 //! let answer = strip::print(text, &mut scratch, &mut vec![0; strip::SHEET_BYTES], &mut page);
-//! assert_eq!(answer, LineAnswer::Accepted { length: 39 });
-//! assert_eq!(&page[..39], b"00020001FF\n00060E3F00000000B3\naccept 1\n");
+//! assert_eq!(answer, LineAnswer::Accepted { length: 43 });
+//! assert_eq!(&page[..43], b"00020001FF\n00080E00003F00000000B3\naccept 1\n");
 //!
 //! // a refusal has a number, a name and a place
 //! let answer = strip::read(b"at 0.5; tween", &mut scratch, &mut vec![0; strip::SHEET_BYTES]);
 //! assert_eq!(answer, ReadAnswer::Refused { refusal: Refusal::Missing, place: 13 });
 //! assert_eq!((Refusal::Missing.number(), Refusal::Missing.name()), (6, "Missing"));
+//!
+//! // checking refuses a record, and its line tells where its node stands in the text
+//! let text = b"at 1;\n  preset fadein";
+//! let mut sheet = vec![0; strip::SHEET_BYTES];
+//! let ReadAnswer::Accepted { length, .. } = strip::read(text, &mut scratch, &mut sheet) else {
+//!     panic!("a refusal");
+//! };
+//! let answer = strip::check(text, &sheet[..length]);
+//! assert_eq!(answer, CheckAnswer::Refused { refusal: Refusal::UnknownPreset, place: 2 });
+//! assert_eq!(strip::line(text, &sheet[..length], 2, &mut output), LineAnswer::Accepted { length: 25 });
+//! let start = strip::start(&output[..25]).expect("a node's line");
+//! assert_eq!((start, strip::line_and_column(text, start)), (8, (2, 3)));
 //! ```
 #![warn(missing_docs)]
 
@@ -149,6 +161,28 @@ pub fn print(text: &[u8], scratch: &mut [u16], sheet: &mut [u8], page: &mut [u8]
             page.len(),
         )
     })
+}
+
+/// The start in the text of the keyword of a record's node, from the line that [`line`] wrote for the record: the two bytes behind
+/// the kind. The head's line has none, and neither has what is no line.
+pub fn start(line: &[u8]) -> Option<usize> {
+    match hexadecimal(line.get(..4)?)? {
+        0..=2 => None,
+        _ => hexadecimal(line.get(6..10)?),
+    }
+}
+
+/// The line and the column of a place in a text, both from 1 on; the column counts bytes.
+pub fn line_and_column(text: &[u8], place: usize) -> (usize, usize) {
+    let before = &text[..place.min(text.len())];
+    let line = 1 + before.iter().filter(|&&byte| byte == b'\n').count();
+    let column = 1 + before.iter().rev().take_while(|&&byte| byte != b'\n').count();
+    (line, column)
+}
+
+/// The number that some hexadecimal digits spell.
+fn hexadecimal(digits: &[u8]) -> Option<usize> {
+    usize::from_str_radix(std::str::from_utf8(digits).ok()?, 16).ok()
 }
 
 fn line_answer(answer: u64) -> LineAnswer {

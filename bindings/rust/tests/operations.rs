@@ -22,15 +22,15 @@ fn refused(refusal: Refusal, place: usize) -> ReadAnswer {
 fn a_script_is_read_checked_and_lined() {
     let text = b"at 0.5;";
     let (sheet, records) = sheet_of(text);
-    assert_eq!(sheet, [0, 1, 14, 0x3F, 0, 0, 0, 0]);
+    assert_eq!(sheet, [0, 1, 14, 0, 0, 0x3F, 0, 0, 0, 0]);
     assert_eq!(records, 1);
     assert_eq!(check(text, &sheet), CheckAnswer::Accepted);
     let mut output = [7; 32];
     assert_eq!(line(text, &sheet, 0, &mut output), LineAnswer::Accepted { length: 11 });
     assert_eq!(&output[..11], b"00020001FF\n");
     assert_eq!(output[11..], [7; 21]);
-    assert_eq!(line(text, &sheet, 1, &mut output), LineAnswer::Accepted { length: 19 });
-    assert_eq!(&output[..19], b"00060E3F00000000B3\n");
+    assert_eq!(line(text, &sheet, 1, &mut output), LineAnswer::Accepted { length: 23 });
+    assert_eq!(&output[..23], b"00080E00003F00000000B3\n");
 }
 
 /// What printing writes for a text, on a page that is otherwise as it was.
@@ -46,7 +46,7 @@ fn printed(text: &[u8]) -> Vec<u8> {
 
 #[test]
 fn a_script_is_printed_on_a_page() {
-    assert_eq!(printed(b"at 0.5;"), b"00020001FF\n00060E3F00000000B3\naccept 1\n");
+    assert_eq!(printed(b"at 0.5;"), b"00020001FF\n00080E00003F00000000B3\naccept 1\n");
     assert_eq!(printed(b""), b"0002000000\naccept 0\n");
     assert_eq!(printed(b"tween"), b"refuse 6 at 5\n");
     assert_eq!(printed(b"keyframes p {50%: 0, 0.5s: 1}"), b"refuse 26 at 1\n");
@@ -54,7 +54,7 @@ fn a_script_is_printed_on_a_page() {
     // lines, and then a record whose line is longer than 65,536 bytes
     let frames: String = (0..99).map(|k| format!("{k}:0,")).collect();
     let text = format!("at 1;keyframes p{{{frames}99:[{}]}}", vec!["0"; 7938].join(","));
-    assert_eq!(printed(text.as_bytes()), b"00020002FE\n00060E3F8000000033\nrefuse 32 at 2\n");
+    assert_eq!(printed(text.as_bytes()), b"00020002FE\n00080E00003F8000000033\nrefuse 32 at 2\n");
 }
 
 #[test]
@@ -89,7 +89,7 @@ fn refusals_of_reading_clear_what_is_lent_but_for_two() {
 fn the_longest_values_come_back() {
     let text = "at 1;".repeat(TEXT_BYTES / 5);
     let (sheet, records) = sheet_of(text.as_bytes());
-    assert_eq!((sheet.len(), records), (2 + 6 * 3276, 3276));
+    assert_eq!((sheet.len(), records), (2 + 8 * 3276, 3276));
     // the longest place of a refusal of reading
     let mut open = vec![b' '; TEXT_BYTES];
     open[0] = b'(';

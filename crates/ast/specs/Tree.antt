@@ -157,45 +157,46 @@ pub data Container : Type 0 where
   group : ℕ → Container
   stagger : Option StaggerPatternSpec → Option ℕ → Container
 
--- nodes in order: none; a leaf and those after it; a container, the nodes in it and those after it
+-- nodes in order: none; a leaf and those after it; a container, the nodes in it and those after it. Each has first, 02 (a), "the start of
+-- the node's keyword in the text".
 pub data Nodes (K : Type 0) : Type 0 where
   none : Nodes K
-  leaf : Leaf K → Nodes K → Nodes K
-  box : Container → Nodes K → Nodes K → Nodes K
+  leaf : ℕ → Leaf K → Nodes K → Nodes K
+  box : ℕ → Container → Nodes K → Nodes K → Nodes K
 
--- `MotionNode`: one node, with the nodes in it
+-- `MotionNode`: one node, with the start of its keyword and the nodes in it
 pub data MotionNode (K : Type 0) : Type 0 where
-  single : Leaf K → MotionNode K
-  holding : Container → Nodes K → MotionNode K
+  single : ℕ → Leaf K → MotionNode K
+  holding : ℕ → Container → Nodes K → MotionNode K
 
 -- a node in front of others
 abbrev pub push : {K : Type 0} → MotionNode K → Nodes K → Nodes K
-push (single l) rest = leaf l rest
-push (holding b inner) rest = box b inner rest
+push (single p l) rest = leaf p l rest
+push (holding p b inner) rest = box p b inner rest
 
 -- one list of nodes after another
 abbrev pub append : {K : Type 0} → Nodes K → Nodes K → Nodes K
 append none ns = ns
-append (leaf l rest) ns = leaf l (append rest ns)
-append (box b inner rest) ns = box b inner (append rest ns)
+append (leaf p l rest) ns = leaf p l (append rest ns)
+append (box p b inner rest) ns = box p b inner (append rest ns)
 
 -- how many stand beside each other
 abbrev pub width : {K : Type 0} → Nodes K → ℕ
 width none = 0
-width (leaf l rest) = suc (width rest)
-width (box b inner rest) = suc (width rest)
+width (leaf p l rest) = suc (width rest)
+width (box p b inner rest) = suc (width rest)
 
 -- how many records they have
 abbrev pub records : {K : Type 0} → Nodes K → ℕ
 records none = 0
-records (leaf l rest) = suc (records rest)
-records (box b inner rest) = suc (records inner + records rest)
+records (leaf p l rest) = suc (records rest)
+records (box p b inner rest) = suc (records inner + records rest)
 
 -- the leaves in preorder, none for a container: the place in the list is the record's ordinal less one
 abbrev pub preorder : {K : Type 0} → Nodes K → List (Option (Leaf K))
 preorder Nodes.none = []
-preorder (leaf l rest) = some l ∷ preorder rest
-preorder (box b inner rest) = Option.none ∷ preorder inner ++ preorder rest
+preorder (leaf p l rest) = some l ∷ preorder rest
+preorder (box p b inner rest) = Option.none ∷ preorder inner ++ preorder rest
 
 -- ---- the same tree with other times
 
@@ -218,5 +219,5 @@ mapLeaf f (at t) = at t
 
 abbrev pub mapTimes : {K L : Type 0} → (K → L) → Nodes K → Nodes L
 mapTimes f none = none
-mapTimes f (leaf l rest) = leaf (mapLeaf f l) (mapTimes f rest)
-mapTimes f (box b inner rest) = box b (mapTimes f inner) (mapTimes f rest)
+mapTimes f (leaf p l rest) = leaf p (mapLeaf f l) (mapTimes f rest)
+mapTimes f (box p b inner rest) = box p b (mapTimes f inner) (mapTimes f rest)

@@ -1,55 +1,82 @@
 -- The beginning of a node: its keyword, and what stands behind it. Assumes nothing.
-use Prim.Native.Nat.{ℕ}
+use Prim.Native.Nat.{ℕ, _<_}
+use Prim.Native.String.{String}
 use mathlib.Core.List.{List}
-use mathlib.Core.Path.{_≡_, refl}
+use mathlib.Core.Option.{some}
+use mathlib.Core.Path.{_≡_}
 use native.Mathlib.Omega.{arith}
+use lib.ListN.{getElem?}
 use Rattle.number.specs.Time.{Key}
-use Rattle.ast.specs.Tree.{Nodes}
+use Rattle.ast.specs.Tree.{Leaf, Nodes}
+use Rattle.encode.specs.Writes.{Writes}
+use Rattle.encode.proofs.OverLaws.{writes-then}
 use Rattle.error.specs.declared.Refusal.{Refusal}
 use Rattle.error.specs.declared.Refusal.the-variants.{UnknownKeyword}
 use Rattle.grammar.specs.Rule.{refused, Rule, word}
-use Rattle.grammar.specs.Grammar.{parseNode}
+use Rattle.grammar.specs.Grammar.{leaves, containers, parseNode}
 use Rattle.cursor.specs.Means.{Ready, run, Took}
 use Rattle.cursor.specs.declared.Cursor.{Cursor}
+use Rattle.nodes.specs.Means.{leafKind}
 use Rattle.nodes.specs.declared.NodeRead.the-variants as read
 use Rattle.leaves.specs.Means.{LeafAtMeans}
-use Rattle.blocks.specs.Means.{KeywordMeans, behindWord, LeafBegun, ContainerBegun, BegunMeans}
+use Rattle.blocks.specs.Means.{KeywordMeans, behindWord, leafKindAt, containerKindAt, frontBytes, LeafBegun, ContainerBegun}
+use Rattle.blocks.specs.Means.{BegunMeans}
 use Rattle.blocks.specs.declared.Keyword.the-variants as keyword
 use Rattle.blocks.specs.declared.Begun.{Begun}
 use Rattle.blocks.specs.declared.Begun.the-variants as begun
+use Rattle.blocks.proofs.KindLaws.{the-given, place-low, leaf-kind}
 
 -- ---- behind the keyword
 
-module _ (s b a : List ℕ) (c : Cursor) (out : ℕ) (w : List ℕ) where
-  pub leaf-begun : (i q : ℕ) (m : Cursor) → KeywordMeans w (keyword.Leaf i)
-      → LeafAtMeans s b a c out i (read.Is q m) → LeafBegun 0 s b a c m out q (behindWord w)
-  leaf-begun i q m k h = let l = h (k .0) (k .1) in record {
-    value = l .value;
-    took = λ blk. record { is = rw (k .2, l .took .is); low = omega (arith, l .took .low); ready = l .took .ready };
-    writes = l .writes;
-    paid = l .paid;
-  }
+-- the place in the table is one of it
+pub leaf-low : (w : List ℕ) (i : ℕ) → KeywordMeans w (keyword.Leaf i) → i < 11
+unfolding leaves
+leaf-low w i k = place-low leaves i (k .0) (k .1)
 
-  pub leaf-refused : (i : ℕ) (r : Refusal) (q : ℕ) → KeywordMeans w (keyword.Leaf i)
-      → LeafAtMeans s b a c out i (read.Refused r q) → (blk : Rule (Nodes Key))
-      → run s c (behindWord w blk) ≡ refused r q
-  leaf-refused i r q k h blk = rw (k .2, h (k .0) (k .1))
+pub container-low : (w : List ℕ) (i : ℕ) → KeywordMeans w (keyword.Container i) → i < 4
+unfolding containers
+container-low w i k = place-low containers i (k .0) (k .1)
 
-  pub container-begun : (i : ℕ) → Ready s c → KeywordMeans w (keyword.Container i) → ContainerBegun 0 s b b c c i (behindWord w)
-  container-begun i r k = record {
+module _ (s b b₁ : List ℕ) (c : Cursor) (out at start : ℕ) (w : List ℕ) (i : ℕ) where
+  -- the front of a leaf's record is written, and its fields behind it
+  pub leaf-begun : KeywordMeans w (keyword.Leaf i) → (a : List ℕ) (q : ℕ) (m : Cursor)
+      → Writes b out (frontBytes (leafKindAt i) start) b₁ at
+      → LeafAtMeans s b₁ a c at i (read.Is q m)
+      → LeafBegun 0 s b a c m out q (behindWord start w)
+  leaf-begun k a q m f h =
+      let l = h (k .0) (k .1) in
+      let e : leafKind (l .value) ≡ leafKindAt i = the-given (leaf-kind i (k .0) (k .1)) _ _ _ _ _ (l .took .is) in
+      record {
+        start = start;
+        value = l .value;
+        took = λ blk. record { is = rw (k .2, l .took .is); low = omega (arith, l .took .low); ready = l .took .ready };
+        low = omega (arith, l .took .low);
+        writes = rw e (writes-then f (l .writes));
+        paid = omega (arith, f .place, l .paid);
+      }
+
+  pub container-begun : Ready s c → KeywordMeans w (keyword.Container i) → Writes b out (frontBytes (containerKindAt i) start) b₁ at
+      → ContainerBegun 0 s b b₁ c c out at i (behindWord start w)
+  container-begun r k f = record {
     row = k .0;
     found = k .1;
+    start = start;
     is = λ blk. rw (k .2);
     low = omega arith;
     ready = r;
-    same = refl;
+    writes = f;
   }
 
+pub leaf-refused : (s : List ℕ) (c : Cursor) (start : ℕ) (w : List ℕ) (i : ℕ) (r : Refusal) (q : ℕ) → KeywordMeans w (keyword.Leaf i)
+    → ((row : String × Rule (Leaf Key)) → getElem? leaves i ≡ some row → run s c (row .1) ≡ refused r q)
+    → (blk : Rule (Nodes Key)) → run s c (behindWord start w blk) ≡ refused r q
+leaf-refused s c start w i r q k h blk = rw (k .2, h (k .0) (k .1))
+
 -- "`unknown_keyword`": 7, behind the word
-pub unknown-refused : (s : List ℕ) (c : Cursor) (w : List ℕ) → Ready s c → KeywordMeans w keyword.Unknown
+pub unknown-refused : (s : List ℕ) (c : Cursor) (start : ℕ) (w : List ℕ) → Ready s c → KeywordMeans w keyword.Unknown
     → (blk : Rule (Nodes Key))
-    → run s c (behindWord w blk) ≡ refused UnknownKeyword (c .at)
-unknown-refused s c w r k blk = rw (k, r .head .place)
+    → run s c (behindWord start w blk) ≡ refused UnknownKeyword (c .at)
+unknown-refused s c start w r k blk = rw (k, r .head .place)
 
 -- ---- from the keyword on
 
@@ -59,21 +86,24 @@ unfolding parseNode
 no-keyword s c r q h blk = rw h
 
 pub from-keyword : (s b a : List ℕ) (c m : Cursor) (out p : ℕ) (w : List ℕ) (x : Begun)
-    → Took 1 s c m word (p, w) → BegunMeans 0 s b a m out (behindWord w) x
+    → Took 1 s c m word (p, w) → BegunMeans 0 s b a m out (behindWord p w) x
     → BegunMeans 1 s b a c out parseNode x
 unfolding parseNode
 from-keyword s b a c m out p w (begun.Leaf q e) t h = record {
+  start = h .start;
   value = h .value;
   took = λ blk. record { is = rw (t .is, h .took blk .is); low = omega (arith, t .low, h .took blk .low); ready = h .took blk .ready };
+  low = omega (arith, t .low, h .low);
   writes = h .writes;
-  paid = omega (arith, t .low, h .paid);
+  paid = omega (arith, t .low, h .low, h .paid);
 }
-from-keyword s b a c m out p w (begun.Container i e) t h = record {
+from-keyword s b a c m out p w (begun.Container i q e) t h = record {
   row = h .row;
   found = h .found;
+  start = h .start;
   is = λ blk. rw (t .is, h .is blk);
   low = omega (arith, t .low, h .low);
   ready = h .ready;
-  same = h .same;
+  writes = h .writes;
 }
 from-keyword s b a c m out p w (begun.Refused r q) t h = λ blk. rw (t .is, h blk)

@@ -6,18 +6,18 @@ use mathlib.Core.List.{List, [], _++_, append-nil, append-assoc}
 use mathlib.Core.Path.{_≡_, refl, sym, ap, _∙_, subst}
 use native.Mathlib.Omega.{arith}
 use lib.ListN.{length}
-use Rattle.codec.specs.Codec.{big}
+use Rattle.codec.specs.Codec.{Form, big}
 use Rattle.number.specs.Time.{Key}
-use Rattle.ast.specs.Tree.{Nodes, leaf, box, Container, MotionNode, single, holding, push, append, width, records, mapTimes}
-use Rattle.sheet.specs.Sheet.{forest, inner}
-use Rattle.sheet.proofs.Flat.{leaf-same}
+use Rattle.ast.specs.Tree.{Leaf, tween, spring, keyframes, path, morph, draw, color, waveform, preset, label, at, KeyframeTime, Container}
+use Rattle.ast.specs.Tree.{Nodes, leaf, box, MotionNode, single, holding, push, append, width, records, mapLeaf, mapTimes}
+use Rattle.sheet.specs.Sheet.{Forest, nodeForm, forest, inner}
 use Rattle.encode.specs.Writes.{Writes}
 use Rattle.encode.proofs.OverLaws.{writes-none, writes-then, writes-counted}
-use Rattle.token.specs.Token.{place}
+use Rattle.token.specs.Token.{Token, place}
 use Rattle.error.specs.declared.Refusal.{Refusal}
 use Rattle.error.specs.declared.Refusal.the-variants.{Missing, TooManyNested}
-use Rattle.grammar.specs.Rule.{Out, Rule, refused, leave, seesByte, ends, theByte, more, done}
-use Rattle.grammar.specs.Grammar.{stored, containers, parseNode, oneNode, nodesStep, block}
+use Rattle.grammar.specs.Rule.{Notes, Out, got, Rule, refused, after, give, _>>=_, leave, seesByte, ends, theByte, more, done}
+use Rattle.grammar.specs.Grammar.{stored, containers, aContainer, nodeBy, parseNode, oneNode, nodesStep, block}
 use Rattle.cursor.specs.Means.{Ready, tokens, run, Took, Follows}
 use Rattle.cursor.specs.declared.Cursor.{Cursor}
 use Rattle.cursor.proofs.CursorLaws.{took-mark, stays}
@@ -26,11 +26,14 @@ use Rattle.fields.proofs.ListLaws.{Listed, listed-start, listed-gives, listed-d
 use Rattle.arrays.specs.Means.{Room}
 use Rattle.heads.proofs.RowLaws.{Each, by-row}
 use Rattle.arrays.proofs.ArrayLaws.{mark-seen, mark-unseen}
-use Rattle.blocks.specs.Means.{headBytes, LeafBegun, ContainerBegun, HeadWent, Reached, Headed, Counted, nodeBytes, nodesBytes}
-use Rattle.blocks.specs.Means.{heldBy, NodeWent, NodeMeans, BlockWent, BlockMeans, Standing, Stepped, Ended, parseNodes, NodesWent}
+use Rattle.nodes.specs.Means.{leafKind, leafFields}
+use Rattle.blocks.specs.Means.{containerKind, containerKindAt, frontBytes, LeafBegun, ContainerBegun, HeadWent, Reached, Headed}
+use Rattle.blocks.specs.Means.{Counted, nodeBytes, nodesBytes, NodeWent, NodeMeans, BlockWent, BlockMeans, Held, heldBy, HeldMeans}
+use Rattle.blocks.specs.Means.{Standing, Stepped, Ended, parseNodes, NodesWent}
 use Rattle.blocks.specs.declared.ParsedNode.{ParsedNode}
 use Rattle.blocks.specs.declared.ParsedNode.the-variants as node
 use Rattle.blocks.specs.declared.Siblings.{Siblings}
+use Rattle.blocks.proofs.KindLaws.{held-kind, container-kind}
 use Rattle.blocks.proofs.HeadLaws.{head-then}
 
 -- ---- the `{` of a block
@@ -55,8 +58,8 @@ too-deep s c m d r t e = rw (e, mark-seen s c m 123 t, r .head .place)
 
 width-map : (ns : Nodes Key) → width (mapTimes stored ns) ≡ width ns
 width-map Nodes.none = refl
-width-map (leaf l rest) = ap suc (width-map rest)
-width-map (box k ns rest) = ap suc (width-map rest)
+width-map (leaf p l rest) = ap suc (width-map rest)
+width-map (box p k ns rest) = ap suc (width-map rest)
 
 -- the nodes in a block are their count, and each of them
 pub block-bytes : (n d : ℕ) (ns : Nodes Key) → big 2 .write (width ns) ++ nodesBytes n d ns ≡ inner n (suc d) .write (mapTimes stored ns)
@@ -65,73 +68,138 @@ block-bytes n d ns = let m = mapTimes stored ns in sym (ap (λ (w : ℕ). big 2 
 -- one node more
 bytes-more : (n d : ℕ) (ns : Nodes Key) (x : MotionNode Key)
     → nodesBytes n d (append ns (push x Nodes.none)) ≡ nodesBytes n d ns ++ nodeBytes n d x
-bytes-more n d Nodes.none (single l) = append-nil _
-bytes-more n d Nodes.none (holding k ns) = append-nil _
-bytes-more n d (leaf l rest) x =
-    ap (λ (t : List ℕ). nodeBytes n d (single l) ++ t) (bytes-more n d rest x)
-    ∙ sym (append-assoc (nodeBytes n d (single l)) (nodesBytes n d rest) (nodeBytes n d x))
-bytes-more n d (box k ns rest) x =
-    ap (λ (t : List ℕ). nodeBytes n d (holding k ns) ++ t) (bytes-more n d rest x)
-    ∙ sym (append-assoc (nodeBytes n d (holding k ns)) (nodesBytes n d rest) (nodeBytes n d x))
+bytes-more n d Nodes.none (single p l) = append-nil _
+bytes-more n d Nodes.none (holding p k ns) = append-nil _
+bytes-more n d (leaf p l rest) x =
+    ap (λ (t : List ℕ). nodeBytes n d (single p l) ++ t) (bytes-more n d rest x)
+    ∙ sym (append-assoc (nodeBytes n d (single p l)) (nodesBytes n d rest) (nodeBytes n d x))
+bytes-more n d (box p k ns rest) x =
+    ap (λ (t : List ℕ). nodeBytes n d (holding p k ns) ++ t) (bytes-more n d rest x)
+    ∙ sym (append-assoc (nodeBytes n d (holding p k ns)) (nodesBytes n d rest) (nodeBytes n d x))
 
 width-more : (ns : Nodes Key) (x : MotionNode Key) → width (append ns (push x Nodes.none)) ≡ width ns + 1
-width-more Nodes.none (single l) = refl
-width-more Nodes.none (holding k ns) = refl
-width-more (leaf l rest) x = let e = width-more rest x in omega arith
-width-more (box k ns rest) x = let e = width-more rest x in omega arith
+width-more Nodes.none (single p l) = refl
+width-more Nodes.none (holding p k ns) = refl
+width-more (leaf p l rest) x = let e = width-more rest x in omega arith
+width-more (box p k ns rest) x = let e = width-more rest x in omega arith
 
 records-more : (ns : Nodes Key) (x : MotionNode Key) → records (append ns (push x Nodes.none)) ≡ records ns + records (push x Nodes.none)
 records-more Nodes.none x = omega arith
-records-more (leaf l rest) x = let e = records-more rest x in omega arith
-records-more (box k ns rest) x = let e = records-more rest x in omega arith
+records-more (leaf p l rest) x = let e = records-more rest x in omega arith
+records-more (box p k ns rest) x = let e = records-more rest x in omega arith
 
 -- ---- a node
 
--- what was read so far leaves room for a node
-pub reached-room : {s : List ℕ} {c : Cursor} {out : ℕ} → Ready s c → Reached s c out → Room s out
+-- what was read so far leaves room for a node, behind the front of its record
+pub reached-room : {s : List ℕ} {c : Cursor} {out : ℕ} → Ready s c → Reached s c out → Room s (out + 3)
 reached-room r h = record { short = h .short; low = omega (arith, h .low, h .short, r .high) }
 
 pub headed-room : {s : List ℕ} {c : Cursor} {out : ℕ} → Ready s c → Headed s c out → Room s out
 headed-room r h = record { short = h .short; low = omega (arith, h .low, h .short, r .high) }
 
+-- a leaf is the front of its record, and then its fields
+leaf-then : (n start : ℕ) (blk : Form Forest) (l : Leaf KeyframeTime)
+    → nodeForm n blk .write (single start l) ≡ frontBytes (leafKind l) start ++ leafFields n l
+leaf-then n start blk (tween x) = refl
+leaf-then n start blk (spring x) = refl
+leaf-then n start blk (keyframes x) = refl
+leaf-then n start blk (path x) = refl
+leaf-then n start blk (morph x) = refl
+leaf-then n start blk (draw x) = refl
+leaf-then n start blk (color x) = refl
+leaf-then n start blk (waveform x) = refl
+leaf-then n start blk (preset x) = refl
+leaf-then n start blk (label x) = refl
+leaf-then n start blk (at x) = refl
+
+kind-map : (l : Leaf Key) → leafKind (mapLeaf stored l) ≡ leafKind l
+kind-map (tween x) = refl
+kind-map (spring x) = refl
+kind-map (keyframes x) = refl
+kind-map (path x) = refl
+kind-map (morph x) = refl
+kind-map (draw x) = refl
+kind-map (color x) = refl
+kind-map (waveform x) = refl
+kind-map (preset x) = refl
+kind-map (label x) = refl
+kind-map (at x) = refl
+
 pub node-leaf : {s b a : List ℕ} {c m : Cursor} {out q : ℕ} (d : ℕ) → LeafBegun 1 s b a c m out q parseNode
     → NodeWent 1 (parseNode (block d)) s b a c m out q d 1
 node-leaf {s} d h = record {
-  went = record { value = single (h .value); took = h .took (block d); writes = rw (leaf-same (length s)) (h .writes); paid = h .paid };
+  went = record {
+    value = single (h .start) (h .value);
+    took = h .took (block d);
+    writes = rw (leaf-then (length s) (h .start) (inner (length s) d) (mapLeaf stored (h .value)), kind-map (h .value)) (h .writes);
+    paid = omega (arith, h .paid, h .took (block d) .low);
+  };
   count = refl;
   few = omega (arith, h .took (block d) .low);
 }
 
--- behind the keyword of a container
-module _ {s b b₁ : List ℕ} {c m : Cursor} {i : ℕ} (g : ContainerBegun 1 s b b₁ c m i parseNode) where
-  pub keyword-headed : {out : ℕ} → Reached s c out → Headed s m out
-  keyword-headed h = record { short = h .short; low = omega (arith, h .low, g .low) }
+-- a container's rule from its head and its block, as a node's rule has it
+module _ (s : List ℕ) (m : Cursor) (p : Rule Container) (d : ℕ) where
+  held-as : (start : ℕ)
+      → run s m (nodeBy (block d) start (aContainer p)) ≡ after (run s m (heldBy p d)) (λ x. give (holding start (x .0) (x .1)))
+  held-as start = go (run s m p)
+    where
+      more : (k : Container) (o : Out (Nodes Key))
+          → after o (λ ns. give (holding start k ns))
+          ≡ after (after o (λ ns. give (k, ns))) (λ (x : Held). give (holding start (x .0) (x .1)))
+      more k (got ns l ts) = refl
+      more k (refused r q) = refl
 
-  from-row : (a : List ℕ) (out d : ℕ) (r : ParsedNode) → NodeMeans 0 (heldBy (g .row .1) d) s b₁ a m out d r
+      go : (o : Out Container)
+          → after o (λ k. block d >>= λ ns. give (holding start k ns))
+          ≡ after (after o (λ k. block d >>= λ ns. give (k, ns))) (λ (x : Held). give (holding start (x .0) (x .1)))
+      go (got k l ts) = more k (block d l ts)
+      go (refused r q) = refl
+
+  held-node : (start : ℕ) {x : Held} {l : Notes} {ts : List Token} → run s m (heldBy p d) ≡ got x l ts
+      → run s m (nodeBy (block d) start (aContainer p)) ≡ got (holding start (x .0) (x .1)) l ts
+  held-node start h = held-as start ∙ (rw h)
+
+  held-refused : (start : ℕ) {r : Refusal} {q : ℕ} → run s m (heldBy p d) ≡ refused r q
+      → run s m (nodeBy (block d) start (aContainer p)) ≡ refused r q
+  held-refused start h = held-as start ∙ (rw h)
+
+-- behind the keyword of a container
+module _ {s b b₁ : List ℕ} {c m : Cursor} {out at i : ℕ} (g : ContainerBegun 1 s b b₁ c m out at i parseNode) where
+  pub keyword-headed : Reached s c out → Headed s m at
+  keyword-headed h = record { short = h .short; low = omega (arith, h .low, g .low, g .writes .place) }
+
+  from-row : (a : List ℕ) (d : ℕ) (r : ParsedNode) → HeldMeans (g .row .1) s b₁ a m at d r
       → NodeMeans 1 (parseNode (block d)) s b a c out d r
-  from-row a out d (node.Is q e k) h = record {
-    went = record {
-      value = h .went .value;
-      took = record {
-        is = g .is (block d) ∙ h .went .took .is;
-        low = omega (arith, g .low, h .went .took .low);
-        ready = h .went .took .ready;
-      };
-      writes = subst (λ (l : List ℕ). Writes l out (nodeBytes (length s) d (h .went .value)) a q) (g .same) (h .went .writes);
-      paid = omega (arith, g .low, h .went .paid);
-    };
-    count = h .count;
-    few = omega (arith, g .low, h .few);
-  }
-  from-row a out d (node.Refused r q) h = g .is (block d) ∙ h
+  from-row a d (node.Is q e k) h =
+      let x = h .went .value in
+      let z : containerKind (x .0) ≡ containerKindAt i = held-kind _ d (g .row .1) (container-kind i (g .row) (g .found)) _ _ _ _ _
+      (h .went .took .is)
+      in
+      record {
+        went = record {
+          value = holding (g .start) (x .0) (x .1);
+          took = record {
+            is = g .is (block d) ∙ held-node s m (g .row .1) d (g .start) (h .went .took .is);
+            low = omega (arith, g .low, h .went .took .low);
+            ready = h .went .took .ready;
+          };
+          writes = rw (head-then (length s) (g .start) (inner (length s) d) (x .0) (mapTimes stored (x .1)), z)
+              (writes-then (g .writes) (h .went .writes));
+          paid = omega (arith, g .low, h .went .paid, g .writes .place, h .went .took .low);
+        };
+        count = omega (arith, h .count);
+        few = omega (arith, g .low, h .few);
+      }
+  from-row a d (node.Refused r q) h = g .is (block d) ∙ held-refused s m (g .row .1) d (g .start) h
 
   -- the row i of the table is read
-  pub node-container : (a : List ℕ) (out d : ℕ) (r : ParsedNode)
-      → Each (λ (row : String × Rule Container). NodeMeans 0 (heldBy (row .1) d) s b₁ a m out d r) i 0 containers
+  pub node-container : (a : List ℕ) (d : ℕ) (r : ParsedNode)
+      → Each (λ (row : String × Rule Container). HeldMeans (row .1) s b₁ a m at d r) i 0 containers
       → NodeMeans 1 (parseNode (block d)) s b a c out d r
-  node-container a out d r h =
-      from-row a out d r
-      (by-row (λ (row : String × Rule Container). NodeMeans 0 (heldBy (row .1) d) s b₁ a m out d r) i containers (g .row) (g .found) h)
+  node-container a d r h =
+      from-row a d r
+      (by-row (λ (row : String × Rule Container). HeldMeans (row .1) s b₁ a m at d r) i containers (g .row) (g .found) h)
 
 -- ---- a container from its head and its block
 
@@ -139,12 +207,12 @@ module _ {s b b₁ : List ℕ} {c m : Cursor} {out q : ℕ} {p : Rule Container}
   pub head-counted : Headed s c out → Counted s m q
   head-counted z = record { short = z .short; low = omega (arith, z .low, h .small, h .took .low) }
 
-  pub head-block : (a : List ℕ) (d : ℕ) (r : ParsedNode) → BlockMeans s b₁ a m q d r → NodeMeans 0 (heldBy p d) s b a c out d r
+  pub head-block : (a : List ℕ) (d : ℕ) (r : ParsedNode) → BlockMeans s b₁ a m q d r → HeldMeans p s b a c out d r
   head-block a d (node.Is end e k) g = record {
     went = record {
-      value = holding (h .value) (g .nodes);
+      value = (h .value, g .nodes);
       took = record { is = rw (h .took .is, g .took .is); low = omega (arith, h .took .low, g .took .low); ready = g .took .ready };
-      writes = rw (head-then (length s) (inner (length s) d) (h .value) (mapTimes stored (g .nodes))) (writes-then (h .writes) (g .writes));
+      writes = writes-then (h .writes) (g .writes);
       paid = omega (arith, h .small, h .took .low, g .paid, g .took .low);
     };
     count = omega (arith, g .number);

@@ -1,32 +1,32 @@
 -- What stands before a container's block is taken, and written up to the count. Assumes nothing.
 use Prim.Native.Nat.{ℕ, _+_, _≤_}
-use mathlib.Core.List.{List, [], _∷_, _++_, append-nil, append-assoc}
+use mathlib.Core.List.{List, [], _∷_, _++_, append-assoc}
 use mathlib.Core.Option.{Option, none, some}
-use mathlib.Core.Path.{_≡_, refl, sym, ap, _∙_}
+use mathlib.Core.Path.{_≡_, refl, sym, ap}
 use native.Mathlib.Omega.{arith}
 use lib.ListN.{length}
 use Rattle.codec.specs.Codec.{Form, opt}
 use Rattle.ast.specs.Tree.{Container, sequence, parallel, group, stagger, StaggerPatternSpec, grid, random, centerOut, edgesIn, holding}
 use Rattle.sheet.specs.Sheet.{Forest, word, patternForm, nodeForm}
 use Rattle.encode.specs.Writes.{Writes}
-use Rattle.encode.proofs.OverLaws.{writes-then}
+use Rattle.encode.proofs.OverLaws.{writes-none, writes-then}
 use Rattle.encode.proofs.FieldLaws.{length-word}
 use Rattle.grammar.specs.Grammar.{parseSequence, parseParallel, parseGroup, parseStagger}
 use Rattle.cursor.specs.Means.{Ready, Took}
 use Rattle.cursor.specs.declared.Cursor.{Cursor}
 use Rattle.cursor.proofs.CursorLaws.{stays, fewer}
-use Rattle.blocks.specs.Means.{headBytes, HeadWent}
+use Rattle.blocks.specs.Means.{containerKind, frontBytes, headBytes, HeadWent}
 
--- a container is its head, and then the nodes in it
-pub head-then : (n : ℕ) (blk : Form Forest) (k : Container) (ns : Forest)
-    → nodeForm n blk .write (holding k ns) ≡ headBytes n k ++ blk .write ns
-head-then n blk sequence ns = refl
-head-then n blk parallel ns = refl
-head-then n blk (group m) ns = refl
-head-then n blk (stagger p d) ns =
+-- a container is the front of its record, its head, and then the nodes in it
+pub head-then : (n start : ℕ) (blk : Form Forest) (k : Container) (ns : Forest)
+    → nodeForm n blk .write (holding start k ns) ≡ frontBytes (containerKind k) start ++ (headBytes k ++ blk .write ns)
+head-then n start blk sequence ns = refl
+head-then n start blk parallel ns = refl
+head-then n start blk (group m) ns = refl
+head-then n start blk (stagger p d) ns =
     let P = opt patternForm .write p in
     let D = opt word .write d in
-    ap (λ (l : List ℕ). 6 ∷ l) (sym (append-assoc P D (blk .write ns)) ∙ (rw append-nil))
+    ap (λ (l : List ℕ). frontBytes 6 start ++ l) (sym (append-assoc P D (blk .write ns)))
 
 -- ---- the lengths of what a stagger has
 
@@ -43,26 +43,36 @@ length-delay (some d) = let a = length-word d in omega arith
 
 -- ---- each container's
 
-module _ {s b a : List ℕ} {c : Cursor} {out q : ℕ} (r : Ready s c) where
-  pub sequence-went : Writes b out (3 ∷ []) a q → HeadWent s b a c c out q parseSequence
+module _ {s : List ℕ} {c : Cursor} (b : List ℕ) (out : ℕ) (r : Ready s c) where
+  pub sequence-went : HeadWent s b b c c out out parseSequence
   unfolding parseSequence
-  sequence-went w = record { value = sequence; took = stays s c r parseSequence sequence refl; writes = w; small = omega (arith, w .place) }
+  sequence-went = record {
+    value = sequence;
+    took = stays s c r parseSequence sequence refl;
+    writes = writes-none b out;
+    small = omega arith;
+  }
 
-  pub parallel-went : Writes b out (4 ∷ []) a q → HeadWent s b a c c out q parseParallel
+  pub parallel-went : HeadWent s b b c c out out parseParallel
   unfolding parseParallel
-  parallel-went w = record { value = parallel; took = stays s c r parseParallel parallel refl; writes = w; small = omega (arith, w .place) }
+  parallel-went = record {
+    value = parallel;
+    took = stays s c r parseParallel parallel refl;
+    writes = writes-none b out;
+    small = omega arith;
+  }
 
-pub group-went : {s b b′ a : List ℕ} {c m : Cursor} {out f q k : ℕ} → Took 1 s c m parseGroup (group k)
-    → Writes b out (5 ∷ []) b′ f → Writes b′ f (k ∷ []) a q
+pub group-went : {s b a : List ℕ} {c m : Cursor} {out q k : ℕ} → Took 1 s c m parseGroup (group k)
+    → Writes b out (k ∷ []) a q
     → HeadWent s b a c m out q parseGroup
-group-went {k = k} t o w = record { value = group k; took = fewer t; writes = writes-then o w; small = omega (arith, o .place, w .place) }
+group-went {k = k} t w = record { value = group k; took = fewer t; writes = w; small = omega (arith, w .place) }
 
-pub stagger-went : {s b b₁ b₂ a : List ℕ} {c m : Cursor} {out f g q : ℕ} (p : Option StaggerPatternSpec) (d : Option ℕ)
-    → Took 0 s c m parseStagger (stagger p d) → Writes b out (6 ∷ []) b₁ f
-    → Writes b₁ f (opt patternForm .write p) b₂ g → Writes b₂ g (opt word .write d) a q → HeadWent s b a c m out q parseStagger
-stagger-went p d t o w z = record {
+pub stagger-went : {s b b₁ a : List ℕ} {c m : Cursor} {out f q : ℕ} (p : Option StaggerPatternSpec) (d : Option ℕ)
+    → Took 0 s c m parseStagger (stagger p d)
+    → Writes b out (opt patternForm .write p) b₁ f → Writes b₁ f (opt word .write d) a q → HeadWent s b a c m out q parseStagger
+stagger-went p d t w z = record {
   value = stagger p d;
   took = t;
-  writes = rw append-nil (writes-then o (writes-then w z));
-  small = let x = length-pattern p in let y = length-delay d in omega (arith, o .place, w .place, z .place);
+  writes = writes-then w z;
+  small = let x = length-pattern p in let y = length-delay d in omega (arith, w .place, z .place);
 }

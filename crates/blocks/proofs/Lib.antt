@@ -1,4 +1,5 @@
 pub mod NameLaws
+pub mod KindLaws
 pub mod HeadLaws
 pub mod BeginLaws
 pub mod BlockLaws

@@ -2,22 +2,25 @@
 -- Assumes nothing.
 use Prim.Native.Nat.{ℕ, _+_, _*_, _-_, _≤_, _<_}
 use Prim.Native.String.{String}
-use mathlib.Core.List.{List, _++_}
+use mathlib.Core.Bool.{cond}
+use mathlib.Core.List.{List, [], _∷_, _++_}
 use mathlib.Core.Option.{some}
 use mathlib.Core.Path.{_≡_}
+use lib.Dec.{ltb}
 use lib.ListN.{length, getElem?}
 use Rattle.text.specs.Limits.{textLimit}
-use Rattle.codec.specs.Codec.{never}
+use Rattle.codec.specs.Codec.{big, opt}
 use Rattle.number.specs.Time.{Key}
-use Rattle.ast.specs.Tree.{Leaf, Container, Nodes, MotionNode, single, holding, push, width, records, mapLeaf, mapTimes}
-use Rattle.sheet.specs.Sheet.{Node, nodeForm, forest, inner}
+use Rattle.ast.specs.Tree.{Leaf, Container, sequence, parallel, group, stagger, Nodes, MotionNode, single, holding, push}
+use Rattle.ast.specs.Tree.{width, records, mapLeaf, mapTimes}
+use Rattle.sheet.specs.Sheet.{Node, word, patternForm, nodeForm, forest, inner}
 use Rattle.encode.specs.Writes.{Writes}
-use Rattle.grammar.specs.Rule.{Rule, refused, the, Next, more, done, repeat}
+use Rattle.grammar.specs.Rule.{Rule, refused, give, _>>=_, the, Next, more, done, repeat}
 use Rattle.grammar.specs.Grammar.{stored, leaves, containers, aLeaf, aContainer, unknown, beginning, nodeBy, parseNode, nodesStep, block}
 use Rattle.cursor.specs.Means.{Ready, run, Took}
 use Rattle.cursor.specs.declared.Cursor.{Cursor}
 use Rattle.arrays.specs.Means.{Went}
-use Rattle.nodes.specs.Means.{leafBytes}
+use Rattle.nodes.specs.Means.{leafKind, leafBytes}
 use Rattle.nodes.specs.declared.NodeRead.{NodeRead}
 use Rattle.nodes.specs.declared.NodeRead.the-variants as head
 use Rattle.blocks.specs.declared.Keyword.{Keyword}
@@ -48,43 +51,67 @@ KeywordMeans w keyword.Unknown = beginning w ≡ unknown
 abbrev pub NodeRule : Type 0
 NodeRule = Rule (Nodes Key) → Rule (MotionNode Key)
 
--- behind the keyword w
-abbrev pub behindWord : List ℕ → NodeRule
-behindWord w blk = nodeBy blk (beginning w)
+-- behind the keyword w, which begins at `start`
+abbrev pub behindWord : ℕ → List ℕ → NodeRule
+behindWord start w blk = nodeBy blk start (beginning w)
+
+-- the kind of the leaf, and of the container, at a place of its table
+abbrev pub leafKindAt : ℕ → ℕ
+leafKindAt i = cond (ltb i 3) i (i + 4)
+
+abbrev pub containerKindAt : ℕ → ℕ
+containerKindAt i = i + 3
+
+-- what a record begins with: its kind, and the start of its node's keyword
+abbrev pub frontBytes : ℕ → ℕ → List ℕ
+frontBytes kind start = kind ∷ big 2 .write start
 
 -- the node is a leaf, from c to m, at least e bytes on, and its record is written
 pub record LeafBegun (e : ℕ) (s b a : List ℕ) (c m : Cursor) (out q : ℕ) (p : NodeRule) : Type 0 where
+  pub start : ℕ
   pub value : Leaf Key
-  pub took : (blk : Rule (Nodes Key)) → Took e s c m (p blk) (single value)
-  pub writes : Writes b out (leafBytes (length s) value) a q
-  pub paid : q ≤ out + 64 * (m .at - c .at)
+  pub took : (blk : Rule (Nodes Key)) → Took e s c m (p blk) (single start value)
+  pub low : c .at + e ≤ m .at
+  pub writes : Writes b out (frontBytes (leafKind value) start ++ leafBytes (length s) value) a q
+  pub paid : q + 64 * e ≤ out + 3 + 64 * (m .at - c .at)
 
--- the node is the container of row i, whose head is to follow at m; nothing is written yet
-pub record ContainerBegun (e : ℕ) (s b a : List ℕ) (c m : Cursor) (i : ℕ) (p : NodeRule) : Type 0 where
+-- the node is the container of row i, whose head is to follow at m; the front of its record is written up to q
+pub record ContainerBegun (e : ℕ) (s b a : List ℕ) (c m : Cursor) (out q i : ℕ) (p : NodeRule) : Type 0 where
   pub row : String × Rule Container
   pub found : getElem? containers i ≡ some row
-  pub is : (blk : Rule (Nodes Key)) → run s c (p blk) ≡ run s m (nodeBy blk (aContainer (row .1)))
+  pub start : ℕ
+  pub is : (blk : Rule (Nodes Key)) → run s c (p blk) ≡ run s m (nodeBy blk start (aContainer (row .1)))
   pub low : c .at + e ≤ m .at
   pub ready : Ready s m
-  pub same : a ≡ b
+  pub writes : Writes b out (frontBytes (containerKindAt i) start) a q
 
 abbrev pub BegunMeans : (e : ℕ) (s b a : List ℕ) → Cursor → ℕ → NodeRule → Begun → Type 0
 BegunMeans e s b a c out p (begun.Leaf q m) = LeafBegun e s b a c m out q p
-BegunMeans e s b a c out p (begun.Container i m) = ContainerBegun e s b a c m i p
+BegunMeans e s b a c out p (begun.Container i q m) = ContainerBegun e s b a c m out q i p
 BegunMeans e s b a c out p (begun.Refused r q) = (blk : Rule (Nodes Key)) → run s c (p blk) ≡ refused r q
 
 -- ---- what stands before a container's block
 
--- a container's record without the count of the nodes in it
-abbrev pub headBytes : ℕ → Container → List ℕ
-headBytes n k = nodeForm n never .write (holding k Nodes.none)
+-- the kind of a container: its "position in `MotionNode`"
+abbrev pub containerKind : Container → ℕ
+containerKind sequence = 3
+containerKind parallel = 4
+containerKind (group mode) = 5
+containerKind (stagger pattern delay) = 6
 
--- the rule p takes a container's head from c to m, which is written from out to q; with the count it has at most 64 bytes
+-- what stands in a container's record behind its start, the count of the nodes in it left out
+abbrev pub headBytes : Container → List ℕ
+headBytes sequence = []
+headBytes parallel = []
+headBytes (group mode) = mode ∷ []
+headBytes (stagger pattern delay) = opt patternForm .write pattern ++ opt word .write delay
+
+-- the rule p takes a container's head from c to m, which is written from out to q, at most 32 bytes
 pub record HeadWent (s b a : List ℕ) (c m : Cursor) (out q : ℕ) (p : Rule Container) : Type 0 where
   pub value : Container
   pub took : Took 0 s c m p value
-  pub writes : Writes b out (headBytes (length s) value) a q
-  pub small : q + 2 ≤ out + 64
+  pub writes : Writes b out (headBytes value) a q
+  pub small : q ≤ out + 32
 
 abbrev pub HeadMeans : (s b a : List ℕ) → Cursor → ℕ → Rule Container → NodeRead → Type 0
 HeadMeans s b a c out p (head.Is q m) = HeadWent s b a c m out q p
@@ -102,10 +129,10 @@ pub record Reached (s : List ℕ) (c : Cursor) (out : ℕ) : Type 0 where
   pub short : length s ≤ textLimit
   pub low : out ≤ 2 + 64 * c .at
 
--- of a container whose keyword has been taken
+-- of a container's head, its keyword taken and the front of its record written
 pub record Headed (s : List ℕ) (c : Cursor) (out : ℕ) : Type 0 where
   pub short : length s ≤ textLimit
-  pub low : out + 62 ≤ 64 * c .at
+  pub low : out + 59 ≤ 64 * c .at
 
 -- of the count of the nodes in a block
 pub record Counted (s : List ℕ) (c : Cursor) (count : ℕ) : Type 0 where
@@ -116,8 +143,8 @@ pub record Counted (s : List ℕ) (c : Cursor) (count : ℕ) : Type 0 where
 
 -- the sheet's node for a node of the grammar's tree
 abbrev pub storedNode : MotionNode Key → Node
-storedNode (single l) = single (mapLeaf stored l)
-storedNode (holding k ns) = holding k (mapTimes stored ns)
+storedNode (single start l) = single start (mapLeaf stored l)
+storedNode (holding start k ns) = holding start k (mapTimes stored ns)
 
 -- the bytes of a node, and of nodes, with what they hold
 abbrev pub nodeBytes : ℕ → ℕ → MotionNode Key → List ℕ
@@ -136,10 +163,6 @@ abbrev pub NodeMeans : (e : ℕ) → Rule (MotionNode Key) → (s b a : List ℕ
 NodeMeans e p s b a c out d (node.Is q m k) = NodeWent e p s b a c m out q d k
 NodeMeans e p s b a c out d (node.Refused r q) = run s c p ≡ refused r q
 
--- a container behind its keyword: its head, then its block
-abbrev pub heldBy : Rule Container → ℕ → Rule (MotionNode Key)
-heldBy p d = nodeBy (block d) (aContainer p)
-
 -- a container's block from c to m, written from its count on up to q; with the container there are k records
 pub record BlockWent (s b a : List ℕ) (c m : Cursor) (count q d k : ℕ) : Type 0 where
   pub nodes : Nodes Key
@@ -152,6 +175,27 @@ pub record BlockWent (s b a : List ℕ) (c m : Cursor) (count q d k : ℕ) : Typ
 abbrev pub BlockMeans : (s b a : List ℕ) → Cursor → ℕ → ℕ → ParsedNode → Type 0
 BlockMeans s b a c count d (node.Is q m k) = BlockWent s b a c m count q d k
 BlockMeans s b a c count d (node.Refused r q) = run s c (block d) ≡ refused r q
+
+-- ---- a container behind its keyword: its head, then its block
+
+abbrev pub Held : Type 0
+Held = Container × Nodes Key
+
+abbrev pub heldBy : Rule Container → ℕ → Rule Held
+heldBy p d = p >>= λ k. block d >>= λ ns. give (k, ns)
+
+abbrev pub heldBytes : ℕ → ℕ → Held → List ℕ
+heldBytes n d x = headBytes (x .0) ++ inner n d .write (mapTimes stored (x .1))
+
+-- the rule takes a container from c to m, which is written behind the front of its record, from out to q, with k records
+pub record HeldWent (p : Rule Container) (s b a : List ℕ) (c m : Cursor) (out q d k : ℕ) : Type 0 where
+  pub went : Went 0 s b a c m out q (heldBy p d) (heldBytes (length s) d)
+  pub count : k ≡ records (went .value .1) + 1
+  pub few : c .at + k ≤ m .at
+
+abbrev pub HeldMeans : Rule Container → (s b a : List ℕ) → Cursor → ℕ → ℕ → ParsedNode → Type 0
+HeldMeans p s b a c out d (node.Is q m k) = HeldWent p s b a c m out q d k
+HeldMeans p s b a c out d (node.Refused r q) = run s c (heldBy p d) ≡ refused r q
 
 -- ---- nodes up to the group's end
 

@@ -1,11 +1,12 @@
 // parser.rs: a node of any kind, and nodes up to a group's end, written into the sheet as they are read.
 // The functions are for our own crates: each requires a cursor that stands in a text of at most 16,384 bytes, and a place that what was read so far can have reached.
 ghost use mathlib.Core.List.{List};
-ghost use Prim.Native.Nat.{ℕ};
+ghost use mathlib.Core.Path.{_≡_};
+ghost use Prim.Native.Nat.{ℕ, _+_, _<_};
 ghost use Rattle.grammar.specs.Grammar.{parseSequence, parseParallel, parseGroup, parseStagger, parseNode, block};
 ghost use Rattle.cursor.specs.Means.{Ready, spelled};
 ghost use Rattle.arrays.specs.Means.{Room};
-ghost use Rattle.blocks.specs.Means.{HeadMeans, KeywordMeans, BegunMeans, behindWord, BraceMeans, Counted, BlockMeans, Headed, heldBy, Reached, NodeMeans, Standing, StepMeans, NodesMeans};
+ghost use Rattle.blocks.specs.Means.{HeadMeans, KeywordMeans, BegunMeans, behindWord, leafKindAt, BraceMeans, Counted, BlockMeans, Headed, HeldMeans, Reached, NodeMeans, Standing, StepMeans, NodesMeans};
 use ast::Span;
 use cursor::Cursor;
 use cursor::MarkRead;
@@ -32,8 +33,8 @@ pub enum Keyword {
 pub enum Begun {
     // A leaf: the place behind its record, and the cursor behind it.
     Leaf(usize, Cursor),
-    // A container: its place in the table, and the cursor behind its keyword.
-    Container(usize, Cursor),
+    // A container: its place in the table, the place behind the front of its record, and the cursor behind its keyword.
+    Container(usize, usize, Cursor),
     Refused(Refusal, usize),
 }
 
@@ -49,24 +50,41 @@ fn keyword_of(word: &[u8]) -> Keyword
     }
 }
 
-// Behind the keyword.
+// The kind of the leaf at a place of its table.
+fn leaf_kind(i: usize) -> u8
+    requires { ⌜ i < 11 ⌝ }
+    ensures { λ r. ⌜ r ≡ leafKindAt i ⌝ }
+{
+    if i < 3 {
+        return i as u8;
+    }
+    (i + 4) as u8
+}
+
+// Behind the keyword: the front of the node's record is written, and a leaf's fields.
 fn begin_word(text: &[u8], sheet: &mut [u8], word: Span, c: Cursor, out: usize) -> Begun
-    requires { ⌜ Ready (now text) c × Room (now text) out ⌝ }
-    ensures { λ r. ⌜ BegunMeans 0 (now (text .entry)) (now (sheet .entry)) (now (sheet .exit)) c out (behindWord (spelled (now (text .entry)) word)) r ⌝ }
+    requires { ⌜ Ready (now text) c × Room (now text) (out + 3) ⌝ }
+    ensures { λ r. ⌜ BegunMeans 0 (now (text .entry)) (now (sheet .entry)) (now (sheet .exit)) c out (behindWord (word .start) (spelled (now (text .entry)) word)) r ⌝ }
 {
     match keyword_of(text::part(text, word.start, word.size)) {
-        Keyword::Leaf(i) => match leaves::parse_leaf(text, sheet, c, out, i) {
-            NodeRead::Refused(r, p) => Begun::Refused(r, p),
-            NodeRead::Is(q, m) => Begun::Leaf(q, m),
-        },
-        Keyword::Container(i) => Begun::Container(i, c),
+        Keyword::Leaf(i) => {
+            let at = encode::put_front(sheet, out, leaf_kind(i), word.start);
+            match leaves::parse_leaf(text, sheet, c, at, i) {
+                NodeRead::Refused(r, p) => Begun::Refused(r, p),
+                NodeRead::Is(q, m) => Begun::Leaf(q, m),
+            }
+        }
+        Keyword::Container(i) => {
+            let at = encode::put_front(sheet, out, (i + 3) as u8, word.start);
+            Begun::Container(i, at, c)
+        }
         Keyword::Unknown => Begun::Refused(Refusal::UnknownKeyword, cursor::place(c)),
     }
 }
 
 // A leaf whole, or a container's keyword.
 fn begin_node(text: &[u8], sheet: &mut [u8], c: Cursor, out: usize) -> Begun
-    requires { ⌜ Ready (now text) c × Room (now text) out ⌝ }
+    requires { ⌜ Ready (now text) c × Room (now text) (out + 3) ⌝ }
     ensures { λ r. ⌜ BegunMeans 1 (now (text .entry)) (now (sheet .entry)) (now (sheet .exit)) c out parseNode r ⌝ }
 {
     match cursor::word(text, c) {
@@ -75,7 +93,7 @@ fn begin_node(text: &[u8], sheet: &mut [u8], c: Cursor, out: usize) -> Begun
     }
 }
 
-// ---- what stands before a container's block: its kind and its fields. The answer is the place of the count, which is left open.
+// ---- what stands before a container's block: its fields. The answer is the place of the count, which is left open.
 
 fn group_head(text: &[u8], sheet: &mut [u8], c: Cursor, out: usize) -> NodeRead
     requires { ⌜ Ready (now text) c × Room (now text) out ⌝ }
@@ -83,10 +101,7 @@ fn group_head(text: &[u8], sheet: &mut [u8], c: Cursor, out: usize) -> NodeRead
 {
     match heads::parse_group(text, c) {
         GroupRead::Refused(r, p) => NodeRead::Refused(r, p),
-        GroupRead::Is(mode, m) => {
-            let a = encode::put_byte(sheet, out, 5);
-            NodeRead::Is(encode::put_byte(sheet, a, mode), m)
-        }
+        GroupRead::Is(mode, m) => NodeRead::Is(encode::put_byte(sheet, out, mode), m),
     }
 }
 
@@ -97,9 +112,8 @@ fn stagger_head(text: &[u8], sheet: &mut [u8], c: Cursor, out: usize) -> NodeRea
     match heads::parse_stagger(text, c) {
         StaggerRead::Refused(r, p) => NodeRead::Refused(r, p),
         StaggerRead::Is(pattern, delay, m) => {
-            let a = encode::put_byte(sheet, out, 6);
-            let b = encode::put_opt_pattern(sheet, a, pattern);
-            NodeRead::Is(encode::put_opt_float(sheet, b, delay), m)
+            let delay_at = encode::put_opt_pattern(sheet, out, pattern);
+            NodeRead::Is(encode::put_opt_float(sheet, delay_at, delay), m)
         }
     }
 }
@@ -125,7 +139,7 @@ fn open_block(text: &[u8], c: Cursor, depth: usize) -> BraceRead
     }
 }
 
-// ---- nodes and containers call each other; `depth` containers more are allowed
+// ---- nodes and containers call each other; a container is read behind the front of its record; `depth` containers more are allowed
 
 // The place behind a node's records, the cursor behind it, and how many records there are.
 pub enum ParsedNode {
@@ -173,23 +187,21 @@ fn parse_block(text: &[u8], sheet: &mut [u8], c: Cursor, count: usize, depth: us
 
 fn parse_sequence(text: &[u8], sheet: &mut [u8], c: Cursor, out: usize, depth: usize) -> ParsedNode
     requires { ⌜ Ready (now text) c × Headed (now text) c out ⌝ }
-    ensures { λ r. ⌜ NodeMeans 0 (heldBy parseSequence depth) (now (text .entry)) (now (sheet .entry)) (now (sheet .exit)) c out depth r ⌝ }
+    ensures { λ r. ⌜ HeldMeans parseSequence (now (text .entry)) (now (sheet .entry)) (now (sheet .exit)) c out depth r ⌝ }
 {
-    let count = encode::put_byte(sheet, out, 3);
-    parse_block(text, sheet, c, count, depth)
+    parse_block(text, sheet, c, out, depth)
 }
 
 fn parse_parallel(text: &[u8], sheet: &mut [u8], c: Cursor, out: usize, depth: usize) -> ParsedNode
     requires { ⌜ Ready (now text) c × Headed (now text) c out ⌝ }
-    ensures { λ r. ⌜ NodeMeans 0 (heldBy parseParallel depth) (now (text .entry)) (now (sheet .entry)) (now (sheet .exit)) c out depth r ⌝ }
+    ensures { λ r. ⌜ HeldMeans parseParallel (now (text .entry)) (now (sheet .entry)) (now (sheet .exit)) c out depth r ⌝ }
 {
-    let count = encode::put_byte(sheet, out, 4);
-    parse_block(text, sheet, c, count, depth)
+    parse_block(text, sheet, c, out, depth)
 }
 
 fn parse_group(text: &[u8], sheet: &mut [u8], c: Cursor, out: usize, depth: usize) -> ParsedNode
     requires { ⌜ Ready (now text) c × Headed (now text) c out ⌝ }
-    ensures { λ r. ⌜ NodeMeans 0 (heldBy parseGroup depth) (now (text .entry)) (now (sheet .entry)) (now (sheet .exit)) c out depth r ⌝ }
+    ensures { λ r. ⌜ HeldMeans parseGroup (now (text .entry)) (now (sheet .entry)) (now (sheet .exit)) c out depth r ⌝ }
 {
     match group_head(text, sheet, c, out) {
         NodeRead::Refused(r, p) => ParsedNode::Refused(r, p),
@@ -199,7 +211,7 @@ fn parse_group(text: &[u8], sheet: &mut [u8], c: Cursor, out: usize, depth: usiz
 
 fn parse_stagger(text: &[u8], sheet: &mut [u8], c: Cursor, out: usize, depth: usize) -> ParsedNode
     requires { ⌜ Ready (now text) c × Headed (now text) c out ⌝ }
-    ensures { λ r. ⌜ NodeMeans 0 (heldBy parseStagger depth) (now (text .entry)) (now (sheet .entry)) (now (sheet .exit)) c out depth r ⌝ }
+    ensures { λ r. ⌜ HeldMeans parseStagger (now (text .entry)) (now (sheet .entry)) (now (sheet .exit)) c out depth r ⌝ }
 {
     match stagger_head(text, sheet, c, out) {
         NodeRead::Refused(r, p) => ParsedNode::Refused(r, p),
@@ -215,11 +227,11 @@ pub fn parse_node(text: &[u8], sheet: &mut [u8], c: Cursor, out: usize, depth: u
     match begin_node(text, sheet, c, out) {
         Begun::Refused(r, p) => ParsedNode::Refused(r, p),
         Begun::Leaf(q, m) => ParsedNode::Is(q, m, 1),
-        Begun::Container(i, m) => match i {
-            0 => parse_sequence(text, sheet, m, out, depth),
-            1 => parse_parallel(text, sheet, m, out, depth),
-            2 => parse_group(text, sheet, m, out, depth),
-            _ => parse_stagger(text, sheet, m, out, depth),
+        Begun::Container(i, at, m) => match i {
+            0 => parse_sequence(text, sheet, m, at, depth),
+            1 => parse_parallel(text, sheet, m, at, depth),
+            2 => parse_group(text, sheet, m, at, depth),
+            _ => parse_stagger(text, sheet, m, at, depth),
         },
     }
 }

@@ -4,7 +4,8 @@ use mathlib.Core.List.{List}
 use mathlib.Core.Option.{none, some}
 use mathlib.Core.Path.{_≡_}
 use lib.ListN.{length, drop}
-use Rattle.codec.specs.Codec.{Form}
+use Rattle.codec.specs.Codec.{Form, below}
+use Rattle.sheet.specs.Sheet.{startForm}
 
 -- the place behind a value that is none: past the end
 abbrev pub Lost : List ℕ → ℕ → Type 0
@@ -27,3 +28,9 @@ passed a = tt
 pub record Number (c : Form ℕ) (limit : ℕ) (s : List ℕ) (at v next : ℕ) : Type 0 where
   pub reads : Reads c same s at v next
   pub small : v < limit
+
+-- a record's kind, then, from `between` on, the start of its node's keyword in a text of n bytes
+pub record KindAndStart (n : ℕ) (s : List ℕ) (at kind start next : ℕ) : Type 0 where
+  pub between : ℕ
+  pub kindAt : Number (below 15) 15 s at kind between
+  pub startAt : Reads (startForm n) same s between start next

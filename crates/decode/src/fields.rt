@@ -1,11 +1,11 @@
-// Bytes, numbers, truth values, floats, names and strings. For our own crates: a byte is read below a bound above 0, a number in at most 4 bytes.
+// Bytes, numbers, truth values, floats, names and strings, and the kind and start of a record. For our own crates: a byte is read below a bound above 0, a number in at most 4 bytes.
 ghost use Prim.Native.Nat.{_+_, _^_, _≤_, _<_};
 ghost use lib.ListN.{length};
 ghost use Rattle.number.specs.Number.{f32};
 ghost use Rattle.codec.specs.Codec.{below, big, each};
 ghost use Rattle.sheet.specs.Sheet.{word, flag, spanForm};
 ghost use Rattle.ast.specs.View.{spanView};
-ghost use Rattle.decode.specs.Reads.{Lost, Reads, Number, same};
+ghost use Rattle.decode.specs.Reads.{Lost, Reads, Number, KindAndStart, same};
 use ast::Span;
 
 pub struct ByteRead {
@@ -30,6 +30,12 @@ pub struct FloatRead {
 
 pub struct SpanRead {
     pub v: Span,
+    pub next: usize,
+}
+
+pub struct KindRead {
+    pub kind: u8,
+    pub start: usize,
     pub next: usize,
 }
 
@@ -117,6 +123,28 @@ pub fn take_span(s: &[u8], at: usize, n: usize) -> SpanRead
         SpanRead { v, next: b.next }
     } else {
         SpanRead { v, next: lost(s) }
+    }
+}
+
+// A record's kind, and the start of its node's keyword, which lies within a text of n bytes.
+pub fn take_kind(s: &[u8], at: usize, n: usize) -> KindRead
+    ensures { λ r. ⌜ KindAndStart n (now (s .entry)) at (r .kind) (r .start) (r .next) ⌝ }
+{
+    let k = take_byte(s, at, 15);
+    let a = take_field(s, k.next, 2);
+    let start = a.v as usize;
+    if start < n {
+        KindRead {
+            kind: k.v,
+            start,
+            next: a.next,
+        }
+    } else {
+        KindRead {
+            kind: k.v,
+            start,
+            next: lost(s),
+        }
     }
 }
 

@@ -1,4 +1,4 @@
-// Records: a node's fields behind its kind, decoded into values. A sequence and a parallel have a count alone, and a label a
+// Records: a node's fields behind its kind and start, decoded into values. A sequence and a parallel have a count alone, and a label a
 // span alone: `take_field` and `take_span` read these.
 ghost use lib.ListN.{length};
 ghost use Rattle.codec.specs.Codec.{_▹_, below, big, opt, each};

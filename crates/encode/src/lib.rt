@@ -62,6 +62,15 @@ pub fn patch_count(sheet: &mut [u8], at: usize, count: usize) -> usize
     put_field(sheet, at, 2, count)
 }
 
+// Writes what a node's record begins with: its kind, and the start of its keyword.
+pub fn put_front(sheet: &mut [u8], at: usize, kind: u8, start: usize) -> usize
+    requires { ⌜ at < 2 ^ 33 ⌝ }
+    ensures { λ r. ⌜ Writes (now (sheet .entry)) at (kind ∷ big 2 .write start) (now (sheet .exit)) r ⌝ }
+{
+    let next = put_byte(sheet, at, kind);
+    put_field(sheet, next, 2, start)
+}
+
 // A truth value as a byte.
 fn bit(b: bool) -> u8
     ensures { λ r. ⌜ r ≡ cond b 1 0 ⌝ }

@@ -441,17 +441,17 @@ orContainer none none = unknown
 unfoldable pub beginning : List ℕ → Begins
 beginning w = orContainer (words.under leaves w) (words.under containers w)
 
--- `block` is the rule for a container's block
-abbrev pub nodeBy : Rule (Nodes Key) → Begins → Rule (MotionNode Key)
-nodeBy block (aLeaf p) = p >>= λ l. give (single l)
-nodeBy block (aContainer p) = p >>= λ b. block >>= λ ns. give (holding b ns)
-nodeBy block unknown = refuse UnknownKeyword
+-- `block` is the rule for a container's block, `start` the start of the keyword
+abbrev pub nodeBy : Rule (Nodes Key) → ℕ → Begins → Rule (MotionNode Key)
+nodeBy block start (aLeaf p) = p >>= λ l. give (single start l)
+nodeBy block start (aContainer p) = p >>= λ b. block >>= λ ns. give (holding start b ns)
+nodeBy block start unknown = refuse UnknownKeyword
 
 -- parse_node
 unfoldable pub parseNode : Rule (Nodes Key) → Rule (MotionNode Key)
 parseNode block = do
   w ← word
-  nodeBy block (beginning (w .1))
+  nodeBy block (w .0) (beginning (w .1))
 
 unfoldable pub oneNode : Rule (Nodes Key) → Nodes Key → Rule (Next (Nodes Key))
 oneNode block ns = do

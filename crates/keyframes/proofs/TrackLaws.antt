@@ -274,21 +274,19 @@ module _ (s : List ℕ) (c m : Cursor) (x : Span) (t : Took 1 s c m word (x .sta
     no-track r q h = rw (t .is, o .is, h)
 
     pub keyframes-went : x .start + x .size ≤ length s
-        → (b b₁ b₂ a : List ℕ) (u : Cursor) (out f g q : ℕ)
-        → Writes b out (2 ∷ []) b₁ f
-        → Writes b₁ f (spanForm (length s) .write (spanOf x)) b₂ g
-        → BlockWent s b₂ a n u g q → Went 1 s b a c u out q parseKeyframes (leafBytes (length s))
+        → (b b₁ a : List ℕ) (u : Cursor) (out g q : ℕ)
+        → Writes b out (spanForm (length s) .write (spanOf x)) b₁ g
+        → BlockWent s b₁ a n u g q → Went 1 s b a c u out q parseKeyframes (leafBytes (length s))
     unfolding parseKeyframes ident
-    keyframes-went h b b₁ b₂ a u out f g q i j w = record {
+    keyframes-went h b b₁ a u out g q j w = record {
       value = keyframes (record { target = spanOf x; frames = w .value .0; loopMode = w .value .1 });
       took = record {
         is = rw (t .is, o .is, w .took .is, spelled-length s x h);
         low = omega (arith, t .low, o .low, w .took .low);
         ready = w .took .ready;
       };
-      writes = rw (map-length (w .value .0)) (writes-then i (writes-then j (w .writes)));
-      paid = let p = i .place in
-          let r = j .place in
+      writes = rw (map-length (w .value .0)) (writes-then j (w .writes));
+      paid = let r = j .place in
           let l = length-span (length s) (spanOf x) in
           omega (arith, t .low, o .low, w .took .low, w .paid);
     }
@@ -296,7 +294,7 @@ module _ (s : List ℕ) (c m : Cursor) (x : Span) (t : Took 1 s c m word (x .sta
 -- the answer behind the opener is the answer of the node
 pub behind-opener : (s : List ℕ) (c m n : Cursor) (x : Span) → Took 1 s c m word (x .start, spelled s x)
     → x .start + x .size ≤ length s → Took 1 s m n (theByte 123) tt
-    → (b b₁ b₂ a : List ℕ) (out f g : ℕ) → Writes b out (2 ∷ []) b₁ f → Writes b₁ f (spanForm (length s) .write (spanOf x)) b₂ g
-    → (y : NodeRead) → BlockMeans s b₂ a n g y → LeafMeans s b a c out parseKeyframes y
-behind-opener s c m n x t h o b b₁ b₂ a out f g i j (node.Is q u) w = keyframes-went s c m x t n o h b b₁ b₂ a u out f g q i j w
-behind-opener s c m n x t h o b b₁ b₂ a out f g i j (node.Refused r q) w = no-track s c m x t n o r q w
+    → (b b₁ a : List ℕ) (out g : ℕ) → Writes b out (spanForm (length s) .write (spanOf x)) b₁ g
+    → (y : NodeRead) → BlockMeans s b₁ a n g y → LeafMeans s b a c out parseKeyframes y
+behind-opener s c m n x t h o b b₁ a out g j (node.Is q u) w = keyframes-went s c m x t n o h b b₁ a u out g q j w
+behind-opener s c m n x t h o b b₁ a out g j (node.Refused r q) w = no-track s c m x t n o r q w

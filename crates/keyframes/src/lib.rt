@@ -319,8 +319,7 @@ pub fn parse_keyframes(text: &[u8], sheet: &mut [u8], c: Cursor, out: usize) -> 
         WordRead::Is(target, m) => match cursor::mark(text, m, b'{') {
             MarkRead::Missing(p) => NodeRead::Refused(Refusal::Missing, p),
             MarkRead::Is(n) => {
-                let target_at = encode::put_byte(sheet, out, 2);
-                let track_at = encode::put_span(sheet, target_at, target);
+                let track_at = encode::put_span(sheet, out, target);
                 track_value(text, sheet, n, track_at)
             }
         },

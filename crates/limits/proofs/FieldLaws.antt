@@ -299,3 +299,14 @@ module _ (n : ℕ) where
 
   pub total-some : (e : Entry) (fs : Fields) → AllFair n (e ∷ fs) → 15 ≤ total (e ∷ fs)
   total-some e fs h = omega (arith, h .0 .long)
+
+  -- a number's field and another
+  pub total-two : (x y : Entry) (fs : Fields) → AllFair n (x ∷ y ∷ fs) → (w : String) (d : ℕ) → lastNumber w (x ∷ y ∷ fs) ≡ some d
+      → 3 * length (bytes w) + 21 ≤ total (x ∷ y ∷ fs)
+  unfolding last
+  total-two x y fs h w d e = go (same (x .0) (bytes w)) refl e
+    where
+      go : (b : Bool) → same (x .0) (bytes w) ≡ b → orElse (cond {A = Option ℕ} b (x .1 .number) none) (lastNumber w (y ∷ fs)) ≡ some d
+          → 3 * length (bytes w) + 21 ≤ total (x ∷ y ∷ fs)
+      go true q g = let z = ap length (same-eq (x .0) (bytes w) q) in omega (arith, total-some y fs (h .1))
+      go false q g = omega (arith, total-number (y ∷ fs) (h .1) w d g, h .0 .long)

@@ -178,11 +178,11 @@ module _ (s : List ℕ) (short : length s ≤ textLimit) where
   module _ {inner : Form Forest} (b : Law inner) where
     track-leafed : (x : KeyframeSpec Key) (q m : ℕ)
         → keyframesL (length s) .ok (record { target = x .target; frames = mapFrames stored (x .frames); loopMode = x .loopMode })
-        → 15 + length (eachOut (entryForm (length s) .write) (mapFrames stored (x .frames))) + 3 * q ≤ 3 * m + 27
+        → 17 + length (eachOut (entryForm (length s) .write) (mapFrames stored (x .frames))) + 3 * q ≤ 3 * m + 27
         → Leafed s short b 9 q (Leaf.keyframes x) m
     track-leafed x q m o p = record {
-      ok = o;
-      paid = omega
+      ok = λ start i. (i, o);
+      paid = λ start. omega
           (arith, keyframes-size (length s) (record { target = x .target; frames = mapFrames stored (x .frames); loopMode = x .loopMode }));
     }
 

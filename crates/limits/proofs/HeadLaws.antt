@@ -2,6 +2,7 @@
 use Prim.Native.Nat.{ℕ, _+_, _-_, _*_, _≤_, _<_}
 use mathlib.Core.Bool.{Bool, true, false}
 use mathlib.Core.List.{List, [], _∷_, _++_}
+use mathlib.Core.Option.{Option, none, some}
 use mathlib.Core.Path.{refl}
 use native.Mathlib.Omega.{arith}
 use lib.ListN.{length}
@@ -13,7 +14,7 @@ use Rattle.codec.proofs.Laws.{Small, All, Law, optL}
 use Rattle.encode.proofs.FieldLaws.{small}
 use Rattle.ast.specs.Tree.{StaggerPatternSpec, grid, Container, sequence, parallel, group, stagger, holding}
 use Rattle.sheet.specs.Sheet.{Forest, word, nodeForm, patternForm}
-use Rattle.sheet.proofs.Laws.{wordL, patternL, nodeL}
+use Rattle.sheet.proofs.Laws.{wordL, patternL, startL, nodeL}
 use Rattle.error.specs.declared.Refusal.the-variants.{Malformed, UnknownKeyword, StaggerGridIncomplete}
 use Rattle.grammar.specs.Rule.{Rule, give, need, _>>=_, _>>_, eat, sees, goOn}
 use Rattle.grammar.specs.Fields.{lastNumber, pairs}
@@ -54,27 +55,37 @@ HeadOk (stagger p d) = optL patternL .ok p × optL wordL .ok d
 
 -- how many bytes of its record stand before the nodes at most
 abbrev pub headSize : Container → ℕ
-headSize sequence = 1
-headSize parallel = 1
-headSize (group mode) = 2
-headSize (stagger p d) = 20
+headSize sequence = 3
+headSize parallel = 3
+headSize (group mode) = 4
+headSize (stagger none none) = 5
+headSize (stagger none (some d)) = 22
+headSize (stagger (some p) d) = 22
 
-pub head-ok : (n : ℕ) {inner : Form Forest} (b : Law inner) (c : Container) (ns : Forest)
-    → HeadOk c → b .ok ns → nodeL n b .ok (holding c ns)
-head-ok n b sequence ns h o = o
-head-ok n b parallel ns h o = o
-head-ok n b (group mode) ns h o = (h, o)
-head-ok n b (stagger p d) ns h o = (h .0, (h .1, o))
+stagger-most : (p : Option StaggerPatternSpec) (d : Option ℕ) → headSize (stagger p d) ≤ 22
+stagger-most none none = omega arith
+stagger-most none (some d) = omega arith
+stagger-most (some p) d = omega arith
 
-pub head-size : (n : ℕ) (inner : Form Forest) (c : Container) (ns : Forest)
-    → length (nodeForm n inner .write (holding c ns)) ≤ headSize c + length (inner .write ns)
-head-size n inner sequence ns = omega arith
-head-size n inner parallel ns = omega arith
-head-size n inner (group mode) ns = omega arith
-head-size n inner (stagger p d) ns = omega (arith, sum .most)
-  where
-    sum : Most (opt patternForm .write p ++ (opt word .write d ++ inner .write ns)) (14 + (5 + length (inner .write ns)))
-    sum = opt-most patternForm 13 pattern-most p ⊕ opt-word n d ⊕ all (inner .write ns)
+pub head-ok : (n : ℕ) {inner : Form Forest} (b : Law inner) (start : ℕ) (c : Container) (ns : Forest)
+    → startL n .ok start → HeadOk c → b .ok ns → nodeL n b .ok (holding start c ns)
+head-ok n b start sequence ns i h o = (i, o)
+head-ok n b start parallel ns i h o = (i, o)
+head-ok n b start (group mode) ns i h o = (i, (h, o))
+head-ok n b start (stagger p d) ns i h o = (i, (h .0, (h .1, o)))
+
+stagger-size : (n : ℕ) (inner : Form Forest) (p : Option StaggerPatternSpec) (d : Option ℕ) (ns : Forest)
+    → Most (opt patternForm .write p ++ (opt word .write d ++ inner .write ns)) (14 + (5 + length (inner .write ns)))
+stagger-size n inner p d ns = opt-most patternForm 13 pattern-most p ⊕ opt-word n d ⊕ all (inner .write ns)
+
+pub head-size : (n : ℕ) (inner : Form Forest) (start : ℕ) (c : Container) (ns : Forest)
+    → length (nodeForm n inner .write (holding start c ns)) ≤ headSize c + length (inner .write ns)
+head-size n inner start sequence ns = omega arith
+head-size n inner start parallel ns = omega arith
+head-size n inner start (group mode) ns = omega arith
+head-size n inner start (stagger none none) ns = omega arith
+head-size n inner start (stagger none (some d)) ns = omega (arith, stagger-size n inner none (some d) ns .most)
+head-size n inner start (stagger (some p) d) ns = omega (arith, stagger-size n inner (some p) d ns .most)
 
 module _ (s : List ℕ) (short : length s ≤ textLimit) where
   -- a head from q to m, behind its keyword of k bytes; with 1 byte to spare
@@ -183,13 +194,20 @@ module _ (s : List ℕ) (short : length s ≤ textLimit) where
     pattern : On (patternL .ok) (x .0)
     delay : On (Small 4) (x .1)
     low : q ≤ m
+    paid : headSize (stagger (x .0) (x .1)) + 3 * q ≤ 3 * m + 20
 
   module _ (q : ℕ) where
     rest-runs : (x : Opening) (m : ℕ) → Opened q x m → m ≤ length s
         → Runs s (eat "," >>= λ c. give (goOn c x)) m (Onto (Opened q) (Opened q))
     rest-runs x m o h =
         then (eats h 44 refl)
-        (λ c n g y. on c n g (record { pattern = o .pattern; delay = o .delay; low = omega (arith, o .low, eaten m c n y) }))
+        (λ c n g y. on c n g
+        (record {
+          pattern = o .pattern;
+          delay = o .delay;
+          low = omega (arith, o .low, eaten m c n y);
+          paid = omega (arith, o .paid, eaten m c n y);
+        }))
       where
         on : (c : Bool) (n : ℕ) → n ≤ length s → Opened q x n → Runs s (give (goOn c x)) n (Onto (Opened q) (Opened q))
         on true n g z = gives g z
@@ -204,13 +222,24 @@ module _ (s : List ℕ) (short : length s ≤ textLimit) where
         ((λ e. then (and (the-mark g1 58 refl)
         (λ m2 g2 u x2. then (pattern-runs m2 g2)
         (λ p m3 g3 x3.
-        gives {Q = Opened q} g3 (record { pattern = x3 .0; delay = o .delay; low = omega (arith, o .low, x1 .low, x1 .end, x2, x3 .1) }))))
+        gives {Q = Opened q} g3
+        (record {
+          pattern = x3 .0;
+          delay = o .delay;
+          low = omega (arith, o .low, x1 .low, x1 .end, x2, x3 .1);
+          paid = omega (arith, o .low, x1 .low, x1 .end, x2, x3 .1);
+        }))))
         (λ y n g z. rest-runs y n z g))
         also (λ e. then (and (the-mark g1 58 refl)
         (λ m2 g2 u x2. then (float-runs s short m2 g2)
         (λ d m3 g3 x3.
         gives {Q = Opened q} g3
-        (record { pattern = o .pattern; delay = small 4 d (x3 .ok); low = omega (arith, o .low, x1 .low, x1 .end, x2, x3 .is .on) }))))
+        (record {
+          pattern = o .pattern;
+          delay = small 4 d (x3 .ok);
+          low = omega (arith, o .low, x1 .low, x1 .end, x2, x3 .is .on);
+          paid = omega (arith, o .low, x1 .low, x1 .end, x2, x3 .is .on, stagger-most (x .0) (some d));
+        }))))
         (λ y n g z. rest-runs y n z g))
         also tt))
 
@@ -218,10 +247,11 @@ module _ (s : List ℕ) (short : length s ≤ textLimit) where
   unfolding parseStagger openingStep
   stagger-runs q h =
       then (repeats (Opened q) (Opened q) (λ x m o. o) openingStep
-      (λ x m g o. tests (sees "{") (λ e. gives g o) (λ e. field-runs q x m g o)) h (record { pattern = tt; delay = tt; low = omega arith }))
+      (λ x m g o. tests (sees "{") (λ e. gives g o) (λ e. field-runs q x m g o)) h
+      (record { pattern = tt; delay = tt; low = omega arith; paid = omega arith }))
       (λ x m g o. gives g
       (record {
         ok = (on-ok patternL (x .0) (o .pattern), on-ok wordL (x .1) (o .delay));
-        paid = omega (arith, o .low);
+        paid = omega (arith, o .paid);
         on = o .low;
       }))

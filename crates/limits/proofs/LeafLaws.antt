@@ -1,14 +1,16 @@
 -- Each rule for a node that holds no others gives one that fits the sheet, and whose record the text pays for. Assumes nothing.
 use Prim.Native.Nat.{ℕ, _+_, _-_, _*_, _≤_, _<_}
-use mathlib.Core.Bool.{Bool, true, false}
+use mathlib.Core.Bool.{Bool, true, false, cond}
 use mathlib.Core.List.{List, [], _∷_}
 use mathlib.Core.Option.{Option, none, some}
-use mathlib.Core.Path.{_≡_, refl, ap}
+use mathlib.Core.Path.{_≡_, refl, ap, _∙_}
+use mathlib.Core.Logic.{_⊎_, inl, inr}
 use native.Mathlib.Omega.{arith}
 use lib.ListN.{length, getD}
 use Rattle.text.specs.Limits.{textLimit}
 use Rattle.text.specs.Bytes.{bytes, same, isName}
-use Rattle.text.specs.Words.{words}
+use Rattle.text.specs.Words.{orElse, words}
+use Rattle.text.proofs.WordLaws.{same-eq}
 use Rattle.codec.specs.Codec.{Form, opt}
 use Rattle.codec.proofs.Laws.{All, Law, optL}
 use Rattle.encode.proofs.FieldLaws.{small}
@@ -16,24 +18,24 @@ use Rattle.number.proofs.Floats.{nearest-fits, bits-lt}
 use Rattle.number.specs.Time.{Key}
 use Rattle.ast.specs.Tree.{Span, ValueExpr, DampingMode, criticallyDamped, overdamped, underdamped, TweenSpec, SpringSpec}
 use Rattle.ast.specs.Tree.{PathSpec, MorphSpec, DrawSpec, ColorSpec, WaveformSpec, PresetCall, Leaf, single, mapLeaf}
-use Rattle.sheet.specs.Sheet.{Forest, valueForm, nodeForm, springForm, waveformForm, presetForm}
-use Rattle.sheet.proofs.Laws.{flagL, dampingL, tweenL, pathL, morphL, drawL, colorL, nodeL}
+use Rattle.sheet.specs.Sheet.{Forest, word, valueForm, nodeForm, tweenForm, springForm, waveformForm, presetForm}
+use Rattle.sheet.proofs.Laws.{flagL, dampingL, tweenL, pathL, morphL, drawL, colorL, startL, nodeL}
 use Rattle.error.specs.declared.Refusal.the-variants.{MissingDuration, Malformed, UnknownSpringPreset}
 use Rattle.grammar.specs.Rule.{Rule, _>>_, give, if, sees, skip, inside}
 use Rattle.grammar.specs.Fields.{Fields, aDamping, pairs, parseFieldList, lastNumber}
-use Rattle.grammar.specs.Fields.{lastTruth, lastEasing, lastValue, lastDamping, ever, last}
+use Rattle.grammar.specs.Fields.{lastTruth, lastEasing, lastLoopMode, lastValue, lastDamping, ever, last}
 use Rattle.grammar.specs.Grammar.{stored, tweenFields, parseTween, springFields, parseSpringPreset, springPreset}
 use Rattle.grammar.specs.Grammar.{integrator, criticalDamping, overDamping, underDamping, parseSpring, offset, pathFields, parsePath}
 use Rattle.grammar.specs.Grammar.{morphFields, parseMorph, drawFields, parseDraw, space, colorFields, parseColor}
 use Rattle.grammar.specs.Grammar.{waveformKind, waveformFields, parseWaveform, parsePresetCall, parseLabel, atSign, parseAt}
 use Rattle.limits.proofs.RunLaws.{Runs, gives, then, and, weaken, tests, conds, needs}
-use Rattle.limits.proofs.TakeLaws.{the-mark, two-marks, skips-mark, eats, eaten, a-number, in-group}
+use Rattle.limits.proofs.TakeLaws.{the-mark, two-marks, skips-mark, Eaten, eats, eaten, Number, a-number, in-group}
 use Rattle.limits.proofs.ListLaws.{_also_, a-choice}
-use Rattle.limits.proofs.SizeLaws.{Most, all, _⊕_, span-most, tween-size, spring-size, path-size}
+use Rattle.limits.proofs.SizeLaws.{Most, all, _⊕_, span-most, tween-size, tween-rest, spring-size, path-size}
 use Rattle.limits.proofs.SizeLaws.{morph-size, draw-size, color-size, waveform-size, preset-size}
 use Rattle.limits.proofs.FieldLaws.{limit, AllFair, total, Held, Row, Listed, pairs-run, fields-run}
 use Rattle.limits.proofs.FieldLaws.{word-is, word-or, case-or, word-opt, case-opt, easing-opt, loop-opt}
-use Rattle.limits.proofs.FieldLaws.{value-opt, damping-opt, range-opt, total-number, total-value, total-some}
+use Rattle.limits.proofs.FieldLaws.{value-opt, damping-opt, range-opt, total-number, total-value, total-some, total-two}
 use Rattle.limits.proofs.ValueLaws.{ident-runs, string-runs, float-runs, float-in-parens, two-in-parens, value-runs}
 use Rattle.limits.proofs.CurveLaws.{number-row, count-row, easing-row, loop-row, flag-row, value-row, case-row}
 
@@ -43,10 +45,10 @@ flag-ok false = omega arith
 
 -- `b` is the law of the form of the nodes in a container
 module _ (s : List ℕ) (short : length s ≤ textLimit) {inner : Form Forest} (b : Law inner) where
-  -- a leaf from q to m, behind its keyword of k bytes; with 2 bytes to spare
+  -- a leaf from q to m, behind its keyword of k bytes, wherever that starts; with 2 bytes to spare
   pub record Leafed (k q : ℕ) (l : Leaf Key) (m : ℕ) : Type 0 where
-    pub ok : nodeL (length s) b .ok (single (mapLeaf stored l))
-    pub paid : length (nodeForm (length s) inner .write (single (mapLeaf stored l))) + 2 + 3 * q ≤ 3 * m + 3 * k
+    pub ok : (start : ℕ) → startL (length s) .ok start → nodeL (length s) b .ok (single start (mapLeaf stored l))
+    pub paid : (start : ℕ) → length (nodeForm (length s) inner .write (single start (mapLeaf stored l))) + 2 + 3 * q ≤ 3 * m + 3 * k
 
   abbrev pub LeafRule : ℕ → Rule (Leaf Key) → Type 0
   LeafRule k p = (q : ℕ) → q ≤ length s → isName (getD s q 0) ≡ false → Runs s p q (Leafed k q)
@@ -66,10 +68,40 @@ module _ (s : List ℕ) (short : length s ≤ textLimit) {inner : Form Forest} (
       also flag-row s short "reverse" (omega arith)
       also tt
 
-  tween-leafed : (x : TweenSpec) (q m : ℕ) → tweenL (length s) .ok x
-      → 56 + length (valueForm .write (x .from)) + length (valueForm .write (x .to)) + 3 * q ≤ 3 * m + 15
-      → Leafed 5 q (Leaf.tween x) m
-  tween-leafed x q m o p = record { ok = o; paid = omega (arith, tween-size (length s) x) }
+  abbrev tweenOf : Span → ValueExpr → ValueExpr → ℕ → Fields → TweenSpec
+  tweenOf t v w d fs = record {
+    target = t;
+    from = v;
+    to = w;
+    duration = d;
+    easing = lastEasing fs;
+    delay = lastNumber "delay" fs;
+    timeScale = lastNumber "time_scale" fs;
+    loopMode = lastLoopMode fs;
+    snap = lastNumber "snap" fs;
+    round = lastNumber "round" fs;
+    reverse = ever "reverse" fs;
+  }
+
+  -- a duration alone leaves out the delay; with more fields, these pay
+  tween-total : (t : Span) (v w : ValueExpr) (d : ℕ) (fs : Fields) → AllFair (length s) fs → lastNumber "duration" fs ≡ some d
+      → length (tweenForm (length s) .write (tweenOf t v w d fs))
+      ≤ 21 + length (valueForm .write v) + length (valueForm .write w) + total fs
+  unfolding last same
+  tween-total t v w d [] f e = absurd (let z : _≡_ {A = ℕ} 0 1 = cc in omega arith)
+  tween-total t v w d (x ∷ []) f e = go (same (x .0) (bytes "duration")) refl e
+    where
+      go : (b : Bool) → same (x .0) (bytes "duration") ≡ b → orElse (cond {A = Option ℕ} b (x .1 .number) none) none ≡ some d
+          → length (tweenForm (length s) .write (tweenOf t v w d (x ∷ [])))
+          ≤ 21 + length (valueForm .write v) + length (valueForm .write w) + total (x ∷ [])
+      go true q g =
+          let n = same-eq (x .0) (bytes "duration") q in
+          let z : lastNumber "delay" (x ∷ []) ≡ none = rw n in
+          let y = ap (λ (o : Option ℕ). length (opt word .write o)) z in
+          omega (arith, tween-rest (length s) (tweenOf t v w d (x ∷ [])), total-number (length s) (x ∷ []) f "duration" d e)
+      go false q g = absurd (let z : _≡_ {A = ℕ} 0 1 = cc in omega arith)
+  tween-total t v w d (x ∷ y ∷ fs) f e =
+      omega (arith, tween-size (length s) (tweenOf t v w d (x ∷ y ∷ fs)), total-two (length s) x y fs f "duration" d e)
 
   pub tween-runs : LeafRule 5 parseTween
   unfolding parseTween limit same
@@ -83,19 +115,21 @@ module _ (s : List ℕ) (short : length s ≤ textLimit) {inner : Form Forest} (
       then (needs MissingDuration (lastNumber "duration" fs) g6) (λ d m7 g7 x7.
       let n = length s in
       let f = x6 .fair in
-      gives g7 (tween-leafed _ q m7
-      (x1 .ok
-      also x3 .ok
-      also x5 .ok
-      also word-is n fs f "duration" refl d (x7 .1)
-      also easing-opt n fs f
-      also word-opt n fs f "delay" refl
-      also word-opt n fs f "time_scale" refl
-      also loop-opt n fs f
-      also word-opt n fs f "snap" refl
-      also word-opt n fs f "round" refl
-      also flag-ok (ever "reverse" fs))
-      (omega (arith, total-number n fs f "duration" d (x7 .1), x1 .apart e, x2, x3 .paid, x4, x5 .paid, x6 .paid, x7 .0))))))))))
+      gives g7 (record {
+        ok = λ start i. i
+            also x1 .ok
+            also x3 .ok
+            also x5 .ok
+            also word-is n fs f "duration" refl d (x7 .1)
+            also easing-opt n fs f
+            also word-opt n fs f "delay" refl
+            also word-opt n fs f "time_scale" refl
+            also loop-opt n fs f
+            also word-opt n fs f "snap" refl
+            also word-opt n fs f "round" refl
+            also flag-ok (ever "reverse" fs);
+        paid = λ start. omega (arith, tween-total t v w d fs f (x7 .1), x1 .apart e, x2, x3 .paid, x4, x5 .paid, x6 .paid, x7 .0);
+      }))))))))
 
   -- ---- spring
 
@@ -141,7 +175,7 @@ module _ (s : List ℕ) (short : length s ≤ textLimit) {inner : Form Forest} (
   -- a spring without fields is short; with some, these pay
   spring-total : (t : Span) (v w : ValueExpr) (fs : Fields) → AllFair (length s) fs
       → length (springForm (length s) .write (springOf t v w fs))
-      ≤ 26 + length (valueForm .write v) + length (valueForm .write w) + total fs
+      ≤ 24 + length (valueForm .write v) + length (valueForm .write w) + total fs
   unfolding last
   spring-total t v w [] f = omega (arith, bare .most)
     where
@@ -151,7 +185,7 @@ module _ (s : List ℕ) (short : length s ≤ textLimit) {inner : Form Forest} (
     where
       go : (o : Option ValueExpr) → lastValue (e ∷ fs) ≡ o
           → length (springForm (length s) .write (springOf t v w (e ∷ fs)))
-          ≤ 26 + length (valueForm .write v) + length (valueForm .write w) + total (e ∷ fs)
+          ≤ 24 + length (valueForm .write v) + length (valueForm .write w) + total (e ∷ fs)
       go none q =
           let z = ap (λ (o : Option ValueExpr). length (opt valueForm .write o)) q in
           omega (arith, spring-size (length s) (springOf t v w (e ∷ fs)), total-some (length s) e fs f)
@@ -171,7 +205,8 @@ module _ (s : List ℕ) (short : length s ≤ textLimit) {inner : Form Forest} (
       let n = length s in
       let f = x6 .fair in
       gives g6 (record {
-        ok = x1 .ok
+        ok = λ start i. i
+            also x1 .ok
             also x3 .ok
             also x5 .ok
             also case-opt n fs f "preset" 5 refl
@@ -182,7 +217,7 @@ module _ (s : List ℕ) (short : length s ≤ textLimit) {inner : Form Forest} (
             also word-opt n fs f "epsilon" refl
             also case-opt n fs f "integrator" 2 refl
             also damping-opt n fs f;
-        paid = omega (arith, spring-total t v w fs f, x1 .apart e, x2, x3 .paid, x4, x5 .paid, x6 .paid);
+        paid = λ start. omega (arith, spring-total t v w fs f, x1 .apart e, x2, x3 .paid, x4, x5 .paid, x6 .paid);
       })))))))
 
   -- ---- path, morph, draw, color: their duration pays
@@ -220,8 +255,8 @@ module _ (s : List ℕ) (short : length s ≤ textLimit) {inner : Form Forest} (
       also loop-row s short "loop" (omega arith)
       also tt
 
-  path-leafed : (x : PathSpec) (q m : ℕ) → pathL (length s) .ok x → 50 + 3 * q ≤ 3 * m + 12 → Leafed 4 q (Leaf.path x) m
-  path-leafed x q m o p = record { ok = o; paid = omega (arith, path-size (length s) x) }
+  path-leafed : (x : PathSpec) (q m : ℕ) → pathL (length s) .ok x → 52 + 3 * q ≤ 3 * m + 12 → Leafed 4 q (Leaf.path x) m
+  path-leafed x q m o p = record { ok = λ start i. (i, o); paid = λ start. omega (arith, path-size (length s) x) }
 
   opt-flag-ok : (o : Option Bool) → optL flagL .ok o
   opt-flag-ok none = tt
@@ -255,8 +290,8 @@ module _ (s : List ℕ) (short : length s ≤ textLimit) {inner : Form Forest} (
       also easing-row s short "easing" (omega arith)
       also tt
 
-  morph-leafed : (x : MorphSpec) (q m : ℕ) → morphL (length s) .ok x → 37 + 3 * q ≤ 3 * m + 15 → Leafed 5 q (Leaf.morph x) m
-  morph-leafed x q m o p = record { ok = o; paid = omega (arith, morph-size (length s) x) }
+  morph-leafed : (x : MorphSpec) (q m : ℕ) → morphL (length s) .ok x → 39 + 3 * q ≤ 3 * m + 15 → Leafed 5 q (Leaf.morph x) m
+  morph-leafed x q m o p = record { ok = λ start i. (i, o); paid = λ start. omega (arith, morph-size (length s) x) }
 
   pub morph-runs : LeafRule 5 parseMorph
   unfolding parseMorph limit same
@@ -279,8 +314,8 @@ module _ (s : List ℕ) (short : length s ≤ textLimit) {inner : Form Forest} (
       also easing-row s short "easing" (omega arith)
       also tt
 
-  draw-leafed : (x : DrawSpec) (q m : ℕ) → drawL (length s) .ok x → 29 + 3 * q ≤ 3 * m + 12 → Leafed 4 q (Leaf.draw x) m
-  draw-leafed x q m o p = record { ok = o; paid = omega (arith, draw-size (length s) x) }
+  draw-leafed : (x : DrawSpec) (q m : ℕ) → drawL (length s) .ok x → 31 + 3 * q ≤ 3 * m + 12 → Leafed 4 q (Leaf.draw x) m
+  draw-leafed x q m o p = record { ok = λ start i. (i, o); paid = λ start. omega (arith, draw-size (length s) x) }
 
   pub draw-runs : LeafRule 4 parseDraw
   unfolding parseDraw limit same
@@ -302,8 +337,8 @@ module _ (s : List ℕ) (short : length s ≤ textLimit) {inner : Form Forest} (
       also easing-row s short "easing" (omega arith)
       also tt
 
-  color-leafed : (x : ColorSpec) (q m : ℕ) → colorL (length s) .ok x → 38 + 3 * q ≤ 3 * m + 15 → Leafed 5 q (Leaf.color x) m
-  color-leafed x q m o p = record { ok = o; paid = omega (arith, color-size (length s) x) }
+  color-leafed : (x : ColorSpec) (q m : ℕ) → colorL (length s) .ok x → 40 + 3 * q ≤ 3 * m + 15 → Leafed 5 q (Leaf.color x) m
+  color-leafed x q m o p = record { ok = λ start i. (i, o); paid = λ start. omega (arith, color-size (length s) x) }
 
   pub color-runs : LeafRule 5 parseColor
   unfolding parseColor limit same
@@ -352,7 +387,7 @@ module _ (s : List ℕ) (short : length s ≤ textLimit) {inner : Form Forest} (
     duration = lastNumber "duration" fs;
   }
 
-  waveform-total : (k : ℕ) (fs : Fields) → AllFair (length s) fs → length (waveformForm .write (waveformOf k fs)) ≤ 24 + total fs
+  waveform-total : (k : ℕ) (fs : Fields) → AllFair (length s) fs → length (waveformForm .write (waveformOf k fs)) ≤ 22 + total fs
   unfolding last
   waveform-total k [] f = omega arith
   waveform-total k (e ∷ fs) f = omega (arith, waveform-size (length s) (waveformOf k (e ∷ fs)), total-some (length s) e fs f)
@@ -365,7 +400,8 @@ module _ (s : List ℕ) (short : length s ≤ textLimit) {inner : Form Forest} (
       let n = length s in
       let f = x2 .fair in
       gives g2 (record {
-        ok = x1 .0
+        ok = λ start i. i
+            also x1 .0
             also word-opt n fs f "frequency" refl
             also word-opt n fs f "amplitude" refl
             also word-opt n fs f "phase" refl
@@ -373,7 +409,7 @@ module _ (s : List ℕ) (short : length s ≤ textLimit) {inner : Form Forest} (
             also word-opt n fs f "seed" refl
             also word-opt n fs f "smoothness" refl
             also word-opt n fs f "duration" refl;
-        paid = omega (arith, waveform-total k fs f, x1 .1, x2 .paid);
+        paid = λ start. omega (arith, waveform-total k fs f, x1 .1, x2 .paid);
       })))
 
   -- ---- preset, label, at
@@ -381,7 +417,7 @@ module _ (s : List ℕ) (short : length s ≤ textLimit) {inner : Form Forest} (
   abbrev presetOf : Span → Fields → PresetCall
   presetOf t fs = record { name = t; duration = lastNumber "duration" fs; easing = lastEasing fs }
 
-  preset-total : (t : Span) (fs : Fields) → AllFair (length s) fs → length (presetForm (length s) .write (presetOf t fs)) ≤ 18 + total fs
+  preset-total : (t : Span) (fs : Fields) → AllFair (length s) fs → length (presetForm (length s) .write (presetOf t fs)) ≤ 16 + total fs
   unfolding last
   preset-total t [] f = omega arith
   preset-total t (e ∷ fs) f = omega (arith, preset-size (length s) (presetOf t (e ∷ fs)), total-some (length s) e fs f)
@@ -417,22 +453,42 @@ module _ (s : List ℕ) (short : length s ≤ textLimit) {inner : Form Forest} (
       let n = length s in
       let f = x3 .fair in
       gives g3 (record {
-        ok = x1 .ok also word-opt n gs f "duration" refl also easing-opt n gs f;
-        paid = omega (arith, preset-total t gs f, x1 .on, x2 .paid, x3 .paid);
+        ok = λ start i. i also x1 .ok also word-opt n gs f "duration" refl also easing-opt n gs f;
+        paid = λ start. omega (arith, preset-total t gs f, x1 .on, x2 .paid, x3 .paid);
       }))))
 
   pub label-runs : LeafRule 5 parseLabel
   unfolding parseLabel
   label-runs q h e =
       then (string-runs s short q h)
-      (λ t m g x. and (the-mark g 59 refl) (λ n f u y. gives f (record { ok = x .0; paid = omega (arith, x .1, y) })))
+      (λ t m g x. and (the-mark g 59 refl)
+      (λ n f u y. gives f (record { ok = λ start i. (i, x .0); paid = λ start. omega (arith, x .1, y) })))
 
-  sign-runs : (q : ℕ) → q ≤ length s → Runs s atSign q (λ v m. q ≤ m)
+  -- a sign or none
+  abbrev Passed : ℕ → ℕ → Type 0
+  Passed q m = (m ≡ q) ⊎ (q < m)
+
+  passed : (q : ℕ) (c : Bool) (m : ℕ) → Eaten q c m → Passed q m
+  passed q true m x = inr x
+  passed q false m x = inl x
+
+  both-passed : (q m n : ℕ) → Passed q m → Passed m n → Passed q n
+  both-passed q m n (inl x) (inl y) = inl (y ∙ x)
+  both-passed q m n (inl x) (inr y) = inr (omega arith)
+  both-passed q m n (inr x) (inl y) = inr (omega arith)
+  both-passed q m n (inr x) (inr y) = inr (omega arith)
+
+  sign-runs : (q : ℕ) → q ≤ length s → Runs s atSign q (λ v m. Passed q m)
   unfolding atSign
   sign-runs q h =
       then (eats h 43 refl) (λ c m g x.
-      then (conds {Q = λ d n. m ≤ n} c (λ e. gives g (omega arith)) (λ e. weaken (eats g 45 refl) (λ d n y. eaten m d n y))) (λ d n f y.
-      gives f (omega (arith, eaten q c m x))))
+      then (conds {Q = λ d n. Passed m n} c (λ e. gives g (inl refl)) (λ e. weaken (eats g 45 refl) (λ d n y. passed m d n y))) (λ d n f y.
+      gives f (both-passed q m n (passed q c m x) y)))
+
+  -- a number behind a sign, or apart from the name before it
+  behind-sign : (q m n : ℕ) → isName (getD s q 0) ≡ false → Passed q m → Number s m n → q + 1 < n
+  behind-sign q m n e (inl x) y = let z = y .apart (rw x e) in omega arith
+  behind-sign q m n e (inr x) y = omega (arith, y .on)
 
   pub at-runs : LeafRule 2 parseAt
   unfolding parseAt
@@ -440,4 +496,7 @@ module _ (s : List ℕ) (short : length s ≤ textLimit) {inner : Form Forest} (
       then (sign-runs q h) (λ v m g x.
       then (a-number g Malformed) (λ w n f y.
       and (eats f 59 refl) (λ o i c z.
-      gives i (record { ok = (small 4 _ (bits-lt _ (nearest-fits _ _)), flag-ok (v .0)); paid = omega (arith, y .on, eaten n c o z) }))))
+      gives i (record {
+        ok = λ start j. (j, (small 4 _ (bits-lt _ (nearest-fits _ _)), flag-ok (v .0)));
+        paid = λ start. omega (arith, behind-sign q m n e x y, eaten n c o z);
+      }))))

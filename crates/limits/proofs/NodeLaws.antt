@@ -1,10 +1,11 @@
 -- Nodes and blocks, by the number of containers that may still nest. Assumes nothing.
-use Prim.Native.Nat.{ℕ, zero, suc, _+_, _-_, _*_, _≤_}
+use Prim.Native.Nat.{ℕ, zero, suc, _+_, _-_, _*_, _≤_, _<_}
 use Prim.Native.String.{String}
 use mathlib.Core.List.{List, [], _++_}
 use mathlib.Core.Option.{Option, none, some}
 use mathlib.Core.Path.{_≡_, refl, ap, _∙_}
 use native.Mathlib.Omega.{arith}
+use borrow.Author.Tests.{lt-ltb}
 use lib.ListN.{length, length-append}
 use Rattle.text.specs.Limits.{textLimit}
 use Rattle.text.specs.Bytes.{bytes}
@@ -18,7 +19,7 @@ use Rattle.ast.specs.Tree.{Leaf, Container, KeyframeTime, Nodes, leaf, box, Mot
 use Rattle.ast.specs.Tree.{width, records, mapLeaf, mapTimes}
 use Rattle.sheet.specs.Sheet as sheets
 use Rattle.sheet.specs.Sheet.{Forest, Node, word, nodeForm, forest}
-use Rattle.sheet.proofs.Laws.{nodeL, OkNodes, innerL}
+use Rattle.sheet.proofs.Laws.{startL, nodeL, OkNodes, innerL}
 use Rattle.error.specs.declared.Refusal.the-variants.{Missing, TooManyNested}
 use Rattle.grammar.specs.Rule.{Rule, give, refuse, ends, sees, repeat, more}
 use Rattle.grammar.specs.Grammar.{stored, leaves, containers, aLeaf, aContainer, orContainer}
@@ -26,6 +27,7 @@ use Rattle.grammar.specs.Grammar.{beginning, nodeBy, parseNode, oneNode, nodesS
 use Rattle.limits.proofs.RunLaws.{Runs, gives, refuses, then, and, weaken-in, tests, Onto, repeats}
 use Rattle.limits.proofs.TakeLaws.{Word, a-word, skips-mark, in-group}
 use Rattle.limits.proofs.ListLaws.{_also_, under-row}
+use Rattle.limits.proofs.ValueLaws.{is-true}
 use Rattle.limits.proofs.LeafLaws.{LeafRule, tween-runs, spring-runs, path-runs, morph-runs, draw-runs}
 use Rattle.limits.proofs.LeafLaws.{color-runs, waveform-runs, preset-runs, label-runs, at-runs}
 use Rattle.limits.proofs.FrameLaws.{keyframes-runs}
@@ -34,28 +36,28 @@ use Rattle.limits.proofs.HeadLaws.{head-ok, head-size, HeadRule, sequen
 -- ---- one node more
 
 abbrev node : MotionNode Key → Node
-node (single l) = single (mapLeaf stored l)
-node (holding c ns) = holding c (mapTimes stored ns)
+node (single start l) = single start (mapLeaf stored l)
+node (holding start c ns) = holding start c (mapTimes stored ns)
 
 map-more : (ns : Nodes Key) (x : MotionNode Key)
     → mapTimes stored (append ns (push x Nodes.none)) ≡ append (mapTimes stored ns) (push (node x) Nodes.none)
-map-more Nodes.none (single l) = refl
-map-more Nodes.none (holding c ns) = refl
-map-more (leaf l rest) x = ap (leaf (mapLeaf stored l)) (map-more rest x)
-map-more (box c ns rest) x = ap (box c (mapTimes stored ns)) (map-more rest x)
+map-more Nodes.none (single p l) = refl
+map-more Nodes.none (holding p c ns) = refl
+map-more (leaf p l rest) x = ap (leaf p (mapLeaf stored l)) (map-more rest x)
+map-more (box p c ns rest) x = ap (box p c (mapTimes stored ns)) (map-more rest x)
 
 width-more : (ns : Forest) (x : Node) → width (append ns (push x Nodes.none)) ≡ suc (width ns)
-width-more Nodes.none (single l) = refl
-width-more Nodes.none (holding c ns) = refl
-width-more (leaf l rest) x = ap suc (width-more rest x)
-width-more (box c ns rest) x = ap suc (width-more rest x)
+width-more Nodes.none (single p l) = refl
+width-more Nodes.none (holding p c ns) = refl
+width-more (leaf p l rest) x = ap suc (width-more rest x)
+width-more (box p c ns rest) x = ap suc (width-more rest x)
 
 module _ (n : ℕ) {inner : Form Forest} (b : Law inner) where
   ok-more : (ns : Forest) (x : Node) → OkNodes n b ns → nodeL n b .ok x → OkNodes n b (append ns (push x Nodes.none))
-  ok-more Nodes.none (single l) h o = (o, tt)
-  ok-more Nodes.none (holding c ns) h o = (o, tt)
-  ok-more (leaf l rest) x h o = (h .0, ok-more rest x (h .1) o)
-  ok-more (box c ns rest) x h o = (h .0, ok-more rest x (h .1) o)
+  ok-more Nodes.none (single p l) h o = (o, tt)
+  ok-more Nodes.none (holding p c ns) h o = (o, tt)
+  ok-more (leaf p l rest) x h o = (h .0, ok-more rest x (h .1) o)
+  ok-more (box p c ns rest) x h o = (h .0, ok-more rest x (h .1) o)
 
 module _ (n : ℕ) (inner : Form Forest) where
   -- how many bytes the records of some nodes have
@@ -63,18 +65,18 @@ module _ (n : ℕ) (inner : Form Forest) where
   recordBytes ns = length (forest n inner (width ns) .write ns)
 
   bytes-more : (ns : Forest) (x : Node) → recordBytes (append ns (push x Nodes.none)) ≡ recordBytes ns + length (nodeForm n inner .write x)
-  bytes-more Nodes.none (single l) = length-append (nodeForm n inner .write (single l)) [] ∙ omega arith
-  bytes-more Nodes.none (holding c ns) = length-append (nodeForm n inner .write (holding c ns)) [] ∙ omega arith
-  bytes-more (leaf l rest) x =
+  bytes-more Nodes.none (single p l) = length-append (nodeForm n inner .write (single p l)) [] ∙ omega arith
+  bytes-more Nodes.none (holding p c ns) = length-append (nodeForm n inner .write (holding p c ns)) [] ∙ omega arith
+  bytes-more (leaf p l rest) x =
       let e = bytes-more rest x in
-      let f = length-append (nodeForm n inner .write (single l)) (forest n inner (width rest) .write rest) in
-      length-append (nodeForm n inner .write (single l))
+      let f = length-append (nodeForm n inner .write (single p l)) (forest n inner (width rest) .write rest) in
+      length-append (nodeForm n inner .write (single p l))
       (forest n inner (width (append rest (push x Nodes.none))) .write (append rest (push x Nodes.none)))
       ∙ omega arith
-  bytes-more (box c ns rest) x =
+  bytes-more (box p c ns rest) x =
       let e = bytes-more rest x in
-      let f = length-append (nodeForm n inner .write (holding c ns)) (forest n inner (width rest) .write rest) in
-      length-append (nodeForm n inner .write (holding c ns))
+      let f = length-append (nodeForm n inner .write (holding p c ns)) (forest n inner (width rest) .write rest) in
+      length-append (nodeForm n inner .write (holding p c ns))
       (forest n inner (width (append rest (push x Nodes.none))) .write (append rest (push x Nodes.none)))
       ∙ omega arith
 
@@ -82,38 +84,28 @@ module _ (n : ℕ) (inner : Form Forest) where
 
 -- a node's own, and those of the nodes in it
 abbrev pub recordsIn : MotionNode Key → ℕ
-recordsIn (single l) = 1
-recordsIn (holding c ns) = suc (records ns)
+recordsIn (single p l) = 1
+recordsIn (holding p c ns) = suc (records ns)
 
 records-more : (ns : Nodes Key) (x : MotionNode Key) → records (append ns (push x Nodes.none)) ≡ records ns + recordsIn x
-records-more Nodes.none (single l) = refl
-records-more Nodes.none (holding c ns) = omega arith
-records-more (leaf l rest) x = let e = records-more rest x in omega arith
-records-more (box c ns rest) x = let e = records-more rest x in omega arith
-
-opt-some : (o : Option ℕ) (bs : List ℕ) (k : ℕ) → k ≤ length bs → suc k ≤ length (opt word .write o ++ bs)
-opt-some none bs k h = omega arith
-opt-some (some a) bs k h = omega arith
+records-more Nodes.none (single p l) = refl
+records-more Nodes.none (holding p c ns) = omega arith
+records-more (leaf p l rest) x = let e = records-more rest x in omega arith
+records-more (box p c ns rest) x = let e = records-more rest x in omega arith
 
 -- a leaf's record has 5 bytes or more
-leaf-long : (n : ℕ) (inner : Form Forest) (l : Leaf KeyframeTime) → 5 ≤ length (nodeForm n inner .write (single l))
-leaf-long n inner (tree.tween x) = omega arith
-leaf-long n inner (tree.spring x) = omega arith
-leaf-long n inner (tree.keyframes x) = omega arith
-leaf-long n inner (tree.path x) = omega arith
-leaf-long n inner (tree.morph x) = omega arith
-leaf-long n inner (tree.draw x) = omega arith
-leaf-long n inner (tree.color x) = omega arith
-leaf-long n inner (tree.waveform x) =
-    let four = opt word .write (x .dutyCycle)
-    ++ (opt word .write (x .seed) ++ (opt word .write (x .smoothness) ++ opt word .write (x .duration)))
-    in
-    let five = opt word .write (x .phase) ++ four in
-    let six = opt word .write (x .amplitude) ++ five in
-    omega (arith, opt-some (x .frequency) six 2 (opt-some (x .amplitude) five 1 (opt-some (x .phase) four 0 (omega arith))))
-leaf-long n inner (tree.preset x) = omega arith
-leaf-long n inner (tree.label x) = omega arith
-leaf-long n inner (tree.at x) = omega arith
+leaf-long : (n : ℕ) (inner : Form Forest) (start : ℕ) (l : Leaf KeyframeTime) → 5 ≤ length (nodeForm n inner .write (single start l))
+leaf-long n inner start (tree.tween x) = omega arith
+leaf-long n inner start (tree.spring x) = omega arith
+leaf-long n inner start (tree.keyframes x) = omega arith
+leaf-long n inner start (tree.path x) = omega arith
+leaf-long n inner start (tree.morph x) = omega arith
+leaf-long n inner start (tree.draw x) = omega arith
+leaf-long n inner start (tree.color x) = omega arith
+leaf-long n inner start (tree.waveform x) = omega arith
+leaf-long n inner start (tree.preset x) = omega arith
+leaf-long n inner start (tree.label x) = omega arith
+leaf-long n inner start (tree.at x) = omega arith
 
 -- ---- a node
 
@@ -133,21 +125,27 @@ module _ (s : List ℕ) (short : length s ≤ textLimit) {inner : Form Forest} (
   module _ (p : Rule (Nodes Key)) (blocks : (q : ℕ) → q ≤ length s → Runs s p q (Blocked q)) where
     -- behind the keyword w, i is the place of what follows
     module _ (q i : ℕ) (w : ℕ × List ℕ) (x : Word s q w i) (h : i ≤ length s) where
+      -- the keyword starts in the text
+      started : startL (length s) .ok (w .0)
+      started =
+          let l : w .0 < length s = omega (arith, x .some, x .end) in
+          (small 2 (w .0) (omega (arith, short)), is-true (lt-ltb (w .0) (length s) l))
+
       leaf-by : (r : Rule (Leaf Key)) (v : String) (k : ℕ) → length (bytes v) ≡ k
-          → LeafRule s short b k r → w .1 ≡ bytes v → Runs s (nodeBy p (aLeaf r)) i (Noded q)
+          → LeafRule s short b k r → w .1 ≡ bytes v → Runs s (nodeBy p (w .0) (aLeaf r)) i (Noded q)
       leaf-by r v k l y e =
           then (y i h (x .behind))
           (λ a m g z.
           let f = ap length e in
           gives g
           (record {
-            ok = z .ok;
-            paid = omega (arith, z .paid, x .low, x .end);
-            many = omega (arith, leaf-long (length s) inner (mapLeaf stored a), z .paid, x .low, x .end);
+            ok = z .ok (w .0) started;
+            paid = omega (arith, z .paid (w .0), x .low, x .end);
+            many = omega (arith, leaf-long (length s) inner (w .0) (mapLeaf stored a), z .paid (w .0), x .low, x .end);
           }))
 
       box-by : (r : Rule Container) (v : String) (k : ℕ) → length (bytes v) ≡ k → 3 ≤ k
-          → HeadRule s short k r → w .1 ≡ bytes v → Runs s (nodeBy p (aContainer r)) i (Noded q)
+          → HeadRule s short k r → w .1 ≡ bytes v → Runs s (nodeBy p (w .0) (aContainer r)) i (Noded q)
       box-by r v k l three y e =
           then (y i h)
           (λ c m1 g1 x1.
@@ -156,12 +154,12 @@ module _ (s : List ℕ) (short : length s ≤ textLimit) {inner : Form Forest} (
           let f = ap length e in
           gives g2
           (record {
-            ok = head-ok (length s) b c (mapTimes stored ns) (x1 .ok) (x2 .ok);
-            paid = omega (arith, head-size (length s) inner c (mapTimes stored ns), x .low, x .end, x1 .paid, x2 .paid);
+            ok = head-ok (length s) b (w .0) c (mapTimes stored ns) started (x1 .ok) (x2 .ok);
+            paid = omega (arith, head-size (length s) inner (w .0) c (mapTimes stored ns), x .low, x .end, x1 .paid, x2 .paid);
             many = omega (arith, x .low, x .end, x1 .on, x2 .many);
           })))
 
-      all-leaves : All (λ f. w .1 ≡ bytes (f .0) → Runs s (nodeBy p (aLeaf (f .1))) i (Noded q)) leaves
+      all-leaves : All (λ f. w .1 ≡ bytes (f .0) → Runs s (nodeBy p (w .0) (aLeaf (f .1))) i (Noded q)) leaves
       unfolding leaves
       all-leaves =
           leaf-by _ "tween" 5 refl (tween-runs s short b)
@@ -177,7 +175,7 @@ module _ (s : List ℕ) (short : length s ≤ textLimit) {inner : Form Forest} (
           also leaf-by _ "at" 2 refl (at-runs s short b)
           also tt
 
-      all-containers : All (λ f. w .1 ≡ bytes (f .0) → Runs s (nodeBy p (aContainer (f .1))) i (Noded q)) containers
+      all-containers : All (λ f. w .1 ≡ bytes (f .0) → Runs s (nodeBy p (w .0) (aContainer (f .1))) i (Noded q)) containers
       unfolding containers
       all-containers =
           box-by _ "sequence" 8 refl (omega arith) (sequence-runs s short)
@@ -186,15 +184,15 @@ module _ (s : List ℕ) (short : length s ≤ textLimit) {inner : Form Forest} (
           also box-by _ "stagger" 7 refl (omega arith) (stagger-runs s short)
           also tt
 
-      begins : Runs s (nodeBy p (beginning (w .1))) i (Noded q)
+      begins : Runs s (nodeBy p (w .0) (beginning (w .1))) i (Noded q)
       unfolding beginning
       begins = go (under leaves (w .1)) (under containers (w .1)) refl refl
         where
           go : (o : Option (Rule (Leaf Key))) (c : Option (Rule Container))
               → under leaves (w .1) ≡ o → under containers (w .1) ≡ c
-              → Runs s (nodeBy p (orContainer o c)) i (Noded q)
-          go (some r) c e f = under-row (λ r. Runs s (nodeBy p (aLeaf r)) i (Noded q)) leaves (w .1) r all-leaves e
-          go none (some r) e f = under-row (λ r. Runs s (nodeBy p (aContainer r)) i (Noded q)) containers (w .1) r all-containers f
+              → Runs s (nodeBy p (w .0) (orContainer o c)) i (Noded q)
+          go (some r) c e f = under-row (λ r. Runs s (nodeBy p (w .0) (aLeaf r)) i (Noded q)) leaves (w .1) r all-leaves e
+          go none (some r) e f = under-row (λ r. Runs s (nodeBy p (w .0) (aContainer r)) i (Noded q)) containers (w .1) r all-containers f
           go none none e f = refuses
 
     node-runs : (q : ℕ) → q ≤ length s → Runs s (parseNode p) q (Noded q)
@@ -286,5 +284,5 @@ module _ (s : List ℕ) (short : length s ≤ textLimit) where
       → recordBytes (length s) (sheets.inner (length s) d) ns + 2 * width ns + 3 * 0 ≤ 3 * m
       → length (sheets.inner (length s) (suc d) .write ns) ≤ 49152
   top-small d Nodes.none m h p = omega arith
-  top-small d (leaf l rest) m h p = omega (arith, short, sized-length d (leaf l rest))
-  top-small d (box c ns rest) m h p = omega (arith, short, sized-length d (box c ns rest))
+  top-small d (leaf at l rest) m h p = omega (arith, short, sized-length d (leaf at l rest))
+  top-small d (box at c ns rest) m h p = omega (arith, short, sized-length d (box at c ns rest))

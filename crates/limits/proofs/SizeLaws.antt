@@ -127,6 +127,23 @@ module _ (n : ℕ) where
           ⊕ opt-loop (x .loopMode) ⊕ opt-word (x .snap) ⊕ opt-word (x .round)
           ⊕ flag-most (x .reverse)
 
+  -- the same, the delay counted as it is
+  pub tween-rest : (x : TweenSpec)
+      → length (tweenForm n .write x)
+      ≤ 48 + length (valueForm .write (x .from)) + length (valueForm .write (x .to)) + length (opt word .write (x .delay))
+  tween-rest x = omega (arith, sum .most)
+    where
+      sum : Most (tweenForm n .write x)
+          (4
+          + (length (valueForm .write (x .from))
+          + (length (valueForm .write (x .to)) + (4 + (18 + (length (opt word .write (x .delay)) + 22))))))
+      sum =
+          span-most (x .target) ⊕ all (valueForm .write (x .from))
+          ⊕ all (valueForm .write (x .to)) ⊕ word-most (x .duration)
+          ⊕ opt-easing (x .easing) ⊕ all (opt word .write (x .delay)) ⊕ opt-word (x .timeScale)
+          ⊕ opt-loop (x .loopMode) ⊕ opt-word (x .snap) ⊕ opt-word (x .round)
+          ⊕ flag-most (x .reverse)
+
   below-most : (k b : ℕ) → Most (below k .write b) 1
   below-most k b = record { most = omega arith }
 

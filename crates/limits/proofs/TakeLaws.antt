@@ -58,7 +58,7 @@ use Rattle.grammar.specs.Rule.{
   leave,
   insideByte,
 }
-use Rattle.limits.proofs.PlaceLaws.{Stands, Front, over, next, front, name-first, name-last, number-last}
+use Rattle.limits.proofs.PlaceLaws.{Stands, Front, over, next, front, name-first, name-last, number-first, number-last}
 use Rattle.limits.proofs.RunLaws.{Ends, Outcome, Runs, gives, refuses, then, and, weaken, tests}
 
 never : {A : Type 0} → (false ≡ true) → A
@@ -244,6 +244,8 @@ a-text {s = s} {q = q} h = record { run = λ l. by-front s q (λ ts. text l ts) 
 
 pub record Number (s : List ℕ) (q m : ℕ) : Type 0 where
   pub on : q < m
+  -- one without a sign has a blank between it and a name before it
+  pub apart : isName (getD s q 0) ≡ false → q + 1 < m
   pub behind : isName (getD s m 0) ≡ false
 
 -- one without a point is one
@@ -274,7 +276,7 @@ minus-number s q i r l ts h g e =
       at = start + n;
       is = rw (e, x .is);
       high = x .high;
-      post = record { on = omega (arith, x .low); behind = number-last x };
+      post = record { on = omega (arith, x .low); apart = λ f. omega (arith, x .low, x .whole .some); behind = number-last x };
     }
     by start (quoted w) n x = tt
     by start (mark b) n x = tt
@@ -301,7 +303,11 @@ a-number {s = s} {q = q} h r = record {
     go l start (name w) n x = tt
     go l start (number w) n x =
         past {A = Bool × Written} s q (false, w) l (λ w m. Number s q m) start (number w) n x refl
-        (record { on = omega (arith, x .low, x .whole .some); behind = number-last x })
+        (record {
+          on = omega (arith, x .low, x .whole .some);
+          apart = λ e. omega (arith, name-apart s q start (x .low) (number-first x) e, x .whole .some);
+          behind = number-last x;
+        })
     go l start (quoted w) n x = tt
     go l start (mark b) n x =
         let z = x .whole .fits in by l start b n x (eqb b 45) z (token start (mark b) ∷ tokensFrom s (start + n)) (rw z)

@@ -47,7 +47,7 @@ whole-below false w n e = go (ltb 4294967295 (w .digits)) refl e
     go true f g = none≢some g
     go false f g = let z = Option·some-injective (w .digits) n g in omega (arith, ltb-false 4294967295 (w .digits) f)
 
-is-true : {b : Bool} → b ≡ true → T b
+pub is-true : {b : Bool} → b ≡ true → T b
 is-true e = subst T (sym e) tt
 
 module _ (s : List ℕ) (short : length s ≤ textLimit) where

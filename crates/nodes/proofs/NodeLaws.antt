@@ -1,4 +1,4 @@
--- A node is taken, and its record is written. Assumes nothing.
+-- A leaf is taken, and its fields are written. Assumes nothing.
 use Prim.Native.Nat.{ℕ, _+_, _*_, _-_, _≤_}
 use mathlib.Core.Bool.{Bool, true, false, not, cond}
 use mathlib.Core.List.{List, [], _∷_, _++_}
@@ -39,16 +39,15 @@ module _ (s : List ℕ) (c : Cursor) where
     unfolding parseLabel string
     no-semicolon q e = rw (t .is, e)
 
-    pub label-went : {b b′ a : List ℕ} {out f q : ℕ} (n : Cursor) → Took 1 s m n (theByte 59) tt
-        → Writes b out (13 ∷ []) b′ f
-        → Writes b′ f (spanForm (length s) .write (spanOf x)) a q
+    pub label-went : {b a : List ℕ} {out q : ℕ} (n : Cursor) → Took 1 s m n (theByte 59) tt
+        → Writes b out (spanForm (length s) .write (spanOf x)) a q
         → Went 1 s b a c n out q parseLabel (leafBytes (length s))
     unfolding parseLabel string
-    label-went n u o w = record {
+    label-went n u w = record {
       value = label (spanOf x);
       took = record { is = rw (t .is, u .is); low = omega (arith, t .low, u .low); ready = u .ready };
-      writes = writes-then o w;
-      paid = let p = o .place in let r = w .place in let l = length-span (length s) (spanOf x) in omega (arith, t .low, u .low);
+      writes = w;
+      paid = let r = w .place in let l = length-span (length s) (spanOf x) in omega (arith, t .low, u .low);
     }
 
 -- ---- at
@@ -67,21 +66,20 @@ module _ (s : List ℕ) (c m : Cursor) where
     unfolding parseAt
     no-value q e = rw (t .is, e .0, e .1)
 
-    pub at-went : {b b₁ b₂ a : List ℕ} {out f g q : ℕ} (g? : Bool) (k : Number) (e n : Cursor) (d : Bool)
-        → Numbers s m g? k e → Took 0 s e n (eatByte 59) d → Writes b out (14 ∷ []) b₁ f
-        → Writes b₁ f (word .write (bits (nearest (cond i (not g?) g?) (writtenOf k)))) b₂ g
-        → Writes b₂ g (flag .write p) a q
+    pub at-went : {b b₁ a : List ℕ} {out f q : ℕ} (g? : Bool) (k : Number) (e n : Cursor) (d : Bool)
+        → Numbers s m g? k e → Took 0 s e n (eatByte 59) d
+        → Writes b out (word .write (bits (nearest (cond i (not g?) g?) (writtenOf k)))) b₁ f
+        → Writes b₁ f (flag .write p) a q
         → Went 1 s b a c n out q parseAt (leafBytes (length s))
     unfolding parseAt
-    at-went {b} {b₁} {b₂} {a} {out} {f} {g} {q} g? k e n d v u o w z =
+    at-went g? k e n d v u w z =
         let r = took-number s m _ _ _ v Malformed in
         let x = bits (nearest (cond i (not g?) g?) (writtenOf k)) in
         record {
           value = at (record { value = x; relative = p });
           took = record { is = rw (t .is, r .is, u .is); low = omega (arith, t .low, r .low, u .low); ready = u .ready };
-          writes = writes-then o (writes-then w z);
-          paid = let a1 = o .place in
-              let a2 = w .place in
+          writes = writes-then w z;
+          paid = let a2 = w .place in
               let a3 = z .place in
               let l = length-word x in
               omega (arith, t .low, r .low, u .low);

@@ -1,4 +1,4 @@
-// parser.rs: the nodes that hold no others and no values of several numbers. Each is read behind its keyword, and its record is written at `out`.
+// parser.rs: the nodes that hold no others and no values of several numbers. Each is read behind its keyword, and its fields are written at `out`.
 // The functions are for our own crates: each requires a cursor that stands in a text of at most 16,384 bytes, and a place below 2^30.
 ghost use mathlib.Core.Path.{_≡_};
 ghost use mathlib.Core.Bool.{Bool, not, cond};
@@ -15,7 +15,7 @@ use cursor::NumberRead;
 use cursor::WordRead;
 use error::Refusal;
 
-// The place behind the record, and the cursor behind the node.
+// The place behind the fields, and the cursor behind the node.
 pub enum NodeRead {
     Is(usize, Cursor),
     Refused(Refusal, usize),
@@ -31,10 +31,7 @@ pub fn parse_label(text: &[u8], sheet: &mut [u8], c: Cursor, out: usize) -> Node
         WordRead::Missing(p) => NodeRead::Refused(Refusal::Missing, p),
         WordRead::Is(s, m) => match cursor::mark(text, m, b';') {
             MarkRead::Missing(p) => NodeRead::Refused(Refusal::Missing, p),
-            MarkRead::Is(n) => {
-                let a = encode::put_byte(sheet, out, 13);
-                NodeRead::Is(encode::put_span(sheet, a, s), n)
-            }
+            MarkRead::Is(n) => { NodeRead::Is(encode::put_span(sheet, out, s), n) }
         },
     }
 }
@@ -91,9 +88,8 @@ pub fn parse_at(text: &[u8], sheet: &mut [u8], c: Cursor, out: usize) -> NodeRea
         NumberRead::Is(negative, n, e) => {
             let end = cursor::eat(text, e, b';');
             let value = number::decimal(turned(negative, sign.minus), n.digits, n.places);
-            let a = encode::put_byte(sheet, out, 14);
-            let b = encode::put_float(sheet, a, value);
-            let q = encode::put_flag(sheet, b, sign.relative);
+            let relative_at = encode::put_float(sheet, out, value);
+            let q = encode::put_flag(sheet, relative_at, sign.relative);
             let next = end.next;
             NodeRead::Is(q, next)
         }

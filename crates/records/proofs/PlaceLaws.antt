@@ -28,21 +28,24 @@ written : (n : ℕ) (x : Node) {r : List ℕ} → recordL n .ok x → r ≡ reco
 written n x h e rest = (x, ap (λ (l : List ℕ). recordForm n .read (l ++ rest)) e ∙ recordL n .law .back x h rest)
 
 -- a container's record says no more of the nodes in it than their count
-same-count : (n : ℕ) (k : Container) (ns ms : Forest) → width ns ≡ width ms → recordOf n (holding k ns) ≡ recordForm n .write (holding k ms)
-same-count n tree.sequence ns ms e = ap (λ (w : ℕ). 3 ∷ big 2 .write w) e
-same-count n tree.parallel ns ms e = ap (λ (w : ℕ). 4 ∷ big 2 .write w) e
-same-count n (tree.group m) ns ms e = ap (λ (w : ℕ). 5 ∷ m ∷ big 2 .write w) e
-same-count n (tree.stagger p d) ns ms e = ap (λ (w : ℕ). 6 ∷ opt patternForm .write p ++ (opt word .write d ++ big 2 .write w)) e
+same-count : (n p : ℕ) (k : Container) (ns ms : Forest) → width ns ≡ width ms
+    → recordOf n (holding p k ns) ≡ recordForm n .write (holding p k ms)
+same-count n p tree.sequence ns ms e = ap (λ (w : ℕ). 3 ∷ big 2 .write p ++ big 2 .write w) e
+same-count n p tree.parallel ns ms e = ap (λ (w : ℕ). 4 ∷ big 2 .write p ++ big 2 .write w) e
+same-count n p (tree.group m) ns ms e = ap (λ (w : ℕ). 5 ∷ big 2 .write p ++ (m ∷ big 2 .write w)) e
+same-count n p (tree.stagger q d) ns ms e =
+    ap (λ (w : ℕ). 6 ∷ big 2 .write p ++ (opt patternForm .write q ++ (opt word .write d ++ big 2 .write w))) e
 
 bare : (n d : ℕ) (ns : Forest) → innerL n d .ok ns → countL .ok (blank (width ns))
 bare n zero ns h = absurd h
 bare n (suc d) ns h = (subst⁻¹ (Small 2) (width-blank (width ns)) (h .0), ap blank (width-blank (width ns)))
 
-box-ok : (n d : ℕ) (k : Container) (ns : Forest) → nodeL n (innerL n d) .ok (holding k ns) → recordL n .ok (holding k (blank (width ns)))
-box-ok n d tree.sequence ns h = bare n d ns h
-box-ok n d tree.parallel ns h = bare n d ns h
-box-ok n d (tree.group m) ns h = (h .0, bare n d ns (h .1))
-box-ok n d (tree.stagger p e) ns h = (h .0, (h .1 .0, bare n d ns (h .1 .1)))
+box-ok : (n d p : ℕ) (k : Container) (ns : Forest) → nodeL n (innerL n d) .ok (holding p k ns)
+    → recordL n .ok (holding p k (blank (width ns)))
+box-ok n d p tree.sequence ns h = (h .0, bare n d ns (h .1))
+box-ok n d p tree.parallel ns h = (h .0, bare n d ns (h .1))
+box-ok n d p (tree.group m) ns h = (h .0, (h .1 .0, bare n d ns (h .1 .1)))
+box-ok n d p (tree.stagger q e) ns h = (h .0, (h .1 .0, (h .1 .1 .0, bare n d ns (h .1 .1 .1))))
 
 all-append : (P : List ℕ → Type 0) (rs qs : List (List ℕ)) → All P rs → All P qs → All P (rs ++ qs)
 all-append P [] qs h g = g
@@ -50,15 +53,15 @@ all-append P (r ∷ rs) qs h g = (h .0, all-append P rs qs (h .1) g)
 
 all-alone : (n d : ℕ) (ns : Forest) → OkNodes n (innerL n d) ns → All (Alone n) (recordsOf n ns)
 all-alone n d Nodes.none h = tt
-all-alone n d (leaf l rest) h = (
-  written n (single l) (leaf-ok n (innerL n d) countL l (h .0)) (sym (leaf-same n countForm l)),
+all-alone n d (leaf p l rest) h = (
+  written n (single p l) (leaf-ok n (innerL n d) countL p l (h .0)) (sym (leaf-same n countForm p l)),
   all-alone n d rest (h .1),
 )
-all-alone n zero (box k ns rest) h = absurd (inside n 0 k ns (h .0))
-all-alone n (suc d) (box k ns rest) h = (
-  written n (holding k (blank (width ns))) (box-ok n (suc d) k ns (h .0))
-      (same-count n k ns (blank (width ns)) (sym (width-blank (width ns)))),
-  all-append (Alone n) (recordsOf n ns) (recordsOf n rest) (all-alone n d ns (inside n (suc d) k ns (h .0) .1))
+all-alone n zero (box p k ns rest) h = absurd (inside n 0 p k ns (h .0))
+all-alone n (suc d) (box p k ns rest) h = (
+  written n (holding p k (blank (width ns))) (box-ok n (suc d) p k ns (h .0))
+      (same-count n p k ns (blank (width ns)) (sym (width-blank (width ns)))),
+  all-append (Alone n) (recordsOf n ns) (recordsOf n rest) (all-alone n d ns (inside n (suc d) p k ns (h .0) .1))
       (all-alone n (suc d) rest (h .1)),
 )
 

@@ -6,14 +6,14 @@ use mathlib.Core.Logic.{_⊎_, inl, inr, ⊎-elim}
 use mathlib.Core.Path.{_≡_, refl, sym, _∙_, ap, subst⁻¹}
 use native.Mathlib.Omega.{arith}
 use lib.ListN.{length, drop, length-append, length-drop}
-use Rattle.decode.specs.Reads.{Reads, got, bad}
-use Rattle.decode.proofs.ReadLaws.{le-or-lt}
-use Rattle.codec.specs.Codec.{Form, Reader, andThen, _▹_, below, big, opt, Case, writeAt, readAt}
-use Rattle.codec.proofs.Laws.{Law, Small, via-lawful, big-lawful}
+use Rattle.decode.specs.Reads.{Reads, got, bad, KindAndStart}
+use Rattle.decode.proofs.ReadLaws.{le-or-lt, formAt, chosen}
+use Rattle.codec.specs.Codec.{Form, Reader, andThen, _▹_, below, big, opt, Case, FieldsAt, writeAt, readAt}
+use Rattle.codec.proofs.Laws.{Law, Small, makeAt, via-lawful, big-lawful}
 use Rattle.sheet.proofs.Laws.{nodeL}
 use Rattle.ast.specs.Tree as tree
 use Rattle.ast.specs.Tree.{Leaf, Container, KeyframeTime, single, holding, width}
-use Rattle.sheet.specs.Sheet.{word, spanForm, patternForm, tweenForm, springForm, keyframesForm, pathForm, morphForm}
+use Rattle.sheet.specs.Sheet.{word, startForm, spanForm, patternForm, tweenForm, springForm, keyframesForm, pathForm, morphForm}
 use Rattle.sheet.specs.Sheet.{drawForm, colorForm, waveformForm, presetForm, atForm, Node, Forest, nodeForm, kinds, splitNode}
 use Rattle.records.specs.Record.{blank, countForm, recordForm}
 
@@ -23,8 +23,8 @@ width-blank (suc c) = ap suc (width-blank c)
 
 -- what stands behind a record: nothing, or the nodes in the container, which K reads
 abbrev pub behind : (ℕ → Reader Forest) → Node → Reader Node
-behind K (single l) bs = some (single l, bs)
-behind K (holding k ns) bs = andThen (K (width ns) bs) (λ ms r. some (holding k ms, r))
+behind K (single p l) bs = some (single p l, bs)
+behind K (holding p k ns) bs = andThen (K (width ns) bs) (λ ms r. some (holding p k ms, r))
 
 fuse : {A B C : Type 0} (o : Option (A × List ℕ)) (f : A → B) (g : B → C)
     → andThen (andThen o (λ a r. some (f a, r))) (λ b r. some (g b, r)) ≡ andThen o (λ a r. some (g (f a), r))
@@ -37,22 +37,22 @@ module _ (inside : Form Forest) (K : ℕ → Reader Forest) (splits : (bs : List
   Goes c d f =
       (bs : List ℕ) → andThen (d .read bs) (λ x r. some (f x, r)) ≡ andThen (andThen (c .read bs) (λ x r. some (f x, r))) (behind K)
 
-  plain : {A : Type 0} (c : Form A) (l : A → Leaf KeyframeTime) → Goes c c (λ x. single (l x))
-  plain {A} c l bs = go (c .read bs)
+  leaf : {A : Type 0} (c : Form A) (l : A → Leaf KeyframeTime) (p : ℕ) → Goes c c (λ x. single p (l x))
+  leaf {A} c l p bs = go (c .read bs)
     where
       go : (o : Option (A × List ℕ))
-          → andThen o (λ x r. some (single (l x), r)) ≡ andThen (andThen o (λ x r. some (single (l x), r))) (behind K)
+          → andThen o (λ x r. some (single p (l x), r)) ≡ andThen (andThen o (λ x r. some (single p (l x), r))) (behind K)
       go none = refl
       go (some z) = refl
 
-  nested : (k : Container) → Goes countForm inside (holding k)
-  nested k bs = ap (λ (o : Option (Forest × List ℕ)). andThen o (λ x r. some (holding k x, r))) (splits bs) ∙ go (big 2 .read bs)
+  nested : (k : Container) (p : ℕ) → Goes countForm inside (holding p k)
+  nested k p bs = ap (λ (o : Option (Forest × List ℕ)). andThen o (λ x r. some (holding p k x, r))) (splits bs) ∙ go (big 2 .read bs)
     where
       go : (o : Option (ℕ × List ℕ))
-          → andThen (andThen o K) (λ x r. some (holding k x, r))
-          ≡ andThen (andThen (andThen o (λ c r. some (blank c, r))) (λ x r. some (holding k x, r))) (behind K)
+          → andThen (andThen o K) (λ x r. some (holding p k x, r))
+          ≡ andThen (andThen (andThen o (λ c r. some (blank c, r))) (λ x r. some (holding p k x, r))) (behind K)
       go none = refl
-      go (some z) = ap (λ (c : ℕ). andThen (K c (z .1)) (λ x r. some (holding k x, r))) (sym (width-blank (z .0)))
+      go (some z) = ap (λ (c : ℕ). andThen (K c (z .1)) (λ x r. some (holding p k x, r))) (sym (width-blank (z .0)))
 
   -- another field first
   ahead : {A B : Type 0} (e : Form A) (c d : Form B) (f : A × B → Node) → ((a : A) → Goes c d (λ b. f (a, b))) → Goes (e ▹ c) (e ▹ d) f
@@ -88,14 +88,26 @@ module _ (inside : Form Forest) (K : ℕ → Reader Forest) (splits : (bs : List
   node-read n [] = refl
   node-read n (i ∷ bs) = each-case (kinds n countForm) (kinds n inside) all i bs
     where
-      group : Goes (below 2 ▹ countForm) (below 2 ▹ inside) (λ p. holding (tree.group (p .0)) (p .1))
-      group = ahead (below 2) countForm inside (λ p. holding (tree.group (p .0)) (p .1)) (λ m. nested (tree.group m))
+      -- the start first
+      started : {A : Type 0} (c d : Form A) (make : ℕ → A → Node) → ((p : ℕ) → Goes c d (make p))
+          → Goes (startForm n ▹ c) (startForm n ▹ d) (λ x. make (x .0) (x .1))
+      started c d make h = ahead (startForm n) c d (λ x. make (x .0) (x .1)) h
 
-      stagger : Goes (opt patternForm ▹ opt word ▹ countForm) (opt patternForm ▹ opt word ▹ inside)
-          (λ p. holding (tree.stagger (p .0) (p .1 .0)) (p .1 .1))
-      stagger =
-          ahead (opt patternForm) (opt word ▹ countForm) (opt word ▹ inside) (λ p. holding (tree.stagger (p .0) (p .1 .0)) (p .1 .1))
-          (λ p. ahead (opt word) countForm inside (λ q. holding (tree.stagger p (q .0)) (q .1)) (λ d. nested (tree.stagger p d)))
+      plain : {A : Type 0} (c : Form A) (l : A → Leaf KeyframeTime)
+          → Goes (startForm n ▹ c) (startForm n ▹ c) (λ x. single (x .0) (l (x .1)))
+      plain c l = started c c (λ p x. single p (l x)) (leaf c l)
+
+      counted : (k : Container) → Goes (startForm n ▹ countForm) (startForm n ▹ inside) (λ x. holding (x .0) k (x .1))
+      counted k = started countForm inside (λ p ns. holding p k ns) (nested k)
+
+      group : (p : ℕ) → Goes (below 2 ▹ countForm) (below 2 ▹ inside) (λ x. holding p (tree.group (x .0)) (x .1))
+      group p = ahead (below 2) countForm inside (λ x. holding p (tree.group (x .0)) (x .1)) (λ m. nested (tree.group m) p)
+
+      stagger : (p : ℕ) → Goes (opt patternForm ▹ opt word ▹ countForm) (opt patternForm ▹ opt word ▹ inside)
+          (λ x. holding p (tree.stagger (x .0) (x .1 .0)) (x .1 .1))
+      stagger p =
+          ahead (opt patternForm) (opt word ▹ countForm) (opt word ▹ inside) (λ x. holding p (tree.stagger (x .0) (x .1 .0)) (x .1 .1))
+          (λ q. ahead (opt word) countForm inside (λ x. holding p (tree.stagger q (x .0)) (x .1)) (λ d. nested (tree.stagger q d) p))
 
       all : Cases (kinds n countForm) (kinds n inside)
       all = (
@@ -105,13 +117,14 @@ module _ (inside : Form Forest) (K : ℕ → Reader Forest) (splits : (bs : List
           (
             plain (keyframesForm n) tree.keyframes,
             (
-              nested tree.sequence,
+              counted tree.sequence,
               (
-                nested tree.parallel,
+                counted tree.parallel,
                 (
-                  group,
+                  started (below 2 ▹ countForm) (below 2 ▹ inside) (λ p x. holding p (tree.group (x .0)) (x .1)) group,
                   (
-                    stagger,
+                    started (opt patternForm ▹ opt word ▹ countForm) (opt patternForm ▹ opt word ▹ inside)
+                        (λ p x. holding p (tree.stagger (x .0) (x .1 .0)) (x .1 .1)) stagger,
                     (
                       plain (pathForm n) tree.path,
                       (
@@ -172,6 +185,14 @@ made c d h {s = s} {at = at} k (got a e q i l) t = got (h a) (k (drop at s) ∙ 
 made c d h {s = s} {at = at} k (bad o n) t = bad o (λ i. k (drop at s) ∙ rw (n i))
 
 -- ---- kinds
+
+-- a record of the kind i: its kind, then its start and its fields
+pub of-kind : {n : ℕ} {X Y : Type 0} {view : Node → Y} {s : List ℕ} {at kind start m k : ℕ} {v : X} {w : Y} (i : ℕ)
+    {f : FieldsAt (kinds n countForm) i → X} (b : KindAndStart n s at kind start m) → kind ≡ i
+    → Reads (formAt (kinds n countForm) i) f s (b .between) v k
+    → ((x : FieldsAt (kinds n countForm) i) → f x ≡ v → view (makeAt (kinds n countForm) i x) ≡ w)
+    → Reads (recordForm n) view s at w k
+of-kind {n = n} i b e r t = chosen (kinds n countForm) (splitNode n countForm) i (b .kindAt .reads) e r t
 
 pub three-or-four : (b : ℕ) → b < 5 → (b ≡ 0 → ⊥) → (b ≡ 1 → ⊥) → (b ≡ 2 → ⊥) → (b ≡ 3) ⊎ (b ≡ 4)
 three-or-four b h n0 n1 n2 = ⊎-elim (λ l. inl (omega arith)) (λ l. inr (omega arith)) (le-or-lt b 3)

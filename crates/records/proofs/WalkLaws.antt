@@ -45,13 +45,13 @@ inner-read n (suc d) bs = refl
 
 -- a leaf that g shows as w
 abbrev pub Single : {Y : Type 0} → (Node → Y) → Y → Node → Type 0
-Single g w (single l) = g (single l) ≡ w
-Single g w (holding k ns) = ⊥
+Single g w (single p l) = g (single p l) ≡ w
+Single g w (holding p k ns) = ⊥
 
 -- a container of c nodes that g shows as w, whichever nodes they are that h shows as u
 abbrev pub Holds : {U Y : Type 0} → ℕ → (Forest → U) → U → (Node → Y) → Y → Node → Type 0
-Holds c h u g w (single l) = ⊥
-Holds c h u g w (holding k ns) = (width ns ≡ c) × ((ms : Forest) → h ms ≡ u → g (holding k ms) ≡ w)
+Holds c h u g w (single p l) = ⊥
+Holds c h u g w (holding p k ns) = (width ns ≡ c) × ((ms : Forest) → h ms ≡ u → g (holding p k ms) ≡ w)
 
 reading : (n d : ℕ) (bs : List ℕ) {o : Option (Node × List ℕ)}
     → recordForm n .read bs ≡ o
@@ -64,8 +64,8 @@ module _ (n : ℕ) {X Y : Type 0} {f : Node → X} {g : Node → Y} {s : List �
   a-leaf d (got x e q h l) t = go x e (t x q)
     where
       go : (x : Node) → recordForm n .read (drop at s) ≡ some (x, drop m s) → Single g w x → Reads (nodeForm n (inner n d)) g s at w m
-      go (single y) e r = got (single y) (reading n d (drop at s) e) r h l
-      go (holding k ns) e r = absurd r
+      go (single p y) e r = got (single p y) (reading n d (drop at s) e) r h l
+      go (holding p k ns) e r = absurd r
   a-leaf d (bad o k) t = bad o (λ i. reading n d (drop at s) (k i))
 
   -- no container may nest
@@ -74,8 +74,8 @@ module _ (n : ℕ) {X Y : Type 0} {f : Node → X} {g : Node → Y} {s : List �
   too-deep d {k} c h u z r t o = subst (λ (d : ℕ). Reads (nodeForm n (inner n d)) g s at w k) (sym z) (go r)
     where
       none-in : (x : Node) → Holds c h u g w x → behind (nodesIn n 0) x (drop m s) ≡ none
-      none-in (single y) r = absurd r
-      none-in (holding b ns) r = refl
+      none-in (single p y) r = absurd r
+      none-in (holding p b ns) r = refl
 
       go : Reads (recordForm n) f s at v m → Reads (nodeForm n (inner n 0)) g s at w k
       go (got x e q a l) = bad o (λ i. reading n 0 (drop at s) e ∙ none-in x (t x q))
@@ -94,24 +94,24 @@ module _ (n : ℕ) {X Y : Type 0} {f : Node → X} {g : Node → Y} {s : List �
           held : (x : Node)
               → recordForm n .read (drop at s) ≡ some (x, drop m s)
               → Holds c h u g w x → Reads (nodeForm n (inner n (suc d))) g s at w k
-          held (single y) e r = absurd r
-          held (holding b ns) e r = got (holding b ms) (reading n (suc d) (drop at s) e ∙ rw (r .0, e′)) (r .1 ms q′) (le-trans a a′) l′
+          held (single p y) e r = absurd r
+          held (holding p b ns) e r = got (holding p b ms) (reading n (suc d) (drop at s) e ∙ rw (r .0, e′)) (r .1 ms q′) (le-trans a a′) l′
       go d (got x e q a l) (bad o j) = bad o (λ i. reading n (suc d) (drop at s) e ∙ lost-in x (t x q))
         where
           lost-in : (x : Node) → Holds c h u g w x → behind (nodesIn n (suc d)) x (drop m s) ≡ none
-          lost-in (single y) r = absurd r
-          lost-in (holding b ns) r = rw (r .0, j l)
+          lost-in (single p y) r = absurd r
+          lost-in (holding p b ns) r = rw (r .0, j l)
       go d (bad o j) (got ms e′ q′ a′ l′) = absurd (omega arith)
       go d (bad o j) (bad o′ j′) = bad o′ (λ i. reading n (suc d) (drop at s) (j i))
 
 -- what a record says of its node
 pub is-leaf : (x : Node) → kindView x ≡ Leaf → Single passed tt x
-is-leaf (single l) e = refl
-is-leaf (holding k ns) e = let z : _≡_ {A = ℕ} 0 1 = cc in absurd (omega arith)
+is-leaf (single p l) e = refl
+is-leaf (holding p k ns) e = let z : _≡_ {A = ℕ} 0 1 = cc in absurd (omega arith)
 
 pub is-container : (c : ℕ) (x : Node) → kindView x ≡ Container c → Holds c passed tt passed tt x
-is-container c (single l) e = let z : _≡_ {A = ℕ} 0 1 = cc in absurd (omega arith)
-is-container c (holding k ns) e = (cc, λ ms h. refl)
+is-container c (single p l) e = let z : _≡_ {A = ℕ} 0 1 = cc in absurd (omega arith)
+is-container c (holding p k ns) e = (cc, λ ms h. refl)
 
 pub node-end : {X : Type 0} (n : ℕ) (blk : Form Forest) {g : Node → X} (s : List ℕ) (at : ℕ) {k : ℕ} {w : X}
     → length s ≤ at → Lost s k → Reads (nodeForm n blk) g s at w k

@@ -16,7 +16,7 @@ use Rattle.records.specs.declared.RecordAt.the-variants.{At, Nothing}
 -- so many nodes, whatever they are
 abbrev pub blank : ℕ → Forest
 blank zero = Nodes.none
-blank (suc c) = box sequence Nodes.none (blank c)
+blank (suc c) = box 0 sequence Nodes.none (blank c)
 
 -- the nodes in a container as their count alone
 abbrev pub countForm : Form Forest
@@ -28,8 +28,8 @@ recordForm n = nodeForm n countForm
 
 -- whether a node is a container, and how many nodes stand in it
 abbrev pub kindView : Node → Kind
-kindView (single l) = Leaf
-kindView (holding k ns) = Container (width ns)
+kindView (single p l) = Leaf
+kindView (holding p k ns) = Container (width ns)
 
 -- the bytes of what is found
 abbrev pub bytesAt : RecordAt → List ℕ → Option (List ℕ)

@@ -5,8 +5,8 @@ ghost use Rattle.sheet.specs.Sheet.{nodeForm, forest, inner, decode};
 ghost use Rattle.decode.specs.Reads.{Reads, passed};
 ghost use Rattle.records.specs.Record.{recordForm, kindView, Located};
 use decode::fields::lost;
-use decode::fields::take_byte;
 use decode::fields::take_field;
+use decode::fields::take_kind;
 use decode::fields::take_span;
 use decode::nodes::take_at;
 use decode::nodes::take_color;
@@ -38,13 +38,13 @@ pub enum RecordAt {
     Nothing,
 }
 
-// A record alone: its kind and its own fields, a container's count of nodes with them.
+// A record alone: its kind, its start and its own fields, a container's count of nodes with them.
 pub fn take_record(s: &[u8], at: usize, n: usize) -> RecordRead
     ensures { λ r. ⌜ Reads (recordForm n) kindView (now (s .entry)) at (r .v) (r .next) ⌝ }
 {
-    let k = take_byte(s, at, 15);
+    let k = take_kind(s, at, n);
     let a = k.next;
-    let kind = k.v;
+    let kind = k.kind;
     let next = match kind {
         0 => take_tween(s, a, n).next,
         1 => take_spring(s, a, n).next,

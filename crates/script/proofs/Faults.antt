@@ -111,8 +111,8 @@ module _ {A : Type 0} where
 
 preorder-length : (ns : Nodes KeyframeTime) → length (preorder ns) ≡ records ns
 preorder-length Nodes.none = refl
-preorder-length (leaf l rest) = ap suc (preorder-length rest)
-preorder-length (box b inner rest) =
+preorder-length (leaf p l rest) = ap suc (preorder-length rest)
+preorder-length (box p b inner rest) =
     ap suc (length-append (preorder inner) (preorder rest) ∙ (rw (preorder-length inner, preorder-length rest)))
 
 no-leaf : {A B : Type 0} {l : A} → Prim.Path (Option (Option A)) (some none) (some (some l)) → B
@@ -136,10 +136,10 @@ module _ (names : List String) (t : List ℕ) where
       → validateLeaf names t l ≡ none
   unfolding validateNodes
   clear j Nodes.none e i l h = none≢some h
-  clear j (leaf m rest) e zero l h = rw (sym (same-leaf m l h)) (at-none j _ (neither (atOrdinal j (validateLeaf names t m)) _ e .0))
-  clear j (leaf m rest) e (suc i) l h = clear (suc j) rest (neither (atOrdinal j (validateLeaf names t m)) _ e .1) i l h
-  clear j (box b inner rest) e zero l h = no-leaf h
-  clear j (box b inner rest) e (suc i) l h =
+  clear j (leaf p m rest) e zero l h = rw (sym (same-leaf m l h)) (at-none j _ (neither (atOrdinal j (validateLeaf names t m)) _ e .0))
+  clear j (leaf p m rest) e (suc i) l h = clear (suc j) rest (neither (atOrdinal j (validateLeaf names t m)) _ e .1) i l h
+  clear j (box p b inner rest) e zero l h = no-leaf h
+  clear j (box p b inner rest) e (suc i) l h =
       let f = neither (validateNodes names t (suc j) inner) _ (neither (atOrdinal j (validateContainer b)) _ e .1) in
       ⊎-elim (λ q. clear (suc j) inner (f .0) i l q) (λ q. clear (suc j + records inner) rest (f .1) (q .0) l (q .1))
       (in-either (preorder inner) (preorder rest) i (some l) h)
@@ -161,16 +161,16 @@ module _ (names : List String) (t : List ℕ) where
   either none p a e = inr e
   either (some b) p a e = inl e
 
-  in-box : (b : Container) (inner rest : Nodes KeyframeTime) (j n : ℕ) (r : Refusal)
+  in-box : (p : ℕ) (b : Container) (inner rest : Nodes KeyframeTime) (j n : ℕ) (r : Refusal)
       → Located (suc j) inner r n ⊎ Located (suc j + records inner) rest r n
-      → Located j (box b inner rest) r n
-  in-box b inner rest j n r (inl w) = record {
+      → Located j (box p b inner rest) r n
+  in-box p b inner rest j n r (inl w) = record {
     at = suc (w .at);
     is = omega (arith, w .is);
     low = rw length-append (omega (arith, w .low));
     fault = λ l h. w .fault l (sym (in-first (preorder inner) (preorder rest) (w .at) (w .low)) ∙ h);
   }
-  in-box b inner rest j n r (inr w) =
+  in-box p b inner rest j n r (inr w) =
       let q = preorder-length inner in record {
         at = suc (length (preorder inner) + w .at);
         is = omega (arith, w .is);
@@ -181,7 +181,7 @@ module _ (names : List String) (t : List ℕ) where
   pub locate : (j : ℕ) (ns : Nodes KeyframeTime) (r : Refusal) (n : ℕ) → validateNodes names t j ns ≡ some (r, n) → Located j ns r n
   unfolding validateNodes
   locate j Nodes.none r n e = none≢some e
-  locate j (leaf m rest) r n e =
+  locate j (leaf p m rest) r n e =
       ⊎-elim (λ q.
       let f = here j n r (validateLeaf names t m) q in
       record {
@@ -194,11 +194,11 @@ module _ (names : List String) (t : List ℕ) where
       let w = locate (suc j) rest r n q in
       record { at = suc (w .at); is = omega (arith, w .is); low = omega (arith, w .low); fault = w .fault })
       (either (atOrdinal j (validateLeaf names t m)) _ (r, n) e)
-  locate j (box b inner rest) r n e =
+  locate j (box p b inner rest) r n e =
       ⊎-elim (λ q.
       let f = here j n r (validateContainer b) q in
       record { at = 0; is = omega (arith, f .1); low = omega arith; fault = λ l h. no-leaf h })
-      (λ q. in-box b inner rest j n r
+      (λ q. in-box p b inner rest j n r
       (⊎-elim (λ x. inl (locate (suc j) inner r n x)) (λ x. inr (locate (suc j + records inner) rest r n x))
       (either (validateNodes names t (suc j) inner) _ (r, n) q)))
       (either (atOrdinal j (validateContainer b)) _ (r, n) e)

@@ -135,13 +135,13 @@ lines-short room n i (r ∷ rs) = go (ltb room (length (line r))) (lines-short r
 
 pub records-same : {A B : Type 0} (f : A → B) (ns : Nodes A) → records (mapTimes f ns) ≡ records ns
 records-same f Nodes.none = refl
-records-same f (leaf l rest) = ap suc (records-same f rest)
-records-same f (box k ns rest) = (λ i. suc (records-same f ns i + records-same f rest i))
+records-same f (leaf p l rest) = ap suc (records-same f rest)
+records-same f (box p k ns rest) = (λ i. suc (records-same f ns i + records-same f rest i))
 
 count-records : (n : ℕ) (ns : Forest) → length (recordsOf n ns) ≡ records ns
 count-records n Nodes.none = refl
-count-records n (leaf l rest) = ap suc (count-records n rest)
-count-records n (box k ns rest) =
+count-records n (leaf p l rest) = ap suc (count-records n rest)
+count-records n (box p k ns rest) =
     ap suc (length-append (recordsOf n ns) (recordsOf n rest) ∙ (λ i. count-records n ns i + count-records n rest i))
 
 -- the sheet s of c node records that reading gave for the text t

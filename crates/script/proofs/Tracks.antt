@@ -59,8 +59,8 @@ storedNode (some l) = some (mapLeaf stored l)
 
 preorder-stored : (ns : Nodes Key) → preorder (mapTimes stored ns) ≡ map storedNode (preorder ns)
 preorder-stored Nodes.none = refl
-preorder-stored (leaf l rest) = rw (preorder-stored rest)
-preorder-stored (box b inner rest) =
+preorder-stored (leaf p l rest) = rw (preorder-stored rest)
+preorder-stored (box p b inner rest) =
     rw (preorder-stored inner, preorder-stored rest, map-append storedNode (preorder inner) (preorder rest))
 
 node-at : (ns : List (Option (Leaf Key))) (i : ℕ) (n : Option (Leaf Key))

@@ -61,12 +61,12 @@ unfoldable pub table : List Case
 table =
     -- P1 to P4
     gives "" "0000"
-    ∷ prints "at 0.5;" "00020001FF\n00060E3F00000000B3\naccept 1\n"
-    ∷ gives "at -0" "00010E8000000001"
-    ∷ gives "at --1" "00010E3F80000001"
+    ∷ prints "at 0.5;" "00020001FF\n00080E00003F00000000B3\naccept 1\n"
+    ∷ gives "at -0" "00010E00008000000001"
+    ∷ gives "at --1" "00010E00003F80000001"
     -- P5 to P8
     ∷ checks "tween p: 0 => 1 duration: 0.5s easing: linear" (0 ∷ [])
-    ∷ gives "tween p: 0 => 1 duration: 1 reverse: true reverse: false" "000100000600010000000000003F8000003F80000000000000000001"
+    ∷ gives "tween p: 0 => 1 duration: 1 reverse: true reverse: false" "0001000000000600010000000000003F8000003F80000000000000000001"
     ∷ refuses "tween p: 0 => 1 duration: 1 easing: steps(3, 4)" 13 43
     ∷ refuses "keyframes p {50s%: 0}" 8 17
     ∷ refuses "keyframes p {2.5%: 0}" 6 16
@@ -78,8 +78,8 @@ table =
     ∷ checks "tween p: 0 => 1 duration: -1" (21 ∷ 1 ∷ [])
     ∷ checks "keyframes p {16777216: 0, 16777217: 1}" (26 ∷ 1 ∷ [])
     -- P13, P14
-    ∷ checksSheet "p" "000102000000010002017F800000000000000000017F80000000000000000000" (0 ∷ [])
-    ∷ gives "at 0.1" "00010E3DCCCCCD00"
+    ∷ checksSheet "p" "0001020000000000010002017F800000000000000000017F80000000000000000000" (0 ∷ [])
+    ∷ gives "at 0.1" "00010E00003DCCCCCD00"
     ∷ []
 
 pub lemma : T (every table)

@@ -209,41 +209,56 @@ atL = structL Sheet.toAt Sheet.ofAt (wordL & flagL) (λ b. refl) (λ a. refl)
 
 pub node-same : (n : ℕ) (inner : Form Sheet.Forest) (x : Sheet.Node)
     → makeAt (Sheet.kinds n inner) (Sheet.splitNode n inner x .0) (Sheet.splitNode n inner x .1) ≡ x
-node-same n inner (single (tween x)) = refl
-node-same n inner (single (spring x)) = refl
-node-same n inner (single (keyframes x)) = refl
-node-same n inner (holding sequence ns) = refl
-node-same n inner (holding parallel ns) = refl
-node-same n inner (holding (group m) ns) = refl
-node-same n inner (holding (stagger p d) ns) = refl
-node-same n inner (single (path x)) = refl
-node-same n inner (single (morph x)) = refl
-node-same n inner (single (draw x)) = refl
-node-same n inner (single (color x)) = refl
-node-same n inner (single (waveform x)) = refl
-node-same n inner (single (preset x)) = refl
-node-same n inner (single (label s)) = refl
-node-same n inner (single (at x)) = refl
+node-same n inner (single p (tween x)) = refl
+node-same n inner (single p (spring x)) = refl
+node-same n inner (single p (keyframes x)) = refl
+node-same n inner (holding p sequence ns) = refl
+node-same n inner (holding p parallel ns) = refl
+node-same n inner (holding p (group m) ns) = refl
+node-same n inner (holding p (stagger q d) ns) = refl
+node-same n inner (single p (path x)) = refl
+node-same n inner (single p (morph x)) = refl
+node-same n inner (single p (draw x)) = refl
+node-same n inner (single p (color x)) = refl
+node-same n inner (single p (waveform x)) = refl
+node-same n inner (single p (preset x)) = refl
+node-same n inner (single p (label s)) = refl
+node-same n inner (single p (at x)) = refl
+
+abbrev pub startL : (n : ℕ) → Law (Sheet.startForm n)
+startL n = suchL (λ p. ltb p n) (bigL 2)
 
 -- `b` is the law of the form of the nodes in a container
 module _ (n : ℕ) {inner : Form Sheet.Forest} (b : Law inner) where
   abbrev pub nodeL : Law (Sheet.nodeForm n inner)
   nodeL =
       enumL (Sheet.kinds n inner) (Sheet.splitNode n inner) (
-        tweenL n,
+        startL n & tweenL n,
         (
-          springL n,
+          startL n & springL n,
           (
-            keyframesL n,
+            startL n & keyframesL n,
             (
-              b,
+              startL n & b,
               (
-                b,
+                startL n & b,
                 (
-                  belowL 2 & b,
+                  startL n & belowL 2 & b,
                   (
-                    optL patternL & optL wordL & b,
-                    (pathL n, (morphL n, (drawL n, (colorL n, (waveformL, (presetL n, (spanL n, (atL, tt)))))))),
+                    startL n & optL patternL & optL wordL & b,
+                    (
+                      startL n & pathL n,
+                      (
+                        startL n & morphL n,
+                        (
+                          startL n & drawL n,
+                          (
+                            startL n & colorL n,
+                            (startL n & waveformL, (startL n & presetL n, (startL n & spanL n, (startL n & atL, tt)))),
+                          ),
+                        ),
+                      ),
+                    ),
                   ),
                 ),
               ),
@@ -280,8 +295,8 @@ module _ (n : ℕ) {inner : Form Sheet.Forest} (b : Law inner) where
   -- every one of some nodes
   abbrev pub OkNodes : Sheet.Forest → Type 0
   OkNodes Nodes.none = Unit {0}
-  OkNodes (leaf l rest) = nodeL .ok (single l) × OkNodes rest
-  OkNodes (box k ns rest) = nodeL .ok (holding k ns) × OkNodes rest
+  OkNodes (leaf p l rest) = nodeL .ok (single p l) × OkNodes rest
+  OkNodes (box p k ns rest) = nodeL .ok (holding p k ns) × OkNodes rest
 
   abbrev Some : ℕ → Sheet.Forest → Type 0
   Some c ns = (width ns ≡ c) × OkNodes ns
@@ -294,26 +309,26 @@ module _ (n : ℕ) {inner : Form Sheet.Forest} (b : Law inner) where
 
   no-nodes : (ns : Sheet.Forest) → width ns ≡ 0 → Nodes.none ≡ ns
   no-nodes Nodes.none h = refl
-  no-nodes (leaf l rest) h = zero≢suc (width rest) (sym h)
-  no-nodes (box k ns rest) h = zero≢suc (width rest) (sym h)
+  no-nodes (leaf p l rest) h = zero≢suc (width rest) (sym h)
+  no-nodes (box p k ns rest) h = zero≢suc (width rest) (sym h)
 
   there : (c : ℕ) (ns : Sheet.Forest) → Some (suc c) ns → nodeL .ok (Sheet.ofForest ns .0) × Some c (Sheet.ofForest ns .1)
   there c Nodes.none h = zero≢suc c (h .0)
-  there c (leaf l rest) h = (h .1 .0, (suc-inj (h .0), h .1 .1))
-  there c (box k ns rest) h = (h .1 .0, (suc-inj (h .0), h .1 .1))
+  there c (leaf p l rest) h = (h .1 .0, (suc-inj (h .0), h .1 .1))
+  there c (box p k ns rest) h = (h .1 .0, (suc-inj (h .0), h .1 .1))
 
   same : (c : ℕ) (ns : Sheet.Forest) → Some (suc c) ns → Sheet.toForest (Sheet.ofForest ns) ≡ ns
   same c Nodes.none h = zero≢suc c (h .0)
-  same c (leaf l rest) h = refl
-  same c (box k ns rest) h = refl
+  same c (leaf p l rest) h = refl
+  same c (box p k ns rest) h = refl
 
   fine : (c : ℕ) (x : Sheet.Node) (rest : Sheet.Forest) → nodeL .ok x → Some c rest → Some (suc c) (push x rest)
-  fine c (single l) rest h o = (ap suc (o .0), (h, o .1))
-  fine c (holding k ns) rest h o = (ap suc (o .0), (h, o .1))
+  fine c (single p l) rest h o = (ap suc (o .0), (h, o .1))
+  fine c (holding p k ns) rest h o = (ap suc (o .0), (h, o .1))
 
   again : (x : Sheet.Node) (rest : Sheet.Forest) → Prim.Path (Sheet.Node × Sheet.Forest) (Sheet.ofForest (push x rest)) (x, rest)
-  again (single l) rest = refl
-  again (holding k ns) rest = refl
+  again (single p l) rest = refl
+  again (holding p k ns) rest = refl
 
   forest-lawful : (c : ℕ) → Lawful (Sheet.forest n inner c) (Some c)
   forest-lawful zero =

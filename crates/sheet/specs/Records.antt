@@ -16,8 +16,8 @@ recordOf n x = nodeForm n counted .write x
 -- "one record a node, preorder"
 abbrev pub recordsOf : ℕ → Forest → List (List ℕ)
 recordsOf n Nodes.none = []
-recordsOf n (leaf l rest) = recordOf n (single l) ∷ recordsOf n rest
-recordsOf n (box b ns rest) = recordOf n (holding b ns) ∷ recordsOf n ns ++ recordsOf n rest
+recordsOf n (leaf p l rest) = recordOf n (single p l) ∷ recordsOf n rest
+recordsOf n (box p b ns rest) = recordOf n (holding p b ns) ∷ recordsOf n ns ++ recordsOf n rest
 
 -- the head, of ordinal 0, then the nodes' records
 unfoldable pub allRecords : ℕ → Forest → List (List ℕ)

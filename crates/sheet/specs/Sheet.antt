@@ -380,42 +380,51 @@ Node = MotionNode KeyframeTime
 abbrev pub Forest : Type 0
 Forest = Nodes KeyframeTime
 
+-- 02 (a): "Every node record gets, right after its kind, two bytes: the start of the node's keyword", "a sheet whose new field lies at or
+-- past the text's end is no sheet"
+abbrev pub startForm : ℕ → Form ℕ
+startForm n = such (λ p. ltb p n) (big 2)
+
+-- a case of a node: its start, then its fields
+abbrev pub nodeCase : {A : Type 0} → ℕ → Form A → (ℕ → A → Node) → Case Node
+nodeCase n fields make = case (startForm n ▹ fields) (λ x. make (x .0) (x .1))
+
 -- "A record is the kind (position in `MotionNode`, tween 0 to at 14), then the fields"; `inner` is the form of the nodes in a container
 abbrev pub kinds : ℕ → Form Forest → List (Case Node)
 kinds n inner =
-    case (tweenForm n) (λ x. single (tween x))
-    ∷ case (springForm n) (λ x. single (spring x))
-    ∷ case (keyframesForm n) (λ x. single (keyframes x))
-    ∷ case inner (λ ns. holding sequence ns)
-    ∷ case inner (λ ns. holding parallel ns)
-    ∷ case (below 2 ▹ inner) (λ p. holding (group (p .0)) (p .1))
-    ∷ case (opt patternForm ▹ opt word ▹ inner) (λ p. holding (stagger (p .0) (p .1 .0)) (p .1 .1))
-    ∷ case (pathForm n) (λ x. single (path x))
-    ∷ case (morphForm n) (λ x. single (morph x))
-    ∷ case (drawForm n) (λ x. single (draw x))
-    ∷ case (colorForm n) (λ x. single (color x))
-    ∷ case waveformForm (λ x. single (waveform x))
-    ∷ case (presetForm n) (λ x. single (preset x))
-    ∷ case (spanForm n) (λ s. single (label s))
-    ∷ case atForm (λ x. single (at x))
+    nodeCase n (tweenForm n) (λ p x. single p (tween x))
+    ∷ nodeCase n (springForm n) (λ p x. single p (spring x))
+    ∷ nodeCase n (keyframesForm n) (λ p x. single p (keyframes x))
+    ∷ nodeCase n inner (λ p ns. holding p sequence ns)
+    ∷ nodeCase n inner (λ p ns. holding p parallel ns)
+    ∷ nodeCase n (below 2 ▹ inner) (λ p x. holding p (group (x .0)) (x .1))
+    ∷ nodeCase n (opt patternForm ▹ opt word ▹ inner) (λ p x. holding p (stagger (x .0) (x .1 .0)) (x .1 .1))
+    ∷ nodeCase n (pathForm n) (λ p x. single p (path x))
+    ∷ nodeCase n (morphForm n) (λ p x. single p (morph x))
+    ∷ nodeCase n (drawForm n) (λ p x. single p (draw x))
+    ∷ nodeCase n (colorForm n) (λ p x. single p (color x))
+    ∷ nodeCase n waveformForm (λ p x. single p (waveform x))
+    ∷ nodeCase n (presetForm n) (λ p x. single p (preset x))
+    ∷ nodeCase n (spanForm n) (λ p s. single p (label s))
+    ∷ nodeCase n atForm (λ p x. single p (at x))
     ∷ []
 
 abbrev pub splitNode : (n : ℕ) (inner : Form Forest) → Node → (i : ℕ) × FieldsAt (kinds n inner) i
-splitNode n inner (single (tween x)) = (0, x)
-splitNode n inner (single (spring x)) = (1, x)
-splitNode n inner (single (keyframes x)) = (2, x)
-splitNode n inner (holding sequence ns) = (3, ns)
-splitNode n inner (holding parallel ns) = (4, ns)
-splitNode n inner (holding (group mode) ns) = (5, (mode, ns))
-splitNode n inner (holding (stagger pattern delay) ns) = (6, (pattern, (delay, ns)))
-splitNode n inner (single (path x)) = (7, x)
-splitNode n inner (single (morph x)) = (8, x)
-splitNode n inner (single (draw x)) = (9, x)
-splitNode n inner (single (color x)) = (10, x)
-splitNode n inner (single (waveform x)) = (11, x)
-splitNode n inner (single (preset x)) = (12, x)
-splitNode n inner (single (label s)) = (13, s)
-splitNode n inner (single (at x)) = (14, x)
+splitNode n inner (single p (tween x)) = (0, (p, x))
+splitNode n inner (single p (spring x)) = (1, (p, x))
+splitNode n inner (single p (keyframes x)) = (2, (p, x))
+splitNode n inner (holding p sequence ns) = (3, (p, ns))
+splitNode n inner (holding p parallel ns) = (4, (p, ns))
+splitNode n inner (holding p (group mode) ns) = (5, (p, (mode, ns)))
+splitNode n inner (holding p (stagger pattern delay) ns) = (6, (p, (pattern, (delay, ns))))
+splitNode n inner (single p (path x)) = (7, (p, x))
+splitNode n inner (single p (morph x)) = (8, (p, x))
+splitNode n inner (single p (draw x)) = (9, (p, x))
+splitNode n inner (single p (color x)) = (10, (p, x))
+splitNode n inner (single p (waveform x)) = (11, (p, x))
+splitNode n inner (single p (preset x)) = (12, (p, x))
+splitNode n inner (single p (label s)) = (13, (p, s))
+splitNode n inner (single p (at x)) = (14, (p, x))
 
 abbrev pub nodeForm : ℕ → Form Forest → Form Node
 nodeForm n inner = enum (kinds n inner) (splitNode n inner)
@@ -425,9 +434,9 @@ toForest (x, rest) = push x rest
 
 -- the first node and the others; a forest of no nodes has no first, and is not asked for one
 abbrev pub ofForest : Forest → Node × Forest
-ofForest Nodes.none = (holding sequence Nodes.none, Nodes.none)
-ofForest (leaf l rest) = (single l, rest)
-ofForest (box b ns rest) = (holding b ns, rest)
+ofForest Nodes.none = (holding 0 sequence Nodes.none, Nodes.none)
+ofForest (leaf p l rest) = (single p l, rest)
+ofForest (box p b ns rest) = (holding p b ns, rest)
 
 -- so many nodes
 abbrev pub forest : ℕ → Form Forest → ℕ → Form Forest

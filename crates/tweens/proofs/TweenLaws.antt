@@ -76,7 +76,7 @@ tween-most n d x =
       word-most (optWordOf (x .round)),
     )
 
-module _ {s b a : List ℕ} {c m : Cursor} {out at : ℕ} (e : EndsWent s b a c m 0 out at) where
+module _ {s b a : List ℕ} {c m : Cursor} {out at : ℕ} (e : EndsWent s b a c m out at) where
   pub tween-no-fields : {r : Refusal} {q : ℕ} → run s m (parseFieldList tweenFields []) ≡ refused r q → run s c parseTween ≡ refused r q
   tween-no-fields h = tween-run s c ∙ (rw (e .took .is, h))
 
@@ -104,7 +104,7 @@ module _ {s b a : List ℕ} {c m : Cursor} {out at : ℕ} (e : EndsWent s b a c 
               low = omega (arith, e .took .low, t .took .low);
               ready = t .took .ready;
             };
-            writes = record-written 0
+            writes = record-written
                 (spanForm (length s) .write (e .value .0))
                 (valueForm .write (e .value .1 .0))
                 (valueForm .write (e .value .1 .1))

@@ -59,20 +59,20 @@ Ends = Span × Pair
 abbrev pub theEnds : Rule Ends
 theEnds = targetMark >>= λ t. valuePair >>= λ p. give (t, p)
 
--- the beginning of a record of that kind, for a text of n bytes
-abbrev pub endsBytes : ℕ → ℕ → Ends → List ℕ
-endsBytes kind n e = kind ∷ (spanForm n .write (e .0) ++ pairBytes (e .1))
+-- the first fields of such a record, for a text of n bytes
+abbrev pub endsBytes : ℕ → Ends → List ℕ
+endsBytes n e = spanForm n .write (e .0) ++ pairBytes (e .1)
 
 -- 64 bytes more are paid for
-pub record EndsWent (s b a : List ℕ) (c m : Cursor) (kind out q : ℕ) : Type 0 where
+pub record EndsWent (s b a : List ℕ) (c m : Cursor) (out q : ℕ) : Type 0 where
   pub value : Ends
   pub took : Took 1 s c m theEnds value
-  pub writes : Writes b out (endsBytes kind (length s) value) a q
+  pub writes : Writes b out (endsBytes (length s) value) a q
   pub paid : q + 64 ≤ out + 64 * (m .at - c .at)
 
-abbrev pub EndsMeans : List ℕ → List ℕ → List ℕ → Cursor → ℕ → ℕ → ValueRead → Type 0
-EndsMeans s b a c kind out (value.Is q m) = EndsWent s b a c m kind out q
-EndsMeans s b a c kind out (value.Refused r q) = run s c theEnds ≡ refused r q
+abbrev pub EndsMeans : List ℕ → List ℕ → List ℕ → Cursor → ℕ → ValueRead → Type 0
+EndsMeans s b a c out (value.Is q m) = EndsWent s b a c m out q
+EndsMeans s b a c out (value.Refused r q) = run s c theEnds ≡ refused r q
 
 -- ---- tween
 

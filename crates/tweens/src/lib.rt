@@ -56,16 +56,15 @@ fn value_pair(text: &[u8], sheet: &mut [u8], c: Cursor, out: usize) -> ValueRead
     }
 }
 
-// `target: from => to`: the record's kind, the target and both values, written at `out`.
-fn parse_ends(text: &[u8], sheet: &mut [u8], c: Cursor, kind: u8, out: usize) -> ValueRead
+// `target: from => to`: the target and both values, written at `out`.
+fn parse_ends(text: &[u8], sheet: &mut [u8], c: Cursor, out: usize) -> ValueRead
     requires { ⌜ Ready (now text) c × Room (now text) out ⌝ }
-    ensures { λ r. ⌜ EndsMeans (now (text .entry)) (now (sheet .entry)) (now (sheet .exit)) c kind out r ⌝ }
+    ensures { λ r. ⌜ EndsMeans (now (text .entry)) (now (sheet .entry)) (now (sheet .exit)) c out r ⌝ }
 {
     match target_mark(text, c) {
         WordRead::Missing(p) => ValueRead::Refused(Refusal::Missing, p),
         WordRead::Is(target, m) => {
-            let target_at = encode::put_byte(sheet, out, kind);
-            let from_at = encode::put_span(sheet, target_at, target);
+            let from_at = encode::put_span(sheet, out, target);
             value_pair(text, sheet, m, from_at)
         }
     }
@@ -98,7 +97,7 @@ pub fn parse_tween(text: &[u8], sheet: &mut [u8], c: Cursor, out: usize) -> Node
     requires { ⌜ Ready (now text) c × Room (now text) out ⌝ }
     ensures { λ r. ⌜ LeafMeans (now (text .entry)) (now (sheet .entry)) (now (sheet .exit)) c out parseTween r ⌝ }
 {
-    match parse_ends(text, sheet, c, 0, out) {
+    match parse_ends(text, sheet, c, out) {
         ValueRead::Refused(r, p) => NodeRead::Refused(r, p),
         ValueRead::Is(at, m) => match tween_step::tween_fields(text, m) {
             TweenStep::Refused(r, p) => NodeRead::Refused(r, p),
@@ -159,7 +158,7 @@ pub fn parse_spring(text: &[u8], sheet: &mut [u8], c: Cursor, out: usize) -> Nod
     requires { ⌜ Ready (now text) c × Room (now text) out ⌝ }
     ensures { λ r. ⌜ LeafMeans (now (text .entry)) (now (sheet .entry)) (now (sheet .exit)) c out parseSpring r ⌝ }
 {
-    match parse_ends(text, sheet, c, 1, out) {
+    match parse_ends(text, sheet, c, out) {
         ValueRead::Refused(r, p) => NodeRead::Refused(r, p),
         ValueRead::Is(at, m) => match spring_step::spring_fields(text, m) {
             SpringStep::Refused(r, p) => NodeRead::Refused(r, p),

@@ -407,17 +407,17 @@ module _ (n : ℕ) where
   container-rows = gives also gives also group-stays also stagger-stays also tt
 
   module _ (b : Rule (Nodes Key)) (inner : Stays n b) where
-    begun-stays : (x : Option (Rule (Leaf Key))) (y : Option (Rule Container))
-        → Found n x → Found n y → Stays n (nodeBy b (orContainer x y))
-    begun-stays (some p) y f g = then f (λ l. gives)
-    begun-stays none (some p) f g = then g (λ c. then inner (λ ns. gives))
-    begun-stays none none f g = refuses
+    begun-stays : (start : ℕ) (x : Option (Rule (Leaf Key))) (y : Option (Rule Container))
+        → Found n x → Found n y → Stays n (nodeBy b start (orContainer x y))
+    begun-stays start (some p) y f g = then f (λ l. gives)
+    begun-stays start none (some p) f g = then g (λ c. then inner (λ ns. gives))
+    begun-stays start none none f g = refuses
 
     node-stays : Stays n (parseNode b)
     unfolding parseNode beginning
     node-stays =
         then a-word
-        (λ w. begun-stays (under leaves (w .1)) (under containers (w .1)) (under-found n leaves (w .1) leaf-rows)
+        (λ w. begun-stays (w .0) (under leaves (w .1)) (under containers (w .1)) (under-found n leaves (w .1) leaf-rows)
         (under-found n containers (w .1) container-rows))
 
     nodes-stay : (ns : Nodes Key) → Stays n (nodesStep b ns)

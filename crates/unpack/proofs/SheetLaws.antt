@@ -27,40 +27,40 @@ use Rattle.error.specs.declared.Refusal.the-variants.{TextTooLong}
 
 -- ---- as many bytes as records, or more
 
-leaf-some : (n : ℕ) (l : Leaf KeyframeTime) → 1 ≤ length (recordOf n (single l))
-leaf-some n (tree.tween x) = omega arith
-leaf-some n (tree.spring x) = omega arith
-leaf-some n (tree.keyframes x) = omega arith
-leaf-some n (tree.path x) = omega arith
-leaf-some n (tree.morph x) = omega arith
-leaf-some n (tree.draw x) = omega arith
-leaf-some n (tree.color x) = omega arith
-leaf-some n (tree.waveform x) = omega arith
-leaf-some n (tree.preset x) = omega arith
-leaf-some n (tree.label x) = omega arith
-leaf-some n (tree.at x) = omega arith
+leaf-some : (n p : ℕ) (l : Leaf KeyframeTime) → 1 ≤ length (recordOf n (single p l))
+leaf-some n p (tree.tween x) = omega arith
+leaf-some n p (tree.spring x) = omega arith
+leaf-some n p (tree.keyframes x) = omega arith
+leaf-some n p (tree.path x) = omega arith
+leaf-some n p (tree.morph x) = omega arith
+leaf-some n p (tree.draw x) = omega arith
+leaf-some n p (tree.color x) = omega arith
+leaf-some n p (tree.waveform x) = omega arith
+leaf-some n p (tree.preset x) = omega arith
+leaf-some n p (tree.label x) = omega arith
+leaf-some n p (tree.at x) = omega arith
 
-box-some : (n : ℕ) (k : Container) (ns : Forest) → 1 ≤ length (recordOf n (holding k ns))
-box-some n tree.sequence ns = omega arith
-box-some n tree.parallel ns = omega arith
-box-some n (tree.group m) ns = omega arith
-box-some n (tree.stagger p d) ns = omega arith
+box-some : (n p : ℕ) (k : Container) (ns : Forest) → 1 ≤ length (recordOf n (holding p k ns))
+box-some n p tree.sequence ns = omega arith
+box-some n p tree.parallel ns = omega arith
+box-some n p (tree.group m) ns = omega arith
+box-some n p (tree.stagger q d) ns = omega arith
 
 nodes-some : (n : ℕ) (ns : Forest) → records ns ≤ length (concat (recordsOf n ns))
 nodes-some n Nodes.none = omega arith
-nodes-some n (leaf l rest) =
-    omega (arith, leaf-some n l, nodes-some n rest, length-append (recordOf n (single l)) (concat (recordsOf n rest)))
-nodes-some n (box k ns rest) =
+nodes-some n (leaf p l rest) =
+    omega (arith, leaf-some n p l, nodes-some n rest, length-append (recordOf n (single p l)) (concat (recordsOf n rest)))
+nodes-some n (box p k ns rest) =
     let e = ap length (concat-append (recordsOf n ns) (recordsOf n rest))
     ∙ length-append (concat (recordsOf n ns)) (concat (recordsOf n rest))
     in
     omega (
       arith,
-      box-some n k ns,
+      box-some n p k ns,
       nodes-some n ns,
       nodes-some n rest,
       e,
-      length-append (recordOf n (holding k ns)) (concat (recordsOf n ns ++ recordsOf n rest)),
+      length-append (recordOf n (holding p k ns)) (concat (recordsOf n ns ++ recordsOf n rest)),
     )
 
 pub sheet-some : (n : ℕ) (ns : Forest) → Fits n ns → records ns ≤ length (encode n ns)
@@ -99,12 +99,12 @@ at-below i m (some r) h = h
 pub nodes-below : (names : List String) (t : List ℕ) (i : ℕ) (ns : Forest) → Below (i + records ns) (validateNodes names t i ns)
 unfolding validateNodes
 nodes-below names t i Nodes.none = tt
-nodes-below names t i (leaf l rest) =
+nodes-below names t i (leaf p l rest) =
     let b = validateNodes names t (suc i) rest in
     let m = i + suc (records rest) in
     or-below m (atOrdinal i (validateLeaf names t l)) b (at-below i m (validateLeaf names t l) (omega arith))
     (below-more b (suc i + records rest) m (omega arith) (nodes-below names t (suc i) rest))
-nodes-below names t i (box k ns rest) =
+nodes-below names t i (box p k ns rest) =
     let a = validateNodes names t (suc i) ns in
     let b = validateNodes names t (suc i + records ns) rest in
     let m = i + suc (records ns + records rest) in

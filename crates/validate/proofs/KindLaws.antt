@@ -1,4 +1,4 @@
--- A record of each kind: its kind, then its fields. Assumes nothing.
+-- A record of each kind: its kind, its start, then its fields. Assumes nothing.
 use Prim.Native.Nat.{ℕ, _≤_, _<_}
 use mathlib.Core.List.{List}
 use mathlib.Core.Option.{Option, none}
@@ -7,21 +7,21 @@ use mathlib.Core.Path.{_≡_, sym, _∙_, ap}
 use native.Mathlib.Nat.{le-trans}
 use native.Mathlib.Omega.{arith}
 use lib.ListN.{length}
-use Rattle.codec.specs.Codec.{Form, _▹_, below, big, opt, Case}
+use Rattle.codec.specs.Codec.{Form, _▹_, below, big, opt}
 use Rattle.ast.specs.Tree as tree
 use Rattle.ast.specs.Tree.{Leaf, KeyframeTime, single, holding, width}
 use Rattle.ast.specs.View.{groupView, staggerView}
 use Rattle.ast.specs.declared.GroupSpec as groups
 use Rattle.ast.specs.declared.StaggerSpec as staggers
-use Rattle.sheet.specs.Sheet.{Node, word, patternForm, kinds, splitNode}
-use Rattle.decode.specs.Reads.{Reads, got, bad, same}
+use Rattle.sheet.specs.Sheet.{word, patternForm}
+use Rattle.decode.specs.Reads.{Reads, got, bad, same, KindAndStart}
 use Rattle.records.specs.Record.{blank, countForm, recordForm}
 use Rattle.records.specs.declared.Kind.{Kind}
 use Rattle.records.specs.declared.Kind.the-variants as kind
 use Rattle.presets.specs.Colors.{colors}
 use Rattle.error.specs.declared.Refusal.{Refusal}
-use Rattle.decode.proofs.ReadLaws as laws
-use Rattle.records.proofs.RecordLaws.{made, after, counts, width-blank, three-or-four, only-at}
+use Rattle.decode.proofs.ReadLaws.{_&_}
+use Rattle.records.proofs.RecordLaws.{made, after, counts, width-blank, of-kind, three-or-four, only-at}
 use Rattle.validate.specs.Rules.{validateLeaf, validateContainer}
 use Rattle.validate.specs.Means.{faultOf, Stands, StaggerTells}
 use Rattle.validate.specs.Walks.{recordView, LeafKind, ContainerKind}
@@ -35,10 +35,10 @@ known (bad o n) k = bad o n
 
 -- ---- a leaf
 
-pub leaf-is : (t : List ℕ) (l : Leaf KeyframeTime) {o : Option Refusal}
+pub leaf-is : (t : List ℕ) (p : ℕ) (l : Leaf KeyframeTime) {o : Option Refusal}
     → o ≡ validateLeaf colors t l
-    → Prim.Path (Option Refusal × Kind) (recordView t (single l)) (o, kind.Leaf)
-leaf-is t l e = λ i. (sym e i, kind.Leaf)
+    → Prim.Path (Option Refusal × Kind) (recordView t (single p l)) (o, kind.Leaf)
+leaf-is t p l e = λ i. (sym e i, kind.Leaf)
 
 -- what neither is before nor a container is an `at`
 pub last-kind : (k : ℕ) → LeafKind k → (k ≡ 0 → ⊥) → (k ≡ 1 → ⊥) → (k ≡ 2 → ⊥)
@@ -56,19 +56,16 @@ last-kind k h n0 n1 n2 n7 n8 n9 n10 n11 n12 n13 =
 
 -- ---- a container: its own fields and its count of nodes
 
-abbrev cases : List ℕ → List (Case Node)
-cases t = kinds (length t) countForm
-
--- the fault of the record at `start` is o, and it holds c nodes
+-- the fault of the record at `from` is o, and it holds c nodes
 abbrev Holding : List ℕ → List ℕ → ℕ → ℕ → Option Refusal → ℕ → Type 0
-Holding t s start m o c = Reads {X = Option Refusal × Kind} (recordForm (length t)) (recordView t) s start (o, kind.Container c) m
+Holding t s from m o c = Reads {X = Option Refusal × Kind} (recordForm (length t)) (recordView t) s from (o, kind.Container c) m
 
-module _ (t : List ℕ) {s : List ℕ} {start at k : ℕ} (b : Reads (below 15) same s start k at) where
-  pub count-record : {c m : ℕ} → ContainerKind k → (k ≡ 5 → ⊥) → (k ≡ 6 → ⊥) → Reads (big 2) same s at c m → Holding t s start m none c
+module _ (t : List ℕ) {s : List ℕ} {from start at k : ℕ} (b : KindAndStart (length t) s from k start at) where
+  pub count-record : {c m : ℕ} → ContainerKind k → (k ≡ 5 → ⊥) → (k ≡ 6 → ⊥) → Reads (big 2) same s at c m → Holding t s from m none c
   unfolding validateContainer
   count-record {c} {m} h n5 n6 r =
-      ⊎-elim (λ e. laws.chosen (cases t) (splitNode _ _) 3 b e nodes (λ ns e. e))
-      (λ e. laws.chosen (cases t) (splitNode _ _) 4 b e nodes (λ ns e. e))
+      ⊎-elim (λ e. of-kind 3 b e (b .startAt & nodes) (λ x e i. e i .1))
+      (λ e. of-kind 4 b e (b .startAt & nodes) (λ x e i. e i .1))
       (three-or-four k (omega arith) (no k 0 (h .0) (omega arith)) (no k 1 (h .0) (omega arith)) (no k 2 (h .0) (omega arith)))
     where
       no : (k j : ℕ) → 3 ≤ k → j < 3 → k ≡ j → ⊥
@@ -79,25 +76,28 @@ module _ (t : List ℕ) {s : List ℕ} {start at k : ℕ} (b : Reads (below 15) 
 
   pub group-record : {m : ℕ} {v : groups.GroupSpec} → k ≡ 5
       → Reads (below 2 ▹ big 2) (λ p. groupView (p .0) (p .1)) s at v m
-      → Holding t s start m none (v .nodes)
+      → Holding t s from m none (v .nodes)
   unfolding validateContainer
   group-record e r =
-      laws.chosen (cases t) (splitNode _ _) 5 b e
-      (made (below 2 ▹ big 2) (below 2 ▹ countForm) (λ p. (p .0, blank (p .1))) {g = λ p. recordView t (holding (tree.group (p .0)) (p .1))}
+      of-kind 5 b e
+      (b .startAt
+      & made (below 2 ▹ big 2) (below 2 ▹ countForm) (λ p. (p .0, blank (p .1)))
+      {g = λ p. recordView t (holding start (tree.group (p .0)) (p .1))}
       (after (below 2) (big 2) countForm blank counts) r
       (λ p e i. (none, kind.Container ((width-blank (p .1) ∙ ap (λ (g : groups.GroupSpec). g .nodes) e) i))))
-      (λ x e. e)
+      (λ x e i. e i .1)
 
   pub stagger-record : (f : Fault) {m : ℕ} {v : staggers.StaggerSpec} → k ≡ 6
       → Reads (opt patternForm ▹ opt word ▹ big 2) (λ p. staggerView (p .0) (p .1 .0) (p .1 .1)) s at v m
-      → StaggerTells v f → Holding t s start m (faultOf f) (v .nodes)
+      → StaggerTells v f → Holding t s from m (faultOf f) (v .nodes)
   stagger-record f e r g =
-      laws.chosen (cases t) (splitNode _ _) 6 b e
-      (made (opt patternForm ▹ opt word ▹ big 2) (opt patternForm ▹ opt word ▹ countForm) (λ p. (p .0, (p .1 .0, blank (p .1 .1))))
-      {g = λ p. recordView t (holding (tree.stagger (p .0) (p .1 .0)) (p .1 .1))}
+      of-kind 6 b e
+      (b .startAt
+      & made (opt patternForm ▹ opt word ▹ big 2) (opt patternForm ▹ opt word ▹ countForm) (λ p. (p .0, (p .1 .0, blank (p .1 .1))))
+      {g = λ p. recordView t (holding start (tree.stagger (p .0) (p .1 .0)) (p .1 .1))}
       (after (opt patternForm) (opt word ▹ big 2) (opt word ▹ countForm) (λ q. (q .0, blank (q .1)))
       (after (opt word) (big 2) countForm blank counts))
       r
       (λ p e i.
       (sym (g (p .0) (p .1 .0) (p .1 .1) e) i, kind.Container ((width-blank (p .1 .1) ∙ ap (λ (g : staggers.StaggerSpec). g .nodes) e) i))))
-      (λ x e. e)
+      (λ x e i. e i .1)

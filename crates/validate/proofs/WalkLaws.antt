@@ -50,10 +50,10 @@ read-node n (suc d) bs = node-read (inner n (suc d)) (insides n (suc d)) (λ bs.
 
 -- what stands where a record with the fault o was read: a leaf, or a container whose nodes stand behind
 pub data Opened (t s : List ℕ) (m : ℕ) (o : Option Refusal) (k : Kind) (x : Node) (rest : List ℕ) : Type 0 where
-  plain : (l : Leaf KeyframeTime) → x ≡ single l → k ≡ kind.Leaf
+  plain : (p : ℕ) (l : Leaf KeyframeTime) → x ≡ single p l → k ≡ kind.Leaf
       → validateLeaf colors t l ≡ o → rest ≡ drop m s → m ≤ length s
       → Opened t s m o k x rest
-  boxed : (b : Container) (ns : Forest) (c d : ℕ) → x ≡ holding b ns → k ≡ kind.Container c → validateContainer b ≡ o
+  boxed : (p : ℕ) (b : Container) (ns : Forest) (c d : ℕ) → x ≡ holding p b ns → k ≡ kind.Container c → validateContainer b ≡ o
       → (g : Stands (forest (length t) (inner (length t) d) c) s m ns) → g .rest ≡ rest → Opened t s m o k x rest
 
 module _ (t s : List ℕ) {at m : ℕ} {o : Option Refusal} {k : Kind} where
@@ -67,16 +67,17 @@ module _ (t s : List ℕ) {at m : ℕ} {o : Option Refusal} {k : Kind} where
           → (d : ℕ)
           → behind (insides (length t) d) y (drop m s) ≡ some (x, h .rest)
           → Opened t s m o k x (h .rest)
-      go (single y) q d e =
-          let p = Option·some-injective (single y, drop m s) (x, h .rest) e in
-          plain y (sym (ap (λ (z : Node × List ℕ). z .0) p)) (sym (λ i. q i .1)) (λ i. q i .0) (sym (ap (λ (z : Node × List ℕ). z .1) p)) l
-      go (holding b ns) q zero e = none≢some e
-      go (holding b ns) q (suc d) e =
-          let (z, e₁, e₂) = inverse (forest (length t) (inner (length t) d) (width ns) .read (drop m s)) (λ ms r. some (holding b ms, r))
+      go (single j y) q d e =
+          let p = Option·some-injective (single j y, drop m s) (x, h .rest) e in
+          plain j y (sym (ap (λ (z : Node × List ℕ). z .0) p)) (sym (λ i. q i .1)) (λ i. q i .0) (sym (ap (λ (z : Node × List ℕ). z .1) p))
+          l
+      go (holding j b ns) q zero e = none≢some e
+      go (holding j b ns) q (suc d) e =
+          let (z, e₁, e₂) = inverse (forest (length t) (inner (length t) d) (width ns) .read (drop m s)) (λ ms r. some (holding j b ms, r))
           (x, h .rest) e
           in
-          let p = Option·some-injective (holding b (z .0), z .1) (x, h .rest) e₂ in
-          boxed b (z .0) (width ns) d (sym (ap (λ (z : Node × List ℕ). z .0) p)) (sym (λ i. q i .1)) (λ i. q i .0)
+          let p = Option·some-injective (holding j b (z .0), z .1) (x, h .rest) e₂ in
+          boxed j b (z .0) (width ns) d (sym (ap (λ (z : Node × List ℕ). z .0) p)) (sym (λ i. q i .1)) (λ i. q i .0)
           (record { within = l; rest = z .1; reads = e₁ }) (ap (λ (z : Node × List ℕ). z .1) p)
 
 -- none stands at the end
@@ -96,20 +97,20 @@ onward s at m (Passed next after) l h = (omega arith, h .1)
 module _ (t s : List ℕ) (i : ℕ) {m : ℕ} {x : Node} {rest : List ℕ} where
   pub refused : {r : Refusal} {k : Kind} → Opened t s m (some r) k x rest → validateNodes colors t i (push x Nodes.none) ≡ some (r, i)
   unfolding validateNodes
-  refused (plain l p q e b w) = rw (p, e)
-  refused (boxed b ns c d p q e g u) = rw (p, e)
+  refused (plain j l p q e b w) = rw (p, e)
+  refused (boxed j b ns c d p q e g u) = rw (p, e)
 
   pub clean-leaf : Opened t s m none kind.Leaf x rest → Clean t s i (push x Nodes.none) rest m (i + 1)
   unfolding validateNodes
-  clean-leaf (plain l p q e b w) = record { accepted = rw (p, e); behind = b; within = w; counted = rw p }
-  clean-leaf (boxed b ns c d p q e g u) = let z : _≡_ {A = ℕ} 0 1 = cc in absurd (omega arith)
+  clean-leaf (plain j l p q e b w) = record { accepted = rw (p, e); behind = b; within = w; counted = rw p }
+  clean-leaf (boxed j b ns c d p q e g u) = let z : _≡_ {A = ℕ} 0 1 = cc in absurd (omega arith)
 
 module _ (t s : List ℕ) (i : ℕ) (rest : List ℕ) where
-  inside-says : (b : Container) (ns : Forest) (w : Walk) → validateContainer b ≡ none
-      → Says t s (i + 1) ns rest w → Says t s i (box b ns Nodes.none) rest w
+  inside-says : (j : ℕ) (b : Container) (ns : Forest) (w : Walk) → validateContainer b ≡ none
+      → Says t s (i + 1) ns rest w → Says t s i (box j b ns Nodes.none) rest w
   unfolding validateNodes
-  inside-says b ns (Refused r p) e h = rw (e, or-none, ← add-one) h
-  inside-says b ns (Passed next after) e h = record {
+  inside-says j b ns (Refused r p) e h = rw (e, or-none, ← add-one) h
+  inside-says j b ns (Passed next after) e h = record {
     accepted = rw (e, or-none, ← add-one) (h .accepted);
     behind = h .behind;
     within = h .within;
@@ -122,14 +123,14 @@ module _ (t s : List ℕ) (i : ℕ) (rest : List ℕ) where
   pub clean-box : {m c : ℕ} {x : Node} (w : Walk) → Opened t s m none (kind.Container c) x rest
       → ((d : ℕ) (ns : Forest) (g : Stands (forest (length t) (inner (length t) d) c) s m ns) → Says t s (i + 1) ns (g .rest) w)
       → Says t s i (push x Nodes.none) rest w
-  clean-box w (plain l p q e b h) f = let z : _≡_ {A = ℕ} 0 1 = cc in absurd (omega arith)
-  clean-box {m} {c} w (boxed b ns j d p q e g u) f =
-      let z : c ≡ j = cc in
+  clean-box w (plain j l p q e b h) f = let z : _≡_ {A = ℕ} 0 1 = cc in absurd (omega arith)
+  clean-box {m} {c} w (boxed j b ns k d p q e g u) f =
+      let z : c ≡ k = cc in
       let f′ = subst
       (λ (c : ℕ). (d : ℕ) (ns : Forest) (g : Stands (forest (length t) (inner (length t) d) c) s m ns) → Says t s (i + 1) ns (g .rest) w) z
       f
       in
-      rw p (inside-says b ns w e (subst (λ (r : List ℕ). Says t s (i + 1) ns r w) u (f′ d ns g)))
+      rw p (inside-says j b ns w e (subst (λ (r : List ℕ). Says t s (i + 1) ns r w) u (f′ d ns g)))
 
 -- ---- nodes beside each other
 
@@ -139,8 +140,8 @@ split : (t : List ℕ) (i : ℕ) (x : Node) (ns : Forest)
     ≡ orElse (validateNodes colors t i (push x Nodes.none)) (validateNodes colors t (i + records (push x Nodes.none)) ns))
     × (records (push x ns) ≡ records (push x Nodes.none) + records ns)
 unfolding validateNodes
-split t i (single l) ns = (rw (or-none, add-one), omega arith)
-split t i (holding b inside) ns =
+split t i (single p l) ns = (rw (or-none, add-one), omega arith)
+split t i (holding p b inside) ns =
     let e : i + suc (records inside + 0) ≡ suc i + records inside = omega arith in
     (rw (e, or-none, or-assoc), omega arith)
 

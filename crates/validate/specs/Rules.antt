@@ -214,6 +214,6 @@ atOrdinal i (some r) = some (r, i)
 -- validate_nodes: the first refusal, i being the ordinal of the first node
 unfoldable pub validateNodes : List String → List ℕ → ℕ → Nodes KeyframeTime → Option (Refusal × ℕ)
 validateNodes names t i Nodes.none = none
-validateNodes names t i (leaf l rest) = orElse (atOrdinal i (validateLeaf names t l)) (validateNodes names t (suc i) rest)
-validateNodes names t i (box b ns rest) =
+validateNodes names t i (leaf p l rest) = orElse (atOrdinal i (validateLeaf names t l)) (validateNodes names t (suc i) rest)
+validateNodes names t i (box p b ns rest) =
     orElse (atOrdinal i (validateContainer b)) (orElse (validateNodes names t (suc i) ns) (validateNodes names t (suc i + records ns) rest))

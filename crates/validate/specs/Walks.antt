@@ -5,10 +5,10 @@ use mathlib.Core.Option.{Option, none, some}
 use mathlib.Core.Logic.{_⊎_}
 use mathlib.Core.Path.{_≡_}
 use lib.ListN.{length, drop}
-use Rattle.codec.specs.Codec.{Form, below}
+use Rattle.codec.specs.Codec.{Form}
 use Rattle.ast.specs.Tree.{Nodes, single, holding, push, records}
 use Rattle.sheet.specs.Sheet.{Node, Forest, nodeForm, forest, inner}
-use Rattle.decode.specs.Reads.{Reads, same}
+use Rattle.decode.specs.Reads.{Reads, KindAndStart}
 use Rattle.records.specs.Record.{recordForm, kindView}
 use Rattle.records.specs.declared.Kind.{Kind}
 use Rattle.presets.specs.Colors.{colors}
@@ -24,8 +24,8 @@ use Rattle.validate.specs.declared.nodes.Walk.the-variants.{Refused, Pas
 
 -- the first fault of a node's own fields
 abbrev pub recordFault : List ℕ → Node → Option Refusal
-recordFault t (single l) = validateLeaf colors t l
-recordFault t (holding k ns) = validateContainer k
+recordFault t (single p l) = validateLeaf colors t l
+recordFault t (holding p k ns) = validateContainer k
 
 abbrev pub recordView : List ℕ → Node → Option Refusal × Kind
 recordView t x = (recordFault t x, kindView x)
@@ -36,10 +36,11 @@ checkOf fault kind next = record { fault = fault; kind = kind; next = next }
 abbrev pub checkView : RecordCheck → Option Refusal × Kind
 checkView r = (faultOf (r .fault), r .kind)
 
--- r tells of the record whose kind stands before the place
+-- r tells of the record whose kind and start stand before the place
 abbrev pub FieldsTell : List ℕ → List ℕ → ℕ → ℕ → RecordCheck → Type 0
 FieldsTell t s kind at r =
-    (start : ℕ) → Reads (below 15) same s start kind at → Reads (recordForm (length t)) (recordView t) s start (checkView r) (r .next)
+    (from start : ℕ) → KindAndStart (length t) s from kind start at
+    → Reads (recordForm (length t)) (recordView t) s from (checkView r) (r .next)
 
 -- 01: "Containers are sequence, parallel, group and stagger"
 abbrev pub ContainerKind : ℕ → Type 0

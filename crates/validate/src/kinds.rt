@@ -19,8 +19,8 @@ use crate::rules::validate_spring;
 use crate::rules::validate_stagger;
 use crate::rules::validate_tween;
 use crate::rules::validate_waveform;
-use decode::fields::take_byte;
 use decode::fields::take_field;
+use decode::fields::take_kind;
 use decode::fields::take_span;
 use decode::nodes::take_at;
 use decode::nodes::take_color;
@@ -139,8 +139,8 @@ pub fn validate_record(text: &[u8], s: &[u8], at: usize) -> RecordCheck
     requires { ⌜ InLimit (now s) ⌝ }
     ensures { λ r. ⌜ Reads (recordForm (length (now (text .entry)))) (recordView (now (text .entry))) (now (s .entry)) at (checkView r) (r .next) ⌝ }
 {
-    let k = take_byte(s, at, 15);
-    let kind = k.v;
+    let k = take_kind(s, at, text.len());
+    let kind = k.kind;
     match kind {
         3..=6 => validate_container(s, k.next, kind),
         _ => validate_leaf(text, s, k.next, kind),

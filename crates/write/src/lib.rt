@@ -1,4 +1,4 @@
-// The records of nodes without values of several numbers, each written whole at a place. For our own crates: a place below 2^30, and no
+// The fields of nodes without values of several numbers, written at a place, behind the record's kind and start. For our own crates: a place below 2^30, and no
 // float a NaN.
 ghost use Prim.Native.Nat.{_^_, _<_};
 ghost use Rattle.write.specs.Means.{Put, PlainDraw, drawOf, PlainMorph, morphOf, PlainColor, colorOf, PlainPath, pathOf, PlainWaveform, waveformOf, PlainPreset, presetOf};
@@ -15,8 +15,7 @@ pub fn put_draw(sheet: &mut [u8], out: usize, x: DrawSpec) -> usize
 {
     let easing = x.easing;
     let svg = x.svg;
-    let svg_at = encode::put_byte(sheet, out, 9);
-    let duration_at = encode::put_span(sheet, svg_at, svg);
+    let duration_at = encode::put_span(sheet, out, svg);
     let easing_at = encode::put_float(sheet, duration_at, x.duration);
     encode::put_opt_easing(sheet, easing_at, easing)
 }
@@ -28,8 +27,7 @@ pub fn put_morph(sheet: &mut [u8], out: usize, x: MorphSpec) -> usize
     let from = x.from;
     let to = x.to;
     let easing = x.easing;
-    let from_at = encode::put_byte(sheet, out, 8);
-    let to_at = encode::put_span(sheet, from_at, from);
+    let to_at = encode::put_span(sheet, out, from);
     let samples_at = encode::put_span(sheet, to_at, to);
     let duration_at = encode::put_word(sheet, samples_at, x.samples);
     let easing_at = encode::put_float(sheet, duration_at, x.duration);
@@ -44,8 +42,7 @@ pub fn put_color(sheet: &mut [u8], out: usize, x: ColorSpec) -> usize
     let from = x.from;
     let to = x.to;
     let easing = x.easing;
-    let target_at = encode::put_byte(sheet, out, 10);
-    let from_at = encode::put_span(sheet, target_at, target);
+    let from_at = encode::put_span(sheet, out, target);
     let to_at = encode::put_span(sheet, from_at, from);
     let duration_at = encode::put_span(sheet, to_at, to);
     let space_at = encode::put_float(sheet, duration_at, x.duration);
@@ -63,8 +60,7 @@ pub fn put_path(sheet: &mut [u8], out: usize, x: PathSpec) -> usize
     let auto_rotate = x.auto_rotate;
     let offset = x.offset;
     let loop_mode = x.loop_mode;
-    let target_at = encode::put_byte(sheet, out, 7);
-    let svg_at = encode::put_span(sheet, target_at, target);
+    let svg_at = encode::put_span(sheet, out, target);
     let duration_at = encode::put_span(sheet, svg_at, svg);
     let easing_at = encode::put_float(sheet, duration_at, x.duration);
     let auto_rotate_at = encode::put_opt_easing(sheet, easing_at, easing);
@@ -84,8 +80,7 @@ pub fn put_waveform(sheet: &mut [u8], out: usize, x: WaveformSpec) -> usize
     let seed = x.seed;
     let smoothness = x.smoothness;
     let duration = x.duration;
-    let kind_at = encode::put_byte(sheet, out, 11);
-    let frequency_at = encode::put_byte(sheet, kind_at, x.kind);
+    let frequency_at = encode::put_byte(sheet, out, x.kind);
     let amplitude_at = encode::put_opt_float(sheet, frequency_at, frequency);
     let phase_at = encode::put_opt_float(sheet, amplitude_at, amplitude);
     let duty_cycle_at = encode::put_opt_float(sheet, phase_at, phase);
@@ -102,8 +97,7 @@ pub fn put_preset(sheet: &mut [u8], out: usize, x: PresetCall) -> usize
     let name = x.name;
     let duration = x.duration;
     let easing = x.easing;
-    let name_at = encode::put_byte(sheet, out, 12);
-    let duration_at = encode::put_span(sheet, name_at, name);
+    let duration_at = encode::put_span(sheet, out, name);
     let easing_at = encode::put_opt_float(sheet, duration_at, duration);
     encode::put_opt_easing(sheet, easing_at, easing)
 }

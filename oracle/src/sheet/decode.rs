@@ -1,4 +1,4 @@
-//! From a sheet to its tree, by 01's rules.
+//! From a sheet to its tree, by 01's rules and 02 (a).
 
 use super::to_snake_case;
 use crate::ast::*;
@@ -173,9 +173,17 @@ impl Reader<'_> {
         if depth == CONTAINER_LIMIT { None } else { self.nodes(count, depth + 1) }
     }
 
+    /// The start of a node's keyword: a place in the text.
+    fn start(&mut self) -> Option<usize> {
+        let start = self.count()?;
+        (start < self.text.len()).then_some(start)
+    }
+
     fn node(&mut self, depth: usize) -> Option<MotionNode> {
         self.left.push(self.rest.len());
-        Some(match self.byte()? {
+        let kind = self.byte()?;
+        self.start()?;
+        Some(match kind {
             0 => MotionNode::Tween(self.tween()?),
             1 => MotionNode::Spring(self.spring()?),
             2 => MotionNode::Keyframes(self.keyframes()?),

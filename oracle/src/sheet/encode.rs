@@ -4,9 +4,15 @@ use super::to_snake_case;
 use crate::ast::*;
 use crate::places::{EasingPart, NodeParts, Part};
 
+/// The nodes' keywords, by kind.
+const KEYWORDS: [&str; 15] = [
+    "tween", "spring", "keyframes", "sequence", "parallel", "group", "stagger", "path", "morph",
+    "draw", "color", "waveform", "preset", "label", "at",
+];
+
 /// How names and strings are written.
 pub enum Names<'a> {
-    /// Their own bytes, after their length. For comparisons only.
+    /// Their own bytes, after their length; a node has no start. For comparisons only.
     Inline,
     /// Start and length in the text, which must hold the tree's string there;
     /// else the sheet is not right.
@@ -25,9 +31,10 @@ pub struct Sheet {
     pub bytes: Vec<u8>,
     /// The count of node records.
     pub records: usize,
+    pub starts: Vec<usize>,
     pub floats: Vec<usize>,
     pub parts: Vec<usize>,
-    /// A string had no place, or a count was too large.
+    /// A keyword or a string had no place, or a count was too large.
     pub wrong: bool,
 }
 
@@ -74,6 +81,16 @@ impl Writer<'_> {
         if let Some(value) = value {
             write(self, value);
         }
+    }
+
+    /// A node's kind, and the start of its keyword, which the text must hold there.
+    fn kind(&mut self, kind: u8) {
+        self.byte(kind);
+        let Names::Parts { text, node, .. } = &self.names else { return };
+        let keyword = node.keyword;
+        self.out.wrong |= keyword.of(text) != KEYWORDS[kind as usize].as_bytes();
+        self.out.starts.push(self.out.bytes.len());
+        self.count(keyword.start);
     }
 
     fn part(&mut self, part: Part) {
@@ -251,15 +268,15 @@ impl Writer<'_> {
             MotionNode::Spring(spec) => self.spring(spec),
             MotionNode::Keyframes(spec) => self.keyframes(spec),
             MotionNode::Sequence(nodes) => {
-                self.byte(3);
+                self.kind(3);
                 self.children(nodes);
             }
             MotionNode::Parallel(nodes) => {
-                self.byte(4);
+                self.kind(4);
                 self.children(nodes);
             }
             MotionNode::Group { mode, nodes } => {
-                self.byte(5);
+                self.kind(5);
                 self.byte(*mode as u8);
                 self.children(nodes);
             }
@@ -271,11 +288,11 @@ impl Writer<'_> {
             MotionNode::Waveform(spec) => self.waveform(spec),
             MotionNode::Preset(call) => self.preset(call),
             MotionNode::Label(text) => {
-                self.byte(13);
+                self.kind(13);
                 self.text(text, true);
             }
             MotionNode::At(spec) => {
-                self.byte(14);
+                self.kind(14);
                 self.float(spec.value);
                 self.truth(spec.relative);
             }
@@ -288,7 +305,7 @@ impl Writer<'_> {
     }
 
     fn tween(&mut self, spec: &TweenSpec) {
-        self.byte(0);
+        self.kind(0);
         self.text(&spec.target, false);
         self.value(&spec.from);
         self.value(&spec.to);
@@ -303,7 +320,7 @@ impl Writer<'_> {
     }
 
     fn spring(&mut self, spec: &SpringSpec) {
-        self.byte(1);
+        self.kind(1);
         self.text(&spec.target, false);
         self.value(&spec.from);
         self.value(&spec.to);
@@ -321,7 +338,7 @@ impl Writer<'_> {
     }
 
     fn keyframes(&mut self, spec: &KeyframeSpec) {
-        self.byte(2);
+        self.kind(2);
         self.text(&spec.target, false);
         self.count(spec.frames.len());
         let mut easings = 0;
@@ -332,7 +349,7 @@ impl Writer<'_> {
     }
 
     fn stagger(&mut self, spec: &StaggerSpec) {
-        self.byte(6);
+        self.kind(6);
         self.truth(spec.pattern.is_some());
         if let Some(pattern) = &spec.pattern {
             self.pattern(pattern);
@@ -342,7 +359,7 @@ impl Writer<'_> {
     }
 
     fn path(&mut self, spec: &PathSpec) {
-        self.byte(7);
+        self.kind(7);
         self.text(&spec.target, false);
         self.text(&spec.svg, true);
         self.float(spec.duration);
@@ -356,7 +373,7 @@ impl Writer<'_> {
     }
 
     fn morph(&mut self, spec: &MorphSpec) {
-        self.byte(8);
+        self.kind(8);
         self.text(&spec.from, true);
         self.text(&spec.to, true);
         self.whole(spec.samples);
@@ -365,14 +382,14 @@ impl Writer<'_> {
     }
 
     fn draw(&mut self, spec: &DrawSpec) {
-        self.byte(9);
+        self.kind(9);
         self.text(&spec.svg, true);
         self.float(spec.duration);
         self.last_easing(&spec.easing);
     }
 
     fn color(&mut self, spec: &ColorSpec) {
-        self.byte(10);
+        self.kind(10);
         self.text(&spec.target, false);
         self.text(&spec.from, true);
         self.text(&spec.to, true);
@@ -382,7 +399,7 @@ impl Writer<'_> {
     }
 
     fn waveform(&mut self, spec: &WaveformSpec) {
-        self.byte(11);
+        self.kind(11);
         self.byte(spec.kind as u8);
         self.optional(spec.frequency, Self::float);
         self.optional(spec.amplitude, Self::float);
@@ -394,7 +411,7 @@ impl Writer<'_> {
     }
 
     fn preset(&mut self, call: &PresetCall) {
-        self.byte(12);
+        self.kind(12);
         self.text(&call.name, false);
         self.optional(call.duration, Self::float);
         self.last_easing(&call.easing);

@@ -1,4 +1,4 @@
-//! The tree as bytes and back: 01's sheet.
+//! The tree as bytes and back: 01's sheet, with the starts of 02 (a).
 
 mod decode;
 mod encode;

@@ -40,7 +40,6 @@ use Rattle.cursor.proofs.ends.Reads as ends-reads
 use Rattle.cursor.proofs.leave_group.Reads as leave-group-reads
 use Rattle.cursor.proofs.sees.Reads as sees-reads
 use Rattle.encode.proofs.patch_count.Reads as patch-count-reads
-use Rattle.encode.proofs.put_byte.Reads as put-byte-reads
 use Rattle.blocks.proofs.+nodes_step+parse_block+parse_group+parse_node+parse_nodes+parse_parallel+parse_sequence+parse_stagger.{
   statement,
 }
@@ -211,16 +210,12 @@ parse-nodes-calls t = (
 
 abbrev parse-parallel-calls : ℕ → of.Lts-parse_parallel.Claims
 parse-parallel-calls t = (
-  put-byte-reads.Asked,
-  put-byte-reads.Learnt,
   parse-block-below t,
   parse-block.Post,
 )
 
 abbrev parse-sequence-calls : ℕ → of.Lts-parse_sequence.Claims
 parse-sequence-calls t = (
-  put-byte-reads.Asked,
-  put-byte-reads.Learnt,
   parse-block-below t,
   parse-block.Post,
 )
@@ -525,7 +520,7 @@ parse-node-returns-3 t c =
     let at-parse-sequence = c .before .before in
     let at-i = at-parse-sequence .before .before .before .before in
     let at-begin-node = at-i .before .before .before .before in
-    node-container (rw (at-i .i .given .1) at (at-begin-node .begin-node .ensures)) _ _ _ (at-parse-sequence .parse-sequence .result) (
+    node-container (rw (at-i .i .given .1) at (at-begin-node .begin-node .ensures)) _ _ (at-parse-sequence .parse-sequence .result) (
       λ z. at-parse-sequence .parse-sequence .ensures,
       (λ z. absurd (omega arith), (λ z. absurd (omega arith), (λ z. absurd (omega arith), tt))),
     )
@@ -539,7 +534,7 @@ parse-node-returns-4 t c =
     let at-parse-parallel = c .before .before in
     let at-i = at-parse-parallel .before .before .before .before in
     let at-begin-node = at-i .before .before .before .before in
-    node-container (rw (at-i .i .given .1) at (at-begin-node .begin-node .ensures)) _ _ _ (at-parse-parallel .parse-parallel .result) (
+    node-container (rw (at-i .i .given .1) at (at-begin-node .begin-node .ensures)) _ _ (at-parse-parallel .parse-parallel .result) (
       λ z. absurd (omega arith),
       (λ z. at-parse-parallel .parse-parallel .ensures, (λ z. absurd (omega arith), (λ z. absurd (omega arith), tt))),
     )
@@ -553,7 +548,7 @@ parse-node-returns-5 t c =
     let at-parse-group = c .before .before in
     let at-i = at-parse-group .before .before .before .before in
     let at-begin-node = at-i .before .before .before .before in
-    node-container (rw (at-i .i .given .1) at (at-begin-node .begin-node .ensures)) _ _ _ (at-parse-group .parse-group .result)
+    node-container (rw (at-i .i .given .1) at (at-begin-node .begin-node .ensures)) _ _ (at-parse-group .parse-group .result)
     (λ z. absurd (omega arith), (λ z. absurd (omega arith), (λ z. at-parse-group .parse-group .ensures, (λ z. absurd (omega arith), tt))))
 
 parse-node-same-length-6 : (t : ℕ) → of.Lts-parse_node.Need-same-length-6 (parse-node-calls t) (parse-node-at t) parse-node.Post
@@ -566,7 +561,7 @@ parse-node-returns-6 t c =
     let at-match2 = at-parse-stagger .before .before in
     let at-i = at-match2 .before .before in
     let at-begin-node = at-i .before .before .before .before in
-    node-container (rw (at-i .i .given .1) at (at-begin-node .begin-node .ensures)) _ _ _ (at-parse-stagger .parse-stagger .result) (
+    node-container (rw (at-i .i .given .1) at (at-begin-node .begin-node .ensures)) _ _ (at-parse-stagger .parse-stagger .result) (
       λ z. absurd (omega (arith, at-match2 .match2 .rest)),
       (
         λ z. absurd (omega (arith, at-match2 .match2 .rest)),
@@ -662,13 +657,12 @@ parse-nodes-loop-again t c =
     let at-loop = at-nodes-step .before .before in
     growing-more (at-loop .loop .inv) (rw (at-u2 .u2 .given .1) at (at-nodes-step .nodes-step .ensures))
 
-parse-parallel-put-byte-requires : (t : ℕ)
-    → of.Lts-parse_parallel.Need-put-byte-requires (parse-parallel-calls t) (parse-parallel-at t) parse-parallel.Post
-parse-parallel-put-byte-requires t c κs = search needs
-
 parse-parallel-parse-block-requires : (t : ℕ)
     → of.Lts-parse_parallel.Need-parse-block-requires (parse-parallel-calls t) (parse-parallel-at t) parse-parallel.Post
-parse-parallel-parse-block-requires t c κs = search needs
+parse-parallel-parse-block-requires t c κs =
+    let start = c .before .before .before in
+    let pre = start .pre in
+    (omega (arith, pre .0), (pre .1 .0, head-counted (parallel-went (start .args .sheet .now) (start .args .out) (pre .1 .0)) (pre .1 .1)))
 
 parse-parallel-same-length : (t : ℕ)
     → of.Lts-parse_parallel.Need-same-length (parse-parallel-calls t) (parse-parallel-at t) parse-parallel.Post
@@ -677,18 +671,16 @@ parse-parallel-same-length t c = search needs
 parse-parallel-returns : (t : ℕ) → of.Lts-parse_parallel.Need-returns (parse-parallel-calls t) (parse-parallel-at t) parse-parallel.Post
 parse-parallel-returns t c =
     let at-parse-block = c .before .before in
-    let at-put-byte = at-parse-block .before .before .before .before in
-    let start = at-put-byte .before .before .before .before in
-    head-block (parallel-went (start .pre .1 .0) (at-put-byte .put-byte .ensures)) _ _ (at-parse-block .parse-block .result)
+    let start = at-parse-block .before .before .before .before in
+    head-block (parallel-went _ _ (start .pre .1 .0)) _ _ (at-parse-block .parse-block .result)
     (at-parse-block .parse-block .ensures)
-
-parse-sequence-put-byte-requires : (t : ℕ)
-    → of.Lts-parse_sequence.Need-put-byte-requires (parse-sequence-calls t) (parse-sequence-at t) parse-sequence.Post
-parse-sequence-put-byte-requires t c κs = search needs
 
 parse-sequence-parse-block-requires : (t : ℕ)
     → of.Lts-parse_sequence.Need-parse-block-requires (parse-sequence-calls t) (parse-sequence-at t) parse-sequence.Post
-parse-sequence-parse-block-requires t c κs = search needs
+parse-sequence-parse-block-requires t c κs =
+    let start = c .before .before .before in
+    let pre = start .pre in
+    (omega (arith, pre .0), (pre .1 .0, head-counted (sequence-went (start .args .sheet .now) (start .args .out) (pre .1 .0)) (pre .1 .1)))
 
 parse-sequence-same-length : (t : ℕ)
     → of.Lts-parse_sequence.Need-same-length (parse-sequence-calls t) (parse-sequence-at t) parse-sequence.Post
@@ -697,9 +689,8 @@ parse-sequence-same-length t c = search needs
 parse-sequence-returns : (t : ℕ) → of.Lts-parse_sequence.Need-returns (parse-sequence-calls t) (parse-sequence-at t) parse-sequence.Post
 parse-sequence-returns t c =
     let at-parse-block = c .before .before in
-    let at-put-byte = at-parse-block .before .before .before .before in
-    let start = at-put-byte .before .before .before .before in
-    head-block (sequence-went (start .pre .1 .0) (at-put-byte .put-byte .ensures)) _ _ (at-parse-block .parse-block .result)
+    let start = at-parse-block .before .before .before .before in
+    head-block (sequence-went _ _ (start .pre .1 .0)) _ _ (at-parse-block .parse-block .result)
     (at-parse-block .parse-block .ensures)
 
 parse-stagger-stagger-head-requires : (t : ℕ)
@@ -840,13 +831,11 @@ pub +nodes-step+parse-block+parse-group+parse-node+parse-nodes+parse-parallel+pa
     (parse-nodes-loop-again t))
     (λ t. of.Lts-parse_parallel.spec (parse-parallel-calls t) (parse-parallel-at t)
     parse-parallel.Post
-    (parse-parallel-put-byte-requires t)
     (parse-parallel-parse-block-requires t)
     (parse-parallel-same-length t)
     (parse-parallel-returns t))
     (λ t. of.Lts-parse_sequence.spec (parse-sequence-calls t) (parse-sequence-at t)
     parse-sequence.Post
-    (parse-sequence-put-byte-requires t)
     (parse-sequence-parse-block-requires t)
     (parse-sequence-same-length t)
     (parse-sequence-returns t))

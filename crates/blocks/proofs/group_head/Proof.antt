@@ -16,9 +16,6 @@ enum-known-mode c = search needs
 put-byte-requires : tie.Need-put-byte-requires
 put-byte-requires c κs = search needs
 
-put-byte-requires-2 : tie.Need-put-byte-requires-2
-put-byte-requires-2 c κs = search needs
-
 returns : tie.Need-returns
 returns c = rw (c .before .r .given .1) at (c .before .before .before .parse-group .ensures)
 
@@ -27,12 +24,10 @@ same-length c = search needs
 
 returns-2 : tie.Need-returns-2
 returns-2 c =
-    let at-put-byte2 = c .before .before in
-    let at-put-byte = at-put-byte2 .before .before .before .before in
+    let at-put-byte = c .before .before in
     let at-mode = at-put-byte .before .before .before in
     let at-parse-group = at-mode .before .before in
     group-went ((rw (at-mode .mode .given .1) at (at-parse-group .parse-group .ensures)) .0) (at-put-byte .put-byte .ensures)
-    (at-put-byte2 .put-byte2 .ensures)
 
 pub group-head-spec : {M : Type 1} → statement M
 group-head-spec =
@@ -42,7 +37,6 @@ group-head-spec =
     enum-known-r
     enum-known-mode
     put-byte-requires
-    put-byte-requires-2
     returns
     same-length
     returns-2)

@@ -15,30 +15,24 @@ enum-known-r c = search needs
 enum-known-pattern : tie.Need-enum-known-pattern
 enum-known-pattern c = search needs
 
-put-byte-requires : tie.Need-put-byte-requires
-put-byte-requires c κs = search needs
-
 put-opt-pattern-requires : tie.Need-put-opt-pattern-requires
 put-opt-pattern-requires c κs =
-    let at-put-byte = c .before .before .before in
-    let at-pattern = at-put-byte .before .before .before in
+    let at-pattern = c .before .before in
     let at-parse-stagger = at-pattern .before .before in
     let start = at-parse-stagger .before .before .before in (
-      omega (arith, start .pre .1 .low, at-put-byte .put-byte .ensures .place),
+      omega (arith, start .pre .1 .low),
       (rw (at-pattern .pattern .given .1) at (at-parse-stagger .parse-stagger .ensures)) .1,
     )
 
 put-opt-float-requires : tie.Need-put-opt-float-requires
 put-opt-float-requires c κs =
     let at-put-opt-pattern = c .before .before .before in
-    let at-put-byte = at-put-opt-pattern .before .before .before .before in
-    let at-pattern = at-put-byte .before .before .before in
+    let at-pattern = at-put-opt-pattern .before .before .before in
     let at-parse-stagger = at-pattern .before .before in
     let start = at-parse-stagger .before .before .before in (
       omega (
         arith,
         start .pre .1 .low,
-        at-put-byte .put-byte .ensures .place,
         at-put-opt-pattern .put-opt-pattern .ensures .place,
         length-pattern (optPatternOf (at-pattern .pattern .given .0 .0)),
       ),
@@ -55,11 +49,10 @@ returns-2 : tie.Need-returns-2
 returns-2 c =
     let at-put-opt-float = c .before .before in
     let at-put-opt-pattern = at-put-opt-float .before .before .before .before in
-    let at-put-byte = at-put-opt-pattern .before .before .before .before in
-    let at-pattern = at-put-byte .before .before .before in
+    let at-pattern = at-put-opt-pattern .before .before .before in
     let at-parse-stagger = at-pattern .before .before in
     stagger-went _ _ ((rw (at-pattern .pattern .given .1) at (at-parse-stagger .parse-stagger .ensures)) .0)
-    (at-put-byte .put-byte .ensures) (at-put-opt-pattern .put-opt-pattern .ensures) (at-put-opt-float .put-opt-float .ensures)
+    (at-put-opt-pattern .put-opt-pattern .ensures) (at-put-opt-float .put-opt-float .ensures)
 
 pub stagger-head-spec : {M : Type 1} → statement M
 stagger-head-spec =
@@ -68,7 +61,6 @@ stagger-head-spec =
     parse-stagger-requires
     enum-known-r
     enum-known-pattern
-    put-byte-requires
     put-opt-pattern-requires
     put-opt-float-requires
     returns

@@ -24,24 +24,20 @@ enum-known-p-2 c = search needs
 enum-known-n : tie.Need-enum-known-n
 enum-known-n c = search needs
 
-put-byte-requires : tie.Need-put-byte-requires
-put-byte-requires c κs = search needs
-
 put-span-requires : tie.Need-put-span-requires
 put-span-requires c κs = search needs
 
 track-value-requires : tie.Need-track-value-requires
 track-value-requires c κs =
     let at-put-span = c .before .before .before in
-    let at-put-byte = at-put-span .before .before .before .before in
-    let at-n = at-put-byte .before .before .before in
+    let at-n = at-put-span .before .before .before in
     let at-mark = at-n .before .before in
     let c16 = at-mark .before .before .before .before in
     let pre = c16 .before .before .before .pre in (
       (rw (at-n .n .given .1) at (at-mark .mark .ensures)) .ready,
       record {
         short = pre .1 .short;
-        low = let p = at-put-span .put-span .ensures 0 .place in omega (arith, pre .1 .low, at-put-byte .put-byte .ensures .place);
+        low = let p = at-put-span .put-span .ensures 0 .place in omega (arith, pre .1 .low);
       },
     )
 
@@ -66,8 +62,7 @@ returns-3 : tie.Need-returns-3
 returns-3 c =
     let at-track-value = c .before .before in
     let at-put-span = at-track-value .before .before .before .before in
-    let at-put-byte = at-put-span .before .before .before .before in
-    let at-n = at-put-byte .before .before .before in
+    let at-n = at-put-span .before .before .before in
     let at-mark = at-n .before .before in
     let at-target = at-mark .before .before in
     let at-word = at-target .before .before in
@@ -82,11 +77,10 @@ returns-3 c =
     (t .1)
     (rw (at-n .n .given .1) at (at-mark .mark .ensures))
     (args .sheet .now)
-    _ _
+    _
     (at-track-value .track-value .last .1 .0)
     (args .out)
-    _ _
-    (at-put-byte .put-byte .ensures)
+    _
     (at-put-span .put-span .ensures (length (args .text .now)))
     (at-track-value .track-value .result)
     (at-track-value .track-value .ensures)
@@ -101,7 +95,6 @@ parse-keyframes-spec =
     mark-requires
     enum-known-p-2
     enum-known-n
-    put-byte-requires
     put-span-requires
     track-value-requires
     returns

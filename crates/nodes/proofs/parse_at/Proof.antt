@@ -33,34 +33,24 @@ decimal-requires c κs =
     let at-number = at-negative .before .before in
     (rw (at-negative .negative .given .1) at (at-number .number .ensures)) .small .places
 
-put-byte-requires : tie.Need-put-byte-requires
-put-byte-requires c κs =
-    let c4 = c .before .before .before .before in
-    let c8 = c4 .before .before .before .before in
-    let start = c8 .before .before .before .before in
-    omega (arith, start .pre .1 .low)
-
 put-float-requires : tie.Need-put-float-requires
 put-float-requires c κs =
-    let at-put-byte = c .before .before .before in
-    let at-decimal = at-put-byte .before .before in
+    let at-decimal = c .before in
     let c9 = at-decimal .before .before .before .before in
     let c13 = c9 .before .before .before .before in
     let start = c13 .before .before .before in
-    (omega (arith, start .pre .1 .low, at-put-byte .put-byte .ensures .place), rw (at-decimal .decimal .ensures) (round-number _ _ _))
+    (omega (arith, start .pre .1 .low), rw (at-decimal .decimal .ensures) (round-number _ _ _))
 
 put-flag-requires : tie.Need-put-flag-requires
 put-flag-requires c κs =
     let at-put-float = c .before .before .before in
-    let at-put-byte = at-put-float .before .before .before .before in
-    let at-decimal = at-put-byte .before .before in
+    let at-decimal = at-put-float .before .before in
     let c13 = at-decimal .before .before .before .before in
     let c17 = c13 .before .before .before .before in
     let start = c17 .before .before .before in
     omega (
       arith,
       start .pre .1 .low,
-      at-put-byte .put-byte .ensures .place,
       at-put-float .put-float .ensures .place,
       length-word (bits (at-decimal .decimal .result)),
     )
@@ -79,8 +69,7 @@ unfolding nearest
 returns-2 c =
     let at-put-flag = c .before .before .before in
     let at-put-float = at-put-flag .before .before .before .before in
-    let at-put-byte = at-put-float .before .before .before .before in
-    let at-decimal = at-put-byte .before .before in
+    let at-decimal = at-put-float .before .before in
     let at-turned = at-decimal .before in
     let at-eat = at-turned .before in
     let at-negative = at-eat .before .before in
@@ -91,7 +80,6 @@ returns-2 c =
     _ _ _ _ _
     (rw (at-negative .negative .given .1) at (at-number .number .ensures))
     (at-eat .eat .ensures)
-    (at-put-byte .put-byte .ensures)
     (rw (at-decimal .decimal .ensures, at-turned .turned .ensures) at (at-put-float .put-float .ensures))
     (at-put-flag .put-flag .ensures)
 
@@ -106,7 +94,6 @@ parse-at-spec =
     eat-requires
     turned-requires
     decimal-requires
-    put-byte-requires
     put-float-requires
     put-flag-requires
     returns

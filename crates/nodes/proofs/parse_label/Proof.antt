@@ -25,9 +25,6 @@ enum-known-p-2 c = search needs
 enum-known-n : tie.Need-enum-known-n
 enum-known-n c = search needs
 
-put-byte-requires : tie.Need-put-byte-requires
-put-byte-requires c κs = search needs
-
 put-span-requires : tie.Need-put-span-requires
 put-span-requires c κs = search needs
 
@@ -51,14 +48,13 @@ same-length c = search needs
 returns-3 : tie.Need-returns-3
 returns-3 c =
     let at-put-span = c .before .before in
-    let at-put-byte = at-put-span .before .before .before .before in
-    let at-n = at-put-byte .before .before .before in
+    let at-n = at-put-span .before .before .before in
     let at-mark = at-n .before .before in
     let at-s = at-mark .before .before in
     let at-string = at-s .before .before in
     let start = at-string .before .before .before in
     label-went _ _ _ _ ((rw (at-s .s .given .1) at (at-string .string .ensures)) .0) _ (rw (at-n .n .given .1) at (at-mark .mark .ensures))
-    (at-put-byte .put-byte .ensures) (at-put-span .put-span .ensures (length (start .args .text .now)))
+    (at-put-span .put-span .ensures (length (start .args .text .now)))
 
 pub parse-label-spec : {M : Type 1} → statement M
 parse-label-spec =
@@ -70,7 +66,6 @@ parse-label-spec =
     mark-requires
     enum-known-p-2
     enum-known-n
-    put-byte-requires
     put-span-requires
     returns
     returns-2

@@ -1,4 +1,4 @@
--- `records::take_record` meets its contract: one case a kind. Assumes nothing.
+-- `records::take_record` meets its contract: one case a kind, its start and its fields. Assumes nothing.
 use mathlib.Core.Logic.{⊎-elim}
 use mathlib.Core.Path.{ap, refl, _∙_}
 use borrow.Author.Needs.{needs}
@@ -6,14 +6,14 @@ use Rattle.ast.specs.Tree.{width}
 use Rattle.codec.specs.Codec.{below, big, opt, _▹_}
 use Rattle.records.specs.Record.{blank, countForm}
 use Rattle.records.specs.declared.Kind.the-variants.{Container}
-use Rattle.sheet.specs.Sheet.{kinds, patternForm, splitNode, word}
-use Rattle.decode.proofs.ReadLaws as laws
+use Rattle.sheet.specs.Sheet.{patternForm, word}
+use Rattle.decode.proofs.ReadLaws.{_&_}
 use Rattle.records.proofs.RecordLaws as records
 use Rattle.records.proofs.take_record.Statement.{statement}
 use Rattle.records.proofs.take_record.Tie as tie
 
-take-byte-requires : tie.Need-take-byte-requires
-take-byte-requires c κs = search needs
+take-kind-requires : tie.Need-take-kind-requires
+take-kind-requires c κs = search needs
 
 take-tween-requires : tie.Need-take-tween-requires
 take-tween-requires c κs = search needs
@@ -31,14 +31,13 @@ returns : tie.Need-returns
 returns c =
     let at-take-group = c .before in
     let at-match = at-take-group .before in
-    let at-take-byte = at-match .before in
-    let start = at-take-byte .before .before in
+    let at-take-kind = at-match .before in
     let r = records.made (below 2 ▹ big 2) (below 2 ▹ countForm) (λ p. (p .0, blank (p .1))) {g = λ p. Container (width (p .1))}
     (records.after (below 2) (big 2) countForm blank records.counts) (at-take-group .take-group .ensures)
     (λ p e. ap Container (records.width-blank (p .1) ∙ ap (λ g. g .nodes) e))
     in
-    laws.chosen (kinds (start .args .n) countForm) (splitNode _ _) 5 (at-take-byte .take-byte .ensures .reads) (at-match .match .keys4) r
-    (λ x e. e)
+    let b = at-take-kind .take-kind .ensures in
+    records.of-kind 5 b (at-match .match .keys4) (b .startAt & r) (λ x e i. e i .1)
 
 take-stagger-requires : tie.Need-take-stagger-requires
 take-stagger-requires c κs = search needs
@@ -47,16 +46,15 @@ returns-2 : tie.Need-returns-2
 returns-2 c =
     let at-take-stagger = c .before in
     let at-match = at-take-stagger .before in
-    let at-take-byte = at-match .before in
-    let start = at-take-byte .before .before in
+    let at-take-kind = at-match .before in
     let r = records.made (opt patternForm ▹ opt word ▹ big 2) (opt patternForm ▹ opt word ▹ countForm)
     (λ p. (p .0, (p .1 .0, blank (p .1 .1)))) {g = λ p. Container (width (p .1 .1))}
     (records.after (opt patternForm) (opt word ▹ big 2) (opt word ▹ countForm) (λ q. (q .0, blank (q .1)))
     (records.after (opt word) (big 2) countForm blank records.counts))
     (at-take-stagger .take-stagger .ensures) (λ p e. ap Container (records.width-blank (p .1 .1) ∙ ap (λ g. g .nodes) e))
     in
-    laws.chosen (kinds (start .args .n) countForm) (splitNode _ _) 6 (at-take-byte .take-byte .ensures .reads) (at-match .match .keys5) r
-    (λ x e. e)
+    let b = at-take-kind .take-kind .ensures in
+    records.of-kind 6 b (at-match .match .keys5) (b .startAt & r) (λ x e i. e i .1)
 
 take-path-requires : tie.Need-take-path-requires
 take-path-requires c κs = search needs
@@ -90,15 +88,13 @@ returns-3 c =
     let at-take-field = c .before in
     let at-if1 = at-take-field .before in
     let at-match = at-if1 .before in
-    let at-take-byte = at-match .before in
-    let start = at-take-byte .before .before in
-    let b = at-take-byte .take-byte .ensures in
+    let at-take-kind = at-match .before in
+    let b = at-take-kind .take-kind .ensures in
     let m = at-match .match .rest in
     let r = records.made (big 2) countForm blank {g = λ ns. Container (width ns)} records.counts (at-take-field .take-field .ensures .reads)
     (λ a e. ap Container (records.width-blank a ∙ e))
     in
-    ⊎-elim (λ h. laws.chosen (kinds (start .args .n) countForm) (splitNode _ _) 3 (b .reads) h r (λ x e. e))
-    (λ h. laws.chosen (kinds (start .args .n) countForm) (splitNode _ _) 4 (b .reads) h r (λ x e. e))
+    ⊎-elim (λ h. records.of-kind 3 b h (b .startAt & r) (λ x e i. e i .1)) (λ h. records.of-kind 4 b h (b .startAt & r) (λ x e i. e i .1))
     (records.three-or-four _ (at-if1 .if1 .taken) (m .0 .0 .0 .0 .0 .0 .0 .0 .0 .0 .0 .1) (m .0 .0 .0 .0 .0 .0 .0 .0 .0 .0 .1)
     (m .0 .0 .0 .0 .0 .0 .0 .0 .0 .1))
 
@@ -108,166 +104,81 @@ take-at-requires c κs = search needs
 returns-4 : tie.Need-returns-4
 returns-4 c =
     let at-match = c .before in
-    let at-take-byte = at-match .before in
-    let start = at-take-byte .before .before in
-    laws.chosen
-    (kinds (start .args .n) countForm)
-    (splitNode _ _)
-    0
-    (at-take-byte .take-byte .ensures .reads)
-    (at-match .match .keys1)
-    (c .take-tween .ensures)
-    (λ x e. refl)
+    let b = at-match .before .take-kind .ensures in
+    records.of-kind 0 b (at-match .match .keys1) (b .startAt & c .take-tween .ensures) (λ x e. refl)
 
 returns-5 : tie.Need-returns-5
 returns-5 c =
     let at-match = c .before in
-    let at-take-byte = at-match .before in
-    let start = at-take-byte .before .before in
-    laws.chosen
-    (kinds (start .args .n) countForm)
-    (splitNode _ _)
-    1
-    (at-take-byte .take-byte .ensures .reads)
-    (at-match .match .keys2)
-    (c .take-spring .ensures)
-    (λ x e. refl)
+    let b = at-match .before .take-kind .ensures in
+    records.of-kind 1 b (at-match .match .keys2) (b .startAt & c .take-spring .ensures) (λ x e. refl)
 
 returns-6 : tie.Need-returns-6
 returns-6 c =
     let at-match = c .before in
-    let at-take-byte = at-match .before in
-    let start = at-take-byte .before .before in
-    laws.chosen
-    (kinds (start .args .n) countForm)
-    (splitNode _ _)
-    2
-    (at-take-byte .take-byte .ensures .reads)
-    (at-match .match .keys3)
-    (c .take-keyframes .ensures)
-    (λ x e. refl)
+    let b = at-match .before .take-kind .ensures in
+    records.of-kind 2 b (at-match .match .keys3) (b .startAt & c .take-keyframes .ensures) (λ x e. refl)
 
 returns-7 : tie.Need-returns-7
 returns-7 c =
     let at-match = c .before in
-    let at-take-byte = at-match .before in
-    let start = at-take-byte .before .before in
-    laws.chosen
-    (kinds (start .args .n) countForm)
-    (splitNode _ _)
-    7
-    (at-take-byte .take-byte .ensures .reads)
-    (at-match .match .keys6)
-    (c .take-path .ensures)
-    (λ x e. refl)
+    let b = at-match .before .take-kind .ensures in
+    records.of-kind 7 b (at-match .match .keys6) (b .startAt & c .take-path .ensures) (λ x e. refl)
 
 returns-8 : tie.Need-returns-8
 returns-8 c =
     let at-match = c .before in
-    let at-take-byte = at-match .before in
-    let start = at-take-byte .before .before in
-    laws.chosen
-    (kinds (start .args .n) countForm)
-    (splitNode _ _)
-    8
-    (at-take-byte .take-byte .ensures .reads)
-    (at-match .match .keys7)
-    (c .take-morph .ensures)
-    (λ x e. refl)
+    let b = at-match .before .take-kind .ensures in
+    records.of-kind 8 b (at-match .match .keys7) (b .startAt & c .take-morph .ensures) (λ x e. refl)
 
 returns-9 : tie.Need-returns-9
 returns-9 c =
     let at-match = c .before in
-    let at-take-byte = at-match .before in
-    let start = at-take-byte .before .before in
-    laws.chosen
-    (kinds (start .args .n) countForm)
-    (splitNode _ _)
-    9
-    (at-take-byte .take-byte .ensures .reads)
-    (at-match .match .keys8)
-    (c .take-draw .ensures)
-    (λ x e. refl)
+    let b = at-match .before .take-kind .ensures in
+    records.of-kind 9 b (at-match .match .keys8) (b .startAt & c .take-draw .ensures) (λ x e. refl)
 
 returns-10 : tie.Need-returns-10
 returns-10 c =
     let at-match = c .before in
-    let at-take-byte = at-match .before in
-    let start = at-take-byte .before .before in
-    laws.chosen
-    (kinds (start .args .n) countForm)
-    (splitNode _ _)
-    10
-    (at-take-byte .take-byte .ensures .reads)
-    (at-match .match .keys9)
-    (c .take-color .ensures)
-    (λ x e. refl)
+    let b = at-match .before .take-kind .ensures in
+    records.of-kind 10 b (at-match .match .keys9) (b .startAt & c .take-color .ensures) (λ x e. refl)
 
 returns-11 : tie.Need-returns-11
 returns-11 c =
     let at-match = c .before in
-    let at-take-byte = at-match .before in
-    let start = at-take-byte .before .before in
-    laws.chosen
-    (kinds (start .args .n) countForm)
-    (splitNode _ _)
-    11
-    (at-take-byte .take-byte .ensures .reads)
-    (at-match .match .keys10)
-    (c .take-waveform .ensures)
-    (λ x e. refl)
+    let b = at-match .before .take-kind .ensures in
+    records.of-kind 11 b (at-match .match .keys10) (b .startAt & c .take-waveform .ensures) (λ x e. refl)
 
 returns-12 : tie.Need-returns-12
 returns-12 c =
     let at-match = c .before in
-    let at-take-byte = at-match .before in
-    let start = at-take-byte .before .before in
-    laws.chosen
-    (kinds (start .args .n) countForm)
-    (splitNode _ _)
-    12
-    (at-take-byte .take-byte .ensures .reads)
-    (at-match .match .keys11)
-    (c .take-preset .ensures)
-    (λ x e. refl)
+    let b = at-match .before .take-kind .ensures in
+    records.of-kind 12 b (at-match .match .keys11) (b .startAt & c .take-preset .ensures) (λ x e. refl)
 
 returns-13 : tie.Need-returns-13
 returns-13 c =
     let at-match = c .before in
-    let at-take-byte = at-match .before in
-    let start = at-take-byte .before .before in
-    laws.chosen
-    (kinds (start .args .n) countForm)
-    (splitNode _ _)
-    13
-    (at-take-byte .take-byte .ensures .reads)
-    (at-match .match .keys12)
-    (c .take-span .ensures)
-    (λ x e. refl)
+    let b = at-match .before .take-kind .ensures in
+    records.of-kind 13 b (at-match .match .keys12) (b .startAt & c .take-span .ensures) (λ x e. refl)
 
 returns-14 : tie.Need-returns-14
 returns-14 c =
     let at-if1 = c .before in
     let at-match = at-if1 .before in
-    let at-take-byte = at-match .before in
-    let start = at-take-byte .before .before in
-    let b = at-take-byte .take-byte .ensures in
+    let at-take-kind = at-match .before in
+    let b = at-take-kind .take-kind .ensures in
     let m = at-match .match .rest in
-    laws.chosen
-    (kinds (start .args .n) countForm)
-    (splitNode _ _)
-    14
-    (b .reads)
-    (records.only-at _ (at-if1 .if1 .left) (b .small) (m .0 .0 .0 .0 .0 .0 .0 .0 .1) (m .0 .0 .0 .0 .0 .0 .0 .1) (m .0 .0 .0 .0 .0 .0 .1)
+    records.of-kind 14 b
+    (records.only-at _ (at-if1 .if1 .left) (b .kindAt .small) (m .0 .0 .0 .0 .0 .0 .0 .0 .1) (m .0 .0 .0 .0 .0 .0 .0 .1)
+    (m .0 .0 .0 .0 .0 .0 .1)
     (m .0 .0 .0 .0 .0 .1) (m .0 .0 .0 .0 .1) (m .0 .0 .0 .1) (m .0 .0 .1) (m .0 .1) (m .1))
-    (c .take-at .ensures)
-    (λ x e. refl)
+    (b .startAt & c .take-at .ensures) (λ x e. refl)
 
 pub take-record-spec : {M : Type 1} → statement M
 take-record-spec =
     tie.close
     (tie.spec
-    take-byte-requires
+    take-kind-requires
     take-tween-requires
     take-spring-requires
     take-keyframes-requires

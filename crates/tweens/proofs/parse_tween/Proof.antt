@@ -58,7 +58,7 @@ put-tween-fields-requires c κs =
     let at-parse-ends = at-at .before .before .before .before in
     let start = at-parse-ends .before .before .before .before in
     let e = rw (at-at .at .given .1) at (at-parse-ends .parse-ends .ensures) in
-    let r = ends-room _ _ _ _ _ _ _ _ (start .pre .1) e in (
+    let r = ends-room _ _ _ _ _ _ _ (start .pre .1) e in (
       omega (arith, r),
       tween-plain e (rw (at-fields .fields .given .1) at (at-tween-fields .tween-fields .ensures)) (at-written .written .given .1),
     )

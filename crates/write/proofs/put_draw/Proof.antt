@@ -9,24 +9,17 @@ use borrow.Author.Needs.{needs}
 use Rattle.write.proofs.put_draw.Statement.{statement}
 use Rattle.write.proofs.put_draw.Tie as tie
 
-put-byte-requires : tie.Need-put-byte-requires
-put-byte-requires c κs = let z = c .before .before .before .pre .0 in omega arith
-
 put-span-requires : tie.Need-put-span-requires
 put-span-requires c κs =
-    let at-put-byte = c .before .before .before in
-    let start = at-put-byte .before .before .before .before in
+    let start = c .before .before .before in
     let z = start .pre .0 in
-    let p0 = at-put-byte .put-byte .ensures .place in
     omega arith
 
 put-float-requires : tie.Need-put-float-requires
 put-float-requires c κs =
     let at-put-span = c .before .before .before in
-    let at-put-byte = at-put-span .before .before .before .before in
-    let start = at-put-byte .before .before .before .before in (
+    let start = at-put-span .before .before .before .before in (
       let z = start .pre .0 in
-          let p0 = at-put-byte .put-byte .ensures .place in
           let p1 = (at-put-span .put-span .ensures 0) .place in
           let l1 = length-span 0 (spanOf (start .args .x .svg)) in
           omega arith,
@@ -37,10 +30,8 @@ put-opt-easing-requires : tie.Need-put-opt-easing-requires
 put-opt-easing-requires c κs =
     let at-put-float = c .before .before .before in
     let at-put-span = at-put-float .before .before .before .before in
-    let at-put-byte = at-put-span .before .before .before .before in
-    let start = at-put-byte .before .before .before .before in (
+    let start = at-put-span .before .before .before .before in (
       let z = start .pre .0 in
-          let p0 = at-put-byte .put-byte .ensures .place in
           let p1 = (at-put-span .put-span .ensures 0) .place in
           let l1 = length-span 0 (spanOf (start .args .x .svg)) in
           let p2 = at-put-float .put-float .ensures .place in
@@ -57,14 +48,11 @@ returns c =
     let at-put-opt-easing = c .before .before in
     let at-put-float = at-put-opt-easing .before .before .before .before in
     let at-put-span = at-put-float .before .before .before .before in
-    let at-put-byte = at-put-span .before .before .before .before in
-    let start = at-put-byte .before .before .before .before in
+    let start = at-put-span .before .before .before .before in
     record {
-      writes = λ n. writes-then (at-put-byte .put-byte .ensures)
-          (writes-then (at-put-span .put-span .ensures n)
+      writes = λ n. (writes-then (at-put-span .put-span .ensures n)
           (writes-then (at-put-float .put-float .ensures) (at-put-opt-easing .put-opt-easing .ensures n)));
       most = let z = start .pre .0 in
-          let p0 = at-put-byte .put-byte .ensures .place in
           let p1 = (at-put-span .put-span .ensures 0) .place in
           let l1 = length-span 0 (spanOf (start .args .x .svg)) in
           let p2 = at-put-float .put-float .ensures .place in
@@ -78,7 +66,6 @@ pub put-draw-spec : {M : Type 1} → statement M
 put-draw-spec =
     tie.close
     (tie.spec
-    put-byte-requires
     put-span-requires
     put-float-requires
     put-opt-easing-requires

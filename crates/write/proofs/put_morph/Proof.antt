@@ -9,26 +9,19 @@ use borrow.Author.Needs.{needs}
 use Rattle.write.proofs.put_morph.Statement.{statement}
 use Rattle.write.proofs.put_morph.Tie as tie
 
-put-byte-requires : tie.Need-put-byte-requires
-put-byte-requires c κs = let z = c .before .before .before .before .pre .0 in omega arith
-
 put-span-requires : tie.Need-put-span-requires
 put-span-requires c κs =
-    let at-put-byte = c .before .before .before in
-    let c7 = at-put-byte .before .before .before .before in
+    let c7 = c .before .before .before in
     let start = c7 .before in
     let z = start .pre .0 in
-    let p0 = at-put-byte .put-byte .ensures .place in
     omega arith
 
 put-span-requires-2 : tie.Need-put-span-requires-2
 put-span-requires-2 c κs =
     let at-put-span = c .before .before .before in
-    let at-put-byte = at-put-span .before .before .before .before in
-    let c11 = at-put-byte .before .before .before .before in
+    let c11 = at-put-span .before .before .before .before in
     let start = c11 .before in
     let z = start .pre .0 in
-    let p0 = at-put-byte .put-byte .ensures .place in
     let p1 = (at-put-span .put-span .ensures 0) .place in
     let l1 = length-span 0 (spanOf (start .args .x .from)) in
     omega arith
@@ -37,11 +30,9 @@ put-word-requires : tie.Need-put-word-requires
 put-word-requires c κs =
     let at-put-span2 = c .before .before .before in
     let at-put-span = at-put-span2 .before .before .before .before in
-    let at-put-byte = at-put-span .before .before .before .before in
-    let c15 = at-put-byte .before .before .before .before in
+    let c15 = at-put-span .before .before .before .before in
     let start = c15 .before in
     let z = start .pre .0 in
-    let p0 = at-put-byte .put-byte .ensures .place in
     let p1 = (at-put-span .put-span .ensures 0) .place in
     let l1 = length-span 0 (spanOf (start .args .x .from)) in
     let p2 = (at-put-span2 .put-span2 .ensures 0) .place in
@@ -53,11 +44,9 @@ put-float-requires c κs =
     let at-put-word = c .before .before .before in
     let at-put-span2 = at-put-word .before .before .before .before in
     let at-put-span = at-put-span2 .before .before .before .before in
-    let at-put-byte = at-put-span .before .before .before .before in
-    let c19 = at-put-byte .before .before .before .before in
+    let c19 = at-put-span .before .before .before .before in
     let start = c19 .before in (
       let z = start .pre .0 in
-          let p0 = at-put-byte .put-byte .ensures .place in
           let p1 = (at-put-span .put-span .ensures 0) .place in
           let l1 = length-span 0 (spanOf (start .args .x .from)) in
           let p2 = (at-put-span2 .put-span2 .ensures 0) .place in
@@ -74,12 +63,10 @@ put-opt-easing-requires c κs =
     let at-put-word = at-put-float .before .before .before .before in
     let at-put-span2 = at-put-word .before .before .before .before in
     let at-put-span = at-put-span2 .before .before .before .before in
-    let at-put-byte = at-put-span .before .before .before .before in
-    let c23 = at-put-byte .before .before .before .before in
+    let c23 = at-put-span .before .before .before .before in
     let start = c23 .before in
     let args = start .args in (
       let z = start .pre .0 in
-          let p0 = at-put-byte .put-byte .ensures .place in
           let p1 = (at-put-span .put-span .ensures 0) .place in
           let l1 = length-span 0 (spanOf (args .x .from)) in
           let p2 = (at-put-span2 .put-span2 .ensures 0) .place in
@@ -102,18 +89,15 @@ returns c =
     let at-put-word = at-put-float .before .before .before .before in
     let at-put-span2 = at-put-word .before .before .before .before in
     let at-put-span = at-put-span2 .before .before .before .before in
-    let at-put-byte = at-put-span .before .before .before .before in
-    let c26 = at-put-byte .before .before .before .before in
+    let c26 = at-put-span .before .before .before .before in
     let start = c26 .before in
     let args = start .args in
     record {
-      writes = λ n. writes-then (at-put-byte .put-byte .ensures)
-          (writes-then (at-put-span .put-span .ensures n)
+      writes = λ n. (writes-then (at-put-span .put-span .ensures n)
           (writes-then (at-put-span2 .put-span2 .ensures n)
           (writes-then (at-put-word .put-word .ensures)
           (writes-then (at-put-float .put-float .ensures) (at-put-opt-easing .put-opt-easing .ensures n)))));
       most = let z = start .pre .0 in
-          let p0 = at-put-byte .put-byte .ensures .place in
           let p1 = (at-put-span .put-span .ensures 0) .place in
           let l1 = length-span 0 (spanOf (args .x .from)) in
           let p2 = (at-put-span2 .put-span2 .ensures 0) .place in
@@ -131,7 +115,6 @@ pub put-morph-spec : {M : Type 1} → statement M
 put-morph-spec =
     tie.close
     (tie.spec
-    put-byte-requires
     put-span-requires
     put-span-requires-2
     put-word-requires

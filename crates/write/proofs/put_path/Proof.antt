@@ -9,26 +9,19 @@ use borrow.Author.Needs.{needs}
 use Rattle.write.proofs.put_path.Statement.{statement}
 use Rattle.write.proofs.put_path.Tie as tie
 
-put-byte-requires : tie.Need-put-byte-requires
-put-byte-requires c κs = let z = c .before .before .before .before .pre .0 in omega arith
-
 put-span-requires : tie.Need-put-span-requires
 put-span-requires c κs =
-    let at-put-byte = c .before .before .before in
-    let c7 = at-put-byte .before .before .before .before in
+    let c7 = c .before .before .before in
     let start = c7 .before in
     let z = start .pre .0 in
-    let p0 = at-put-byte .put-byte .ensures .place in
     omega arith
 
 put-span-requires-2 : tie.Need-put-span-requires-2
 put-span-requires-2 c κs =
     let at-put-span = c .before .before .before in
-    let at-put-byte = at-put-span .before .before .before .before in
-    let c11 = at-put-byte .before .before .before .before in
+    let c11 = at-put-span .before .before .before .before in
     let start = c11 .before in
     let z = start .pre .0 in
-    let p0 = at-put-byte .put-byte .ensures .place in
     let p1 = (at-put-span .put-span .ensures 0) .place in
     let l1 = length-span 0 (spanOf (start .args .x .target)) in
     omega arith
@@ -37,11 +30,9 @@ put-float-requires : tie.Need-put-float-requires
 put-float-requires c κs =
     let at-put-span2 = c .before .before .before in
     let at-put-span = at-put-span2 .before .before .before .before in
-    let at-put-byte = at-put-span .before .before .before .before in
-    let c15 = at-put-byte .before .before .before .before in
+    let c15 = at-put-span .before .before .before .before in
     let start = c15 .before in (
       let z = start .pre .0 in
-          let p0 = at-put-byte .put-byte .ensures .place in
           let p1 = (at-put-span .put-span .ensures 0) .place in
           let l1 = length-span 0 (spanOf (start .args .x .target)) in
           let p2 = (at-put-span2 .put-span2 .ensures 0) .place in
@@ -55,11 +46,9 @@ put-opt-easing-requires c κs =
     let at-put-float = c .before .before .before in
     let at-put-span2 = at-put-float .before .before .before .before in
     let at-put-span = at-put-span2 .before .before .before .before in
-    let at-put-byte = at-put-span .before .before .before .before in
-    let c19 = at-put-byte .before .before .before .before in
+    let c19 = at-put-span .before .before .before .before in
     let start = c19 .before in (
       let z = start .pre .0 in
-          let p0 = at-put-byte .put-byte .ensures .place in
           let p1 = (at-put-span .put-span .ensures 0) .place in
           let l1 = length-span 0 (spanOf (start .args .x .target)) in
           let p2 = (at-put-span2 .put-span2 .ensures 0) .place in
@@ -76,12 +65,10 @@ put-opt-bool-requires c κs =
     let at-put-float = at-put-opt-easing .before .before .before .before in
     let at-put-span2 = at-put-float .before .before .before .before in
     let at-put-span = at-put-span2 .before .before .before .before in
-    let at-put-byte = at-put-span .before .before .before .before in
-    let c23 = at-put-byte .before .before .before .before in
+    let c23 = at-put-span .before .before .before .before in
     let start = c23 .before in
     let args = start .args in
     let z = start .pre .0 in
-    let p0 = at-put-byte .put-byte .ensures .place in
     let p1 = (at-put-span .put-span .ensures 0) .place in
     let l1 = length-span 0 (spanOf (args .x .target)) in
     let p2 = (at-put-span2 .put-span2 .ensures 0) .place in
@@ -99,12 +86,10 @@ put-opt-range-requires c κs =
     let at-put-float = at-put-opt-easing .before .before .before .before in
     let at-put-span2 = at-put-float .before .before .before .before in
     let at-put-span = at-put-span2 .before .before .before .before in
-    let at-put-byte = at-put-span .before .before .before .before in
-    let c27 = at-put-byte .before .before .before .before in
+    let c27 = at-put-span .before .before .before .before in
     let start = c27 .before in
     let args = start .args in (
       let z = start .pre .0 in
-          let p0 = at-put-byte .put-byte .ensures .place in
           let p1 = (at-put-span .put-span .ensures 0) .place in
           let l1 = length-span 0 (spanOf (args .x .target)) in
           let p2 = (at-put-span2 .put-span2 .ensures 0) .place in
@@ -127,12 +112,10 @@ put-opt-loop-requires c κs =
     let at-put-float = at-put-opt-easing .before .before .before .before in
     let at-put-span2 = at-put-float .before .before .before .before in
     let at-put-span = at-put-span2 .before .before .before .before in
-    let at-put-byte = at-put-span .before .before .before .before in
-    let c31 = at-put-byte .before .before .before .before in
+    let c31 = at-put-span .before .before .before .before in
     let start = c31 .before in
     let args = start .args in
     let z = start .pre .0 in
-    let p0 = at-put-byte .put-byte .ensures .place in
     let p1 = (at-put-span .put-span .ensures 0) .place in
     let l1 = length-span 0 (spanOf (args .x .target)) in
     let p2 = (at-put-span2 .put-span2 .ensures 0) .place in
@@ -159,20 +142,17 @@ returns c =
     let at-put-float = at-put-opt-easing .before .before .before .before in
     let at-put-span2 = at-put-float .before .before .before .before in
     let at-put-span = at-put-span2 .before .before .before .before in
-    let at-put-byte = at-put-span .before .before .before .before in
-    let c34 = at-put-byte .before .before .before .before in
+    let c34 = at-put-span .before .before .before .before in
     let start = c34 .before in
     let args = start .args in
     record {
-      writes = λ n. writes-then (at-put-byte .put-byte .ensures)
-          (writes-then (at-put-span .put-span .ensures n)
+      writes = λ n. (writes-then (at-put-span .put-span .ensures n)
           (writes-then (at-put-span2 .put-span2 .ensures n)
           (writes-then (at-put-float .put-float .ensures)
           (writes-then (at-put-opt-easing .put-opt-easing .ensures n)
           (writes-then (at-put-opt-bool .put-opt-bool .ensures)
           (writes-then (at-put-opt-range .put-opt-range .ensures) (at-put-opt-loop .put-opt-loop .ensures)))))));
       most = let z = start .pre .0 in
-          let p0 = at-put-byte .put-byte .ensures .place in
           let p1 = (at-put-span .put-span .ensures 0) .place in
           let l1 = length-span 0 (spanOf (args .x .target)) in
           let p2 = (at-put-span2 .put-span2 .ensures 0) .place in
@@ -194,7 +174,6 @@ pub put-path-spec : {M : Type 1} → statement M
 put-path-spec =
     tie.close
     (tie.spec
-    put-byte-requires
     put-span-requires
     put-span-requires-2
     put-float-requires

@@ -8,24 +8,17 @@ use borrow.Author.Needs.{needs}
 use Rattle.write.proofs.put_preset.Statement.{statement}
 use Rattle.write.proofs.put_preset.Tie as tie
 
-put-byte-requires : tie.Need-put-byte-requires
-put-byte-requires c κs = let z = c .before .before .before .pre .0 in omega arith
-
 put-span-requires : tie.Need-put-span-requires
 put-span-requires c κs =
-    let at-put-byte = c .before .before .before in
-    let start = at-put-byte .before .before .before .before in
+    let start = c .before .before .before in
     let z = start .pre .0 in
-    let p0 = at-put-byte .put-byte .ensures .place in
     omega arith
 
 put-opt-float-requires : tie.Need-put-opt-float-requires
 put-opt-float-requires c κs =
     let at-put-span = c .before .before .before in
-    let at-put-byte = at-put-span .before .before .before .before in
-    let start = at-put-byte .before .before .before .before in (
+    let start = at-put-span .before .before .before .before in (
       let z = start .pre .0 in
-          let p0 = at-put-byte .put-byte .ensures .place in
           let p1 = (at-put-span .put-span .ensures 0) .place in
           let l1 = length-span 0 (spanOf (start .args .x .name)) in
           omega arith,
@@ -36,10 +29,8 @@ put-opt-easing-requires : tie.Need-put-opt-easing-requires
 put-opt-easing-requires c κs =
     let at-put-opt-float = c .before .before .before in
     let at-put-span = at-put-opt-float .before .before .before .before in
-    let at-put-byte = at-put-span .before .before .before .before in
-    let start = at-put-byte .before .before .before .before in (
+    let start = at-put-span .before .before .before .before in (
       let z = start .pre .0 in
-          let p0 = at-put-byte .put-byte .ensures .place in
           let p1 = (at-put-span .put-span .ensures 0) .place in
           let l1 = length-span 0 (spanOf (start .args .x .name)) in
           let p2 = at-put-opt-float .put-opt-float .ensures .place in
@@ -56,14 +47,11 @@ returns c =
     let at-put-opt-easing = c .before .before in
     let at-put-opt-float = at-put-opt-easing .before .before .before .before in
     let at-put-span = at-put-opt-float .before .before .before .before in
-    let at-put-byte = at-put-span .before .before .before .before in
-    let start = at-put-byte .before .before .before .before in
+    let start = at-put-span .before .before .before .before in
     record {
-      writes = λ n. writes-then (at-put-byte .put-byte .ensures)
-          (writes-then (at-put-span .put-span .ensures n)
+      writes = λ n. (writes-then (at-put-span .put-span .ensures n)
           (writes-then (at-put-opt-float .put-opt-float .ensures) (at-put-opt-easing .put-opt-easing .ensures n)));
       most = let z = start .pre .0 in
-          let p0 = at-put-byte .put-byte .ensures .place in
           let p1 = (at-put-span .put-span .ensures 0) .place in
           let l1 = length-span 0 (spanOf (start .args .x .name)) in
           let p2 = at-put-opt-float .put-opt-float .ensures .place in
@@ -77,7 +65,6 @@ pub put-preset-spec : {M : Type 1} → statement M
 put-preset-spec =
     tie.close
     (tie.spec
-    put-byte-requires
     put-span-requires
     put-opt-float-requires
     put-opt-easing-requires

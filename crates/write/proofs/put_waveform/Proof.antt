@@ -7,34 +7,26 @@ use Rattle.write.proofs.put_waveform.Statement.{statement}
 use Rattle.write.proofs.put_waveform.Tie as tie
 
 put-byte-requires : tie.Need-put-byte-requires
-put-byte-requires c κs = let z = c .before .before .pre .0 in omega arith
-
-put-byte-requires-2 : tie.Need-put-byte-requires-2
-put-byte-requires-2 c κs =
-    let at-put-byte = c .before .before .before in
-    let start = at-put-byte .before .before .before in
+put-byte-requires c κs =
+    let start = c .before .before in
     let z = start .pre .0 in
-    let p0 = at-put-byte .put-byte .ensures .place in
     omega arith
 
 put-opt-float-requires : tie.Need-put-opt-float-requires
 put-opt-float-requires c κs =
-    let at-put-byte2 = c .before .before .before in
-    let at-put-byte = at-put-byte2 .before .before .before .before in
+    let at-put-byte = c .before .before .before in
     let pre = at-put-byte .before .before .before .pre in (
-      let z = pre .0 in let p0 = at-put-byte .put-byte .ensures .place in let p1 = at-put-byte2 .put-byte2 .ensures .place in omega arith,
+      let z = pre .0 in let p1 = at-put-byte .put-byte .ensures .place in omega arith,
       pre .1 .0,
     )
 
 put-opt-float-requires-2 : tie.Need-put-opt-float-requires-2
 put-opt-float-requires-2 c κs =
     let at-put-opt-float = c .before .before .before in
-    let at-put-byte2 = at-put-opt-float .before .before .before .before in
-    let at-put-byte = at-put-byte2 .before .before .before .before in
+    let at-put-byte = at-put-opt-float .before .before .before .before in
     let start = at-put-byte .before .before .before in (
       let z = start .pre .0 in
-          let p0 = at-put-byte .put-byte .ensures .place in
-          let p1 = at-put-byte2 .put-byte2 .ensures .place in
+          let p1 = at-put-byte .put-byte .ensures .place in
           let p2 = at-put-opt-float .put-opt-float .ensures .place in
           let l2 = opt-word (optFloatOf (start .args .x .frequency)) in
           omega arith,
@@ -45,12 +37,10 @@ put-opt-float-requires-3 : tie.Need-put-opt-float-requires-3
 put-opt-float-requires-3 c κs =
     let at-put-opt-float2 = c .before .before .before in
     let at-put-opt-float = at-put-opt-float2 .before .before .before .before in
-    let at-put-byte2 = at-put-opt-float .before .before .before .before in
-    let at-put-byte = at-put-byte2 .before .before .before .before in
+    let at-put-byte = at-put-opt-float .before .before .before .before in
     let start = at-put-byte .before .before .before in (
       let z = start .pre .0 in
-          let p0 = at-put-byte .put-byte .ensures .place in
-          let p1 = at-put-byte2 .put-byte2 .ensures .place in
+          let p1 = at-put-byte .put-byte .ensures .place in
           let p2 = at-put-opt-float .put-opt-float .ensures .place in
           let l2 = opt-word (optFloatOf (start .args .x .frequency)) in
           let p3 = at-put-opt-float2 .put-opt-float2 .ensures .place in
@@ -64,12 +54,10 @@ put-opt-float-requires-4 c κs =
     let at-put-opt-float3 = c .before .before .before in
     let at-put-opt-float2 = at-put-opt-float3 .before .before .before .before in
     let at-put-opt-float = at-put-opt-float2 .before .before .before .before in
-    let at-put-byte2 = at-put-opt-float .before .before .before .before in
-    let at-put-byte = at-put-byte2 .before .before .before .before in
+    let at-put-byte = at-put-opt-float .before .before .before .before in
     let start = at-put-byte .before .before .before in (
       let z = start .pre .0 in
-          let p0 = at-put-byte .put-byte .ensures .place in
-          let p1 = at-put-byte2 .put-byte2 .ensures .place in
+          let p1 = at-put-byte .put-byte .ensures .place in
           let p2 = at-put-opt-float .put-opt-float .ensures .place in
           let l2 = opt-word (optFloatOf (start .args .x .frequency)) in
           let p3 = at-put-opt-float2 .put-opt-float2 .ensures .place in
@@ -86,13 +74,11 @@ put-opt-word-requires c κs =
     let at-put-opt-float3 = at-put-opt-float4 .before .before .before .before in
     let at-put-opt-float2 = at-put-opt-float3 .before .before .before .before in
     let at-put-opt-float = at-put-opt-float2 .before .before .before .before in
-    let at-put-byte2 = at-put-opt-float .before .before .before .before in
-    let at-put-byte = at-put-byte2 .before .before .before .before in
+    let at-put-byte = at-put-opt-float .before .before .before .before in
     let start = at-put-byte .before .before .before in
     let args = start .args in
     let z = start .pre .0 in
-    let p0 = at-put-byte .put-byte .ensures .place in
-    let p1 = at-put-byte2 .put-byte2 .ensures .place in
+    let p1 = at-put-byte .put-byte .ensures .place in
     let p2 = at-put-opt-float .put-opt-float .ensures .place in
     let l2 = opt-word (optFloatOf (args .x .frequency)) in
     let p3 = at-put-opt-float2 .put-opt-float2 .ensures .place in
@@ -110,13 +96,11 @@ put-opt-float-requires-5 c κs =
     let at-put-opt-float3 = at-put-opt-float4 .before .before .before .before in
     let at-put-opt-float2 = at-put-opt-float3 .before .before .before .before in
     let at-put-opt-float = at-put-opt-float2 .before .before .before .before in
-    let at-put-byte2 = at-put-opt-float .before .before .before .before in
-    let at-put-byte = at-put-byte2 .before .before .before .before in
+    let at-put-byte = at-put-opt-float .before .before .before .before in
     let start = at-put-byte .before .before .before in
     let args = start .args in (
       let z = start .pre .0 in
-          let p0 = at-put-byte .put-byte .ensures .place in
-          let p1 = at-put-byte2 .put-byte2 .ensures .place in
+          let p1 = at-put-byte .put-byte .ensures .place in
           let p2 = at-put-opt-float .put-opt-float .ensures .place in
           let l2 = opt-word (optFloatOf (args .x .frequency)) in
           let p3 = at-put-opt-float2 .put-opt-float2 .ensures .place in
@@ -139,13 +123,11 @@ put-opt-float-requires-6 c κs =
     let at-put-opt-float3 = at-put-opt-float4 .before .before .before .before in
     let at-put-opt-float2 = at-put-opt-float3 .before .before .before .before in
     let at-put-opt-float = at-put-opt-float2 .before .before .before .before in
-    let at-put-byte2 = at-put-opt-float .before .before .before .before in
-    let at-put-byte = at-put-byte2 .before .before .before .before in
+    let at-put-byte = at-put-opt-float .before .before .before .before in
     let start = at-put-byte .before .before .before in
     let args = start .args in (
       let z = start .pre .0 in
-          let p0 = at-put-byte .put-byte .ensures .place in
-          let p1 = at-put-byte2 .put-byte2 .ensures .place in
+          let p1 = at-put-byte .put-byte .ensures .place in
           let p2 = at-put-opt-float .put-opt-float .ensures .place in
           let l2 = opt-word (optFloatOf (args .x .frequency)) in
           let p3 = at-put-opt-float2 .put-opt-float2 .ensures .place in
@@ -171,10 +153,8 @@ same-length c =
     let at-put-opt-float3 = at-put-opt-float4 .before .before .before .before in
     let at-put-opt-float2 = at-put-opt-float3 .before .before .before .before in
     let at-put-opt-float = at-put-opt-float2 .before .before .before .before in
-    let at-put-byte2 = at-put-opt-float .before .before .before .before in
-    let at-put-byte = at-put-byte2 .before .before .before .before in
-    writes-keeps (writes-then (at-put-byte .put-byte .ensures)
-    (writes-then (at-put-byte2 .put-byte2 .ensures)
+    let at-put-byte = at-put-opt-float .before .before .before .before in
+    writes-keeps ((writes-then (at-put-byte .put-byte .ensures)
     (writes-then (at-put-opt-float .put-opt-float .ensures)
     (writes-then (at-put-opt-float2 .put-opt-float2 .ensures)
     (writes-then (at-put-opt-float3 .put-opt-float3 .ensures)
@@ -191,13 +171,11 @@ returns c =
     let at-put-opt-float3 = at-put-opt-float4 .before .before .before .before in
     let at-put-opt-float2 = at-put-opt-float3 .before .before .before .before in
     let at-put-opt-float = at-put-opt-float2 .before .before .before .before in
-    let at-put-byte2 = at-put-opt-float .before .before .before .before in
-    let at-put-byte = at-put-byte2 .before .before .before .before in
+    let at-put-byte = at-put-opt-float .before .before .before .before in
     let start = at-put-byte .before .before .before in
     let args = start .args in
     record {
-      writes = λ n. writes-then (at-put-byte .put-byte .ensures)
-          (writes-then (at-put-byte2 .put-byte2 .ensures)
+      writes = λ n. (writes-then (at-put-byte .put-byte .ensures)
           (writes-then (at-put-opt-float .put-opt-float .ensures)
           (writes-then (at-put-opt-float2 .put-opt-float2 .ensures)
           (writes-then (at-put-opt-float3 .put-opt-float3 .ensures)
@@ -205,8 +183,7 @@ returns c =
           (writes-then (at-put-opt-word .put-opt-word .ensures)
           (writes-then (at-put-opt-float5 .put-opt-float5 .ensures) (at-put-opt-float6 .put-opt-float6 .ensures))))))));
       most = let z = start .pre .0 in
-          let p0 = at-put-byte .put-byte .ensures .place in
-          let p1 = at-put-byte2 .put-byte2 .ensures .place in
+          let p1 = at-put-byte .put-byte .ensures .place in
           let p2 = at-put-opt-float .put-opt-float .ensures .place in
           let l2 = opt-word (optFloatOf (args .x .frequency)) in
           let p3 = at-put-opt-float2 .put-opt-float2 .ensures .place in
@@ -229,7 +206,6 @@ put-waveform-spec =
     tie.close
     (tie.spec
     put-byte-requires
-    put-byte-requires-2
     put-opt-float-requires
     put-opt-float-requires-2
     put-opt-float-requires-3

@@ -32,13 +32,13 @@ returns : tie.Need-returns
 returns c =
     let at-take-group = c .before .before in
     let at-match = at-take-group .before in
-    λ t start b. rw (c .container .ensures) (kind-laws.group-record t b (at-match .match .keys1) (at-take-group .take-group .ensures))
+    λ t from start b. rw (c .container .ensures) (kind-laws.group-record t b (at-match .match .keys1) (at-take-group .take-group .ensures))
 
 returns-2 : tie.Need-returns-2
 returns-2 c =
     let at-take-stagger = c .before .before .before in
     let at-match = at-take-stagger .before in
-    λ t start b. rw (c .container2 .ensures)
+    λ t from start b. rw (c .container2 .ensures)
     (kind-laws.stagger-record t b (c .before .validate-stagger .result) (at-match .match .keys2) (at-take-stagger .take-stagger .ensures)
     (c .before .validate-stagger .ensures))
 
@@ -46,9 +46,9 @@ returns-3 : tie.Need-returns-3
 returns-3 c =
     let at-take-field = c .before .before in
     let at-match = at-take-field .before in
-    let start-2 = at-match .before .before in
-    λ t start b. rw (c .container3 .ensures)
-    (kind-laws.count-record t b (start-2 .pre) (at-match .match .rest .0 .1) (at-match .match .rest .1)
+    let pre = at-match .before .before .pre in
+    λ t from start b. rw (c .container3 .ensures)
+    (kind-laws.count-record t b pre (at-match .match .rest .0 .1) (at-match .match .rest .1)
     (at-take-field .take-field .ensures .reads))
 
 pub validate-container-spec : {M : Type 1} → statement M

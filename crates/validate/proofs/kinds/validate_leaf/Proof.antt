@@ -1,12 +1,10 @@
 -- `validate::kinds::validate_leaf` meets its contract: in each arm the kind is that arm's and the rules are those of its fields.
 -- Assumes nothing.
 use mathlib.Core.Path.{refl, sym}
-use lib.ListN.{length}
 use borrow.Author.Needs.{needs}
-use Rattle.records.specs.Record.{countForm}
-use Rattle.sheet.specs.Sheet.{kinds, splitNode}
 use Rattle.ast.specs.Tree as tree
-use Rattle.decode.proofs.ReadLaws as laws
+use Rattle.decode.proofs.ReadLaws.{_&_}
+use Rattle.records.proofs.RecordLaws.{of-kind}
 use Rattle.validate.specs.Rules.{validateLeaf}
 use Rattle.validate.proofs.KindLaws as kind-laws
 use Rattle.validate.proofs.kinds.validate_leaf.Statement.{statement}
@@ -111,10 +109,10 @@ returns c =
     let at-take-tween = c .before .before in
     let at-match = at-take-tween .before in
     let args = at-match .before .before .before .args in
-    λ start b. rw (c .leaf .ensures)
-    (laws.chosen (kinds (length (args .text .now)) countForm) (splitNode _ _) 0 b (at-match .match .keys1)
-    (at-take-tween .take-tween .ensures)
-    (λ x e. kind-laws.leaf-is (args .text .now) (tree.tween x) (c .before .validate-tween .ensures x e)))
+    λ from start b. rw (c .leaf .ensures)
+    (of-kind 0 b (at-match .match .keys1)
+    (b .startAt & at-take-tween .take-tween .ensures)
+    (λ x e. kind-laws.leaf-is (args .text .now) (x .0) (tree.tween (x .1)) (c .before .validate-tween .ensures (x .1) (λ i. e i .1))))
 
 returns-2 : tie.Need-returns-2
 unfolding validateLeaf
@@ -122,10 +120,10 @@ returns-2 c =
     let at-take-spring = c .before .before in
     let at-match = at-take-spring .before in
     let args = at-match .before .before .before .args in
-    λ start b. rw (c .leaf2 .ensures)
-    (laws.chosen (kinds (length (args .text .now)) countForm) (splitNode _ _) 1 b (at-match .match .keys2)
-    (at-take-spring .take-spring .ensures)
-    (λ x e. kind-laws.leaf-is (args .text .now) (tree.spring x) (c .before .validate-spring .ensures x e)))
+    λ from start b. rw (c .leaf2 .ensures)
+    (of-kind 1 b (at-match .match .keys2)
+    (b .startAt & at-take-spring .take-spring .ensures)
+    (λ x e. kind-laws.leaf-is (args .text .now) (x .0) (tree.spring (x .1)) (c .before .validate-spring .ensures (x .1) (λ i. e i .1))))
 
 returns-3 : tie.Need-returns-3
 unfolding validateLeaf
@@ -133,10 +131,10 @@ returns-3 c =
     let at-take-keyframes = c .before .before in
     let at-match = at-take-keyframes .before in
     let args = at-match .before .before .before .args in
-    λ start b. rw (c .leaf3 .ensures)
-    (laws.chosen (kinds (length (args .text .now)) countForm) (splitNode _ _) 2 b (at-match .match .keys3)
-    (kind-laws.known (at-take-keyframes .take-keyframes .ensures) (c .before .validate-keyframes .ensures))
-    (λ x e. kind-laws.leaf-is (args .text .now) (tree.keyframes x) (sym e)))
+    λ from start b. rw (c .leaf3 .ensures)
+    (of-kind 2 b (at-match .match .keys3)
+    (b .startAt & kind-laws.known (at-take-keyframes .take-keyframes .ensures) (c .before .validate-keyframes .ensures))
+    (λ x e. kind-laws.leaf-is (args .text .now) (x .0) (tree.keyframes (x .1)) (sym (λ i. e i .1))))
 
 returns-4 : tie.Need-returns-4
 unfolding validateLeaf
@@ -144,9 +142,10 @@ returns-4 c =
     let at-take-path = c .before .before in
     let at-match = at-take-path .before in
     let args = at-match .before .before .before .args in
-    λ start b. rw (c .leaf4 .ensures)
-    (laws.chosen (kinds (length (args .text .now)) countForm) (splitNode _ _) 7 b (at-match .match .keys4)
-    (at-take-path .take-path .ensures) (λ x e. kind-laws.leaf-is (args .text .now) (tree.path x) (c .before .validate-path .ensures x e)))
+    λ from start b. rw (c .leaf4 .ensures)
+    (of-kind 7 b (at-match .match .keys4)
+    (b .startAt & at-take-path .take-path .ensures)
+    (λ x e. kind-laws.leaf-is (args .text .now) (x .0) (tree.path (x .1)) (c .before .validate-path .ensures (x .1) (λ i. e i .1))))
 
 returns-5 : tie.Need-returns-5
 unfolding validateLeaf
@@ -154,10 +153,10 @@ returns-5 c =
     let at-take-morph = c .before .before in
     let at-match = at-take-morph .before in
     let args = at-match .before .before .before .args in
-    λ start b. rw (c .leaf5 .ensures)
-    (laws.chosen (kinds (length (args .text .now)) countForm) (splitNode _ _) 8 b (at-match .match .keys5)
-    (at-take-morph .take-morph .ensures)
-    (λ x e. kind-laws.leaf-is (args .text .now) (tree.morph x) (c .before .validate-morph .ensures x e)))
+    λ from start b. rw (c .leaf5 .ensures)
+    (of-kind 8 b (at-match .match .keys5)
+    (b .startAt & at-take-morph .take-morph .ensures)
+    (λ x e. kind-laws.leaf-is (args .text .now) (x .0) (tree.morph (x .1)) (c .before .validate-morph .ensures (x .1) (λ i. e i .1))))
 
 returns-6 : tie.Need-returns-6
 unfolding validateLeaf
@@ -165,9 +164,10 @@ returns-6 c =
     let at-take-draw = c .before .before in
     let at-match = at-take-draw .before in
     let args = at-match .before .before .before .args in
-    λ start b. rw (c .leaf6 .ensures)
-    (laws.chosen (kinds (length (args .text .now)) countForm) (splitNode _ _) 9 b (at-match .match .keys6)
-    (at-take-draw .take-draw .ensures) (λ x e. kind-laws.leaf-is (args .text .now) (tree.draw x) (c .before .validate-draw .ensures x e)))
+    λ from start b. rw (c .leaf6 .ensures)
+    (of-kind 9 b (at-match .match .keys6)
+    (b .startAt & at-take-draw .take-draw .ensures)
+    (λ x e. kind-laws.leaf-is (args .text .now) (x .0) (tree.draw (x .1)) (c .before .validate-draw .ensures (x .1) (λ i. e i .1))))
 
 returns-7 : tie.Need-returns-7
 unfolding validateLeaf
@@ -175,10 +175,10 @@ returns-7 c =
     let at-take-color = c .before .before in
     let at-match = at-take-color .before in
     let args = at-match .before .before .before .args in
-    λ start b. rw (c .leaf7 .ensures)
-    (laws.chosen (kinds (length (args .text .now)) countForm) (splitNode _ _) 10 b (at-match .match .keys7)
-    (at-take-color .take-color .ensures)
-    (λ x e. kind-laws.leaf-is (args .text .now) (tree.color x) (c .before .validate-color .ensures x e)))
+    λ from start b. rw (c .leaf7 .ensures)
+    (of-kind 10 b (at-match .match .keys7)
+    (b .startAt & at-take-color .take-color .ensures)
+    (λ x e. kind-laws.leaf-is (args .text .now) (x .0) (tree.color (x .1)) (c .before .validate-color .ensures (x .1) (λ i. e i .1))))
 
 returns-8 : tie.Need-returns-8
 unfolding validateLeaf
@@ -186,10 +186,10 @@ returns-8 c =
     let at-take-waveform = c .before .before in
     let at-match = at-take-waveform .before in
     let args = at-match .before .before .before .args in
-    λ start b. rw (c .leaf8 .ensures)
-    (laws.chosen (kinds (length (args .text .now)) countForm) (splitNode _ _) 11 b (at-match .match .keys8)
-    (at-take-waveform .take-waveform .ensures)
-    (λ x e. kind-laws.leaf-is (args .text .now) (tree.waveform x) (c .before .validate-waveform .ensures x e)))
+    λ from start b. rw (c .leaf8 .ensures)
+    (of-kind 11 b (at-match .match .keys8)
+    (b .startAt & at-take-waveform .take-waveform .ensures)
+    (λ x e. kind-laws.leaf-is (args .text .now) (x .0) (tree.waveform (x .1)) (c .before .validate-waveform .ensures (x .1) (λ i. e i .1))))
 
 returns-9 : tie.Need-returns-9
 unfolding validateLeaf
@@ -197,32 +197,33 @@ returns-9 c =
     let at-take-preset = c .before .before in
     let at-match = at-take-preset .before in
     let args = at-match .before .before .before .args in
-    λ start b. rw (c .leaf9 .ensures)
-    (laws.chosen (kinds (length (args .text .now)) countForm) (splitNode _ _) 12 b (at-match .match .keys9)
-    (at-take-preset .take-preset .ensures)
-    (λ x e. kind-laws.leaf-is (args .text .now) (tree.preset x) (c .before .validate-preset-call .ensures x e)))
+    λ from start b. rw (c .leaf9 .ensures)
+    (of-kind 12 b (at-match .match .keys9)
+    (b .startAt & at-take-preset .take-preset .ensures)
+    (λ x e. kind-laws.leaf-is (args .text .now) (x .0) (tree.preset (x .1))
+    (c .before .validate-preset-call .ensures (x .1) (λ i. e i .1))))
 
 returns-10 : tie.Need-returns-10
 unfolding validateLeaf
 returns-10 c =
     let at-match = c .before .before in
     let args = at-match .before .before .before .args in
-    λ start b. rw (c .leaf10 .ensures)
-    (laws.chosen (kinds (length (args .text .now)) countForm) (splitNode _ _) 13 b (at-match .match .keys10)
-    (c .before .take-span .ensures) (λ x e. kind-laws.leaf-is (args .text .now) (tree.label x) refl))
+    λ from start b. rw (c .leaf10 .ensures)
+    (of-kind 13 b (at-match .match .keys10)
+    (b .startAt & c .before .take-span .ensures) (λ x e. kind-laws.leaf-is (args .text .now) (x .0) (tree.label (x .1)) refl))
 
 returns-11 : tie.Need-returns-11
 unfolding validateLeaf
 returns-11 c =
     let at-match = c .before .before in
     let start-2 = at-match .before .before .before in
-    λ start b.
+    λ from start b.
     let m = at-match .match .rest in
     rw (c .leaf11 .ensures)
-    (laws.chosen (kinds (length (start-2 .args .text .now)) countForm) (splitNode _ _) 14 b
+    (of-kind 14 b
     (kind-laws.last-kind _ (start-2 .pre .0) (m .0 .0 .0 .0 .0 .0 .0 .0 .0 .1) (m .0 .0 .0 .0 .0 .0 .0 .0 .1) (m .0 .0 .0 .0 .0 .0 .0 .1)
     (m .0 .0 .0 .0 .0 .0 .1) (m .0 .0 .0 .0 .0 .1) (m .0 .0 .0 .0 .1) (m .0 .0 .0 .1) (m .0 .0 .1) (m .0 .1) (m .1))
-    (c .before .take-at .ensures) (λ x e. kind-laws.leaf-is (start-2 .args .text .now) (tree.at x) refl))
+    (b .startAt & c .before .take-at .ensures) (λ x e. kind-laws.leaf-is (start-2 .args .text .now) (x .0) (tree.at (x .1)) refl))
 
 pub validate-leaf-spec : {M : Type 1} → statement M
 validate-leaf-spec =

@@ -1,0 +1,51 @@
+-- `decode::fields::take_kind` meets its contract: a byte, a field, and the test that the start lies in the text. Assumes nothing.
+use Prim.Native.Nat.{ℕ}
+use mathlib.Core.Path.{ap, _∙_}
+use lib.Dec.{ltb}
+use borrow.Author.Needs.{needs}
+use borrow.Author.Tests.{lt-ltb, le-ltb}
+use Rattle.decode.proofs.ReadLaws as laws
+use Rattle.decode.proofs.fields.take_kind.Statement.{statement}
+use Rattle.decode.proofs.fields.take_kind.Tie as tie
+
+take-byte-requires : tie.Need-take-byte-requires
+take-byte-requires c κs = search needs
+
+take-field-requires : tie.Need-take-field-requires
+take-field-requires c κs = search needs
+
+cast-start : tie.Need-cast-start
+cast-start c = search needs
+
+lost-requires : tie.Need-lost-requires
+lost-requires c κs = search needs
+
+returns : tie.Need-returns
+returns c =
+    let at-take-field = c .before .before in
+    let at-take-byte = at-take-field .before in
+    let start = at-take-byte .before .before in
+    let n = start .args .n in
+    record {
+      between = at-take-byte .take-byte .result .next;
+      kindAt = at-take-byte .take-byte .ensures;
+      startAt = laws.kept (at-take-field .take-field .ensures .reads)
+          (λ a e. ap (λ (p : ℕ). ltb p n) e ∙ lt-ltb _ _ (c .if1 .taken));
+    }
+
+returns-2 : tie.Need-returns-2
+returns-2 c =
+    let at-if1 = c .before in
+    let at-take-field = at-if1 .before .before in
+    let at-take-byte = at-take-field .before in
+    let start = at-take-byte .before .before in
+    let n = start .args .n in
+    record {
+      between = at-take-byte .take-byte .result .next;
+      kindAt = at-take-byte .take-byte .ensures;
+      startAt = laws.dropped (at-take-field .take-field .ensures .reads)
+          (λ a e. ap (λ (p : ℕ). ltb p n) e ∙ le-ltb _ _ (at-if1 .if1 .left)) (c .lost .ensures);
+    }
+
+pub take-kind-spec : {M : Type 1} → statement M
+take-kind-spec = tie.close (tie.spec take-byte-requires take-field-requires cast-start lost-requires returns returns-2)
