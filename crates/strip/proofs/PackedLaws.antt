@@ -14,11 +14,11 @@ use Rattle.error.specs.declared.LineAnswer.the-variants as line
 use Rattle.strip.specs.Packed.{packedRefusal, packedSheet, packedRead, packedCheck}
 use Rattle.strip.specs.Packed.{packedLine, numberIn, valueIn, lengthIn, recordsIn}
 
--- ---- a refusal's number: at least 1, at most 32
+-- ---- a refusal's number: at least 1, at most 33
 
 pub record Numbered (n : ℕ) : Type 0 where
   pub some : 1 ≤ n
-  pub most : n ≤ 32
+  pub most : n ≤ 33
 
 pub numbered : (r : Refusal) → Numbered (numberOf r)
 numbered cause.TextTooLong = record { some = omega arith; most = omega arith }
@@ -46,6 +46,7 @@ numbered cause.DuplicateTime = record { some = omega arith; most = omega arith }
 numbered cause.TooFewFrames = record { some = omega arith; most = omega arith }
 numbered cause.NoSuchRecord = record { some = omega arith; most = omega arith }
 numbered cause.OutputTooShort = record { some = omega arith; most = omega arith }
+numbered cause.TooManyScripts = record { some = omega arith; most = omega arith }
 
 -- ---- below 2^64
 
