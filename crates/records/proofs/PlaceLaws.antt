@@ -219,8 +219,7 @@ module _ {n : ℕ} {s : List ℕ} where
   behind-next [] {end} b h r = absurd (let z : length (drop end s) ≡ 0 = ap length (b .here) in omega (arith, length-drop end s))
   behind-next (x ∷ ys) {end} {m} b h r =
       let a = b .alone .0 (concat (map (recordOf n) ys)) in
-      let z = landed (recordForm n) (recordOf n x) (concat (map (recordOf n) ys)) (b .within) (b .here) (a .0, a .1) r in
-      (
+      let z = landed (recordForm n) (recordOf n x) (concat (map (recordOf n) ys)) (b .within) (b .here) (a .0, a .1) r in (
         x,
         ys,
         refl,

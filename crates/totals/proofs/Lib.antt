@@ -1,0 +1,2 @@
+pub mod TotalsLaws
+pub mod MeanLaws
