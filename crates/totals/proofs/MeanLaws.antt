@@ -89,7 +89,8 @@ lowest-terms a b h = go (gcd a b) (greatest a b) (gcd-positive a b h)
         let x = mul-div-cancel' g (m .left) in
         let y = mul-div-cancel' g (m .right) in
         record {
-          exact = ap (λ (n : ℕ). a / g * n) (sym y) ∙ sym (mul-assoc (a / g) g (b / g)) ∙ ap (λ (n : ℕ). n * (b / g)) (mul-comm (a / g) g ∙ x);
+          exact = ap (λ (n : ℕ). a / g * n) (sym y) ∙ sym (mul-assoc (a / g) g (b / g))
+              ∙ ap (λ (n : ℕ). n * (b / g)) (mul-comm (a / g) g ∙ x);
           lowest = λ c u v. eq-one-of-dvd-one (dvd-of-mul-dvd-mul-left c p
               (rw (mul-one g) (m .most (g * c) (rw (sym x) (mul-dvd-mul-left c g u)) (rw (sym y) (mul-dvd-mul-left c g v)))));
         }
@@ -125,5 +126,7 @@ module _ (ws : List ℕ) (which : ℕ) where
   -- what is asked for fits 32 bits
   pub records-fit : over ws ≡ false → nodeRecords ws < 4294967296
   records-fit e =
-      let h : (i : ℕ) → getD (drop firstKindWord ws) i 0 ≤ figureLimit = λ i. rw (getD-drop firstKindWord ws i 0) (within ws e (firstKindWord + i)) in
+      let h : (i : ℕ) → getD (drop firstKindWord ws) i 0 ≤ figureLimit = λ i. rw (getD-drop firstKindWord ws i 0)
+      (within ws e (firstKindWord + i))
+      in
       omega (arith, sum-within kindWords (drop firstKindWord ws) h)

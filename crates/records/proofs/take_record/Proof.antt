@@ -101,7 +101,8 @@ returns-4 c =
     let r = records.made (big 2) countForm blank {g = λ ns. Container (width ns)} records.counts (at-take-field .take-field .ensures .reads)
     (λ a e. ap Container (records.width-blank a ∙ e))
     in
-    ⊎-elim (λ h. records.told 3 b h (b .startAt & r) (λ x e i. (e i .1, 3, 0))) (λ h. records.told 4 b h (b .startAt & r) (λ x e i. (e i .1, 4, 0)))
+    ⊎-elim (λ h. records.told 3 b h (b .startAt & r) (λ x e i. (e i .1, 3, 0)))
+    (λ h. records.told 4 b h (b .startAt & r) (λ x e i. (e i .1, 4, 0)))
     (records.three-or-four _ (at-if1 .if1 .taken) (m .0 .0 .0 .0 .0 .0 .0 .0 .0 .0 .0 .1) (m .0 .0 .0 .0 .0 .0 .0 .0 .0 .0 .1)
     (m .0 .0 .0 .0 .0 .0 .0 .0 .0 .1))
 

@@ -32,7 +32,8 @@ returns-2 c =
     let at-sum = c .before .before in
     let at-if2 = at-sum .before .before in
     let at-if1 = at-if2 .before in
-    mean-records _ _ (sym (at-if1 .before .over-limit .ensures) ∙ at-if1 .if1 .left) (at-if2 .if2 .taken)
+    let at-over-limit = at-if1 .before in
+    mean-records _ _ (sym (at-over-limit .over-limit .ensures) ∙ at-if1 .if1 .left) (at-if2 .if2 .taken)
     (rw (at-sum .sum .ensures) at (c .quotient .ensures))
 
 element-copy-out-quotient-2 : tie.Need-element-copy-out-quotient-2
@@ -48,7 +49,8 @@ returns-3 : tie.Need-returns-3
 returns-3 c =
     let at-if2 = c .before .before .before in
     let at-if1 = at-if2 .before in
-    mean-entries _ _ (sym (at-if1 .before .over-limit .ensures) ∙ at-if1 .if1 .left) (at-if2 .if2 .left) (c .quotient2 .ensures)
+    let at-over-limit = at-if1 .before in
+    mean-entries _ _ (sym (at-over-limit .over-limit .ensures) ∙ at-if1 .if1 .left) (at-if2 .if2 .left) (c .quotient2 .ensures)
 
 pub mean-spec : {M : Type 1} → statement M
 mean-spec =

@@ -52,8 +52,8 @@ loop-again c =
 
 returns : tie.Need-returns Inv-loop μ-loop
 returns c =
-    let l = c .before .loop in
     let start = c .before .before in
+    let l = c .before .loop in
     omega (arith, l .inv .0, sum-end (start .args .words .now) (l .i) (start .args .to) (c .loop-test .left))
 
 pub sum-spec : {M : Type 1} → statement M
