@@ -99,14 +99,14 @@ record-long n (single p (tree.label x)) = omega arith
 record-long n (single p (tree.at x)) = omega arith
 record-long n (holding p b ns) = omega arith
 
-in-word-most : (i m j : ℕ) → inWord i m j ≤ m
+pub in-word-most : (i m j : ℕ) → inWord i m j ≤ m
 in-word-most i m j = go (eqb j i)
   where
     go : (b : Bool) → cond b m 0 ≤ m
     go true = omega arith
     go false = omega arith
 
-nodes-add-long : (n : ℕ) (xs : List Node) (j : ℕ) → nodesAdd xs j ≤ length (concat (map (recordOf n) xs))
+pub nodes-add-long : (n : ℕ) (xs : List Node) (j : ℕ) → nodesAdd xs j ≤ length (concat (map (recordOf n) xs))
 unfolding sumOf
 nodes-add-long n [] j = omega arith
 nodes-add-long n (x ∷ xs) j =
