@@ -1,7 +1,8 @@
-//! The stored cases of the three operations, whose answers are the Rust's or a model's of the rules (oracle/README.md).
+//! The stored cases of the operations, whose answers are the Rust's or a model's of the rules (oracle/README.md).
 use std::fmt::Write;
 use std::path::Path;
-use strip::{check, line, read, CheckAnswer, LineAnswer, ReadAnswer, Refusal, SCRATCH_WORDS, SHEET_BYTES};
+use strip::{check, feed, line, mean, read, CheckAnswer, FeedAnswer, LineAnswer, Mean, MeanAnswer, ReadAnswer, Refusal, Totals};
+use strip::{SCRATCH_WORDS, SHEET_BYTES};
 
 /// What is stored for a program: its input and its output.
 fn stored(name: &str) -> (String, String) {
@@ -91,4 +92,52 @@ fn lining() {
         }
     }
     compare(&ours, &answers);
+}
+
+/// Each line does one thing to totals, which its first byte tells: feeding a text, with less scratch or sheet, emptying, setting a
+/// word, and writing the totals and the means.
+#[test]
+fn feeding() {
+    let (cases, answers) = stored("feed_cases");
+    let mut totals = Totals::default();
+    let mut ours = String::new();
+    for case in cases.lines().map(bytes) {
+        let rest = &case[1..];
+        let (words, room) = match case[0] {
+            0 => (SCRATCH_WORDS, SHEET_BYTES),
+            1 => (SCRATCH_WORDS - 1, SHEET_BYTES),
+            2 => (SCRATCH_WORDS, 8),
+            3 => {
+                totals = Totals::default();
+                continue;
+            }
+            4 => {
+                totals.0[usize::from(rest[0])] = u32::from_be_bytes(rest[1..5].try_into().unwrap());
+                continue;
+            }
+            5 => {
+                totals.0.iter().for_each(|word| write!(ours, "{word} ").unwrap());
+                ours += "\n";
+                continue;
+            }
+            _ => {
+                ours += &mean_line(mean(&totals, Mean::RecordsAScript));
+                ours += &mean_line(mean(&totals, Mean::EntriesATrack));
+                continue;
+            }
+        };
+        ours += &match feed(&mut totals, rest, &mut vec![0; words], &mut vec![0; room]) {
+            FeedAnswer::Counted(answer) => check_line(answer),
+            FeedAnswer::Refused { refusal, place } => format!("unfed {}", refusal_line(refusal, place)),
+        };
+    }
+    compare(&ours, &answers);
+}
+
+fn mean_line(answer: MeanAnswer) -> String {
+    match answer {
+        MeanAnswer::Fraction { numerator, denominator } => format!("{numerator}/{denominator}\n"),
+        MeanAnswer::Nothing => "none\n".to_string(),
+        MeanAnswer::Refused { refusal, place } => refusal_line(refusal, place),
+    }
 }

@@ -69,7 +69,9 @@ node-kind k h x = omega (arith, shift (eqb k (kindOf x)) refl, in-another 59 (en
         in-another (44 + kindOf x) 1 (44 + k) (λ e. eqb-false k (kindOf x) q (omega arith)) ∙ sym (rw q refl)
 
 node-entries : (x : Node) → nodeFigure 59 x ≡ entriesOf x
-node-entries x = omega (arith, kind-small x, in-another (44 + kindOf x) 1 59 (λ e. let h = kind-small x in omega arith), in-word 59 (entriesOf x) 59 refl)
+node-entries x =
+    omega
+    (arith, kind-small x, in-another (44 + kindOf x) 1 59 (λ e. let h = kind-small x in omega arith), in-word 59 (entriesOf x) 59 refl)
 
 -- the number of a script is below 44
 number-small : (a : CheckAnswer) → numberIn a < 44
@@ -195,7 +197,8 @@ drop-added k (suc i) f (w ∷ ws) =
 pub sum-added : (i n : ℕ) (f : ℕ → ℕ) (ws : List ℕ) → i + n ≤ length ws
     → sumOf itself (take n (drop i (added f ws))) ≡ sumOf itself (take n (drop i ws)) + range f i n
 sum-added i n f ws h =
-    ap (λ (l : List ℕ). sumOf itself (take n l)) (drop-added 0 i f ws ∙ (let e : 0 + i ≡ i = omega arith in ap (λ (j : ℕ). addedFrom j f (drop i ws)) e))
+    ap (λ (l : List ℕ). sumOf itself (take n l))
+    (drop-added 0 i f ws ∙ (let e : 0 + i ≡ i = omega arith in ap (λ (j : ℕ). addedFrom j f (drop i ws)) e))
     ∙ front-added i n f (drop i ws) (omega (arith, length-drop i ws))
 
 -- ---- the nodes of a script
