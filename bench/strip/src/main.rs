@@ -1,5 +1,5 @@
 //! Measures the library against the Rust on the same scripts: reading against lexing and parsing, checking against
-//! validate_nodes, and both together. run.sh runs it.
+//! validate_nodes, and both together; lines and what is printed. run.sh runs it. With a folder it writes the scripts there instead.
 #![allow(dead_code)]
 
 mod scripts;
@@ -148,7 +148,32 @@ fn line_row(lent: &mut Lent, name: &str, text: &str) {
     println!("| {name} | {} | {} | {bytes} | {:.1} | {:.2} | {:.2} |", text.len(), records + 1, least / 1000.0, least / 1000.0 / (records + 1) as f64, speed(bytes, least));
 }
 
+/// What is printed for a script, on a page: reading, checking and all lines in one call.
+fn print_row(lent: &mut Lent, page: &mut [u8], name: &str, text: &str) {
+    let Lent { scratch, sheet, .. } = lent;
+    let mut all = || match strip::print(text.as_bytes(), scratch, sheet, page) {
+        LineAnswer::Accepted { length } => length,
+        LineAnswer::Refused { .. } => panic!("{name}: nothing printed"),
+    };
+    let bytes = all();
+    let least = times(all, || ()).ours;
+    println!("| {name} | {} | {bytes} | {:.1} | {:.2} |", text.len(), least / 1000.0, least / text.len() as f64);
+}
+
+/// Writes each script to a file of a folder, so that its instructions can be counted.
+fn write_scripts(folder: &str) {
+    for size in scripts::SIZES {
+        for kind in &scripts::KINDS {
+            let name = kind.name.replace(", ", "-").replace(' ', "-").replace('#', "hash");
+            std::fs::write(format!("{folder}/{name}-{size}"), kind.script(size)).expect("a file");
+        }
+    }
+}
+
 fn main() {
+    if let Some(folder) = std::env::args().nth(1) {
+        return write_scripts(&folder);
+    }
     let mut lent = Lent { scratch: vec![0; strip::SCRATCH_WORDS], sheet: vec![0; strip::SHEET_BYTES], output: vec![0; 65_536] };
     println!("Buffers: not cleared first. Each call gets scratch and sheet as the last one left them; reading itself writes zeros to");
     println!("all of scratch ({} bytes) and to the sheet behind its length (of {} bytes), which is in its time.", 2 * lent.scratch.len(), lent.sheet.len());
@@ -171,5 +196,16 @@ fn main() {
     for size in scripts::SIZES {
         let kind = &scripts::KINDS[1];
         line_row(&mut lent, kind.name, &kind.script(size));
+    }
+    println!();
+    println!("What is printed for a script, in one call (`print`):");
+    println!();
+    println!("| script | bytes | bytes printed | all, us | ns a byte of the script |");
+    println!("|---|---|---|---|---|");
+    let mut page = vec![0; strip::PAGE_BYTES];
+    for size in scripts::SIZES {
+        for kind in &scripts::KINDS {
+            print_row(&mut lent, &mut page, kind.name, &kind.script(size));
+        }
     }
 }

@@ -140,11 +140,13 @@ node-leaf {s} d h = record {
 
 -- a container's rule from its head and its block, as a node's rule has it
 module _ (s : List ℕ) (m : Cursor) (p : Rule Container) (d : ℕ) where
-  held-as : (start : ℕ) → run s m (nodeBy (block d) start (aContainer p)) ≡ after (run s m (heldBy p d)) (λ x. give (holding start (x .0) (x .1)))
+  held-as : (start : ℕ)
+      → run s m (nodeBy (block d) start (aContainer p)) ≡ after (run s m (heldBy p d)) (λ x. give (holding start (x .0) (x .1)))
   held-as start = go (run s m p)
     where
       more : (k : Container) (o : Out (Nodes Key))
-          → after o (λ ns. give (holding start k ns)) ≡ after (after o (λ ns. give (k, ns))) (λ (x : Held). give (holding start (x .0) (x .1)))
+          → after o (λ ns. give (holding start k ns))
+          ≡ after (after o (λ ns. give (k, ns))) (λ (x : Held). give (holding start (x .0) (x .1)))
       more k (got ns l ts) = refl
       more k (refused r q) = refl
 
@@ -171,7 +173,9 @@ module _ {s b b₁ : List ℕ} {c m : Cursor} {out at i : ℕ} (g : ContainerBeg
       → NodeMeans 1 (parseNode (block d)) s b a c out d r
   from-row a d (node.Is q e k) h =
       let x = h .went .value in
-      let z : containerKind (x .0) ≡ containerKindAt i = held-kind _ d (g .row .1) (container-kind i (g .row) (g .found)) _ _ _ _ _ (h .went .took .is) in
+      let z : containerKind (x .0) ≡ containerKindAt i = held-kind _ d (g .row .1) (container-kind i (g .row) (g .found)) _ _ _ _ _
+      (h .went .took .is)
+      in
       record {
         went = record {
           value = holding (g .start) (x .0) (x .1);

@@ -62,11 +62,22 @@ LeafOf k p = Always (λ (l : Leaf Key). leafKind l ≡ k) p
 
 tween-kind : LeafOf 0 parseTween
 unfolding parseTween
-tween-kind = behind ident (λ target. behind (the ":") (λ u. behind parseValue (λ from. behind (both "=" ">") (λ v. behind parseValue (λ to. behind (parseFieldList tweenFields []) (λ fs. behind (need MissingDuration (lastNumber "duration" fs)) (λ duration. always refl)))))))
+tween-kind =
+    behind ident
+    (λ target. behind (the ":")
+    (λ u. behind parseValue
+    (λ from. behind (both "=" ">")
+    (λ v. behind parseValue
+    (λ to. behind (parseFieldList tweenFields [])
+    (λ fs. behind (need MissingDuration (lastNumber "duration" fs)) (λ duration. always refl)))))))
 
 spring-kind : LeafOf 1 parseSpring
 unfolding parseSpring
-spring-kind = behind ident (λ target. behind (the ":") (λ u. behind parseValue (λ from. behind (both "=" ">") (λ v. behind parseValue (λ to. behind (parseFieldList springFields []) (λ fs. always refl))))))
+spring-kind =
+    behind ident
+    (λ target. behind (the ":")
+    (λ u. behind parseValue
+    (λ from. behind (both "=" ">") (λ v. behind parseValue (λ to. behind (parseFieldList springFields []) (λ fs. always refl))))))
 
 keyframes-kind : LeafOf 2 parseKeyframes
 unfolding parseKeyframes
@@ -74,19 +85,39 @@ keyframes-kind = behind ident (λ target. behind (inside "{" (repeat trackStep (
 
 path-kind : LeafOf 7 parsePath
 unfolding parsePath
-path-kind = behind ident (λ target. behind (choice Malformed ("along" ∷ [])) (λ k. behind string (λ svg. behind (parseFieldList pathFields []) (λ fs. behind (need MissingDuration (lastNumber "duration" fs)) (λ duration. always refl)))))
+path-kind =
+    behind ident
+    (λ target. behind (choice Malformed ("along" ∷ []))
+    (λ k. behind string
+    (λ svg. behind (parseFieldList pathFields [])
+    (λ fs. behind (need MissingDuration (lastNumber "duration" fs)) (λ duration. always refl)))))
 
 morph-kind : LeafOf 8 parseMorph
 unfolding parseMorph
-morph-kind = behind string (λ from. behind (both "=" ">") (λ u. behind string (λ to. behind (parseFieldList morphFields []) (λ fs. behind (need MissingDuration (lastNumber "duration" fs)) (λ duration. always refl)))))
+morph-kind =
+    behind string
+    (λ from. behind (both "=" ">")
+    (λ u. behind string
+    (λ to. behind (parseFieldList morphFields [])
+    (λ fs. behind (need MissingDuration (lastNumber "duration" fs)) (λ duration. always refl)))))
 
 draw-kind : LeafOf 9 parseDraw
 unfolding parseDraw
-draw-kind = behind string (λ svg. behind (parseFieldList drawFields []) (λ fs. behind (need MissingDuration (lastNumber "duration" fs)) (λ duration. always refl)))
+draw-kind =
+    behind string
+    (λ svg. behind (parseFieldList drawFields [])
+    (λ fs. behind (need MissingDuration (lastNumber "duration" fs)) (λ duration. always refl)))
 
 color-kind : LeafOf 10 parseColor
 unfolding parseColor
-color-kind = behind ident (λ target. behind (the ":") (λ u. behind string (λ from. behind (both "=" ">") (λ v. behind string (λ to. behind (parseFieldList colorFields []) (λ fs. behind (need MissingDuration (lastNumber "duration" fs)) (λ duration. always refl)))))))
+color-kind =
+    behind ident
+    (λ target. behind (the ":")
+    (λ u. behind string
+    (λ from. behind (both "=" ">")
+    (λ v. behind string
+    (λ to. behind (parseFieldList colorFields [])
+    (λ fs. behind (need MissingDuration (lastNumber "duration" fs)) (λ duration. always refl)))))))
 
 waveform-kind : LeafOf 11 parseWaveform
 unfolding parseWaveform
@@ -94,7 +125,10 @@ waveform-kind = behind waveformKind (λ kind. behind (parseFieldList waveformFie
 
 preset-kind : LeafOf 12 parsePresetCall
 unfolding parsePresetCall
-preset-kind = behind ident (λ name. behind (if (sees "(") (inside "(" (pairs drawFields)) (give [])) (λ fs. behind (if (sees ",") (skip >> parseFieldList drawFields fs) (give fs)) (λ gs. always refl)))
+preset-kind =
+    behind ident
+    (λ name. behind (if (sees "(") (inside "(" (pairs drawFields)) (give []))
+    (λ fs. behind (if (sees ",") (skip >> parseFieldList drawFields fs) (give fs)) (λ gs. always refl)))
 
 label-kind : LeafOf 13 parseLabel
 unfolding parseLabel
@@ -108,8 +142,28 @@ at-kind = behind atSign (λ sign. behind (signed seesNumber Malformed) (λ w. be
 pub leaf-kind : (i : ℕ) (row : String × Rule (Leaf Key)) → getElem? leaves i ≡ some row → LeafOf (leafKindAt i) (row .1)
 unfolding leaves
 leaf-kind i row e =
-    by-row (λ (r : String × Rule (Leaf Key)). LeafOf (leafKindAt i) (r .1)) i leaves row e
-    ((λ j. rw j tween-kind), ((λ j. rw j spring-kind), ((λ j. rw j keyframes-kind), ((λ j. rw j path-kind), ((λ j. rw j morph-kind), ((λ j. rw j draw-kind), ((λ j. rw j color-kind), ((λ j. rw j waveform-kind), ((λ j. rw j preset-kind), ((λ j. rw j label-kind), ((λ j. rw j at-kind), tt)))))))))))
+    by-row (λ (r : String × Rule (Leaf Key)). LeafOf (leafKindAt i) (r .1)) i leaves row e (
+      (λ j. rw j tween-kind),
+      (
+        (λ j. rw j spring-kind),
+        (
+          (λ j. rw j keyframes-kind),
+          (
+            (λ j. rw j path-kind),
+            (
+              (λ j. rw j morph-kind),
+              (
+                (λ j. rw j draw-kind),
+                (
+                  (λ j. rw j color-kind),
+                  ((λ j. rw j waveform-kind), ((λ j. rw j preset-kind), ((λ j. rw j label-kind), ((λ j. rw j at-kind), tt)))),
+                ),
+              ),
+            ),
+          ),
+        ),
+      ),
+    )
 
 -- ---- containers
 
@@ -140,7 +194,8 @@ container-kind i row e =
     ((λ j. rw j sequence-kind), ((λ j. rw j parallel-kind), ((λ j. rw j group-kind), ((λ j. rw j stagger-kind), tt))))
 
 -- the container of a rule that reads more behind it
-pub held-kind : (k d : ℕ) (p : Rule Container) → ContainerOf k p → (l m : Notes) (ts us : List Token) (x : Held) → heldBy p d l ts ≡ got x m us
+pub held-kind : (k d : ℕ) (p : Rule Container) → ContainerOf k p → (l m : Notes) (ts us : List Token) (x : Held)
+    → heldBy p d l ts ≡ got x m us
     → containerKind (x .0) ≡ k
 held-kind k d p h l m ts us x e = the-given held l m ts us x e
   where

@@ -15,8 +15,9 @@ use Rattle.text.specs.Bytes.{bytes, part, among}
 use Rattle.text.specs.Words.{isSome}
 use Rattle.number.specs.Number.{Written, whole, bits}
 use Rattle.token.specs.Token.{Kind, name, number, quoted, mark, Token, token, tokensFrom, place, kind, isMark, rest}
-use Rattle.token.specs.Means.{Lexes, Small, kindOf, writtenOf}
+use Rattle.token.specs.Means.{Lexes, Small, kindOf, writtenOf, lastPlace}
 use Rattle.text.specs.Limits.{textLimit}
+use Rattle.token.proofs.NestLaws.{last-rest}
 use Rattle.token.specs.declared.Lexed.{Lexed}
 use Rattle.token.specs.declared.Number.{Number}
 use Rattle.token.specs.declared.Tok.the-variants.{Name, Quoted}
@@ -39,9 +40,10 @@ pub head-place : (s : List ℕ) (c : Cursor) → Ready s c → place (tokens s c
 head-place s c r = r .head .place
 
 -- a token that was cut from `at` on, as the next of a cursor
-pub begins : (s : List ℕ) (at left : ℕ) (x : Lexed) → length s ≤ textLimit → Lexes s at x
+pub begins : (s : List ℕ) (at left : ℕ) (x : Lexed) → length s ≤ textLimit → lastPlace 0 (tokensFrom s at) ≡ lastPlace 0 (tokensFrom s 0)
+    → Lexes s at x
     → Begins s at left (record { at = x .start; end = x .end; left = left; kind = x .tok })
-begins s at left x h l = record {
+begins s at left x h e l = record {
   is = l .same;
   low = l .low;
   left = refl;
@@ -59,6 +61,7 @@ begins s at left x h l = record {
     };
     high = omega (arith, l .some, l .high);
     short = h;
+    last = rw (sym (l .same)) e;
   };
 }
 
@@ -71,6 +74,10 @@ no-end (mark d) b e h = ne-eqb d 0 (λ z. let q = eqb-true d b e in omega arith)
 -- a head that is not the text's end takes a byte
 pub head-moves : (s : List ℕ) (c : Cursor) → Ready s c → isMark (kind (tokens s c)) 0 ≡ false → c .at < c .end
 head-moves s c r e = r .head .moved (sym (ap (λ (k : Kind). isMark k 0) (r .head .kind)) ∙ e)
+
+-- the tokens behind a head end where those of the text do
+pub head-last : (s : List ℕ) (c : Cursor) → Ready s c → lastPlace 0 (tokensFrom s (c .end)) ≡ lastPlace 0 (tokensFrom s 0)
+head-last s c r = ap (lastPlace 0) (sym (r .head .rest)) ∙ last-rest s (c .at) ∙ r .last
 
 -- and no head goes back
 pub head-low : (s : List ℕ) (c : Cursor) → Ready s c → c .at ≤ c .end
@@ -372,7 +379,7 @@ pub leave-left : (s : List ℕ) (c m u : Cursor) → Ready s c → Behind s c m
 leave-left s c m u r b e i j l = record {
   is = rw (e, r .head .place, l, i, b .is);
   low = omega (arith, b .low);
-  ready = record { head = rw (j, i) (b .ready .head); high = rw i (b .ready .high); short = b .ready .short };
+  ready = record { head = rw (j, i) (b .ready .head); high = rw i (b .ready .high); short = b .ready .short; last = rw i (b .ready .last) };
 }
 
 -- what is noted, where something was left before or not

@@ -13,7 +13,7 @@ use Rattle.text.specs.Bytes.{part}
 use Rattle.number.specs.Number.{Written, bits}
 use Rattle.token.specs.Token.{Token, tokensFrom, place, kind, rest}
 use Rattle.token.specs.Token as numbers
-use Rattle.token.specs.Means.{Lexes, Small, writtenOf, lexedOf}
+use Rattle.token.specs.Means.{Lexes, Small, writtenOf, lexedOf, lastPlace}
 use Rattle.token.specs.declared.Number.{Number}
 use Rattle.token.specs.declared.Lexed.{Lexed}
 use Rattle.ast.specs.declared.Span.{Span}
@@ -60,11 +60,12 @@ leftIs (left.At p) = some p
 abbrev pub headOf : Cursor → Lexed
 headOf c = lexedOf (c .at) (c .end) (c .kind)
 
--- the cursor stands in the text s, of at most the limit, on its next token
+-- the cursor stands in the text s, of at most the limit, on its next token; the tokens from there on end where those of the text do
 pub record Ready (s : List ℕ) (c : Cursor) : Type 0 where
   pub head : Lexes s (c .at) (headOf c)
   pub high : c .at ≤ length s
   pub short : length s ≤ textLimit
+  pub last : lastPlace 0 (tokensFrom s (c .at)) ≡ lastPlace 0 (tokensFrom s 0)
 
 -- what is noted at a cursor; a repetition takes a byte with each step
 abbrev pub notes : List ℕ → Cursor → Notes

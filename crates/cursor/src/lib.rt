@@ -7,7 +7,7 @@ ghost use lib.ListN.{length};
 ghost use Rattle.text.specs.Limits.{textLimit};
 ghost use Rattle.text.specs.Words.{table};
 ghost use Rattle.token.specs.Token.{tokensFrom, isMark};
-ghost use Rattle.token.specs.Means.{kindOf};
+ghost use Rattle.token.specs.Means.{kindOf, lastPlace};
 ghost use Rattle.number.specs.Number.{nearest};
 ghost use Rattle.token.specs.Means.{writtenOf};
 ghost use Rattle.grammar.specs.Rule.{seesByte, seesPair, seesBytes, seesName, isEnd, ends, theByte, bothBytes, eatByte, word, text as quotedText, choiceIn, weigh, behind, firstOf, leave};
@@ -125,7 +125,7 @@ pub fn leftover(c: Cursor) -> Left
 
 // Before the first token from a place on.
 fn start(text: &[u8], at: usize, left: u16) -> Cursor
-    requires { ⌜ (at ≤ length (now text)) × (length (now text) ≤ textLimit) ⌝ }
+    requires { ⌜ (at ≤ length (now text)) × (length (now text) ≤ textLimit) × (lastPlace 0 (tokensFrom (now text) at) ≡ lastPlace 0 (tokensFrom (now text) 0)) ⌝ }
     ensures { λ r. ⌜ Begins (now (text .entry)) at left r ⌝ }
 {
     let head = token::token(text, at);

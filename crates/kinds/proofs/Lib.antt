@@ -1,4 +1,3 @@
 pub mod EndLaws
-pub mod Layouts
 pub mod KindLaws
 pub mod PresetLaws

@@ -10,7 +10,7 @@ use Rattle.encode.specs.Of.{spanOf}
 use Rattle.error.specs.declared.Refusal.{Refusal}
 use Rattle.error.specs.declared.Refusal.the-variants.{Missing}
 use Rattle.grammar.specs.Rule.{Rule, Out, got, refused, after, _>>=_, word, seesByte, leave, theByte}
-use Rattle.grammar.specs.Fields.{Fields, pairs, parseFieldList}
+use Rattle.grammar.specs.Fields.{last, pairs, parseFieldList}
 use Rattle.grammar.specs.Values.{ident}
 use Rattle.grammar.specs.Grammar.{drawFields, parsePresetCall}
 use Rattle.cursor.specs.Means.{Ready, tokens, run, Took, Follows, spelled}
@@ -19,84 +19,73 @@ use Rattle.cursor.proofs.CursorLaws.{took-mark}
 use Rattle.values.proofs.EasingLaws.{spelled-length}
 use Rattle.nodes.specs.Means.{LeafMeans}
 use Rattle.nodes.specs.declared.NodeRead.{NodeRead}
-use Rattle.slots.specs.Means.{Held, EndMeans, noSlots, noOthers}
-use Rattle.slots.specs.declared.Slot.{Slot}
-use Rattle.slots.specs.declared.Others.{Others}
-use Rattle.slots.specs.declared.Ended.{Ended}
-use Rattle.slots.specs.declared.Ended.the-variants as ended
-use Rattle.slots.proofs.HeldLaws.{held-wider}
-use Rattle.slots.proofs.KeptLaws.{none-held}
 use Rattle.kinds.specs.Means as kinds
-use Rattle.kinds.specs.Means.{rowsOf, drawSorts, presetPairs, presetFields, presetEnd}
-use Rattle.kinds.proofs.Layouts.{draw-layout}
+use Rattle.kinds.specs.Means.{presetPairs, presetFields, presetEnd}
+use Rattle.kind_steps.specs.Means.{noDrawFields, DrawListMeans}
+use Rattle.kind_steps.specs.declared.DrawFields.{DrawFields}
+use Rattle.kind_steps.specs.declared.DrawStep.{DrawStep}
+use Rattle.kind_steps.specs.declared.DrawStep.the-variants as draw
 use Rattle.kinds.proofs.EndLaws.{whole-node}
 
 assoc : {A B C : Type 0} (o : Out A) (f : A → Rule B) (g : B → Rule C) → after o (λ a. f a >>= g) ≡ after (after o f) g
 assoc (got a l ts) f g = refl
 assoc (refused r q) f g = refl
 
--- the fields of a list that begins at c and was read behind it
-abbrev Kept : List ℕ → Cursor → Cursor → Rule Fields → List Slot → Others → Type 0
-Kept s c e p xs o = (fs : Fields) × Took 0 s c e p fs × Held s (c .at) (e .at) drawSorts drawFields xs o fs
-
 -- ---- in parentheses
 
-module _ (s : List ℕ) (c : Cursor) (r : Ready s c) where
-  pub no-pairs : seesByte 40 (tokens s c) ≡ false → EndMeans s (c .at) drawSorts c drawFields presetPairs noSlots noOthers (ended.Is c)
-  no-pairs e = (
-    [],
-    record { is = rw e; low = omega arith; ready = r },
-    none-held s (c .at) (c .at) (rowsOf drawFields) drawSorts drawFields draw-layout,
-  )
+module _ {s : List ℕ} {c : Cursor} (r : Ready s c) where
+  pub no-pairs : seesByte 40 (tokens s c) ≡ false → DrawListMeans s c presetPairs (draw.Is noDrawFields c)
+  unfolding last
+  no-pairs e = record {
+    fields = [];
+    took = record { is = rw e; low = omega arith; ready = r };
+    say = ((refl, tt), ((refl, tt), tt));
+  }
 
-  module _ (m : Cursor) (f : Follows s c m) (e : seesByte 40 (tokens s c) ≡ true) where
+  module _ {m : Cursor} (f : Follows s c m) (e : seesByte 40 (tokens s c) ≡ true) where
     opened : Took 1 s c m (theByte 40) tt
     opened = took-mark s c m r f 40 (omega arith) e
 
-    pub pairs-refused : (a : Refusal) (q : ℕ) → run s m (pairs drawFields) ≡ refused a q → run s c presetPairs ≡ refused a q
-    pairs-refused a q h = rw (e, opened .is, h)
+    pub pairs-refused : {a : Refusal} {q : ℕ} → run s m (pairs drawFields) ≡ refused a q → run s c presetPairs ≡ refused a q
+    pairs-refused h = rw (e, opened .is, h)
 
-    pub pairs-taken : (n u : Cursor) (xs : List Slot) (o : Others)
-        → EndMeans s (c .at) drawSorts m drawFields (pairs drawFields) xs o (ended.Is n)
-        → Took 0 s n u leave tt
-        → EndMeans s (c .at) drawSorts c drawFields presetPairs xs o (ended.Is u)
-    pairs-taken n u xs o h v = (
-      h .0,
-      record { is = rw (e, opened .is, h .1 .is, v .is); low = omega (arith, opened .low, h .1 .low, v .low); ready = v .ready },
-      held-wider s (c .at) (n .at) (c .at) (u .at) (omega arith) (omega (arith, v .low)) drawSorts drawFields xs o (h .0) (h .2),
-    )
+    pub pairs-taken : {n u : Cursor} {x : DrawFields} → DrawListMeans s m (pairs drawFields) (draw.Is x n) → Took 0 s n u leave tt
+        → DrawListMeans s c presetPairs (draw.Is x u)
+    pairs-taken h v = record {
+      fields = h .fields;
+      took = record {
+        is = rw (e, opened .is, h .took .is, v .is);
+        low = omega (arith, opened .low, h .took .low, v .low);
+        ready = v .ready;
+      };
+      say = h .say;
+    }
 
 -- ---- behind a `,`
 
-module _ (s : List ℕ) (c e : Cursor) (xs : List Slot) (o : Others)
-    (h : EndMeans s (c .at) drawSorts c drawFields presetPairs xs o (ended.Is e)) where
-  pub no-comma : seesByte 44 (tokens s e) ≡ false → EndMeans s (c .at) drawSorts c drawFields presetFields xs o (ended.Is e)
-  no-comma z = (h .0, record { is = rw (h .1 .is, z); low = h .1 .low; ready = h .1 .ready }, h .2)
+module _ {s : List ℕ} {c e : Cursor} {x : DrawFields} (h : DrawListMeans s c presetPairs (draw.Is x e)) where
+  pub no-comma : seesByte 44 (tokens s e) ≡ false → DrawListMeans s c presetFields (draw.Is x e)
+  no-comma z = record {
+    fields = h .fields;
+    took = record { is = rw (h .took .is, z); low = h .took .low; ready = h .took .ready };
+    say = h .say;
+  }
 
-  module _ (m : Cursor) (f : Follows s e m) (z : seesByte 44 (tokens s e) ≡ true) where
+  module _ {m : Cursor} (f : Follows s e m) (z : seesByte 44 (tokens s e) ≡ true) where
     comma : Took 1 s e m (theByte 44) tt
-    comma = took-mark s e m (h .1 .ready) f 44 (omega arith) z
+    comma = took-mark s e m (h .took .ready) f 44 (omega arith) z
 
-    pub held-there : Held s (c .at) (m .at) drawSorts drawFields xs o (h .0)
-    held-there =
-        held-wider s (c .at) (e .at) (c .at) (m .at) (omega arith) (omega (arith, comma .low)) drawSorts drawFields xs o (h .0) (h .2)
-
-    pub comma-low : c .at ≤ m .at
-    comma-low = omega (arith, h .1 .low, comma .low)
-
-    pub list-end : (ys : List Slot) (p : Others) (y : Ended)
-        → EndMeans s (c .at) drawSorts m drawFields (parseFieldList drawFields (h .0)) ys p y
-        → EndMeans s (c .at) drawSorts c drawFields presetFields ys p y
-    list-end ys p (ended.Is u) w = (
-      w .0,
-      record {
-        is = rw (h .1 .is, z, f .rest, sym (f .left), w .1 .is);
-        low = omega (arith, h .1 .low, comma .low, w .1 .low);
-        ready = w .1 .ready;
-      },
-      w .2,
-    )
-    list-end ys p (ended.Refused a q) w = rw (h .1 .is, z, f .rest, sym (f .left), w)
+    pub list-end : (y : DrawStep) → DrawListMeans s m (parseFieldList drawFields (h .fields)) y → DrawListMeans s c presetFields y
+    list-end (draw.Is g u) w = record {
+      fields = w .fields;
+      took = record {
+        is = rw (h .took .is, z, f .rest, sym (f .left), w .took .is);
+        low = omega (arith, h .took .low, comma .low, w .took .low);
+        ready = w .took .ready;
+      };
+      say = w .say;
+    }
+    list-end (draw.Refused a q) w = rw (h .took .is, z, f .rest, sym (f .left), w)
 
 -- a refusal in parentheses is one of all
 pub all-refused : (s : List ℕ) (c : Cursor) (a : Refusal) (q : ℕ) → run s c presetPairs ≡ refused a q → run s c presetFields ≡ refused a q

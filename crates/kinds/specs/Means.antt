@@ -1,9 +1,8 @@
 -- The nodes that hold a name or strings, and fields: what stands behind these, and what is written. Contracts cite these. Assumes nothing.
 use Prim.Native.Nat.{ℕ, _+_, _*_, _-_, _≤_}
-use mathlib.Core.List.{List, [], _∷_, _++_}
+use mathlib.Core.List.{List, []}
 use mathlib.Core.Path.{_≡_}
 use lib.ListN.{length}
-use Rattle.text.specs.Bytes.{bytes}
 use Rattle.text.specs.Words.{default}
 use Rattle.number.specs.Time.{Key}
 use Rattle.ast.specs.Tree as tree
@@ -17,15 +16,8 @@ use Rattle.grammar.specs.Grammar.{drawFields, morphFields, colorFields, pathFie
 use Rattle.cursor.specs.Means.{run, Took}
 use Rattle.cursor.specs.declared.Cursor.{Cursor}
 use Rattle.nodes.specs.Means.{leafBytes}
-use Rattle.slots.specs.Means as slots
-use Rattle.slots.specs.declared.Gathered.{Gathered}
 use Rattle.nodes.specs.declared.NodeRead.{NodeRead}
 use Rattle.nodes.specs.declared.NodeRead.the-variants as node
-
--- the names of a table as bytes, each behind its length
-abbrev pub rowsOf : Table → List ℕ
-rowsOf [] = []
-rowsOf (f ∷ fs) = length (bytes (f .0)) ∷ bytes (f .0) ++ rowsOf fs
 
 -- ---- the end of a node
 
@@ -47,9 +39,6 @@ abbrev pub timedEnd : Table → (Fields → ℕ → Leaf Key) → Rule (Leaf Key
 timedEnd t k = parseFieldList t [] >>= λ fs. need MissingDuration (lastNumber "duration" fs) >>= λ d. give (k fs d)
 
 -- draw
-abbrev pub drawSorts : List ℕ
-drawSorts = 0 ∷ 7 ∷ []
-
 abbrev pub drawLeaf : tree.Span → Fields → ℕ → Leaf Key
 drawLeaf svg fs d = Leaf.draw (record { svg = svg; duration = d; easing = lastEasing fs })
 
@@ -57,9 +46,6 @@ abbrev pub drawEnd : tree.Span → Rule (Leaf Key)
 drawEnd svg = timedEnd drawFields (drawLeaf svg)
 
 -- morph
-abbrev pub morphSorts : List ℕ
-morphSorts = 1 ∷ 0 ∷ 7 ∷ []
-
 abbrev pub morphLeaf : tree.Span → tree.Span → Fields → ℕ → Leaf Key
 morphLeaf from to fs d =
     Leaf.morph (record { from = from; to = to; samples = default (lastNumber "samples" fs) 32; duration = d; easing = lastEasing fs })
@@ -68,9 +54,6 @@ abbrev pub morphEnd : tree.Span → tree.Span → Rule (Leaf Key)
 morphEnd from to = timedEnd morphFields (morphLeaf from to)
 
 -- color
-abbrev pub colorSorts : List ℕ
-colorSorts = 0 ∷ 2 ∷ 7 ∷ []
-
 abbrev pub colorLeaf : tree.Span → tree.Span → tree.Span → Fields → ℕ → Leaf Key
 colorLeaf target from to fs d =
     Leaf.color
@@ -84,9 +67,6 @@ abbrev pub colorStrings : tree.Span → Rule (Leaf Key)
 colorStrings target = string >>= λ from. both "=" ">" >> (string >>= λ to. colorEnd target from to)
 
 -- path
-abbrev pub pathSorts : List ℕ
-pathSorts = 0 ∷ 7 ∷ 5 ∷ 9 ∷ 8 ∷ []
-
 abbrev pub pathLeaf : tree.Span → tree.Span → Fields → ℕ → Leaf Key
 pathLeaf target svg fs d = Leaf.path (record {
   target = target;
@@ -102,9 +82,6 @@ abbrev pub pathEnd : tree.Span → tree.Span → Rule (Leaf Key)
 pathEnd target svg = timedEnd pathFields (pathLeaf target svg)
 
 -- waveform
-abbrev pub waveformSorts : List ℕ
-waveformSorts = 0 ∷ 0 ∷ 0 ∷ 0 ∷ 1 ∷ 0 ∷ 0 ∷ []
-
 abbrev pub waveformLeaf : ℕ → Fields → Leaf Key
 waveformLeaf kind fs = Leaf.waveform (record {
   kind = kind;
@@ -126,10 +103,6 @@ presetPairs = if (sees "(") (inside "(" (pairs drawFields)) (give [])
 
 abbrev pub presetFields : Rule Fields
 presetFields = presetPairs >>= λ fs. if (sees ",") (skip >> parseFieldList drawFields fs) (give fs)
-
--- what is kept of the fields that the rule p takes
-abbrev pub GatheredMeans : List ℕ → Cursor → Rule Fields → Gathered → Type 0
-GatheredMeans s c p g = slots.EndMeans s (c .at) drawSorts c drawFields p (g .slots) (g .others) (g .end)
 
 abbrev pub presetLeaf : tree.Span → Fields → Leaf Key
 presetLeaf name fs = Leaf.preset (record { name = name; duration = lastNumber "duration" fs; easing = lastEasing fs })

@@ -247,7 +247,8 @@ module _ (s : List ℕ) (short : length s ≤ textLimit) where
   unfolding parseStagger openingStep
   stagger-runs q h =
       then (repeats (Opened q) (Opened q) (λ x m o. o) openingStep
-      (λ x m g o. tests (sees "{") (λ e. gives g o) (λ e. field-runs q x m g o)) h (record { pattern = tt; delay = tt; low = omega arith; paid = omega arith }))
+      (λ x m g o. tests (sees "{") (λ e. gives g o) (λ e. field-runs q x m g o)) h
+      (record { pattern = tt; delay = tt; low = omega arith; paid = omega arith }))
       (λ x m g o. gives g
       (record {
         ok = (on-ok patternL (x .0) (o .pattern), on-ok wordL (x .1) (o .delay));

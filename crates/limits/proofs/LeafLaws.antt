@@ -461,7 +461,8 @@ module _ (s : List ℕ) (short : length s ≤ textLimit) {inner : Form Forest} (
   unfolding parseLabel
   label-runs q h e =
       then (string-runs s short q h)
-      (λ t m g x. and (the-mark g 59 refl) (λ n f u y. gives f (record { ok = λ start i. (i, x .0); paid = λ start. omega (arith, x .1, y) })))
+      (λ t m g x. and (the-mark g 59 refl)
+      (λ n f u y. gives f (record { ok = λ start i. (i, x .0); paid = λ start. omega (arith, x .1, y) })))
 
   -- a sign or none
   abbrev Passed : ℕ → ℕ → Type 0

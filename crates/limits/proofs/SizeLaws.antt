@@ -134,7 +134,9 @@ module _ (n : ℕ) where
   tween-rest x = omega (arith, sum .most)
     where
       sum : Most (tweenForm n .write x)
-          (4 + (length (valueForm .write (x .from)) + (length (valueForm .write (x .to)) + (4 + (18 + (length (opt word .write (x .delay)) + 22))))))
+          (4
+          + (length (valueForm .write (x .from))
+          + (length (valueForm .write (x .to)) + (4 + (18 + (length (opt word .write (x .delay)) + 22))))))
       sum =
           span-most (x .target) ⊕ all (valueForm .write (x .from))
           ⊕ all (valueForm .write (x .to)) ⊕ word-most (x .duration)

@@ -1,23 +1,24 @@
 -- Laws of reading: its parts, and the whole in its order. Assumes nothing.
 use Prim.Native.Nat.{ℕ, _+_, _-_, _≤_, _<_}
 use mathlib.Core.Bool.{Bool, true, false}
-use mathlib.Core.List.{List, _++_}
+use mathlib.Core.List.{List, [], _++_}
 use mathlib.Core.Option.{none, some}
 use mathlib.Core.Path.{_≡_, refl, sym, ap, _∙_}
 use native.Mathlib.Omega.{arith}
 use native.Mathlib.Nat.{zero-add, sub-zero}
-use borrow.Author.Tests.{lt-ltb, le-ltb, ltb-false}
-use lib.Dec.{ltb}
+use borrow.Author.Tests.{lt-ltb, le-ltb, ltb-false, eqb-true}
+use lib.Dec.{ltb, eqb}
 use lib.ListN.{length, take, replicate}
 use Rattle.error.specs.Answer.{readValues}
 use Rattle.text.specs.Limits.{textLimit}
 use Rattle.codec.specs.Codec.{big}
-use Rattle.token.specs.Split.{Split, unlexed, tokens, split}
-use Rattle.token.specs.Means.{answerOf, splitting}
+use Rattle.token.specs.Split.{awaits, Split, unlexed, tokens, split}
+use Rattle.token.specs.Means.{answerOf, splitting, nestsFrom}
 use Rattle.token.specs.Means as lexing
 use Rattle.token.specs.declared.SplitAnswer.{SplitAnswer}
 use Rattle.token.specs.declared.SplitAnswer.the-variants as answer
 use Rattle.token.proofs.StreamLaws.{split-reads}
+use Rattle.token.proofs.NestLaws.{last-end, nests-splits}
 use Rattle.ast.specs.Tree.{width, mapTimes}
 use Rattle.sheet.specs.Sheet.{encode}
 use Rattle.encode.specs.Writes.{Writes}
@@ -37,7 +38,8 @@ use Rattle.error.specs.declared.ReadAnswer.{ReadAnswer}
 use Rattle.error.specs.declared.ReadAnswer.the-variants.{Accepted, Refused}
 use Rattle.parser.specs.Reading as reads
 use Rattle.parser.specs.Reading.{wrong, finished, parse, early, reading, scratchWords}
-use Rattle.parser.specs.Means.{treeOf, Encoded, TreeMeans, settled, outcome}
+use Rattle.parser.specs.Means.{treeOf, Encoded, TreeMeans, inputOf, Ended, InputMeans, AllowedMeans, settled, outcome}
+use Rattle.parser.specs.declared.Input.{Input}
 
 -- ---- the grammar, from the text's start on
 
@@ -46,24 +48,40 @@ module _ (t : List ℕ) (c : Cursor) (i : Begins t 0 nothing c) where
   unfolding animatoInput
   input-run = rw (i .is, left-none (c .left) (i .left))
 
-  pub input-refused : (r : Refusal) (p : ℕ) → run t c (parseNodes 16) ≡ refused r p → treeOf t ≡ wrong r p
-  input-refused r p h = input-run ∙ (rw h)
+  -- a refusal tells nothing of the text's end
+  input-wrong : (b a : List ℕ) (r : Refusal) (p : ℕ) (x : Input) → x ≡ inputOf (Refused r p) false
+      → treeOf t ≡ wrong r p → InputMeans t b a x
+  input-wrong b a r p x e h = rw e (record { tree = h; ended = λ q. absurd (let z : _≡_ {A = ℕ} 0 1 = cc in omega arith) })
+
+  pub input-refused : {b a : List ℕ} (r : Refusal) (p : ℕ) (x : Input) → x ≡ inputOf (Refused r p) false
+      → run t c (parseNodes 16) ≡ refused r p → InputMeans t b a x
+  input-refused r p x e h = input-wrong _ _ r p x e (input-run ∙ (rw h))
 
   module _ {b a : List ℕ} {u : Siblings} (g : NodesWent t b a c 2 16 u) where
     -- "tokens left inside a delimiter": 13, at "the first"
-    pub input-left : (p : ℕ) → leftOf (u .next .left) ≡ some p → treeOf t ≡ wrong Leftover p
-    input-left p h = input-run ∙ (rw (g .went .took .is, h))
+    pub input-left : (p : ℕ) (x : Input) → x ≡ inputOf (Refused Leftover p) false → leftOf (u .next .left) ≡ some p → InputMeans t b a x
+    input-left p x e h = input-wrong _ _ Leftover p x e (input-run ∙ (rw (g .went .took .is, h)))
 
-    pub input-done : {a′ : List ℕ} {f : ℕ} → leftOf (u .next .left) ≡ none → Writes a 0 (big 2 .write (u .width)) a′ f
+    -- behind the last node stands the text's end
+    input-ended : (p : ℕ) → p ≡ u .next .at → Ended t (eqb p (length t))
+    input-ended p e q =
+        sym (g .went .took .ready .last) ∙ last-end t (u .next .at) (sym e ∙ eqb-true p (length t) q)
+
+    input-encoded : {a′ : List ℕ} {f : ℕ} → leftOf (u .next .left) ≡ none → Writes a 0 (big 2 .write (u .width)) a′ f
         → Encoded t b a′ (u .end) (u .records)
     unfolding encode
-    input-done h o = record {
+    input-encoded h o = record {
       nodes = g .went .value;
       is = input-run ∙ (rw (g .went .took .is, h));
       writes = rw (← block-bytes (length t) 16 (g .went .value))
           (writes-counted (width (g .went .value)) refl (g .went .writes) (rw (g .wide) at o));
       count = g .count;
     }
+
+    pub input-done : {a′ : List ℕ} {f : ℕ} (p : ℕ) → leftOf (u .next .left) ≡ none → Writes a 0 (big 2 .write (u .width)) a′ f
+        → p ≡ u .next .at
+        → InputMeans t b a′ (inputOf (Accepted (u .end) (u .records)) (eqb p (length t)))
+    input-done p h o e = record { tree = input-encoded h o; ended = input-ended p e }
 
 -- ---- the sheet
 
@@ -101,6 +119,19 @@ tree-settled t s b a (Accepted n k) z m =
     rw (m .is, ← m .count) (by-room s b a bs n k z (m .writes) (ltb (length b) (length bs)) refl)
 
 -- ---- the text rules
+
+module _ (t s : List ℕ) (l : 64 ≤ length s) where
+  -- the delimiters fit, and each token of the text can be cut
+  pub allowed : (s′ : List ℕ) (x : Bool) → Ended t true → x ≡ nestsFrom false (awaits []) t
+      → s′ ≡ replicate (length s) 0 → AllowedMeans t s s′ x
+  unfolding splitting
+  allowed s′ true h e z = rw (le-ltb (length s) 64 l, nests-splits t (h refl) (sym e), z)
+  allowed s′ false h e z = tt
+
+  -- what the scratch holds before a pass does not count
+  pub split-same : (s′ : List ℕ) → length s′ ≡ length s → splitting t s′ ≡ splitting t s
+  unfolding splitting
+  split-same s′ e = rw (e, le-ltb (length s) 64 l)
 
 -- the pass over the text, where the scratch is long enough
 module _ (t s s′ : List ℕ) (x : SplitAnswer) (l : scratchWords ≤ length s) (e : lexing.splitOutcome x s′ ≡ splitting t s) where
@@ -147,10 +178,11 @@ module _ (t s b : List ℕ) where
       unfolding reading early
       by-parse = rw (le-ltb textLimit (length t) h, le-ltb (length s) scratchWords l)
 
-      pub read-refused : (s′ b′ : List ℕ) (x : ReadAnswer) (r : Refusal) (p : ℕ) → s′ ≡ replicate (length s) 0 → parse t ≡ wrong r p
-          → Prim.Path (ReadAnswer × List ℕ) (x, b′) (settled (Refused r p) b) → outcome x s′ b′ ≡ reading t s b
-      read-refused s′ b′ x r p z e q =
-          rw (z, by-parse, e, sub-zero) (ap (λ (y : ReadAnswer × List ℕ). outcome (y .0) (replicate (length s) 0) (y .1)) q)
+      pub read-refused : (s′ b′ a : List ℕ) (x : ReadAnswer) (r : Refusal) (p : ℕ) → s′ ≡ replicate (length s) 0
+          → parse t ≡ wrong r p → length a ≡ length b
+          → Prim.Path (ReadAnswer × List ℕ) (x, b′) (settled (Refused r p) a) → outcome x s′ b′ ≡ reading t s b
+      read-refused s′ b′ a x r p z e i q =
+          rw (z, by-parse, e, sub-zero, sym i) (ap (λ (y : ReadAnswer × List ℕ). outcome (y .0) (replicate (length s) 0) (y .1)) q)
 
       pub read-tree : (s′ b′ a : List ℕ) (x y : ReadAnswer) → s′ ≡ replicate (length s) 0
           → parse t ≡ treeOf t → length a ≡ length b → TreeMeans t b a y

@@ -1,11 +1,13 @@
 // parser.rs: reading a text into a sheet.
+ghost use mathlib.Core.Bool.{false};
 ghost use mathlib.Core.Path.{_≡_};
 ghost use Prim.Native.Nat.{_≤_};
 ghost use lib.ListN.{length};
 ghost use Rattle.text.specs.Limits.{textLimit};
+ghost use Rattle.token.specs.Means.{splitOutcome, splitting};
 ghost use Rattle.error.specs.Answer.{readValues};
 ghost use Rattle.parser.specs.Reading.{reading};
-ghost use Rattle.parser.specs.Means.{TreeMeans, settled, outcome};
+ghost use Rattle.parser.specs.Means.{inputOf, Ended, InputMeans, AllowedMeans, settled, outcome};
 use blocks::ParsedNodes;
 use cursor::Left;
 use error::ReadAnswer;
@@ -15,31 +17,68 @@ use token::SplitAnswer;
 // The words that reading asks of a scratch.
 pub const SCRATCH_WORDS: usize = 16384;
 
+// What the grammar says of a text, and whether it was read to its end.
+struct Input {
+    answer: ReadAnswer,
+    whole: bool,
+}
+
+fn refused(refusal: Refusal, place: usize) -> Input
+    ensures { λ r. ⌜ r ≡ inputOf (ReadAnswer.Refused refusal place) false ⌝ }
+{
+    let answer = ReadAnswer::Refused { refusal, place };
+    Input {
+        answer,
+        whole: false,
+    }
+}
+
 // `AnimatoInput`: the nodes of a whole text, written behind their count.
-fn parse_input(text: &[u8], sheet: &mut [u8]) -> ReadAnswer
+fn parse_input(text: &[u8], sheet: &mut [u8]) -> Input
     requires { ⌜ length (now text) ≤ textLimit ⌝ }
-    ensures { λ r. ⌜ TreeMeans (now (text .entry)) (now (sheet .entry)) (now (sheet .exit)) r ⌝ }
+    ensures { λ r. ⌜ InputMeans (now (text .entry)) (now (sheet .entry)) (now (sheet .exit)) r ⌝ }
 {
     let c = cursor::first(text);
     match blocks::parse_nodes(text, sheet, c, 2, 16) {
-        ParsedNodes::Refused(refusal, place) => ReadAnswer::Refused { refusal, place },
+        ParsedNodes::Refused(refusal, place) => refused(refusal, place),
         ParsedNodes::Is(nodes) => {
             let m = nodes.next;
             match cursor::leftover(m) {
-                Left::At(place) => ReadAnswer::Refused {
-                    refusal: Refusal::Leftover,
-                    place,
-                },
+                Left::At(place) => refused(Refusal::Leftover, place),
                 Left::Nothing => {
                     encode::patch_count(sheet, 0, nodes.width);
-                    ReadAnswer::Accepted {
+                    let answer = ReadAnswer::Accepted {
                         length: nodes.end,
                         records: nodes.records,
-                    }
+                    };
+                    let whole = cursor::place(m) == text.len();
+                    Input { answer, whole }
                 }
             }
         }
     }
+}
+
+// Whether the text rules allow a text that was read to its end, by its delimiters alone. Of another text it is not known here.
+fn is_allowed(text: &[u8], scratch: &mut [u16], whole: bool) -> bool
+    requires { ⌜ (64 ≤ length (now scratch)) × Ended (now text) whole ⌝ }
+    ensures { λ r. ⌜ AllowedMeans (now (text .entry)) (now (scratch .entry)) (now (scratch .exit)) r ⌝ }
+{
+    if whole {
+        return token::nests(text, scratch);
+    }
+    false
+}
+
+// Judges a text by the text rules. `split`, which cuts it a second time, is asked only where the delimiters do not tell.
+fn judge(text: &[u8], scratch: &mut [u16], whole: bool) -> SplitAnswer
+    requires { ⌜ (length (now text) ≤ textLimit) × (64 ≤ length (now scratch)) × Ended (now text) whole ⌝ }
+    ensures { λ r. ⌜ splitOutcome r (now (scratch .exit)) ≡ splitting (now (text .entry)) (now (scratch .entry)) ⌝ }
+{
+    if is_allowed(text, scratch, whole) {
+        return SplitAnswer::Accepted;
+    }
+    token::split(text, scratch)
 }
 
 // The last refusal, of a sheet too short for the encoding; and zeros behind the encoding, or everywhere on a refusal.
@@ -82,13 +121,14 @@ pub fn read(text: &[u8], scratch: &mut [u16], sheet: &mut [u8]) -> ReadAnswer
             place: 0,
         };
     }
-    match token::split(text, scratch) {
+    let input = parse_input(text, sheet);
+    match judge(text, scratch, input.whole) {
         SplitAnswer::Refused { refusal, place } => settle(
             sheet,
             ReadAnswer::Refused { refusal, place },
         ),
         SplitAnswer::Accepted => {
-            let answer = parse_input(text, sheet);
+            let answer = input.answer;
             settle(sheet, answer)
         }
     }

@@ -25,6 +25,32 @@ pub has-end : (s : List ℕ) (i b : ℕ) → length s ≤ i → oneOf (drop i s)
 unfolding oneOf
 has-end s i b h = rw (drop-of-length-le s h)
 
+-- ---- comparisons one after another, as code has them
+
+unfoldable pub tests : Bool → List ℕ → ℕ → Bool
+tests x [] b = x
+tests x (c ∷ cs) b = tests (x || eqb b c) cs b
+
+tests-or : (x : Bool) (cs : List ℕ) (b : ℕ) → tests x cs b ≡ (x || oneOf cs b)
+unfolding tests oneOf
+tests-or true [] b = refl
+tests-or false [] b = refl
+tests-or true (c ∷ cs) b = tests-or true cs b
+tests-or false (c ∷ cs) b = tests-or (eqb b c) cs b
+
+pub tests-are : (c : ℕ) (cs : List ℕ) (b : ℕ) → tests (eqb b c) cs b ≡ oneOf (c ∷ cs) b
+unfolding oneOf
+tests-are c cs b = tests-or (eqb b c) cs b
+
+none-of-two : (p q : Bool) → (not p && not q) ≡ not (p || (q || false))
+none-of-two true q = refl
+none-of-two false true = refl
+none-of-two false false = refl
+
+pub neither-is : (c d b : ℕ) → (not (eqb b c) && not (eqb b d)) ≡ not (oneOf (c ∷ d ∷ []) b)
+unfolding oneOf
+neither-is c d b = none-of-two (eqb b c) (eqb b d)
+
 -- ---- foreign bytes
 
 none-of : (p q r : Bool) → ((((true && not p) && not q) && not r) || false) ≡ not (p || (q || (r || false)))

@@ -3,7 +3,7 @@ ghost use Prim.Native.Nat.{_+_};
 ghost use mathlib.Core.List.{[], _∷_};
 ghost use mathlib.Core.Path.{_≡_};
 ghost use lib.ListN.{drop};
-ghost use Rattle.text.specs.Bytes.{within, oneOf, isUpper, isLetter, isName, isInside, isHex, isForeign, same, run, at, part, lower, lowered};
+ghost use Rattle.text.specs.Bytes.{within, oneOf, isUpper, isLetter, isName, isBlank, isInside, isHex, isForeign, same, run, at, part, lower, lowered};
 ghost use Rattle.text.specs.Words.{find, table, isSome};
 ghost use Rattle.text.specs.Means.{passes, placeOf};
 ghost use Rattle.text.specs.Write.{Puts};
@@ -80,11 +80,17 @@ fn is_name(b: u8) -> bool
     between(b'0', b'9', b)
 }
 
+fn is_blank(b: u8) -> bool
+    ensures { λ r. ⌜ r ≡ isBlank b ⌝ }
+{
+    (b == b' ') | (b == b'\t') | (b == b'\n') | (b == b'\r')
+}
+
 fn is_inside(b: u8) -> bool
     ensures { λ r. ⌜ r ≡ isInside b ⌝ }
 {
     if between(b' ', b'~', b) {
-        return !has(b"\"\\", b);
+        return (b != b'"') & (b != b'\\');
     }
     false
 }
@@ -110,7 +116,7 @@ pub fn in_class(k: Class, b: u8) -> bool
     ensures { λ r. ⌜ r ≡ passes k b ⌝ }
 {
     match k {
-        Class::Blank => has(b" \t\n\r", b),
+        Class::Blank => is_blank(b),
         Class::Digit => between(b'0', b'9', b),
         Class::Letter => is_letter(b),
         Class::NameByte => is_name(b),

@@ -5,3 +5,4 @@ pub mod TokenLaws
 pub mod SplitLaws
 pub mod NameLaws
 pub mod StreamLaws
+pub mod NestLaws

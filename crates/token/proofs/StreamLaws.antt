@@ -17,7 +17,7 @@ abbrev split-tokens : Split → List Token
 split-tokens (unlexed r p) = []
 split-tokens (tokens ts) = ts
 
-abbrev IsTokens : Split → Type 0
+abbrev pub IsTokens : Split → Type 0
 IsTokens (unlexed r p) = ⊥
 IsTokens (tokens ts) = Unit {0}
 

@@ -20,18 +20,18 @@ use Rattle.token.proofs.LexLaws.{fraction-run, fraction-is, number-clin
 
 -- ---- classes of bytes with no foreign byte
 
-never : (false ≡ true) → ⊥
+pub never : (false ≡ true) → ⊥
 never q = let z : _≡_ {A = ℕ} 0 1 = cc in omega arith
 
-either : (a b : Bool) {P : Type 0} → (a ≡ true → P) → (b ≡ true → P) → (a || b) ≡ true → P
+pub either : (a b : Bool) {P : Type 0} → (a ≡ true → P) → (b ≡ true → P) → (a || b) ≡ true → P
 either true b f g h = f refl
 either false b f g h = g h
 
-both : (a b : Bool) → (a && b) ≡ true → (a ≡ true) × (b ≡ true)
+pub both : (a b : Bool) → (a && b) ≡ true → (a ≡ true) × (b ≡ true)
 both true b h = (refl, h)
 both false b h = absurd (never h)
 
-neither : (a b : Bool) → (a || b) ≡ false → (a ≡ false) × (b ≡ false)
+pub neither : (a b : Bool) → (a || b) ≡ false → (a ≡ false) × (b ≡ false)
 neither true b h = absurd (never (sym h))
 neither false b h = (refl, h)
 
@@ -43,19 +43,23 @@ range-clean lo hi b h g e =
 is-clean : (b c : ℕ) → isForeign c ≡ false → eqb b c ≡ true → isForeign b ≡ false
 is-clean b c h e = subst (λ (x : ℕ). isForeign x ≡ false) (sym (eqb-true b c e)) h
 
-allClean : List ℕ → Bool
-allClean [] = true
-allClean (c ∷ cs) = not (isForeign c) && allClean cs
+-- whether each of some bytes passes a test
+unfoldable pub every : (ℕ → Bool) → List ℕ → Bool
+every p [] = true
+every p (c ∷ cs) = p c && every p cs
 
-set-clean : (cs : List ℕ) (b : ℕ) → allClean cs ≡ true → oneOf cs b ≡ true → isForeign b ≡ false
-unfolding oneOf allClean
-set-clean [] b h e = absurd (never e)
-set-clean (c ∷ cs) b h e =
-    let k = both (not (isForeign c)) (allClean cs) h in
-    either (eqb b c) (oneOf cs b) (λ q. is-clean b c (not-true (isForeign c) (k .0)) q) (λ q. set-clean cs b (k .1) q) e
+pub every-in : (p : ℕ → Bool) (cs : List ℕ) (b : ℕ) → every p cs ≡ true → oneOf cs b ≡ true → p b ≡ true
+unfolding oneOf every
+every-in p [] b h e = absurd (never e)
+every-in p (c ∷ cs) b h e =
+    let k = both (p c) (every p cs) h in
+    either (eqb b c) (oneOf cs b) (λ q. subst (λ (x : ℕ). p x ≡ true) (sym (eqb-true b c q)) (k .0)) (λ q. every-in p cs b (k .1) q) e
+
+set-clean : (cs : List ℕ) (b : ℕ) → every (λ (c : ℕ). not (isForeign c)) cs ≡ true → oneOf cs b ≡ true → isForeign b ≡ false
+set-clean cs b h e = not-true (isForeign b) (every-in (λ (c : ℕ). not (isForeign c)) cs b h e)
 
 pub blank-clean : (b : ℕ) → isBlank b ≡ true → isForeign b ≡ false
-unfolding allClean oneOf
+unfolding every oneOf
 blank-clean b h = set-clean (32 ∷ 9 ∷ 10 ∷ 13 ∷ []) b refl h
 
 digit-clean : (b : ℕ) → isDigit b ≡ true → isForeign b ≡ false
@@ -71,6 +75,23 @@ name-clean b h =
     (λ e. is-clean b 95 refl e) l)
     (λ d. digit-clean b d)
     h
+
+-- a byte of a name or a number
+abbrev pub isWordByte : ℕ → Bool
+isWordByte b = isName b || eqb b 46
+
+word-clean : (b : ℕ) → isWordByte b ≡ true → isForeign b ≡ false
+word-clean b h = either (isName b) (eqb b 46) (λ e. name-clean b e) (λ e. is-clean b 46 refl e) h
+
+name-word : (b : ℕ) → isName b ≡ true → isWordByte b ≡ true
+name-word b h = rw h
+
+digit-word : (b : ℕ) → isDigit b ≡ true → isWordByte b ≡ true
+digit-word b h = name-word b (go (isLetter b))
+  where
+    go : (x : Bool) → (x || isDigit b) ≡ true
+    go true = refl
+    go false = h
 
 inside-clean : (b : ℕ) → isInside b ≡ true → isForeign b ≡ false
 inside-clean b h = range-clean 32 126 b (omega arith) (omega arith) (both (within 32 126 b) (not (among "\"\\" b)) h .0)
@@ -96,11 +117,20 @@ Fits (number w) n = (w .places ≤ 9) × (w .digits < 10 ^ 19)
 Fits (quoted m) n = n ≡ m + 2
 Fits (mark b) n = eqb b 0 ≡ false
 
+-- how a kind of n bytes is written, t being the text from its start on
+abbrev pub Spelled : List ℕ → Kind → ℕ → Type 0
+Spelled t (name w) n = (j : ℕ) → j < n → isWordByte (getD t j 0) ≡ true
+Spelled t (number w) n = (j : ℕ) → j < n → isWordByte (getD t j 0) ≡ true
+Spelled t (quoted m) n =
+    (getD t 0 0 ≡ 34) × ((i : ℕ) → i < m → isInside (getD t (suc i) 0) ≡ true) × (getD t (suc m) 0 ≡ 34)
+Spelled t (mark b) n = (getD t 0 0 ≡ b) × (n ≡ 1) × (among ":;,=>.+-%([{)]}" b ≡ true)
+
 pub record Whole (t : List ℕ) (k : Kind) (n : ℕ) : Type 0 where
   pub some : 0 < n
   pub high : n ≤ length t
   pub clean : (j : ℕ) → j < n → isForeign (getD t j 0) ≡ false
   pub fits : Fits k n
+  pub spelled : Spelled t k n
 
 abbrev WholeOf : List ℕ → Lexeme → Type 0
 WholeOf t (bad r) = Unit {0}
@@ -122,6 +152,7 @@ name-whole t h z = go (eqb (getD t (run isName t) 0) 34) refl
           high = run-le isName t;
           clean = λ j q. name-clean (getD t j 0) (run-in isName t j q);
           fits = length-take-le (run isName t) t (run-le isName t);
+          spelled = λ j q. name-word (getD t j 0) (run-in isName t j q);
         })
 
 quoted-whole : (t : List ℕ) → eqb (getD t 0 0) 34 ≡ true → WholeOf t (quotedAt t)
@@ -146,39 +177,51 @@ quoted-whole t h =
           clean = λ j q. upto (Clean t) (suc n) 0 (λ i g. front i (omega arith)) (is-clean (getD t (suc n) 0) 34 refl e)
               (λ i g. absurd (omega arith)) j (omega arith);
           fits = refl;
+          spelled = (
+            eqb-true (getD t 0 0) 34 h,
+            λ i q. let c : suc i ≡ 1 + i = omega arith in rw c (run-in-at isInside t 1 i (omega arith)),
+            eqb-true (getD t (suc n) 0) 34 e,
+          );
         })
 
 mark-whole : (t : List ℕ) → among ":;,=>.+-%([{)]}" (getD t 0 0) ≡ true → 0 < length t → Whole t (mark (getD t 0 0)) 1
-unfolding oneOf allClean
+unfolding oneOf every
 mark-whole t h z =
     record {
       some = omega arith;
       high = z;
       clean = λ j q. let e : j ≡ 0 = omega arith in rw e (set-clean (bytes ":;,=>.+-%([{)]}") (getD t 0 0) refl h);
       fits = ne-eqb (getD t 0 0) 0 (λ e. never (rw e at h));
+      spelled = (refl, refl, h);
     }
 
 -- ---- numbers
 
-module _ (t : List ℕ) (w : ℕ) (fits : w ≤ length t) (digits : (j : ℕ) → j < w → Clean t j) where
+-- the byte at j is of a name or a number
+abbrev Word : List ℕ → ℕ → Type 0
+Word t j = isWordByte (getD t j 0) ≡ true
+
+module _ (t : List ℕ) (w : ℕ) (fits : w ≤ length t) (digits : (j : ℕ) → j < w → Word t j) where
   record Fraction (e : ℕ) : Type 0 where
     low : w ≤ e
     high : e ≤ length t
-    clean : (j : ℕ) → j < e → Clean t j
+    words : (j : ℕ) → j < e → Word t j
 
   fraction-whole : (x : Bool) → pointAt t w ≡ x → Fraction (pastFraction x t w)
   unfolding pastFraction pointAt
-  fraction-whole false h = record { low = omega arith; high = fits; clean = digits }
+  fraction-whole false h = record { low = omega arith; high = fits; words = digits }
   fraction-whole true h = record {
     low = omega arith;
     high = run-fits isDigit t (suc w) (point-inside t w h);
-    clean = upto
-        (Clean t)
+    words = upto
+        (Word t)
         w
         (run isDigit (drop (suc w) t))
         digits
-        (is-clean (getD t w 0) 46 refl (both (eqb (getD t w 0) 46) (isDigit (getD t (suc w) 0)) h .0))
-        (λ i q. digit-clean (getD t (suc w + i) 0) (run-in-at isDigit t (suc w) i q));
+        (subst (λ (x : ℕ). isWordByte x ≡ true)
+        (sym (eqb-true (getD t w 0) 46 (both (eqb (getD t w 0) 46) (isDigit (getD t (suc w) 0)) h .0)))
+        refl)
+        (λ i q. digit-word (getD t (suc w + i) 0) (run-in-at isDigit t (suc w) i q));
   }
 
   suffix-whole : (e : ℕ) → Fraction e → (z : Bool) → suffixAt t e ≡ z → Fraction (pastSuffix z e)
@@ -188,7 +231,8 @@ module _ (t : List ℕ) (w : ℕ) (fits : w ≤ length t) (digits : (j : ℕ) �
       record {
         low = omega (arith, f .low);
         high = suffix-inside t e h;
-        clean = λ j q. upto (Clean t) e 0 (f .clean) (is-clean (getD t e 0) 115 refl h) (λ i g. absurd (omega arith)) j (omega arith);
+        words = λ j q. upto (Word t) e 0 (f .words) (subst (λ (x : ℕ). isWordByte x ≡ true) (sym (eqb-true (getD t e 0) 115 h)) refl)
+            (λ i g. absurd (omega arith)) j (omega arith);
       }
 
 -- the digits of a number, q of them after the point, up to e
@@ -225,9 +269,9 @@ number-whole t h z = go (run isDigit t) refl (pointAt t (run isDigit t)) refl
             let few = neither (ltb 10 w) (ltb 9 (placesOf x w e)) q in
             let a = ltb-false 10 w (few .0) in
             let b = ltb-false 9 (placesOf x w e) (few .1) in
-            let f = suffix-whole t w (omega (arith, run-le isDigit t)) (λ j g. digit-clean (getD t j 0) (run-in isDigit t j (omega arith)))
+            let f = suffix-whole t w (omega (arith, run-le isDigit t)) (λ j g. digit-word (getD t j 0) (run-in isDigit t j (omega arith)))
             e
-            (fraction-whole t w (omega (arith, run-le isDigit t)) (λ j g. digit-clean (getD t j 0) (run-in isDigit t j (omega arith))) x
+            (fraction-whole t w (omega (arith, run-le isDigit t)) (λ j g. digit-word (getD t j 0) (run-in isDigit t j (omega arith))) x
             (sym l))
             (suffixAt t e) refl
             in
@@ -235,8 +279,9 @@ number-whole t h z = go (run isDigit t) refl (pointAt t (run isDigit t)) refl
             (record {
               some = omega (arith, f .low, run-at isDigit t 0 z h);
               high = f .high;
-              clean = f .clean;
+              clean = λ j q. word-clean (getD t j 0) (f .words j q);
               fits = (b, digits-below t w e (placesOf x w e) x refl refl (omega arith) a b);
+              spelled = f .words;
             })
 
 -- ---- each lexeme

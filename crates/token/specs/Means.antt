@@ -1,16 +1,21 @@
 -- What the answers of the code mean. Contracts cite these. Assumes nothing.
-use Prim.Native.Nat.{ℕ, zero, suc, _-_, _^_, _≤_, _<_}
+use Prim.Native.Nat.{ℕ, zero, suc, _+_, _-_, _*_, _^_, _≤_, _<_}
 use mathlib.Core.List.{List, [], _∷_}
-use mathlib.Core.Bool.{Bool, false, cond}
+use Prim.Native.Char.{code}
+use Prim.Native.String.{String}
+use mathlib.Core.Bool.{Bool, true, false, _&&_, not, cond}
 use mathlib.Core.Path.{_≡_}
-use lib.Dec.{ltb}
+use lib.Dec.{ltb, eqb}
 use lib.ListN.{length, getD, take, drop, replicate}
 use Rattle.text.specs.Bytes.{run, isDigit}
+use Rattle.text.specs.Words.{words}
 use Rattle.number.specs.Number.{Written}
-use Rattle.token.specs.Token.{Kind, name, number, quoted, mark, Lexeme, bad, piece, writtenAt, tokensFrom, place, kind, isMark, rest}
+use Rattle.token.specs.Token.{Kind, name, number, quoted, mark, Token, token, Lexeme, bad, piece, writtenAt}
+use Rattle.token.specs.Token.{tokensFrom, place, kind, isMark, rest}
 use Rattle.error.specs.declared.Refusal.{Refusal}
 use Rattle.error.specs.declared.Refusal.the-variants.{BadForm, TooManyDigits, TooManyOpen, ScratchTooShort}
-use Rattle.token.specs.Split.{Nest, unfit, awaits, closer, Split, unlexed, tokens, splitFrom, split}
+use Rattle.token.specs.Split.{Nest, unfit, awaits, closer, nestMark, Split, unlexed, tokens, splitFrom, split}
+use Rattle.token.specs.Names.{keywords}
 use Rattle.token.specs.declared.Number.{Number}
 use Rattle.token.specs.declared.Tok.{Tok}
 use Rattle.token.specs.declared.Tok.the-variants as tok
@@ -85,6 +90,11 @@ pub record Lexes (s : List ℕ) (at : ℕ) (r : Lexed) : Type 0 where
   pub moved : isMark (kindOf (drop (r .start) s) (r .end - r .start) (r .tok)) 0 ≡ false → r .start < r .end
   pub stands : Stands (drop (r .start) s) (r .end - r .start) (r .tok)
 
+-- the place of the last of some tokens, p where there is none; a text's tokens end at its length where each of them can be cut
+unfoldable pub lastPlace : ℕ → List Token → ℕ
+lastPlace p [] = p
+lastPlace p (token q k ∷ ts) = lastPlace q ts
+
 -- ---- the pass over a whole text
 
 -- the awaited closers, the innermost first, where the first d words have them, the innermost last
@@ -135,3 +145,60 @@ unfoldable pub splitting : List ℕ → List ℕ → SplitAnswer × List ℕ
 splitting t s =
     cond (ltb (length s) 64) (splitOutcome (answer.Refused ScratchTooShort 0) s)
     (splitOutcome (answerOf (split t)) (replicate (length s) 0))
+
+-- ---- the delimiters alone, byte by byte: where each token of a text can be cut, it is split if they fit (proofs/NestLaws)
+
+-- what a byte makes of the awaited closers; in a string, nothing
+abbrev pub nestByte : Bool → ℕ → Nest → Nest
+nestByte true b x = x
+nestByte false b (unfit r) = unfit r
+nestByte false b (awaits cs) = nestMark b cs
+
+-- whether a string is open behind a byte
+abbrev pub quotedBy : Bool → ℕ → Bool
+quotedBy q b = cond (eqb b (code "\"")) (not q) q
+
+-- whether nothing is open
+abbrev pub isClosed : Bool → Nest → Bool
+isClosed q (unfit r) = false
+isClosed q (awaits []) = not q
+isClosed q (awaits (c ∷ cs)) = false
+
+-- whether the delimiters of a text fit, x being awaited before it, in a string or not
+unfoldable pub nestsFrom : Bool → Nest → List ℕ → Bool
+nestsFrom q x [] = isClosed q x
+nestsFrom q x (b ∷ t) = nestsFrom (quotedBy q b) (nestByte q b x) t
+
+-- the bytes from a place to another change nothing
+pub record Skips (s : List ℕ) (from to : ℕ) : Type 0 where
+  pub same : (q : Bool) (x : Nest) → nestsFrom q x (drop from s) ≡ nestsFrom q x (drop to s)
+  pub low : from ≤ to
+  pub high : to ≤ length s
+
+-- ---- keywords as numbers
+
+-- the bytes of a word as one number, the first the least, under a 1: no two words of bytes have the same
+unfoldable pub pack : List ℕ → ℕ
+pack [] = 1
+pack (b ∷ w) = pack w * 256 + b
+
+unfoldable pub packs : List (List ℕ) → List ℕ
+packs [] = []
+packs (w ∷ ws) = pack w ∷ packs ws
+
+-- those words whose length passes a test
+unfoldable pub sized : (ℕ → Bool) → List (List ℕ) → List (List ℕ)
+sized p [] = []
+sized p (w ∷ ws) = cond (p (length w)) (w ∷ sized p ws) (sized p ws)
+
+abbrev pub upTo4 : ℕ → Bool
+upTo4 n = ltb n 5
+
+abbrev pub upTo7 : ℕ → Bool
+upTo7 n = ltb 4 n && ltb n 8
+
+unfoldable pub packedKeywords : (ℕ → Bool) → List ℕ
+packedKeywords p = packs (sized p (words keywords))
+
+abbrev pub longKeywords : List String
+longKeywords = "continue" ∷ "abstract" ∷ "override" ∷ []

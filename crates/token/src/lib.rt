@@ -1,16 +1,17 @@
-// Tokens of a text: the one at a place, and the pass that judges a whole text by the text rules.
-// For our own crates: both require a text of at most the limit.
+// Tokens of a text: the one at a place; the pass that judges a whole text by the text rules, and the quicker one over its delimiters alone;
+// the words that are no names. For our own crates: the first two require a text of at most the limit.
 ghost use mathlib.Core.Path.{_≡_};
-ghost use mathlib.Core.Bool.{not, _||_};
-ghost use mathlib.Core.List.{List};
+ghost use mathlib.Core.Bool.{true, false, not, _||_};
+ghost use mathlib.Core.List.{List, []};
 ghost use Prim.Native.Nat.{ℕ, _-_, _^_, _≤_, _<_};
 ghost use lib.ListN.{length, drop, replicate};
 ghost use Rattle.text.specs.Limits.{textLimit};
-ghost use Rattle.text.specs.Bytes.{run, part, among, decimal, isDigit};
+ghost use Rattle.text.specs.Bytes.{bytes, run, part, oneOf, among, decimal, isDigit};
 ghost use Rattle.token.specs.Token.{nameAt, pointAt, pastFraction, suffixAt, pastSuffix, clings, placesOf, numberAt, quotedAt, writtenAt, lexeme};
-ghost use Rattle.token.specs.Split.{closer, closed, nestMark, nest, ended, split};
+ghost use Rattle.token.specs.Split.{awaits, closer, closed, nestMark, nest, ended, split};
+ghost use Rattle.text.specs.Words.{isOneOf};
 ghost use Rattle.token.specs.Names.{isKeyword};
-ghost use Rattle.token.specs.Means.{writtenOf, kindOf, excessOf, Digits, Small, CutMeans, lexedOf, Lexes, held, afterOpener, DepthMeans, answerOf, answerFrom, TurnMeans, splitOutcome, splitting};
+ghost use Rattle.token.specs.Means.{writtenOf, kindOf, excessOf, Digits, Small, CutMeans, lexedOf, Lexes, held, afterOpener, DepthMeans, answerOf, answerFrom, TurnMeans, splitOutcome, splitting, nestByte, quotedBy, isClosed, nestsFrom, Skips, pack, upTo4, upTo7, packedKeywords, longKeywords};
 use error::Refusal;
 use text::Class;
 
@@ -208,7 +209,21 @@ pub fn number_of(t: &[u8]) -> Number
 fn is_mark(b: u8) -> bool
     ensures { λ r. ⌜ r ≡ among ":;,=>.+-%([{)]}" b ⌝ }
 {
-    text::has(b":;,=>.+-%([{)]}", b)
+    (b == b':')
+        | (b == b';')
+        | (b == b',')
+        | (b == b'=')
+        | (b == b'>')
+        | (b == b'.')
+        | (b == b'+')
+        | (b == b'-')
+        | (b == b'%')
+        | (b == b'(')
+        | (b == b'[')
+        | (b == b'{')
+        | (b == b')')
+        | (b == b']')
+        | (b == b'}')
 }
 
 // The token that a text begins with; no blank stands first.
@@ -447,45 +462,210 @@ pub fn split(text: &[u8], scratch: &mut [u16]) -> SplitAnswer
     answer
 }
 
+// ---- the delimiters alone, for a text whose tokens are all cut
+
+// Whether a byte is surely no delimiter and no quote: a letter, a digit and most marks are told by one test.
+fn is_plain(b: u8) -> bool
+    ensures { λ r. ⌜ (r ≡ true → oneOf (bytes "\"([{)]}") b ≡ false) ⌝ }
+{
+    let c = b | 32;
+    (42 <= c) & (c <= 122)
+}
+
+// The first place from one on whose byte may be a delimiter or a quote.
+fn plain_end(text: &[u8], from: usize) -> usize
+    requires { ⌜ from ≤ length (now text) ⌝ }
+    ensures { λ r. ⌜ Skips (now (text .entry)) from r ⌝ }
+{
+    let mut i = from;
+    while i < text.len() {
+        if !is_plain(text[i]) {
+            return i;
+        }
+        i += 1;
+    }
+    i
+}
+
+// Whether a string is open behind a byte.
+fn quoted_by(quoted: bool, b: u8) -> bool
+    ensures { λ r. ⌜ r ≡ quotedBy quoted b ⌝ }
+{
+    if b == b'"' {
+        return !quoted;
+    }
+    quoted
+}
+
+// What a byte makes of the delimiters; in a string, nothing.
+fn nest_byte(quoted: bool, b: u8, words: &mut [u16], depth: usize) -> Depth
+    requires { ⌜ (64 ≤ length (now words)) × (depth ≤ 64) ⌝ }
+    ensures { λ r. ⌜ DepthMeans (nestByte quoted b (awaits (held (now (words .entry)) depth))) (now (words .exit)) r ⌝ }
+{
+    if quoted {
+        return Depth::Open(depth);
+    }
+    nest_mark(b, words, depth)
+}
+
+// Whether nothing is open.
+fn is_closed(quoted: bool, depth: usize) -> bool
+    ensures { λ r. ⌜ ((s : List ℕ) → r ≡ isClosed quoted (awaits (held s depth))) ⌝ }
+{
+    if depth == 0 {
+        return !quoted;
+    }
+    false
+}
+
+// Whether the delimiters of a text fit.
+fn delimiters_fit(text: &[u8], words: &mut [u16]) -> bool
+    requires { ⌜ 64 ≤ length (now words) ⌝ }
+    ensures { λ r. ⌜ r ≡ nestsFrom false (awaits []) (now (text .entry)) ⌝ }
+{
+    let mut from = 0;
+    let mut quoted = false;
+    let mut depth = 0;
+    loop {
+        let at = plain_end(text, from);
+        if text.len() <= at {
+            return is_closed(quoted, depth);
+        }
+        let b = text[at];
+        match nest_byte(quoted, b, words, depth) {
+            Depth::Unfit(_) => return false,
+            Depth::Open(d) => {
+                from = at + 1;
+                quoted = quoted_by(quoted, b);
+                depth = d;
+            }
+        }
+    }
+}
+
+// Whether the delimiters of a text fit: where each of its tokens can be cut, the text rules then allow it. It uses the first 64 words of
+// the scratch, and leaves all of it zero.
+pub fn nests(text: &[u8], scratch: &mut [u16]) -> bool
+    requires { ⌜ 64 ≤ length (now scratch) ⌝ }
+    ensures { λ r. ⌜ r ≡ nestsFrom false (awaits []) (now (text .entry)) ⌝ }
+    ensures zero { λ _. ⌜ now (scratch .exit) ≡ replicate (length (now (scratch .entry))) 0 ⌝ }
+{
+    let r = delimiters_fit(text, scratch);
+    clear(scratch);
+    r
+}
+
 // ---- the words that are no names
 
-// By their lengths, each behind a byte that is its length.
-const KEYWORDS_1: [u8; 2] = *b"\x01_";
+// The bytes of a word as one number, the first the least, under a 1.
+fn packed(word: &[u8]) -> u64
+    requires { ⌜ length (now word) ≤ 7 ⌝ }
+    ensures { λ r. ⌜ r ≡ pack (now (word .entry)) ⌝ }
+{
+    let mut v: u64 = 1;
+    let mut i = word.len();
+    while 0 < i {
+        i -= 1;
+        let b = word[i] as u64;
+        v = v * 256 + b;
+    }
+    v
+}
 
-const KEYWORDS_2: [u8; 15] = *b"\x02as\x02fn\x02if\x02in\x02do";
+// The keywords of at most 4 bytes, packed.
+fn is_keyword_upto_4(v: u64) -> bool
+    ensures { λ r. ⌜ r ≡ oneOf (packedKeywords upTo4) v ⌝ }
+{
+    match v {
+        0x15f // _
+        | 0x17361 // as
+        | 0x165736c65 // else
+        | 0x16d756e65 // enum
+        | 0x16e66 // fn
+        | 0x1726f66 // for
+        | 0x16669 // if
+        | 0x16c706d69 // impl
+        | 0x16e69 // in
+        | 0x174656c // let
+        | 0x1706f6f6c // loop
+        | 0x1646f6d // mod
+        | 0x165766f6d // move
+        | 0x174756d // mut
+        | 0x1627570 // pub
+        | 0x1666572 // ref
+        | 0x1666c6573 // self
+        | 0x1666c6553 // Self
+        | 0x165757274 // true
+        | 0x165707974 // type
+        | 0x1657375 // use
+        | 0x16e7964 // dyn
+        | 0x1786f62 // box
+        | 0x16f64 // do
+        | 0x176697270 // priv
+        | 0x1797274 // try
+        => true,
+        _ => false,
+    }
+}
 
-const KEYWORDS_3: [u8; 40] =
-    *b"\x03for\x03let\x03mod\x03mut\x03pub\x03ref\x03use\x03dyn\x03box\x03try";
+// The keywords of 5 to 7 bytes, packed.
+fn is_keyword_upto_7(v: u64) -> bool
+    ensures { λ r. ⌜ r ≡ oneOf (packedKeywords upTo7) v ⌝ }
+{
+    match v {
+        0x16b61657262 // break
+        | 0x174736e6f63 // const
+        | 0x16574617263 // crate
+        | 0x16e7265747865 // extern
+        | 0x165736c6166 // false
+        | 0x1686374616d // match
+        | 0x16e7275746572 // return
+        | 0x1636974617473 // static
+        | 0x1746375727473 // struct
+        | 0x17265707573 // super
+        | 0x17469617274 // trait
+        | 0x1656661736e75 // unsafe
+        | 0x16572656877 // where
+        | 0x1656c696877 // while
+        | 0x1636e797361 // async
+        | 0x17469617761 // await
+        | 0x1656d6f636562 // become
+        | 0x16c616e6966 // final
+        | 0x16f7263616d // macro
+        | 0x1666f65707974 // typeof
+        | 0x164657a69736e75 // unsized
+        | 0x16c617574726976 // virtual
+        | 0x1646c656979 // yield
+        => true,
+        _ => false,
+    }
+}
 
-const KEYWORDS_4: [u8; 50] =
-    *b"\x04else\x04enum\x04impl\x04loop\x04move\x04self\x04Self\x04true\x04type\x04priv";
+// The keywords of 8 bytes.
+fn is_keyword_of_8(word: &[u8]) -> bool
+    ensures { λ r. ⌜ r ≡ isOneOf longKeywords (now (word .entry)) ⌝ }
+{
+    if text::is_word(word, b"continue") {
+        return true;
+    }
+    if text::is_word(word, b"abstract") {
+        return true;
+    }
+    text::is_word(word, b"override")
+}
 
-const KEYWORDS_5: [u8; 84] = *b"\x05break\x05const\x05crate\x05false\x05match\x05super\x05trait\
-\x05where\x05while\x05async\x05await\x05final\x05macro\x05yield";
-
-const KEYWORDS_6: [u8; 49] =
-    *b"\x06extern\x06return\x06static\x06struct\x06unsafe\x06become\x06typeof";
-
-const KEYWORDS_7: [u8; 16] = *b"\x07unsized\x07virtual";
-
-const KEYWORDS_8: [u8; 27] = *b"\x08continue\x08abstract\x08override";
-
-// Whether a word is no name: those of its length are a table.
+// Whether a word is no name.
 pub fn is_keyword(word: &[u8]) -> bool
     ensures { λ r. ⌜ r ≡ isKeyword (now (word .entry)) ⌝ }
 {
-    let n = word.len();
-    if 8 < n {
-        return false;
+    if word.len() < 5 {
+        return is_keyword_upto_4(packed(word));
     }
-    match n {
-        8 => text::is_listed(&KEYWORDS_8, word),
-        7 => text::is_listed(&KEYWORDS_7, word),
-        6 => text::is_listed(&KEYWORDS_6, word),
-        5 => text::is_listed(&KEYWORDS_5, word),
-        4 => text::is_listed(&KEYWORDS_4, word),
-        3 => text::is_listed(&KEYWORDS_3, word),
-        2 => text::is_listed(&KEYWORDS_2, word),
-        _ => text::is_listed(&KEYWORDS_1, word),
+    if word.len() < 8 {
+        return is_keyword_upto_7(packed(word));
     }
+    if word.len() == 8 {
+        return is_keyword_of_8(word);
+    }
+    false
 }

@@ -1,6 +1,6 @@
 -- What tween and spring begin with, their fields, and what is written. Contracts cite these. Assumes nothing.
 use Prim.Native.Nat.{ℕ, _+_, _*_, _-_, _≤_}
-use mathlib.Core.List.{List, [], _∷_, _++_}
+use mathlib.Core.List.{List, _∷_, _++_}
 use mathlib.Core.Option.{Option}
 use mathlib.Core.Path.{_≡_}
 use lib.Ieee.{Float}
@@ -23,12 +23,10 @@ use Rattle.cursor.specs.declared.WordRead.the-variants as words
 use Rattle.arrays.specs.Means.{Went}
 use Rattle.arrays.specs.declared.ValueRead.{ValueRead}
 use Rattle.arrays.specs.declared.ValueRead.the-variants as value
-use Rattle.slots.specs.Means.{everOf, keptAt, floatIn, wholeIn, caseIn, PlaceSays}
-use Rattle.slots.specs.declared.Slot.{Slot}
-use Rattle.slots.specs.declared.OptPlace.{OptPlace}
-use Rattle.slots.specs.declared.Others.{Others}
-use Rattle.tweens.specs.declared.TweenFields.{TweenFields}
-use Rattle.tweens.specs.declared.SpringFields.{SpringFields}
+use Rattle.cells.specs.Means.{PlaceSays}
+use Rattle.cells.specs.declared.OptPlace.{OptPlace}
+use Rattle.tween_step.specs.declared.TweenFields.{TweenFields}
+use Rattle.spring_step.specs.declared.SpringFields.{SpringFields}
 
 -- ---- what both begin with
 
@@ -78,31 +76,14 @@ EndsMeans s b a c out (value.Refused r q) = run s c theEnds ≡ refused r q
 
 -- ---- tween
 
--- the sorts of tweenFields
-abbrev pub tweenSorts : List ℕ
-tweenSorts = 0 ∷ 7 ∷ 0 ∷ 0 ∷ 8 ∷ 0 ∷ 1 ∷ 6 ∷ []
+abbrev pub PlainTween : Float → TweenFields → Type 0
+PlainTween d x =
+    Plain d × PlainOptEasing (x .easing) × PlainOptFloat (x .delay) × PlainOptFloat (x .«time_scale») × PlainOptFloat (x .snap)
 
--- what the slots and the values beside them keep
-abbrev pub tweenFrom : List Slot → Others → Float → TweenFields
-tweenFrom xs o d = record {
-  duration = d;
-  easing = o .easing;
-  delay = floatIn (keptAt xs 2);
-  «time_scale» = floatIn (keptAt xs 3);
-  «loop_mode» = o .«loop_mode»;
-  snap = floatIn (keptAt xs 5);
-  round = wholeIn (keptAt xs 6);
-  reverse = everOf (keptAt xs 7);
-}
-
-abbrev pub PlainTween : TweenFields → Type 0
-PlainTween x =
-    Plain (x .duration) × PlainOptEasing (x .easing) × PlainOptFloat (x .delay) × PlainOptFloat (x .«time_scale») × PlainOptFloat (x .snap)
-
--- the end of a tween's record, for a text of n bytes
-abbrev pub tweenBytes : ℕ → TweenFields → List ℕ
-tweenBytes n x =
-    word .write (bits (x .duration))
+-- the end of a tween's record, d being the duration, for a text of n bytes
+abbrev pub tweenBytes : ℕ → Float → TweenFields → List ℕ
+tweenBytes n d x =
+    word .write (bits d)
     ++ (opt (easingForm n) .write (optEasingOf (x .easing))
     ++ (opt word .write (optFloatOf (x .delay))
     ++ (opt word .write (optFloatOf (x .«time_scale»))
@@ -112,23 +93,6 @@ tweenBytes n x =
     ++ flag .write (x .reverse)))))))
 
 -- ---- spring
-
--- the sorts of springFields
-abbrev pub springSorts : List ℕ
-springSorts = 3 ∷ 0 ∷ 0 ∷ 0 ∷ 13 ∷ 0 ∷ 4 ∷ 10 ∷ 11 ∷ 12 ∷ []
-
--- what the slots and the values beside them keep
-abbrev pub springFrom : List Slot → Others → SpringFields
-springFrom xs o = record {
-  preset = caseIn (keptAt xs 0);
-  stiffness = floatIn (keptAt xs 1);
-  damping = floatIn (keptAt xs 2);
-  mass = floatIn (keptAt xs 3);
-  velocity = o .velocity;
-  epsilon = floatIn (keptAt xs 5);
-  integrator = caseIn (keptAt xs 6);
-  «damping_mode» = o .damping;
-}
 
 -- a value stands at the place that is kept of one
 abbrev pub Told : List ℕ → OptPlace → Type 0

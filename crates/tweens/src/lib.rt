@@ -1,38 +1,30 @@
 // parser.rs, parse_tween and parse_spring: two values, written into the sheet as they are read, and fields behind them.
 // The functions are for our own crates: each requires a cursor that stands in a text of at most 16,384 bytes, and a place that leaves
 // room for every sum.
-ghost use mathlib.Core.Path.{_≡_};
-ghost use mathlib.Core.List.{[]};
 ghost use mathlib.Core.Option.{Option};
 ghost use Prim.Native.Nat.{ℕ, _+_, _≤_, _<_, _^_};
 ghost use lib.ListN.{length};
 ghost use Rattle.text.specs.Limits.{textLimit};
 ghost use Rattle.ast.specs.Tree.{ValueExpr};
-ghost use Rattle.grammar.specs.Grammar.{parseTween, tweenFields, parseSpring, springFields};
+ghost use Rattle.grammar.specs.Grammar.{parseTween, parseSpring};
 ghost use Rattle.encode.specs.Writes.{Writes};
 ghost use Rattle.cursor.specs.Means.{Ready};
 ghost use Rattle.arrays.specs.Means.{Room, Wide};
 ghost use Rattle.nodes.specs.Means.{LeafMeans};
-ghost use Rattle.slots.specs.Means.{ListMeans, PlaceSays};
-ghost use Rattle.tweens.specs.Means.{TargetMeans, PairMeans, EndsMeans, tweenSorts, tweenFrom, PlainTween, tweenBytes, springSorts, springFrom, Told, VelocityPut, PlainSpring, springBytes};
+ghost use Rattle.cells.specs.Means.{PlaceSays};
+ghost use Rattle.tweens.specs.Means.{TargetMeans, PairMeans, EndsMeans, PlainTween, tweenBytes, Told, VelocityPut, PlainSpring, springBytes};
 use arrays::ValueRead;
-use ast::OptCase;
-use ast::OptDamping;
-use ast::OptEasing;
 use ast::OptF32;
-use ast::OptLoop;
-use ast::OptU32;
+use cells::OptPlace;
 use cursor::Cursor;
 use cursor::MarkRead;
 use cursor::WordRead;
 use error::Refusal;
 use nodes::NodeRead;
-use slots::Ended;
-use slots::Gathered;
-use slots::OptPlace;
-use slots::Others;
-use slots::Slot;
-use slots::Timed;
+use spring_step::SpringFields;
+use spring_step::SpringStep;
+use tween_step::TweenFields;
+use tween_step::TweenStep;
 
 // ---- what both begin with
 
@@ -80,59 +72,10 @@ fn parse_ends(text: &[u8], sheet: &mut [u8], c: Cursor, out: usize) -> ValueRead
 
 // ---- tween
 
-const TWEEN_ROWS: [u8; 57] =
-    *b"\x08duration\x06easing\x05delay\x0atime_scale\x04loop\x04snap\x05round\x07reverse";
-
-const TWEEN_SORTS: [u8; 8] = *b"\x00\x07\x00\x00\x08\x00\x01\x06";
-
-// What a tween's fields say.
-pub struct TweenFields {
-    pub duration: f32,
-    pub easing: OptEasing,
-    pub delay: OptF32,
-    pub time_scale: OptF32,
-    pub loop_mode: OptLoop,
-    pub snap: OptF32,
-    pub round: OptU32,
-    pub reverse: bool,
-}
-
-fn tween_fields(text: &[u8], c: Cursor) -> Gathered
-    requires { ⌜ Ready (now text) c × (length (now text) ≤ textLimit) ⌝ }
-    ensures { λ r. ⌜ ListMeans (now (text .entry)) (c .at) tweenSorts c tweenFields [] r ⌝ }
-{
-    slots::field_list(
-        text,
-        c,
-        &TWEEN_ROWS,
-        &TWEEN_SORTS,
-        slots::no_slots(),
-        slots::no_others(),
-    )
-}
-
-// What is kept of the fields, in the record's order.
-fn tween_from(kept: [Slot; 10], others: Others, duration: f32) -> TweenFields
-    ensures { λ r. ⌜ r ≡ tweenFrom kept others duration ⌝ }
-{
-    let easing = others.easing;
-    let loop_mode = others.loop_mode;
-    TweenFields {
-        duration,
-        easing,
-        delay: slots::float_at(kept, 2),
-        time_scale: slots::float_at(kept, 3),
-        loop_mode,
-        snap: slots::float_at(kept, 5),
-        round: slots::whole_at(kept, 6),
-        reverse: slots::ever_at(kept, 7),
-    }
-}
-
 // Writes a tween's fields behind its values.
-fn put_tween_fields(sheet: &mut [u8], at: usize, x: TweenFields) -> usize
-    requires { ⌜ (at + 64 < 2 ^ 31) × PlainTween x ⌝ }
-    ensures { λ r. ⌜ ((n : ℕ) → Writes (now (sheet .entry)) at (tweenBytes n x) (now (sheet .exit)) r) ⌝ }
+fn put_tween_fields(sheet: &mut [u8], at: usize, duration: f32, x: TweenFields) -> usize
+    requires { ⌜ (at + 64 < 2 ^ 31) × PlainTween duration x ⌝ }
+    ensures { λ r. ⌜ ((n : ℕ) → Writes (now (sheet .entry)) at (tweenBytes n duration x) (now (sheet .exit)) r) ⌝ }
 {
     let easing = x.easing;
     let delay = x.delay;
@@ -140,7 +83,7 @@ fn put_tween_fields(sheet: &mut [u8], at: usize, x: TweenFields) -> usize
     let loop_mode = x.loop_mode;
     let snap = x.snap;
     let round = x.round;
-    let easing_at = encode::put_float(sheet, at, x.duration);
+    let easing_at = encode::put_float(sheet, at, duration);
     let delay_at = encode::put_opt_easing(sheet, easing_at, easing);
     let scale_at = encode::put_opt_float(sheet, delay_at, delay);
     let loop_at = encode::put_opt_float(sheet, scale_at, time_scale);
@@ -156,71 +99,20 @@ pub fn parse_tween(text: &[u8], sheet: &mut [u8], c: Cursor, out: usize) -> Node
 {
     match parse_ends(text, sheet, c, out) {
         ValueRead::Refused(r, p) => NodeRead::Refused(r, p),
-        ValueRead::Is(at, m) => {
-            let g = tween_fields(text, m);
-            match slots::duration_in(g, 0) {
-                Timed::Refused(r, p) => NodeRead::Refused(r, p),
-                Timed::Is(duration, e) => {
-                    let kept = g.slots;
-                    let others = g.others;
-                    let fields = tween_from(kept, others, duration);
-                    NodeRead::Is(put_tween_fields(sheet, at, fields), e)
-                }
+        ValueRead::Is(at, m) => match tween_step::tween_fields(text, m) {
+            TweenStep::Refused(r, p) => NodeRead::Refused(r, p),
+            TweenStep::Is(fields, e) => {
+                let written = fields.duration;
+                let OptF32::Present(duration) = written else {
+                    return NodeRead::Refused(Refusal::MissingDuration, cursor::place(e));
+                };
+                NodeRead::Is(put_tween_fields(sheet, at, duration, fields), e)
             }
-        }
+        },
     }
 }
 
 // ---- spring
-
-const SPRING_ROWS: [u8; 99] =
-    *b"\x06preset\x09stiffness\x07damping\x04mass\x08velocity\x07epsilon\x0aintegrator\x11critically_damped\x0aoverdamped\x0bunderdamped";
-
-const SPRING_SORTS: [u8; 10] = *b"\x03\x00\x00\x00\x0d\x00\x04\x0a\x0b\x0c";
-
-// What a spring's fields say. The velocity is the cursor before it.
-pub struct SpringFields {
-    pub preset: OptCase,
-    pub stiffness: OptF32,
-    pub damping: OptF32,
-    pub mass: OptF32,
-    pub velocity: OptPlace,
-    pub epsilon: OptF32,
-    pub integrator: OptCase,
-    pub damping_mode: OptDamping,
-}
-
-fn spring_fields(text: &[u8], c: Cursor) -> Gathered
-    requires { ⌜ Ready (now text) c × (length (now text) ≤ textLimit) ⌝ }
-    ensures { λ r. ⌜ ListMeans (now (text .entry)) (c .at) springSorts c springFields [] r ⌝ }
-{
-    slots::field_list(
-        text,
-        c,
-        &SPRING_ROWS,
-        &SPRING_SORTS,
-        slots::no_slots(),
-        slots::no_others(),
-    )
-}
-
-// What is kept of the fields, in the record's order.
-fn spring_from(kept: [Slot; 10], others: Others) -> SpringFields
-    ensures { λ r. ⌜ r ≡ springFrom kept others ⌝ }
-{
-    let velocity = others.velocity;
-    let damping_mode = others.damping;
-    SpringFields {
-        preset: slots::case_at(kept, 0),
-        stiffness: slots::float_at(kept, 1),
-        damping: slots::float_at(kept, 2),
-        mass: slots::float_at(kept, 3),
-        velocity,
-        epsilon: slots::float_at(kept, 5),
-        integrator: slots::case_at(kept, 6),
-        damping_mode,
-    }
-}
 
 // Writes the velocity, read again from its cursor. A value stands there, so it is not refused.
 fn put_velocity(text: &[u8], sheet: &mut [u8], at: usize, velocity: OptPlace) -> usize
@@ -268,18 +160,11 @@ pub fn parse_spring(text: &[u8], sheet: &mut [u8], c: Cursor, out: usize) -> Nod
 {
     match parse_ends(text, sheet, c, out) {
         ValueRead::Refused(r, p) => NodeRead::Refused(r, p),
-        ValueRead::Is(at, m) => {
-            let g = spring_fields(text, m);
-            let end = g.end;
-            match end {
-                Ended::Refused(r, p) => NodeRead::Refused(r, p),
-                Ended::Is(e) => {
-                    let kept = g.slots;
-                    let others = g.others;
-                    let fields = spring_from(kept, others);
-                    NodeRead::Is(put_spring_fields(text, sheet, at, fields), e)
-                }
+        ValueRead::Is(at, m) => match spring_step::spring_fields(text, m) {
+            SpringStep::Refused(r, p) => NodeRead::Refused(r, p),
+            SpringStep::Is(fields, e) => {
+                NodeRead::Is(put_spring_fields(text, sheet, at, fields), e)
             }
-        }
+        },
     }
 }

@@ -661,7 +661,8 @@ parse-parallel-parse-block-requires : (t : ℕ)
     → of.Lts-parse_parallel.Need-parse-block-requires (parse-parallel-calls t) (parse-parallel-at t) parse-parallel.Post
 parse-parallel-parse-block-requires t c κs =
     let start = c .before .before .before in
-    (omega (arith, start .pre .0), (start .pre .1 .0, head-counted (parallel-went (start .args .sheet .now) (start .args .out) (start .pre .1 .0)) (start .pre .1 .1)))
+    let pre = start .pre in
+    (omega (arith, pre .0), (pre .1 .0, head-counted (parallel-went (start .args .sheet .now) (start .args .out) (pre .1 .0)) (pre .1 .1)))
 
 parse-parallel-same-length : (t : ℕ)
     → of.Lts-parse_parallel.Need-same-length (parse-parallel-calls t) (parse-parallel-at t) parse-parallel.Post
@@ -678,7 +679,8 @@ parse-sequence-parse-block-requires : (t : ℕ)
     → of.Lts-parse_sequence.Need-parse-block-requires (parse-sequence-calls t) (parse-sequence-at t) parse-sequence.Post
 parse-sequence-parse-block-requires t c κs =
     let start = c .before .before .before in
-    (omega (arith, start .pre .0), (start .pre .1 .0, head-counted (sequence-went (start .args .sheet .now) (start .args .out) (start .pre .1 .0)) (start .pre .1 .1)))
+    let pre = start .pre in
+    (omega (arith, pre .0), (pre .1 .0, head-counted (sequence-went (start .args .sheet .now) (start .args .out) (pre .1 .0)) (pre .1 .1)))
 
 parse-sequence-same-length : (t : ℕ)
     → of.Lts-parse_sequence.Need-same-length (parse-sequence-calls t) (parse-sequence-at t) parse-sequence.Post

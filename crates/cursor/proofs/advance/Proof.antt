@@ -5,6 +5,7 @@ use mathlib.Core.Path.{ap, sym, _∙_}
 use native.Mathlib.Omega.{arith}
 use Rattle.token.specs.Token.{tokensFrom}
 use borrow.Author.Needs.{needs}
+use Rattle.cursor.proofs.CursorLaws.{head-last}
 use Rattle.cursor.proofs.advance.Statement.{statement}
 use Rattle.cursor.proofs.advance.Tie as tie
 
@@ -12,7 +13,12 @@ wide-requires : tie.Need-wide-requires
 wide-requires c κs = search needs
 
 start-requires : tie.Need-start-requires
-start-requires c κs = search needs
+start-requires c κs =
+    let start = c .before .before in (
+      search needs,
+      start .pre .short,
+      rw (c .wide .ensures) (head-last (start .args .text .now) (start .args .c) (start .pre)),
+    )
 
 returns : tie.Need-returns
 returns c =

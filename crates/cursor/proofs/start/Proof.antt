@@ -8,7 +8,7 @@ token-requires : tie.Need-token-requires
 token-requires c κs = search needs
 
 returns : tie.Need-returns
-returns c = begins _ _ _ _ (c .before .before .pre .1) (c .token .ensures)
+returns c = begins _ _ _ _ (c .before .before .pre .1) (c .before .before .pre .2) (c .token .ensures)
 
 pub start-spec : {M : Type 1} → statement M
 start-spec = tie.close (tie.spec token-requires returns)

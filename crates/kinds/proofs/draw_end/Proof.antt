@@ -1,114 +1,112 @@
 -- `kinds::draw_end` meets its contract. Assumes nothing.
+use mathlib.Core.List.{[]}
 use mathlib.Core.Path.{refl}
 use Rattle.encode.specs.Of.{spanOf}
-use Rattle.kinds.specs.Means.{drawSorts, drawLeaf}
-use Rattle.slots.specs.Means.{sortRank}
-use Rattle.grammar.specs.Values.{number}
+use Rattle.grammar.specs.Fields.{last, parseFieldList}
 use Rattle.grammar.specs.Grammar.{drawFields}
-use Rattle.slots.proofs.TimedLaws.{timed-at}
-use Rattle.kinds.proofs.Layouts.{draw-layout}
-use Rattle.kinds.proofs.EndLaws.{end-refused, end-went}
+use Rattle.kind_steps.specs.Means.{DrawListMeans}
+use Rattle.kinds.specs.Means.{drawLeaf}
+use Rattle.kinds.proofs.EndLaws.{end-refused, end-untimed, end-went}
 use borrow.Author.Needs.{needs}
 use Rattle.kinds.proofs.draw_end.Statement.{statement}
 use Rattle.kinds.proofs.draw_end.Tie as tie
 
-slice-aggregate-fields-at : tie.Need-slice-aggregate-fields-at
-slice-aggregate-fields-at c = search needs
+-- the fields at c, with none before them
+listed : (w : tie.After-draw-fields) →
+    let args = w .before .before .before .before .args in
+    DrawListMeans (args .text .now) (args .c) (parseFieldList drawFields []) (w .draw-fields .result)
+unfolding last
+listed w = w .draw-fields .ensures [] (rw (w .before .no-draw-fields .ensures) ((refl, tt), ((refl, tt), tt)))
 
-slice-aggregate-fields-at-2 : tie.Need-slice-aggregate-fields-at-2
-slice-aggregate-fields-at-2 c = search needs
+no-draw-fields-requires : tie.Need-no-draw-fields-requires
+no-draw-fields-requires c κs = search needs
 
-fields-at-requires : tie.Need-fields-at-requires
-unfolding drawFields
-fields-at-requires c κs =
-    let pre = c .before .before .before .before .pre in
-    (pre .0, pre .1 .short, (drawFields, draw-layout))
-
-duration-in-requires : tie.Need-duration-in-requires
-duration-in-requires c κs = search needs
+draw-fields-requires : tie.Need-draw-fields-requires
+draw-fields-requires c κs = search needs
 
 enum-known-r : tie.Need-enum-known-r
 enum-known-r c = search needs
 
-enum-known-duration : tie.Need-enum-known-duration
-enum-known-duration c = search needs
+enum-known-f : tie.Need-enum-known-f
+enum-known-f c = search needs
 
-put-draw-requires : tie.Need-put-draw-requires
-unfolding drawFields sortRank
-put-draw-requires c κs =
-    let at-duration = c .before .before .before in
-    let at-duration-in = at-duration .before .before in
-    let at-fields-at = at-duration-in .before in
-    let c10 = at-fields-at .before .before .before .before in
-    let start = c10 .before in
-    let t = timed-at (start .args .text .now) (start .args .c .at) drawSorts (start .args .c) drawFields 0 number refl refl
-    (at-fields-at .fields-at .result) (at-fields-at .fields-at .ensures drawFields draw-layout) _ _
-    (rw (at-duration .duration .given .1) at (at-duration-in .duration-in .ensures))
-    in
-    (start .pre .1 .low, (t .plain, t .held .beside .plainEasing))
+enum-known-written : tie.Need-enum-known-written
+enum-known-written c = search needs
+
+enum-told : tie.Need-enum-told
+enum-told c = search needs
+
+place-requires : tie.Need-place-requires
+place-requires c κs = search needs
 
 returns : tie.Need-returns
-unfolding drawFields sortRank
 returns c =
-    let at-duration-in = c .before .before .before in
-    let at-fields-at = at-duration-in .before in
-    let c8 = at-fields-at .before .before .before .before in
-    let args = c8 .before .args in
-    end-refused
-    (args .text .now)
-    (args .c .at)
-    drawSorts
-    (args .c)
-    drawFields
-    (drawLeaf (spanOf (args .svg)))
-    0 number refl refl
-    (at-fields-at .fields-at .result)
-    (at-fields-at .fields-at .ensures drawFields draw-layout)
-    _ _
-    (rw (c .before .r .given .1) at (at-duration-in .duration-in .ensures))
+    let at-f = c .before .before .before .before in
+    let at-draw-fields = at-f .before .before in
+    let args = at-draw-fields .before .before .before .before .args in
+    let h = rw (at-f .f .given .1)
+    at (listed at-draw-fields)
+    in
+    rw (c .place .ensures)
+    (end-untimed (args .text .now) (args .c) drawFields (drawLeaf (spanOf (args .svg))) h (h .say .0 .0) (c .before .enum-told .given .1))
+
+put-draw-requires : tie.Need-put-draw-requires
+put-draw-requires c κs =
+    let at-written = c .before .before in
+    let at-f = at-written .before .before .before in
+    let at-draw-fields = at-f .before .before in
+    let start = at-draw-fields .before .before .before .before in
+    let h = rw (at-f .f .given .1)
+    at (listed at-draw-fields)
+    in
+    (start .pre .1 .low, (rw (at-written .written .given .1) at (h .say .0 .1), h .say .1 .0 .1))
+
+returns-2 : tie.Need-returns-2
+returns-2 c =
+    let at-draw-fields = c .before .before .before in
+    let args = at-draw-fields .before .before .before .before .args in
+    end-refused (args .text .now) (args .c) drawFields (drawLeaf (spanOf (args .svg)))
+    (rw (c .before .r .given .1)
+    at (listed at-draw-fields))
 
 same-length : tie.Need-same-length
 same-length c = search needs
 
-returns-2 : tie.Need-returns-2
-unfolding drawFields sortRank
-returns-2 c =
+returns-3 : tie.Need-returns-3
+returns-3 c =
     let at-put-draw = c .before .before in
-    let at-duration = at-put-draw .before .before .before .before in
-    let at-duration-in = at-duration .before .before in
-    let at-fields-at = at-duration-in .before in
-    let c13 = at-fields-at .before .before .before .before in
-    let args = c13 .before .args in
-    let t = timed-at (args .text .now) (args .c .at) drawSorts (args .c) drawFields 0 number refl refl (at-fields-at .fields-at .result)
-    (at-fields-at .fields-at .ensures drawFields draw-layout) _ _
-    (rw (at-duration .duration .given .1) at (at-duration-in .duration-in .ensures))
+    let at-written = at-put-draw .before .before .before in
+    let at-f = at-written .before .before .before in
+    let at-draw-fields = at-f .before .before in
+    let args = at-draw-fields .before .before .before .before .args in
+    let h = rw (at-f .f .given .1)
+    at (listed at-draw-fields)
     in
-    let h = t .held in
     end-went
     (args .text .now)
-    (args .c .at)
-    drawSorts
     (args .c)
     drawFields
     (drawLeaf (spanOf (args .svg)))
+    h
+    (h .say .0 .0)
+    (at-written .written .given .1)
     _
-    (at-fields-at .fields-at .result)
-    _ t _
-    (rw (h .beside .easing))
-    _ _ _ _
+    (rw (h .say .1 .0 .0))
     (at-put-draw .put-draw .ensures)
 
 pub draw-end-spec : {M : Type 1} → statement M
 draw-end-spec =
     tie.close
     (tie.spec
-    slice-aggregate-fields-at
-    slice-aggregate-fields-at-2
-    fields-at-requires
-    duration-in-requires
+    no-draw-fields-requires
+    draw-fields-requires
     enum-known-r
-    enum-known-duration
-    put-draw-requires
+    enum-known-f
+    enum-known-written
+    enum-told
+    place-requires
     returns
+    put-draw-requires
+    returns-2
     same-length
-    returns-2)
+    returns-3)

@@ -1,131 +1,96 @@
 -- `kinds::morph_end` meets its contract. Assumes nothing.
-use mathlib.Core.Path.{refl}
 use Rattle.encode.specs.Of.{spanOf}
-use Rattle.kinds.specs.Means.{morphSorts, morphLeaf}
-use Rattle.slots.specs.Means.{sortRank, keptAt}
-use Rattle.grammar.specs.Values.{number, count}
 use Rattle.grammar.specs.Grammar.{morphFields}
-use Rattle.slots.proofs.KeptLaws.{whole-held}
-use Rattle.slots.proofs.TimedLaws.{timed-at}
-use Rattle.kinds.proofs.Layouts.{morph-layout}
-use Rattle.kinds.proofs.EndLaws.{end-refused, end-went}
+use Rattle.kinds.specs.Means.{morphLeaf}
+use Rattle.kinds.proofs.EndLaws.{end-refused, end-untimed, end-went}
 use borrow.Author.Needs.{needs}
 use Rattle.kinds.proofs.morph_end.Statement.{statement}
 use Rattle.kinds.proofs.morph_end.Tie as tie
 
-slice-aggregate-fields-at : tie.Need-slice-aggregate-fields-at
-slice-aggregate-fields-at c = search needs
-
-slice-aggregate-fields-at-2 : tie.Need-slice-aggregate-fields-at-2
-slice-aggregate-fields-at-2 c = search needs
-
-fields-at-requires : tie.Need-fields-at-requires
-unfolding morphFields
-fields-at-requires c κs =
-    let pre = c .before .before .before .before .pre in
-    (pre .0, pre .1 .short, (morphFields, morph-layout))
-
-duration-in-requires : tie.Need-duration-in-requires
-duration-in-requires c κs = search needs
+morph-fields-requires : tie.Need-morph-fields-requires
+morph-fields-requires c κs = search needs
 
 enum-known-r : tie.Need-enum-known-r
 enum-known-r c = search needs
 
-enum-known-duration : tie.Need-enum-known-duration
-enum-known-duration c = search needs
+enum-known-f : tie.Need-enum-known-f
+enum-known-f c = search needs
 
-whole-at-requires : tie.Need-whole-at-requires
-whole-at-requires c κs = search needs
+enum-known-written : tie.Need-enum-known-written
+enum-known-written c = search needs
+
+enum-told : tie.Need-enum-told
+enum-told c = search needs
+
+place-requires : tie.Need-place-requires
+place-requires c κs = search needs
+
+returns : tie.Need-returns
+returns c =
+    let at-f = c .before .before .before .before in
+    let at-morph-fields = at-f .before .before in
+    let args = at-morph-fields .before .before .before .args in
+    let h = rw (at-f .f .given .1) at (at-morph-fields .morph-fields .ensures) in
+    rw (c .place .ensures)
+    (end-untimed (args .text .now) (args .c) morphFields (morphLeaf (spanOf (args .from)) (spanOf (args .to))) h (h .say .1 .0 .0)
+    (c .before .enum-told .given .1))
 
 word-or-requires : tie.Need-word-or-requires
 word-or-requires c κs = search needs
 
 put-morph-requires : tie.Need-put-morph-requires
-unfolding morphFields sortRank
 put-morph-requires c κs =
-    let c4 = c .before .before .before .before in
-    let at-duration = c4 .before .before in
-    let at-duration-in = at-duration .before .before in
-    let at-fields-at = at-duration-in .before in
-    let c13 = at-fields-at .before .before .before .before in
-    let start = c13 .before in
-    let t = timed-at (start .args .text .now) (start .args .c .at) morphSorts (start .args .c) morphFields 1 number refl refl
-    (at-fields-at .fields-at .result) (at-fields-at .fields-at .ensures morphFields morph-layout) _ _
-    (rw (at-duration .duration .given .1) at (at-duration-in .duration-in .ensures))
-    in
-    (start .pre .1 .low, (t .plain, t .held .beside .plainEasing))
+    let at-written = c .before .before .before in
+    let at-f = at-written .before .before .before in
+    let at-morph-fields = at-f .before .before in
+    let start = at-morph-fields .before .before .before in
+    let h = rw (at-f .f .given .1) at (at-morph-fields .morph-fields .ensures) in
+    (start .pre .1 .low, (rw (at-written .written .given .1) at (h .say .1 .0 .1), h .say .1 .1 .0 .1))
 
-returns : tie.Need-returns
-unfolding morphFields sortRank
-returns c =
-    let at-duration-in = c .before .before .before in
-    let at-fields-at = at-duration-in .before in
-    let c8 = at-fields-at .before .before .before .before in
-    let args = c8 .before .args in
-    end-refused
-    (args .text .now)
-    (args .c .at)
-    morphSorts
-    (args .c)
-    morphFields
-    (morphLeaf (spanOf (args .from)) (spanOf (args .to)))
-    1 number refl refl
-    (at-fields-at .fields-at .result)
-    (at-fields-at .fields-at .ensures morphFields morph-layout)
-    _ _
-    (rw (c .before .r .given .1) at (at-duration-in .duration-in .ensures))
+returns-2 : tie.Need-returns-2
+returns-2 c =
+    let at-morph-fields = c .before .before .before in
+    let args = at-morph-fields .before .before .before .args in
+    end-refused (args .text .now) (args .c) morphFields (morphLeaf (spanOf (args .from)) (spanOf (args .to)))
+    (rw (c .before .r .given .1) at (at-morph-fields .morph-fields .ensures))
 
 same-length : tie.Need-same-length
 same-length c = search needs
 
-returns-2 : tie.Need-returns-2
-unfolding morphFields sortRank
-returns-2 c =
+returns-3 : tie.Need-returns-3
+returns-3 c =
     let at-put-morph = c .before .before in
     let at-word-or = at-put-morph .before .before in
-    let at-whole-at = at-word-or .before in
-    let at-duration = at-whole-at .before .before .before .before in
-    let at-duration-in = at-duration .before .before in
-    let at-fields-at = at-duration-in .before in
-    let fields-at = at-fields-at .fields-at in
-    let c16 = at-fields-at .before .before .before .before in
-    let args = c16 .before .args in
-    let t = timed-at (args .text .now) (args .c .at) morphSorts (args .c) morphFields 1 number refl refl (fields-at .result)
-    (fields-at .ensures morphFields morph-layout) _ _ (rw (at-duration .duration .given .1) at (at-duration-in .duration-in .ensures))
-    in
-    let h = t .held in
+    let at-written = at-word-or .before .before in
+    let at-f = at-written .before .before .before in
+    let at-morph-fields = at-f .before .before in
+    let args = at-morph-fields .before .before .before .args in
+    let h = rw (at-f .f .given .1) at (at-morph-fields .morph-fields .ensures) in
     end-went
     (args .text .now)
-    (args .c .at)
-    morphSorts
     (args .c)
     morphFields
     (morphLeaf (spanOf (args .from)) (spanOf (args .to)))
+    h
+    (h .say .1 .0 .0)
+    (at-written .written .given .1)
     _
-    (fields-at .result)
-    _ t _
-    (rw (
-      at-word-or .word-or .ensures,
-      at-whole-at .whole-at .ensures,
-      whole-held "samples" (t .fields) (keptAt (fields-at .result .slots) 0) (h .slots 0 ("samples", count) refl),
-      h .beside .easing,
-    ))
-    _ _ _ _
+    (rw (at-word-or .word-or .ensures, h .say .0, h .say .1 .1 .0 .0))
     (at-put-morph .put-morph .ensures)
 
 pub morph-end-spec : {M : Type 1} → statement M
 morph-end-spec =
     tie.close
     (tie.spec
-    slice-aggregate-fields-at
-    slice-aggregate-fields-at-2
-    fields-at-requires
-    duration-in-requires
+    morph-fields-requires
     enum-known-r
-    enum-known-duration
-    whole-at-requires
+    enum-known-f
+    enum-known-written
+    enum-told
+    place-requires
+    returns
     word-or-requires
     put-morph-requires
-    returns
+    returns-2
     same-length
-    returns-2)
+    returns-3)

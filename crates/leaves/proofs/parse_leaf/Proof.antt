@@ -1,9 +1,8 @@
 -- `leaves::parse_leaf` meets its contract. Assumes nothing.
-use native.Mathlib.Omega.{arith}
 use mathlib.Core.Path.{refl}
 use Rattle.grammar.specs.Grammar.{leaves, parseTween, parseSpring, parseKeyframes, parsePath, parseMorph}
 use Rattle.grammar.specs.Grammar.{parseDraw, parseColor, parseWaveform, parsePresetCall, parseLabel}
-use Rattle.slots.proofs.SortLaws.{not-here}
+use Rattle.cells.proofs.StepLaws.{past}
 use Rattle.leaves.proofs.LeafLaws.{row-at, last-row}
 use borrow.Author.Needs.{needs}
 use Rattle.leaves.proofs.parse_leaf.Statement.{statement}
@@ -289,24 +288,7 @@ returns-11 c =
     (args .out)
     (at-parse-at .parse-at .result)
     (args .i)
-    (not-here 9 (args .i)
-    (not-here 8 (args .i)
-    (not-here 7 (args .i)
-    (not-here 6 (args .i)
-    (not-here 5 (args .i)
-    (not-here 4 (args .i)
-    (not-here 3 (args .i)
-    (not-here 2 (args .i)
-    (not-here 1 (args .i) (not-here 0 (args .i) (omega arith) (match .rest .0 .0 .0 .0 .0 .0 .0 .0 .0 .1))
-    (match .rest .0 .0 .0 .0 .0 .0 .0 .0 .1))
-    (match .rest .0 .0 .0 .0 .0 .0 .0 .1))
-    (match .rest .0 .0 .0 .0 .0 .0 .1))
-    (match .rest .0 .0 .0 .0 .0 .1))
-    (match .rest .0 .0 .0 .0 .1))
-    (match .rest .0 .0 .0 .1))
-    (match .rest .0 .0 .1))
-    (match .rest .0 .1))
-    (match .rest .1))
+    (past 10 (args .i) (match .rest))
     (at-parse-at .parse-at .ensures)
 
 pub parse-leaf-spec : {M : Type 1} → statement M

@@ -1,7 +1,7 @@
 -- `parser::parse_input` meets its contract. Assumes nothing.
 use mathlib.Core.Path.{sym}
-use Rattle.parser.proofs.ReadLaws.{input-done, input-left, input-refused}
 use borrow.Author.Needs.{needs}
+use Rattle.parser.proofs.ReadLaws.{input-done, input-left, input-refused}
 use Rattle.parser.proofs.parse_input.Statement.{statement}
 use Rattle.parser.proofs.parse_input.Tie as tie
 
@@ -14,6 +14,9 @@ parse-nodes-requires c κs = search needs
 enum-known-refusal : tie.Need-enum-known-refusal
 enum-known-refusal c = search needs
 
+refused-requires : tie.Need-refused-requires
+refused-requires c κs = search needs
+
 enum-known-nodes : tie.Need-enum-known-nodes
 enum-known-nodes c = search needs
 
@@ -23,44 +26,51 @@ leftover-requires c κs = search needs
 enum-known-place : tie.Need-enum-known-place
 enum-known-place c = search needs
 
+refused-requires-2 : tie.Need-refused-requires-2
+refused-requires-2 c κs = search needs
+
 enum-told : tie.Need-enum-told
 enum-told c = search needs
 
 patch-count-requires : tie.Need-patch-count-requires
 patch-count-requires c κs = search needs
 
+place-requires : tie.Need-place-requires
+place-requires c κs = search needs
+
 same-length : tie.Need-same-length
 same-length c = search needs
 
 returns : tie.Need-returns
 returns c =
-    let at-refusal = c .before in
+    let at-refusal = c .before .before in
     let at-parse-nodes = at-refusal .before .before .before .before in
     let at-first = at-parse-nodes .before .before in
     let start = at-first .before .before .before in
     let g = rw (at-refusal .refusal .given .1) at (at-parse-nodes .parse-nodes .ensures) in
-    input-refused (start .args .text .now) (at-first .first .result) (at-first .first .ensures) _ _ g
+    input-refused (start .args .text .now) (at-first .first .result) (at-first .first .ensures) _ _ _ (c .refused .ensures) g
 
 same-length-2 : tie.Need-same-length-2
 same-length-2 c = search needs
 
 returns-2 : tie.Need-returns-2
 returns-2 c =
-    let at-leftover = c .before .before .before in
+    let at-place = c .before .before in
+    let at-leftover = at-place .before .before in
     let at-nodes = at-leftover .before .before .before in
     let at-parse-nodes = at-nodes .before .before .before .before in
     let at-first = at-parse-nodes .before .before in
     let start = at-first .before .before .before in
     let g = rw (at-nodes .nodes .given .1) at (at-parse-nodes .parse-nodes .ensures) in
-    let l = rw (c .before .place .given .1) at (at-leftover .leftover .ensures) in
-    input-left (start .args .text .now) (at-first .first .result) (at-first .first .ensures) g _ (sym l)
+    let l = rw (at-place .place .given .1) at (at-leftover .leftover .ensures) in
+    input-left (start .args .text .now) (at-first .first .result) (at-first .first .ensures) g _ _ (c .refused2 .ensures) (sym l)
 
 same-length-3 : tie.Need-same-length-3
 same-length-3 c = search needs
 
 returns-3 : tie.Need-returns-3
 returns-3 c =
-    let at-patch-count = c .before .before in
+    let at-patch-count = c .before .before .before in
     let at-enum-told = at-patch-count .before .before in
     let at-leftover = at-enum-told .before .before in
     let at-nodes = at-leftover .before .before .before in
@@ -69,8 +79,8 @@ returns-3 c =
     let start = at-first .before .before .before in
     let g = rw (at-nodes .nodes .given .1) at (at-parse-nodes .parse-nodes .ensures) in
     let l = rw (at-enum-told .enum-told .given .1) at (at-leftover .leftover .ensures) in
-    input-done (start .args .text .now) (at-first .first .result) (at-first .first .ensures) g (sym l)
-    (at-patch-count .patch-count .ensures)
+    input-done (start .args .text .now) (at-first .first .result) (at-first .first .ensures) g _ (sym l)
+    (at-patch-count .patch-count .ensures) (c .place2 .ensures)
 
 pub parse-input-spec : {M : Type 1} → statement M
 parse-input-spec =
@@ -79,11 +89,14 @@ parse-input-spec =
     first-requires
     parse-nodes-requires
     enum-known-refusal
+    refused-requires
     enum-known-nodes
     leftover-requires
     enum-known-place
+    refused-requires-2
     enum-told
     patch-count-requires
+    place-requires
     same-length
     returns
     same-length-2

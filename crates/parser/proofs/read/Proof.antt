@@ -18,8 +18,11 @@ returns-2 c =
     with-values
     (sym (too-few (start .args .text .now) (start .args .scratch .now) (start .args .sheet .now) (at-if1 .if1 .left) (c .if2 .taken)))
 
-split-requires : tie.Need-split-requires
-split-requires c κs = search needs
+parse-input-requires : tie.Need-parse-input-requires
+parse-input-requires c κs = search needs
+
+judge-requires : tie.Need-judge-requires
+judge-requires c κs = search needs
 
 enum-known-refusal : tie.Need-enum-known-refusal
 enum-known-refusal c = search needs
@@ -29,9 +32,6 @@ settle-requires c κs = search needs
 
 enum-told : tie.Need-enum-told
 enum-told c = search needs
-
-parse-input-requires : tie.Need-parse-input-requires
-parse-input-requires c κs = search needs
 
 settle-requires-2 : tie.Need-settle-requires-2
 settle-requires-2 c κs = search needs
@@ -46,14 +46,16 @@ returns-3 : tie.Need-returns-3
 returns-3 c =
     let at-settle = c .before .before in
     let at-refusal = at-settle .before .before .before in
-    let at-split = at-refusal .before .before .before .before in
-    let split = at-split .split in
-    let at-if2 = at-split .before .before in
+    let at-judge = at-refusal .before .before .before .before in
+    let at-parse-input = at-judge .before .before .before .before in
+    let parse-input = at-parse-input .parse-input in
+    let judge = at-judge .judge in
+    let at-if2 = at-parse-input .before .before in
     let at-if1 = at-if2 .before in
     let start = at-if1 .before .before .before .before in
     let args = start .args in
-    let z = split-zero (args .text .now) (args .scratch .now) (split .last .1 .0) (split .result) (at-if2 .if2 .left) (split .ensures) in
-    let e = split-refused (args .text .now) (args .scratch .now) (split .last .1 .0) (split .result) (at-if2 .if2 .left) (split .ensures) _
+    let z = split-zero (args .text .now) (args .scratch .now) (judge .last .1 .0) (judge .result) (at-if2 .if2 .left) (judge .ensures) in
+    let e = split-refused (args .text .now) (args .scratch .now) (judge .last .1 .0) (judge .result) (at-if2 .if2 .left) (judge .ensures) _
     _ (at-refusal .refusal .given .1)
     in
     with-values
@@ -63,10 +65,12 @@ returns-3 c =
     (args .sheet .now)
     (at-if1 .if1 .left)
     (at-if2 .if2 .left)
-    (split .last .1 .0)
+    (judge .last .1 .0)
     (at-settle .settle .last .0)
+    (parse-input .last .1 .0)
     (at-settle .settle .result)
     _ _ z e
+    (parse-input .kept .1 .0)
     (at-settle .settle .ensures))
 
 same-length-3 : tie.Need-same-length-3
@@ -78,17 +82,17 @@ same-length-4 c = search needs
 returns-4 : tie.Need-returns-4
 returns-4 c =
     let at-settle2 = c .before .before in
-    let at-parse-input = at-settle2 .before .before .before .before in
+    let at-enum-told = at-settle2 .before .before in
+    let at-judge = at-enum-told .before .before .before .before in
+    let at-parse-input = at-judge .before .before .before .before in
     let parse-input = at-parse-input .parse-input in
-    let at-enum-told = at-parse-input .before .before in
-    let at-split = at-enum-told .before .before .before .before in
-    let split = at-split .split in
-    let at-if2 = at-split .before .before in
+    let judge = at-judge .judge in
+    let at-if2 = at-parse-input .before .before in
     let at-if1 = at-if2 .before in
     let start = at-if1 .before .before .before .before in
     let args = start .args in
-    let z = split-zero (args .text .now) (args .scratch .now) (split .last .1 .0) (split .result) (at-if2 .if2 .left) (split .ensures) in
-    let e = split-accepted (args .text .now) (args .scratch .now) (split .last .1 .0) (split .result) (at-if2 .if2 .left) (split .ensures)
+    let z = split-zero (args .text .now) (args .scratch .now) (judge .last .1 .0) (judge .result) (at-if2 .if2 .left) (judge .ensures) in
+    let e = split-accepted (args .text .now) (args .scratch .now) (judge .last .1 .0) (judge .result) (at-if2 .if2 .left) (judge .ensures)
     (at-enum-told .enum-told .given .1)
     in
     with-values
@@ -98,14 +102,14 @@ returns-4 c =
     (args .sheet .now)
     (at-if1 .if1 .left)
     (at-if2 .if2 .left)
-    (split .last .1 .0)
+    (judge .last .1 .0)
     (at-settle2 .settle2 .last .0)
     (parse-input .last .1 .0)
     (at-settle2 .settle2 .result)
-    (parse-input .result)
+    (parse-input .result .answer)
     z e
     (parse-input .kept .1 .0)
-    (parse-input .ensures)
+    (parse-input .ensures .tree)
     (at-settle2 .settle2 .ensures))
 
 pub read-spec : {M : Type 1} → statement M
@@ -114,11 +118,11 @@ read-spec =
     (tie.spec
     returns
     returns-2
-    split-requires
+    parse-input-requires
+    judge-requires
     enum-known-refusal
     settle-requires
     enum-told
-    parse-input-requires
     settle-requires-2
     same-length
     same-length-2

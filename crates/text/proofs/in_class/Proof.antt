@@ -6,11 +6,8 @@ use Rattle.text.proofs.in_class.Tie as tie
 enum-told : tie.Need-enum-told
 enum-told c = search needs
 
-slice-aggregate-has : tie.Need-slice-aggregate-has
-slice-aggregate-has c = search needs
-
-has-requires : tie.Need-has-requires
-has-requires c κs = search needs
+is-blank-requires : tie.Need-is-blank-requires
+is-blank-requires c κs = search needs
 
 enum-told-2 : tie.Need-enum-told-2
 enum-told-2 c = search needs
@@ -49,7 +46,7 @@ is-foreign-requires : tie.Need-is-foreign-requires
 is-foreign-requires c κs = search needs
 
 returns : tie.Need-returns
-returns c = rw (c .before .before .enum-told .given .1) (c .has .ensures)
+returns c = rw (c .before .enum-told .given .1) (c .is-blank .ensures)
 
 returns-2 : tie.Need-returns-2
 returns-2 c = rw (c .before .enum-told2 .given .1) (c .between .ensures)
@@ -74,8 +71,7 @@ in-class-spec =
     tie.close
     (tie.spec
     enum-told
-    slice-aggregate-has
-    has-requires
+    is-blank-requires
     enum-told-2
     between-requires
     enum-told-3

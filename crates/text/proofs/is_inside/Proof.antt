@@ -1,24 +1,21 @@
--- `text::is_inside` meets its contract: each way out has the answers of the calls before it. Assumes nothing.
+-- `text::is_inside` meets its contract. Assumes nothing.
 use mathlib.Core.Path.{sym, _∙_}
 use borrow.Author.Needs.{needs}
+use Rattle.text.proofs.ByteLaws.{neither-is}
 use Rattle.text.proofs.is_inside.Statement.{statement}
 use Rattle.text.proofs.is_inside.Tie as tie
 
 between-requires : tie.Need-between-requires
 between-requires c κs = search needs
 
-slice-aggregate-has : tie.Need-slice-aggregate-has
-slice-aggregate-has c = search needs
-
-has-requires : tie.Need-has-requires
-has-requires c κs = search needs
-
 returns : tie.Need-returns
-returns c = rw (sym (c .before .before .before .between .ensures) ∙ c .before .before .if1 .taken, c .has .ensures)
+returns c =
+    let b = c .before .before .args .b in
+    rw (sym (c .before .between .ensures) ∙ c .if1 .taken) (neither-is 34 92 b)
 
 returns-2 : tie.Need-returns-2
 returns-2 c = rw (sym (c .before .between .ensures) ∙ c .if1 .left)
 
 pub is-inside-spec : {M : Type 1} → statement M
 is-inside-spec =
-    tie.close (tie.spec between-requires slice-aggregate-has has-requires returns returns-2)
+    tie.close (tie.spec between-requires returns returns-2)

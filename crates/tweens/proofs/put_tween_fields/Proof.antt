@@ -16,7 +16,7 @@ use Rattle.tweens.proofs.put_tween_fields.Tie as tie
 put-float-end : (w : tie.After-put-float) → w .put-float .result + 60 < 2 ^ 31
 put-float-end w =
     let start = w .before .before .before in
-    omega (arith, start .pre .0, w .put-float .ensures .place, length-word (bits (start .args .x .duration)))
+    omega (arith, start .pre .0, w .put-float .ensures .place, length-word (bits (start .args .duration)))
 
 put-opt-easing-end : (w : tie.After-put-opt-easing) → w .put-opt-easing .result + 42 < 2 ^ 31
 put-opt-easing-end w =

@@ -1,0 +1,116 @@
+-- `kind_steps::color_fields` meets its contract. Assumes nothing.
+use Rattle.cells.proofs.StepLaws.{Gathering, gathering-start, list-refused, list-done, value-refused, list-more, list-moves}
+use Rattle.kind_steps.specs.Means.{colorCells}
+use mathlib.Core.Path.{refl}
+use Prim.Native.Nat.{_-_}
+use lib.ListN.{length}
+use mathlib.Core.List.{[]}
+use Rattle.grammar.specs.Fields.{last, ever, fieldsStep}
+use Rattle.grammar.specs.Grammar.{colorFields}
+use native.Mathlib.Omega.{arith}
+use borrow.Author.Needs.{needs}
+use Rattle.text.specs.Words.{entries}
+use Rattle.kind_steps.proofs.color_fields.Statement.{statement}
+use Rattle.kind_steps.proofs.color_fields.Tie as tie
+
+abbrev Inv-loop : tie.InvT-loop
+Inv-loop text rows m₀ kept₀ m kept = Gathering fieldsStep text m₀ m colorFields [] (colorCells kept)
+
+abbrev μ-loop : tie.MeasureT-loop
+μ-loop text rows m₀ kept₀ m kept = length text - m .at
+
+loop-holds : tie.Need-loop-holds Inv-loop μ-loop
+unfolding last ever
+loop-holds c =
+    gathering-start (c .before .pre) ((refl, tt), (refl, ((refl, tt), tt)))
+
+slice-aggregate-parse-field-list : tie.Need-slice-aggregate-parse-field-list Inv-loop μ-loop
+slice-aggregate-parse-field-list c = search needs
+
+parse-field-list-requires : tie.Need-parse-field-list-requires Inv-loop μ-loop
+parse-field-list-requires c κs = c .before .loop .inv .listed .ready
+
+enum-known-r : tie.Need-enum-known-r Inv-loop μ-loop
+enum-known-r c = search needs
+
+returns : tie.Need-returns Inv-loop μ-loop
+unfolding colorFields entries
+returns c =
+    let at-parse-field-list = c .before .before .before in
+    let at-loop = at-parse-field-list .before .before in
+    list-refused (at-loop .loop .inv) (rw (c .before .r .given .1) at (at-parse-field-list .parse-field-list .ensures colorFields refl))
+
+enum-known-e : tie.Need-enum-known-e Inv-loop μ-loop
+enum-known-e c = search needs
+
+returns-2 : tie.Need-returns-2 Inv-loop μ-loop
+unfolding colorFields entries
+returns-2 c =
+    let at-parse-field-list = c .before .before .before in
+    let at-loop = at-parse-field-list .before .before in
+    list-done (at-loop .loop .inv) (rw (c .before .e .given .1) at (at-parse-field-list .parse-field-list .ensures colorFields refl))
+
+enum-known-i : tie.Need-enum-known-i Inv-loop μ-loop
+enum-known-i c = search needs
+
+color-step-requires : tie.Need-color-step-requires Inv-loop μ-loop
+unfolding colorFields entries
+color-step-requires c κs = (rw (c .before .i .given .1) at (c .before .before .before .parse-field-list .ensures colorFields refl)) .ready
+
+enum-known-r-2 : tie.Need-enum-known-r-2 Inv-loop μ-loop
+enum-known-r-2 c = search needs
+
+returns-3 : tie.Need-returns-3 Inv-loop μ-loop
+unfolding colorFields entries
+returns-3 c =
+    let at-color-step = c .before .before .before in
+    let at-i = at-color-step .before .before in
+    let at-parse-field-list = at-i .before .before in
+    let at-loop = at-parse-field-list .before .before in
+    value-refused (at-loop .loop .inv) (rw (at-i .i .given .1) at (at-parse-field-list .parse-field-list .ensures colorFields refl))
+    (rw (c .before .r2 .given .1) at (at-color-step .color-step .ensures))
+
+enum-known-g : tie.Need-enum-known-g Inv-loop μ-loop
+enum-known-g c = search needs
+
+loop-less : tie.Need-loop-less Inv-loop μ-loop
+unfolding colorFields entries
+loop-less c =
+    let at-color-step = c .before .before .before in
+    let at-i = at-color-step .before .before in
+    let at-parse-field-list = at-i .before .before in
+    let f = rw (at-i .i .given .1) at (at-parse-field-list .parse-field-list .ensures colorFields refl) in
+    let u = rw (c .before .g .given .1) at (at-color-step .color-step .ensures) in
+    let w = list-moves f u in
+    omega (arith, w .0 .high, w .1)
+
+loop-again : tie.Need-loop-again Inv-loop μ-loop
+unfolding colorFields entries
+loop-again c =
+    let at-color-step = c .before .before .before in
+    let at-i = at-color-step .before .before in
+    let at-parse-field-list = at-i .before .before in
+    let at-loop = at-parse-field-list .before .before in
+    list-more (at-loop .loop .inv) (rw (at-i .i .given .1) at (at-parse-field-list .parse-field-list .ensures colorFields refl))
+    (rw (c .before .g .given .1) at (at-color-step .color-step .ensures))
+
+pub color-fields-spec : {M : Type 1} → statement M
+color-fields-spec =
+    tie.close
+    (tie.spec
+    Inv-loop
+    μ-loop
+    loop-holds
+    slice-aggregate-parse-field-list
+    parse-field-list-requires
+    enum-known-r
+    returns
+    enum-known-e
+    returns-2
+    enum-known-i
+    color-step-requires
+    enum-known-r-2
+    returns-3
+    enum-known-g
+    loop-less
+    loop-again)

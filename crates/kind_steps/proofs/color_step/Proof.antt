@@ -1,0 +1,121 @@
+-- `kind_steps::color_step` meets its contract. Assumes nothing.
+use Rattle.cells.proofs.StepLaws.{no-float, a-float, no-easing, an-easing, step-refused, a-case, last-row}
+use Rattle.heads.proofs.NameLaws.{choice-below}
+use mathlib.Core.Path.{refl}
+use mathlib.Core.List.{[], _∷_}
+use native.Mathlib.Omega.{arith}
+use Rattle.text.specs.Bytes.{same}
+use Rattle.text.specs.Words.{entries}
+use Rattle.error.specs.declared.Refusal.the-variants.{Malformed}
+use Rattle.grammar.specs.Rule.{choice}
+use Rattle.grammar.specs.Fields.{aNumber}
+use Rattle.grammar.specs.Grammar.{colorFields, space}
+use borrow.Author.Needs.{needs}
+use Rattle.kind_steps.proofs.color_step.Statement.{statement}
+use Rattle.kind_steps.proofs.color_step.Tie as tie
+
+parse-float-requires : tie.Need-parse-float-requires
+parse-float-requires c κs = search needs
+
+enum-known-r : tie.Need-enum-known-r
+enum-known-r c = search needs
+
+enum-known-x : tie.Need-enum-known-x
+enum-known-x c = search needs
+
+slice-aggregate-choice : tie.Need-slice-aggregate-choice
+slice-aggregate-choice c = search needs
+
+choice-requires : tie.Need-choice-requires
+choice-requires c κs = search needs
+
+enum-known-r-2 : tie.Need-enum-known-r-2
+enum-known-r-2 c = search needs
+
+enum-known-i : tie.Need-enum-known-i
+enum-known-i c = search needs
+
+cast-t32 : tie.Need-cast-t32
+unfolding entries
+cast-t32 c =
+    let at-choice = c .before .before .before in
+    let b = choice-below _ _ _ _ _ _ (rw (c .before .i .given .1) at (at-choice .choice .ensures)) in
+    omega (arith, b)
+
+parse-easing-requires : tie.Need-parse-easing-requires
+parse-easing-requires c κs = search needs
+
+enum-known-r-3 : tie.Need-enum-known-r-3
+enum-known-r-3 c = search needs
+
+enum-known-x-2 : tie.Need-enum-known-x-2
+enum-known-x-2 c = search needs
+
+returns : tie.Need-returns
+unfolding colorFields
+returns c =
+    let at-parse-float = c .before .before .before in
+    let at-match = at-parse-float .before in
+    no-float 0 "duration" (λ l. at-match .match .keys1) refl (rw (c .before .r .given .1) at (at-parse-float .parse-float .ensures))
+
+returns-2 : tie.Need-returns-2
+unfolding colorFields same
+returns-2 c =
+    let at-parse-float = c .before .before .before in
+    let at-match = at-parse-float .before in
+    a-float 0 "duration" (λ l. at-match .match .keys1) 0 _ refl refl refl
+    (rw (c .before .x .given .1) at (at-parse-float .parse-float .ensures))
+
+returns-3 : tie.Need-returns-3
+unfolding colorFields entries space
+returns-3 c =
+    let at-choice = c .before .before .before in
+    let at-match = at-choice .before .before in
+    step-refused 1 "space" (λ l. at-match .match .keys2) (choice Malformed ("linear" ∷ "lab" ∷ "oklch" ∷ [])) aNumber refl
+    (rw (c .before .r2 .given .1) at (at-choice .choice .ensures))
+
+returns-4 : tie.Need-returns-4
+unfolding colorFields same entries space
+returns-4 c =
+    let at-choice = c .before .before .before in
+    let at-match = at-choice .before .before in
+    a-case 1 "space" (λ l. at-match .match .keys2) (choice Malformed ("linear" ∷ "lab" ∷ "oklch" ∷ [])) 1 _ refl refl refl
+    (rw (c .before .i .given .1) at (at-choice .choice .ensures))
+
+returns-5 : tie.Need-returns-5
+unfolding colorFields
+returns-5 c =
+    let at-parse-easing = c .before .before .before in
+    let at-match = at-parse-easing .before in
+    no-easing 2 "easing" (λ l. last-row 2 _ (at-match .match .rest) l) refl
+    (rw (c .before .r3 .given .1) at (at-parse-easing .parse-easing .ensures))
+
+returns-6 : tie.Need-returns-6
+unfolding colorFields same
+returns-6 c =
+    let at-parse-easing = c .before .before .before in
+    let at-match = at-parse-easing .before in
+    an-easing 2 "easing" (λ l. last-row 2 _ (at-match .match .rest) l) 2 _ refl refl refl
+    (rw (c .before .x2 .given .1) at (at-parse-easing .parse-easing .ensures))
+
+pub color-step-spec : {M : Type 1} → statement M
+color-step-spec =
+    tie.close
+    (tie.spec
+    parse-float-requires
+    enum-known-r
+    enum-known-x
+    slice-aggregate-choice
+    choice-requires
+    enum-known-r-2
+    enum-known-i
+    cast-t32
+    parse-easing-requires
+    enum-known-r-3
+    enum-known-x-2
+    returns
+    returns-2
+    returns-3
+    returns-4
+    returns-5
+    returns-6)

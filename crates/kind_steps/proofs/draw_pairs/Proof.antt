@@ -1,0 +1,151 @@
+-- `kind_steps::draw_pairs` meets its contract. Assumes nothing.
+use Rattle.cells.proofs.StepLaws.{Gathering, pairStep, gathering-start, pairs-refused, pairs-done}
+use Rattle.cells.proofs.StepLaws.{pairs-value-refused, pairs-more, pairs-last, pairs-moves}
+use Rattle.kind_steps.specs.Means.{drawCells}
+use mathlib.Core.Path.{refl}
+use mathlib.Core.List.{[]}
+use Prim.Native.Nat.{_-_}
+use lib.ListN.{length}
+use native.Mathlib.Omega.{arith}
+use borrow.Author.Needs.{needs}
+use borrow.Author.Tests.{not-false, not-true}
+use Rattle.text.specs.Words.{entries}
+use Rattle.grammar.specs.Fields.{last}
+use Rattle.grammar.specs.Grammar.{drawFields}
+use Rattle.kind_steps.proofs.draw_pairs.Statement.{statement}
+use Rattle.kind_steps.proofs.draw_pairs.Tie as tie
+
+abbrev Inv-loop : tie.InvT-loop
+Inv-loop text rows m₀ kept₀ m kept = Gathering pairStep text m₀ m drawFields [] (drawCells kept)
+
+abbrev μ-loop : tie.MeasureT-loop
+μ-loop text rows m₀ kept₀ m kept = length text - m .at
+
+no-draw-fields-requires : tie.Need-no-draw-fields-requires Inv-loop μ-loop
+no-draw-fields-requires c κs = search needs
+
+loop-holds : tie.Need-loop-holds Inv-loop μ-loop
+unfolding last
+loop-holds c = rw (c .no-draw-fields .ensures) (gathering-start (c .before .before .pre) ((refl, tt), ((refl, tt), tt)))
+
+slice-aggregate-next-pair : tie.Need-slice-aggregate-next-pair Inv-loop μ-loop
+slice-aggregate-next-pair c = search needs
+
+next-pair-requires : tie.Need-next-pair-requires Inv-loop μ-loop
+next-pair-requires c κs = c .before .loop .inv .listed .ready
+
+enum-known-r : tie.Need-enum-known-r Inv-loop μ-loop
+enum-known-r c = search needs
+
+returns : tie.Need-returns Inv-loop μ-loop
+unfolding drawFields entries
+returns c =
+    let at-next-pair = c .before .before .before in
+    let at-loop = at-next-pair .before .before in
+    pairs-refused (at-loop .loop .inv) (rw (c .before .r .given .1) at (at-next-pair .next-pair .ensures drawFields refl))
+
+enum-known-e : tie.Need-enum-known-e Inv-loop μ-loop
+enum-known-e c = search needs
+
+returns-2 : tie.Need-returns-2 Inv-loop μ-loop
+unfolding drawFields entries
+returns-2 c =
+    let at-next-pair = c .before .before .before in
+    let at-loop = at-next-pair .before .before in
+    pairs-done (at-loop .loop .inv) (rw (c .before .e .given .1) at (at-next-pair .next-pair .ensures drawFields refl))
+
+enum-known-i : tie.Need-enum-known-i Inv-loop μ-loop
+enum-known-i c = search needs
+
+draw-step-requires : tie.Need-draw-step-requires Inv-loop μ-loop
+unfolding drawFields entries
+draw-step-requires c κs = (rw (c .before .i .given .1) at (c .before .before .before .next-pair .ensures drawFields refl)) .ready
+
+enum-known-r-2 : tie.Need-enum-known-r-2 Inv-loop μ-loop
+enum-known-r-2 c = search needs
+
+returns-3 : tie.Need-returns-3 Inv-loop μ-loop
+unfolding drawFields entries
+returns-3 c =
+    let at-draw-step = c .before .before .before in
+    let at-i = at-draw-step .before .before in
+    let at-next-pair = at-i .before .before in
+    let at-loop = at-next-pair .before .before in
+    pairs-value-refused (at-loop .loop .inv) (rw (at-i .i .given .1) at (at-next-pair .next-pair .ensures drawFields refl))
+    (rw (c .before .r2 .given .1) at (at-draw-step .draw-step .ensures))
+
+enum-known-g : tie.Need-enum-known-g Inv-loop μ-loop
+enum-known-g c = search needs
+
+eat-requires : tie.Need-eat-requires Inv-loop μ-loop
+unfolding drawFields entries
+eat-requires c κs =
+    let at-draw-step = c .before .before .before in
+    let at-i = at-draw-step .before .before in
+    let at-next-pair = at-i .before .before in
+    let f = rw (at-i .i .given .1) at (at-next-pair .next-pair .ensures drawFields refl) in
+    let u = rw (c .before .g .given .1) at (at-draw-step .draw-step .ensures) in
+    (u .by (f .row) (f .is) .1 .ready, omega arith)
+
+returns-4 : tie.Need-returns-4 Inv-loop μ-loop
+unfolding drawFields entries
+returns-4 c =
+    let at-eat = c .before .before .before in
+    let at-g = at-eat .before .before in
+    let at-draw-step = at-g .before .before in
+    let at-i = at-draw-step .before .before in
+    let at-next-pair = at-i .before .before in
+    let at-loop = at-next-pair .before .before in
+    let z = rw (not-true (at-eat .eat .result .taken) (c .if1 .taken)) at (at-eat .eat .ensures) in
+    pairs-last (at-loop .loop .inv) (rw (at-i .i .given .1) at (at-next-pair .next-pair .ensures drawFields refl))
+    (rw (at-g .g .given .1) at (at-draw-step .draw-step .ensures)) z
+
+loop-less : tie.Need-loop-less Inv-loop μ-loop
+unfolding drawFields entries
+loop-less c =
+    let at-eat = c .before .before .before in
+    let at-g = at-eat .before .before in
+    let at-draw-step = at-g .before .before in
+    let at-i = at-draw-step .before .before in
+    let at-next-pair = at-i .before .before in
+    let f = rw (at-i .i .given .1) at (at-next-pair .next-pair .ensures drawFields refl) in
+    let u = rw (at-g .g .given .1) at (at-draw-step .draw-step .ensures) in
+    let w = pairs-moves f u (at-eat .eat .ensures) in
+    omega (arith, w .0 .high, w .1)
+
+loop-again : tie.Need-loop-again Inv-loop μ-loop
+unfolding drawFields entries
+loop-again c =
+    let at-eat = c .before .before .before in
+    let at-g = at-eat .before .before in
+    let at-draw-step = at-g .before .before in
+    let at-i = at-draw-step .before .before in
+    let at-next-pair = at-i .before .before in
+    let at-loop = at-next-pair .before .before in
+    let z = rw (not-false (at-eat .eat .result .taken) (c .if1 .left)) at (at-eat .eat .ensures) in
+    pairs-more (at-loop .loop .inv) (rw (at-i .i .given .1) at (at-next-pair .next-pair .ensures drawFields refl))
+    (rw (at-g .g .given .1) at (at-draw-step .draw-step .ensures)) z
+
+pub draw-pairs-spec : {M : Type 1} → statement M
+draw-pairs-spec =
+    tie.close
+    (tie.spec
+    Inv-loop
+    μ-loop
+    no-draw-fields-requires
+    loop-holds
+    slice-aggregate-next-pair
+    next-pair-requires
+    enum-known-r
+    returns
+    enum-known-e
+    returns-2
+    enum-known-i
+    draw-step-requires
+    enum-known-r-2
+    returns-3
+    enum-known-g
+    eat-requires
+    returns-4
+    loop-less
+    loop-again)

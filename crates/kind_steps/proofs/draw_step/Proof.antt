@@ -1,0 +1,72 @@
+-- `kind_steps::draw_step` meets its contract. Assumes nothing.
+use Rattle.cells.proofs.StepLaws.{no-float, a-float, no-easing, an-easing, last-row}
+use mathlib.Core.Path.{refl}
+use Rattle.text.specs.Bytes.{same}
+use Rattle.grammar.specs.Grammar.{drawFields}
+use borrow.Author.Needs.{needs}
+use Rattle.kind_steps.proofs.draw_step.Statement.{statement}
+use Rattle.kind_steps.proofs.draw_step.Tie as tie
+
+parse-float-requires : tie.Need-parse-float-requires
+parse-float-requires c κs = search needs
+
+enum-known-r : tie.Need-enum-known-r
+enum-known-r c = search needs
+
+enum-known-x : tie.Need-enum-known-x
+enum-known-x c = search needs
+
+parse-easing-requires : tie.Need-parse-easing-requires
+parse-easing-requires c κs = search needs
+
+enum-known-r-2 : tie.Need-enum-known-r-2
+enum-known-r-2 c = search needs
+
+enum-known-x-2 : tie.Need-enum-known-x-2
+enum-known-x-2 c = search needs
+
+returns : tie.Need-returns
+unfolding drawFields
+returns c =
+    let at-parse-float = c .before .before .before in
+    let at-match = at-parse-float .before in
+    no-float 0 "duration" (λ l. at-match .match .keys1) refl (rw (c .before .r .given .1) at (at-parse-float .parse-float .ensures))
+
+returns-2 : tie.Need-returns-2
+unfolding drawFields same
+returns-2 c =
+    let at-parse-float = c .before .before .before in
+    let at-match = at-parse-float .before in
+    a-float 0 "duration" (λ l. at-match .match .keys1) 0 _ refl refl refl
+    (rw (c .before .x .given .1) at (at-parse-float .parse-float .ensures))
+
+returns-3 : tie.Need-returns-3
+unfolding drawFields
+returns-3 c =
+    let at-parse-easing = c .before .before .before in
+    let at-match = at-parse-easing .before in
+    no-easing 1 "easing" (λ l. last-row 1 _ (at-match .match .rest) l) refl
+    (rw (c .before .r2 .given .1) at (at-parse-easing .parse-easing .ensures))
+
+returns-4 : tie.Need-returns-4
+unfolding drawFields same
+returns-4 c =
+    let at-parse-easing = c .before .before .before in
+    let at-match = at-parse-easing .before in
+    an-easing 1 "easing" (λ l. last-row 1 _ (at-match .match .rest) l) 1 _ refl refl refl
+    (rw (c .before .x2 .given .1) at (at-parse-easing .parse-easing .ensures))
+
+pub draw-step-spec : {M : Type 1} → statement M
+draw-step-spec =
+    tie.close
+    (tie.spec
+    parse-float-requires
+    enum-known-r
+    enum-known-x
+    parse-easing-requires
+    enum-known-r-2
+    enum-known-x-2
+    returns
+    returns-2
+    returns-3
+    returns-4)

@@ -1,0 +1,261 @@
+-- `spring_step::spring_step` meets its contract. Assumes nothing.
+use Rattle.cells.proofs.StepLaws.{no-float, a-float, step-refused, a-case, no-value, a-value, past}
+use Rattle.heads.proofs.NameLaws.{choice-below}
+use mathlib.Core.Path.{refl}
+use mathlib.Core.List.{[], _∷_}
+use native.Mathlib.Omega.{arith}
+use Rattle.text.specs.Bytes.{same}
+use Rattle.text.specs.Words.{entries}
+use Rattle.error.specs.declared.Refusal.the-variants.{Malformed, UnknownSpringPreset}
+use Rattle.grammar.specs.Rule.{choice}
+use Rattle.grammar.specs.Fields.{aNumber}
+use Rattle.grammar.specs.Grammar.{springFields, springPreset, parseSpringPreset, integrator}
+use borrow.Author.Needs.{needs}
+use Rattle.spring_step.proofs.spring_step.Statement.{statement}
+use Rattle.spring_step.proofs.spring_step.Tie as tie
+
+slice-aggregate-choice : tie.Need-slice-aggregate-choice
+slice-aggregate-choice c = search needs
+
+choice-requires : tie.Need-choice-requires
+choice-requires c κs = search needs
+
+enum-known-r : tie.Need-enum-known-r
+enum-known-r c = search needs
+
+enum-known-i : tie.Need-enum-known-i
+enum-known-i c = search needs
+
+cast-t47 : tie.Need-cast-t47
+unfolding entries
+cast-t47 c =
+    let at-choice = c .before .before .before in
+    let b = choice-below _ _ _ _ _ _ (rw (c .before .i .given .1) at (at-choice .choice .ensures)) in
+    omega (arith, b)
+
+parse-float-requires : tie.Need-parse-float-requires
+parse-float-requires c κs = search needs
+
+enum-known-r-2 : tie.Need-enum-known-r-2
+enum-known-r-2 c = search needs
+
+enum-known-x : tie.Need-enum-known-x
+enum-known-x c = search needs
+
+parse-float-requires-2 : tie.Need-parse-float-requires-2
+parse-float-requires-2 c κs = search needs
+
+enum-known-r-3 : tie.Need-enum-known-r-3
+enum-known-r-3 c = search needs
+
+enum-known-x-2 : tie.Need-enum-known-x-2
+enum-known-x-2 c = search needs
+
+parse-float-requires-3 : tie.Need-parse-float-requires-3
+parse-float-requires-3 c κs = search needs
+
+enum-known-r-4 : tie.Need-enum-known-r-4
+enum-known-r-4 c = search needs
+
+enum-known-x-3 : tie.Need-enum-known-x-3
+enum-known-x-3 c = search needs
+
+past-value-requires : tie.Need-past-value-requires
+past-value-requires c κs = search needs
+
+enum-known-r-5 : tie.Need-enum-known-r-5
+enum-known-r-5 c = search needs
+
+enum-known-m : tie.Need-enum-known-m
+enum-known-m c = search needs
+
+parse-float-requires-4 : tie.Need-parse-float-requires-4
+parse-float-requires-4 c κs = search needs
+
+enum-known-r-6 : tie.Need-enum-known-r-6
+enum-known-r-6 c = search needs
+
+enum-known-x-4 : tie.Need-enum-known-x-4
+enum-known-x-4 c = search needs
+
+slice-aggregate-choice-2 : tie.Need-slice-aggregate-choice-2
+slice-aggregate-choice-2 c = search needs
+
+choice-requires-2 : tie.Need-choice-requires-2
+choice-requires-2 c κs = search needs
+
+enum-known-r-7 : tie.Need-enum-known-r-7
+enum-known-r-7 c = search needs
+
+enum-known-i-2 : tie.Need-enum-known-i-2
+enum-known-i-2 c = search needs
+
+cast-t111 : tie.Need-cast-t111
+unfolding entries
+cast-t111 c =
+    let at-choice2 = c .before .before .before in
+    let b = choice-below _ _ _ _ _ _ (rw (c .before .i2 .given .1) at (at-choice2 .choice2 .ensures)) in
+    omega (arith, b)
+
+damping-step-requires : tie.Need-damping-step-requires
+damping-step-requires c κs = (c .before .before .pre, past 7 _ (c .match .rest))
+
+returns : tie.Need-returns
+unfolding springFields entries springPreset parseSpringPreset
+returns c =
+    let at-choice = c .before .before .before in
+    let at-match = at-choice .before .before in
+    step-refused 0 "preset"
+    (λ l. at-match .match .keys1)
+    (choice UnknownSpringPreset ("gentle" ∷ "wobbly" ∷ "stiff" ∷ "slow" ∷ "snappy" ∷ []))
+    aNumber refl
+    (rw (c .before .r .given .1) at (at-choice .choice .ensures))
+
+returns-2 : tie.Need-returns-2
+unfolding springFields same entries springPreset parseSpringPreset
+returns-2 c =
+    let at-choice = c .before .before .before in
+    let at-match = at-choice .before .before in
+    a-case 0 "preset" (λ l. at-match .match .keys1) (choice UnknownSpringPreset ("gentle" ∷ "wobbly" ∷ "stiff" ∷ "slow" ∷ "snappy" ∷ [])) 0
+    _ refl refl refl (rw (c .before .i .given .1) at (at-choice .choice .ensures))
+
+returns-3 : tie.Need-returns-3
+unfolding springFields
+returns-3 c =
+    let at-parse-float = c .before .before .before in
+    let at-match = at-parse-float .before in
+    no-float 1 "stiffness" (λ l. at-match .match .keys2) refl (rw (c .before .r2 .given .1) at (at-parse-float .parse-float .ensures))
+
+returns-4 : tie.Need-returns-4
+unfolding springFields same
+returns-4 c =
+    let at-parse-float = c .before .before .before in
+    let at-match = at-parse-float .before in
+    a-float 1 "stiffness" (λ l. at-match .match .keys2) 1 _ refl refl refl
+    (rw (c .before .x .given .1) at (at-parse-float .parse-float .ensures))
+
+returns-5 : tie.Need-returns-5
+unfolding springFields
+returns-5 c =
+    let at-parse-float2 = c .before .before .before in
+    let at-match = at-parse-float2 .before in
+    no-float 2 "damping" (λ l. at-match .match .keys3) refl (rw (c .before .r3 .given .1) at (at-parse-float2 .parse-float2 .ensures))
+
+returns-6 : tie.Need-returns-6
+unfolding springFields same
+returns-6 c =
+    let at-parse-float2 = c .before .before .before in
+    let at-match = at-parse-float2 .before in
+    a-float 2 "damping" (λ l. at-match .match .keys3) 2 _ refl refl refl
+    (rw (c .before .x2 .given .1) at (at-parse-float2 .parse-float2 .ensures))
+
+returns-7 : tie.Need-returns-7
+unfolding springFields
+returns-7 c =
+    let at-parse-float3 = c .before .before .before in
+    let at-match = at-parse-float3 .before in
+    no-float 3 "mass" (λ l. at-match .match .keys4) refl (rw (c .before .r4 .given .1) at (at-parse-float3 .parse-float3 .ensures))
+
+returns-8 : tie.Need-returns-8
+unfolding springFields same
+returns-8 c =
+    let at-parse-float3 = c .before .before .before in
+    let at-match = at-parse-float3 .before in
+    a-float 3 "mass" (λ l. at-match .match .keys4) 3 _ refl refl refl
+    (rw (c .before .x3 .given .1) at (at-parse-float3 .parse-float3 .ensures))
+
+returns-9 : tie.Need-returns-9
+unfolding springFields
+returns-9 c =
+    let at-past-value = c .before .before .before in
+    let at-match = at-past-value .before in
+    no-value 4 "velocity" (λ l. at-match .match .keys5) refl (rw (c .before .r5 .given .1) at (at-past-value .past-value .ensures))
+
+returns-10 : tie.Need-returns-10
+unfolding springFields same
+returns-10 c =
+    let at-past-value = c .before .before .before in
+    let at-match = at-past-value .before in
+    let start = at-match .before .before in
+    let t = rw (c .before .m .given .1) at (at-past-value .past-value .ensures) in
+    a-value 4 "velocity" (λ l. at-match .match .keys5) 4 (t .0) refl refl refl (start .pre) (t .1) (t .2)
+
+returns-11 : tie.Need-returns-11
+unfolding springFields
+returns-11 c =
+    let at-parse-float4 = c .before .before .before in
+    let at-match = at-parse-float4 .before in
+    no-float 5 "epsilon" (λ l. at-match .match .keys6) refl (rw (c .before .r6 .given .1) at (at-parse-float4 .parse-float4 .ensures))
+
+returns-12 : tie.Need-returns-12
+unfolding springFields same
+returns-12 c =
+    let at-parse-float4 = c .before .before .before in
+    let at-match = at-parse-float4 .before in
+    a-float 5 "epsilon" (λ l. at-match .match .keys6) 5 _ refl refl refl
+    (rw (c .before .x4 .given .1) at (at-parse-float4 .parse-float4 .ensures))
+
+returns-13 : tie.Need-returns-13
+unfolding springFields entries integrator
+returns-13 c =
+    let at-choice2 = c .before .before .before in
+    let at-match = at-choice2 .before .before in
+    step-refused 6 "integrator" (λ l. at-match .match .keys7) (choice Malformed ("semi_implicit_euler" ∷ "rk4" ∷ [])) aNumber refl
+    (rw (c .before .r7 .given .1) at (at-choice2 .choice2 .ensures))
+
+returns-14 : tie.Need-returns-14
+unfolding springFields same entries integrator
+returns-14 c =
+    let at-choice2 = c .before .before .before in
+    let at-match = at-choice2 .before .before in
+    a-case 6 "integrator" (λ l. at-match .match .keys7) (choice Malformed ("semi_implicit_euler" ∷ "rk4" ∷ [])) 6 _ refl refl refl
+    (rw (c .before .i2 .given .1) at (at-choice2 .choice2 .ensures))
+
+returns-15 : tie.Need-returns-15
+returns-15 c = search needs
+
+pub spring-step-spec : {M : Type 1} → statement M
+spring-step-spec =
+    tie.close
+    (tie.spec
+    slice-aggregate-choice
+    choice-requires
+    enum-known-r
+    enum-known-i
+    cast-t47
+    parse-float-requires
+    enum-known-r-2
+    enum-known-x
+    parse-float-requires-2
+    enum-known-r-3
+    enum-known-x-2
+    parse-float-requires-3
+    enum-known-r-4
+    enum-known-x-3
+    past-value-requires
+    enum-known-r-5
+    enum-known-m
+    parse-float-requires-4
+    enum-known-r-6
+    enum-known-x-4
+    slice-aggregate-choice-2
+    choice-requires-2
+    enum-known-r-7
+    enum-known-i-2
+    cast-t111
+    damping-step-requires
+    returns
+    returns-2
+    returns-3
+    returns-4
+    returns-5
+    returns-6
+    returns-7
+    returns-8
+    returns-9
+    returns-10
+    returns-11
+    returns-12
+    returns-13
+    returns-14
+    returns-15)

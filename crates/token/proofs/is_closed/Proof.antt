@@ -1,0 +1,15 @@
+-- `token::is_closed` meets its contract. Assumes nothing.
+use Rattle.token.proofs.SplitLaws.{held-some}
+use Rattle.token.specs.Means.{held}
+use Rattle.token.proofs.is_closed.Statement.{statement}
+use Rattle.token.proofs.is_closed.Tie as tie
+
+returns : tie.Need-returns
+unfolding held
+returns c = λ s. rw (c .if1 .taken)
+
+returns-2 : tie.Need-returns-2
+returns-2 c = λ s. rw (held-some s (c .before .args .depth) (c .if1 .left))
+
+pub is-closed-spec : {M : Type 1} → statement M
+is-closed-spec = tie.close (tie.spec returns returns-2)

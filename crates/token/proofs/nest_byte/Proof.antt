@@ -1,0 +1,28 @@
+-- `token::nest_byte` meets its contract. Assumes nothing.
+use borrow.Author.Needs.{needs}
+use Rattle.token.proofs.SplitLaws.{depth-is}
+use Rattle.token.specs.Split.{awaits, nestMark}
+use Rattle.token.specs.Means.{held, nestByte}
+use Rattle.token.proofs.nest_byte.Statement.{statement}
+use Rattle.token.proofs.nest_byte.Tie as tie
+
+returns : tie.Need-returns
+returns c = record { is = rw (c .if1 .taken); few = c .before .before .pre .1 }
+
+nest-mark-requires : tie.Need-nest-mark-requires
+nest-mark-requires c κs = search needs
+
+same-length : tie.Need-same-length
+same-length c = search needs
+
+returns-2 : tie.Need-returns-2
+returns-2 c =
+    let at-nest-mark = c .before .before in
+    let at-if1 = at-nest-mark .before .before in
+    let args = at-if1 .before .before .args in
+    let cs = held (args .words .now) (args .depth) in
+    depth-is (nestByte (args .quoted) (args .b) (awaits cs)) (nestMark (args .b) cs) (rw (at-if1 .if1 .left))
+    (at-nest-mark .nest-mark .last .1 .0) (at-nest-mark .nest-mark .result) (at-nest-mark .nest-mark .ensures)
+
+pub nest-byte-spec : {M : Type 1} → statement M
+nest-byte-spec = tie.close (tie.spec returns nest-mark-requires same-length returns-2)

@@ -1,0 +1,27 @@
+-- `token::nests` meets its contract; what `delimiters_fit` leaves in the scratch is cleared. Assumes nothing.
+use Prim.Native.Nat.{ℕ}
+use mathlib.Core.Path.{ap, _∙_}
+use lib.ListN.{replicate}
+use borrow.Author.Needs.{needs}
+use Rattle.token.proofs.nests.Statement.{statement}
+use Rattle.token.proofs.nests.Tie as tie
+
+delimiters-fit-requires : tie.Need-delimiters-fit-requires
+delimiters-fit-requires c κs = search needs
+
+clear-requires : tie.Need-clear-requires
+clear-requires c κs = search needs
+
+same-length : tie.Need-same-length
+same-length c = search needs
+
+returns : tie.Need-returns
+returns c =
+    let at-clear = c .before .before in
+    let at-delimiters-fit = at-clear .before .before .before .before in (
+      at-delimiters-fit .delimiters-fit .ensures,
+      at-clear .clear .ensures ∙ ap (λ (n : ℕ). replicate n 0) (at-delimiters-fit .delimiters-fit .kept .1 .0),
+    )
+
+pub nests-spec : {M : Type 1} → statement M
+nests-spec = tie.close (tie.spec delimiters-fit-requires clear-requires same-length returns)
