@@ -90,7 +90,7 @@ fn refusals_of_reading_clear_what_is_lent_but_for_two() {
 fn the_longest_values_come_back() {
     let text = "at 1;".repeat(TEXT_BYTES / 5);
     let (sheet, records) = sheet_of(text.as_bytes());
-    assert_eq!((sheet.len(), records), (2 + 6 * 3276, 3276));
+    assert_eq!((sheet.len(), records), (2 + 8 * 3276, 3276));
     // the longest place of a refusal of reading
     let mut open = vec![b' '; TEXT_BYTES];
     open[0] = b'(';
