@@ -109,13 +109,13 @@ fn two_frames_at_one_time_are_refused() {
 
 #[test]
 fn a_refusal_has_one_number_and_one_name() {
-    assert_eq!(Refusal::ALL.len(), 25);
+    assert_eq!(Refusal::ALL.len(), 26);
     for &refusal in Refusal::ALL {
         assert_eq!(Refusal::of(refusal.number()), Some(refusal));
         assert_eq!(format!("{refusal:?}"), refusal.name());
     }
-    assert_eq!((Refusal::DuplicateTime.number(), Refusal::OutputTooShort.number()), (26, 32));
-    assert_eq!((0..=255).filter_map(Refusal::of).count(), 25);
+    assert_eq!((Refusal::DuplicateTime.number(), Refusal::TooManyScripts.number()), (26, 33));
+    assert_eq!((0..=255).filter_map(Refusal::of).count(), 26);
 }
 
 /// Feeds a text with buffers that are not zero, and gives what they are then.
