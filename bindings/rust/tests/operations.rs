@@ -90,7 +90,7 @@ fn refusals_of_reading_clear_what_is_lent_but_for_two() {
 fn the_longest_values_come_back() {
     let text = "at 1;".repeat(TEXT_BYTES / 5);
     let (sheet, records) = sheet_of(text.as_bytes());
-    assert_eq!((sheet.len(), records), (2 + 6 * 3276, 3276));
+    assert_eq!((sheet.len(), records), (2 + 8 * 3276, 3276));
     // the longest place of a refusal of reading
     let mut open = vec![b' '; TEXT_BYTES];
     open[0] = b'(';
@@ -109,13 +109,13 @@ fn two_frames_at_one_time_are_refused() {
 
 #[test]
 fn a_refusal_has_one_number_and_one_name() {
-    assert_eq!(Refusal::ALL.len(), 25);
+    assert_eq!(Refusal::ALL.len(), 26);
     for &refusal in Refusal::ALL {
         assert_eq!(Refusal::of(refusal.number()), Some(refusal));
         assert_eq!(format!("{refusal:?}"), refusal.name());
     }
-    assert_eq!((Refusal::DuplicateTime.number(), Refusal::OutputTooShort.number()), (26, 32));
-    assert_eq!((0..=255).filter_map(Refusal::of).count(), 25);
+    assert_eq!((Refusal::DuplicateTime.number(), Refusal::TooManyScripts.number()), (26, 33));
+    assert_eq!((0..=255).filter_map(Refusal::of).count(), 26);
 }
 
 /// Feeds a text with buffers that are not zero, and gives what they are then.

@@ -1,6 +1,8 @@
 // Answers cases of feeding: reads lines of hexadecimal from standard input and keeps totals. A line's first byte says what is done: 0 feeds
 // the text that follows; 1 feeds it with a scratch that is a word short, 2 with a sheet of 8 bytes; 3 empties the totals; 4 sets a word,
 // its number in one byte and its value in four; 5 writes the totals, 6 the two means. tools/feed_cases.py makes the lines and the answers.
+use decode::fields::take_byte;
+use decode::fields::take_field;
 use error::CheckAnswer;
 use error::Refusal;
 use feed::FeedAnswer;
@@ -35,14 +37,14 @@ fn answer_part(part: &[u8], line: &mut [u8], totals: &mut [u32; 60], before: usi
     let mut digits = before;
     let mut i = 0;
     while i < part.len() {
-        digits = take_byte(line, totals, digits, part[i]);
+        digits = take_digit(line, totals, digits, part[i]);
         i += 1;
     }
     digits
 }
 
 // Answers the line if the byte ends it; otherwise adds the digit that it is, as far as there is room.
-fn take_byte(line: &mut [u8], totals: &mut [u32; 60], digits: usize, b: u8) -> usize {
+fn take_digit(line: &mut [u8], totals: &mut [u32; 60], digits: usize, b: u8) -> usize {
     if b == b'\n' {
         answer(text::part(line, 0, digits / 2), totals);
         return 0;
@@ -124,23 +126,23 @@ fn empty(totals: &mut [u32; 60]) {
 
 // The word's number in the first byte, its value in the next four, the highest first.
 fn set_word(totals: &mut [u32; 60], bytes: &[u8]) {
-    if bytes.len() < 5 {
-        return;
-    }
-    let i = (bytes[0] % 60) as usize;
-    let high = bytes[1] as u32 * 256 + bytes[2] as u32;
-    let low = bytes[3] as u32 * 256 + bytes[4] as u32;
-    totals[i] = high * 65536 + low;
+    let word = take_byte(bytes, 0, 60);
+    let value = take_field(bytes, 1, 4);
+    totals[word.v as usize] = value.v;
 }
 
 fn print_totals(totals: &[u32; 60]) {
     let mut i: usize = 0;
     while i < 60 {
-        io::print_decimal(STDOUT_FILENO, totals[i] as u64);
-        io::write_all(STDOUT_FILENO, b" ");
+        print_word(totals[i]);
         i += 1;
     }
     io::write_all(STDOUT_FILENO, b"\n");
+}
+
+fn print_word(n: u32) {
+    io::print_decimal(STDOUT_FILENO, n as u64);
+    io::write_all(STDOUT_FILENO, b" ");
 }
 
 fn print_means(totals: &[u32; 60]) {
