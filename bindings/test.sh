@@ -18,8 +18,18 @@ expect() {
         cmp "$out/got" "$out/wanted"
     done
 }
+# fed TEXT OUTPUT: the example's output for a script that is fed.
+fed() {
+    printf "$2" > "$out/wanted"
+    printf "$1" | "$out/example" feed > "$out/got"
+    cmp "$out/got" "$out/wanted"
+}
 expect 'at 0.5;' '00020001FF\n00080E00003F00000000B3\naccept 1\n'
 expect '' '0002000000\naccept 0\n'
 expect 'tween' 'refuse 6 at 5\n'
 expect 'keyframes p {50%%: 0, 0.5s: 1}' 'refuse 26 at 1\n'
-echo "C example: 4 passed, each in two ways"
+fed 'sequence {keyframes p {0: 0, 1: 1, 2: 0}} keyframes q {0: 0, 1: 1}' 'accept 3, 5/2\n'
+fed '' 'accept 0\n'
+fed 'tween' 'refuse 6 at 5\n'
+fed 'keyframes p {50%%: 0, 0.5s: 1}' 'refuse 26 at 1\n'
+echo "C example: 4 passed, each in two ways, and 4 fed"

@@ -1,6 +1,7 @@
 /*
  * Reads a script from standard input, checks it, and prints its lines, then `accept N`; or `refuse R at P`. With the argument `page`
- * one call does it all.
+ * one call does it all; with `feed` the script is fed to empty totals, and what is printed is its answer, the count of its node records
+ * and the mean entries of its tracks.
  */
 #include "strip.h"
 
@@ -21,11 +22,33 @@ static int refused(uint64_t answer) {
     return 1;
 }
 
+/* Feeds the text to empty totals, and prints what they then have. */
+static void feed(size_t length) {
+    uint32_t totals[STRIP_TOTALS_WORDS] = {0};
+    uint32_t mean[2];
+    uint64_t fed = strip_feed(totals, text, length, scratch, STRIP_SCRATCH_WORDS, sheet, STRIP_SHEET_BYTES);
+    if (refused(fed))
+        return;
+    if (strip_script_number(fed) != STRIP_ACCEPTED) {
+        printf("refuse %u at %u\n", (unsigned)strip_script_number(fed), (unsigned)strip_value(fed));
+        return;
+    }
+    strip_mean(totals, 0, mean);
+    printf("accept %u", (unsigned)mean[0]);
+    if (strip_value(strip_mean(totals, 1, mean)) == 1)
+        printf(", %u/%u", (unsigned)mean[0], (unsigned)mean[1]);
+    printf("\n");
+}
+
 int main(int argc, char **argv) {
     size_t length = fread(text, 1, sizeof text, stdin);
     if (ferror(stdin)) {
         perror("standard input");
         return 1;
+    }
+    if (argc > 1 && strcmp(argv[1], "feed") == 0) {
+        feed(length);
+        return 0;
     }
     if (argc > 1 && strcmp(argv[1], "page") == 0) {
         uint64_t printed =

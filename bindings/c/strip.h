@@ -1,6 +1,7 @@
 /*
  * Motion scripts of shelf-edge strips: reading a script into a sheet of bytes, checking the sheet, lining its records in
- * hexadecimal, and all of it at once on a page. `rt staticlib strip` writes the library, target/staticlib/libstrip.a.
+ * hexadecimal, all of it at once on a page, and counting many scripts in the totals of a morning sheet. `rt staticlib strip` writes
+ * the library, target/staticlib/libstrip.a.
  *
  * No pointer is NULL, not even where its length is 0. What is written to overlaps nothing else that is lent. A length is in
  * elements. Nothing is allocated.
@@ -50,8 +51,17 @@ enum strip_refusal {
     STRIP_DUPLICATE_TIME = 26,
     STRIP_TOO_FEW_FRAMES = 27,
     STRIP_NO_SUCH_RECORD = 31,
-    STRIP_OUTPUT_TOO_SHORT = 32
+    STRIP_OUTPUT_TOO_SHORT = 32,
+    STRIP_TOO_MANY_SCRIPTS = 33
 };
+
+/*
+ * The totals of a morning sheet: word 0 counts the accepted scripts, word r those refused under r, word STRIP_KIND_WORD + k the node
+ * records of kind k from 0 to 14 in accepted scripts, the last word their keyframe entries.
+ */
+#define STRIP_TOTALS_WORDS 60
+#define STRIP_KIND_WORD 44
+#define STRIP_ENTRIES_WORD 59
 
 /*
  * Reads a text into a sheet. Accepted: strip_sheet_length and strip_records. Refused: strip_value is the place in the text.
@@ -83,11 +93,29 @@ uint64_t strip_line(const uint8_t *text, size_t text_length, const uint8_t *shee
 uint64_t strip_print(const uint8_t *text, size_t text_length, uint16_t *scratch, size_t scratch_length, uint8_t *sheet,
                      size_t sheet_length, uint8_t *page, size_t page_length);
 
+/*
+ * Reads and checks a text, and counts it in totals. Counted: strip_script_number is 0 for an accepted script, or the number of its
+ * refusal, with its place in strip_value; scratch and sheet are as strip_read leaves them. Totals of 4,096 scripts, or with a figure
+ * above 268,431,360, are refused with 33 at 0 before all else, and nothing is touched.
+ */
+uint64_t strip_feed(uint32_t totals[STRIP_TOTALS_WORDS], const uint8_t *text, size_t text_length, uint16_t *scratch,
+                    size_t scratch_length, uint8_t *sheet, size_t sheet_length);
+
+/*
+ * A mean over totals as a fraction in lowest terms: of the node records of an accepted script where `which` is 0, else of the entries
+ * of a keyframe track. strip_value is 1, with numerator and denominator in `out`; or 0 where there is no such script or track, and
+ * `out` is as it was. Totals with a figure above 268,431,360 are refused with 33 at 0.
+ */
+uint64_t strip_mean(const uint32_t totals[STRIP_TOTALS_WORDS], uint32_t which, uint32_t out[2]);
+
 /* The parts of an answer. */
 static inline enum strip_refusal strip_number(uint64_t answer) { return (enum strip_refusal)(answer >> 56); }
 static inline uint32_t strip_value(uint64_t answer) { return (uint32_t)answer; }
 static inline uint32_t strip_sheet_length(uint64_t answer) { return (uint32_t)(answer & 0xFFFFFF); }
 static inline uint32_t strip_records(uint64_t answer) { return (uint32_t)(answer >> 24 & 0xFFFF); }
+
+/* Of strip_feed: the number of a refused script, 0 for an accepted one. */
+static inline enum strip_refusal strip_script_number(uint64_t answer) { return (enum strip_refusal)(answer >> 32 & 0xFF); }
 
 #ifdef __cplusplus
 }

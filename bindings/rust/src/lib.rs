@@ -1,6 +1,7 @@
 //! Motion scripts of shelf-edge strips: reading a script into a sheet of bytes, checking the sheet, lining its records in
-//! hexadecimal, and all of it at once on a page. The four functions call a library that is proved: each answer and every byte
-//! that is written equals a definition. They allocate nothing, and what they write to is lent.
+//! hexadecimal, all of it at once on a page, and counting many scripts in the totals of a morning sheet. The functions call a library
+//! that is proved: each answer and every byte that is written equals a definition. They allocate nothing, and what they write to is
+//! lent.
 //!
 //! ```
 //! use strip::{CheckAnswer, LineAnswer, ReadAnswer, Refusal};
@@ -42,6 +43,16 @@
 //! assert_eq!(strip::line(text, &sheet[..length], 2, &mut output), LineAnswer::Accepted { length: 25 });
 //! let start = strip::start(&output[..25]).expect("a node's line");
 //! assert_eq!((start, strip::line_and_column(text, start)), (8, (2, 3)));
+//!
+//! // a morning sheet over three scripts
+//! let mut totals = strip::Totals::default();
+//! for text in [&b"keyframes p {0: 0, 1: 1, 2: 0}"[..], b"at 1; at 2;", b"tween"] {
+//!     strip::feed(&mut totals, text, &mut scratch, &mut vec![0; strip::SHEET_BYTES]);
+//! }
+//! assert_eq!((totals.scripts(), totals.accepted(), totals.refused(Refusal::Missing)), (3, 2, 1));
+//! assert_eq!((totals.records(2), totals.records(14), totals.entries()), (1, 2, 3));
+//! let mean = strip::MeanAnswer::Fraction { numerator: 3, denominator: 2 };
+//! assert_eq!(strip::mean(&totals, strip::Mean::RecordsAScript), mean);
 //! ```
 #![warn(missing_docs)]
 
@@ -57,6 +68,16 @@ pub const SCRATCH_WORDS: usize = 16_384;
 pub const SHEET_BYTES: usize = 49_152;
 /// The shortest page that printing takes, which is long enough for every text.
 pub const PAGE_BYTES: usize = 147_456;
+
+/// The most scripts that are fed to one sheet of totals.
+pub const SCRIPT_LIMIT: u32 = 4_096;
+/// The largest figure that feeding and the means take; no feed reaches it from empty totals.
+pub const FIGURE_LIMIT: u32 = 268_431_360;
+/// The kinds of nodes, by their numbers.
+pub const KINDS: [&str; 15] = [
+    "tween", "spring", "keyframes", "sequence", "parallel", "group", "stagger", "path", "morph", "draw", "color", "waveform", "preset",
+    "label", "at",
+];
 
 /// What [`read`] answers.
 #[derive(Clone, Copy, Debug, PartialEq, Eq)]
@@ -108,7 +129,91 @@ pub enum LineAnswer {
     },
 }
 
+/// The totals of a morning sheet, 60 words; empty by default. Word 0 counts the accepted scripts, word r those refused under r, word
+/// 44 + k the node records of kind k in accepted scripts, word 59 their keyframe entries.
+#[derive(Clone, Debug, PartialEq, Eq)]
+pub struct Totals(pub [u32; 60]);
+
+impl Default for Totals {
+    fn default() -> Totals {
+        Totals([0; 60])
+    }
+}
+
+impl Totals {
+    /// How many scripts were fed.
+    pub fn scripts(&self) -> u64 {
+        self.0[..44].iter().map(|&w| u64::from(w)).sum()
+    }
+
+    /// How many were accepted.
+    pub fn accepted(&self) -> u32 {
+        self.0[0]
+    }
+
+    /// How many were refused, by reading or by checking, for a cause.
+    pub fn refused(&self, refusal: Refusal) -> u32 {
+        self.0[usize::from(refusal.number())]
+    }
+
+    /// How many node records of a kind, 0 to 14, the accepted scripts have, those in containers too.
+    pub fn records(&self, kind: usize) -> u32 {
+        self.0[44..59][kind]
+    }
+
+    /// How many keyframe entries they have.
+    pub fn entries(&self) -> u32 {
+        self.0[59]
+    }
+}
+
+/// What [`feed`] answers.
+#[derive(Clone, Copy, Debug, PartialEq, Eq)]
+pub enum FeedAnswer {
+    /// The script is counted: accepted, or refused by reading or by checking.
+    Counted(CheckAnswer),
+    /// Nothing is counted, and all that is lent is as it was.
+    Refused {
+        /// Why: [`Refusal::TooManyScripts`].
+        refusal: Refusal,
+        /// 0.
+        place: usize,
+    },
+}
+
+/// The two means of a morning sheet.
+#[derive(Clone, Copy, Debug, PartialEq, Eq)]
+pub enum Mean {
+    /// Node records of an accepted script.
+    RecordsAScript,
+    /// Entries of a keyframe track.
+    EntriesATrack,
+}
+
+/// What [`mean`] answers.
+#[derive(Clone, Copy, Debug, PartialEq, Eq)]
+pub enum MeanAnswer {
+    /// A fraction in lowest terms.
+    Fraction {
+        /// Above the line.
+        numerator: u32,
+        /// Below it.
+        denominator: u32,
+    },
+    /// There was no such script or track.
+    Nothing,
+    /// The totals have a figure above [`FIGURE_LIMIT`].
+    Refused {
+        /// Why: [`Refusal::TooManyScripts`].
+        refusal: Refusal,
+        /// 0.
+        place: usize,
+    },
+}
+
 extern "C" {
+    fn strip_feed(totals: *mut u32, text: *const u8, text_length: usize, scratch: *mut u16, words: usize, sheet: *mut u8, room: usize) -> u64;
+    fn strip_mean(totals: *const u32, which: u32, out: *mut u32) -> u64;
     fn strip_read(text: *const u8, text_length: usize, scratch: *mut u16, words: usize, sheet: *mut u8, room: usize) -> u64;
     fn strip_check(text: *const u8, text_length: usize, sheet: *const u8, sheet_length: usize) -> u64;
     fn strip_line(text: *const u8, text_length: usize, sheet: *const u8, sheet_length: usize, ordinal: u32, output: *mut u8, room: usize) -> u64;
@@ -163,6 +268,35 @@ pub fn print(text: &[u8], scratch: &mut [u16], sheet: &mut [u8], page: &mut [u8]
     })
 }
 
+/// Reads and checks a text, and counts it in totals: as accepted, with its node records and keyframe entries, or as refused under the
+/// number of its refusal. Scratch and sheet are as [`read`] leaves them. Totals of [`SCRIPT_LIMIT`] scripts, or with a figure above
+/// [`FIGURE_LIMIT`], are refused before all else, and nothing is touched.
+pub fn feed(totals: &mut Totals, text: &[u8], scratch: &mut [u16], sheet: &mut [u8]) -> FeedAnswer {
+    // SAFETY: the totals are 60 words; the slices are whole, and nothing overlaps.
+    let answer = unsafe {
+        strip_feed(totals.0.as_mut_ptr(), text.as_ptr(), text.len(), scratch.as_mut_ptr(), scratch.len(), sheet.as_mut_ptr(), sheet.len())
+    };
+    if let Some((refusal, place)) = refused(answer) {
+        return FeedAnswer::Refused { refusal, place };
+    }
+    match (answer >> 32) as u8 {
+        0 => FeedAnswer::Counted(CheckAnswer::Accepted),
+        number => FeedAnswer::Counted(CheckAnswer::Refused { refusal: refusal_of(number), place: value(answer) }),
+    }
+}
+
+/// A mean over totals.
+pub fn mean(totals: &Totals, which: Mean) -> MeanAnswer {
+    let mut out = [0; 2];
+    // SAFETY: the totals are 60 words, and 2 are written to.
+    let answer = unsafe { strip_mean(totals.0.as_ptr(), which as u32, out.as_mut_ptr()) };
+    match (refused(answer), value(answer)) {
+        (Some((refusal, place)), _) => MeanAnswer::Refused { refusal, place },
+        (None, 0) => MeanAnswer::Nothing,
+        (None, _) => MeanAnswer::Fraction { numerator: out[0], denominator: out[1] },
+    }
+}
+
 /// The start in the text of the keyword of a record's node, from the line that [`line`] wrote for the record: the two bytes behind
 /// the kind. The head's line has none, and neither has what is no line.
 pub fn start(line: &[u8]) -> Option<usize> {
@@ -196,8 +330,12 @@ fn line_answer(answer: u64) -> LineAnswer {
 fn refused(answer: u64) -> Option<(Refusal, usize)> {
     match (answer >> 56) as u8 {
         0 => None,
-        number => Some((Refusal::of(number).expect("a refusal of the library"), value(answer))),
+        number => Some((refusal_of(number), value(answer))),
     }
+}
+
+fn refusal_of(number: u8) -> Refusal {
+    Refusal::of(number).expect("a refusal of the library")
 }
 
 /// The value of an answer, below 2^32.

@@ -90,4 +90,6 @@ refusals! {
     NoSuchRecord = 31,
     /// An output slice that is shorter than the line.
     OutputTooShort = 32,
+    /// A 4,097th script, or totals with a figure above the limit.
+    TooManyScripts = 33,
 }

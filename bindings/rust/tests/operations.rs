@@ -1,5 +1,6 @@
 //! Each operation, its refusals, and what it leaves in what is lent.
-use strip::{check, line, print, read, CheckAnswer, LineAnswer, ReadAnswer, Refusal, PAGE_BYTES, SCRATCH_WORDS, SHEET_BYTES, TEXT_BYTES};
+use strip::{check, feed, line, mean, print, read, CheckAnswer, FeedAnswer, LineAnswer, Mean, MeanAnswer, ReadAnswer, Refusal, Totals};
+use strip::{FIGURE_LIMIT, PAGE_BYTES, SCRATCH_WORDS, SCRIPT_LIMIT, SHEET_BYTES, TEXT_BYTES};
 
 /// The sheet of a text that reading accepts, and its count of records.
 fn sheet_of(text: &[u8]) -> (Vec<u8>, usize) {
@@ -108,11 +109,48 @@ fn two_frames_at_one_time_are_refused() {
 
 #[test]
 fn a_refusal_has_one_number_and_one_name() {
-    assert_eq!(Refusal::ALL.len(), 25);
+    assert_eq!(Refusal::ALL.len(), 26);
     for &refusal in Refusal::ALL {
         assert_eq!(Refusal::of(refusal.number()), Some(refusal));
         assert_eq!(format!("{refusal:?}"), refusal.name());
     }
-    assert_eq!((Refusal::DuplicateTime.number(), Refusal::OutputTooShort.number()), (26, 32));
-    assert_eq!((0..=255).filter_map(Refusal::of).count(), 25);
+    assert_eq!((Refusal::DuplicateTime.number(), Refusal::TooManyScripts.number()), (26, 33));
+    assert_eq!((0..=255).filter_map(Refusal::of).count(), 26);
+}
+
+/// Feeds a text with buffers that are not zero, and gives what they are then.
+fn fed(totals: &mut Totals, text: &[u8]) -> (FeedAnswer, Vec<u16>, Vec<u8>) {
+    let (mut scratch, mut sheet) = (vec![1; SCRATCH_WORDS], vec![2; SHEET_BYTES]);
+    let answer = feed(totals, text, &mut scratch, &mut sheet);
+    (answer, scratch, sheet)
+}
+
+#[test]
+fn scripts_are_counted_in_totals() {
+    let mut totals = Totals::default();
+    assert_eq!(mean(&totals, Mean::RecordsAScript), MeanAnswer::Nothing);
+    let (answer, scratch, sheet) = fed(&mut totals, b"sequence {keyframes p {0: 0, 1: 1, 2: 0}} at 1;");
+    assert_eq!(answer, FeedAnswer::Counted(CheckAnswer::Accepted));
+    assert!(scratch.iter().all(|&w| w == 0));
+    let (same, records) = sheet_of(b"sequence {keyframes p {0: 0, 1: 1, 2: 0}} at 1;");
+    assert_eq!((&sheet[..same.len()], records), (&same[..], 3));
+    let (answer, _, sheet) = fed(&mut totals, b"at 1; preset fadein");
+    assert_eq!(answer, FeedAnswer::Counted(CheckAnswer::Refused { refusal: Refusal::UnknownPreset, place: 2 }));
+    assert_eq!(sheet[..2], [0, 2]);
+    assert_eq!((totals.scripts(), totals.accepted(), totals.refused(Refusal::UnknownPreset)), (2, 1, 1));
+    assert_eq!((totals.records(2), totals.records(3), totals.records(14), totals.entries()), (1, 1, 1, 3));
+    assert_eq!(mean(&totals, Mean::RecordsAScript), MeanAnswer::Fraction { numerator: 3, denominator: 1 });
+    assert_eq!(mean(&totals, Mean::EntriesATrack), MeanAnswer::Fraction { numerator: 3, denominator: 1 });
+}
+
+#[test]
+fn full_totals_are_refused_before_all_else() {
+    let unfed = FeedAnswer::Refused { refusal: Refusal::TooManyScripts, place: 0 };
+    for (word, value) in [(7, SCRIPT_LIMIT), (59, FIGURE_LIMIT + 1)] {
+        let mut totals = Totals::default();
+        totals.0[word] = value;
+        let before = totals.clone();
+        assert_eq!(fed(&mut totals, b"at 1;"), (unfed, vec![1; SCRATCH_WORDS], vec![2; SHEET_BYTES]));
+        assert_eq!(totals, before);
+    }
 }

@@ -1,7 +1,8 @@
-//! The stored cases of the three operations, whose answers are the Rust's or a model's of the rules (oracle/README.md).
+//! The stored cases of the operations, whose answers are the Rust's or a model's of the rules (oracle/README.md).
 use std::fmt::Write;
 use std::path::Path;
-use strip::{check, line, read, CheckAnswer, LineAnswer, ReadAnswer, Refusal, SCRATCH_WORDS, SHEET_BYTES};
+use strip::{check, feed, line, mean, read, CheckAnswer, FeedAnswer, LineAnswer, Mean, MeanAnswer, ReadAnswer, Refusal, Totals};
+use strip::{SCRATCH_WORDS, SCRIPT_LIMIT, SHEET_BYTES, TEXT_BYTES};
 
 /// What is stored for a program: its input and its output.
 fn stored(name: &str) -> (String, String) {
@@ -91,4 +92,113 @@ fn lining() {
         }
     }
     compare(&ours, &answers);
+}
+
+/// Each line does one thing to totals, which its first byte tells: feeding a text, with less scratch or sheet, emptying, setting a
+/// word, and writing the totals and the means.
+#[test]
+fn feeding() {
+    let (cases, answers) = stored("feed_cases");
+    let mut totals = Totals::default();
+    let mut ours = String::new();
+    for case in cases.lines().map(bytes) {
+        let rest = &case[1..];
+        let (words, room) = match case[0] {
+            0 => (SCRATCH_WORDS, SHEET_BYTES),
+            1 => (SCRATCH_WORDS - 1, SHEET_BYTES),
+            2 => (SCRATCH_WORDS, 8),
+            3 => {
+                totals = Totals::default();
+                continue;
+            }
+            4 => {
+                totals.0[usize::from(rest[0])] = u32::from_be_bytes(rest[1..5].try_into().unwrap());
+                continue;
+            }
+            5 => {
+                totals.0.iter().for_each(|word| write!(ours, "{word} ").unwrap());
+                ours += "\n";
+                continue;
+            }
+            _ => {
+                ours += &mean_line(mean(&totals, Mean::RecordsAScript));
+                ours += &mean_line(mean(&totals, Mean::EntriesATrack));
+                continue;
+            }
+        };
+        ours += &match feed(&mut totals, rest, &mut vec![0; words], &mut vec![0; room]) {
+            FeedAnswer::Counted(answer) => check_line(answer),
+            FeedAnswer::Refused { refusal, place } => format!("unfed {}", refusal_line(refusal, place)),
+        };
+    }
+    compare(&ours, &answers);
+}
+
+fn mean_line(answer: MeanAnswer) -> String {
+    match answer {
+        MeanAnswer::Fraction { numerator, denominator } => format!("{numerator}/{denominator}\n"),
+        MeanAnswer::Nothing => "none\n".to_string(),
+        MeanAnswer::Refused { refusal, place } => refusal_line(refusal, place),
+    }
+}
+
+/// What a script adds to totals, by reading, checking and the lines of its records: of a line the record's kind, and behind a track's
+/// start and target its count of entries.
+fn counted(words: &mut [u32; 60], text: &[u8], scratch: &mut [u16], sheet: &mut [u8]) {
+    let (length, records) = match read(text, scratch, sheet) {
+        ReadAnswer::Accepted { length, records } => (length, records),
+        ReadAnswer::Refused { refusal, .. } => return words[usize::from(refusal.number())] += 1,
+    };
+    if let CheckAnswer::Refused { refusal, .. } = check(text, &sheet[..length]) {
+        return words[usize::from(refusal.number())] += 1;
+    }
+    words[0] += 1;
+    let mut output = vec![0; 131_077];
+    for ordinal in 1..=records as u32 {
+        let LineAnswer::Accepted { length } = line(text, &sheet[..length], ordinal, &mut output) else {
+            panic!("a record without a line");
+        };
+        let record = bytes(std::str::from_utf8(&output[4..length - 3]).unwrap());
+        words[44 + usize::from(record[0])] += 1;
+        if record[0] == 2 {
+            words[59] += u32::from(record[7]) << 8 | u32::from(record[8]);
+        }
+    }
+}
+
+/// The stored scripts and damaged copies of them, fed, against the counts of each. STRIP_COPIES says how many copies of each, 2 if unset.
+#[test]
+fn totals_are_the_counts_of_each_script() {
+    let copies: u64 = std::env::var("STRIP_COPIES").map_or(2, |n| n.parse().unwrap());
+    let texts: Vec<Vec<u8>> = stored("script_cases").0.lines().map(bytes).collect();
+    let (mut scratch, mut sheet) = (vec![0; SCRATCH_WORDS], vec![0; SHEET_BYTES]);
+    let (mut totals, mut words) = (Totals::default(), [0; 60]);
+    let mut seed = 1u64;
+    let mut random = |below: usize| {
+        seed = seed.wrapping_mul(6_364_136_223_846_793_005).wrapping_add(1_442_695_040_888_963_407);
+        (seed >> 33) as usize % below
+    };
+    for text in &texts {
+        for copy in 0..=copies {
+            let mut text = text.clone();
+            if copy > 0 && !text.is_empty() {
+                // a byte of another script, or one less, or a part of another script behind it
+                let other = &texts[random(texts.len())];
+                let at = random(text.len());
+                match random(3) {
+                    0 if !other.is_empty() => text[at] = other[random(other.len())],
+                    1 => drop(text.remove(at)),
+                    _ => text.extend_from_slice(&other[..other.len().min(TEXT_BYTES - text.len().min(TEXT_BYTES))]),
+                }
+            }
+            if totals.scripts() == u64::from(SCRIPT_LIMIT) {
+                assert_eq!(totals.0, words);
+                (totals, words) = (Totals::default(), [0; 60]);
+            }
+            counted(&mut words, &text, &mut scratch, &mut sheet);
+            assert!(matches!(feed(&mut totals, &text, &mut scratch, &mut sheet), FeedAnswer::Counted(_)));
+        }
+    }
+    assert_eq!(totals.0, words);
+    assert!(words[0] > 0 && words[59] > 0);
 }

@@ -29,3 +29,4 @@ numberOf cause.DuplicateTime = 26
 numberOf cause.TooFewFrames = 27
 numberOf cause.NoSuchRecord = 31
 numberOf cause.OutputTooShort = 32
+numberOf cause.TooManyScripts = 33

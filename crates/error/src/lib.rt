@@ -46,6 +46,8 @@ pub enum Refusal {
     NoSuchRecord,
     // An output slice that is shorter than the line.
     OutputTooShort,
+    // A 4,097th script, or totals with a figure above the limit.
+    TooManyScripts,
 }
 
 // What reading answers: the sheet's length and its count of node records, or a refusal and its place.
@@ -96,5 +98,6 @@ pub fn number_of(refusal: Refusal) -> u8
         Refusal::TooFewFrames => 27,
         Refusal::NoSuchRecord => 31,
         Refusal::OutputTooShort => 32,
+        Refusal::TooManyScripts => 33,
     }
 }

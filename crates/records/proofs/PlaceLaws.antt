@@ -1,22 +1,23 @@
 -- Where the records of a sheet stand. Assumes nothing.
 use Prim.Native.Nat.{ℕ, zero, suc, _+_, _-_, _≤_, _<_}
-use mathlib.Core.List.{List, [], _∷_, _++_}
+use mathlib.Core.List.{List, [], _∷_, _++_, map, map-append}
 use mathlib.Core.Option.{Option, none, some, Option·some-injective}
 use mathlib.Core.Path.{_≡_, refl, sym, _∙_, ap, subst⁻¹}
 use native.Mathlib.Nat.{le-of-suc-le-suc}
 use native.Mathlib.Omega.{arith}
 use lib.ListN.{length, take, drop, getElem?, length-append, length-drop}
 use lib.Seq.{drop-drop, drop-append-seam, take-at}
-use Rattle.codec.specs.Codec.{Form, big, opt}
+use Rattle.codec.specs.Codec.{Form, big, opt, writeAt}
 use Rattle.codec.proofs.Laws.{Small, All, big-lawful}
 use Rattle.ast.specs.Tree as tree
 use Rattle.ast.specs.Tree.{Nodes, Container, leaf, box, single, holding, width}
-use Rattle.sheet.specs.Sheet.{word, patternForm, Node, Forest, decode}
-use Rattle.sheet.specs.Records.{recordOf, recordsOf, allRecords}
+use Rattle.sheet.specs.Sheet.{word, patternForm, Node, Forest, kinds, splitNode, decode}
+use Rattle.sheet.specs.Records.{counted, recordOf, recordsOf, nodesOf, allRecords, kindOf, entriesOf}
 use Rattle.sheet.proofs.Laws.{nodeL, innerL, OkNodes, Fits, decoded}
 use Rattle.sheet.proofs.Flat.{concat, leaf-same, leaf-ok, inside, sheet-flat}
 use Rattle.decode.specs.Reads.{Reads, got, bad, same}
-use Rattle.records.specs.Record.{blank, countForm, recordForm}
+use Rattle.records.specs.Record.{blank, countForm, recordForm, recordView}
+use Rattle.records.specs.declared.Kind.{Kind}
 use Rattle.records.proofs.RecordLaws.{width-blank, countL, recordL}
 
 -- ---- each record of a tree within the limits is read back alone
@@ -24,8 +25,15 @@ use Rattle.records.proofs.RecordLaws.{width-blank, countL, recordL}
 abbrev pub Alone : ℕ → List ℕ → Type 0
 Alone n r = (rest : List ℕ) → (y : Node) × (recordForm n .read (r ++ rest) ≡ some (y, rest))
 
-written : (n : ℕ) (x : Node) {r : List ℕ} → recordL n .ok x → r ≡ recordForm n .write x → Alone n r
-written n x h e rest = (x, ap (λ (l : List ℕ). recordForm n .read (l ++ rest)) e ∙ recordL n .law .back x h rest)
+-- a node's record is, and the node that is read has its kind and its entries
+abbrev pub AloneAs : ℕ → Node → Type 0
+AloneAs n x =
+    (rest : List ℕ)
+    → (y : Node) × (recordForm n .read (recordOf n x ++ rest) ≡ some (y, rest)) × (kindOf y ≡ kindOf x) × (entriesOf y ≡ entriesOf x)
+
+written : (n : ℕ) (x y : Node) → recordL n .ok y → recordOf n x ≡ recordForm n .write y → kindOf y ≡ kindOf x
+    → entriesOf y ≡ entriesOf x → AloneAs n x
+written n x y h e k l rest = (y, ap (λ (l : List ℕ). recordForm n .read (l ++ rest)) e ∙ recordL n .law .back y h rest, k, l)
 
 -- a container's record says no more of the nodes in it than their count
 same-count : (n p : ℕ) (k : Container) (ns ms : Forest) → width ns ≡ width ms
@@ -47,23 +55,41 @@ box-ok n d p tree.parallel ns h = (h .0, bare n d ns (h .1))
 box-ok n d p (tree.group m) ns h = (h .0, (h .1 .0, bare n d ns (h .1 .1)))
 box-ok n d p (tree.stagger q e) ns h = (h .0, (h .1 .0, (h .1 .1 .0, bare n d ns (h .1 .1 .1))))
 
-all-append : (P : List ℕ → Type 0) (rs qs : List (List ℕ)) → All P rs → All P qs → All P (rs ++ qs)
-all-append P [] qs h g = g
-all-append P (r ∷ rs) qs h g = (h .0, all-append P rs qs (h .1) g)
+same-kind : (p : ℕ) (k : Container) (ns ms : Forest) → kindOf (holding p k ms) ≡ kindOf (holding p k ns)
+same-kind p tree.sequence ns ms = refl
+same-kind p tree.parallel ns ms = refl
+same-kind p (tree.group m) ns ms = refl
+same-kind p (tree.stagger q d) ns ms = refl
 
-all-alone : (n d : ℕ) (ns : Forest) → OkNodes n (innerL n d) ns → All (Alone n) (recordsOf n ns)
+all-append : (P : Node → Type 0) (xs ys : List Node) → All P xs → All P ys → All P (xs ++ ys)
+all-append P [] ys h g = g
+all-append P (x ∷ xs) ys h g = (h .0, all-append P xs ys (h .1) g)
+
+pub all-alone : (n d : ℕ) (ns : Forest) → OkNodes n (innerL n d) ns → All (AloneAs n) (nodesOf ns)
 all-alone n d Nodes.none h = tt
 all-alone n d (leaf p l rest) h = (
-  written n (single p l) (leaf-ok n (innerL n d) countL p l (h .0)) (sym (leaf-same n countForm p l)),
+  written n (single p l) (single p l) (leaf-ok n (innerL n d) countL p l (h .0)) (sym (leaf-same n countForm p l)) refl refl,
   all-alone n d rest (h .1),
 )
 all-alone n zero (box p k ns rest) h = absurd (inside n 0 p k ns (h .0))
 all-alone n (suc d) (box p k ns rest) h = (
-  written n (holding p k (blank (width ns))) (box-ok n (suc d) p k ns (h .0))
-      (same-count n p k ns (blank (width ns)) (sym (width-blank (width ns)))),
-  all-append (Alone n) (recordsOf n ns) (recordsOf n rest) (all-alone n d ns (inside n (suc d) p k ns (h .0) .1))
+  written n (holding p k ns) (holding p k (blank (width ns))) (box-ok n (suc d) p k ns (h .0))
+      (same-count n p k ns (blank (width ns)) (sym (width-blank (width ns)))) (same-kind p k ns (blank (width ns))) refl,
+  all-append (AloneAs n) (nodesOf ns) (nodesOf rest) (all-alone n d ns (inside n (suc d) p k ns (h .0) .1))
       (all-alone n (suc d) rest (h .1)),
 )
+
+-- the records of a tree are those of its nodes
+pub records-are : (n : ℕ) (ns : Forest) → recordsOf n ns ≡ map (recordOf n) (nodesOf ns)
+records-are n Nodes.none = refl
+records-are n (leaf p l rest) = ap (λ (rs : List (List ℕ)). recordOf n (single p l) ∷ rs) (records-are n rest)
+records-are n (box p k ns rest) =
+    (λ i. recordOf n (holding p k ns) ∷ records-are n ns i ++ records-are n rest i)
+    ∙ ap (λ (rs : List (List ℕ)). recordOf n (holding p k ns) ∷ rs) (sym (map-append (recordOf n) (nodesOf ns) (nodesOf rest)))
+
+alone-records : (n : ℕ) (xs : List Node) → All (AloneAs n) xs → All (Alone n) (map (recordOf n) xs)
+alone-records n [] h = tt
+alone-records n (x ∷ xs) h = ((λ rest. let a = h .0 rest in (a .0, a .1)), alone-records n xs (h .1))
 
 -- ---- a place behind some records
 
@@ -79,14 +105,15 @@ pub record Stands (n : ℕ) (s : List ℕ) (rs : List (List ℕ)) (k start end :
 
 -- what is read where something stands that is read back
 landed : {A X : Type 0} (c : Form A) {f : A → X} {s : List ℕ} {start m : ℕ} {v : X} (r rest : List ℕ)
-    → start ≤ length s → drop start s ≡ r ++ rest
-    → (y : A) × (c .read (r ++ rest) ≡ some (y, rest)) → Reads c f s start v m → (m ≡ start + length r) × (m ≤ length s)
-landed {A} c {s = s} {start = start} {m = m} r rest h e b (got a g q i l) =
+    → start ≤ length s → drop start s ≡ r ++ rest → (b : (y : A) × (c .read (r ++ rest) ≡ some (y, rest)))
+    → Reads c f s start v m → (m ≡ start + length r) × (m ≤ length s) × (f (b .0) ≡ v)
+landed {A} c {f} {s} {start} {m} {v} r rest h e b (got a g q i l) =
     let z : Prim.Path (Option (A × List ℕ)) (some (a, drop m s)) (some (b .0, rest)) = sym g ∙ ap (c .read) e ∙ b .1 in
-    let w : drop m s ≡ rest = ap (λ (p : A × List ℕ). p .1) (Option·some-injective (a, drop m s) (b .0, rest) z) in
+    let p : _≡_ {A = A × List ℕ} (a, drop m s) (b .0, rest) = Option·some-injective (a, drop m s) (b .0, rest) z in
+    let w : drop m s ≡ rest = ap (λ (p : A × List ℕ). p .1) p in
     let x : length (drop start s) ≡ length r + length rest = ap length e ∙ length-append r rest in
     let y : length (drop m s) ≡ length rest = ap length w in
-    (omega (arith, length-drop start s, length-drop m s), l)
+    (omega (arith, length-drop start s, length-drop m s), l, sym (ap (λ (p : A × List ℕ). f (p .0)) p) ∙ q)
 landed {A} c {s = s} {start = start} r rest h e b (bad o k) =
     let z : Prim.Path (Option (A × List ℕ)) none (some (b .0, rest)) = sym (k h) ∙ ap (c .read) e ∙ b .1 in
     let x : _≡_ {A = ℕ} 0 1 = cc in
@@ -113,7 +140,7 @@ module _ (n : ℕ) (s : List ℕ) where
         here = h;
         long = z .0;
         within = z .1;
-        alone = all-alone n 16 ns (d .fits .1);
+        alone = rw (records-are n ns) (alone-records n (nodesOf ns) (all-alone n 16 ns (d .fits .1)));
       }
 
   module _ (rs : List (List ℕ)) {k start end : ℕ} (t : Stands n s rs k start end) where
@@ -161,3 +188,59 @@ module _ (n : ℕ) (s : List ℕ) where
         at-drop rs zero = refl
         at-drop [] (suc k) = refl
         at-drop (r ∷ rs) (suc k) = at-drop rs k
+
+-- ---- the nodes behind a place
+
+-- from `end` on stand the records of the nodes xs, and nothing else
+pub record Behind (n : ℕ) (s : List ℕ) (xs : List Node) (end : ℕ) : Type 0 where
+  pub here : drop end s ≡ concat (map (recordOf n) xs)
+  pub within : end ≤ length s
+  pub alone : All (AloneAs n) xs
+
+module _ {n : ℕ} {s : List ℕ} where
+  -- behind the head
+  pub behind-head : (ns : Forest) {c end : ℕ} → decode n s ≡ some ns → Reads (big 2) same s 0 c end → Behind n s (nodesOf ns) end
+  unfolding Fits allRecords
+  behind-head ns e r =
+      let t = first n s ns e r in
+      record {
+        here = behind n s (allRecords n ns) t ∙ ap concat (those-are t);
+        within = t .within;
+        alone = all-alone n 16 ns (decoded n s ns e .fits .1);
+      }
+    where
+      those-are : {end : ℕ} (t : Stands n s (allRecords n ns) 0 0 end) → t .those ≡ map (recordOf n) (nodesOf ns)
+      those-are t = sym (drop-next (allRecords n ns) 0 (t .listed)) ∙ records-are n ns
+
+  -- the first of them, and the place behind it
+  pub behind-next : (xs : List Node) {end m kind entries : ℕ} {w : Kind} → Behind n s xs end → end < length s
+      → Reads (recordForm n) recordView s end (w, kind, entries) m
+      → (x : Node) × (ys : List Node) × (xs ≡ x ∷ ys) × (kindOf x ≡ kind) × (entriesOf x ≡ entries) × Behind n s ys m
+  behind-next [] {end} b h r = absurd (let z : length (drop end s) ≡ 0 = ap length (b .here) in omega (arith, length-drop end s))
+  behind-next (x ∷ ys) {end} {m} b h r =
+      let a = b .alone .0 (concat (map (recordOf n) ys)) in
+      let z = landed (recordForm n) (recordOf n x) (concat (map (recordOf n) ys)) (b .within) (b .here) (a .0, a .1) r in (
+        x,
+        ys,
+        refl,
+        sym (a .2) ∙ ap (λ (v : Kind × ℕ × ℕ). v .1) (z .2),
+        sym (a .3) ∙ ap (λ (v : Kind × ℕ × ℕ). v .2) (z .2),
+        record {
+          here = ap (λ (k : ℕ). drop k s) (z .0) ∙ sym (drop-drop (length (recordOf n x)) end s)
+              ∙ ap (drop (length (recordOf n x))) (b .here)
+              ∙ drop-append-seam (recordOf n x) (concat (map (recordOf n) ys));
+          within = z .1;
+          alone = b .alone .1;
+        },
+      )
+
+  -- there is none at the end
+  pub behind-last : (xs : List Node) {end : ℕ} → Behind n s xs end → length s ≤ end → xs ≡ []
+  behind-last [] b h = refl
+  behind-last (x ∷ ys) {end} b h =
+      let k = splitNode n counted x in
+      let z = some-byte (k .0) (writeAt (kinds n counted) (k .0) (k .1)) (concat (map (recordOf n) ys)) (b .here) in
+      absurd (omega (arith, length-drop end s))
+    where
+      some-byte : (k : ℕ) (w r : List ℕ) {b : List ℕ} → b ≡ k ∷ w ++ r → 0 < length b
+      some-byte k w r e = rw e (omega arith)

@@ -15,7 +15,8 @@ use Rattle.ast.specs.Tree as tree
 use Rattle.ast.specs.Tree.{Leaf, Container, KeyframeTime, single, holding, width}
 use Rattle.sheet.specs.Sheet.{word, startForm, spanForm, patternForm, tweenForm, springForm, keyframesForm, pathForm, morphForm}
 use Rattle.sheet.specs.Sheet.{drawForm, colorForm, waveformForm, presetForm, atForm, Node, Forest, nodeForm, kinds, splitNode}
-use Rattle.records.specs.Record.{blank, countForm, recordForm}
+use Rattle.records.specs.Record.{blank, countForm, recordForm, recordView}
+use Rattle.records.specs.declared.Kind.{Kind}
 
 pub width-blank : (c : ℕ) → width (blank c) ≡ c
 width-blank zero = refl
@@ -193,6 +194,14 @@ pub of-kind : {n : ℕ} {X Y : Type 0} {view : Node → Y} {s : List ℕ} {at ki
     → ((x : FieldsAt (kinds n countForm) i) → f x ≡ v → view (makeAt (kinds n countForm) i x) ≡ w)
     → Reads (recordForm n) view s at w k
 of-kind {n = n} i b e r t = chosen (kinds n countForm) (splitNode n countForm) i (b .kindAt .reads) e r t
+
+-- and what it says of its node
+pub told : {n : ℕ} {X : Type 0} {s : List ℕ} {at kind start m k entries : ℕ} {v : X} {w : Kind} (i : ℕ)
+    {f : FieldsAt (kinds n countForm) i → X} (b : KindAndStart n s at kind start m) → kind ≡ i
+    → Reads (formAt (kinds n countForm) i) f s (b .between) v k
+    → ((x : FieldsAt (kinds n countForm) i) → f x ≡ v → recordView (makeAt (kinds n countForm) i x) ≡ (w, i, entries))
+    → Reads (recordForm n) recordView s at (w, kind, entries) k
+told {entries = entries} {w = w} i b e r t = of-kind i b e r (λ x h. t x h ∙ sym (ap (λ (j : ℕ). (w, j, entries)) e))
 
 pub three-or-four : (b : ℕ) → b < 5 → (b ≡ 0 → ⊥) → (b ≡ 1 → ⊥) → (b ≡ 2 → ⊥) → (b ≡ 3) ⊎ (b ≡ 4)
 three-or-four b h n0 n1 n2 = ⊎-elim (λ l. inl (omega arith)) (λ l. inr (omega arith)) (le-or-lt b 3)

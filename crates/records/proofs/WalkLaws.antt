@@ -17,7 +17,8 @@ use Rattle.sheet.specs.Sheet.{Node, Forest, nodeForm, forest, toForest, ofFores
 use Rattle.decode.specs.Reads.{Lost, Reads, got, bad, same, passed}
 use Rattle.decode.proofs.ReadLaws as laws
 use Rattle.decode.proofs.ReadLaws.{_&_}
-use Rattle.records.specs.Record.{recordForm, kindView}
+use Rattle.records.specs.Record.{recordForm, recordView}
+use Rattle.records.specs.declared.Kind.{Kind}
 use Rattle.records.specs.declared.Kind.the-variants.{Leaf, Container}
 use Rattle.records.proofs.RecordLaws.{behind, node-read}
 
@@ -105,13 +106,13 @@ module _ (n : ℕ) {X Y : Type 0} {f : Node → X} {g : Node → Y} {s : List �
       go d (bad o j) (bad o′ j′) = bad o′ (λ i. reading n (suc d) (drop at s) (j i))
 
 -- what a record says of its node
-pub is-leaf : (x : Node) → kindView x ≡ Leaf → Single passed tt x
+pub is-leaf : {k e : ℕ} (x : Node) → recordView x ≡ (Leaf, k, e) → Single passed tt x
 is-leaf (single p l) e = refl
-is-leaf (holding p k ns) e = let z : _≡_ {A = ℕ} 0 1 = cc in absurd (omega arith)
+is-leaf (holding p k ns) e = let z : _≡_ {A = ℕ} 0 1 = cc (ap (λ (v : Kind × ℕ × ℕ). v .0) e) in absurd (omega arith)
 
-pub is-container : (c : ℕ) (x : Node) → kindView x ≡ Container c → Holds c passed tt passed tt x
-is-container c (single p l) e = let z : _≡_ {A = ℕ} 0 1 = cc in absurd (omega arith)
-is-container c (holding p k ns) e = (cc, λ ms h. refl)
+pub is-container : {k e : ℕ} (c : ℕ) (x : Node) → recordView x ≡ (Container c, k, e) → Holds c passed tt passed tt x
+is-container c (single p l) e = let z : _≡_ {A = ℕ} 0 1 = cc (ap (λ (v : Kind × ℕ × ℕ). v .0) e) in absurd (omega arith)
+is-container c (holding p k ns) e = (cc (ap (λ (v : Kind × ℕ × ℕ). v .0) e), λ ms h. refl)
 
 pub node-end : {X : Type 0} (n : ℕ) (blk : Form Forest) {g : Node → X} (s : List ℕ) (at : ℕ) {k : ℕ} {w : X}
     → length s ≤ at → Lost s k → Reads (nodeForm n blk) g s at w k

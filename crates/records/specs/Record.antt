@@ -7,7 +7,7 @@ use lib.ListN.{length, take, drop, getElem?}
 use Rattle.codec.specs.Codec.{Form, via, big}
 use Rattle.ast.specs.Tree.{Nodes, box, sequence, single, holding, width}
 use Rattle.sheet.specs.Sheet.{Node, Forest, nodeForm, decode}
-use Rattle.sheet.specs.Records.{allRecords}
+use Rattle.sheet.specs.Records.{allRecords, kindOf, entriesOf}
 use Rattle.records.specs.declared.Kind.{Kind}
 use Rattle.records.specs.declared.Kind.the-variants.{Leaf, Container}
 use Rattle.records.specs.declared.RecordAt.{RecordAt}
@@ -30,6 +30,10 @@ recordForm n = nodeForm n countForm
 abbrev pub kindView : Node → Kind
 kindView (single p l) = Leaf
 kindView (holding p k ns) = Container (width ns)
+
+-- what a record says of its node: whether it is a container, its kind, and its keyframe entries
+abbrev pub recordView : Node → Kind × ℕ × ℕ
+recordView x = (kindView x, kindOf x, entriesOf x)
 
 -- the bytes of what is found
 abbrev pub bytesAt : RecordAt → List ℕ → Option (List ℕ)

@@ -3,7 +3,7 @@ ghost use mathlib.Core.Path.{_≡_};
 ghost use Rattle.text.specs.Words.{isSome};
 ghost use Rattle.sheet.specs.Sheet.{nodeForm, forest, inner, decode};
 ghost use Rattle.decode.specs.Reads.{Reads, passed};
-ghost use Rattle.records.specs.Record.{recordForm, kindView, Located};
+ghost use Rattle.records.specs.Record.{recordForm, recordView, Located};
 use decode::fields::lost;
 use decode::fields::take_field;
 use decode::fields::take_kind;
@@ -27,8 +27,11 @@ pub enum Kind {
     Container(usize),
 }
 
+// A record: what its node holds, its kind, its count of keyframe entries, and the place behind it.
 pub struct RecordRead {
     pub v: Kind,
+    pub kind: u8,
+    pub entries: usize,
     pub next: usize,
 }
 
@@ -40,7 +43,7 @@ pub enum RecordAt {
 
 // A record alone: its kind, its start and its own fields, a container's count of nodes with them.
 pub fn take_record(s: &[u8], at: usize, n: usize) -> RecordRead
-    ensures { λ r. ⌜ Reads (recordForm n) kindView (now (s .entry)) at (r .v) (r .next) ⌝ }
+    ensures { λ r. ⌜ Reads (recordForm n) recordView (now (s .entry)) at (r .v, r .kind, r .entries) (r .next) ⌝ }
 {
     let k = take_kind(s, at, n);
     let a = k.next;
@@ -48,11 +51,22 @@ pub fn take_record(s: &[u8], at: usize, n: usize) -> RecordRead
     let next = match kind {
         0 => take_tween(s, a, n).next,
         1 => take_spring(s, a, n).next,
-        2 => take_keyframes(s, a, n).next,
+        2 => {
+            let t = take_keyframes(s, a, n);
+            let track = t.v;
+            return RecordRead {
+                v: Kind::Leaf,
+                kind,
+                entries: track.frames,
+                next: t.next,
+            };
+        }
         3 | 4 => {
             let c = take_field(s, a, 2);
             return RecordRead {
                 v: Kind::Container(c.v as usize),
+                kind,
+                entries: 0,
                 next: c.next,
             };
         }
@@ -61,6 +75,8 @@ pub fn take_record(s: &[u8], at: usize, n: usize) -> RecordRead
             let group = g.v;
             return RecordRead {
                 v: Kind::Container(group.nodes),
+                kind,
+                entries: 0,
                 next: g.next,
             };
         }
@@ -69,6 +85,8 @@ pub fn take_record(s: &[u8], at: usize, n: usize) -> RecordRead
             let stagger = g.v;
             return RecordRead {
                 v: Kind::Container(stagger.nodes),
+                kind,
+                entries: 0,
                 next: g.next,
             };
         }
@@ -83,6 +101,8 @@ pub fn take_record(s: &[u8], at: usize, n: usize) -> RecordRead
     };
     RecordRead {
         v: Kind::Leaf,
+        kind,
+        entries: 0,
         next,
     }
 }

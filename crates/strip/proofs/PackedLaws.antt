@@ -1,10 +1,12 @@
 -- A packed answer is below 2^64, and its parts come back where they are below 2^32, 2^24 and 2^16. Assumes nothing.
 use Prim.Native.Nat.{ℕ, _^_, _≤_, _<_}
-use mathlib.Core.Path.{_≡_}
+use mathlib.Core.List.{List, [], _∷_}
+use mathlib.Core.Path.{_≡_, refl}
+use lib.ListN.{length, set}
 use native.Mathlib.Omega.{arith}
 use Rattle.error.specs.Refusal.{numberOf}
 use Rattle.error.specs.declared.Refusal.{Refusal}
-use Rattle.error.specs.declared.Refusal.the-variants as cause
+use Rattle.totals.proofs.NumberLaws.{Numbered, numbered}
 use Rattle.error.specs.declared.ReadAnswer.{ReadAnswer}
 use Rattle.error.specs.declared.ReadAnswer.the-variants as read
 use Rattle.error.specs.declared.CheckAnswer.{CheckAnswer}
@@ -12,40 +14,9 @@ use Rattle.error.specs.declared.CheckAnswer.the-variants as check
 use Rattle.error.specs.declared.LineAnswer.{LineAnswer}
 use Rattle.error.specs.declared.LineAnswer.the-variants as line
 use Rattle.strip.specs.Packed.{packedRefusal, packedSheet, packedRead, packedCheck}
-use Rattle.strip.specs.Packed.{packedLine, numberIn, valueIn, lengthIn, recordsIn}
-
--- ---- a refusal's number: at least 1, at most 32
-
-pub record Numbered (n : ℕ) : Type 0 where
-  pub some : 1 ≤ n
-  pub most : n ≤ 32
-
-pub numbered : (r : Refusal) → Numbered (numberOf r)
-numbered cause.TextTooLong = record { some = omega arith; most = omega arith }
-numbered cause.BadForm = record { some = omega arith; most = omega arith }
-numbered cause.TooManyDigits = record { some = omega arith; most = omega arith }
-numbered cause.Unbalanced = record { some = omega arith; most = omega arith }
-numbered cause.TooManyOpen = record { some = omega arith; most = omega arith }
-numbered cause.Missing = record { some = omega arith; most = omega arith }
-numbered cause.UnknownKeyword = record { some = omega arith; most = omega arith }
-numbered cause.Malformed = record { some = omega arith; most = omega arith }
-numbered cause.UnknownSpringPreset = record { some = omega arith; most = omega arith }
-numbered cause.MissingDuration = record { some = omega arith; most = omega arith }
-numbered cause.StaggerGridIncomplete = record { some = omega arith; most = omega arith }
-numbered cause.TooManyNested = record { some = omega arith; most = omega arith }
-numbered cause.Leftover = record { some = omega arith; most = omega arith }
-numbered cause.SheetTooShort = record { some = omega arith; most = omega arith }
-numbered cause.ScratchTooShort = record { some = omega arith; most = omega arith }
-numbered cause.NotASheet = record { some = omega arith; most = omega arith }
-numbered cause.OutOfRange = record { some = omega arith; most = omega arith }
-numbered cause.ValueTypeMismatch = record { some = omega arith; most = omega arith }
-numbered cause.UnknownEasing = record { some = omega arith; most = omega arith }
-numbered cause.UnknownPreset = record { some = omega arith; most = omega arith }
-numbered cause.InvalidColor = record { some = omega arith; most = omega arith }
-numbered cause.DuplicateTime = record { some = omega arith; most = omega arith }
-numbered cause.TooFewFrames = record { some = omega arith; most = omega arith }
-numbered cause.NoSuchRecord = record { some = omega arith; most = omega arith }
-numbered cause.OutputTooShort = record { some = omega arith; most = omega arith }
+use Rattle.strip.specs.Packed.{packedLine, packedScript, packedFed, numberIn, valueIn, lengthIn, recordsIn, scriptNumberIn}
+use Rattle.feed.specs.declared.FeedAnswer.{FeedAnswer}
+use Rattle.feed.specs.declared.FeedAnswer.the-variants as feed
 
 -- ---- below 2^64
 
@@ -66,6 +37,11 @@ check-fits (check.Refused r p) = refusal-fits r p
 pub line-fits : (a : LineAnswer) → packedLine a < 2 ^ 64
 line-fits (line.Accepted n) = omega arith
 line-fits (line.Refused r p) = refusal-fits r p
+
+pub fed-fits : (a : FeedAnswer) → packedFed a < 2 ^ 64
+fed-fits (feed.Counted check.Accepted) = omega arith
+fed-fits (feed.Counted (check.Refused r p)) = let n = numbered r in omega (arith, n .most)
+fed-fits (feed.Refused r p) = refusal-fits r p
 
 -- ---- the parts
 
@@ -91,3 +67,20 @@ line-number n = omega arith
 
 pub line-length : (n : ℕ) → n < 2 ^ 32 → valueIn (packedLine (line.Accepted n)) ≡ n
 line-length n h = omega arith
+
+-- of a refused script that is counted the number is 0
+pub script-number : (r : Refusal) (p : ℕ) → numberIn (packedScript (check.Refused r p)) ≡ 0
+script-number r p = let n = numbered r in omega (arith, n .most)
+
+pub script-refusal : (r : Refusal) (p : ℕ) → scriptNumberIn (packedScript (check.Refused r p)) ≡ numberOf r
+script-refusal r p = omega arith
+
+pub script-place : (r : Refusal) (p : ℕ) → p < 2 ^ 32 → valueIn (packedScript (check.Refused r p)) ≡ p
+script-place r p h = omega arith
+
+-- a numerator and a denominator, in the two words that are lent
+pub pair-written : (out : List ℕ) (n d : ℕ) → length out ≡ 2 → set (set out 0 n) 1 d ≡ n ∷ d ∷ []
+pair-written [] n d e = absurd (omega arith)
+pair-written (a ∷ []) n d e = absurd (omega arith)
+pair-written (a ∷ b ∷ []) n d e = refl
+pair-written (a ∷ b ∷ c ∷ out) n d e = absurd (omega arith)

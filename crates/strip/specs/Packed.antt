@@ -5,7 +5,7 @@
 -- A place or a line's length of 2^32 or more counts by its remainder, as do a sheet's length of 2^24 or more and 2^16 or more records.
 -- No operation answers with such: the laws of the crate `unpack`.
 use Prim.Native.Nat.{ℕ, _+_, _*_, _/_, _%_, _^_}
-use mathlib.Core.List.{List}
+use mathlib.Core.List.{List, [], _∷_}
 use Rattle.error.specs.Refusal.{numberOf}
 use Rattle.error.specs.declared.Refusal.{Refusal}
 use Rattle.error.specs.declared.ReadAnswer.{ReadAnswer}
@@ -14,6 +14,10 @@ use Rattle.error.specs.declared.CheckAnswer.{CheckAnswer}
 use Rattle.error.specs.declared.CheckAnswer.the-variants as check
 use Rattle.error.specs.declared.LineAnswer.{LineAnswer}
 use Rattle.error.specs.declared.LineAnswer.the-variants as line
+use Rattle.totals.specs.declared.MeanAnswer.{MeanAnswer}
+use Rattle.totals.specs.declared.MeanAnswer.the-variants as mean
+use Rattle.feed.specs.declared.FeedAnswer.{FeedAnswer}
+use Rattle.feed.specs.declared.FeedAnswer.the-variants as feed
 
 -- ---- an answer
 
@@ -35,6 +39,15 @@ abbrev pub packedLine : LineAnswer → ℕ
 packedLine (line.Accepted length) = length % 2 ^ 32
 packedLine (line.Refused refusal place) = packedRefusal refusal place
 
+-- 02 (b): "0 if the script was accepted, else its refusal number times 2^32 plus its place"
+abbrev pub packedScript : CheckAnswer → ℕ
+packedScript check.Accepted = 0
+packedScript (check.Refused refusal place) = numberOf refusal * 2 ^ 32 + place % 2 ^ 32
+
+abbrev pub packedFed : FeedAnswer → ℕ
+packedFed (feed.Counted answer) = packedScript answer
+packedFed (feed.Refused refusal place) = packedRefusal refusal place
+
 -- ---- an answer with the buffers afterwards
 
 abbrev pub readOutcome : ReadAnswer × List ℕ × List ℕ → ℕ × List ℕ × List ℕ
@@ -46,6 +59,15 @@ lineOutcome x = (packedLine (x .0), x .1)
 -- printing answers as lining does: the page's length, or a refusal and its place
 abbrev pub printOutcome : LineAnswer × List ℕ × List ℕ × List ℕ → ℕ × List ℕ × List ℕ × List ℕ
 printOutcome x = (packedLine (x .0), x .1, x .2, x .3)
+
+abbrev pub feedOutcome : FeedAnswer × List ℕ × List ℕ × List ℕ → ℕ × List ℕ × List ℕ × List ℕ
+feedOutcome x = (packedFed (x .0), x .1, x .2, x .3)
+
+-- 1, with numerator and denominator; 0 for `none`, and what is lent as it was
+abbrev pub meanOutcome : MeanAnswer → List ℕ → ℕ × List ℕ
+meanOutcome (mean.Fraction numerator denominator) out = (1, numerator ∷ denominator ∷ [])
+meanOutcome mean.Nothing out = (0, out)
+meanOutcome (mean.Refused refusal place) out = (packedRefusal refusal place, out)
 
 -- ---- its parts
 
@@ -60,3 +82,7 @@ lengthIn w = w % 2 ^ 24
 
 abbrev pub recordsIn : ℕ → ℕ
 recordsIn w = w / 2 ^ 24 % 2 ^ 16
+
+-- the number of a refused script
+abbrev pub scriptNumberIn : ℕ → ℕ
+scriptNumberIn w = w / 2 ^ 32

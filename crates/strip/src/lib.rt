@@ -1,15 +1,22 @@
 // The operations for C and Rust to link.
+ghost use mathlib.Core.List.{[], _∷_};
 ghost use mathlib.Core.Path.{_≡_};
 ghost use Prim.Native.Nat.{_%_, _^_};
+ghost use lib.ListN.{length};
 ghost use Rattle.parser.specs.Reading.{reading};
 ghost use Rattle.validate.specs.Checking.{checking};
 ghost use Rattle.line.specs.Lining.{lining};
 ghost use Rattle.script.specs.Output.{printing};
-ghost use Rattle.strip.specs.Packed.{packedRefusal, packedSheet, packedCheck, packedLine, readOutcome, lineOutcome, printOutcome};
+ghost use Rattle.totals.specs.Mean.{mean};
+ghost use Rattle.feed.specs.Feed.{fed, feeding};
+ghost use Rattle.strip.specs.Packed.{packedRefusal, packedSheet, packedCheck, packedLine, packedFed, readOutcome, lineOutcome, printOutcome};
+ghost use Rattle.strip.specs.Packed.{feedOutcome, meanOutcome};
 use error::CheckAnswer;
 use error::LineAnswer;
 use error::ReadAnswer;
 use error::Refusal;
+use feed::FeedAnswer;
+use totals::MeanAnswer;
 
 // The lowest 32 bits of a place or a length.
 fn low(n: usize) -> u64
@@ -40,6 +47,30 @@ fn pack_line(answer: LineAnswer) -> u64
         LineAnswer::Accepted { length } => low(length),
         LineAnswer::Refused { refusal, place } => pack_refusal(refusal, place),
     }
+}
+
+// 0 for an accepted script; a refused one's number behind the lowest four bytes, which have its place; or a refusal of feeding.
+fn pack_fed(answer: FeedAnswer) -> u64
+    ensures { λ r. ⌜ r ≡ packedFed answer ⌝ }
+{
+    match answer {
+        FeedAnswer::Counted { answer } => match answer {
+            CheckAnswer::Accepted => 0,
+            CheckAnswer::Refused { refusal, place } => {
+                (error::number_of(refusal) as u64) * 4294967296 + low(place)
+            }
+        },
+        FeedAnswer::Refused { refusal, place } => pack_refusal(refusal, place),
+    }
+}
+
+// Writes two words.
+fn put_pair(out: &mut [u32], a: u32, b: u32)
+    requires { ⌜ length (now out) ≡ 2 ⌝ }
+    ensures { λ _. ⌜ now (out .exit) ≡ a ∷ b ∷ [] ⌝ }
+{
+    out[0] = a;
+    out[1] = b;
 }
 
 // parser::read.
@@ -83,4 +114,35 @@ pub extern "C" fn strip_print(
     ensures { λ r. ⌜ (r, now (scratch .exit), now (sheet .exit), now (page .exit)) ≡ printOutcome (printing (now (text .entry)) (now (scratch .entry)) (now (sheet .entry)) (now (page .entry))) ⌝ }
 {
     pack_line(print::print(text, scratch, sheet, page))
+}
+
+// feed::feed.
+#[no_mangle]
+pub extern "C" fn strip_feed(
+    totals: &mut [u32; 60],
+    text: &[u8],
+    scratch: &mut [u16],
+    sheet: &mut [u8],
+) -> u64
+    ensures { λ r. ⌜ (r, now (totals .exit), now (scratch .exit), now (sheet .exit)) ≡ feedOutcome (feeding (now (totals .entry)) (fed (now (text .entry)) (now (scratch .entry)) (now (sheet .entry)))) ⌝ }
+{
+    pack_fed(feed::feed(totals, text, scratch, sheet))
+}
+
+// totals::mean: 1, and the fraction in `out`; 0 for nothing, and `out` as it was.
+#[no_mangle]
+pub extern "C" fn strip_mean(totals: &[u32; 60], which: u32, out: &mut [u32; 2]) -> u64
+    ensures { λ r. ⌜ (r, now (out .exit)) ≡ meanOutcome (mean (now (totals .entry)) which) (now (out .entry)) ⌝ }
+{
+    match totals::mean(totals, which) {
+        MeanAnswer::Fraction {
+            numerator,
+            denominator,
+        } => {
+            put_pair(out, numerator, denominator);
+            1
+        }
+        MeanAnswer::Nothing => 0,
+        MeanAnswer::Refused { refusal, place } => pack_refusal(refusal, place),
+    }
 }

@@ -1,9 +1,11 @@
 -- The parts of a packed answer are those of the operation's answer, for every text, sheet and output. Assumes nothing.
 use Prim.Native.Nat.{ℕ, _^_, _<_}
+use mathlib.Core.Bool.{Bool, true, false, cond}
 use mathlib.Core.List.{List}
 use mathlib.Core.Logic.{inl, inr}
 use mathlib.Core.Path.{_≡_, refl}
 use native.Mathlib.Omega.{arith}
+use lib.ListN.{take}
 use Rattle.parser.specs.Reading.{reading}
 use Rattle.validate.specs.Checking.{checking}
 use Rattle.line.specs.Lining.{lining}
@@ -15,8 +17,14 @@ use Rattle.error.specs.declared.CheckAnswer.{CheckAnswer}
 use Rattle.error.specs.declared.CheckAnswer.the-variants as check
 use Rattle.error.specs.declared.LineAnswer.{LineAnswer}
 use Rattle.error.specs.declared.LineAnswer.the-variants as line
-use Rattle.strip.specs.Packed.{packedRead, packedCheck, packedLine, numberIn, valueIn, lengthIn, recordsIn}
+use Rattle.strip.specs.Packed.{packedRead, packedCheck, packedLine, packedFed, numberIn, valueIn, lengthIn, recordsIn, scriptNumberIn}
+use Rattle.strip.proofs.PackedLaws.{script-number, script-refusal, script-place}
 use Rattle.strip.proofs.PackedLaws.{refusal-number, refusal-place, sheet-number, sheet-length, sheet-records, line-number, line-length}
+use Rattle.error.specs.declared.Refusal.the-variants.{TooManyScripts}
+use Rattle.totals.specs.Totals.{added}
+use Rattle.feed.specs.Feed.{Fed, readOf, whenRead, judgement, figure, full, feeding}
+use Rattle.feed.specs.declared.FeedAnswer.{FeedAnswer}
+use Rattle.feed.specs.declared.FeedAnswer.the-variants as feed
 use Rattle.unpack.proofs.Within.{ReadWithin, read-within, CheckWithin, check-within, LineWithin, line-within, print-within}
 
 -- ---- reading
@@ -67,3 +75,36 @@ pub print-parts : (t scratch sheet page : List ℕ)
     → LineParts (printing t scratch sheet page .0) (packedLine (printing t scratch sheet page .0))
 print-parts t scratch sheet page =
     line-back pageBytes 0 (omega arith) (omega arith) (printing t scratch sheet page .0) (print-within t scratch sheet page)
+
+-- ---- feeding: 0 for an accepted script, else its refusal's number and its place behind the number 0; or a refusal of feeding
+
+abbrev pub ScriptParts : CheckAnswer → ℕ → Type 0
+ScriptParts check.Accepted w = w ≡ 0
+ScriptParts (check.Refused r p) w = (numberIn w ≡ 0) × (scriptNumberIn w ≡ numberOf r) × (valueIn w ≡ p)
+
+abbrev pub FedParts : FeedAnswer → ℕ → Type 0
+FedParts (feed.Counted a) w = ScriptParts a w
+FedParts (feed.Refused r p) w = (numberIn w ≡ numberOf r) × (valueIn w ≡ p)
+
+script-back : (a : CheckAnswer) → CheckWithin a → ScriptParts a (packedFed (feed.Counted a))
+script-back check.Accepted h = refl
+script-back (check.Refused r p) h = (script-number r p, script-refusal r p, script-place r p (omega arith))
+
+judged-within : (x : Fed) → CheckWithin (judgement x)
+judged-within x = by (readOf x) (read-within (x .text) (x .scratch) (x .sheet))
+  where
+    by : (y : ReadAnswer × List ℕ × List ℕ) → ReadWithin (y .0) → CheckWithin (whenRead (x .text) y)
+    by (read.Accepted n c, words, s) h = check-within (x .text) (take n s)
+    by (read.Refused r p, words, s) h = omega arith
+
+pub feed-parts : (ws : List ℕ) (x : Fed) → FedParts (feeding ws x .0) (packedFed (feeding ws x .0))
+unfolding feeding
+feed-parts ws x = go (full ws)
+  where
+    go : (b : Bool)
+        → let a = cond {A = FeedAnswer × List ℕ × List ℕ × List ℕ} b (feed.Refused TooManyScripts 0, ws, x .scratch, x .sheet)
+        (feed.Counted (judgement x), added (λ i. figure i x) ws, readOf x .1, readOf x .2)
+        in
+        FedParts (a .0) (packedFed (a .0))
+    go true = (refusal-number TooManyScripts 0, refusal-place TooManyScripts 0 (omega arith))
+    go false = script-back (judgement x) (judged-within x)

@@ -5,7 +5,7 @@ use borrow.Author.Needs.{needs}
 use Rattle.ast.specs.Tree.{width}
 use Rattle.codec.specs.Codec.{below, big, opt, _▹_}
 use Rattle.records.specs.Record.{blank, countForm}
-use Rattle.records.specs.declared.Kind.the-variants.{Container}
+use Rattle.records.specs.declared.Kind.the-variants.{Leaf, Container}
 use Rattle.sheet.specs.Sheet.{patternForm, word}
 use Rattle.decode.proofs.ReadLaws.{_&_}
 use Rattle.records.proofs.RecordLaws as records
@@ -24,11 +24,18 @@ take-spring-requires c κs = search needs
 take-keyframes-requires : tie.Need-take-keyframes-requires
 take-keyframes-requires c κs = search needs
 
+returns : tie.Need-returns
+returns c =
+    let at-take-keyframes = c .before in
+    let at-match = at-take-keyframes .before in
+    let b = at-match .before .take-kind .ensures in
+    records.told 2 b (at-match .match .keys3) (b .startAt & at-take-keyframes .take-keyframes .ensures) (λ x e i. (Leaf, 2, e i .1 .frames))
+
 take-group-requires : tie.Need-take-group-requires
 take-group-requires c κs = search needs
 
-returns : tie.Need-returns
-returns c =
+returns-2 : tie.Need-returns-2
+returns-2 c =
     let at-take-group = c .before in
     let at-match = at-take-group .before in
     let at-take-kind = at-match .before in
@@ -37,13 +44,13 @@ returns c =
     (λ p e. ap Container (records.width-blank (p .1) ∙ ap (λ g. g .nodes) e))
     in
     let b = at-take-kind .take-kind .ensures in
-    records.of-kind 5 b (at-match .match .keys4) (b .startAt & r) (λ x e i. e i .1)
+    records.told 5 b (at-match .match .keys4) (b .startAt & r) (λ x e i. (e i .1, 5, 0))
 
 take-stagger-requires : tie.Need-take-stagger-requires
 take-stagger-requires c κs = search needs
 
-returns-2 : tie.Need-returns-2
-returns-2 c =
+returns-3 : tie.Need-returns-3
+returns-3 c =
     let at-take-stagger = c .before in
     let at-match = at-take-stagger .before in
     let at-take-kind = at-match .before in
@@ -54,7 +61,7 @@ returns-2 c =
     (at-take-stagger .take-stagger .ensures) (λ p e. ap Container (records.width-blank (p .1 .1) ∙ ap (λ g. g .nodes) e))
     in
     let b = at-take-kind .take-kind .ensures in
-    records.of-kind 6 b (at-match .match .keys5) (b .startAt & r) (λ x e i. e i .1)
+    records.told 6 b (at-match .match .keys5) (b .startAt & r) (λ x e i. (e i .1, 6, 0))
 
 take-path-requires : tie.Need-take-path-requires
 take-path-requires c κs = search needs
@@ -80,11 +87,11 @@ take-span-requires c κs = search needs
 take-field-requires : tie.Need-take-field-requires
 take-field-requires c κs = search needs
 
-cast-t27 : tie.Need-cast-t27
-cast-t27 c = search needs
+cast-t29 : tie.Need-cast-t29
+cast-t29 c = search needs
 
-returns-3 : tie.Need-returns-3
-returns-3 c =
+returns-4 : tie.Need-returns-4
+returns-4 c =
     let at-take-field = c .before in
     let at-if1 = at-take-field .before in
     let at-match = at-if1 .before in
@@ -94,72 +101,67 @@ returns-3 c =
     let r = records.made (big 2) countForm blank {g = λ ns. Container (width ns)} records.counts (at-take-field .take-field .ensures .reads)
     (λ a e. ap Container (records.width-blank a ∙ e))
     in
-    ⊎-elim (λ h. records.of-kind 3 b h (b .startAt & r) (λ x e i. e i .1)) (λ h. records.of-kind 4 b h (b .startAt & r) (λ x e i. e i .1))
+    ⊎-elim (λ h. records.told 3 b h (b .startAt & r) (λ x e i. (e i .1, 3, 0)))
+    (λ h. records.told 4 b h (b .startAt & r) (λ x e i. (e i .1, 4, 0)))
     (records.three-or-four _ (at-if1 .if1 .taken) (m .0 .0 .0 .0 .0 .0 .0 .0 .0 .0 .0 .1) (m .0 .0 .0 .0 .0 .0 .0 .0 .0 .0 .1)
     (m .0 .0 .0 .0 .0 .0 .0 .0 .0 .1))
 
 take-at-requires : tie.Need-take-at-requires
 take-at-requires c κs = search needs
 
-returns-4 : tie.Need-returns-4
-returns-4 c =
-    let at-match = c .before in
-    let b = at-match .before .take-kind .ensures in
-    records.of-kind 0 b (at-match .match .keys1) (b .startAt & c .take-tween .ensures) (λ x e. refl)
-
 returns-5 : tie.Need-returns-5
 returns-5 c =
     let at-match = c .before in
     let b = at-match .before .take-kind .ensures in
-    records.of-kind 1 b (at-match .match .keys2) (b .startAt & c .take-spring .ensures) (λ x e. refl)
+    records.told 0 b (at-match .match .keys1) (b .startAt & c .take-tween .ensures) (λ x e. refl)
 
 returns-6 : tie.Need-returns-6
 returns-6 c =
     let at-match = c .before in
     let b = at-match .before .take-kind .ensures in
-    records.of-kind 2 b (at-match .match .keys3) (b .startAt & c .take-keyframes .ensures) (λ x e. refl)
+    records.told 1 b (at-match .match .keys2) (b .startAt & c .take-spring .ensures) (λ x e. refl)
 
 returns-7 : tie.Need-returns-7
 returns-7 c =
     let at-match = c .before in
     let b = at-match .before .take-kind .ensures in
-    records.of-kind 7 b (at-match .match .keys6) (b .startAt & c .take-path .ensures) (λ x e. refl)
+    records.told 7 b (at-match .match .keys6) (b .startAt & c .take-path .ensures) (λ x e. refl)
 
 returns-8 : tie.Need-returns-8
 returns-8 c =
     let at-match = c .before in
     let b = at-match .before .take-kind .ensures in
-    records.of-kind 8 b (at-match .match .keys7) (b .startAt & c .take-morph .ensures) (λ x e. refl)
+    records.told 8 b (at-match .match .keys7) (b .startAt & c .take-morph .ensures) (λ x e. refl)
 
 returns-9 : tie.Need-returns-9
 returns-9 c =
     let at-match = c .before in
     let b = at-match .before .take-kind .ensures in
-    records.of-kind 9 b (at-match .match .keys8) (b .startAt & c .take-draw .ensures) (λ x e. refl)
+    records.told 9 b (at-match .match .keys8) (b .startAt & c .take-draw .ensures) (λ x e. refl)
 
 returns-10 : tie.Need-returns-10
 returns-10 c =
     let at-match = c .before in
     let b = at-match .before .take-kind .ensures in
-    records.of-kind 10 b (at-match .match .keys9) (b .startAt & c .take-color .ensures) (λ x e. refl)
+    records.told 10 b (at-match .match .keys9) (b .startAt & c .take-color .ensures) (λ x e. refl)
 
 returns-11 : tie.Need-returns-11
 returns-11 c =
     let at-match = c .before in
     let b = at-match .before .take-kind .ensures in
-    records.of-kind 11 b (at-match .match .keys10) (b .startAt & c .take-waveform .ensures) (λ x e. refl)
+    records.told 11 b (at-match .match .keys10) (b .startAt & c .take-waveform .ensures) (λ x e. refl)
 
 returns-12 : tie.Need-returns-12
 returns-12 c =
     let at-match = c .before in
     let b = at-match .before .take-kind .ensures in
-    records.of-kind 12 b (at-match .match .keys11) (b .startAt & c .take-preset .ensures) (λ x e. refl)
+    records.told 12 b (at-match .match .keys11) (b .startAt & c .take-preset .ensures) (λ x e. refl)
 
 returns-13 : tie.Need-returns-13
 returns-13 c =
     let at-match = c .before in
     let b = at-match .before .take-kind .ensures in
-    records.of-kind 13 b (at-match .match .keys12) (b .startAt & c .take-span .ensures) (λ x e. refl)
+    records.told 13 b (at-match .match .keys12) (b .startAt & c .take-span .ensures) (λ x e. refl)
 
 returns-14 : tie.Need-returns-14
 returns-14 c =
@@ -168,7 +170,7 @@ returns-14 c =
     let at-take-kind = at-match .before in
     let b = at-take-kind .take-kind .ensures in
     let m = at-match .match .rest in
-    records.of-kind 14 b
+    records.told 14 b
     (records.only-at _ (at-if1 .if1 .left) (b .kindAt .small) (m .0 .0 .0 .0 .0 .0 .0 .0 .1) (m .0 .0 .0 .0 .0 .0 .0 .1)
     (m .0 .0 .0 .0 .0 .0 .1)
     (m .0 .0 .0 .0 .0 .1) (m .0 .0 .0 .0 .1) (m .0 .0 .0 .1) (m .0 .0 .1) (m .0 .1) (m .1))
@@ -182,10 +184,11 @@ take-record-spec =
     take-tween-requires
     take-spring-requires
     take-keyframes-requires
-    take-group-requires
     returns
-    take-stagger-requires
+    take-group-requires
     returns-2
+    take-stagger-requires
+    returns-3
     take-path-requires
     take-morph-requires
     take-draw-requires
@@ -194,10 +197,9 @@ take-record-spec =
     take-preset-requires
     take-span-requires
     take-field-requires
-    cast-t27
-    returns-3
-    take-at-requires
+    cast-t29
     returns-4
+    take-at-requires
     returns-5
     returns-6
     returns-7

@@ -1,0 +1,159 @@
+-- `feed::feed` meets its contract: by cases of what reading and checking answered. Assumes nothing.
+use Rattle.text.specs.Bytes.{at}
+use mathlib.Core.Path.{sym, _∙_}
+use Rattle.feed.proofs.FeedLaws.{words-of, accepted-room, accepted-words, feed-full}
+use Rattle.feed.proofs.FeedLaws.{feed-unread, feed-refused, feed-accepted, is-sheet}
+use borrow.Author.Needs.{needs}
+use Rattle.feed.proofs.feed.Statement.{statement}
+use Rattle.feed.proofs.feed.Tie as tie
+
+full-requires : tie.Need-full-requires
+full-requires c κs = search needs
+
+returns : tie.Need-returns
+returns c = feed-full _ _ _ _ (sym (c .before .full .ensures) ∙ c .if1 .taken)
+
+read-and-check-requires : tie.Need-read-and-check-requires
+read-and-check-requires c κs = search needs
+
+enum-known-refusal : tie.Need-enum-known-refusal
+enum-known-refusal c = search needs
+
+count-refused-requires : tie.Need-count-refused-requires
+count-refused-requires c κs =
+    let c4 = c .before .before .before .before in
+    let c8 = c4 .before .before .before .before in
+    let at-if1 = c8 .before .before .before in
+    let at-full = at-if1 .before in
+    words-of _ (search needs) (sym (at-full .full .ensures) ∙ at-if1 .if1 .left)
+
+enum-known-length : tie.Need-enum-known-length
+enum-known-length c = search needs
+
+enum-known-answer : tie.Need-enum-known-answer
+enum-known-answer c = search needs
+
+count-refused-requires-2 : tie.Need-count-refused-requires-2
+count-refused-requires-2 c κs =
+    let c4 = c .before .before .before .before in
+    let c8 = c4 .before .before .before .before in
+    let c12 = c8 .before .before .before .before in
+    let at-if1 = c12 .before .before in
+    let at-full = at-if1 .before in
+    words-of _ (search needs) (sym (at-full .full .ensures) ∙ at-if1 .if1 .left)
+
+enum-told : tie.Need-enum-told
+enum-told c = search needs
+
+add-requires : tie.Need-add-requires
+add-requires c κs =
+    let c4 = c .before .before .before .before in
+    let c8 = c4 .before .before .before .before in
+    let c12 = c8 .before .before .before .before in
+    let at-if1 = c12 .before in
+    let at-full = at-if1 .before in
+    accepted-room (words-of _ (search needs) (sym (at-full .full .ensures) ∙ at-if1 .if1 .left))
+
+part-requires : tie.Need-part-requires
+part-requires c κs = search needs
+
+count-records-requires : tie.Need-count-records-requires
+count-records-requires c κs =
+    let at-add = c .before .before .before in
+    let c7 = at-add .before .before .before .before in
+    let at-length = c7 .before in
+    let c12 = at-length .before .before .before .before in
+    let at-read-and-check = c12 .before .before in
+    let at-if1 = at-read-and-check .before .before .before in
+    let at-full = at-if1 .before in (
+      accepted-words _ (search needs) (sym (at-full .full .ensures) ∙ at-if1 .if1 .left) (at-add .add .ensures),
+      is-sheet _ _ _ (rw (at-length .length .given .1) at (at-read-and-check .read-and-check .ensures .0)) (c .part .ensures),
+    )
+
+same-length : tie.Need-same-length
+same-length c = search needs
+
+same-length-2 : tie.Need-same-length-2
+same-length-2 c = search needs
+
+returns-2 : tie.Need-returns-2
+returns-2 c =
+    let at-refusal = c .before .before .before in
+    let c7 = at-refusal .before .before .before .before in
+    let at-read-and-check = c7 .before .before in
+    let at-if1 = at-read-and-check .before .before .before in
+    let at-full = at-if1 .before in
+    feed-unread _ _ _ _
+    (sym (at-full .full .ensures) ∙ at-if1 .if1 .left)
+    (rw (at-refusal .refusal .given .1) at (at-read-and-check .read-and-check .ensures .0))
+    (c .count-refused .ensures .0)
+    (c .count-refused .ensures .1)
+
+same-length-3 : tie.Need-same-length-3
+same-length-3 c = search needs
+
+same-length-4 : tie.Need-same-length-4
+same-length-4 c = search needs
+
+returns-3 : tie.Need-returns-3
+returns-3 c =
+    let at-answer = c .before .before .before in
+    let at-length = at-answer .before .before .before in
+    let c10 = at-length .before .before .before .before in
+    let at-read-and-check = c10 .before .before in
+    let at-if1 = at-read-and-check .before .before .before in
+    let at-full = at-if1 .before in
+    feed-refused _ _ _ _
+    (sym (at-full .full .ensures) ∙ at-if1 .if1 .left)
+    (rw (at-length .length .given .1) at (at-read-and-check .read-and-check .ensures .0))
+    (rw (at-length .length .given .1, at-answer .answer .given .1) at (at-read-and-check .read-and-check .ensures .1 .0))
+    (c .count-refused2 .ensures .0)
+    (c .count-refused2 .ensures .1)
+
+same-length-5 : tie.Need-same-length-5
+same-length-5 c = search needs
+
+same-length-6 : tie.Need-same-length-6
+same-length-6 c = search needs
+
+returns-4 : tie.Need-returns-4
+returns-4 c =
+    let at-add = c .before .before .before .before in
+    let at-enum-told = at-add .before .before in
+    let at-length = at-enum-told .before .before .before in
+    let c13 = at-length .before .before .before .before in
+    let at-read-and-check = c13 .before .before in
+    let at-if1 = at-read-and-check .before .before .before in
+    let at-full = at-if1 .before in
+    feed-accepted _ _ _ _
+    (sym (at-full .full .ensures) ∙ at-if1 .if1 .left)
+    (rw (at-length .length .given .1) at (at-read-and-check .read-and-check .ensures .0))
+    (rw (at-length .length .given .1, at-enum-told .enum-told .given .1) at (at-read-and-check .read-and-check .ensures .1 .0))
+    (at-add .add .ensures)
+    (rw (c .before .part .ensures) at (c .count-records .ensures))
+
+pub feed-spec : {M : Type 1} → statement M
+feed-spec =
+    tie.close
+    (tie.spec
+    full-requires
+    returns
+    read-and-check-requires
+    enum-known-refusal
+    count-refused-requires
+    enum-known-length
+    enum-known-answer
+    count-refused-requires-2
+    enum-told
+    add-requires
+    part-requires
+    count-records-requires
+    same-length
+    same-length-2
+    returns-2
+    same-length-3
+    same-length-4
+    returns-3
+    same-length-5
+    same-length-6
+    returns-4)

@@ -1,0 +1,1 @@
+// Laws of the morning sheet over a list of feeds: no code.

@@ -1,0 +1,3 @@
+pub mod TotalsLaws
+pub mod NumberLaws
+pub mod MeanLaws

@@ -1,0 +1,30 @@
+-- `totals::quotient` meets its contract. Assumes nothing.
+use native.Mathlib.Omega.{arith}
+use borrow.Author.Needs.{needs}
+use Rattle.totals.proofs.MeanLaws.{gcd-positive, no-quotient, quotient-is}
+use Rattle.totals.proofs.quotient.Statement.{statement}
+use Rattle.totals.proofs.quotient.Tie as tie
+
+returns : tie.Need-returns
+returns c = search (needs, no-quotient)
+
+divisor-requires : tie.Need-divisor-requires
+divisor-requires c κs = search needs
+
+div-t5 : tie.Need-div-t5
+div-t5 c =
+    let a = c .before .before .args in
+    let n = c .before .if1 .left in
+    omega (arith, gcd-positive (a .a) (a .b) (omega arith), c .divisor .ensures)
+
+div-t6 : tie.Need-div-t6
+div-t6 c =
+    let a = c .before .before .args in
+    let n = c .before .if1 .left in
+    omega (arith, gcd-positive (a .a) (a .b) (omega arith), c .divisor .ensures)
+
+returns-2 : tie.Need-returns-2
+returns-2 c = search (needs, quotient-is)
+
+pub quotient-spec : {M : Type 1} → statement M
+quotient-spec = tie.close (tie.spec returns divisor-requires div-t5 div-t6 returns-2)
