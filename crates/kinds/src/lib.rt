@@ -1,4 +1,4 @@
-// parser.rs: the nodes that hold a name or strings, and fields. Each is read behind its keyword, and its record is written at `out`.
+// parser.rs: the nodes that hold a name or strings, and fields. Each is read behind its keyword, and its fields are written at `out`.
 // The functions are for our own crates: each requires a cursor that stands in a text of at most 16,384 bytes, and a place below 2^30.
 ghost use Rattle.encode.specs.Of.{spanOf};
 ghost use Rattle.grammar.specs.Grammar.{parseDraw, parseMorph, parseColor, parsePath, parseWaveform, parsePresetCall};

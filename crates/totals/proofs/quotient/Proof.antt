@@ -1,4 +1,5 @@
 -- `totals::quotient` meets its contract. Assumes nothing.
+use Prim.Native.Nat.{_<_}
 use native.Mathlib.Omega.{arith}
 use borrow.Author.Needs.{needs}
 use Rattle.totals.proofs.MeanLaws.{gcd-positive, no-quotient, quotient-is}
@@ -13,15 +14,15 @@ divisor-requires c κs = search needs
 
 div-t5 : tie.Need-div-t5
 div-t5 c =
-    let a = c .before .before .args in
     let n = c .before .if1 .left in
-    omega (arith, gcd-positive (a .a) (a .b) (omega arith), c .divisor .ensures)
+    let h : 0 < c .divisor .result = rw (c .divisor .ensures) (gcd-positive _ _ (omega arith)) in
+    omega arith
 
 div-t6 : tie.Need-div-t6
 div-t6 c =
-    let a = c .before .before .args in
     let n = c .before .if1 .left in
-    omega (arith, gcd-positive (a .a) (a .b) (omega arith), c .divisor .ensures)
+    let h : 0 < c .divisor .result = rw (c .divisor .ensures) (gcd-positive _ _ (omega arith)) in
+    omega arith
 
 returns-2 : tie.Need-returns-2
 returns-2 c = search (needs, quotient-is)
