@@ -24,8 +24,8 @@ fed() {
     printf "$1" | "$out/example" feed > "$out/got"
     cmp "$out/got" "$out/wanted"
 }
-expect 'at 0.5;' '00020001FF\n00080E00003F00000000B3\naccept 1\n'
-expect '' '0002000000\naccept 0\n'
+expect 'at 0.5;' '00020001FD\n00080E00003F00000000AB\naccept 1\n'
+expect '' '00020000FE\naccept 0\n'
 expect 'tween' 'refuse 6 at 5\n'
 expect 'keyframes p {50%%: 0, 0.5s: 1}' 'refuse 26 at 1\n'
 fed 'sequence {keyframes p {0: 0, 1: 1, 2: 0}} keyframes q {0: 0, 1: 1}' 'accept 3, 5/2\n'

@@ -1,5 +1,5 @@
 #!/usr/bin/env python3
-"""Makes examples/NAME.out, what the program prints for examples/NAME.strip: the oracle's answers, and lines by 01's rules.
+"""Makes examples/NAME.out, what the program prints for examples/NAME.strip: the oracle's answers, and lines by the rules of 01 and 02 (c).
 oracle/build.sh goes first. Run from the repository's root."""
 import glob, subprocess, sys
 

@@ -1,5 +1,5 @@
 #!/usr/bin/env python3
-"""Makes crates/line_cases/stdin and stdout: texts with sheets, good and damaged, and the lines of the records by 01's rules.
+"""Makes crates/line_cases/stdin and stdout: texts with sheets, good and damaged, and the lines of the records by the rules of 01 and 02 (c).
 The sizes of the records are the oracle's, so oracle/build.sh goes first. Run from the repository's root."""
 import gzip, subprocess
 
@@ -22,8 +22,8 @@ def foreign(text):
 
 
 def line(record):
-    check = -sum(record) % 256
-    return (len(record).to_bytes(2, "big") + record + bytes([check])).hex().upper()
+    covered = len(record).to_bytes(2, "big") + record
+    return (covered + bytes([-sum(covered) % 256])).hex().upper()
 
 
 def answer(text, sheet, record_sizes):

@@ -1,13 +1,13 @@
 #!/usr/bin/env python3
 """Makes crates/shelf/stdin and stdout: 01's shelf tests, but for P13, which is no script, scripts at its limits, and those of examples/. The records
-of the first two are written here by hand from 01 and 02 (a), and their lines follow by its rule; what the examples print is in examples/*.out. Each script ends
+of the first two are written here by hand from 01 and 02 (a), and their lines follow by the rule of 02 (c); what the examples print is in examples/*.out. Each script ends
 with a byte 0. Run from the repository's root."""
 import glob
 
 
 def line(record):
-    check = -sum(record) % 256
-    return (len(record).to_bytes(2, "big") + record + bytes([check])).hex().upper()
+    covered = len(record).to_bytes(2, "big") + record
+    return (covered + bytes([-sum(covered) % 256])).hex().upper()
 
 
 def accepted(top, *records):

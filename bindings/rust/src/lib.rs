@@ -19,13 +19,13 @@
 //! // the head is record 0, and a node's ordinals begin at 1
 //! let mut output = [0; 64];
 //! assert_eq!(strip::line(text, sheet, 1, &mut output), LineAnswer::Accepted { length: 23 });
-//! assert_eq!(&output[..23], b"00080E00003F00000000B3\n");
+//! assert_eq!(&output[..23], b"00080E00003F00000000AB\n");
 //!
 //! // all that the program prints for a text, in one call
 //! let mut page = vec![0; strip::PAGE_BYTES];
 //! let answer = strip::print(text, &mut scratch, &mut vec![0; strip::SHEET_BYTES], &mut page);
 //! assert_eq!(answer, LineAnswer::Accepted { length: 43 });
-//! assert_eq!(&page[..43], b"00020001FF\n00080E00003F00000000B3\naccept 1\n");
+//! assert_eq!(&page[..43], b"00020001FD\n00080E00003F00000000AB\naccept 1\n");
 //!
 //! // a refusal has a number, a name and a place
 //! let answer = strip::read(b"at 0.5; tween", &mut scratch, &mut vec![0; strip::SHEET_BYTES]);

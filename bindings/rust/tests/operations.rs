@@ -28,10 +28,10 @@ fn a_script_is_read_checked_and_lined() {
     assert_eq!(check(text, &sheet), CheckAnswer::Accepted);
     let mut output = [7; 32];
     assert_eq!(line(text, &sheet, 0, &mut output), LineAnswer::Accepted { length: 11 });
-    assert_eq!(&output[..11], b"00020001FF\n");
+    assert_eq!(&output[..11], b"00020001FD\n");
     assert_eq!(output[11..], [7; 21]);
     assert_eq!(line(text, &sheet, 1, &mut output), LineAnswer::Accepted { length: 23 });
-    assert_eq!(&output[..23], b"00080E00003F00000000B3\n");
+    assert_eq!(&output[..23], b"00080E00003F00000000AB\n");
 }
 
 /// What printing writes for a text, on a page that is otherwise as it was.
@@ -47,15 +47,15 @@ fn printed(text: &[u8]) -> Vec<u8> {
 
 #[test]
 fn a_script_is_printed_on_a_page() {
-    assert_eq!(printed(b"at 0.5;"), b"00020001FF\n00080E00003F00000000B3\naccept 1\n");
-    assert_eq!(printed(b""), b"0002000000\naccept 0\n");
+    assert_eq!(printed(b"at 0.5;"), b"00020001FD\n00080E00003F00000000AB\naccept 1\n");
+    assert_eq!(printed(b""), b"00020000FE\naccept 0\n");
     assert_eq!(printed(b"tween"), b"refuse 6 at 5\n");
     assert_eq!(printed(b"keyframes p {50%: 0, 0.5s: 1}"), b"refuse 26 at 1\n");
     assert_eq!(printed(&vec![b' '; TEXT_BYTES + 1]), b"refuse 1 at 0\n");
     // lines, and then a record whose line is longer than 65,536 bytes
     let frames: String = (0..99).map(|k| format!("{k}:0,")).collect();
     let text = format!("at 1;keyframes p{{{frames}99:[{}]}}", vec!["0"; 7938].join(","));
-    assert_eq!(printed(text.as_bytes()), b"00020002FE\n00080E00003F8000000033\nrefuse 32 at 2\n");
+    assert_eq!(printed(text.as_bytes()), b"00020002FC\n00080E00003F800000002B\nrefuse 32 at 2\n");
 }
 
 #[test]

@@ -25,7 +25,7 @@ use Rattle.records.specs.Record.{bytesAt, Located}
 use Rattle.opening.specs.declared.Opening.the-variants.{Open, Shut}
 use Rattle.opening.specs.Means.{answerOf}
 use Rattle.opening.proofs.OpenLaws.{Tree, the-tree, the-refusal}
-use Rattle.line.specs.Line.{digit, hex, total, checkByte, line}
+use Rattle.line.specs.Line.{digit, hex, total, covered, checkByte, spelled, line}
 use Rattle.line.specs.Lining.{placed, ofRecord, ofOpened, lining}
 
 -- ---- the check byte
@@ -38,15 +38,14 @@ pub total-end : (s : List ℕ) (i : ℕ) → length s ≤ i → total (drop i s)
 unfolding total
 total-end s i h = rw (drop-of-length-le s h)
 
+pub total-covered : (r : List ℕ) → total (covered r) ≡ length r / 256 % 256 + (length r % 256 + total r)
+unfolding total
+total-covered r = refl
+
 -- what with the sum gives zero is the check byte
-pub check-is : (r : List ℕ) (c : ℕ) → c < 256 → (c + total r % 256) % 256 ≡ 0 → c ≡ checkByte r
+pub check-is : (r : List ℕ) (c : ℕ) → c < 256 → (c + total (covered r)) % 256 ≡ 0 → c ≡ checkByte r
 unfolding checkByte
 check-is r c h e = omega arith
-
--- "The record's bytes and the check byte sum to zero modulo 256"
-pub zero-sum : (r : List ℕ) → (total r + checkByte r) % 256 ≡ 0
-unfolding checkByte
-zero-sum r = omega arith
 
 -- ---- hexadecimal
 
@@ -72,12 +71,10 @@ length-hex (b ∷ s) = let e = length-hex s in omega arith
 pub length-line : (r : List ℕ) → length (line r) ≡ 2 * length r + 7
 unfolding line
 length-line r =
-    let n = big 2 .write (length r) in
-    let c = checkByte r ∷ [] in
-    let a : length (line r) ≡ length (hex (n ++ r ++ c)) + 1 = length-append (hex (n ++ r ++ c)) (10 ∷ []) in
-    let b : length (n ++ r ++ c) ≡ length (n ++ r) + 1 = length-append (n ++ r) c in
-    let d : length (n ++ r) ≡ 2 + length r = length-append n r in
-    omega (arith, length-hex (n ++ r ++ c))
+    let a : length (line r) ≡ length (hex (spelled r)) + 1 = length-append (hex (spelled r)) (10 ∷ []) in
+    let b : length (spelled r) ≡ length (covered r) + 1 = length-append (covered r) (checkByte r ∷ []) in
+    let d : length (covered r) ≡ 2 + length r = length-append (big 2 .write (length r)) r in
+    omega (arith, length-hex (spelled r))
 
 -- a line in the parts that are written one after the other
 pub line-parts : (r : List ℕ)

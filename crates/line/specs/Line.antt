@@ -17,9 +17,17 @@ unfoldable pub total : List ℕ → ℕ
 total [] = 0
 total (b ∷ bs) = b + total bs
 
--- "The record's bytes and the check byte sum to zero modulo 256"
+-- what the check byte covers: "the record's length in 2 bytes, the record"
+abbrev pub covered : List ℕ → List ℕ
+covered r = big 2 .write (length r) ++ r
+
+-- 02 (c): "length, record and check byte together sum to zero modulo 256"
 unfoldable pub checkByte : List ℕ → ℕ
-checkByte r = (256 - total r % 256) % 256
+checkByte r = (256 - total (covered r) % 256) % 256
+
+-- the bytes that a line spells
+abbrev pub spelled : List ℕ → List ℕ
+spelled r = covered r ++ checkByte r ∷ []
 
 unfoldable pub line : List ℕ → List ℕ
-line r = hex (big 2 .write (length r) ++ r ++ checkByte r ∷ []) ++ 10 ∷ []
+line r = hex (spelled r) ++ 10 ∷ []

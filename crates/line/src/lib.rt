@@ -15,11 +15,11 @@ use records::RecordAt;
 
 // ---- the check byte
 
-// The sum of a part's bytes, modulo 256.
-fn total(part: &[u8]) -> u8
-    ensures { λ r. ⌜ r ≡ total (now (part .entry)) % 256 ⌝ }
+// The sum of a part's bytes onto one so far, modulo 256.
+fn total(before: u8, part: &[u8]) -> u8
+    ensures { λ r. ⌜ r ≡ (before + total (now (part .entry))) % 256 ⌝ }
 {
-    let mut sum: u8 = 0;
+    let mut sum = before;
     let mut i = 0;
     while i < part.len() {
         sum = std::num::wrapping_add_u8(sum, part[i]);
@@ -28,11 +28,13 @@ fn total(part: &[u8]) -> u8
     sum
 }
 
-// The byte with which a record's bytes sum to zero modulo 256.
+// The byte with which the two bytes of a record's length and the record's bytes sum to zero modulo 256.
 fn check_byte(bytes: &[u8]) -> u8
     ensures { λ r. ⌜ r ≡ checkByte (now (bytes .entry)) ⌝ }
 {
-    std::num::wrapping_sub_u8(0, total(bytes))
+    let n = bytes.len();
+    let length = std::num::wrapping_add_u8((n / 256 % 256) as u8, (n % 256) as u8);
+    std::num::wrapping_sub_u8(0, total(length, bytes))
 }
 
 // ---- writing

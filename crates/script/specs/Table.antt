@@ -61,7 +61,7 @@ unfoldable pub table : List Case
 table =
     -- P1 to P4
     gives "" "0000"
-    ∷ prints "at 0.5;" "00020001FF\n00080E00003F00000000B3\naccept 1\n"
+    ∷ prints "at 0.5;" "00020001FD\n00080E00003F00000000AB\naccept 1\n"
     ∷ gives "at -0" "00010E00008000000001"
     ∷ gives "at --1" "00010E00003F80000001"
     -- P5 to P8

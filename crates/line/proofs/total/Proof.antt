@@ -10,10 +10,10 @@ use Rattle.line.proofs.total.Statement.{statement}
 use Rattle.line.proofs.total.Tie as tie
 
 abbrev Inv-loop : tie.InvT-loop
-Inv-loop part sum₀ i₀ sum i = (sum < 256) × ((sum + total (drop i part)) % 256 ≡ total part % 256)
+Inv-loop before part sum₀ i₀ sum i = (sum < 256) × ((sum + total (drop i part)) % 256 ≡ (before + total part) % 256)
 
 abbrev μ-loop : tie.MeasureT-loop
-μ-loop part sum₀ i₀ sum i = length part - i
+μ-loop before part sum₀ i₀ sum i = length part - i
 
 loop-holds : tie.Need-loop-holds Inv-loop μ-loop
 loop-holds c = search needs
