@@ -33,7 +33,7 @@ hexBytes (a ∷ b ∷ bs) = (digitOf a * 16 + digitOf b) ∷ hexBytes bs
 
 -- the sheet that reading gives, behind a 0; or the values of its refusal
 abbrev pub sheetValues : ReadAnswer × List ℕ × List ℕ → List ℕ
-sheetValues (Accepted n c, scratch, sheet) = 0 ∷ take n sheet
+sheetValues (Accepted n c k, scratch, sheet) = 0 ∷ take n sheet
 sheetValues (Refused r p, scratch, sheet) = readValues (Refused r p)
 
 -- reading with the program's buffers
@@ -49,7 +49,7 @@ checkRead t (r ∷ bs) = cond (ltb r 1) (checkValues (checking t bs)) []
 unfoldable pub holds : Case → Bool
 holds (prints s o) = same (output (bytes s)) (bytes o)
 holds (gives s h) = same (read s) (0 ∷ hexBytes (bytes h))
-holds (refuses s r p) = same (read s) (r ∷ p ∷ [])
+holds (refuses s r p) = same (read s) (r ∷ p ∷ 0 ∷ [])
 holds (checks s v) = same (checkRead (bytes s) (read s)) v
 holds (checksSheet s h v) = same (checkValues (checking (bytes s) (hexBytes (bytes h)))) v
 

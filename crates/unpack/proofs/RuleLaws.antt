@@ -7,6 +7,7 @@ use mathlib.Core.Option.{Option, none, some}
 use Rattle.text.specs.Bytes.{bytes, same}
 use Rattle.text.specs.Words.{words, under}
 use Rattle.number.specs.Number.{whole}
+use Rattle.number.specs.Rounded.{numberRounded, timeRounded}
 use Rattle.number.specs.Time.{Key}
 use Rattle.token.specs.Token.{kind}
 use Rattle.ast.specs.Tree.{Nodes, Leaf, Container}
@@ -22,7 +23,7 @@ use Rattle.grammar.specs.Values.{count, flag, value, commaFloats, fourFloats, b
 use Rattle.grammar.specs.Values.{slowMoFields, slowMoCurve, stepsCurve, wiggleCurve, curves, variantEasing, namedEasing}
 use Rattle.grammar.specs.Values.{curveOr, parseEasing, timesMode, pingPongMode, loopModes, parseLoopMode, easing, loopMode}
 use Rattle.grammar.specs.Grammar.{tweenFields, parseTween, parseSpringPreset, springPreset, integrator, criticalDamping, overDamping}
-use Rattle.grammar.specs.Grammar.{springFields, parseSpring, parseKeyframeTime, keyframeEntry, Track, trackLoop, trackFrame}
+use Rattle.grammar.specs.Grammar.{springFields, parseSpring, keyed, parseKeyframeTime, keyframeEntry, Track, trackLoop, trackFrame}
 use Rattle.grammar.specs.Grammar.{trackStep, parseKeyframes, parseSequence, parseParallel, parseGroup, parseGridOrigin, origin}
 use Rattle.grammar.specs.Grammar.{gridFields, gridPattern, randomFields, randomPattern, patterns, parseStaggerPattern, Opening}
 use Rattle.grammar.specs.Grammar.{openingFields, openingField, openingStep, parseStagger, offset, pathFields, parsePath}
@@ -33,7 +34,7 @@ use Rattle.grammar.specs.Grammar.{oneNode, nodesStep, block, animatoInput, unde
 use Rattle.limits.proofs.ListLaws.{_also_}
 use Rattle.unpack.proofs.StepLaws.{Stays, Found, Rows, gives, refuses, then, and, grouped, conds, tests}
 use Rattle.unpack.proofs.StepLaws.{needs, skips, the-mark, two-marks, eats, a-word, a-text, a-choice}
-use Rattle.unpack.proofs.StepLaws.{a-number, in-group, repeats, lists, under-found, by-word, by-word-or}
+use Rattle.unpack.proofs.StepLaws.{a-number, a-float, tallies, conds-too, eats-too, refuses-too, in-group, repeats, lists, under-found, by-word, by-word-or}
 
 module _ (n : ℕ) where
   -- ---- fields
@@ -105,7 +106,7 @@ module _ (n : ℕ) where
 
   float-stays : Stays n parseFloat
   unfolding parseFloat
-  float-stays = then (a-number seesNumber Malformed) (λ w. gives)
+  float-stays = a-float n Malformed _ (λ w. tallies (numberRounded (w .0) (w .1)) gives)
 
   uint-stays : Stays n parseUint
   unfolding parseUint
@@ -253,9 +254,10 @@ module _ (n : ℕ) where
   -- ---- keyframes
 
   time-stays : Stays n parseKeyframeTime
-  unfolding parseKeyframeTime
+  unfolding parseKeyframeTime keyed
   time-stays =
-      then (a-number seesNumber Malformed) (λ w. then (conds (w .1 .point) gives (eats 37)) (λ p. conds (p && w .1 .suffix) refuses gives))
+      a-float n Malformed _
+      (λ w. eats-too (w .1 .point) 37 (λ p. conds-too (p && w .1 .suffix) refuses-too (tallies (timeRounded _) gives)))
 
   frame-stays : Stays n keyframeEntry
   unfolding keyframeEntry
@@ -391,7 +393,7 @@ module _ (n : ℕ) where
   unfolding parseAt atSign
   at-stays =
       then (then (eats 43) (λ p. then (conds p gives (eats 45)) (λ m. gives)))
-      (λ s. then (a-number seesNumber Malformed) (λ w. and (eats 59) gives))
+      (λ s. a-float n Malformed _ (λ w. tallies _ (and (eats 59) gives)))
 
   -- ---- nodes
 

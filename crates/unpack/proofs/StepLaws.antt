@@ -1,18 +1,21 @@
--- Rules refuse at the place of a token: the steps of the grammar. Assumes nothing.
-use Prim.Native.Nat.{ℕ, zero, suc, _≤_}
+-- Rules refuse at the place of a token, and count a number at most for each token: the steps of the grammar. Assumes nothing.
+use Prim.Native.Nat.{ℕ, zero, suc, _+_, _≤_}
 use Prim.Native.String.{String}
 use mathlib.Core.Bool.{Bool, true, false, cond}
 use mathlib.Core.List.{List, [], _∷_}
 use mathlib.Core.Option.{Option, none, some}
+use mathlib.Core.Path.{_≡_, refl}
 use native.Mathlib.Omega.{arith}
+use lib.ListN.{length}
+use Rattle.number.specs.Number.{Written}
 use Rattle.text.specs.Bytes.{bytes, same}
 use Rattle.text.specs.Words.{under, default, find}
 use Rattle.codec.proofs.Laws.{All}
-use Rattle.token.specs.Token.{Token, token, place, kind, isMark, rest}
+use Rattle.token.specs.Token.{Kind, name, number, quoted, mark, Token, token, place, kind, isMark, rest}
 use Rattle.token.specs.Names.{nameOf, quoteOf}
 use Rattle.error.specs.declared.Refusal.{Refusal}
 use Rattle.grammar.specs.Rule.{Notes, Out, got, refused, Rule, after, give, need, refuse, if, _>>=_, _>>_, ends, skip}
-use Rattle.grammar.specs.Rule.{seesByte, seesPair, theByte, bothBytes, eatByte, found, word, text, choiceIn, Signed}
+use Rattle.grammar.specs.Rule.{seesByte, seesPair, theByte, bothBytes, eatByte, found, word, text, choiceIn, Signed, plain, negated, seesNumber, tally, counted}
 use Rattle.grammar.specs.Rule.{absent, plus, minus, taken, signed, Pass, halts, closes, goes, weigh, depth, passed}
 use Rattle.grammar.specs.Rule.{behind, firstOf, noted, leave, insideByte, Next, more, done, iterate, repeat, listStep, list}
 use Rattle.grammar.specs.Rule.{next as following}
@@ -48,15 +51,39 @@ behind-near n d [] h = tt
 behind-near n d (token p k ∷ ts) h =
     passed-near n (weigh k d) (token p k ∷ ts) ts (behind (depth (weigh k d)) ts) h (h .1) (behind-near n (depth (weigh k d)) ts (h .1))
 
+-- ---- how many tokens are left
+
+rest-fewer : (ts : List Token) → length (rest ts) ≤ length ts
+rest-fewer [] = omega arith
+rest-fewer (token p k ∷ ts) = go (isMark k 0)
+  where
+    go : (b : Bool) → length (cond b (token p k ∷ ts) ts) ≤ suc (length ts)
+    go true = omega arith
+    go false = omega arith
+
+passed-fewer : (m : ℕ) (x : Pass) (ts us vs : List Token) → length ts ≤ m → length us ≤ m → length vs ≤ m → length (passed x ts us vs) ≤ m
+passed-fewer m halts ts us vs f g h = f
+passed-fewer m closes ts us vs f g h = g
+passed-fewer m (goes d) ts us vs f g h = h
+
+behind-fewer : (d : ℕ) (ts : List Token) → length (behind d ts) ≤ length ts
+unfolding behind
+behind-fewer d [] = omega arith
+behind-fewer d (token p k ∷ ts) =
+    passed-fewer (suc (length ts)) (weigh k d) (token p k ∷ ts) ts (behind (depth (weigh k d)) ts) (omega arith) (omega arith)
+    (omega (arith, behind-fewer (depth (weigh k d)) ts))
+
 -- ---- the state of a rule, and what it comes to
 
 abbrev pub LeftNear : ℕ → Option ℕ → Type 0
 LeftNear n none = Unit {0}
 LeftNear n (some p) = p ≤ n
 
+-- a text of n bytes has at most n + 1 tokens, of which those behind the cursor may be counted
 pub record State (n : ℕ) (l : Notes) (ts : List Token) : Type 0 where
   pub left : LeftNear n (l .leftover)
   pub near : Near n ts
+  pub few : l .rounded + length ts ≤ suc n
 
 abbrev pub OutNear : {A : Type 0} → ℕ → Out A → Type 0
 OutNear n (got a l ts) = State n l ts
@@ -67,7 +94,7 @@ pub record Stays {A : Type 0} (n : ℕ) (p : Rule A) : Type 0 where
   pub run : (l : Notes) (ts : List Token) → State n l ts → OutNear n (p l ts)
 
 moved : (n : ℕ) (l : Notes) (ts : List Token) → State n l ts → State n l (rest ts)
-moved n l ts h = record { left = h .left; near = rest-near n ts (h .near) }
+moved n l ts h = record { left = h .left; near = rest-near n ts (h .near); few = omega (arith, h .few, rest-fewer ts) }
 
 -- ---- one after the other
 
@@ -143,6 +170,72 @@ takes n r (minus w) l ts h = moved n l (rest ts) (moved n l ts h)
 pub a-number : {n : ℕ} (view : List Token → Signed) (r : Refusal) → Stays n (signed view r)
 a-number {n = n} view r = record { run = λ l ts h. takes n r (view ts) l ts h }
 
+-- ---- counting
+
+-- the state behind a number that is not counted yet
+pub record Spare (n : ℕ) (l : Notes) (ts : List Token) : Type 0 where
+  pub left : LeftNear n (l .leftover)
+  pub near : Near n ts
+  pub few : suc (l .rounded + length ts) ≤ suc n
+
+pub record Spends {A : Type 0} (n : ℕ) (p : Rule A) : Type 0 where
+  pub run : (l : Notes) (ts : List Token) → Spare n l ts → OutNear n (p l ts)
+
+pub refuses-too : {A : Type 0} {n : ℕ} {r : Refusal} → Spends {A = A} n (refuse r)
+refuses-too {n = n} = record { run = λ l ts h. place-near n ts (h .near) }
+
+pub tallies : {A : Type 0} {n : ℕ} {p : Rule A} (b : Bool) → Stays n p → Spends n (counted b >> p)
+tallies {n = n} b x = record { run = λ l ts h. x .run (tally b l) ts (record { left = h .left; near = h .near; few = few b l ts h }) }
+  where
+    few : (b : Bool) (l : Notes) (ts : List Token) → Spare n l ts → tally b l .rounded + length ts ≤ suc n
+    few true l ts h = omega (arith, h .few)
+    few false l ts h = omega (arith, h .few)
+
+pub conds-too : {A : Type 0} {n : ℕ} (b : Bool) {p q : Rule A} → Spends n p → Spends n q → Spends n (cond b p q)
+conds-too true x y = x
+conds-too false x y = y
+
+-- a mark that may stand there, but not where b holds
+pub eats-too : {A : Type 0} {n : ℕ} {f : Bool → Rule A} (b : Bool) (c : ℕ) → ((x : Bool) → Spends n (f x))
+    → Spends n (cond b (give false) (eatByte c) >>= f)
+eats-too {n = n} {f = f} true c k = record { run = λ l ts h. k false .run l ts h }
+eats-too {n = n} {f = f} false c k = record { run = λ l ts h. go l ts h (seesByte c ts) }
+  where
+    go : (l : Notes) (ts : List Token) → Spare n l ts → (y : Bool) → OutNear n (after (cond y (skip >> give true) (give false) l ts) f)
+    go l ts h true =
+        k true .run l (rest ts)
+        (record { left = h .left; near = rest-near n ts (h .near); few = omega (arith, h .few, rest-fewer ts) })
+    go l ts h false = k false .run l ts h
+
+-- behind a number the tokens are one fewer
+module _ {A : Type 0} (n : ℕ) (r : Refusal) (f : Bool × Written → Rule A) (k : (w : Bool × Written) → Spends n (f w)) where
+  plus-near : (l : Notes) (ts : List Token) → State n l ts
+      → OutNear n (after (taken r (plain (kind ts)) l ts) f)
+  plus-near l [] h = place-near n [] (h .near)
+  plus-near l (token q (name w) ∷ ts) h = place-near n (token q (name w) ∷ ts) (h .near)
+  plus-near l (token q (number w) ∷ ts) h =
+      k (false, w) .run l ts (record { left = h .left; near = rest-near n (token q (number w) ∷ ts) (h .near); few = omega (arith, h .few) })
+  plus-near l (token q (quoted m) ∷ ts) h = place-near n (token q (quoted m) ∷ ts) (h .near)
+  plus-near l (token q (mark b) ∷ ts) h = place-near n (token q (mark b) ∷ ts) (h .near)
+
+  minus-near : (l : Notes) (ts us : List Token) → place ts ≤ n → rest ts ≡ us → State n l us
+      → OutNear n (after (taken r (negated (plain (kind us))) l ts) f)
+  minus-near l ts [] g e h = g
+  minus-near l ts (token q (name w) ∷ us) g e h = g
+  minus-near l ts (token q (number w) ∷ us) g e h =
+      rw e
+      (k (true, w) .run l us (record { left = h .left; near = rest-near n (token q (number w) ∷ us) (h .near); few = omega (arith, h .few) }))
+  minus-near l ts (token q (quoted m) ∷ us) g e h = g
+  minus-near l ts (token q (mark b) ∷ us) g e h = g
+
+  pub a-float : Stays n (signed seesNumber r >>= f)
+  a-float = record { run = λ l ts h. go l ts h (seesByte 45 ts) }
+    where
+      go : (l : Notes) (ts : List Token) → State n l ts → (b : Bool)
+          → OutNear n (after (taken r (cond b (negated (plain (kind (rest ts)))) (plain (kind ts))) l ts) f)
+      go l ts h true = minus-near l ts (rest ts) (place-near n ts (h .near)) refl (moved n l ts h)
+      go l ts h false = plus-near l ts h
+
 -- ---- groups
 
 first-near : (n : ℕ) (o : Option ℕ) (p : ℕ) → LeftNear n o → p ≤ n → LeftNear n (firstOf o p)
@@ -158,6 +251,7 @@ leaves {n = n} = record { run = λ l ts h. go l ts h (ends ts) }
     go l ts h false = record {
       left = first-near n (l .leftover) (place ts) (h .left) (place-near n ts (h .near));
       near = behind-near n 0 ts (h .near);
+      few = omega (arith, h .few, behind-fewer 0 ts);
     }
 
 pub in-group : {A : Type 0} {n : ℕ} {p : Rule A} (b : ℕ) → Stays n p → Stays n (insideByte b p)
