@@ -281,6 +281,14 @@ module _ (s : List ℕ) (c m : Cursor) (b : Bool) (n : Number) (h : Numbers s c 
 
 -- ---- counting
 
+-- one more, as the code adds it
+pub a-number-more : (c : Cursor)
+    → Prim.Path Cursor (record { at = c .at; end = c .end; left = c .left; rounded = c .rounded + 1; kind = c .kind }) (tallied true c)
+a-number-more c = ap with-count (omega arith)
+  where
+    with-count : ℕ → Cursor
+    with-count n = record { at = c .at; end = c .end; left = c .left; rounded = n; kind = c .kind }
+
 -- a number that took a byte since c may be counted
 pub counts : (s : List ℕ) (c m : Cursor) → Ready s c → Ready s m → m .rounded ≡ c .rounded → c .at + 1 ≤ m .at
     → (b : Bool) → Ready s (tallied b m)

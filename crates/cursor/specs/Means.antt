@@ -87,11 +87,11 @@ pub record Took {A : Type 0} (e : ℕ) (s : List ℕ) (c m : Cursor) (p : Rule A
   pub ready : Ready s m
 
 -- r stands on the first token from `at` on
-pub record Begins (s : List ℕ) (at left rounded : ℕ) (r : Cursor) : Type 0 where
+pub record Begins (s : List ℕ) (at noted counted : ℕ) (r : Cursor) : Type 0 where
   pub is : tokensFrom s at ≡ tokens s r
   pub low : at ≤ r .at
-  pub left : r .left ≡ left
-  pub rounded : r .rounded ≡ rounded
+  pub left : r .left ≡ noted
+  pub rounded : r .rounded ≡ counted
   pub ready : Ready s r
 
 -- m stands behind the head of c

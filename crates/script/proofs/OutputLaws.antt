@@ -156,7 +156,7 @@ pub record Held (t s : List ℕ) (c : ℕ) : Type 0 where
 pub held : (t scratch sheet : List ℕ) {n c k : ℕ} {words left : List ℕ} → (read.Accepted n c k, words, left) ≡ reading t scratch sheet
     → Held t (take n left) c
 unfolding allRecords
-held t scratch sheet {n} {c} {j} {words} {left} e =
+held t scratch sheet {n} {c} {k = j} {words} {left} e =
     let d = due t scratch sheet n c j (ap (λ (r : ReadAnswer × List ℕ × List ℕ). r .0) (sym e)) in
     let ns = d .0 in
     let u = d .1 in

@@ -105,7 +105,7 @@ unfolding Rattle.text.specs.Bytes.same Rattle.text.specs.Bytes.oneOf Rattle.t
     Rattle.grammar.specs.Grammar.tweenFields Rattle.grammar.specs.Grammar.parseTween Rattle.grammar.specs.Grammar.parseSpringPreset
     Rattle.grammar.specs.Grammar.springPreset Rattle.grammar.specs.Grammar.integrator Rattle.grammar.specs.Grammar.criticalDamping
     Rattle.grammar.specs.Grammar.overDamping Rattle.grammar.specs.Grammar.underDamping Rattle.grammar.specs.Grammar.springFields
-    Rattle.grammar.specs.Grammar.parseSpring Rattle.grammar.specs.Grammar.stored Rattle.grammar.specs.Grammar.parseKeyframeTime
+    Rattle.grammar.specs.Grammar.parseSpring Rattle.grammar.specs.Grammar.stored Rattle.grammar.specs.Grammar.keyed Rattle.grammar.specs.Grammar.parseKeyframeTime
     Rattle.grammar.specs.Grammar.keyframeEntry Rattle.grammar.specs.Grammar.trackLoop Rattle.grammar.specs.Grammar.trackFrame
     Rattle.grammar.specs.Grammar.trackStep Rattle.grammar.specs.Grammar.parseKeyframes Rattle.grammar.specs.Grammar.parseSequence
     Rattle.grammar.specs.Grammar.parseParallel Rattle.grammar.specs.Grammar.parseGroup Rattle.grammar.specs.Grammar.parseGridOrigin

@@ -1,4 +1,4 @@
--- Each rule of the grammar refuses at the place of a token. Assumes nothing.
+-- Each rule of the grammar refuses at the place of a token, and counts onto what was counted. Assumes nothing.
 use Prim.Native.Nat.{ℕ, zero, suc}
 use Prim.Native.String.{String}
 use mathlib.Core.Bool.{Bool, true, false, _&&_}
@@ -55,8 +55,10 @@ module _ (n : ℕ) where
 
   needs-row : (o : Option (String × Rule Content)) → RowFound o → Stays n (need UnknownKeyword o >>= fieldValue)
   unfolding fieldValue
-  needs-row none x = record { run = λ l ts h. refuses {A = Content} {r = UnknownKeyword} .run l ts h }
-  needs-row (some f) x = record { run = λ l ts h. then {B = List ℕ × Content} {f = λ c. give (bytes (f .0), c)} x (λ c. gives) .run l ts h }
+  needs-row none x = record { run = λ l ts h. refuses {A = Content} {r = UnknownKeyword} .run l ts h; adds = λ c l ts. refl }
+  needs-row (some f) x =
+      let y = then {B = List ℕ × Content} {f = λ c. give (bytes (f .0), c)} x (λ c. gives) in
+      record { run = λ l ts h. y .run l ts h; adds = λ c l ts. y .adds c l ts }
 
   entry-stays : (p : Rule (List ℕ)) (t : Table) → Stays n p → Rows n t → Stays n (entry p t)
   unfolding entry fieldHead
@@ -87,7 +89,13 @@ module _ (n : ℕ) where
 
   fields-stay : (t : Table) → Rows n t → (fs : Fields) → Stays n (parseFieldList t fs)
   unfolding parseFieldList fieldsStep
-  fields-stay t rows fs = repeats (fieldsStep t) (λ gs. record { run = λ l ts h. item-stays (itemOf (kind ts)) t gs rows .run l ts h }) fs
+  fields-stay t rows fs =
+      repeats (fieldsStep t)
+      (λ gs. record {
+        run = λ l ts h. item-stays (itemOf (kind ts)) t gs rows .run l ts h;
+        adds = λ c l ts. item-stays (itemOf (kind ts)) t gs rows .adds c l ts;
+      })
+      fs
 
   -- ---- names, numbers, values
 
@@ -422,16 +430,18 @@ module _ (n : ℕ) where
         (λ w. begun-stays (w .0) (under leaves (w .1)) (under containers (w .1)) (under-found n leaves (w .1) leaf-rows)
         (under-found n containers (w .1) container-rows))
 
-    nodes-stay : (ns : Nodes Key) → Stays n (nodesStep b ns)
+    pub nodes-stay : (ns : Nodes Key) → Stays n (nodesStep b ns)
     unfolding nodesStep oneNode
     nodes-stay ns = tests ends gives (tests (sees ";") (and {f = give (more ns)} skips gives) (then node-stays (λ x. gives)))
 
-  block-stays : (d : ℕ) → Stays n (block d)
+  pub block-stays : (d : ℕ) → Stays n (block d)
   unfolding block
-  block-stays zero = record { run = λ l ts h. tests (sees "{") {p = refuse TooManyNested} {q = refuse Missing} refuses refuses .run l ts h }
-  block-stays (suc d) = record {
-    run = λ l ts h. in-group 123 (repeats (nodesStep (block d)) (nodes-stay (block d) (block-stays d)) Nodes.none) .run l ts h;
-  }
+  block-stays zero =
+      let x = tests (sees "{") {p = refuse TooManyNested} {q = refuse Missing} refuses refuses in
+      record { run = λ l ts h. x .run l ts h; adds = λ c l ts. x .adds c l ts }
+  block-stays (suc d) =
+      let x = in-group 123 (repeats (nodesStep (block d)) (nodes-stay (block d) (block-stays d)) Nodes.none) in
+      record { run = λ l ts h. x .run l ts h; adds = λ c l ts. x .adds c l ts }
 
   pub input-stays : Stays n animatoInput
   unfolding animatoInput

@@ -1,10 +1,11 @@
--- Rules refuse at the place of a token, and count a number at most for each token: the steps of the grammar. Assumes nothing.
+-- Rules refuse at the place of a token, count a number at most for each token, and count it onto what was counted before: the steps of the
+-- grammar. Assumes nothing.
 use Prim.Native.Nat.{ℕ, zero, suc, _+_, _≤_}
 use Prim.Native.String.{String}
 use mathlib.Core.Bool.{Bool, true, false, cond}
 use mathlib.Core.List.{List, [], _∷_}
 use mathlib.Core.Option.{Option, none, some}
-use mathlib.Core.Path.{_≡_, refl}
+use mathlib.Core.Path.{_≡_, refl, ap, _∙_}
 use native.Mathlib.Omega.{arith}
 use lib.ListN.{length}
 use Rattle.number.specs.Number.{Written}
@@ -16,7 +17,7 @@ use Rattle.token.specs.Names.{nameOf, quoteOf}
 use Rattle.error.specs.declared.Refusal.{Refusal}
 use Rattle.grammar.specs.Rule.{Notes, Out, got, refused, Rule, after, give, need, refuse, if, _>>=_, _>>_, ends, skip}
 use Rattle.grammar.specs.Rule.{seesByte, seesPair, theByte, bothBytes, eatByte, found, word, text, choiceIn, Signed, plain, negated, seesNumber, tally, counted}
-use Rattle.grammar.specs.Rule.{absent, plus, minus, taken, signed, Pass, halts, closes, goes, weigh, depth, passed}
+use Rattle.grammar.specs.Rule.{absent, minus, taken, signed, Pass, halts, closes, goes, weigh, depth, passed}
 use Rattle.grammar.specs.Rule.{behind, firstOf, noted, leave, insideByte, Next, more, done, iterate, repeat, listStep, list}
 use Rattle.grammar.specs.Rule.{next as following}
 
@@ -89,9 +90,22 @@ abbrev pub OutNear : {A : Type 0} → ℕ → Out A → Type 0
 OutNear n (got a l ts) = State n l ts
 OutNear n (refused r p) = p ≤ n
 
+-- with c numbers counted before
+abbrev pub plus : ℕ → Notes → Notes
+plus c l = record { leftover = l .leftover; rounded = c + l .rounded; bound = l .bound }
+
+abbrev pub plusOut : {A : Type 0} → ℕ → Out A → Out A
+plusOut c (got a l ts) = got a (plus c l) ts
+plusOut c (refused r p) = refused r p
+
+-- a rule counts onto what was counted before, which changes nothing else
+abbrev pub Adds : {A : Type 0} → Rule A → Type 0
+Adds p = (c : ℕ) (l : Notes) (ts : List Token) → p (plus c l) ts ≡ plusOut c (p l ts)
+
 -- whatever the tokens, a rule refuses at a place up to n, and leaves such tokens
 pub record Stays {A : Type 0} (n : ℕ) (p : Rule A) : Type 0 where
   pub run : (l : Notes) (ts : List Token) → State n l ts → OutNear n (p l ts)
+  pub adds : Adds p
 
 moved : (n : ℕ) (l : Notes) (ts : List Token) → State n l ts → State n l (rest ts)
 moved n l ts h = record { left = h .left; near = rest-near n ts (h .near); few = omega (arith, h .few, rest-fewer ts) }
@@ -99,20 +113,29 @@ moved n l ts h = record { left = h .left; near = rest-near n ts (h .near); few =
 -- ---- one after the other
 
 pub gives : {A : Type 0} {n : ℕ} {a : A} → Stays n (give a)
-gives = record { run = λ l ts h. h }
+gives = record { run = λ l ts h. h; adds = λ c l ts. refl }
 
 pub refuses : {A : Type 0} {n : ℕ} {r : Refusal} → Stays {A = A} n (refuse r)
-refuses {n = n} = record { run = λ l ts h. place-near n ts (h .near) }
+refuses {n = n} = record { run = λ l ts h. place-near n ts (h .near); adds = λ c l ts. refl }
 
 goes-on : {A B : Type 0} (n : ℕ) (f : A → Rule B) → ((a : A) → Stays n (f a)) → (o : Out A) → OutNear n o → OutNear n (after o f)
 goes-on n f k (got a l ts) h = k a .run l ts h
 goes-on n f k (refused r p) h = h
 
+after-adds : {A B : Type 0} (c : ℕ) (f : A → Rule B) → ((a : A) → Adds (f a)) → (o : Out A) → after (plusOut c o) f ≡ plusOut c (after o f)
+after-adds c f k (got a l ts) = k a c l ts
+after-adds c f k (refused r p) = refl
+
+then-adds : {A B : Type 0} (p : Rule A) (f : A → Rule B) → Adds p → ((a : A) → Adds (f a)) → Adds (p >>= f)
+then-adds p f x k c l ts = ap (λ (o : Out _). after o f) (x c l ts) ∙ after-adds c f k (p l ts)
+
 pub then : {A B : Type 0} {n : ℕ} {p : Rule A} {f : A → Rule B} → Stays n p → ((a : A) → Stays n (f a)) → Stays n (p >>= f)
-then {n = n} {p = p} {f = f} x k = record { run = λ l ts h. goes-on n f k (p l ts) (x .run l ts h) }
+then {n = n} {p = p} {f = f} x k =
+    record { run = λ l ts h. goes-on n f k (p l ts) (x .run l ts h); adds = then-adds p f (x .adds) (λ a. k a .adds) }
 
 pub and : {A B : Type 0} {n : ℕ} {p : Rule A} {f : Rule B} → Stays n p → Stays n f → Stays n (p >> f)
-and {n = n} {p = p} {f = f} x k = record { run = λ l ts h. goes-on n (λ a. f) (λ a. k) (p l ts) (x .run l ts h) }
+and {n = n} {p = p} {f = f} x k =
+    record { run = λ l ts h. goes-on n (λ a. f) (λ a. k) (p l ts) (x .run l ts h); adds = then-adds p (λ a. f) (x .adds) (λ a. k .adds) }
 
 -- two rules as one, and a third behind them
 regroup : {A B C : Type 0} (n : ℕ) (f : A → Rule B) (g : B → Rule C) (o : Out A)
@@ -120,16 +143,23 @@ regroup : {A B C : Type 0} (n : ℕ) (f : A → Rule B) (g : B → Rule C) (o : 
 regroup n f g (got a l ts) h = h
 regroup n f g (refused r p) h = h
 
+regroup-same : {A B C : Type 0} (f : A → Rule B) (g : B → Rule C) (o : Out A) → after (after o f) g ≡ after o (λ a. f a >>= g)
+regroup-same f g (got a l ts) = refl
+regroup-same f g (refused r p) = refl
+
 pub grouped : {A B C : Type 0} {n : ℕ} (p : Rule A) (f : A → Rule B) (g : B → Rule C)
     → Stays n (p >>= λ a. f a >>= g) → Stays n (p >>= f >>= g)
-grouped {n = n} p f g x = record { run = λ l ts h. regroup n f g (p l ts) (x .run l ts h) }
+grouped {n = n} p f g x = record {
+  run = λ l ts h. regroup n f g (p l ts) (x .run l ts h);
+  adds = λ c l ts. rw (regroup-same f g (p (plus c l) ts), regroup-same f g (p l ts)) (x .adds c l ts);
+}
 
 pub conds : {A : Type 0} {n : ℕ} (b : Bool) {p q : Rule A} → Stays n p → Stays n q → Stays n (cond b p q)
 conds true x y = x
 conds false x y = y
 
 pub tests : {A : Type 0} {n : ℕ} (test : List Token → Bool) {p q : Rule A} → Stays n p → Stays n q → Stays n (if test p q)
-tests test x y = record { run = λ l ts h. conds (test ts) x y .run l ts h }
+tests test x y = record { run = λ l ts h. conds (test ts) x y .run l ts h; adds = λ c l ts. conds (test ts) x y .adds c l ts }
 
 pub needs : {A : Type 0} {n : ℕ} (r : Refusal) (o : Option A) → Stays n (need r o)
 needs r none = refuses
@@ -138,7 +168,7 @@ needs r (some a) = gives
 -- ---- tokens
 
 pub skips : {n : ℕ} → Stays n skip
-skips {n = n} = record { run = λ l ts h. moved n l ts h }
+skips {n = n} = record { run = λ l ts h. moved n l ts h; adds = λ c l ts. refl }
 
 pub the-mark : {n : ℕ} (b : ℕ) → Stays n (theByte b)
 the-mark b = tests (seesByte b) skips refuses
@@ -153,22 +183,37 @@ finds : {A B : Type 0} (n : ℕ) (o : Option A) (f : A → B) (l : Notes) (ts : 
 finds n none f l ts h = place-near n ts (h .near)
 finds n (some a) f l ts h = moved n l ts h
 
+finds-adds : {A B : Type 0} (o : Option A) (f : A → B) → Adds (found o f)
+finds-adds none f c l ts = refl
+finds-adds (some a) f c l ts = refl
+
 pub a-word : {n : ℕ} → Stays n word
-a-word {n = n} = record { run = λ l ts h. finds n (nameOf (kind ts)) (λ w. (place ts, w)) l ts h }
+a-word {n = n} = record {
+  run = λ l ts h. finds n (nameOf (kind ts)) (λ w. (place ts, w)) l ts h;
+  adds = λ c l ts. finds-adds (nameOf (kind ts)) (λ w. (place ts, w)) c l ts;
+}
 
 pub a-text : {n : ℕ} → Stays n text
-a-text {n = n} = record { run = λ l ts h. finds n (quoteOf (kind ts)) (λ m. (suc (place ts), m)) l ts h }
+a-text {n = n} = record {
+  run = λ l ts h. finds n (quoteOf (kind ts)) (λ m. (suc (place ts), m)) l ts h;
+  adds = λ c l ts. finds-adds (quoteOf (kind ts)) (λ m. (suc (place ts), m)) c l ts;
+}
 
 pub a-choice : {n : ℕ} (r : Refusal) (ns : List (List ℕ)) → Stays n (choiceIn r ns)
 a-choice r ns = then a-word (λ w. needs r (find ns 0 (w .1)))
 
 takes : (n : ℕ) (r : Refusal) (x : Signed) (l : Notes) (ts : List Token) → State n l ts → OutNear n (taken r x l ts)
 takes n r absent l ts h = place-near n ts (h .near)
-takes n r (plus w) l ts h = moved n l ts h
+takes n r (Signed.plus w) l ts h = moved n l ts h
 takes n r (minus w) l ts h = moved n l (rest ts) (moved n l ts h)
 
+takes-adds : (r : Refusal) (x : Signed) → Adds (taken r x)
+takes-adds r absent c l ts = refl
+takes-adds r (Signed.plus w) c l ts = refl
+takes-adds r (minus w) c l ts = refl
+
 pub a-number : {n : ℕ} (view : List Token → Signed) (r : Refusal) → Stays n (signed view r)
-a-number {n = n} view r = record { run = λ l ts h. takes n r (view ts) l ts h }
+a-number {n = n} view r = record { run = λ l ts h. takes n r (view ts) l ts h; adds = λ c l ts. takes-adds r (view ts) c l ts }
 
 -- ---- counting
 
@@ -180,12 +225,23 @@ pub record Spare (n : ℕ) (l : Notes) (ts : List Token) : Type 0 where
 
 pub record Spends {A : Type 0} (n : ℕ) (p : Rule A) : Type 0 where
   pub run : (l : Notes) (ts : List Token) → Spare n l ts → OutNear n (p l ts)
+  pub adds : Adds p
 
 pub refuses-too : {A : Type 0} {n : ℕ} {r : Refusal} → Spends {A = A} n (refuse r)
-refuses-too {n = n} = record { run = λ l ts h. place-near n ts (h .near) }
+refuses-too {n = n} = record { run = λ l ts h. place-near n ts (h .near); adds = λ c l ts. refl }
+
+tally-plus : (b : Bool) (c : ℕ) (l : Notes) → tally b (plus c l) ≡ plus c (tally b l)
+tally-plus true c l = ap (λ (k : ℕ). record-of k) (omega arith)
+  where
+    record-of : ℕ → Notes
+    record-of k = record { leftover = l .leftover; rounded = k; bound = l .bound }
+tally-plus false c l = refl
 
 pub tallies : {A : Type 0} {n : ℕ} {p : Rule A} (b : Bool) → Stays n p → Spends n (counted b >> p)
-tallies {n = n} b x = record { run = λ l ts h. x .run (tally b l) ts (record { left = h .left; near = h .near; few = few b l ts h }) }
+tallies {n = n} {p = p} b x = record {
+  run = λ l ts h. x .run (tally b l) ts (record { left = h .left; near = h .near; few = few b l ts h });
+  adds = λ c l ts. ap (λ (m : Notes). p m ts) (tally-plus b c l) ∙ x .adds c (tally b l) ts;
+}
   where
     few : (b : Bool) (l : Notes) (ts : List Token) → Spare n l ts → tally b l .rounded + length ts ≤ suc n
     few true l ts h = omega (arith, h .few)
@@ -198,14 +254,19 @@ conds-too false x y = y
 -- a mark that may stand there, but not where b holds
 pub eats-too : {A : Type 0} {n : ℕ} {f : Bool → Rule A} (b : Bool) (c : ℕ) → ((x : Bool) → Spends n (f x))
     → Spends n (cond b (give false) (eatByte c) >>= f)
-eats-too {n = n} {f = f} true c k = record { run = λ l ts h. k false .run l ts h }
-eats-too {n = n} {f = f} false c k = record { run = λ l ts h. go l ts h (seesByte c ts) }
+eats-too {n = n} {f = f} true c k = record { run = λ l ts h. k false .run l ts h; adds = λ d l ts. k false .adds d l ts }
+eats-too {n = n} {f = f} false c k = record { run = λ l ts h. go l ts h (seesByte c ts); adds = λ d l ts. same-count d l ts (seesByte c ts) }
   where
     go : (l : Notes) (ts : List Token) → Spare n l ts → (y : Bool) → OutNear n (after (cond y (skip >> give true) (give false) l ts) f)
     go l ts h true =
         k true .run l (rest ts)
         (record { left = h .left; near = rest-near n ts (h .near); few = omega (arith, h .few, rest-fewer ts) })
     go l ts h false = k false .run l ts h
+
+    same-count : (d : ℕ) (l : Notes) (ts : List Token) (y : Bool)
+        → after (cond y (skip >> give true) (give false) (plus d l) ts) f ≡ plusOut d (after (cond y (skip >> give true) (give false) l ts) f)
+    same-count d l ts true = k true .adds d l (rest ts)
+    same-count d l ts false = k false .adds d l ts
 
 -- behind a number the tokens are one fewer
 module _ {A : Type 0} (n : ℕ) (r : Refusal) (f : Bool × Written → Rule A) (k : (w : Bool × Written) → Spends n (f w)) where
@@ -229,8 +290,14 @@ module _ {A : Type 0} (n : ℕ) (r : Refusal) (f : Bool × Written → Rule A) (
   minus-near l ts (token q (mark b) ∷ us) g e h = g
 
   pub a-float : Stays n (signed seesNumber r >>= f)
-  a-float = record { run = λ l ts h. go l ts h (seesByte 45 ts) }
+  a-float = record { run = λ l ts h. go l ts h (seesByte 45 ts); adds = λ c l ts. same-count c l ts (seesNumber ts) }
     where
+      same-count : (c : ℕ) (l : Notes) (ts : List Token) (x : Signed)
+          → after (taken r x (plus c l) ts) f ≡ plusOut c (after (taken r x l ts) f)
+      same-count c l ts absent = refl
+      same-count c l ts (Signed.plus w) = k (false, w) .adds c l (rest ts)
+      same-count c l ts (minus w) = k (true, w) .adds c l (rest (rest ts))
+
       go : (l : Notes) (ts : List Token) → State n l ts → (b : Bool)
           → OutNear n (after (taken r (cond b (negated (plain (kind (rest ts)))) (plain (kind ts))) l ts) f)
       go l ts h true = minus-near l ts (rest ts) (place-near n ts (h .near)) refl (moved n l ts h)
@@ -243,8 +310,14 @@ first-near n none p h g = g
 first-near n (some q) p h g = h
 
 pub leaves : {n : ℕ} → Stays n leave
-leaves {n = n} = record { run = λ l ts h. go l ts h (ends ts) }
+leaves {n = n} = record { run = λ l ts h. go l ts h (ends ts); adds = λ c l ts. same-count c l ts (ends ts) }
   where
+    same-count : (c : ℕ) (l : Notes) (ts : List Token) (b : Bool)
+        → cond {A = Out Unit} b (got tt (plus c l) (rest ts)) (got tt (noted (plus c l) (place ts)) (behind 0 ts))
+        ≡ plusOut c (cond {A = Out Unit} b (got tt l (rest ts)) (got tt (noted l (place ts)) (behind 0 ts)))
+    same-count c l ts true = refl
+    same-count c l ts false = refl
+
     go : (l : Notes) (ts : List Token) → State n l ts → (b : Bool)
         → OutNear n (cond {A = Out Unit} b (got tt l (rest ts)) (got tt (noted l (place ts)) (behind 0 ts)))
     go l ts h true = moved n l ts h
@@ -263,16 +336,21 @@ on : {A : Type 0} (n : ℕ) (again : A → Rule A) → ((b : A) → Stays n (aga
 on n again k (more b) = k b
 on n again k (done b) = gives
 
-steps-stay : {A : Type 0} (n : ℕ) (step : A → Rule (Next A)) → ((a : A) → Stays n (step a)) → (k : ℕ) (a : A) → Stays n (iterate step k a)
+pub steps-stay : {A : Type 0} (n : ℕ) (step : A → Rule (Next A)) → ((a : A) → Stays n (step a)) → (k : ℕ) (a : A) → Stays n (iterate step k a)
 unfolding iterate
-steps-stay n step h zero a = record { run = λ l ts g. g }
+steps-stay n step h zero a = record { run = λ l ts g. g; adds = λ c l ts. refl }
 steps-stay n step h (suc k) a = record {
   run = λ l ts g. goes-on n (following (λ b. iterate step k b)) (on n (λ b. iterate step k b) (λ b. steps-stay n step h k b)) (step a l ts)
       (h a .run l ts g);
+  adds = then-adds (step a) (following (λ b. iterate step k b)) (h a .adds)
+      (λ x. on n (λ b. iterate step k b) (λ b. steps-stay n step h k b) x .adds);
 }
 
 pub repeats : {A : Type 0} {n : ℕ} (step : A → Rule (Next A)) → ((a : A) → Stays n (step a)) → (a : A) → Stays n (repeat step a)
-repeats {n = n} step h a = record { run = λ l ts g. steps-stay n step h (l .bound) a .run l ts g }
+repeats {n = n} step h a = record {
+  run = λ l ts g. steps-stay n step h (l .bound) a .run l ts g;
+  adds = λ c l ts. steps-stay n step h (l .bound) a .adds c l ts;
+}
 
 pub lists : {A : Type 0} {n : ℕ} (item : A → Rule A) → ((a : A) → Stays n (item a)) → (a : A) → Stays n (list item a)
 lists item h a = repeats (listStep item) (λ a. tests ends gives (then (h a) (λ b. then (eats 44) (λ c. gives)))) a
@@ -300,8 +378,8 @@ under-found n (f ∷ t) w h = picks n (same w (bytes (f .0))) (f .1) (under t w)
 needs-rule : {A B : Type 0} (n : ℕ) (r : Refusal) (o : Option (Rule A)) (f : Rule A → Rule B)
     → Found n o → ((p : Rule A) → Stays n p → Stays n (f p))
     → Stays n (need r o >>= f)
-needs-rule n r none f x k = record { run = λ l ts h. place-near n ts (h .near) }
-needs-rule n r (some p) f x k = record { run = λ l ts h. k p x .run l ts h }
+needs-rule n r none f x k = record { run = λ l ts h. place-near n ts (h .near); adds = λ c l ts. refl }
+needs-rule n r (some p) f x k = record { run = λ l ts h. k p x .run l ts h; adds = λ c l ts. k p x .adds c l ts }
 
 -- f goes on with the rule that is found
 pub by-word : {A B : Type 0} {n : ℕ} (r : Refusal) (t : List (String × Rule A)) (w : List ℕ) (f : Rule A → Rule B)

@@ -23,7 +23,7 @@ enum-known-negative c = search needs
 
 count-requires : tie.Need-count-requires
 count-requires c κs =
-    let at-negative = c .before .before .before in
+    let at-negative = c .before .before in
     let n = rw (at-negative .negative .given .1) at (at-negative .before .before .number .ensures) in
     omega (arith, n .ready .few, n .ready .high, n .ready .short)
 
@@ -37,7 +37,7 @@ returns c = let n = rw (c .before .p .given .1) at (c .before .before .before .n
 returns-2 : tie.Need-returns-2
 unfolding parseFloat nearest numberRounded
 returns-2 c =
-    let at-decimal = c .before .before in
+    let at-decimal = c .before in
     let at-negative = at-decimal .before .before in
     let at-number = at-negative .before .before in
     let start = at-number .before .before in
@@ -48,7 +48,7 @@ returns-2 c =
       record {
         is = rw (t .is, c .count .ensures, x .0, x .1);
         low = rw (c .count .ensures) (n .low);
-        ready = rw (c .count .ensures) (counts (args .text .now) (args .c) _ (start .pre) (n .ready) (n .rounded) (n .low) _);
+        ready = rw (c .count .ensures) (counts (args .text .now) (args .c) _ (start .pre) (n .ready) (n .rounded) (n .low) (at-decimal .decimal .result .rounded));
       },
       rw (x .0) (round-number _ _ _),
     )

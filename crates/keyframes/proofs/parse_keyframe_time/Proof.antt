@@ -1,3 +1,4 @@
+use Rattle.text.specs.Bytes.{at}
 -- `keyframes::parse_keyframe_time` meets its contract. Assumes nothing.
 use Rattle.keyframes.proofs.TimeLaws.{no-time, percent-suffix, took-time}
 use mathlib.Core.Path.{sym, _∙_}
@@ -43,10 +44,7 @@ time-of-requires c κs =
     (rw (at-negative .negative .given .1) at (at-number .number .ensures)) .small
 
 count-requires : tie.Need-count-requires
-count-requires c κs =
-    let at-percent-sign = c .before .before .before .before .before in
-    let r = at-percent-sign .percent-sign .ensures .ready in
-    omega (arith, r .few, r .high, r .short)
+count-requires c κs = let r = c .before .before .before .before .percent-sign .ensures .ready in omega (arith, r .few, r .high, r .short)
 
 returns-2 : tie.Need-returns-2
 returns-2 c =
@@ -55,26 +53,7 @@ returns-2 c =
     no-time (args .text .now) (args .c) _ (rw (c .before .p .given .1) at (at-number .number .ensures))
 
 returns-3 : tie.Need-returns-3
-returns-3 c =
-    let at-time-of = c .before .before in
-    let at-all = at-time-of .before .before in
-    let at-percent-sign = at-all .before .before in
-    let at-negative = at-percent-sign .before .before in
-    let at-number = at-negative .before .before in
-    let start = at-number .before .before in
-    let args = start .args in
-    took-time
-    (args .text .now)
-    (args .c)
-    _ _ _ _
-    (rw (at-negative .negative .given .1) at (at-number .number .ensures))
-    _
-    (at-percent-sign .percent-sign .ensures)
-    (sym (at-all .all .ensures) ∙ at-time-of .before .if1 .left)
-    (start .pre)
-    (at-time-of .time-of .ensures .0)
-    (at-time-of .time-of .ensures .1)
-    (c .count .ensures)
+returns-3 c = took-time (c .before .before .before .before .before .before .before .before .before .before .before .args .text .now) (c .before .before .before .before .before .before .before .before .before .before .before .args .c) _ _ _ _ (rw (c .before .before .before .before .before .before .before .negative .given .1) at (c .before .before .before .before .before .before .before .before .before .number .ensures)) _ (c .before .before .before .before .before .percent-sign .ensures) (sym (c .before .before .before .all .ensures) ∙ c .before .before .if1 .left) (c .before .before .before .before .before .before .before .before .before .before .before .pre) (c .before .time-of .ensures .0) (c .before .time-of .ensures .1) (c .count .ensures)
 
 pub parse-keyframe-time-spec : {M : Type 1} → statement M
 parse-keyframe-time-spec =

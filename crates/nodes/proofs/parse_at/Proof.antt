@@ -34,39 +34,38 @@ decimal-requires c κs =
 
 count-requires : tie.Need-count-requires
 count-requires c κs =
-    let at-negative = c .before .before .before .before in
-    let n = rw (at-negative .negative .given .1) at (at-negative .before .before .number .ensures) in
+    let at-negative = c .before .before .before in
+    let at-number = at-negative .before .before in
+    let n = rw (at-negative .negative .given .1) at (at-number .number .ensures) in
     omega (arith, n .ready .few, n .ready .high, n .ready .short)
 
 eat-requires : tie.Need-eat-requires
 eat-requires c κs =
-    let at-negative = c .before .before .before .before .before in
+    let at-negative = c .before .before .before .before in
     let at-number = at-negative .before .before in
     let at-at-sign = at-number .before .before in
-    let n = rw (at-negative .negative .given .1) at (at-number .number .ensures) in
-    (rw (c .count .ensures) (counts _ _ _ (at-at-sign .at-sign .ensures .ready) (n .ready) (n .rounded) (n .low) _), omega arith)
+    let n = rw (at-negative .negative .given .1) at (at-number .number .ensures) in (
+      rw (c .count .ensures)
+          (counts _ _ _ (at-at-sign .at-sign .ensures .ready) (n .ready) (n .rounded) (n .low) (c .before .decimal .result .rounded)),
+      omega arith,
+    )
 
 put-float-requires : tie.Need-put-float-requires
 put-float-requires c κs =
-    let at-decimal = c .before in
-    let c9 = at-decimal .before .before .before .before in
-    let c13 = c9 .before .before .before .before in
-    let start = c13 .before .before .before in
+    let at-decimal = c .before .before .before in
+    let c7 = at-decimal .before .before .before .before in
+    let c11 = c7 .before .before .before .before in
+    let start = c11 .before .before in
     (omega (arith, start .pre .1 .low), rw (at-decimal .decimal .ensures .0) (round-number _ _ _))
 
 put-flag-requires : tie.Need-put-flag-requires
 put-flag-requires c κs =
     let at-put-float = c .before .before .before in
-    let at-decimal = at-put-float .before .before in
-    let c13 = at-decimal .before .before .before .before in
-    let c17 = c13 .before .before .before .before in
-    let start = c17 .before .before .before in
-    omega (
-      arith,
-      start .pre .1 .low,
-      at-put-float .put-float .ensures .place,
-      length-word (bits (at-decimal .decimal .result .value)),
-    )
+    let at-decimal = at-put-float .before .before .before .before in
+    let c11 = at-decimal .before .before .before .before in
+    let c15 = c11 .before .before .before .before in
+    let start = c15 .before .before in
+    omega (arith, start .pre .1 .low, at-put-float .put-float .ensures .place, length-word (bits (at-decimal .decimal .result .value)))
 
 returns : tie.Need-returns
 returns c =
@@ -84,7 +83,7 @@ returns-2 c =
     let at-put-float = at-put-flag .before .before .before .before in
     let at-eat = at-put-float .before .before in
     let at-count = at-eat .before in
-    let at-decimal = at-count .before .before in
+    let at-decimal = at-count .before in
     let at-turned = at-decimal .before in
     let at-negative = at-turned .before .before in
     let at-number = at-negative .before .before in
