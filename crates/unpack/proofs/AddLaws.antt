@@ -6,7 +6,7 @@ use mathlib.Core.Path.{_≡_, refl, sym, ap, _∙_}
 use Rattle.number.specs.Time.{Key}
 use Rattle.token.specs.Token.{Token, rest}
 use Rattle.ast.specs.Tree.{Nodes, leaf, box, MotionNode, push, append}
-use Rattle.grammar.specs.Rule.{Notes, Out, got, refused, Rule, after, give, sees, ends, skip, _>>_, more, done, iterate}
+use Rattle.grammar.specs.Rule.{Notes, Out, got, refused, Rule, after, give, if, sees, ends, skip, _>>_, Next, more, done, iterate}
 use Rattle.grammar.specs.Rule.{next as following}
 use Rattle.grammar.specs.Grammar.{parseNode, oneNode, nodesStep, block}
 use Rattle.unpack.proofs.StepLaws.{plus, plusOut, steps-stay}
@@ -33,30 +33,39 @@ behind-both ns ms (refused r p) = refl
 
 module _ (b : Rule (Nodes Key)) where
   -- a reader that goes on behind the nodes ns
-  on-behind : (k : ℕ) (ns : Nodes Key) (l : Notes) (ts : List Token)
+  abbrev OnBehind : ℕ → Type 0
+  OnBehind k =
+      (ns : Nodes Key) (l : Notes) (ts : List Token)
       → iterate (nodesStep b) k ns l ts ≡ behindNodes ns (iterate (nodesStep b) k Nodes.none l ts)
 
-  one-more : (k : ℕ) (ns : Nodes Key) (o : Out (MotionNode Key))
-      → after (after o (λ n. give (more (append ns (push n Nodes.none))))) (following (iterate (nodesStep b) k))
-      ≡ behindNodes ns (after (after o (λ n. give (more (push n Nodes.none)))) (following (iterate (nodesStep b) k)))
-  one-more k ns (got n l ts) =
-      on-behind k (append ns (push n Nodes.none)) l ts
+  one-more : (k : ℕ) → OnBehind k → (ns : Nodes Key) (o : Out (MotionNode Key))
+      → after (after o (λ n. give (more (append ns (push n Nodes.none))))) (following (λ ms. iterate (nodesStep b) k ms))
+      ≡ behindNodes ns (after (after o (λ n. give (more (push n Nodes.none)))) (following (λ ms. iterate (nodesStep b) k ms)))
+  one-more k h ns (got n l ts) =
+      h (append ns (push n Nodes.none)) l ts
       ∙ behind-both ns (push n Nodes.none) (iterate (nodesStep b) k Nodes.none l ts)
-      ∙ sym (ap (behindNodes ns) (on-behind k (push n Nodes.none) l ts))
-  one-more k ns (refused r p) = refl
+      ∙ sym (ap (behindNodes ns) (h (push n Nodes.none) l ts))
+  one-more k h ns (refused r p) = refl
 
+  on-behind : (k : ℕ) → OnBehind k
   unfolding iterate nodesStep oneNode
   on-behind zero ns l ts = ap (λ (x : Nodes Key). got x l ts) (sym (append-none ns))
-  on-behind (suc k) ns l ts = go (ends ts) (sees ";" ts)
+  on-behind (suc k) ns l ts = go (on-behind k) (ends ts)
     where
-      step : Nodes Key → Bool → Bool → Out (Nodes Key)
-      step ms x y =
-          after (cond x (give (done ms)) (cond y (skip >> give (more ms)) (oneNode b ms)) l ts) (following (iterate (nodesStep b) k))
+      again : Out (Next (Nodes Key)) → Out (Nodes Key)
+      again o = after o (following (λ ms. iterate (nodesStep b) k ms))
 
-      go : (x y : Bool) → step ns x y ≡ behindNodes ns (step Nodes.none x y)
-      go true y = ap (λ (x : Nodes Key). got x l ts) (sym (append-none ns))
-      go false true = on-behind k ns l (rest ts)
-      go false false = one-more k ns (parseNode b l ts)
+      node : OnBehind k → (y : Bool)
+          → again (cond y (skip >> give (more ns)) (oneNode b ns) l ts)
+          ≡ behindNodes ns (again (cond y (skip >> give (more Nodes.none)) (oneNode b Nodes.none) l ts))
+      node h true = h ns l (rest ts)
+      node h false = one-more k h ns (parseNode b l ts)
+
+      go : OnBehind k → (x : Bool)
+          → again (cond x (give (done ns)) (if (sees ";") (skip >> give (more ns)) (oneNode b ns)) l ts)
+          ≡ behindNodes ns (again (cond x (give (done Nodes.none)) (if (sees ";") (skip >> give (more Nodes.none)) (oneNode b Nodes.none)) l ts))
+      go h true = ap (λ (x : Nodes Key). got x l ts) (sym (append-none ns))
+      go h false = node h (sees ";" ts)
 
 -- "scripts put one after another add up": a reader that has the nodes ns of a script, c numbers of it counted, and goes on with the tokens of
 -- a further one gives the nodes of both, and c more than the further one's count

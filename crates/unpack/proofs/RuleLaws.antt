@@ -4,9 +4,10 @@ use Prim.Native.String.{String}
 use mathlib.Core.Bool.{Bool, true, false, _&&_}
 use mathlib.Core.List.{List, [], _∷_}
 use mathlib.Core.Option.{Option, none, some}
+use mathlib.Core.Path.{refl}
 use Rattle.text.specs.Bytes.{bytes, same}
 use Rattle.text.specs.Words.{words, under}
-use Rattle.number.specs.Number.{whole}
+use Rattle.number.specs.Number.{whole, nearest, bits}
 use Rattle.number.specs.Rounded.{numberRounded, timeRounded}
 use Rattle.number.specs.Time.{Key}
 use Rattle.token.specs.Token.{kind}
@@ -28,7 +29,7 @@ use Rattle.grammar.specs.Grammar.{trackStep, parseKeyframes, parseSequence, par
 use Rattle.grammar.specs.Grammar.{gridFields, gridPattern, randomFields, randomPattern, patterns, parseStaggerPattern, Opening}
 use Rattle.grammar.specs.Grammar.{openingFields, openingField, openingStep, parseStagger, offset, pathFields, parsePath}
 use Rattle.grammar.specs.Grammar.{morphFields, parseMorph, drawFields, parseDraw, space, colorFields, parseColor, waveformKind}
-use Rattle.grammar.specs.Grammar.{waveformFields, parseWaveform, parsePresetCall, parseLabel, atSign, parseAt, leaves}
+use Rattle.grammar.specs.Grammar.{waveformFields, parseWaveform, parsePresetCall, parseLabel, atSign, turned, parseAt, leaves}
 use Rattle.grammar.specs.Grammar.{containers, orContainer, beginning, nodeBy, parseNode}
 use Rattle.grammar.specs.Grammar.{oneNode, nodesStep, block, animatoInput, underDamping}
 use Rattle.limits.proofs.ListLaws.{_also_}
@@ -401,7 +402,10 @@ module _ (n : ℕ) where
   unfolding parseAt atSign
   at-stays =
       then (then (eats 43) (λ p. then (conds p gives (eats 45)) (λ m. gives)))
-      (λ s. a-float n Malformed _ (λ w. tallies _ (and (eats 59) gives)))
+      (λ s. a-float n Malformed _
+      (λ w.
+      let x : Leaf Key = Leaf.at (record { value = bits (nearest (turned (s .1) (w .0)) (w .1)); relative = s .0 }) in
+      tallies (numberRounded (turned (s .1) (w .0)) (w .1)) (and (eats 59) (gives {a = x}))))
 
   -- ---- nodes
 

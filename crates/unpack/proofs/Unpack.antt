@@ -99,7 +99,7 @@ judged-within : (x : Fed) → CheckWithin (judgement x)
 judged-within x = by (readOf x) (read-within (x .text) (x .scratch) (x .sheet))
   where
     by : (y : ReadAnswer × List ℕ × List ℕ) → ReadWithin (y .0) → CheckWithin (whenRead (x .text) y)
-    by (read.Accepted n c, words, s) h = check-within (x .text) (take n s)
+    by (read.Accepted n c j, words, s) h = check-within (x .text) (take n s)
     by (read.Refused r p, words, s) h = omega arith
 
 pub feed-parts : (ws : List ℕ) (x : Fed) → FedParts (feeding ws x .0) (packedFed (feeding ws x .0))
