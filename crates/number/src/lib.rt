@@ -164,18 +164,15 @@ pub fn bits_of(x: f32) -> u32
     f32::to_bits(x)
 }
 
-// A whole percent: n as an f32 with its sign, divided by 100.0. Up to 2^24 that is n / 100 rounded once; above, it equals
-// n / 100 exactly if n / 100 is an f32 and the two roundings meet it.
+// A whole percent: n as an f32 with its sign, divided by 100.0. It is n / 100 exactly if the f32 nearest to n / 100 is, and
+// is the same.
 pub fn percent(negative: bool, n: u64) -> Stored
     ensures value { λ r. ⌜ r .value ≡ Number.percent negative n ⌝ }
     ensures rounded { λ r. ⌜ r .rounded ≡ rounded (Number.percent negative n) (fraction negative n 100) ⌝ }
 {
-    let once = decimal(negative, n, 2);
-    if n <= 16777216 {
-        return once;
-    }
     let x = decimal(negative, n, 0);
     let value = x.value / 100.0;
+    let once = decimal(negative, n, 2);
     if once.rounded {
         return Stored {
             value,
