@@ -28,7 +28,8 @@ use Rattle.grammar.specs.Rule.{eatByte, skip, _>>_, Signed, absent, plus, minus
 use Rattle.grammar.specs.Rule.{taken, signed, Pass, halts, closes, goes, closing, depth, weigh, behind, ends, isEnd, firstOf, leave}
 use Rattle.error.specs.declared.Refusal.{Refusal}
 use Rattle.error.specs.declared.Refusal.the-variants.{Missing}
-use Rattle.cursor.specs.Means.{nothing, leftOf, headOf, Ready, notes, tokens, run, Took, Begins, Follows, Behind, tallied, sign, past, Numbers}
+use Rattle.cursor.specs.Means.{nothing, leftOf, headOf, Ready, notes, tokens, run, Took}
+use Rattle.cursor.specs.Means.{Begins, Follows, Behind, tallied, sign, past, Numbers}
 use Rattle.cursor.specs.declared.Cursor.{Cursor}
 
 -- ---- the head
@@ -96,7 +97,11 @@ module _ (s : List ℕ) (c m : Cursor) (r : Ready s c) (f : Follows s c m) where
   pub took : {A : Type 0} (p : Rule A) (x : A) → isMark (kind (tokens s c)) 0 ≡ false
       → run s c p ≡ got x (notes s c) (rest (tokens s c))
       → Took 1 s c m p x
-  took p x e h = record { is = h ∙ (rw (f .rest, f .left, f .rounded)); low = let a = head-moves s c r e in omega (arith, f .at); ready = f .ready }
+  took p x e h = record {
+    is = h ∙ (rw (f .rest, f .left, f .rounded));
+    low = let a = head-moves s c r e in omega (arith, f .at);
+    ready = f .ready;
+  }
 
   pub took-mark : (d : ℕ) → 0 < d → seesByte d (tokens s c) ≡ true → Took 1 s c m (theByte d) tt
   took-mark d h e = took (theByte d) tt (no-end (kind (tokens s c)) d e h) (rw e)
@@ -185,7 +190,18 @@ pub took-both : (s : List ℕ) (c m u : Cursor) (r : Ready s c) (f : Follows s c
 took-both s c m u r f g a b h x y e =
     let q : place (tokens s m) ≡ suc (place (tokens s c)) = head-place s m (f .ready) ∙ e ∙ (rw (add-one, r .head .place)) in
     record {
-      is = rw (x, f .rest, y, eq-eqb (place (tokens s m)) (suc (place (tokens s c))) q, f .rest, g .rest, g .left, f .left, g .rounded, f .rounded);
+      is = rw (
+        x,
+        f .rest,
+        y,
+        eq-eqb (place (tokens s m)) (suc (place (tokens s c))) q,
+        f .rest,
+        g .rest,
+        g .left,
+        f .left,
+        g .rounded,
+        f .rounded,
+      );
       low = let i = head-moves s c r (no-end (kind (tokens s c)) a x h) in let j = moved-low s m u (f .ready) g in omega (arith, f .at);
       ready = g .ready;
     }
@@ -403,7 +419,11 @@ module _ (s : List ℕ) (c m : Cursor) (d : ℕ) (w : Leaving s c m d) where
 
 -- leaving at the group's end, and with something left
 pub leave-end : (s : List ℕ) (c m : Cursor) → Ready s c → Follows s c m → ends (tokens s c) ≡ true → Took 0 s c m leave tt
-leave-end s c m r f e = record { is = rw (e, f .rest, f .left, f .rounded); low = let a = moved-low s c m r f in omega arith; ready = f .ready }
+leave-end s c m r f e = record {
+  is = rw (e, f .rest, f .left, f .rounded);
+  low = let a = moved-low s c m r f in omega arith;
+  ready = f .ready;
+}
 
 pub leave-left : (s : List ℕ) (c m u : Cursor) → Ready s c → Behind s c m
     → ends (tokens s c) ≡ false → u .at ≡ m .at → headOf u ≡ headOf m

@@ -279,7 +279,8 @@ refused-adds : (ws : List ℕ) (r : Refusal) (p : ℕ) {after : List ℕ} → af
 unfolding sumOf
 refused-adds ws r p q = q ∙ added-same 0 (inWord (numberOf r) 1) (λ i. inWord (numberOf r) 1 i + 0) (λ i. omega arith) ws
 
-module _ (t scratch sheet : List ℕ) {n c j : ℕ} {words left : List ℕ} (q : (read.Accepted n c j, words, left) ≡ reading t scratch sheet) where
+module _ (t scratch sheet : List ℕ) {n c j : ℕ} {words left : List ℕ}
+    (q : (read.Accepted n c j, words, left) ≡ reading t scratch sheet) where
   judged-as : {v : CheckAnswer} → v ≡ checking t (take n left) → judgement (fed t scratch sheet) ≡ v
   judged-as f = ap (whenRead t) (sym q) ∙ sym f
 

@@ -81,7 +81,8 @@ module _ (t : List ℕ) (ns : Nodes Key) (short : length t ≤ textLimit) {k : �
       (record { leftover = none; rounded = 0; bound = suc (length t) }))
 
 -- the counts, numbers, positions, spans and the nesting are within the sheet's limits
-pub parses-fits : (t : List ℕ) (ns : Nodes Key) → length t ≤ textLimit → {k : ℕ} → parse t ≡ tree ns k → Fits (length t) (mapTimes stored ns)
+pub parses-fits : (t : List ℕ) (ns : Nodes Key) → length t ≤ textLimit
+    → {k : ℕ} → parse t ≡ tree ns k → Fits (length t) (mapTimes stored ns)
 unfolding Fits
 parses-fits t ns short e =
     let w = whole t ns short e in sized-ok t short 16 (mapTimes stored ns) (omega (arith, w .high, w .post .count)) (w .post .ok)

@@ -203,7 +203,8 @@ sum-added i n f ws h =
 
 -- ---- the nodes of a script
 
-module _ (t scratch sheet : List ℕ) {n c j : ℕ} {words left : List ℕ} (q : (read.Accepted n c j, words, left) ≡ reading t scratch sheet) where
+module _ (t scratch sheet : List ℕ) {n c j : ℕ} {words left : List ℕ}
+    (q : (read.Accepted n c j, words, left) ≡ reading t scratch sheet) where
   nodes-counted : length (nodesIn (decode (length t) (take n left))) ≡ c
   unfolding allRecords
   nodes-counted =

@@ -1,7 +1,8 @@
 -- When the nearest f32 to a fraction is the fraction: where its division left nothing. Assumes nothing.
 use mathlib.Core.Path.{_≡_, refl, sym, ap, _∙_, subst}
 use Prim.Native.Nat.{ℕ, _+_, _-_, _*_, _/_, _%_, _^_, _≤_, _<_}
-use native.Mathlib.Nat.{mul-comm, mul-assoc, mul-right-comm, mul-pos, eq-of-mul-eq-mul-right, mul-mod-left, div-add-mod', add-zero, zero-mul}
+use native.Mathlib.Nat.{mul-comm, mul-assoc, mul-right-comm, mul-pos, eq-of-mul-eq-mul-right}
+use native.Mathlib.Nat.{mul-mod-left, div-add-mod', add-zero, zero-mul}
 use native.Mathlib.Omega.{arith}
 use mathlib.Core.Bool.{Bool, true, false, not, cond}
 use lib.Dec.{T, ltb, eqb, eqb→eq, lt→ltb, lit<}

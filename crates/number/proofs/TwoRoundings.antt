@@ -1,7 +1,8 @@
 -- What is rounded twice on its way to n / 100: it is n / 100 exactly if n / 100 is an f32, and it equals that. Assumes nothing.
 use mathlib.Core.Path.{_≡_, refl, sym, ap, _∙_, subst}
 use Prim.Native.Nat.{ℕ, zero, suc, _+_, _-_, _*_, _%_, _^_, _≤_, _<_, suc-le-suc}
-use native.Mathlib.Nat.{lt-irrefl, lt-of-not-le, not-le-of-lt, mul-one, mul-assoc, mul-right-comm, mul-pos, zero-mul, eq-of-mul-eq-mul-right}
+use native.Mathlib.Nat.{lt-irrefl, lt-of-not-le, not-le-of-lt, mul-one, mul-assoc}
+use native.Mathlib.Nat.{mul-right-comm, mul-pos, zero-mul, eq-of-mul-eq-mul-right}
 use native.Mathlib.Omega.{arith}
 use mathlib.Core.Bool.{Bool, true, false, not, _&&_}
 use lib.Dec.{T, T-not, leb, ltb, eqb, leb→le, ltb→lt, eqb→eq, lit<}

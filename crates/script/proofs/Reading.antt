@@ -90,7 +90,13 @@ due t scratch sheet n c k e = go (early (length t) (length scratch)) refl (subst
     go none q h =
         let d = early-due (length t) (length scratch) q in
         let p = parsed-due t (length sheet) (parse t) h in
-        let u : Unrefused t (length scratch) (length sheet) (p .0) (p .1) = record { short = d .0; scratch = d .1; parses = p .2; fits = p .3 } in
+        let u : Unrefused t (length scratch) (length sheet) (p .0) (p .1) = record {
+          short = d .0;
+          scratch = d .1;
+          parses = p .2;
+          fits = p .3;
+        }
+        in
         let a = ap (λ (r : ReadAnswer × List ℕ × List ℕ). r .0) (accepts t scratch sheet (p .0) (p .1) u) in
         let same : p .1 ≡ k = ap countOf (sym a ∙ e) in
         (p .0, subst (Unrefused t (length scratch) (length sheet) (p .0)) same u)

@@ -68,7 +68,8 @@ module _
           let a : left .0 ≡ read.Accepted (length bs) (records ns) k = ap (λ (r : ReadAnswer × List ℕ × List ℕ). r .0) q in
           let s : take (length bs) (left .2) ≡ bs = rw q (take-at bs (replicate (length sheet - length bs) 0) (length bs) refl) in
           let d = back t ns k (h .short) (h .parses) in
-          let w : v ≡ judged t (mapTimes stored ns) = g _ _ _ a ∙ (rw s (checks t (mapTimes stored ns) (h .short) (clean t ns k (h .parses)) d))
+          let w : v ≡ judged t (mapTimes stored ns) = g _ _ _ a
+          ∙ (rw s (checks t (mapTimes stored ns) (h .short) (clean t ns k (h .parses)) d))
           in
           record {
             held = mapTimes stored ns;

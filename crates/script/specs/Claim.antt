@@ -53,7 +53,8 @@ pub record Unrefused (t : List ℕ) (words room : ℕ) (ns : Nodes Key) (c : ℕ
   pub parses : parse t ≡ tree ns c
   pub fits : length (encoding t ns) ≤ room
 
--- what is so of reading's answer a, the sheet s that it left and checking's answer v, where ns is the grammar's tree, with c rounded numbers
+-- what is so of reading's answer a, the sheet s that it left and checking's answer v, where ns is the grammar's tree, with c rounded
+-- numbers
 pub record Agreed (t : List ℕ) (a : ReadAnswer) (s : List ℕ) (v : CheckAnswer) (ns : Nodes Key) (c : ℕ) : Type 0 where
   -- the sheet's length is the encoding's
   pub answer : a ≡ read.Accepted (length (encoding t ns)) (records ns) c

@@ -63,12 +63,13 @@ module _ (b : Rule (Nodes Key)) where
 
       go : OnBehind k → (x : Bool)
           → again (cond x (give (done ns)) (if (sees ";") (skip >> give (more ns)) (oneNode b ns)) l ts)
-          ≡ behindNodes ns (again (cond x (give (done Nodes.none)) (if (sees ";") (skip >> give (more Nodes.none)) (oneNode b Nodes.none)) l ts))
+          ≡ behindNodes ns
+          (again (cond x (give (done Nodes.none)) (if (sees ";") (skip >> give (more Nodes.none)) (oneNode b Nodes.none)) l ts))
       go h true = ap (λ (x : Nodes Key). got x l ts) (sym (append-none ns))
       go h false = node h (sees ";" ts)
 
--- "scripts put one after another add up": a reader that has the nodes ns of a script, c numbers of it counted, and goes on with the tokens of
--- a further one gives the nodes of both, and c more than the further one's count
+-- "scripts put one after another add up": a reader that has the nodes ns of a script, c numbers of it counted, and goes on with the tokens
+-- of a further one gives the nodes of both, and c more than the further one's count
 pub one-after-another : (k c : ℕ) (ns : Nodes Key) (l : Notes) (ts : List Token)
     → iterate (nodesStep (block 16)) k ns (plus c l) ts
     ≡ behindNodes ns (plusOut c (iterate (nodesStep (block 16)) k Nodes.none l ts))

@@ -35,7 +35,8 @@ use Rattle.grammar.specs.Grammar.{oneNode, nodesStep, block, animatoInput, unde
 use Rattle.limits.proofs.ListLaws.{_also_}
 use Rattle.unpack.proofs.StepLaws.{Stays, Found, Rows, gives, refuses, then, and, grouped, conds, tests}
 use Rattle.unpack.proofs.StepLaws.{needs, skips, the-mark, two-marks, eats, a-word, a-text, a-choice}
-use Rattle.unpack.proofs.StepLaws.{a-number, a-float, tallies, conds-too, eats-too, refuses-too, in-group, repeats, lists, under-found, by-word, by-word-or}
+use Rattle.unpack.proofs.StepLaws.{a-number, a-float, tallies, conds-too, eats-too, refuses-too}
+use Rattle.unpack.proofs.StepLaws.{in-group, repeats, lists, under-found, by-word, by-word-or}
 
 module _ (n : ℕ) where
   -- ---- fields

@@ -16,7 +16,8 @@ use Rattle.token.specs.Token.{Kind, name, number, quoted, mark, Token, token, p
 use Rattle.token.specs.Names.{nameOf, quoteOf}
 use Rattle.error.specs.declared.Refusal.{Refusal}
 use Rattle.grammar.specs.Rule.{Notes, Out, got, refused, Rule, after, give, need, refuse, if, _>>=_, _>>_, ends, skip}
-use Rattle.grammar.specs.Rule.{seesByte, seesPair, theByte, bothBytes, eatByte, found, word, text, choiceIn, Signed, plain, negated, seesNumber, tally, counted}
+use Rattle.grammar.specs.Rule.{seesByte, seesPair, theByte, bothBytes, eatByte, found, word}
+use Rattle.grammar.specs.Rule.{text, choiceIn, Signed, plain, negated, seesNumber, tally, counted}
 use Rattle.grammar.specs.Rule.{absent, minus, taken, signed, Pass, halts, closes, goes, weigh, depth, passed}
 use Rattle.grammar.specs.Rule.{behind, firstOf, noted, leave, insideByte, Next, more, done, iterate, repeat, listStep, list}
 use Rattle.grammar.specs.Rule.{next as following}
@@ -255,7 +256,10 @@ conds-too false x y = y
 pub eats-too : {A : Type 0} {n : ℕ} {f : Bool → Rule A} (b : Bool) (c : ℕ) → ((x : Bool) → Spends n (f x))
     → Spends n (cond b (give false) (eatByte c) >>= f)
 eats-too {n = n} {f = f} true c k = record { run = λ l ts h. k false .run l ts h; adds = λ d l ts. k false .adds d l ts }
-eats-too {n = n} {f = f} false c k = record { run = λ l ts h. go l ts h (seesByte c ts); adds = λ d l ts. same-count d l ts (seesByte c ts) }
+eats-too {n = n} {f = f} false c k = record {
+  run = λ l ts h. go l ts h (seesByte c ts);
+  adds = λ d l ts. same-count d l ts (seesByte c ts);
+}
   where
     go : (l : Notes) (ts : List Token) → Spare n l ts → (y : Bool) → OutNear n (after (cond y (skip >> give true) (give false) l ts) f)
     go l ts h true =
@@ -264,7 +268,8 @@ eats-too {n = n} {f = f} false c k = record { run = λ l ts h. go l ts h (seesBy
     go l ts h false = k false .run l ts h
 
     same-count : (d : ℕ) (l : Notes) (ts : List Token) (y : Bool)
-        → after (cond y (skip >> give true) (give false) (plus d l) ts) f ≡ plusOut d (after (cond y (skip >> give true) (give false) l ts) f)
+        → after (cond y (skip >> give true) (give false) (plus d l) ts) f
+        ≡ plusOut d (after (cond y (skip >> give true) (give false) l ts) f)
     same-count d l ts true = k true .adds d l (rest ts)
     same-count d l ts false = k false .adds d l ts
 
@@ -275,7 +280,8 @@ module _ {A : Type 0} (n : ℕ) (r : Refusal) (f : Bool × Written → Rule A) (
   plus-near l [] h = place-near n [] (h .near)
   plus-near l (token q (name w) ∷ ts) h = place-near n (token q (name w) ∷ ts) (h .near)
   plus-near l (token q (number w) ∷ ts) h =
-      k (false, w) .run l ts (record { left = h .left; near = rest-near n (token q (number w) ∷ ts) (h .near); few = omega (arith, h .few) })
+      k (false, w) .run l ts
+      (record { left = h .left; near = rest-near n (token q (number w) ∷ ts) (h .near); few = omega (arith, h .few) })
   plus-near l (token q (quoted m) ∷ ts) h = place-near n (token q (quoted m) ∷ ts) (h .near)
   plus-near l (token q (mark b) ∷ ts) h = place-near n (token q (mark b) ∷ ts) (h .near)
 
@@ -285,7 +291,8 @@ module _ {A : Type 0} (n : ℕ) (r : Refusal) (f : Bool × Written → Rule A) (
   minus-near l ts (token q (name w) ∷ us) g e h = g
   minus-near l ts (token q (number w) ∷ us) g e h =
       rw e
-      (k (true, w) .run l us (record { left = h .left; near = rest-near n (token q (number w) ∷ us) (h .near); few = omega (arith, h .few) }))
+      (k (true, w) .run l us
+      (record { left = h .left; near = rest-near n (token q (number w) ∷ us) (h .near); few = omega (arith, h .few) }))
   minus-near l ts (token q (quoted m) ∷ us) g e h = g
   minus-near l ts (token q (mark b) ∷ us) g e h = g
 
@@ -336,7 +343,8 @@ on : {A : Type 0} (n : ℕ) (again : A → Rule A) → ((b : A) → Stays n (aga
 on n again k (more b) = k b
 on n again k (done b) = gives
 
-pub steps-stay : {A : Type 0} (n : ℕ) (step : A → Rule (Next A)) → ((a : A) → Stays n (step a)) → (k : ℕ) (a : A) → Stays n (iterate step k a)
+pub steps-stay : {A : Type 0} (n : ℕ) (step : A → Rule (Next A)) → ((a : A) → Stays n (step a))
+    → (k : ℕ) (a : A) → Stays n (iterate step k a)
 unfolding iterate
 steps-stay n step h zero a = record { run = λ l ts g. g; adds = λ c l ts. refl }
 steps-stay n step h (suc k) a = record {

@@ -17,9 +17,11 @@ use Rattle.error.specs.declared.CheckAnswer.{CheckAnswer}
 use Rattle.error.specs.declared.CheckAnswer.the-variants as check
 use Rattle.error.specs.declared.LineAnswer.{LineAnswer}
 use Rattle.error.specs.declared.LineAnswer.the-variants as line
-use Rattle.strip.specs.Packed.{packedRead, packedCheck, packedLine, packedFed, numberIn, valueIn, lengthIn, recordsIn, roundedIn, scriptNumberIn}
+use Rattle.strip.specs.Packed.{packedRead, packedCheck, packedLine, packedFed, numberIn}
+use Rattle.strip.specs.Packed.{valueIn, lengthIn, recordsIn, roundedIn, scriptNumberIn}
 use Rattle.strip.proofs.PackedLaws.{script-number, script-refusal, script-place}
-use Rattle.strip.proofs.PackedLaws.{refusal-number, refusal-place, sheet-number, sheet-length, sheet-records, sheet-rounded, line-number, line-length}
+use Rattle.strip.proofs.PackedLaws.{refusal-number, refusal-place, sheet-number, sheet-length}
+use Rattle.strip.proofs.PackedLaws.{sheet-records, sheet-rounded, line-number, line-length}
 use Rattle.error.specs.declared.Refusal.the-variants.{TooManyScripts}
 use Rattle.totals.specs.Totals.{added}
 use Rattle.feed.specs.Feed.{Fed, readOf, whenRead, judgement, figure, full, feeding}

@@ -125,8 +125,8 @@ pub parse-near : (t : List ℕ) → ParsedNear (length t) (parse t)
 unfolding parse split
 parse-near t = parsed-near (length t) (split t) (split-near (length t) 0 0 [] t (omega arith)) (split-few 0 0 [] t)
 
--- ---- reading: "a refusal's place is at most the text's length", a sheet has at most 49,152 bytes, and no more records; no more numbers are
--- rounded than there are tokens
+-- ---- reading: "a refusal's place is at most the text's length", a sheet has at most 49,152 bytes, and no more records; no more numbers
+-- are rounded than there are tokens
 
 abbrev pub ReadWithin : ReadAnswer → Type 0
 ReadWithin (read.Accepted n k j) = (n ≤ 49152) × (k ≤ 49152) × (j ≤ 16385)

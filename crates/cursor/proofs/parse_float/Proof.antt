@@ -48,7 +48,8 @@ returns-2 c =
       record {
         is = rw (t .is, c .count .ensures, x .0, x .1);
         low = rw (c .count .ensures) (n .low);
-        ready = rw (c .count .ensures) (counts (args .text .now) (args .c) _ (start .pre) (n .ready) (n .rounded) (n .low) (at-decimal .decimal .result .rounded));
+        ready = rw (c .count .ensures)
+            (counts (args .text .now) (args .c) _ (start .pre) (n .ready) (n .rounded) (n .low) (at-decimal .decimal .result .rounded));
       },
       rw (x .0) (round-number _ _ _),
     )

@@ -53,7 +53,25 @@ returns-2 c =
     no-time (args .text .now) (args .c) _ (rw (c .before .p .given .1) at (at-number .number .ensures))
 
 returns-3 : tie.Need-returns-3
-returns-3 c = took-time (c .before .before .before .before .before .before .before .before .before .before .before .args .text .now) (c .before .before .before .before .before .before .before .before .before .before .before .args .c) _ _ _ _ (rw (c .before .before .before .before .before .before .before .negative .given .1) at (c .before .before .before .before .before .before .before .before .before .number .ensures)) _ (c .before .before .before .before .before .percent-sign .ensures) (sym (c .before .before .before .all .ensures) ∙ c .before .before .if1 .left) (c .before .before .before .before .before .before .before .before .before .before .before .pre) (c .before .time-of .ensures .0) (c .before .time-of .ensures .1) (c .count .ensures)
+returns-3 c =
+    let at-if1 = c .before .before in
+    let at-all = at-if1 .before in
+    let at-percent-sign = at-all .before .before in
+    let at-negative = at-percent-sign .before .before in
+    let at-number = at-negative .before .before in
+    let start = at-number .before .before in
+    took-time
+    (start .args .text .now)
+    (start .args .c)
+    _ _ _ _
+    (rw (at-negative .negative .given .1) at (at-number .number .ensures))
+    _
+    (at-percent-sign .percent-sign .ensures)
+    (sym (at-all .all .ensures) ∙ at-if1 .if1 .left)
+    (start .pre)
+    (c .before .time-of .ensures .0)
+    (c .before .time-of .ensures .1)
+    (c .count .ensures)
 
 pub parse-keyframe-time-spec : {M : Type 1} → statement M
 parse-keyframe-time-spec =

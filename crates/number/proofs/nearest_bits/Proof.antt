@@ -72,10 +72,12 @@ returns-2 c =
     let z = leadingZeros 64 (args .n) in
     let y = leadingZeros 64 (args .d) - 24 in (
       c .packed .ensures .0
-          ∙ scaled-bits (args .n) (args .d) z y _ _ _ (s .pre .0) (k .a-is) (k .b-is) (omega arith) (omega arith) (omega arith) (omega arith)
+          ∙ scaled-bits (args .n) (args .d) z y _ _ _ (s .pre .0) (k .a-is) (k .b-is) (omega arith) (omega arith) (omega arith)
+          (omega arith)
           (omega arith),
       λ t. c .packed .ensures .1
-          ∙ scaled-rounded (args .n) (args .d) z y (149 + y - z) _ _ (s .pre .0) (k .a-is) (k .b-is) (omega arith) (omega arith) (omega arith) (omega arith)
+          ∙ scaled-rounded (args .n) (args .d) z y (149 + y - z) _ _ (s .pre .0) (k .a-is) (k .b-is) (omega arith) (omega arith)
+          (omega arith) (omega arith)
           (omega arith) t,
     )
 
@@ -89,10 +91,12 @@ returns-3 c =
     let y = leadingZeros 64 (args .d) - 24 in
     let twice = ap (λ (x : ℕ). x * 2) (k .b-is) ∙ mul-assoc (args .d) (2 ^ y) 2 ∙ ap (λ (x : ℕ). args .d * x) (sym (pow-add 2 y 1)) in (
       c .packed2 .ensures .0
-          ∙ scaled-bits (args .n) (args .d) z (y + 1) _ _ _ (s .pre .0) (k .a-is) twice (omega arith) (omega arith) (omega arith) (omega arith)
+          ∙ scaled-bits (args .n) (args .d) z (y + 1) _ _ _ (s .pre .0) (k .a-is) twice (omega arith) (omega arith) (omega arith)
+          (omega arith)
           (omega arith),
       λ t. c .packed2 .ensures .1
-          ∙ scaled-rounded (args .n) (args .d) z (y + 1) (149 + y - z + 1) _ _ (s .pre .0) (k .a-is) twice (omega arith) (omega arith) (omega arith)
+          ∙ scaled-rounded (args .n) (args .d) z (y + 1) (149 + y - z + 1) _ _ (s .pre .0) (k .a-is) twice (omega arith) (omega arith)
+          (omega arith)
           (omega arith) (omega arith) t,
     )
 
