@@ -26,10 +26,10 @@ unhex-requires : tie.Need-unhex-requires
 unhex-requires c κs = search needs
 
 array-share-prefix-text : tie.Need-array-share-prefix-text
-array-share-prefix-text c = c .before .before .unhex .ensures
+array-share-prefix-text c = c .before .unhex .ensures
 
 slice-aggregate-answer : tie.Need-slice-aggregate-answer
-slice-aggregate-answer c = sym (length-take-le _ _ (c .before .before .before .unhex .ensures))
+slice-aggregate-answer c = sym (length-take-le _ _ (c .before .before .unhex .ensures))
 
 answer-requires : tie.Need-answer-requires
 answer-requires c κs = search needs
@@ -37,10 +37,10 @@ answer-requires c κs = search needs
 add-result : tie.Need-add-result
 add-result c =
     let c4 = c .before .before .before .before in
-    let at-end = c4 .before .before .before .before in
-    let start = at-end .before .before in
+    let at-run-end = c4 .before .before in
+    let start = at-run-end .before .before in
     let s = start .args .s .now in
-    omega (arith, at-end .run-end .ensures, start .pre, run-le (passes Hex) (drop (start .args .at) s), length-drop (start .args .at) s)
+    omega (arith, at-run-end .run-end .ensures, start .pre, run-le (passes Hex) (drop (start .args .at) s), length-drop (start .args .at) s)
 
 returns : tie.Need-returns
 returns c = search needs
