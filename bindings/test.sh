@@ -32,4 +32,6 @@ fed 'sequence {keyframes p {0: 0, 1: 1, 2: 0}} keyframes q {0: 0, 1: 1}' 'accept
 fed '' 'accept 0\n'
 fed 'tween' 'refuse 6 at 5\n'
 fed 'keyframes p {50%%: 0, 0.5s: 1}' 'refuse 26 at 1\n'
-echo "C example: 4 passed, each in two ways, and 4 fed"
+printf 'at 0.5; at 0.1; at 16777217' | "$out/example" rounded > "$out/got"
+echo 2 | cmp "$out/got" -
+echo "C example: 4 passed, each in two ways, 4 fed, and a count of rounded numbers"

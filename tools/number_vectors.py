@@ -43,6 +43,11 @@ def percent(sign, n):
     return x if x & 0x7FFFFFFF == INF else f32(sign, value(x)[1] / 100)
 
 
+def told(bits, size):
+    """A finite f32's bits, and the word `rounded` where it is not of that size; an infinity is not."""
+    return f"{bits:08x}" + (" rounded" if bits & 0x7FFFFFFF == INF or value(bits)[1] != size else "")
+
+
 tests, answers = [], []
 
 
@@ -55,7 +60,7 @@ def put(kind, sign, a, b, words, answer):
 
 def decimal(sign, digits, places):
     x = f32(sign, F(digits, 10**places))
-    put("D", sign, digits, places, f"{'-' if sign else ''}{digits}/10^{places}", f"{x:08x} {x:08x}")
+    put("D", sign, digits, places, f"{'-' if sign else ''}{digits}/10^{places}", f"{x:08x} {told(x, F(digits, 10**places))}")
 
 
 for sign in (0, 1):
@@ -80,9 +85,10 @@ for length in range(1, 65):
 pick = random.Random(4)
 for _ in range(150):
     decimal(pick.randrange(2), pick.randrange(10 ** pick.randrange(1, 20)), pick.randrange(10))
-for n in [0, 1, 2, 3, 33, 50, 66, 99, 100, 101, 250, 12345, 16777215, 16777216, 16777217, 16777219, 4294967295, 2**64 - 1]:
+for n in [0, 1, 2, 3, 33, 50, 66, 75, 99, 100, 101, 250, 12345, 16777200, 16777215, 16777216, 16777217, 16777219, 16777225, 33554432,
+          1342177300, 1677721300, 1677721400, 1677721500, 1677721600, 3355443000, 4294967295, 2**64 - 1, 100 << 57]:
     for sign in (0, 1):
-        put("%", sign, n, 0, f"{'-' if sign else ''}{n}%", f"{percent(sign, n):08x}")
+        put("%", sign, n, 0, f"{'-' if sign else ''}{n}%", told(percent(sign, n), F(n, 100)))
 for bits in [0, 1, 0x7FFFFF, 0x800000, 0x3DCCCCCD, 0x3F800000, 0x7F7FFFFF, INF, 0x7F800001, 0x7FBFFFFF, 0x7FC00000, 0x7FC00001, 0x7FFFFFFF]:
     for x in (bits, bits | 1 << 31):
         put("B", 0, x, 0, "pattern", "nan" if is_nan(x) else f"{x:08x}")

@@ -1,7 +1,8 @@
 /*
  * Reads a script from standard input, checks it, and prints its lines, then `accept N`; or `refuse R at P`. With the argument `page`
  * one call does it all; with `feed` the script is fed to empty totals, and what is printed is its answer, the count of its node records
- * and the mean entries of its tracks.
+ * and the mean entries of its tracks;
+ * with `rounded` it prints how many numbers were rounded instead.
  */
 #include "strip.h"
 
@@ -59,6 +60,10 @@ int main(int argc, char **argv) {
     uint64_t reading = strip_read(text, length, scratch, STRIP_SCRATCH_WORDS, sheet, STRIP_SHEET_BYTES);
     if (refused(reading))
         return 0;
+    if (argc > 1 && strcmp(argv[1], "rounded") == 0) {
+        printf("%u\n", (unsigned)strip_rounded(reading));
+        return 0;
+    }
     uint32_t size = strip_sheet_length(reading);
     uint32_t records = strip_records(reading);
     if (refused(strip_check(text, length, sheet, size)))

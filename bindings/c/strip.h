@@ -64,7 +64,8 @@ enum strip_refusal {
 #define STRIP_ENTRIES_WORD 59
 
 /*
- * Reads a text into a sheet. Accepted: strip_sheet_length and strip_records. Refused: strip_value is the place in the text.
+ * Reads a text into a sheet. Accepted: strip_sheet_length, strip_records and strip_rounded, how many of the written numbers are
+ * stored as another f32 than what is written. Refused: strip_value is the place in the text.
  * Afterwards scratch is all zero, and the sheet zero past its length, or everywhere on a refusal; but refusals 1 and 16 leave both
  * as they were.
  */
@@ -113,6 +114,7 @@ static inline enum strip_refusal strip_number(uint64_t answer) { return (enum st
 static inline uint32_t strip_value(uint64_t answer) { return (uint32_t)answer; }
 static inline uint32_t strip_sheet_length(uint64_t answer) { return (uint32_t)(answer & 0xFFFFFF); }
 static inline uint32_t strip_records(uint64_t answer) { return (uint32_t)(answer >> 24 & 0xFFFF); }
+static inline uint32_t strip_rounded(uint64_t answer) { return (uint32_t)(answer >> 40 & 0xFFFF); }
 
 /* Of strip_feed: the number of a refused script, 0 for an accepted one. */
 static inline enum strip_refusal strip_script_number(uint64_t answer) { return (enum strip_refusal)(answer >> 32 & 0xFF); }

@@ -129,7 +129,7 @@ fn row(lent: &mut Lent, name: &str, text: &str) {
 
 /// All lines of a script, for which there is no Rust.
 fn line_row(lent: &mut Lent, name: &str, text: &str) {
-    let ReadAnswer::Accepted { length, records } = strip::read(text.as_bytes(), &mut lent.scratch, &mut lent.sheet) else {
+    let ReadAnswer::Accepted { length, records, .. } = strip::read(text.as_bytes(), &mut lent.scratch, &mut lent.sheet) else {
         panic!("{name}: refused");
     };
     let Lent { sheet, output, .. } = lent;

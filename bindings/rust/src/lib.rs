@@ -9,11 +9,11 @@
 //! let text = b"at 0.5;";
 //! let mut scratch = vec![0; strip::SCRATCH_WORDS];
 //! let mut sheet = vec![0; strip::SHEET_BYTES];
-//! let ReadAnswer::Accepted { length, records } = strip::read(text, &mut scratch, &mut sheet) else {
+//! let ReadAnswer::Accepted { length, records, rounded } = strip::read(text, &mut scratch, &mut sheet) else {
 //!     panic!("a refusal");
 //! };
 //! let sheet = &sheet[..length];
-//! assert_eq!((sheet, records), (&[0, 1, 14, 0, 0, 0x3F, 0, 0, 0, 0][..], 1));
+//! assert_eq!((sheet, records, rounded), (&[0, 1, 14, 0, 0, 0x3F, 0, 0, 0, 0][..], 1, 0));
 //! assert_eq!(strip::check(text, sheet), CheckAnswer::Accepted);
 //!
 //! // the head is record 0, and a node's ordinals begin at 1
@@ -88,6 +88,9 @@ pub enum ReadAnswer {
         length: usize,
         /// How many records of nodes it has; the head is not counted.
         records: usize,
+        /// How many of the written numbers are stored as another f32 than what is written, as 0.1 is. A number that is kept as a
+        /// whole number is not; one that a later field overrides is counted all the same.
+        rounded: usize,
     },
     /// There is no sheet.
     Refused {
@@ -227,7 +230,11 @@ pub fn read(text: &[u8], scratch: &mut [u16], sheet: &mut [u8]) -> ReadAnswer {
     let answer = unsafe { strip_read(text.as_ptr(), text.len(), scratch.as_mut_ptr(), scratch.len(), sheet.as_mut_ptr(), sheet.len()) };
     match refused(answer) {
         Some((refusal, place)) => ReadAnswer::Refused { refusal, place },
-        None => ReadAnswer::Accepted { length: (answer & 0xFF_FFFF) as usize, records: (answer >> 24 & 0xFFFF) as usize },
+        None => ReadAnswer::Accepted {
+            length: (answer & 0xFF_FFFF) as usize,
+            records: (answer >> 24 & 0xFFFF) as usize,
+            rounded: (answer >> 40 & 0xFFFF) as usize,
+        },
     }
 }
 

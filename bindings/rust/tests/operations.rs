@@ -6,7 +6,7 @@ use strip::{FIGURE_LIMIT, PAGE_BYTES, SCRATCH_WORDS, SCRIPT_LIMIT, SHEET_BYTES, 
 fn sheet_of(text: &[u8]) -> (Vec<u8>, usize) {
     let mut scratch = vec![0xABCD; SCRATCH_WORDS];
     let mut sheet = vec![0xEF; SHEET_BYTES];
-    let ReadAnswer::Accepted { length, records } = read(text, &mut scratch, &mut sheet) else {
+    let ReadAnswer::Accepted { length, records, .. } = read(text, &mut scratch, &mut sheet) else {
         panic!("{:?} is refused", String::from_utf8_lossy(text));
     };
     assert!(scratch.iter().all(|&w| w == 0));
@@ -32,6 +32,31 @@ fn a_script_is_read_checked_and_lined() {
     assert_eq!(output[11..], [7; 21]);
     assert_eq!(line(text, &sheet, 1, &mut output), LineAnswer::Accepted { length: 23 });
     assert_eq!(&output[..23], b"00080E00003F00000000AB\n");
+}
+
+/// How many numbers of a text that reading accepts are rounded.
+fn rounded_in(text: &str) -> usize {
+    let ReadAnswer::Accepted { rounded, .. } = read(text.as_bytes(), &mut vec![0; SCRATCH_WORDS], &mut vec![0; SHEET_BYTES]) else {
+        panic!("{text:?} is refused");
+    };
+    rounded
+}
+
+#[test]
+fn rounded_numbers_are_counted() {
+    assert_eq!(rounded_in(""), 0);
+    assert_eq!(rounded_in("at 0.5; at -0; at 16777216"), 0);
+    assert_eq!(rounded_in("at 0.1; at - 0.1; at 16777217; at 0.1"), 4);
+    // a percent by its end value
+    assert_eq!(rounded_in("keyframes p {0%: 0, 25%: 0, 1677721500%: 0}"), 0);
+    assert_eq!(rounded_in("keyframes p {1%: 0, 1677721400%: 0.1}"), 3);
+    // a default is not written, an overridden field is, and a velocity counts once
+    assert_eq!(rounded_in("stagger pattern: random() {}"), 0);
+    assert_eq!(rounded_in("stagger pattern: random(max: 0.1) {}"), 1);
+    assert_eq!(rounded_in("tween p: 0 => 1 duration: 0.1 duration: 1"), 1);
+    assert_eq!(rounded_in("spring p: 0 => 1 velocity: [0.1, 0.5, 0.2]"), 2);
+    // a whole u32 is kept
+    assert_eq!(rounded_in("tween p: 0 => 1 duration: 1 round: 16777217 loop: times(16777217)"), 0);
 }
 
 /// What printing writes for a text, on a page that is otherwise as it was.

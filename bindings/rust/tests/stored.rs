@@ -51,7 +51,7 @@ fn scripts() {
         let text = bytes(case);
         match read(&text, &mut scratch, &mut sheet) {
             ReadAnswer::Refused { refusal, place } => ours += &refusal_line(refusal, place),
-            ReadAnswer::Accepted { length, records } => {
+            ReadAnswer::Accepted { length, records, .. } => {
                 write!(ours, "accept {records} ").unwrap();
                 sheet[..length].iter().for_each(|b| write!(ours, "{b:02X}").unwrap());
                 ours += "\t";

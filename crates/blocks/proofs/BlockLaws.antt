@@ -271,7 +271,7 @@ module _ {s : List ℕ} (b : List ℕ) (d : ℕ) (t : Siblings) (r : Ready s (t 
     unfolding nodesStep
     step-pass {u} f g = let m = took-mark s (t .next) u r g 59 (omega arith) f in record {
       grown = λ ns. ns;
-      took = λ ns. record { is = rw (e, f, g .rest, g .left); low = m .low; ready = g .ready };
+      took = λ ns. record { is = rw (e, f, g .rest, g .left, g .rounded); low = m .low; ready = g .ready };
       wide = λ ns. refl;
       count = λ ns. refl;
       thin = omega (arith, m .low);

@@ -6,16 +6,18 @@ use mathlib.Core.Option.{none, some}
 use mathlib.Core.Path.{_≡_, refl, subst}
 use native.Mathlib.Omega.{arith}
 use lib.ListN.{length, getElem?}
+use Rattle.number.specs.Number.{nearest, bits}
+use Rattle.number.specs.Rounded.{numberRounded}
 use Rattle.number.specs.Time.{Key}
 use Rattle.token.specs.Token.{Token}
 use Rattle.ast.specs.Tree.{Leaf, Container, Nodes}
 use Rattle.error.specs.declared.Refusal.the-variants.{MissingDuration, Malformed}
 use Rattle.grammar.specs.Rule.{Notes, Out, got, refused, after, Rule, _>>=_, _>>_, give, need, if, sees, skip, the, both, eat, choice}
-use Rattle.grammar.specs.Rule.{signed, seesNumber, inside, repeat}
+use Rattle.grammar.specs.Rule.{signed, counted, seesNumber, inside, repeat}
 use Rattle.grammar.specs.Fields.{parseFieldList, pairs, lastNumber}
 use Rattle.grammar.specs.Values.{ident, string, parseValue}
 use Rattle.grammar.specs.Grammar.{tweenFields, springFields, trackStep, pathFields, morphFields, drawFields, colorFields, waveformKind}
-use Rattle.grammar.specs.Grammar.{waveformFields, atSign, openingStep}
+use Rattle.grammar.specs.Grammar.{waveformFields, atSign, turned, openingStep}
 use Rattle.grammar.specs.Grammar.{leaves, parseTween, parseSpring, parseKeyframes, parsePath, parseMorph, parseDraw, parseColor}
 use Rattle.grammar.specs.Grammar.{parseWaveform, parsePresetCall, parseLabel, parseAt}
 use Rattle.grammar.specs.Grammar.{block, containers, parseSequence, parseParallel, parseGroup, parseStagger}
@@ -136,7 +138,12 @@ label-kind = behind string (λ s. behind (the ";") (λ u. always refl))
 
 at-kind : LeafOf 14 parseAt
 unfolding parseAt
-at-kind = behind atSign (λ sign. behind (signed seesNumber Malformed) (λ w. behind (eat ";") (λ c. always refl)))
+at-kind =
+    behind atSign
+    (λ sign. behind (signed seesNumber Malformed)
+    (λ w.
+    let x : Leaf Key = Leaf.at (record { value = bits (nearest (turned (sign .1) (w .0)) (w .1)); relative = sign .0 }) in
+    behind (counted (numberRounded (turned (sign .1) (w .0)) (w .1))) (λ u. behind (eat ";") (λ c. always {a = x} refl))))
 
 -- the rule at the place i of the table
 pub leaf-kind : (i : ℕ) (row : String × Rule (Leaf Key)) → getElem? leaves i ≡ some row → LeafOf (leafKindAt i) (row .1)

@@ -28,7 +28,8 @@ use Rattle.grammar.specs.Rule.{eatByte, skip, _>>_, Signed, absent, plus, minus
 use Rattle.grammar.specs.Rule.{taken, signed, Pass, halts, closes, goes, closing, depth, weigh, behind, ends, isEnd, firstOf, leave}
 use Rattle.error.specs.declared.Refusal.{Refusal}
 use Rattle.error.specs.declared.Refusal.the-variants.{Missing}
-use Rattle.cursor.specs.Means.{nothing, leftOf, headOf, Ready, notes, tokens, run, Took, Begins, Follows, Behind, sign, past, Numbers}
+use Rattle.cursor.specs.Means.{nothing, leftOf, headOf, Ready, notes, tokens, run, Took}
+use Rattle.cursor.specs.Means.{Begins, Follows, Behind, tallied, sign, past, Numbers}
 use Rattle.cursor.specs.declared.Cursor.{Cursor}
 
 -- ---- the head
@@ -40,13 +41,15 @@ pub head-place : (s : List ℕ) (c : Cursor) → Ready s c → place (tokens s c
 head-place s c r = r .head .place
 
 -- a token that was cut from `at` on, as the next of a cursor
-pub begins : (s : List ℕ) (at left : ℕ) (x : Lexed) → length s ≤ textLimit → lastPlace 0 (tokensFrom s at) ≡ lastPlace 0 (tokensFrom s 0)
-    → Lexes s at x
-    → Begins s at left (record { at = x .start; end = x .end; left = left; kind = x .tok })
-begins s at left x h e l = record {
+pub begins : (s : List ℕ) (at left rounded : ℕ) (x : Lexed) → length s ≤ textLimit
+    → lastPlace 0 (tokensFrom s at) ≡ lastPlace 0 (tokensFrom s 0)
+    → rounded ≤ at → Lexes s at x
+    → Begins s at left rounded (record { at = x .start; end = x .end; left = left; rounded = rounded; kind = x .tok })
+begins s at left rounded x h e f l = record {
   is = l .same;
   low = l .low;
   left = refl;
+  rounded = refl;
   ready = record {
     head = record {
       same = refl;
@@ -62,6 +65,7 @@ begins s at left x h e l = record {
     high = omega (arith, l .some, l .high);
     short = h;
     last = rw (sym (l .same)) e;
+    few = omega (arith, l .low);
   };
 }
 
@@ -87,13 +91,17 @@ head-low s c r = r .head .some
 
 module _ (s : List ℕ) (c m : Cursor) (r : Ready s c) (f : Follows s c m) where
   same-notes : notes s c ≡ notes s m
-  same-notes = rw (f .left)
+  same-notes = rw (f .left, f .rounded)
 
   -- a rule that takes the head
   pub took : {A : Type 0} (p : Rule A) (x : A) → isMark (kind (tokens s c)) 0 ≡ false
       → run s c p ≡ got x (notes s c) (rest (tokens s c))
       → Took 1 s c m p x
-  took p x e h = record { is = h ∙ (rw (f .rest, f .left)); low = let a = head-moves s c r e in omega (arith, f .at); ready = f .ready }
+  took p x e h = record {
+    is = h ∙ (rw (f .rest, f .left, f .rounded));
+    low = let a = head-moves s c r e in omega (arith, f .at);
+    ready = f .ready;
+  }
 
   pub took-mark : (d : ℕ) → 0 < d → seesByte d (tokens s c) ≡ true → Took 1 s c m (theByte d) tt
   took-mark d h e = took (theByte d) tt (no-end (kind (tokens s c)) d e h) (rw e)
@@ -182,7 +190,18 @@ pub took-both : (s : List ℕ) (c m u : Cursor) (r : Ready s c) (f : Follows s c
 took-both s c m u r f g a b h x y e =
     let q : place (tokens s m) ≡ suc (place (tokens s c)) = head-place s m (f .ready) ∙ e ∙ (rw (add-one, r .head .place)) in
     record {
-      is = rw (x, f .rest, y, eq-eqb (place (tokens s m)) (suc (place (tokens s c))) q, f .rest, g .rest, g .left, f .left);
+      is = rw (
+        x,
+        f .rest,
+        y,
+        eq-eqb (place (tokens s m)) (suc (place (tokens s c))) q,
+        f .rest,
+        g .rest,
+        g .left,
+        f .left,
+        g .rounded,
+        f .rounded,
+      );
       low = let i = head-moves s c r (no-end (kind (tokens s c)) a x h) in let j = moved-low s m u (f .ready) g in omega (arith, f .at);
       ready = g .ready;
     }
@@ -221,6 +240,7 @@ module _ (s : List ℕ) (c m : Cursor) (r : Ready s c) (f : Follows s c m) where
     sees = rw (e, k .0);
     past = f .rest;
     left = f .left;
+    rounded = f .rounded;
     low = let a = head-moves s c r (rw (k .0)) in omega (arith, f .at);
     ready = f .ready;
     small = k .1;
@@ -232,6 +252,7 @@ module _ (s : List ℕ) (c m : Cursor) (r : Ready s c) (f : Follows s c m) where
     sees = rw (e, f .rest, k .0);
     past = rw (f .rest, g .rest);
     left = g .left ∙ f .left;
+    rounded = g .rounded ∙ f .rounded;
     low = let a = head-moves s c r (no-end (kind (tokens s c)) 45 e (omega arith)) in
         let b = moved-low s m u (f .ready) g in
         omega (arith, f .at);
@@ -262,17 +283,36 @@ module _ (s : List ℕ) (c m : Cursor) (b : Bool) (n : Number) (h : Numbers s c 
   whole-none true e = rw e
 
   pub took-number : (r : Refusal) → Took 1 s c m (signed seesNumber r) (b, writtenOf n)
-  took-number r = record { is = by-sign r b _ (h .sees) _ (h .past) ∙ (rw (h .left)); low = h .low; ready = h .ready }
+  took-number r = record { is = by-sign r b _ (h .sees) _ (h .past) ∙ (rw (h .left, h .rounded)); low = h .low; ready = h .ready }
 
   pub took-whole : (r : Refusal) → n .point ≡ false → Took 1 s c m (signed seesWhole r) (b, writtenOf n)
   took-whole r e = record {
-    is = by-sign r b _ (ap pointless (h .sees) ∙ whole-sign b e) _ (h .past) ∙ (rw (h .left));
+    is = by-sign r b _ (ap pointless (h .sees) ∙ whole-sign b e) _ (h .past) ∙ (rw (h .left, h .rounded));
     low = h .low;
     ready = h .ready;
   }
 
   pub whole-missing : (r : Refusal) → n .point ≡ true → run s c (signed seesWhole r) ≡ refused r (place (tokens s c))
   whole-missing r e = ap (λ (v : Signed). taken r v (notes s c) (tokens s c)) (ap pointless (h .sees) ∙ whole-none b e)
+
+-- ---- counting
+
+-- one more, as the code adds it
+pub a-number-more : (c : Cursor)
+    → Prim.Path Cursor (record { at = c .at; end = c .end; left = c .left; rounded = c .rounded + 1; kind = c .kind }) (tallied true c)
+a-number-more c = ap with-count (omega arith)
+  where
+    with-count : ℕ → Cursor
+    with-count n = record { at = c .at; end = c .end; left = c .left; rounded = n; kind = c .kind }
+
+-- a number that took a byte since c may be counted
+pub counts : (s : List ℕ) (c m : Cursor) → Ready s c → Ready s m → m .rounded ≡ c .rounded → c .at + 1 ≤ m .at
+    → (b : Bool) → Ready s (tallied b m)
+counts s c m r q e l b = record { head = q .head; high = q .high; short = q .short; last = q .last; few = few b }
+  where
+    few : (b : Bool) → cond b (suc (m .rounded)) (m .rounded) ≤ m .at
+    few true = omega (arith, r .few)
+    few false = q .few
 
 -- ---- leaving a group
 
@@ -322,10 +362,11 @@ pub record Leaving (s : List ℕ) (c m : Cursor) (d : ℕ) : Type 0 where
   pub low : c .at ≤ m .at
   pub deep : d ≤ m .at
   pub left : m .left ≡ c .left
+  pub rounded : m .rounded ≡ c .rounded
   pub ready : Ready s m
 
 pub leaving-start : (s : List ℕ) (c : Cursor) → Ready s c → Leaving s c c 0
-leaving-start s c r = record { is = refl; low = omega arith; deep = omega arith; left = refl; ready = r }
+leaving-start s c r = record { is = refl; low = omega arith; deep = omega arith; left = refl; rounded = refl; ready = r }
 
 depth-mark : (a b c : Bool) (d : ℕ) → depth (cond a halts (cond b (closing d) (cond c (goes (suc d)) (goes d)))) ≤ d + 1
 depth-mark true b c d = omega arith
@@ -343,13 +384,20 @@ depth-small (mark b) d = depth-mark (eqb b 0) (among ")]}" b) (among "([{" b) d
 
 module _ (s : List ℕ) (c m : Cursor) (d : ℕ) (w : Leaving s c m d) where
   pub leaving-halts : weigh (kind (tokens s m)) d ≡ halts → Behind s c m
-  leaving-halts e = record { is = sym (w .is ∙ behind-halts d (tokens s m) e); low = w .low; left = w .left; ready = w .ready }
+  leaving-halts e = record {
+    is = sym (w .is ∙ behind-halts d (tokens s m) e);
+    low = w .low;
+    left = w .left;
+    rounded = w .rounded;
+    ready = w .ready;
+  }
 
   pub leaving-closes : (u : Cursor) → Follows s m u → weigh (kind (tokens s m)) d ≡ closes → Behind s c u
   leaving-closes u f e = record {
     is = sym (w .is ∙ behind-closes d (tokens s m) e (not-halted (kind (tokens s m)) d closes e not-closes) ∙ f .rest);
     low = let a = moved-low s m u (w .ready) f in omega (arith, w .low);
     left = f .left ∙ w .left;
+    rounded = f .rounded ∙ w .rounded;
     ready = f .ready;
   }
 
@@ -365,21 +413,32 @@ module _ (s : List ℕ) (c m : Cursor) (d : ℕ) (w : Leaving s c m d) where
         let b : depth (goes x) ≤ d + 1 = subst (λ (p : Pass). depth p ≤ d + 1) e (depth-small (kind (tokens s m)) d) in
         omega (arith, w .deep);
     left = f .left ∙ w .left;
+    rounded = f .rounded ∙ w .rounded;
     ready = f .ready;
   }
 
 -- leaving at the group's end, and with something left
 pub leave-end : (s : List ℕ) (c m : Cursor) → Ready s c → Follows s c m → ends (tokens s c) ≡ true → Took 0 s c m leave tt
-leave-end s c m r f e = record { is = rw (e, f .rest, f .left); low = let a = moved-low s c m r f in omega arith; ready = f .ready }
+leave-end s c m r f e = record {
+  is = rw (e, f .rest, f .left, f .rounded);
+  low = let a = moved-low s c m r f in omega arith;
+  ready = f .ready;
+}
 
 pub leave-left : (s : List ℕ) (c m u : Cursor) → Ready s c → Behind s c m
     → ends (tokens s c) ≡ false → u .at ≡ m .at → headOf u ≡ headOf m
-    → leftOf (u .left) ≡ firstOf (leftOf (c .left)) (c .at)
+    → leftOf (u .left) ≡ firstOf (leftOf (c .left)) (c .at) → u .rounded ≡ m .rounded
     → Took 0 s c u leave tt
-leave-left s c m u r b e i j l = record {
-  is = rw (e, r .head .place, l, i, b .is);
+leave-left s c m u r b e i j l k = record {
+  is = rw (e, r .head .place, l, k, b .rounded, i, b .is);
   low = omega (arith, b .low);
-  ready = record { head = rw (j, i) (b .ready .head); high = rw i (b .ready .high); short = b .ready .short; last = rw i (b .ready .last) };
+  ready = record {
+    head = rw (j, i) (b .ready .head);
+    high = rw i (b .ready .high);
+    short = b .ready .short;
+    last = rw i (b .ready .last);
+    few = rw (i, k) (b .ready .few);
+  };
 }
 
 -- what is noted, where something was left before or not

@@ -60,16 +60,18 @@ leftIs (left.At p) = some p
 abbrev pub headOf : Cursor → Lexed
 headOf c = lexedOf (c .at) (c .end) (c .kind)
 
--- the cursor stands in the text s, of at most the limit, on its next token; the tokens from there on end where those of the text do
+-- the cursor stands in the text s, of at most the limit, on its next token; the tokens from there on end where those of the text do; no
+-- more numbers are counted than there are bytes behind it
 pub record Ready (s : List ℕ) (c : Cursor) : Type 0 where
   pub head : Lexes s (c .at) (headOf c)
   pub high : c .at ≤ length s
   pub short : length s ≤ textLimit
   pub last : lastPlace 0 (tokensFrom s (c .at)) ≡ lastPlace 0 (tokensFrom s 0)
+  pub few : c .rounded ≤ c .at
 
 -- what is noted at a cursor; a repetition takes a byte with each step
 abbrev pub notes : List ℕ → Cursor → Notes
-notes s c = record { leftover = leftOf (c .left); bound = suc (length s) }
+notes s c = record { leftover = leftOf (c .left); rounded = c .rounded; bound = suc (length s) }
 
 abbrev pub tokens : List ℕ → Cursor → List Token
 tokens s c = tokensFrom s (c .at)
@@ -85,10 +87,11 @@ pub record Took {A : Type 0} (e : ℕ) (s : List ℕ) (c m : Cursor) (p : Rule A
   pub ready : Ready s m
 
 -- r stands on the first token from `at` on
-pub record Begins (s : List ℕ) (at noted : ℕ) (r : Cursor) : Type 0 where
+pub record Begins (s : List ℕ) (at noted counted : ℕ) (r : Cursor) : Type 0 where
   pub is : tokensFrom s at ≡ tokens s r
   pub low : at ≤ r .at
   pub left : r .left ≡ noted
+  pub rounded : r .rounded ≡ counted
   pub ready : Ready s r
 
 -- m stands behind the head of c
@@ -96,6 +99,7 @@ pub record Follows (s : List ℕ) (c m : Cursor) : Type 0 where
   pub rest : rest (tokens s c) ≡ tokens s m
   pub at : c .end ≤ m .at
   pub left : m .left ≡ c .left
+  pub rounded : m .rounded ≡ c .rounded
   pub ready : Ready s m
 
 -- m stands behind the closer of the group that c stands in
@@ -103,7 +107,12 @@ pub record Behind (s : List ℕ) (c m : Cursor) : Type 0 where
   pub is : tokens s m ≡ behind 0 (tokens s c)
   pub low : c .at ≤ m .at
   pub left : m .left ≡ c .left
+  pub rounded : m .rounded ≡ c .rounded
   pub ready : Ready s m
+
+-- c with a number counted, if it was rounded
+abbrev pub tallied : Bool → Cursor → Cursor
+tallied b c = record { at = c .at; end = c .end; left = c .left; rounded = cond b (suc (c .rounded)) (c .rounded); kind = c .kind }
 
 -- ---- answers
 
@@ -138,6 +147,7 @@ pub record Numbers (s : List ℕ) (c : Cursor) (b : Bool) (n : Number) (m : Curs
   pub sees : seesNumber (tokens s c) ≡ sign b (writtenOf n)
   pub past : past b (tokens s c) ≡ tokens s m
   pub left : m .left ≡ c .left
+  pub rounded : m .rounded ≡ c .rounded
   pub low : c .at + 1 ≤ m .at
   pub ready : Ready s m
   pub small : Small n

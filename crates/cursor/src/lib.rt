@@ -12,7 +12,7 @@ ghost use Rattle.number.specs.Number.{nearest};
 ghost use Rattle.token.specs.Means.{writtenOf};
 ghost use Rattle.grammar.specs.Rule.{seesByte, seesPair, seesBytes, seesName, isEnd, ends, theByte, bothBytes, eatByte, word, text as quotedText, choiceIn, weigh, behind, firstOf, leave};
 ghost use Rattle.grammar.specs.Values.{parseFloat, parseUint, truth};
-ghost use Rattle.cursor.specs.Means.{nothing, leftOf, leftIs, Ready, Begins, Took, Follows, Behind, passOf, NumberView, MarkMeans, WordMeans, StringMeans, NumberMeans, FloatMeans, UintMeans, TruthMeans, CaseMeans};
+ghost use Rattle.cursor.specs.Means.{nothing, leftOf, leftIs, Ready, Begins, Took, Follows, Behind, tallied, passOf, NumberView, MarkMeans, WordMeans, StringMeans, NumberMeans, FloatMeans, UintMeans, TruthMeans, CaseMeans};
 use ast::Span;
 use error::Refusal;
 use token::Number;
@@ -24,12 +24,13 @@ pub enum Left {
     At(usize),
 }
 
-// Where a reader stands: the next token, from its first byte to behind its last, and what is noted. In 8 bytes: it is passed by
-// value at every call.
+// Where a reader stands: the next token, from its first byte to behind its last, and what is noted: where tokens were left, and
+// how many numbers were rounded. In 10 bytes: it is passed by value at every call.
 pub struct Cursor {
     pub at: u16,
     pub end: u16,
     pub left: u16,
+    pub rounded: u16,
     pub kind: Tok,
 }
 
@@ -113,7 +114,14 @@ fn size(c: Cursor) -> usize
     wide(c.end) - wide(c.at)
 }
 
-// What is noted.
+// How many numbers behind it were rounded.
+pub fn rounded(c: Cursor) -> usize
+    ensures { λ r. ⌜ r ≡ c .rounded ⌝ }
+{
+    wide(c.rounded)
+}
+
+// The first place where tokens were left.
 pub fn leftover(c: Cursor) -> Left
     ensures { λ r. ⌜ leftIs r ≡ leftOf (c .left) ⌝ }
 {
@@ -124,9 +132,9 @@ pub fn leftover(c: Cursor) -> Left
 }
 
 // Before the first token from a place on.
-fn start(text: &[u8], at: usize, left: u16) -> Cursor
-    requires { ⌜ (at ≤ length (now text)) × (length (now text) ≤ textLimit) × (lastPlace 0 (tokensFrom (now text) at) ≡ lastPlace 0 (tokensFrom (now text) 0)) ⌝ }
-    ensures { λ r. ⌜ Begins (now (text .entry)) at left r ⌝ }
+fn start(text: &[u8], at: usize, left: u16, rounded: u16) -> Cursor
+    requires { ⌜ (at ≤ length (now text)) × (length (now text) ≤ textLimit) × (lastPlace 0 (tokensFrom (now text) at) ≡ lastPlace 0 (tokensFrom (now text) 0)) × (rounded ≤ at) ⌝ }
+    ensures { λ r. ⌜ Begins (now (text .entry)) at left rounded r ⌝ }
 {
     let head = token::token(text, at);
     let kind = head.tok;
@@ -134,6 +142,7 @@ fn start(text: &[u8], at: usize, left: u16) -> Cursor
         at: head.start,
         end: head.end,
         left,
+        rounded,
         kind,
     }
 }
@@ -141,9 +150,9 @@ fn start(text: &[u8], at: usize, left: u16) -> Cursor
 // Before a text's first token.
 pub fn first(text: &[u8]) -> Cursor
     requires { ⌜ length (now text) ≤ textLimit ⌝ }
-    ensures { λ r. ⌜ Begins (now (text .entry)) 0 nothing r ⌝ }
+    ensures { λ r. ⌜ Begins (now (text .entry)) 0 nothing 0 r ⌝ }
 {
-    start(text, 0, NOTHING)
+    start(text, 0, NOTHING, 0)
 }
 
 // Behind the next token; at the text's end it stays.
@@ -151,7 +160,7 @@ pub fn advance(text: &[u8], c: Cursor) -> Cursor
     requires { ⌜ Ready (now text) c ⌝ }
     ensures { λ r. ⌜ Follows (now (text .entry)) c r ⌝ }
 {
-    start(text, wide(c.end), c.left)
+    start(text, wide(c.end), c.left, c.rounded)
 }
 
 // ---- looking at the next token
@@ -374,16 +383,28 @@ pub fn number(text: &[u8], c: Cursor) -> NumberRead
     }
 }
 
+// Counts a number that was taken, if it was rounded.
+pub fn count(c: Cursor, rounded: bool) -> Cursor
+    requires { ⌜ c .rounded ≤ textLimit ⌝ }
+    ensures { λ r. ⌜ r ≡ tallied rounded c ⌝ }
+{
+    if rounded {
+        let rounded = c.rounded + 1;
+        return Cursor { rounded, ..c };
+    }
+    c
+}
+
 pub fn parse_float(text: &[u8], c: Cursor) -> FloatRead
     requires { ⌜ Ready (now text) c ⌝ }
     ensures { λ r. ⌜ FloatMeans (now (text .entry)) c parseFloat r ⌝ }
 {
     match number(text, c) {
         NumberRead::Missing(p) => FloatRead::Refused(Refusal::Malformed, p),
-        NumberRead::Is(negative, n, m) => FloatRead::Is(
-            number::decimal(negative, n.digits, n.places),
-            m,
-        ),
+        NumberRead::Is(negative, n, m) => {
+            let x = number::decimal(negative, n.digits, n.places);
+            FloatRead::Is(x.value, count(m, x.rounded))
+        }
     }
 }
 
@@ -480,6 +501,7 @@ pub fn leave_group(text: &[u8], c: Cursor) -> Cursor
         at: m.at,
         end: m.end,
         left: noted,
+        rounded: m.rounded,
         kind,
     }
 }

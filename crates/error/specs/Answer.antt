@@ -9,10 +9,10 @@ use Rattle.error.specs.declared.CheckAnswer.the-variants as check
 use Rattle.error.specs.declared.LineAnswer.{LineAnswer}
 use Rattle.error.specs.declared.LineAnswer.the-variants as line
 
--- reading: the sheet's length and its count of node records
+-- reading: the sheet's length, its count of node records and that of the rounded numbers; "On a refusal the count is 0"
 abbrev pub readValues : ReadAnswer → List ℕ
-readValues (read.Accepted length records) = 0 ∷ length ∷ records ∷ []
-readValues (read.Refused refusal place) = numberOf refusal ∷ place ∷ []
+readValues (read.Accepted length records rounded) = 0 ∷ length ∷ records ∷ rounded ∷ []
+readValues (read.Refused refusal place) = numberOf refusal ∷ place ∷ 0 ∷ []
 
 -- checking: nothing
 abbrev pub checkValues : CheckAnswer → List ℕ

@@ -50,10 +50,18 @@ pub enum Refusal {
     TooManyScripts,
 }
 
-// What reading answers: the sheet's length and its count of node records, or a refusal and its place.
+// What reading answers: the sheet's length, its count of node records and how many written numbers were rounded, or a
+// refusal and its place.
 pub enum ReadAnswer {
-    Accepted { length: usize, records: usize },
-    Refused { refusal: Refusal, place: usize },
+    Accepted {
+        length: usize,
+        records: usize,
+        rounded: usize,
+    },
+    Refused {
+        refusal: Refusal,
+        place: usize,
+    },
 }
 
 // What checking answers: a refusal's place is 0, a place in the text, or a record's ordinal.

@@ -279,7 +279,8 @@ refused-adds : (ws : List ℕ) (r : Refusal) (p : ℕ) {after : List ℕ} → af
 unfolding sumOf
 refused-adds ws r p q = q ∙ added-same 0 (inWord (numberOf r) 1) (λ i. inWord (numberOf r) 1 i + 0) (λ i. omega arith) ws
 
-module _ (t scratch sheet : List ℕ) {n c : ℕ} {words left : List ℕ} (q : (read.Accepted n c, words, left) ≡ reading t scratch sheet) where
+module _ (t scratch sheet : List ℕ) {n c j : ℕ} {words left : List ℕ}
+    (q : (read.Accepted n c j, words, left) ≡ reading t scratch sheet) where
   judged-as : {v : CheckAnswer} → v ≡ checking t (take n left) → judgement (fed t scratch sheet) ≡ v
   judged-as f = ap (whenRead t) (sym q) ∙ sym f
 
@@ -322,13 +323,13 @@ module _ (ws t scratch sheet : List ℕ) where
         counted (check.Refused r p) [] q (ap (whenRead t) (sym q))
         (ap (λ (x : ReadAnswer × List ℕ × List ℕ). ifAccepted (whenRead t x) (sheetNodes t x)) (sym q)) a (refused-adds ws r p s)
 
-    pub feed-refused : {n c : ℕ} (q : (read.Accepted n c, words, left) ≡ reading t scratch sheet) {r : Refusal} {p : ℕ} {a : FeedAnswer}
+    pub feed-refused : {n c j : ℕ} (q : (read.Accepted n c j, words, left) ≡ reading t scratch sheet) {r : Refusal} {p : ℕ} {a : FeedAnswer}
         → check.Refused r p ≡ checking t (take n left) → after ≡ judgedAdd (check.Refused r p) ws → a ≡ Counted (check.Refused r p)
         → (a, after, words, left) ≡ feeding ws (fed t scratch sheet)
     feed-refused q {r} {p} f s a =
         counted (check.Refused r p) [] q (judged-as t scratch sheet q f) (nodes-as t scratch sheet q f) a (refused-adds ws r p s)
 
-    pub feed-accepted : {n c : ℕ} (q : (read.Accepted n c, words, left) ≡ reading t scratch sheet) {vs : List ℕ}
+    pub feed-accepted : {n c j : ℕ} (q : (read.Accepted n c j, words, left) ≡ reading t scratch sheet) {vs : List ℕ}
         → check.Accepted ≡ checking t (take n left) → vs ≡ added (inWord 0 1) ws
         → after ≡ added (nodesAdd (nodesIn (decode (length t) (take n left)))) vs
         → (Counted check.Accepted, after, words, left) ≡ feeding ws (fed t scratch sheet)

@@ -36,7 +36,7 @@ readOf x = reading (x .text) (x .scratch) (x .sheet)
 
 -- "A script counts as refused if reading or checking refuses it"; checking gets the sheet up to the length that reading gave
 abbrev pub whenRead : List ℕ → ReadAnswer × List ℕ × List ℕ → CheckAnswer
-whenRead t (read.Accepted n c, words, s) = checking t (take n s)
+whenRead t (read.Accepted n c j, words, s) = checking t (take n s)
 whenRead t (read.Refused r p, words, s) = check.Refused r p
 
 abbrev pub judgement : Fed → CheckAnswer
@@ -55,7 +55,7 @@ nodesIn none = []
 nodesIn (some ns) = nodesOf ns
 
 abbrev pub sheetNodes : List ℕ → ReadAnswer × List ℕ × List ℕ → List Node
-sheetNodes t (read.Accepted n c, words, s) = nodesIn (decode (length t) (take n s))
+sheetNodes t (read.Accepted n c j, words, s) = nodesIn (decode (length t) (take n s))
 sheetNodes t (read.Refused r p, words, s) = []
 
 -- "Records and entries count in accepted scripts only"

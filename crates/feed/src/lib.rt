@@ -84,6 +84,7 @@ pub fn feed(
         Verdict::Checked {
             length,
             records,
+            rounded,
             answer,
         } => match answer {
             CheckAnswer::Refused { refusal, place } => count_refused(totals, refusal, place),

@@ -118,7 +118,7 @@ module _ (s : List ℕ) (t : Table) (c : Cursor) (r : Ready s c) where
       → (fs : Fields)
       → Gives (fieldsStep t) s c fs (got fs (notes s m) (tokens s m))
   unfolding fieldsStep
-  gives-closes m f e fs = by-step (fieldsStep t) fs s c _ r (λ k l. rw (e, f .rest, f .left))
+  gives-closes m f e fs = by-step (fieldsStep t) fs s c _ r (λ k l. rw (e, f .rest, f .left, f .rounded))
 
   pub passes-moves : (m : Cursor) → Follows s c m → itemOf (kind (tokens s c)) ≡ passes → c .at < m .at
   passes-moves m f e = let a = head-moves s c r (no-halt (kind (tokens s c)) passes e not-passes) in omega (arith, f .at)
@@ -128,7 +128,7 @@ module _ (s : List ℕ) (t : Table) (c : Cursor) (r : Ready s c) where
       → Gives (fieldsStep t) s c fs out
   unfolding fieldsStep
   gives-passes m f e fs out h =
-      by-step (fieldsStep t) fs s c _ r (λ k l. rw (e, f .rest, sym (f .left)) (h k (let a = passes-moves m f e in omega arith)))
+      by-step (fieldsStep t) fs s c _ r (λ k l. rw (e, f .rest, sym (f .left), sym (f .rounded)) (h k (let a = passes-moves m f e in omega arith)))
 
   pub gives-refused : (x : Refusal) (q : ℕ) → itemOf (kind (tokens s c)) ≡ starts
       → run s c (fieldHead fieldName t) ≡ refused x q → (fs : Fields)

@@ -8,6 +8,7 @@ use mathlib.Core.Option.{Option, none, some}
 use Rattle.text.specs.Words.{default}
 use Rattle.text.specs.Words as words
 use Rattle.number.specs.Number.{Written, nearest, bits}
+use Rattle.number.specs.Rounded.{numberRounded, timeRounded}
 use Rattle.number.specs.Time.{Key, storedTime}
 use Rattle.ast.specs.Tree.{
   DampingMode,
@@ -42,7 +43,7 @@ use Rattle.grammar.specs.Fields.{lastNumber, lastTruth, lastEasing, last
 use Rattle.grammar.specs.Values.{ident, string, parseFloat, parseUint, parseFloatInParens, parseTwoFloatsInParens}
 use Rattle.grammar.specs.Values.{parseValue, f32Of, parseEasing, parseLoopMode, number, count, flag, value, easing, loopMode}
 use Rattle.grammar.specs.Rule.{Rule, _>>=_, _>>_, give, refuse, need, if, sees, seesWord, seesName, seesNumber, ends}
-use Rattle.grammar.specs.Rule.{skip, the, both, eat, word, choice, signed, inside, repeat, Next, more, done, goOn}
+use Rattle.grammar.specs.Rule.{skip, the, both, eat, word, choice, signed, counted, inside, repeat, Next, more, done, goOn}
 use Rattle.error.specs.declared.Refusal.the-variants.{Missing, UnknownKeyword, Malformed, UnknownSpringPreset}
 use Rattle.error.specs.declared.Refusal.the-variants.{MissingDuration, StaggerGridIncomplete, TooManyNested}
 
@@ -136,12 +137,16 @@ parseSpring = do
 unfoldable pub stored : Key → KeyframeTime
 stored k = cond (k .percent) (percent (bits (storedTime k))) (seconds (bits (storedTime k)))
 
+-- a key, counted
+unfoldable pub keyed : Key → Rule Key
+keyed k = counted (timeRounded k) >> give k
+
 -- parse_keyframe_time
 unfoldable pub parseKeyframeTime : Rule Key
 parseKeyframeTime = do
   w ← signed seesNumber Malformed
   p ← cond (w .1 .point) (give false) (eat "%")
-  cond (p && w .1 .suffix) (refuse Malformed) (give (record { percent = p; negative = w .0; written = w .1 }))
+  cond (p && w .1 .suffix) (refuse Malformed) (keyed (record { percent = p; negative = w .0; written = w .1 }))
 
 -- a frame: a time, `:`, a value, and an easing where a name follows
 unfoldable pub keyframeEntry : Rule (KeyframeEntry Key)
@@ -408,13 +413,18 @@ atSign = do
   minus ← cond plus (give false) (eat "-")
   give (plus || minus, minus)
 
+-- the number's sign behind `at`'s own
+abbrev pub turned : Bool → Bool → Bool
+turned minus negative = cond minus (not negative) negative
+
 -- parse_at: "`at` takes its own sign first"
 unfoldable pub parseAt : Rule (Leaf Key)
 parseAt = do
   sign ← atSign
   w ← signed seesNumber Malformed
+  counted (numberRounded (turned (sign .1) (w .0)) (w .1))
   eat ";"
-  give (Leaf.at (record { value = bits (nearest (cond (sign .1) (not (w .0)) (w .0)) (w .1)); relative = sign .0 }))
+  give (Leaf.at (record { value = bits (nearest (turned (sign .1) (w .0)) (w .1)); relative = sign .0 }))
 
 -- ---- nodes
 

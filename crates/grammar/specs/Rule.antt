@@ -16,9 +16,11 @@ use Rattle.token.specs.Names.{wordOf, nameOf, quoteOf}
 use Rattle.error.specs.declared.Refusal.{Refusal}
 use Rattle.error.specs.declared.Refusal.the-variants.{Missing}
 
--- the place of the first leftover, if there was one; and a number of steps that no repetition in the text exceeds
+-- the place of the first leftover, if there was one; how many numbers were rounded; and a number of steps that no repetition in the text
+-- exceeds
 pub record Notes : Type 0 where
   pub leftover : Option ℕ
+  pub rounded : ℕ
   pub bound : ℕ
 
 pub data Out (A : Type 0) : Type 0 where
@@ -181,6 +183,13 @@ taken r (minus w) l ts = got (true, w) l (rest (rest ts))
 abbrev pub signed : (List Token → Signed) → Refusal → Rule (Bool × Written)
 signed view r l ts = taken r (view ts) l ts
 
+-- 02 (d): "A number counts once each time it is written": where a rule takes it for an f32, if it was rounded
+abbrev pub tally : Bool → Notes → Notes
+tally b l = record { leftover = l .leftover; rounded = cond b (suc (l .rounded)) (l .rounded); bound = l .bound }
+
+abbrev pub counted : Bool → Rule Unit
+counted b l ts = got tt (tally b l) ts
+
 -- ---- groups: `parenthesized!`, `bracketed!`, `braced!`
 
 -- what a token is to a reader that leaves a group, d deeper groups being open: the text's end, the group's closer, or to be passed
@@ -222,7 +231,7 @@ firstOf none p = some p
 firstOf (some q) p = some q
 
 abbrev pub noted : Notes → ℕ → Notes
-noted l p = record { leftover = firstOf (l .leftover) p; bound = l .bound }
+noted l p = record { leftover = firstOf (l .leftover) p; rounded = l .rounded; bound = l .bound }
 
 -- 01: "tokens left inside a delimiter" are passed over, and the place of the first is kept: a later refusal comes first
 abbrev pub leave : Rule Unit

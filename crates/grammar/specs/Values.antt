@@ -9,6 +9,7 @@ use lib.Ieee.{binary32, round}
 use Rattle.text.specs.Bytes.{bytes, same}
 use Rattle.text.specs.Words.{under, default}
 use Rattle.number.specs.Number.{Written, nearest, whole, bits}
+use Rattle.number.specs.Rounded.{numberRounded}
 use Rattle.ast.specs.Tree.{
   Span,
   ValueExpr,
@@ -30,7 +31,7 @@ use Rattle.ast.specs.Tree.{
 }
 use Rattle.grammar.specs.Fields.{Content, aNumber, aTruth, anEasing, aLoopMode, aValue, Table, pairs, lastNumber}
 use Rattle.grammar.specs.Rule.{Rule, _>>=_, _>>_, give, refuse, need, if, sees, seesTwo, seesWord, seesNumber}
-use Rattle.grammar.specs.Rule.{seesWhole, skip, the, both, word, text, choice, signed, inside, list}
+use Rattle.grammar.specs.Rule.{seesWhole, skip, the, both, word, text, choice, signed, counted, inside, list}
 use Rattle.error.specs.declared.Refusal.the-variants.{Missing, Malformed, UnknownKeyword}
 
 -- a name as its place
@@ -55,6 +56,7 @@ truth = if (seesWord "true") (skip >> give true) (if (seesWord "false") (skip >>
 unfoldable pub parseFloat : Rule ℕ
 parseFloat = do
   w ← signed seesNumber Malformed
+  counted (numberRounded (w .0) (w .1))
   give (bits (nearest (w .0) (w .1)))
 
 -- parse_uint

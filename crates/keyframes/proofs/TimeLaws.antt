@@ -1,14 +1,15 @@
 -- A key's time, and an easing. Assumes nothing.
-use Prim.Native.Nat.{ℕ, _^_}
-use mathlib.Core.Bool.{Bool, true, false, _&&_}
+use Prim.Native.Nat.{ℕ, _+_, _^_, _≤_}
+use mathlib.Core.Bool.{Bool, true, false, _&&_, cond}
 use mathlib.Core.List.{List}
 use mathlib.Core.Option.{none, some}
-use mathlib.Core.Path.{_≡_, refl}
+use mathlib.Core.Path.{_≡_, refl, sym, ap, _∙_}
 use native.Mathlib.Omega.{arith}
 use lib.Ieee.{Float, binary32, round}
 use Rattle.number.specs.Number.{nearest}
 use Rattle.number.specs.Number as Number
 use Rattle.number.specs.Time.{storedTime}
+use Rattle.number.specs.Rounded.{fraction, rounded, timeRounded}
 use Rattle.number.proofs.Floats.{round-number, percent-number}
 use Rattle.ast.specs.Tree.{EasingSpec}
 use Rattle.error.specs.declared.Refusal.{Refusal}
@@ -16,12 +17,12 @@ use Rattle.error.specs.declared.Refusal.the-variants.{Missing, Malformed}
 use Rattle.token.specs.Token.{place}
 use Rattle.token.specs.Means.{writtenOf}
 use Rattle.token.specs.declared.Number as numbers
-use Rattle.grammar.specs.Rule.{refused, seesNumber, seesName, absent, theByte, eatByte}
+use Rattle.grammar.specs.Rule.{Out, got, refused, give, skip, _>>_, seesByte, seesNumber, seesName, absent, theByte, eatByte}
 use Rattle.grammar.specs.Values.{parseEasing}
-use Rattle.grammar.specs.Grammar.{stored, parseKeyframeTime}
-use Rattle.cursor.specs.Means.{Ready, tokens, run, Took, Numbers}
+use Rattle.grammar.specs.Grammar.{stored, keyed, parseKeyframeTime}
+use Rattle.cursor.specs.Means.{Ready, notes, tokens, run, Took, tallied, Numbers}
 use Rattle.cursor.specs.declared.Cursor.{Cursor}
-use Rattle.cursor.proofs.CursorLaws.{took-number, stays, head-place}
+use Rattle.cursor.proofs.CursorLaws.{counts, took-number, stays, head-place}
 use Rattle.keyframes.specs.Means.{percentSign, keyOf, Stores, TookTime, keyMark, easingIf}
 
 -- ---- a key's time
@@ -45,6 +46,36 @@ pub stores-seconds : (b negative : Bool) (n : numbers.Number) (x : Float)
 unfolding stored storedTime nearest
 stores-seconds b negative n x e h = rw (e, h) (record { is = refl; plain = round-number negative (n .digits) (10 ^ n .places) })
 
+-- whether it was rounded
+pub rounds-percent : (b negative : Bool) (n : numbers.Number) {y : Bool} → b ≡ true
+    → y ≡ rounded (Number.percent negative (n .digits)) (fraction negative (n .digits) 100)
+    → y ≡ timeRounded (keyOf b negative (writtenOf n))
+unfolding timeRounded storedTime
+rounds-percent b negative n e h = rw e h
+
+pub rounds-seconds : (b negative : Bool) (n : numbers.Number) {y : Bool} → b ≡ false
+    → y ≡ rounded (round binary32 negative (n .digits) (10 ^ n .places)) (fraction negative (n .digits) (10 ^ n .places))
+    → y ≡ timeRounded (keyOf b negative (writtenOf n))
+unfolding timeRounded storedTime nearest
+rounds-seconds b negative n e h = rw e h
+
+-- a `%` counts nothing
+abbrev countOf : {A : Type 0} → Out A → ℕ
+countOf (got a l ts) = l .rounded
+countOf (refused r q) = 0
+
+sign-counts : (s : List ℕ) (c m : Cursor) (b x : Bool) → Took 0 s c m (percentSign b) x → m .rounded ≡ c .rounded
+sign-counts s c m b x t = go b (t .is)
+  where
+    by : (y : Bool) → cond y (skip >> give true) (give false) (notes s c) (tokens s c) ≡ got x (notes s m) (tokens s m)
+        → m .rounded ≡ c .rounded
+    by true e = sym (ap countOf e)
+    by false e = sym (ap countOf e)
+
+    go : (b : Bool) → percentSign b (notes s c) (tokens s c) ≡ got x (notes s m) (tokens s m) → m .rounded ≡ c .rounded
+    go true e = sym (ap countOf e)
+    go false e = by (seesByte 37 (tokens s c)) e
+
 pub no-time : (s : List ℕ) (c : Cursor) (q : ℕ)
     → (seesNumber (tokens s c) ≡ absent) × (place (tokens s c) ≡ q)
     → run s c parseKeyframeTime ≡ refused Malformed q
@@ -57,18 +88,21 @@ module _ (s : List ℕ) (c m u : Cursor) (negative : Bool) (n : numbers.Number) 
   unfolding parseKeyframeTime
   percent-suffix e = rw (took-number s c m negative n v Malformed .is, t .is, e, head-place s u (t .ready))
 
-  pub took-time : (p && n .suffix) ≡ false → {x : Float} → Stores (keyOf p negative (writtenOf n)) p x
-      → TookTime s c u parseKeyframeTime p x
-  unfolding parseKeyframeTime
-  took-time e h = record {
-    key = keyOf p negative (writtenOf n);
-    took = record {
-      is = rw (took-number s c m negative n v Malformed .is, t .is, e);
-      low = omega (arith, v .low, t .low);
-      ready = t .ready;
-    };
-    stores = h;
-  }
+  pub took-time : (p && n .suffix) ≡ false → Ready s c → {x : Float} → Stores (keyOf p negative (writtenOf n)) p x
+      → {y : Bool} → y ≡ timeRounded (keyOf p negative (writtenOf n)) → {w : Cursor} → w ≡ tallied y u
+      → TookTime s c w parseKeyframeTime p x
+  unfolding parseKeyframeTime keyed
+  took-time e r h {y = y} q z =
+      let far : c .at + 1 ≤ u .at = omega (arith, v .low, t .low) in
+      record {
+        key = keyOf p negative (writtenOf n);
+        took = record {
+          is = rw (took-number s c m negative n v Malformed .is, t .is, e, z, sym q);
+          low = rw z far;
+          ready = rw z (counts s c u r (t .ready) (sign-counts s m u (n .point) p t ∙ v .rounded) far y);
+        };
+        stores = h;
+      }
 
 -- ---- a key and its `:`
 

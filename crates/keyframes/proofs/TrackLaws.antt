@@ -56,14 +56,14 @@ module _ (s b : List ℕ) (t : tracks.Track) (m : Cursor) (f : Follows s (t .nex
   pub loop-no-colon : (q : ℕ) → run s m (theByte 58) ≡ refused Missing q → (fs : List (KeyframeEntry Key))
       → run s (t .next) (trackLoop (trackOf fs t)) ≡ refused Missing q
   unfolding trackLoop
-  loop-no-colon q h fs = rw (f .rest, sym (f .left), h)
+  loop-no-colon q h fs = rw (f .rest, sym (f .left), sym (f .rounded), h)
 
   module _ (n : Cursor) (o : Took 1 s m n (theByte 58) tt) where
     pub loop-refused : (r : Refusal) (q : ℕ) → run s n parseLoopMode ≡ refused r q
         → (fs : List (KeyframeEntry Key))
         → run s (t .next) (trackLoop (trackOf fs t)) ≡ refused r q
     unfolding trackLoop
-    loop-refused r q h fs = rw (f .rest, sym (f .left), o .is, h)
+    loop-refused r q h fs = rw (f .rest, sym (f .left), sym (f .rounded), o .is, h)
 
     pub loop-step : Ready s (t .next) → (v u : Cursor) (x : loops.LoopSpec) (y : Bool)
         → Took 1 s n v parseLoopMode (loopOf x) → Took 0 s v u (eatByte 44) y
@@ -71,7 +71,7 @@ module _ (s b : List ℕ) (t : tracks.Track) (m : Cursor) (f : Follows s (t .nex
     unfolding trackLoop
     loop-step r v u x y l e = record {
       added = [];
-      is = λ fs. rw (f .rest, sym (f .left), o .is, l .is, e .is, append-nil);
+      is = λ fs. rw (f .rest, sym (f .left), sym (f .rounded), o .is, l .is, e .is, append-nil);
       low = let a = moved-low s (t .next) m r f in omega (arith, o .low, l .low, e .low);
       ready = e .ready;
       count = omega arith;

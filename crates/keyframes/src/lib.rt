@@ -5,6 +5,7 @@ ghost use mathlib.Core.Path.{_≡_};
 ghost use mathlib.Core.Bool.{_&&_};
 ghost use mathlib.Core.List.{List};
 ghost use Prim.Native.Nat.{ℕ, _+_, _<_, _^_};
+ghost use Rattle.number.specs.Rounded.{timeRounded};
 ghost use Rattle.token.specs.Means.{Small, writtenOf};
 ghost use Rattle.encode.specs.Of.{PlainEntry};
 ghost use Rattle.grammar.specs.Grammar.{parseKeyframeTime, trackLoop, trackFrame, trackStep, parseKeyframes};
@@ -23,6 +24,7 @@ use cursor::NumberRead;
 use cursor::WordRead;
 use error::Refusal;
 use nodes::NodeRead;
+use number::Stored;
 use token::Number;
 use values::EasingRead;
 use values::LoopRead;
@@ -90,10 +92,11 @@ fn all(a: bool, b: bool) -> bool
     false
 }
 
-// The time that is stored for a key.
-fn time_of(percent: bool, negative: bool, n: Number) -> f32
+// The time that is stored for a key, and whether it was rounded.
+fn time_of(percent: bool, negative: bool, n: Number) -> Stored
     requires { ⌜ Small n ⌝ }
-    ensures { λ r. ⌜ Stores (keyOf percent negative (writtenOf n)) percent r ⌝ }
+    ensures value { λ r. ⌜ Stores (keyOf percent negative (writtenOf n)) percent (r .value) ⌝ }
+    ensures rounded { λ r. ⌜ r .rounded ≡ timeRounded (keyOf percent negative (writtenOf n)) ⌝ }
 {
     if percent {
         return number::percent(negative, n.digits);
@@ -113,7 +116,8 @@ pub fn parse_keyframe_time(text: &[u8], c: Cursor) -> TimeRead
             if all(sign.taken, n.suffix) {
                 return TimeRead::Refused(Refusal::Malformed, cursor::place(next));
             }
-            TimeRead::Is(sign.taken, time_of(sign.taken, negative, n), next)
+            let x = time_of(sign.taken, negative, n);
+            TimeRead::Is(sign.taken, x.value, cursor::count(next, x.rounded))
         }
     }
 }

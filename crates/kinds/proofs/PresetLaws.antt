@@ -79,13 +79,13 @@ module _ {s : List ℕ} {c e : Cursor} {x : DrawFields} (h : DrawListMeans s c p
     list-end (draw.Is g u) w = record {
       fields = w .fields;
       took = record {
-        is = rw (h .took .is, z, f .rest, sym (f .left), w .took .is);
+        is = rw (h .took .is, z, f .rest, sym (f .left), sym (f .rounded), w .took .is);
         low = omega (arith, h .took .low, comma .low, w .took .low);
         ready = w .took .ready;
       };
       say = w .say;
     }
-    list-end (draw.Refused a q) w = rw (h .took .is, z, f .rest, sym (f .left), w)
+    list-end (draw.Refused a q) w = rw (h .took .is, z, f .rest, sym (f .left), sym (f .rounded), w)
 
 -- a refusal in parentheses is one of all
 pub all-refused : (s : List ℕ) (c : Cursor) (a : Refusal) (q : ℕ) → run s c presetPairs ≡ refused a q → run s c presetFields ≡ refused a q

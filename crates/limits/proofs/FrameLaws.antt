@@ -11,6 +11,7 @@ use Rattle.text.specs.Bytes.{bytes}
 use Rattle.text.specs.Words.{isSome}
 use Rattle.number.specs.Number.{bits}
 use Rattle.number.specs.Time.{Key, storedTime}
+use Rattle.number.specs.Rounded.{timeRounded}
 use Rattle.number.proofs.Floats.{bits-lt, stored-fits}
 use Rattle.codec.specs.Codec.{Form, opt, eachOut}
 use Rattle.codec.proofs.Laws.{Small, All, Law, optL}
@@ -23,8 +24,8 @@ use Rattle.token.specs.Names.{nameOf}
 use Rattle.error.specs.declared.Refusal.the-variants.{Malformed}
 use Rattle.grammar.specs.Rule.{give, _>>=_, _>>_, if, sees, seesName, seesWord, ends, skip, the, eat, goOn, repeat, more}
 use Rattle.grammar.specs.Values.{parseLoopMode}
-use Rattle.grammar.specs.Grammar.{stored, parseKeyframeTime, keyframeEntry, Track, trackLoop, trackFrame, trackStep, parseKeyframes}
-use Rattle.limits.proofs.RunLaws.{Runs, gives, refuses, then, and, weaken, tests, conds, Onto, repeats}
+use Rattle.grammar.specs.Grammar.{stored, keyed, parseKeyframeTime, keyframeEntry, Track, trackLoop, trackFrame, trackStep, parseKeyframes}
+use Rattle.limits.proofs.RunLaws.{Runs, gives, refuses, then, and, tallies, weaken, tests, conds, Onto, repeats}
 use Rattle.limits.proofs.TakeLaws.{a-number, the-mark, skips-mark, skips-word, Eaten, eats, eaten, in-group}
 use Rattle.limits.proofs.ListLaws.{_also_}
 use Rattle.limits.proofs.SizeLaws.{entry-size, keyframes-size}
@@ -63,13 +64,13 @@ seen-name (mark b) e = absurd (let z : _≡_ {A = ℕ} 0 1 = cc in omega arith)
 
 module _ (s : List ℕ) (short : length s ≤ textLimit) where
   time-runs : (q : ℕ) → q ≤ length s → Runs s parseKeyframeTime q (λ k m. q < m)
-  unfolding parseKeyframeTime
+  unfolding parseKeyframeTime keyed
   time-runs q h =
       then (a-number h Malformed)
       (λ w m g x.
       then (conds {Q = λ c n. m ≤ n} (w .1 .point) (λ e. gives g (omega arith)) (λ e. weaken (eats g 37 refl) (λ c n y. eaten m c n y)))
       (λ c n f y.
-      conds (c && w .1 .suffix) (λ e. refuses) (λ e. gives f (omega (arith, x .on)))))
+      conds (c && w .1 .suffix) (λ e. refuses) (λ e. tallies (timeRounded _) (gives f (omega (arith, x .on))))))
 
   -- ---- a frame: 2 bytes over, which a `,` behind it pays for
 

@@ -15,6 +15,8 @@ use Rattle.codec.specs.Codec.{Form, opt}
 use Rattle.codec.proofs.Laws.{All, Law, optL}
 use Rattle.encode.proofs.FieldLaws.{small}
 use Rattle.number.proofs.Floats.{nearest-fits, bits-lt}
+use Rattle.number.specs.Number.{nearest, bits}
+use Rattle.number.specs.Rounded.{numberRounded}
 use Rattle.number.specs.Time.{Key}
 use Rattle.ast.specs.Tree.{Span, ValueExpr, DampingMode, criticallyDamped, overdamped, underdamped, TweenSpec, SpringSpec}
 use Rattle.ast.specs.Tree.{PathSpec, MorphSpec, DrawSpec, ColorSpec, WaveformSpec, PresetCall, Leaf, single, mapLeaf}
@@ -27,8 +29,8 @@ use Rattle.grammar.specs.Fields.{lastTruth, lastEasing, lastLoopMode, lastValue
 use Rattle.grammar.specs.Grammar.{stored, tweenFields, parseTween, springFields, parseSpringPreset, springPreset}
 use Rattle.grammar.specs.Grammar.{integrator, criticalDamping, overDamping, underDamping, parseSpring, offset, pathFields, parsePath}
 use Rattle.grammar.specs.Grammar.{morphFields, parseMorph, drawFields, parseDraw, space, colorFields, parseColor}
-use Rattle.grammar.specs.Grammar.{waveformKind, waveformFields, parseWaveform, parsePresetCall, parseLabel, atSign, parseAt}
-use Rattle.limits.proofs.RunLaws.{Runs, gives, then, and, weaken, tests, conds, needs}
+use Rattle.grammar.specs.Grammar.{waveformKind, waveformFields, parseWaveform, parsePresetCall, parseLabel, atSign, turned, parseAt}
+use Rattle.limits.proofs.RunLaws.{Runs, gives, then, and, tallies, weaken, tests, conds, needs}
 use Rattle.limits.proofs.TakeLaws.{the-mark, two-marks, skips-mark, Eaten, eats, eaten, Number, a-number, in-group}
 use Rattle.limits.proofs.ListLaws.{_also_, a-choice}
 use Rattle.limits.proofs.SizeLaws.{Most, all, _⊕_, span-most, tween-size, tween-rest, spring-size, path-size}
@@ -495,8 +497,9 @@ module _ (s : List ℕ) (short : length s ≤ textLimit) {inner : Form Forest} (
   at-runs q h e =
       then (sign-runs q h) (λ v m g x.
       then (a-number g Malformed) (λ w n f y.
-      and (eats f 59 refl) (λ o i c z.
-      gives i (record {
+      let a : Leaf Key = Leaf.at (record { value = bits (nearest (turned (v .1) (w .0)) (w .1)); relative = v .0 }) in
+      tallies (numberRounded (turned (v .1) (w .0)) (w .1)) (and (eats f 59 refl) (λ o i c z.
+      gives {a = a} i (record {
         ok = λ start j. (j, (small 4 _ (bits-lt _ (nearest-fits _ _)), flag-ok (v .0)));
         paid = λ start. omega (arith, behind-sign q m n e x y, eaten n c o z);
-      }))))
+      })))))

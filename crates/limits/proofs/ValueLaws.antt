@@ -13,6 +13,7 @@ use borrow.Author.Tests.{ltb-false, le-leb}
 use Rattle.text.specs.Limits.{textLimit}
 use Rattle.text.specs.Bytes.{isName, bytes}
 use Rattle.number.specs.Number.{Written, nearest, whole, bits}
+use Rattle.number.specs.Rounded.{numberRounded}
 use Rattle.number.proofs.Floats.{nearest-fits, bits-lt}
 use Rattle.codec.specs.Codec.{eachOut}
 use Rattle.codec.proofs.Laws.{Small, All}
@@ -25,7 +26,7 @@ use Rattle.error.specs.declared.Refusal.the-variants.{Missing, Malformed}
 use Rattle.grammar.specs.Rule.{sees, seesWord, give}
 use Rattle.grammar.specs.Values.{ident, string, truth, parseFloat, parseUint, parseFloatInParens, commaFloat, twoFloats}
 use Rattle.grammar.specs.Values.{parseTwoFloatsInParens, parseUintInParens, arrayItem, arrayItems, parseValue, f32Of}
-use Rattle.limits.proofs.RunLaws.{Runs, gives, refuses, then, and, weaken, tests, needs}
+use Rattle.limits.proofs.RunLaws.{Runs, gives, refuses, then, and, tallies, weaken, tests, needs}
 use Rattle.limits.proofs.TakeLaws.{a-word, a-text, Number, a-number, a-whole, Inside, in-group, the-mark, skips-word, next-name}
 use Rattle.limits.proofs.ListLaws.{none≢some, lists}
 
@@ -90,7 +91,9 @@ module _ (s : List ℕ) (short : length s ≤ textLimit) where
 
   pub float-runs : (q : ℕ) → q ≤ length s → Runs s parseFloat q (Four q)
   unfolding parseFloat
-  float-runs q h = then (a-number h Malformed) (λ w m g x. gives g (record { ok = f32-below (w .0) (w .1); is = x }))
+  float-runs q h =
+      then (a-number h Malformed)
+      (λ w m g x. tallies (numberRounded (w .0) (w .1)) (gives g (record { ok = f32-below (w .0) (w .1); is = x })))
 
   pub uint-runs : (q : ℕ) → q ≤ length s → Runs s parseUint q (λ n m. (n < 4294967296) × (q < m))
   unfolding parseUint

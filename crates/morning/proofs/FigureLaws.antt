@@ -203,7 +203,8 @@ sum-added i n f ws h =
 
 -- ---- the nodes of a script
 
-module _ (t scratch sheet : List ℕ) {n c : ℕ} {words left : List ℕ} (q : (read.Accepted n c, words, left) ≡ reading t scratch sheet) where
+module _ (t scratch sheet : List ℕ) {n c j : ℕ} {words left : List ℕ}
+    (q : (read.Accepted n c j, words, left) ≡ reading t scratch sheet) where
   nodes-counted : length (nodesIn (decode (length t) (take n left))) ≡ c
   unfolding allRecords
   nodes-counted =
@@ -231,14 +232,14 @@ module _ (t scratch sheet : List ℕ) {n c : ℕ} {words left : List ℕ} (q : (
 pub nodes-are : (x : Fed) → length (nodes x) ≡ acceptCount x
 nodes-are x = by (readOf x) refl
   where
-    judged : (n c : ℕ) (words left : List ℕ) → (read.Accepted n c, words, left) ≡ readOf x → (v : CheckAnswer)
+    judged : (n c j : ℕ) (words left : List ℕ) → (read.Accepted n c j, words, left) ≡ readOf x → (v : CheckAnswer)
         → length (feed.ifAccepted v (nodesIn (decode (length (x .text)) (take n left)))) ≡ ifAccepted v c
-    judged n c words left q check.Accepted = nodes-counted (x .text) (x .scratch) (x .sheet) q
-    judged n c words left q (check.Refused r p) = refl
+    judged n c j words left q check.Accepted = nodes-counted (x .text) (x .scratch) (x .sheet) q
+    judged n c j words left q (check.Refused r p) = refl
 
     by : (y : ReadAnswer × List ℕ × List ℕ) → y ≡ readOf x
         → length (feed.ifAccepted (whenRead (x .text) y) (sheetNodes (x .text) y)) ≡ ifAccepted (whenRead (x .text) y) (recordsRead y)
-    by (read.Accepted n c, words, left) q = judged n c words left q (checking (x .text) (take n left))
+    by (read.Accepted n c j, words, left) q = judged n c j words left q (checking (x .text) (take n left))
     by (read.Refused r p, words, left) q = refl
 
 no-nodes : (i : ℕ) → nodesAdd [] i ≤ 49152
@@ -249,12 +250,12 @@ no-nodes i = omega arith
 pub figure-small : (i : ℕ) (x : Fed) → figure i x ≤ 65535
 figure-small i x = omega (arith, in-word-most (numberIn (judgement x)) 1 i, by (readOf x) refl)
   where
-    judged : (n c : ℕ) (words left : List ℕ) → (read.Accepted n c, words, left) ≡ readOf x → (v : CheckAnswer)
+    judged : (n c j : ℕ) (words left : List ℕ) → (read.Accepted n c j, words, left) ≡ readOf x → (v : CheckAnswer)
         → nodesAdd (feed.ifAccepted v (nodesIn (decode (length (x .text)) (take n left)))) i ≤ 49152
-    judged n c words left q check.Accepted = nodes-short (x .text) (x .scratch) (x .sheet) q i
-    judged n c words left q (check.Refused r p) = no-nodes i
+    judged n c j words left q check.Accepted = nodes-short (x .text) (x .scratch) (x .sheet) q i
+    judged n c j words left q (check.Refused r p) = no-nodes i
 
     by : (y : ReadAnswer × List ℕ × List ℕ) → y ≡ readOf x
         → nodesAdd (feed.ifAccepted (whenRead (x .text) y) (sheetNodes (x .text) y)) i ≤ 49152
-    by (read.Accepted n c, words, left) q = judged n c words left q (checking (x .text) (take n left))
+    by (read.Accepted n c j, words, left) q = judged n c j words left q (checking (x .text) (take n left))
     by (read.Refused r p, words, left) q = no-nodes i

@@ -42,7 +42,7 @@ entryCount x = sumOf entriesOf (nodes x)
 
 -- the N of `accept N`: the count of node records that reading answers, of an accepted script
 abbrev pub recordsRead : ReadAnswer × List ℕ × List ℕ → ℕ
-recordsRead (read.Accepted n c, words, s) = c
+recordsRead (read.Accepted n c j, words, s) = c
 recordsRead (read.Refused r p, words, s) = 0
 
 abbrev pub ifAccepted : CheckAnswer → ℕ → ℕ

@@ -6,6 +6,7 @@ use mathlib.Core.Path.{_≡_, refl, sym, _∙_}
 use native.Mathlib.Omega.{arith}
 use lib.ListN.{length, length-append}
 use Rattle.number.specs.Number.{nearest, bits}
+use Rattle.number.specs.Rounded.{numberRounded}
 use Rattle.token.specs.Means.{writtenOf}
 use Rattle.token.specs.declared.Number.{Number}
 use Rattle.ast.specs.Tree.{label, at}
@@ -19,8 +20,8 @@ use Rattle.error.specs.declared.Refusal.{Refusal}
 use Rattle.error.specs.declared.Refusal.the-variants.{Missing, Malformed}
 use Rattle.grammar.specs.Rule.{Rule, refused, text, theByte, eatByte, signed, seesNumber, absent}
 use Rattle.grammar.specs.Values.{string}
-use Rattle.grammar.specs.Grammar.{parseLabel, atSign, parseAt}
-use Rattle.cursor.specs.Means.{Ready, run, tokens, Took, Numbers}
+use Rattle.grammar.specs.Grammar.{parseLabel, atSign, turned, parseAt}
+use Rattle.cursor.specs.Means.{Ready, run, tokens, Took, tallied, Numbers}
 use Rattle.cursor.specs.declared.Cursor.{Cursor}
 use Rattle.cursor.proofs.CursorLaws.{took-number}
 use Rattle.arrays.specs.Means.{Went}
@@ -66,18 +67,18 @@ module _ (s : List ℕ) (c m : Cursor) where
     unfolding parseAt
     no-value q e = rw (t .is, e .0, e .1)
 
-    pub at-went : {b b₁ a : List ℕ} {out f q : ℕ} (g? : Bool) (k : Number) (e n : Cursor) (d : Bool)
-        → Numbers s m g? k e → Took 0 s e n (eatByte 59) d
+    pub at-went : {b b₁ a : List ℕ} {out f q : ℕ} (g? : Bool) (k : Number) (e n : Cursor) (d y : Bool)
+        → Numbers s m g? k e → y ≡ numberRounded (turned i g?) (writtenOf k) → Took 0 s (tallied y e) n (eatByte 59) d
         → Writes b out (word .write (bits (nearest (cond i (not g?) g?) (writtenOf k)))) b₁ f
         → Writes b₁ f (flag .write p) a q
         → Went 1 s b a c n out q parseAt (leafBytes (length s))
     unfolding parseAt
-    at-went g? k e n d v u w z =
+    at-went g? k e n d y v j u w z =
         let r = took-number s m _ _ _ v Malformed in
         let x = bits (nearest (cond i (not g?) g?) (writtenOf k)) in
         record {
           value = at (record { value = x; relative = p });
-          took = record { is = rw (t .is, r .is, u .is); low = omega (arith, t .low, r .low, u .low); ready = u .ready };
+          took = record { is = rw (t .is, r .is, sym j, u .is); low = omega (arith, t .low, r .low, u .low); ready = u .ready };
           writes = writes-then w z;
           paid = let a2 = w .place in
               let a3 = z .place in

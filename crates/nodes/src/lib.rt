@@ -86,9 +86,9 @@ pub fn parse_at(text: &[u8], sheet: &mut [u8], c: Cursor, out: usize) -> NodeRea
     match cursor::number(text, m) {
         NumberRead::Missing(p) => NodeRead::Refused(Refusal::Malformed, p),
         NumberRead::Is(negative, n, e) => {
-            let end = cursor::eat(text, e, b';');
-            let value = number::decimal(turned(negative, sign.minus), n.digits, n.places);
-            let relative_at = encode::put_float(sheet, out, value);
+            let x = number::decimal(turned(negative, sign.minus), n.digits, n.places);
+            let end = cursor::eat(text, cursor::count(e, x.rounded), b';');
+            let relative_at = encode::put_float(sheet, out, x.value);
             let q = encode::put_flag(sheet, relative_at, sign.relative);
             let next = end.next;
             NodeRead::Is(q, next)

@@ -1,12 +1,14 @@
 -- The laws of numbers that more than one proof cites, and those that callers cite.
 pub mod Closest
 pub mod Round
+pub mod Exactly
 pub mod Floats
 pub mod Error
 pub mod Gap
 pub mod Scaling
 pub mod Apart
 pub mod Hundredth
+pub mod TwoRoundings
 pub mod Times
 pub mod Tracks
 pub mod Cases

@@ -2,16 +2,19 @@
 -- Assumes nothing.
 use mathlib.Core.Path.{_≡_, sym, ap, _∙_, subst}
 use mathlib.Core.Logic.{inr}
-use mathlib.Core.Bool.{false}
+use mathlib.Core.Bool.{Bool, false, not}
 use Prim.Native.Nat.{ℕ, suc, _+_, _-_, _*_, _/_, _%_, _^_, _≤_, _<_}
 use native.Mathlib.Nat.{le-trans, le-of-eq, lt-of-not-le, suc-inj, add-suc, add-comm, zero-add, mul-assoc, mul-le-mul}
 use native.Mathlib.Nat.{mul-le-mul-right, mul-mul-mul-comm, mod-eq-of-lt, le-div-iff-mul-le, div-lt-iff-lt-mul}
 use native.Mathlib.Omega.{arith}
 use lib.Count.{leadingZeros, leading-top}
+use lib.Dec.{eqb}
 use lib.Ieee.{binary32, round, toBits}
 use lib.Ieee.Nearest.{closest}
 use lib.Pow.{pow-add, pow-mono, shl-lt}
-use Rattle.number.proofs.Round.{Scaled, bits-by}
+use Rattle.number.specs.Rounded.{fraction, rounded}
+use Rattle.number.proofs.Round.{Scaled, Kept, bits-by}
+use Rattle.number.proofs.Exactly.{rounded-by}
 
 -- ---- n times 2 ^ z has 64 binary digits
 record Raised (n z : ℕ) : Type 0 where
@@ -90,15 +93,20 @@ scaled n d z y k e =
     ∙ ap (λ (x : ℕ). n * d * x) (sym (pow-add 2 149 y) ∙ ap (λ (x : ℕ). 2 ^ x) (sym e) ∙ pow-add 2 z k)
     ∙ mul-mul-mul-comm n d (2 ^ z) (2 ^ k)
 
--- the bits, where the whole part of the scaled fraction has 24 digits
-pub scaled-bits : (n d z y k a b : ℕ) → 0 < d → a ≡ n * 2 ^ z → b ≡ d * 2 ^ y
-    → z + k ≡ 149 + y → k ≤ 253 → 0 < b → 2 ^ 23 * b ≤ a
-    → a < 2 ^ 24 * b
-    → k * 2 ^ 23 + closest a b ≡ toBits binary32 (round binary32 false n d)
-scaled-bits n d z y k a b D p q e K B l h =
-    sym (bits-by false n d a b k D B (ap (λ (x : ℕ). n * 2 ^ 149 * x) q ∙ scaled n d z y k e ∙ ap (λ (x : ℕ). x * (d * 2 ^ k)) (sym p))
-    (div-lt-iff-lt-mul B .1 h, inr (le-div-iff-mul-le B .1 l)) K
-    ∙ zero-add (k * 2 ^ 23 + closest a b))
+-- where the whole part of the scaled fraction has 24 digits: the bits, and whether the fraction was rounded
+module _ (n d z y k a b : ℕ) (D : 0 < d) (p : a ≡ n * 2 ^ z) (q : b ≡ d * 2 ^ y)
+    (e : z + k ≡ 149 + y) (K : k ≤ 253) (B : 0 < b) (l : 2 ^ 23 * b ≤ a) (h : a < 2 ^ 24 * b) where
+  fits : Scaled n d a b k
+  fits = ap (λ (x : ℕ). n * 2 ^ 149 * x) q ∙ scaled n d z y k e ∙ ap (λ (x : ℕ). x * (d * 2 ^ k)) (sym p)
+
+  kept : Kept k (a / b)
+  kept = (div-lt-iff-lt-mul B .1 h, inr (le-div-iff-mul-le B .1 l))
+
+  pub scaled-bits : k * 2 ^ 23 + closest a b ≡ toBits binary32 (round binary32 false n d)
+  scaled-bits = sym (bits-by false n d a b k D B fits kept K ∙ zero-add (k * 2 ^ 23 + closest a b))
+
+  pub scaled-rounded : (s : Bool) → not (eqb (a % b) 0) ≡ rounded (round binary32 s n d) (fraction s n d)
+  scaled-rounded s = sym (rounded-by s n d a b k D B fits kept K)
 
 pub whole-below : (a b m : ℕ) → 0 < b → a < m * b → a / b < m
 whole-below a b m B h = div-lt-iff-lt-mul B .1 h

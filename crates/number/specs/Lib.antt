@@ -1,4 +1,5 @@
 pub mod Number
 pub mod Exact
 pub mod Time
+pub mod Rounded
 pub mod Answer

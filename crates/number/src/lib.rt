@@ -1,14 +1,15 @@
 // Numbers: the nearest f32 to a written decimal, whole percents, bit patterns, and times that are duplicates.
 ghost use mathlib.Core.Path.{_≡_};
-ghost use Prim.Native.Nat.{ℕ, _+_, _*_, _/_, _^_, _<_, _≤_};
-ghost use mathlib.Core.Bool.{false, not};
-ghost use lib.Dec.{T};
+ghost use Prim.Native.Nat.{ℕ, _+_, _*_, _/_, _%_, _^_, _<_, _≤_};
+ghost use mathlib.Core.Bool.{Bool, false, not};
+ghost use lib.Dec.{T, eqb};
 ghost use lib.Ieee as Ieee;
 ghost use lib.Ieee.{binary32};
 ghost use lib.Ieee.Nearest.{closest};
 ghost use Rattle.number.specs.Number as Number;
 ghost use Rattle.number.specs.Number.{Written, bits, f32};
 ghost use Rattle.number.specs.Time.{near};
+ghost use Rattle.number.specs.Rounded.{fraction, rounded};
 ghost use Rattle.number.specs.Answer.{valueOf};
 
 // The powers of 10 that fit 30 binary digits.
@@ -33,40 +34,71 @@ fn ten_to(places: usize) -> u64
     POWERS[places]
 }
 
+// The nearest whole number to a fraction, and whether it is another number than that.
+struct Divided {
+    whole: u64,
+    rounded: bool,
+}
+
+// The bits of the nearest f32 to a fraction, and whether it is another number than that.
+pub struct Bits {
+    pub bits: u32,
+    pub rounded: bool,
+}
+
+// The f32 that a written number is stored as, and whether it is another number than that.
+pub struct Stored {
+    pub value: f32,
+    pub rounded: bool,
+}
+
 // The nearest whole number to a / b, a tie to the even one.
-fn quotient(a: u64, b: u64) -> u64
+fn quotient(a: u64, b: u64) -> Divided
     requires { ⌜ (0 < b) × (b ≤ 2 ^ 62) × (a / b < 2 ^ 24) ⌝ }
-    ensures { λ r. ⌜ r ≡ closest a b ⌝ }
+    ensures whole { λ r. ⌜ r .whole ≡ closest a b ⌝ }
+    ensures rounded { λ r. ⌜ r .rounded ≡ not (eqb (a % b) 0) ⌝ }
 {
     let q = a / b;
-    let t = a % b * 2;
-    if t < b {
+    let rest = a % b;
+    let t = rest * 2;
+    let rounded = rest != 0;
+    let whole = if t < b {
         q
     } else if t == b {
         q + q % 2
     } else {
         q + 1
-    }
+    };
+    Divided { whole, rounded }
 }
 
 // The bits of the nearest whole number to a / b, which has 24 binary digits, times 2^(k - 149). Its highest digit adds
 // one to the exponent's field, and where it is 2^24 one more.
-fn packed(a: u64, b: u64, k: u32) -> u32
+fn packed(a: u64, b: u64, k: u32) -> Bits
     requires { ⌜ (0 < b) × (b ≤ 2 ^ 62) × (a / b < 2 ^ 24) × (k ≤ 253) ⌝ }
-    ensures { λ r. ⌜ r ≡ k * 2 ^ 23 + closest a b ⌝ }
+    ensures bits { λ r. ⌜ r .bits ≡ k * 2 ^ 23 + closest a b ⌝ }
+    ensures rounded { λ r. ⌜ r .rounded ≡ not (eqb (a % b) 0) ⌝ }
 {
     let q = quotient(a, b);
-    k * 8388608 + q as u32
+    let bits = k * 8388608 + q.whole as u32;
+    Bits {
+        bits,
+        rounded: q.rounded,
+    }
 }
 
 // The bits of the f32 that is nearest to n / d, a tie to the even one. Both are moved up by their leading zeros, n to 64
 // binary digits and d to 40, so that the quotient has 24 digits, or 25: then d is doubled.
-fn nearest_bits(n: u64, d: u64) -> u32
+fn nearest_bits(n: u64, d: u64) -> Bits
     requires { ⌜ (0 < d) × (d ≤ 10 ^ 9) ⌝ }
-    ensures { λ r. ⌜ r ≡ bits (Ieee.round binary32 false n d) ⌝ }
+    ensures bits { λ r. ⌜ r .bits ≡ bits (Ieee.round binary32 false n d) ⌝ }
+    ensures rounded { λ r. ⌜ ((s : Bool) → r .rounded ≡ rounded (Ieee.round binary32 s n d) (fraction s n d)) ⌝ }
 {
     if n == 0 {
-        return 0;
+        return Bits {
+            bits: 0,
+            rounded: false,
+        };
     }
     let z = u64::leading_zeros(n);
     let y = u64::leading_zeros(d) - 24;
@@ -81,22 +113,36 @@ fn nearest_bits(n: u64, d: u64) -> u32
 }
 
 // The bits of what `decimal` gives. For our own crates: the reader refuses more than 9 places.
-pub fn decimal_bits(negative: bool, digits: u64, places: usize) -> u32
+pub fn decimal_bits(negative: bool, digits: u64, places: usize) -> Bits
     requires { ⌜ places ≤ 9 ⌝ }
-    ensures { λ r. ⌜ r ≡ bits (Ieee.round binary32 negative digits (10 ^ places)) ⌝ }
+    ensures bits { λ r. ⌜ r .bits ≡ bits (Ieee.round binary32 negative digits (10 ^ places)) ⌝ }
+    ensures rounded { λ r. ⌜ r .rounded ≡ rounded (Ieee.round binary32 negative digits (10 ^ places)) (fraction negative digits (10 ^ places)) ⌝ }
 {
     let d = ten_to(places);
     let b = nearest_bits(digits, d);
-    if negative { b + 2147483648 } else { b }
+    if negative {
+        let bits = b.bits + 2147483648;
+        return Bits {
+            bits,
+            rounded: b.rounded,
+        };
+    }
+    b
 }
 
 // The f32 that is nearest to digits / 10^places, a tie to the even one, negative where `negative` says so; -0 has its
 // sign. For our own crates: the reader refuses more than 9 places.
-pub fn decimal(negative: bool, digits: u64, places: usize) -> f32
+pub fn decimal(negative: bool, digits: u64, places: usize) -> Stored
     requires { ⌜ places ≤ 9 ⌝ }
-    ensures { λ r. ⌜ r ≡ Ieee.round binary32 negative digits (10 ^ places) ⌝ }
+    ensures value { λ r. ⌜ r .value ≡ Ieee.round binary32 negative digits (10 ^ places) ⌝ }
+    ensures rounded { λ r. ⌜ r .rounded ≡ rounded (Ieee.round binary32 negative digits (10 ^ places)) (fraction negative digits (10 ^ places)) ⌝ }
 {
-    f32_of_bits(decimal_bits(negative, digits, places))
+    let b = decimal_bits(negative, digits, places);
+    let value = f32_of_bits(b.bits);
+    Stored {
+        value,
+        rounded: b.rounded,
+    }
 }
 
 // The f32 of any bit pattern. Every NaN's pattern gives a NaN.
@@ -118,12 +164,23 @@ pub fn bits_of(x: f32) -> u32
     f32::to_bits(x)
 }
 
-// A whole percent: n as an f32 with its sign, divided by 100.0.
-pub fn percent(negative: bool, n: u64) -> f32
-    ensures { λ r. ⌜ r ≡ Number.percent negative n ⌝ }
+// A whole percent: n as an f32 with its sign, divided by 100.0. It is n / 100 exactly if the f32 nearest to n / 100 is, and
+// is the same.
+pub fn percent(negative: bool, n: u64) -> Stored
+    ensures value { λ r. ⌜ r .value ≡ Number.percent negative n ⌝ }
+    ensures rounded { λ r. ⌜ r .rounded ≡ rounded (Number.percent negative n) (fraction negative n 100) ⌝ }
 {
     let x = decimal(negative, n, 0);
-    x / 100.0
+    let value = x.value / 100.0;
+    let once = decimal(negative, n, 2);
+    if once.rounded {
+        return Stored {
+            value,
+            rounded: true,
+        };
+    }
+    let rounded = value != once.value;
+    Stored { value, rounded }
 }
 
 // Whether two times are duplicates: the size of their difference is below 2^-23. NaN, the difference of equal infinities,

@@ -12,7 +12,9 @@ pub extern "C" fn number_decimal(negative: bool, digits: u64, places: usize) -> 
     ensures { λ r. ⌜ r ≡ Ieee.round binary32 negative digits (10 ^ cond (ltb 9 places) 9 places) ⌝ }
 {
     if 9 < places {
-        return number::decimal(negative, digits, 9);
+        let x = number::decimal(negative, digits, 9);
+        return x.value;
     }
-    number::decimal(negative, digits, places)
+    let x = number::decimal(negative, digits, places);
+    x.value
 }

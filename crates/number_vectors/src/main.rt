@@ -5,6 +5,7 @@ ghost use Prim.Native.Nat.{_+_, _≤_};
 ghost use lib.ListN.{length};
 use libc::STDIN_FILENO;
 use libc::STDOUT_FILENO;
+use number::Stored;
 use number::Uint;
 
 fn main() {
@@ -55,7 +56,7 @@ fn digit(b: u8) -> u64 {
 fn answer(kind: u8, negative: bool, a: u64, b: u64) {
     match kind {
         b'D' => decimal(negative, a, b),
-        b'%' => float(number::percent(negative, a)),
+        b'%' => percent(negative, a),
         b'B' => float(pattern(a)),
         b'=' => truth(number::duplicate(pattern(a), pattern(b))),
         b'W' => whole(number::whole(negative, a)),
@@ -66,13 +67,21 @@ fn answer(kind: u8, negative: bool, a: u64, b: u64) {
 fn decimal(negative: bool, digits: u64, places: u64) {
     if places <= 9 {
         let p = places as usize;
-        io::print_hex(
-            STDOUT_FILENO,
-            number::decimal_bits(negative, digits, p) as u64,
-            8,
-        );
+        let b = number::decimal_bits(negative, digits, p);
+        io::print_hex(STDOUT_FILENO, b.bits as u64, 8);
         io::write_all(STDOUT_FILENO, b" ");
-        float(number::decimal(negative, digits, p));
+        stored(number::decimal(negative, digits, p));
+    }
+}
+
+fn percent(negative: bool, n: u64) {
+    stored(number::percent(negative, n));
+}
+
+fn stored(x: Stored) {
+    float(x.value);
+    if x.rounded {
+        io::write_all(STDOUT_FILENO, b" rounded");
     }
 }
 

@@ -43,10 +43,10 @@ use Rattle.parser.specs.declared.Input.{Input}
 
 -- ---- the grammar, from the text's start on
 
-module _ (t : List ℕ) (c : Cursor) (i : Begins t 0 nothing c) where
+module _ (t : List ℕ) (c : Cursor) (i : Begins t 0 nothing 0 c) where
   input-run : treeOf t ≡ finished (run t c (parseNodes 16))
   unfolding animatoInput
-  input-run = rw (i .is, left-none (c .left) (i .left))
+  input-run = rw (i .is, left-none (c .left) (i .left), i .rounded)
 
   -- a refusal tells nothing of the text's end
   input-wrong : (b a : List ℕ) (r : Refusal) (p : ℕ) (x : Input) → x ≡ inputOf (Refused r p) false
@@ -68,7 +68,7 @@ module _ (t : List ℕ) (c : Cursor) (i : Begins t 0 nothing c) where
         sym (g .went .took .ready .last) ∙ last-end t (u .next .at) (sym e ∙ eqb-true p (length t) q)
 
     input-encoded : {a′ : List ℕ} {f : ℕ} → leftOf (u .next .left) ≡ none → Writes a 0 (big 2 .write (u .width)) a′ f
-        → Encoded t b a′ (u .end) (u .records)
+        → Encoded t b a′ (u .end) (u .records) (u .next .rounded)
     unfolding encode
     input-encoded h o = record {
       nodes = g .went .value;
@@ -78,10 +78,10 @@ module _ (t : List ℕ) (c : Cursor) (i : Begins t 0 nothing c) where
       count = g .count;
     }
 
-    pub input-done : {a′ : List ℕ} {f : ℕ} (p : ℕ) → leftOf (u .next .left) ≡ none → Writes a 0 (big 2 .write (u .width)) a′ f
-        → p ≡ u .next .at
-        → InputMeans t b a′ (inputOf (Accepted (u .end) (u .records)) (eqb p (length t)))
-    input-done p h o e = record { tree = input-encoded h o; ended = input-ended p e }
+    pub input-done : {a′ : List ℕ} {f : ℕ} (p k : ℕ) → leftOf (u .next .left) ≡ none → Writes a 0 (big 2 .write (u .width)) a′ f
+        → p ≡ u .next .at → k ≡ u .next .rounded
+        → InputMeans t b a′ (inputOf (Accepted (u .end) (u .records) k) (eqb p (length t)))
+    input-done p k h o e q = record { tree = rw q (input-encoded h o); ended = input-ended p e }
 
 -- ---- the sheet
 
@@ -90,22 +90,22 @@ module _ (bs a : List ℕ) where
       → Prim.Path (ReadAnswer × List ℕ) (Refused r p, a) (settled (Refused r p) bs)
   settled-refused r p h = rw (h, sub-zero)
 
-  pub settled-short : (n k : ℕ) → length bs < n → a ≡ take 0 bs ++ replicate (length bs - 0) 0
-      → Prim.Path (ReadAnswer × List ℕ) (Refused SheetTooShort 0, a) (settled (Accepted n k) bs)
-  settled-short n k l h = rw (lt-ltb (length bs) n l, h, sub-zero)
+  pub settled-short : (n k j : ℕ) → length bs < n → a ≡ take 0 bs ++ replicate (length bs - 0) 0
+      → Prim.Path (ReadAnswer × List ℕ) (Refused SheetTooShort 0, a) (settled (Accepted n k j) bs)
+  settled-short n k j l h = rw (lt-ltb (length bs) n l, h, sub-zero)
 
-  pub settled-accepted : (n k : ℕ) → n ≤ length bs → a ≡ take n bs ++ replicate (length bs - n) 0
-      → Prim.Path (ReadAnswer × List ℕ) (Accepted n k, a) (settled (Accepted n k) bs)
-  settled-accepted n k l h = rw (le-ltb (length bs) n l, h)
+  pub settled-accepted : (n k j : ℕ) → n ≤ length bs → a ≡ take n bs ++ replicate (length bs - n) 0
+      → Prim.Path (ReadAnswer × List ℕ) (Accepted n k j, a) (settled (Accepted n k j) bs)
+  settled-accepted n k j l h = rw (le-ltb (length bs) n l, h)
 
 -- an encoding of the tree, as far as there is room for it
-module _ (s b a bs : List ℕ) (n k : ℕ) (z : length a ≡ length b) (w : Writes b 0 bs a n) where
+module _ (s b a bs : List ℕ) (n k j : ℕ) (z : length a ≡ length b) (w : Writes b 0 bs a n) where
   size : n ≡ length bs
   size = w .place ∙ zero-add (length bs)
 
   by-room : (v : Bool) → ltb (length b) (length bs) ≡ v
-      → outcome (settled (Accepted n k) a .0) (replicate (length s) 0) (settled (Accepted n k) a .1)
-      ≡ reads.cleared s b (reads.fitting (length b) bs k)
+      → outcome (settled (Accepted n k j) a .0) (replicate (length s) 0) (settled (Accepted n k j) a .1)
+      ≡ reads.cleared s b (reads.fitting (length b) bs k j)
   by-room true e = rw (size, z, e, sub-zero)
   by-room false e = let c : take (length bs) a ≡ bs = rw size at (written w (ltb-false (length b) (length bs) e)) in rw (size, z, e, c)
 
@@ -114,9 +114,9 @@ tree-settled : (t s b a : List ℕ) (x : ReadAnswer) → length a ≡ length b �
     → outcome (settled x a .0) (replicate (length s) 0) (settled x a .1)
     ≡ reads.cleared s b (reads.answered (length t) (length b) (treeOf t))
 tree-settled t s b a (Refused r p) z m = rw (m, z, sub-zero)
-tree-settled t s b a (Accepted n k) z m =
+tree-settled t s b a (Accepted n k j) z m =
     let bs = encode (length t) (mapTimes stored (m .nodes)) in
-    rw (m .is, ← m .count) (by-room s b a bs n k z (m .writes) (ltb (length b) (length bs)) refl)
+    rw (m .is, ← m .count) (by-room s b a bs n k j z (m .writes) (ltb (length b) (length bs)) refl)
 
 -- ---- the text rules
 

@@ -24,17 +24,17 @@ use Rattle.parser.specs.Reading.{Parsed, tree, wrong, finished}
 
 -- what it makes of the tokens from the text's start on
 abbrev pub treeOf : List ℕ → Parsed
-treeOf t = finished (animatoInput (record { leftover = none; bound = suc (length t) }) (tokensFrom t 0))
+treeOf t = finished (animatoInput (record { leftover = none; rounded = 0; bound = suc (length t) }) (tokensFrom t 0))
 
--- a tree, whose encoding of n bytes is written over the sheet b, and which has k records
-pub record Encoded (t b a : List ℕ) (n k : ℕ) : Type 0 where
+-- a tree, whose encoding of n bytes is written over the sheet b, and which has k records and j rounded numbers
+pub record Encoded (t b a : List ℕ) (n k j : ℕ) : Type 0 where
   pub nodes : Nodes Key
-  pub is : treeOf t ≡ tree nodes
+  pub is : treeOf t ≡ tree nodes j
   pub writes : Writes b 0 (encode (length t) (mapTimes stored nodes)) a n
   pub count : k ≡ records nodes
 
 abbrev pub TreeMeans : (t b a : List ℕ) → ReadAnswer → Type 0
-TreeMeans t b a (Accepted n k) = Encoded t b a n k
+TreeMeans t b a (Accepted n k j) = Encoded t b a n k j
 TreeMeans t b a (Refused r p) = treeOf t ≡ wrong r p
 
 -- ---- whether the grammar's tokens are all there are
@@ -62,8 +62,8 @@ AllowedMeans t s s′ false = Unit {0}
 -- the answer and the sheet afterwards, where a is the answer so far and bs the sheet
 abbrev pub settled : ReadAnswer → List ℕ → ReadAnswer × List ℕ
 settled (Refused r p) bs = (Refused r p, replicate (length bs) 0)
-settled (Accepted n k) bs =
-    cond (ltb (length bs) n) (Refused SheetTooShort 0, replicate (length bs) 0) (Accepted n k, take n bs ++ replicate (length bs - n) 0)
+settled (Accepted n k j) bs =
+    cond (ltb (length bs) n) (Refused SheetTooShort 0, replicate (length bs) 0) (Accepted n k j, take n bs ++ replicate (length bs - n) 0)
 
 -- ---- the operation
 

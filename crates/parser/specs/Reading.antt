@@ -17,24 +17,24 @@ use Rattle.error.specs.declared.Refusal.the-variants.{TextTooLong, ScratchTooSh
 use Rattle.error.specs.declared.ReadAnswer.{ReadAnswer}
 use Rattle.error.specs.declared.ReadAnswer.the-variants.{Accepted, Refused}
 
--- ---- the grammar's tree of a text, or the first of the refusals 2 to 13
+-- ---- the grammar's tree of a text and how many of its numbers were rounded, or the first of the refusals 2 to 13
 
 pub data Parsed : Type 0 where
-  tree : Nodes Key → Parsed
+  tree : Nodes Key → ℕ → Parsed
   wrong : Refusal → ℕ → Parsed
 
-abbrev pub unlessLeft : Nodes Key → Option ℕ → Parsed
-unlessLeft ns none = tree ns
-unlessLeft ns (some p) = wrong Leftover p
+abbrev pub unlessLeft : Nodes Key → ℕ → Option ℕ → Parsed
+unlessLeft ns k none = tree ns k
+unlessLeft ns k (some p) = wrong Leftover p
 
 abbrev pub finished : Out (Nodes Key) → Parsed
-finished (got ns l ts) = unlessLeft ns (l .leftover)
+finished (got ns l ts) = unlessLeft ns (l .rounded) (l .leftover)
 finished (refused r p) = wrong r p
 
 -- "then 2 to 5 .., then 6 to 12 at the first one the Rust meets, then 13"; a repetition takes a byte with each step
 abbrev pub parsed : ℕ → Split → Parsed
 parsed n (unlexed r p) = wrong r p
-parsed n (tokens ts) = finished (animatoInput (record { leftover = none; bound = suc n }) ts)
+parsed n (tokens ts) = finished (animatoInput (record { leftover = none; rounded = 0; bound = suc n }) ts)
 
 unfoldable pub parse : List ℕ → Parsed
 parse t = parsed (length t) (split t)
@@ -42,12 +42,12 @@ parse t = parsed (length t) (split t)
 -- ---- the operation
 
 -- the answer, and the sheet's bytes from its start; "then 14"
-abbrev pub fitting : ℕ → List ℕ → ℕ → ReadAnswer × List ℕ
-fitting room bs n = cond (ltb room (length bs)) (Refused SheetTooShort 0, []) (Accepted (length bs) n, bs)
+abbrev pub fitting : ℕ → List ℕ → ℕ → ℕ → ReadAnswer × List ℕ
+fitting room bs n k = cond (ltb room (length bs)) (Refused SheetTooShort 0, []) (Accepted (length bs) n k, bs)
 
 abbrev pub answered : ℕ → ℕ → Parsed → ReadAnswer × List ℕ
 answered n room (wrong r p) = (Refused r p, [])
-answered n room (tree ns) = fitting room (encode n (mapTimes stored ns)) (records ns)
+answered n room (tree ns k) = fitting room (encode n (mapTimes stored ns)) (records ns) k
 
 -- "scratch under 16,384 words (reading)": 16
 abbrev pub scratchWords : ℕ

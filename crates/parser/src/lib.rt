@@ -50,6 +50,7 @@ fn parse_input(text: &[u8], sheet: &mut [u8]) -> Input
                     let answer = ReadAnswer::Accepted {
                         length: nodes.end,
                         records: nodes.records,
+                        rounded: cursor::rounded(m),
                     };
                     let whole = cursor::place(m) == text.len();
                     Input { answer, whole }
@@ -90,7 +91,11 @@ fn settle(sheet: &mut [u8], answer: ReadAnswer) -> ReadAnswer
             encode::clear(sheet, 0);
             ReadAnswer::Refused { refusal, place }
         }
-        ReadAnswer::Accepted { length, records } => {
+        ReadAnswer::Accepted {
+            length,
+            records,
+            rounded,
+        } => {
             if sheet.len() < length {
                 encode::clear(sheet, 0);
                 return ReadAnswer::Refused {
@@ -99,12 +104,17 @@ fn settle(sheet: &mut [u8], answer: ReadAnswer) -> ReadAnswer
                 };
             }
             encode::clear(sheet, length);
-            ReadAnswer::Accepted { length, records }
+            ReadAnswer::Accepted {
+                length,
+                records,
+                rounded,
+            }
         }
     }
 }
 
-// Reads a text into a sheet: the sheet's length and its count of node records, or a refusal and its place.
+// Reads a text into a sheet: the sheet's length, its count of node records and how many written numbers were rounded, or a
+// refusal and its place.
 pub fn read(text: &[u8], scratch: &mut [u16], sheet: &mut [u8]) -> ReadAnswer
     ensures { λ r. ⌜ outcome r (now (scratch .exit)) (now (sheet .exit)) ≡ reading (now (text .entry)) (now (scratch .entry)) (now (sheet .entry)) ⌝ }
     ensures values { λ r. ⌜ readValues r ≡ readValues (reading (now (text .entry)) (now (scratch .entry)) (now (sheet .entry)) .0) ⌝ }

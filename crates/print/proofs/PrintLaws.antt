@@ -138,7 +138,7 @@ module _ (t scratch sheet page : List ℕ) where
   page-long h = rw (le-ltb (length page) pageBytes h)
 
   -- what is printed once reading has accepted
-  checked : {n c : ℕ} {words left : List ℕ} {v : CheckAnswer} → (read.Accepted n c, words, left) ≡ reading t scratch sheet
+  checked : {n c k : ℕ} {words left : List ℕ} {v : CheckAnswer} → (read.Accepted n c k, words, left) ≡ reading t scratch sheet
       → v ≡ checking t (take n left)
       → printed t scratch sheet (replicate lineBytes 0) ≡ whenChecked t (take n left) c (replicate lineBytes 0) v
   checked {n} {c} {left = left} e f =
@@ -157,7 +157,7 @@ module _ (t scratch sheet page : List ℕ) where
         → (lined.Accepted m, words, left, after) ≡ printing t scratch sheet page
     page-unread e p = page-filled e (ap (whenRead t (replicate lineBytes 0)) (sym e)) p
 
-    module _ {n c : ℕ} (e : (read.Accepted n c, words, left) ≡ reading t scratch sheet) where
+    module _ {n c k : ℕ} (e : (read.Accepted n c k, words, left) ≡ reading t scratch sheet) where
       pub page-refused : {r : Refusal} {p : ℕ} → check.Refused r p ≡ checking t (take n left) → Puts page 0 (refusal r p) after m
           → (lined.Accepted m, words, left, after) ≡ printing t scratch sheet page
       page-refused f p = page-filled e (checked e f) p

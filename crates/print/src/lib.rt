@@ -111,6 +111,7 @@ pub fn print(text: &[u8], scratch: &mut [u16], sheet: &mut [u8], page: &mut [u8]
         Verdict::Checked {
             length,
             records,
+            rounded: _,
             answer,
         } => match answer {
             CheckAnswer::Refused { refusal, place } => LineAnswer::Accepted {

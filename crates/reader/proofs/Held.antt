@@ -69,7 +69,7 @@ Fields κ d = owns (ShrSlice (named 0) κ u8 ∷ C.the-row ∷ []) (d .text, (d 
 
 -- what `new` says of the reader r over the text s
 abbrev pub Fresh : RefT (List ℕ) → TokenReader → Type 0
-Fresh s r = (now (r .text) ≡ readable (now s)) × Begins (now (r .text)) 0 unnoted (r .cursor)
+Fresh s r = (now (r .text) ≡ readable (now s)) × Begins (now (r .text)) 0 unnoted 0 (r .cursor)
 
 pub fresh-ready : (s : RefT (List ℕ)) (r : TokenReader) → Fresh s r → Ready (now (r .text)) (r .cursor)
 fresh-ready s r e = e .1 .ready

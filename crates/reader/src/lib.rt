@@ -42,7 +42,7 @@ fn count_from(text: &[u8], c: Cursor) -> usize
 
 // At the text's start. A text over the limit is read as the empty one.
 pub fn new<'a>(text: &'a [u8]) -> TokenReader<'a>
-    ensures { λ r. ⌜ (now (r .text) ≡ readable (now (text .entry))) × Begins (now (r .text)) 0 nothing (r .cursor) ⌝ }
+    ensures { λ r. ⌜ (now (r .text) ≡ readable (now (text .entry))) × Begins (now (r .text)) 0 nothing 0 (r .cursor) ⌝ }
 {
     let part = readable(text);
     let cursor = cursor::first(part);

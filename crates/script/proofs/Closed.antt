@@ -5,7 +5,7 @@ use Rattle.script.proofs.Whole.{Claimed}
 use Rattle.script.proofs.Whole as whole
 
 pub claim : Claimed
-claim = whole.claim parses-clean parses-fits parses-small
+claim = whole.claim (λ t ns k e. parses-clean t ns e) (λ t ns k h e. parses-fits t ns h e) (λ t ns k h e. parses-small t ns h e)
 
 pub demand3 : Demand3
-demand3 = whole.demand3 parses-clean parses-fits parses-small
+demand3 = whole.demand3 (λ t ns k e. parses-clean t ns e) (λ t ns k h e. parses-fits t ns h e) (λ t ns k h e. parses-small t ns h e)

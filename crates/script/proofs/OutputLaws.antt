@@ -153,16 +153,16 @@ pub record Held (t s : List ℕ) (c : ℕ) : Type 0 where
   pub few : 3 * c ≤ textLimit
   pub small : length (concat (allRecords (length t) nodes)) ≤ sheetBytes
 
-pub held : (t scratch sheet : List ℕ) {n c : ℕ} {words left : List ℕ} → (read.Accepted n c, words, left) ≡ reading t scratch sheet
+pub held : (t scratch sheet : List ℕ) {n c k : ℕ} {words left : List ℕ} → (read.Accepted n c k, words, left) ≡ reading t scratch sheet
     → Held t (take n left) c
 unfolding allRecords
-held t scratch sheet {n} {c} {words} {left} e =
-    let d = due t scratch sheet n c (ap (λ (r : ReadAnswer × List ℕ × List ℕ). r .0) (sym e)) in
+held t scratch sheet {n} {c} {k = j} {words} {left} e =
+    let d = due t scratch sheet n c j (ap (λ (r : ReadAnswer × List ℕ × List ℕ). r .0) (sym e)) in
     let ns = d .0 in
     let u = d .1 in
     let bs = sheetOf t ns in
-    let q = e ∙ accepts t scratch sheet ns u in
-    let a : read.Accepted n c ≡ read.Accepted (length bs) (records ns) = ap (λ (r : ReadAnswer × List ℕ × List ℕ). r .0) q in
+    let q = e ∙ accepts t scratch sheet ns j u in
+    let a : read.Accepted n c j ≡ read.Accepted (length bs) (records ns) j = ap (λ (r : ReadAnswer × List ℕ × List ℕ). r .0) q in
     let l : left ≡ bs ++ replicate (length sheet - length bs) 0 = ap (λ (r : ReadAnswer × List ℕ × List ℕ). r .2) q in
     let m : n ≡ length bs = cc in
     let k : c ≡ records ns = cc in
@@ -196,6 +196,6 @@ pub printed-small : (t scratch sheet out : List ℕ) → length (printed t scrat
 printed-small t scratch sheet out = by (reading t scratch sheet) refl
   where
     by : (x : ReadAnswer × List ℕ × List ℕ) → x ≡ reading t scratch sheet → length (whenRead t out x) ≤ pageBytes
-    by (read.Accepted n c, words, left) e =
+    by (read.Accepted n c k, words, left) e =
         checked-small t out (held t scratch sheet e) (checking t (take n left))
     by (read.Refused r p, words, left) e = omega (arith, refusal-short r p)

@@ -36,39 +36,40 @@ checks t ns h f d = rw (le-ltb textLimit (length t) h, f, d)
 abbrev pub Claimed : Type 0
 Claimed =
     (t scratch sheet : List ℕ) (left : ReadAnswer × List ℕ × List ℕ) (v : CheckAnswer) → left ≡ reading t scratch sheet
-    → ((n c : ℕ) → left .0 ≡ read.Accepted n c → v ≡ checking t (take n (left .2)))
+    → ((n c k : ℕ) → left .0 ≡ read.Accepted n c k → v ≡ checking t (take n (left .2)))
     → Claim t (length scratch) (length sheet) (left .0) (left .2) v
 
 module _
-    (clean : (t : List ℕ) (ns : Nodes Key) → parse t ≡ tree ns → foreignFrom 0 t ≡ none)
-    (fits : (t : List ℕ) (ns : Nodes Key) → length t ≤ textLimit → parse t ≡ tree ns → Fits (length t) (mapTimes stored ns))
-    (small : (t : List ℕ) (ns : Nodes Key) → length t ≤ textLimit → parse t ≡ tree ns
+    (clean : (t : List ℕ) (ns : Nodes Key) (k : ℕ) → parse t ≡ tree ns k → foreignFrom 0 t ≡ none)
+    (fits : (t : List ℕ) (ns : Nodes Key) (k : ℕ) → length t ≤ textLimit → parse t ≡ tree ns k → Fits (length t) (mapTimes stored ns))
+    (small : (t : List ℕ) (ns : Nodes Key) (k : ℕ) → length t ≤ textLimit → parse t ≡ tree ns k
     → length (encode (length t) (mapTimes stored ns)) ≤ 49152) where
-  back : (t : List ℕ) (ns : Nodes Key) → length t ≤ textLimit
-      → parse t ≡ tree ns
+  back : (t : List ℕ) (ns : Nodes Key) (k : ℕ) → length t ≤ textLimit
+      → parse t ≡ tree ns k
       → decode (length t) (sheetOf t ns) ≡ some (mapTimes stored ns)
-  back t ns h p = decodes (length t) (mapTimes stored ns) (fits t ns h p) (let s = small t ns h p in omega arith)
+  back t ns k h p = decodes (length t) (mapTimes stored ns) (fits t ns k h p) (let s = small t ns k h p in omega arith)
 
   pub claim : Claimed
   claim t scratch sheet left v e g = record {
-    only = λ n c a. due t scratch sheet n c (ap (λ (r : ReadAnswer × List ℕ × List ℕ). r .0) (sym e) ∙ a);
-    whenever = λ ns h. agreed ns h (e ∙ accepts t scratch sheet ns h);
+    only = λ n c k a. due t scratch sheet n c k (ap (λ (r : ReadAnswer × List ℕ × List ℕ). r .0) (sym e) ∙ a);
+    whenever = λ ns k h. agreed ns k h (e ∙ accepts t scratch sheet ns k h);
   }
     where
-      agreed : (ns : Nodes Key) → Unrefused t (length scratch) (length sheet) ns
+      agreed : (ns : Nodes Key) (k : ℕ) → Unrefused t (length scratch) (length sheet) ns k
           → left
           ≡ (
-            read.Accepted (length (sheetOf t ns)) (records ns),
+            read.Accepted (length (sheetOf t ns)) (records ns) k,
             replicate (length scratch) 0,
             sheetOf t ns ++ replicate (length sheet - length (sheetOf t ns)) 0,
           )
-          → Agreed t (left .0) (left .2) v ns
-      agreed ns h q =
+          → Agreed t (left .0) (left .2) v ns k
+      agreed ns k h q =
           let bs : List ℕ = sheetOf t ns in
-          let a : left .0 ≡ read.Accepted (length bs) (records ns) = ap (λ (r : ReadAnswer × List ℕ × List ℕ). r .0) q in
+          let a : left .0 ≡ read.Accepted (length bs) (records ns) k = ap (λ (r : ReadAnswer × List ℕ × List ℕ). r .0) q in
           let s : take (length bs) (left .2) ≡ bs = rw q (take-at bs (replicate (length sheet - length bs) 0) (length bs) refl) in
-          let d = back t ns (h .short) (h .parses) in
-          let w : v ≡ judged t (mapTimes stored ns) = g _ _ a ∙ (rw s (checks t (mapTimes stored ns) (h .short) (clean t ns (h .parses)) d))
+          let d = back t ns k (h .short) (h .parses) in
+          let w : v ≡ judged t (mapTimes stored ns) = g _ _ _ a
+          ∙ (rw s (checks t (mapTimes stored ns) (h .short) (clean t ns k (h .parses)) d))
           in
           record {
             held = mapTimes stored ns;
@@ -77,7 +78,7 @@ module _
             decodes = rw s d;
             same = refl;
             checked = w;
-            tracks = λ i x k. rw w (tracks t ns i x k);
+            tracks = λ i x m. rw w (tracks t ns i x m);
           }
 
   pub demand3 : Demand3

@@ -46,17 +46,18 @@ TrackClaim x y n v =
 abbrev pub encoding : List ℕ → Nodes Key → List ℕ
 encoding t ns = encode (length t) (mapTimes stored ns)
 
--- none of reading's refusals is due: the grammar's tree of the text is ns, and its encoding has room
-pub record Unrefused (t : List ℕ) (words room : ℕ) (ns : Nodes Key) : Type 0 where
+-- none of reading's refusals is due: the grammar's tree of the text is ns, with c rounded numbers, and its encoding has room
+pub record Unrefused (t : List ℕ) (words room : ℕ) (ns : Nodes Key) (c : ℕ) : Type 0 where
   pub short : length t ≤ textLimit
   pub scratch : scratchWords ≤ words
-  pub parses : parse t ≡ tree ns
+  pub parses : parse t ≡ tree ns c
   pub fits : length (encoding t ns) ≤ room
 
--- what is so of reading's answer a, the sheet s that it left and checking's answer v, where ns is the grammar's tree
-pub record Agreed (t : List ℕ) (a : ReadAnswer) (s : List ℕ) (v : CheckAnswer) (ns : Nodes Key) : Type 0 where
+-- what is so of reading's answer a, the sheet s that it left and checking's answer v, where ns is the grammar's tree, with c rounded
+-- numbers
+pub record Agreed (t : List ℕ) (a : ReadAnswer) (s : List ℕ) (v : CheckAnswer) (ns : Nodes Key) (c : ℕ) : Type 0 where
   -- the sheet's length is the encoding's
-  pub answer : a ≡ read.Accepted (length (encoding t ns)) (records ns)
+  pub answer : a ≡ read.Accepted (length (encoding t ns)) (records ns) c
   pub encodes : take (length (encoding t ns)) s ≡ encoding t ns
   -- the tree of the sheet
   pub held : Nodes KeyframeTime
@@ -71,13 +72,13 @@ pub record Agreed (t : List ℕ) (a : ReadAnswer) (s : List ℕ) (v : CheckAnswe
 -- answered
 pub record Claim (t : List ℕ) (words room : ℕ) (a : ReadAnswer) (s : List ℕ) (v : CheckAnswer) : Type 0 where
   -- "Reading accepts exactly where none of its refusals is due"
-  pub only : (n c : ℕ) → a ≡ read.Accepted n c → (ns : Nodes Key) × Unrefused t words room ns
+  pub only : (n m c : ℕ) → a ≡ read.Accepted n m c → (ns : Nodes Key) × Unrefused t words room ns c
   -- "and its sheet then encodes the grammar's tree", and the rest
-  pub whenever : (ns : Nodes Key) → Unrefused t words room ns → Agreed t a s v ns
+  pub whenever : (ns : Nodes Key) (c : ℕ) → Unrefused t words room ns c → Agreed t a s v ns c
 
 -- for every text, scratch and sheet slice, and for the answer of checking to the text and the sheet up to the length that reading gave
 abbrev pub Demand3 : Type 0
 Demand3 =
     (t scratch sheet : List ℕ) (v : CheckAnswer)
-    → ((n c : ℕ) → reading t scratch sheet .0 ≡ read.Accepted n c → v ≡ checking t (take n (reading t scratch sheet .2)))
+    → ((n m c : ℕ) → reading t scratch sheet .0 ≡ read.Accepted n m c → v ≡ checking t (take n (reading t scratch sheet .2)))
     → Claim t (length scratch) (length sheet) (reading t scratch sheet .0) (reading t scratch sheet .2) v

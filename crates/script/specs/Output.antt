@@ -47,7 +47,7 @@ whenChecked t sheet n out check.Accepted = lines t sheet n (suc n) 0 out
 whenChecked t sheet n out (check.Refused r p) = refusal r p
 
 abbrev pub whenRead : List ℕ → List ℕ → ReadAnswer × List ℕ × List ℕ → List ℕ
-whenRead t out (read.Accepted length n, scratch, sheet) = whenChecked t (take length sheet) n out (checking t (take length sheet))
+whenRead t out (read.Accepted length n k, scratch, sheet) = whenChecked t (take length sheet) n out (checking t (take length sheet))
 whenRead t out (read.Refused r p, scratch, sheet) = refusal r p
 
 -- reading, checking, then lining record by record, with the buffers that are lent

@@ -33,7 +33,7 @@ hexBytes (a ∷ b ∷ bs) = (digitOf a * 16 + digitOf b) ∷ hexBytes bs
 
 -- the sheet that reading gives, behind a 0; or the values of its refusal
 abbrev pub sheetValues : ReadAnswer × List ℕ × List ℕ → List ℕ
-sheetValues (Accepted n c, scratch, sheet) = 0 ∷ take n sheet
+sheetValues (Accepted n c k, scratch, sheet) = 0 ∷ take n sheet
 sheetValues (Refused r p, scratch, sheet) = readValues (Refused r p)
 
 -- reading with the program's buffers
@@ -49,7 +49,7 @@ checkRead t (r ∷ bs) = cond (ltb r 1) (checkValues (checking t bs)) []
 unfoldable pub holds : Case → Bool
 holds (prints s o) = same (output (bytes s)) (bytes o)
 holds (gives s h) = same (read s) (0 ∷ hexBytes (bytes h))
-holds (refuses s r p) = same (read s) (r ∷ p ∷ [])
+holds (refuses s r p) = same (read s) (r ∷ p ∷ 0 ∷ [])
 holds (checks s v) = same (checkRead (bytes s) (read s)) v
 holds (checksSheet s h v) = same (checkValues (checking (bytes s) (hexBytes (bytes h)))) v
 
@@ -91,21 +91,21 @@ unfolding Rattle.text.specs.Bytes.same Rattle.text.specs.Bytes.oneOf Rattle.t
     Rattle.token.specs.Names.isKeyword Rattle.token.specs.Split.closed Rattle.token.specs.Split.nestMark Rattle.token.specs.Split.step
     Rattle.token.specs.Split.splitFrom Rattle.token.specs.Split.split Rattle.token.specs.Token.nameAt Rattle.token.specs.Token.pointAt
     Rattle.token.specs.Token.pastFraction Rattle.token.specs.Token.suffixAt Rattle.token.specs.Token.pastSuffix
-    Rattle.token.specs.Token.clings Rattle.token.specs.Token.placesOf Rattle.token.specs.Token.writtenBy
-    Rattle.token.specs.Token.writtenAt Rattle.token.specs.Token.numberBy Rattle.token.specs.Token.numberAt
-    Rattle.token.specs.Token.quotedAt Rattle.token.specs.Token.lexeme Rattle.token.specs.Token.cut Rattle.token.specs.Token.tokensFrom
-    Rattle.sheet.specs.Opening.foreignFrom Rattle.sheet.specs.Opening.opening Rattle.sheet.specs.Records.allRecords
-    Rattle.sheet.specs.Sheet.encode Rattle.sheet.specs.Sheet.decode Rattle.easing.specs.Names.snakeRest Rattle.easing.specs.Names.snake
-    Rattle.easing.specs.Names.isEasing Rattle.presets.specs.Colors.isHexColor Rattle.presets.specs.Colors.isColorOf
-    Rattle.presets.specs.Presets.isPreset Rattle.grammar.specs.Fields.rowOf Rattle.grammar.specs.Fields.fieldHead
-    Rattle.grammar.specs.Fields.fieldValue Rattle.grammar.specs.Fields.entry Rattle.grammar.specs.Fields.pairName
-    Rattle.grammar.specs.Fields.onePair Rattle.grammar.specs.Fields.pairs Rattle.grammar.specs.Fields.itemOf
-    Rattle.grammar.specs.Fields.fieldName Rattle.grammar.specs.Fields.oneField Rattle.grammar.specs.Fields.fieldsStep
-    Rattle.grammar.specs.Fields.parseFieldList Rattle.grammar.specs.Fields.last Rattle.grammar.specs.Fields.ever
-    Rattle.grammar.specs.Grammar.tweenFields Rattle.grammar.specs.Grammar.parseTween Rattle.grammar.specs.Grammar.parseSpringPreset
-    Rattle.grammar.specs.Grammar.springPreset Rattle.grammar.specs.Grammar.integrator Rattle.grammar.specs.Grammar.criticalDamping
-    Rattle.grammar.specs.Grammar.overDamping Rattle.grammar.specs.Grammar.underDamping Rattle.grammar.specs.Grammar.springFields
-    Rattle.grammar.specs.Grammar.parseSpring Rattle.grammar.specs.Grammar.stored Rattle.grammar.specs.Grammar.parseKeyframeTime
+    Rattle.token.specs.Token.clings Rattle.token.specs.Token.placesOf Rattle.token.specs.Token.writtenBy Rattle.token.specs.Token.writtenAt
+    Rattle.token.specs.Token.numberBy Rattle.token.specs.Token.numberAt Rattle.token.specs.Token.quotedAt Rattle.token.specs.Token.lexeme
+    Rattle.token.specs.Token.cut Rattle.token.specs.Token.tokensFrom Rattle.sheet.specs.Opening.foreignFrom
+    Rattle.sheet.specs.Opening.opening Rattle.sheet.specs.Records.allRecords Rattle.sheet.specs.Sheet.encode Rattle.sheet.specs.Sheet.decode
+    Rattle.easing.specs.Names.snakeRest Rattle.easing.specs.Names.snake Rattle.easing.specs.Names.isEasing
+    Rattle.presets.specs.Colors.isHexColor Rattle.presets.specs.Colors.isColorOf Rattle.presets.specs.Presets.isPreset
+    Rattle.grammar.specs.Fields.rowOf Rattle.grammar.specs.Fields.fieldHead Rattle.grammar.specs.Fields.fieldValue
+    Rattle.grammar.specs.Fields.entry Rattle.grammar.specs.Fields.pairName Rattle.grammar.specs.Fields.onePair
+    Rattle.grammar.specs.Fields.pairs Rattle.grammar.specs.Fields.itemOf Rattle.grammar.specs.Fields.fieldName
+    Rattle.grammar.specs.Fields.oneField Rattle.grammar.specs.Fields.fieldsStep Rattle.grammar.specs.Fields.parseFieldList
+    Rattle.grammar.specs.Fields.last Rattle.grammar.specs.Fields.ever Rattle.grammar.specs.Grammar.tweenFields
+    Rattle.grammar.specs.Grammar.parseTween Rattle.grammar.specs.Grammar.parseSpringPreset Rattle.grammar.specs.Grammar.springPreset
+    Rattle.grammar.specs.Grammar.integrator Rattle.grammar.specs.Grammar.criticalDamping Rattle.grammar.specs.Grammar.overDamping
+    Rattle.grammar.specs.Grammar.underDamping Rattle.grammar.specs.Grammar.springFields Rattle.grammar.specs.Grammar.parseSpring
+    Rattle.grammar.specs.Grammar.stored Rattle.grammar.specs.Grammar.keyed Rattle.grammar.specs.Grammar.parseKeyframeTime
     Rattle.grammar.specs.Grammar.keyframeEntry Rattle.grammar.specs.Grammar.trackLoop Rattle.grammar.specs.Grammar.trackFrame
     Rattle.grammar.specs.Grammar.trackStep Rattle.grammar.specs.Grammar.parseKeyframes Rattle.grammar.specs.Grammar.parseSequence
     Rattle.grammar.specs.Grammar.parseParallel Rattle.grammar.specs.Grammar.parseGroup Rattle.grammar.specs.Grammar.parseGridOrigin

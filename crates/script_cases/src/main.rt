@@ -61,6 +61,7 @@ fn answer(text: &[u8]) {
         Verdict::Checked {
             length,
             records,
+            rounded: _,
             answer,
         } => {
             io::write_all(STDOUT_FILENO, b"accept ");

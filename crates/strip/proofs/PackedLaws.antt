@@ -14,7 +14,7 @@ use Rattle.error.specs.declared.CheckAnswer.the-variants as check
 use Rattle.error.specs.declared.LineAnswer.{LineAnswer}
 use Rattle.error.specs.declared.LineAnswer.the-variants as line
 use Rattle.strip.specs.Packed.{packedRefusal, packedSheet, packedRead, packedCheck}
-use Rattle.strip.specs.Packed.{packedLine, packedScript, packedFed, numberIn, valueIn, lengthIn, recordsIn, scriptNumberIn}
+use Rattle.strip.specs.Packed.{packedLine, packedScript, packedFed, numberIn, valueIn, lengthIn, recordsIn, roundedIn, scriptNumberIn}
 use Rattle.feed.specs.declared.FeedAnswer.{FeedAnswer}
 use Rattle.feed.specs.declared.FeedAnswer.the-variants as feed
 
@@ -23,11 +23,11 @@ use Rattle.feed.specs.declared.FeedAnswer.the-variants as feed
 refusal-fits : (r : Refusal) (p : ℕ) → packedRefusal r p < 2 ^ 64
 refusal-fits r p = let n = numbered r in omega (arith, n .most)
 
-sheet-fits : (n k : ℕ) → packedSheet n k < 2 ^ 40
-sheet-fits n k = omega arith
+sheet-fits : (n k j : ℕ) → packedSheet n k j < 2 ^ 56
+sheet-fits n k j = omega arith
 
 pub read-fits : (a : ReadAnswer) → packedRead a < 2 ^ 64
-read-fits (read.Accepted n k) = omega (arith, sheet-fits n k)
+read-fits (read.Accepted n k j) = omega (arith, sheet-fits n k j)
 read-fits (read.Refused r p) = refusal-fits r p
 
 pub check-fits : (a : CheckAnswer) → packedCheck a < 2 ^ 64
@@ -53,14 +53,17 @@ pub refusal-place : (r : Refusal) (p : ℕ) → p < 2 ^ 32 → valueIn (packedRe
 refusal-place r p h = omega arith
 
 -- of what is accepted the number is 0
-pub sheet-number : (n k : ℕ) → numberIn (packedSheet n k) ≡ 0
-sheet-number n k = omega arith
+pub sheet-number : (n k j : ℕ) → numberIn (packedSheet n k j) ≡ 0
+sheet-number n k j = omega arith
 
-pub sheet-length : (n k : ℕ) → n < 2 ^ 24 → lengthIn (packedSheet n k) ≡ n
-sheet-length n k h = omega arith
+pub sheet-length : (n k j : ℕ) → n < 2 ^ 24 → lengthIn (packedSheet n k j) ≡ n
+sheet-length n k j h = omega arith
 
-pub sheet-records : (n k : ℕ) → k < 2 ^ 16 → recordsIn (packedSheet n k) ≡ k
-sheet-records n k h = omega arith
+pub sheet-records : (n k j : ℕ) → k < 2 ^ 16 → recordsIn (packedSheet n k j) ≡ k
+sheet-records n k j h = omega arith
+
+pub sheet-rounded : (n k j : ℕ) → j < 2 ^ 16 → roundedIn (packedSheet n k j) ≡ j
+sheet-rounded n k j h = omega arith
 
 pub line-number : (n : ℕ) → numberIn (packedLine (line.Accepted n)) ≡ 0
 line-number n = omega arith

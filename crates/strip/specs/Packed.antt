@@ -1,8 +1,9 @@
 -- An answer as one number, for C and Rust. Assumes nothing.
 -- "Each answers one u64: the refusal's number, 0 for accepted, times 2^56, plus a value below 2^32 that is the place of a refusal (the
 -- ordinal in lining), 0 for checking's accept, or lining's line length; reading's accept has its sheet length plus its count of node
--- records times 2^24 (bits 40 to 55 stay 0, kept for a later count)." (the request for the library)
--- A place or a line's length of 2^32 or more counts by its remainder, as do a sheet's length of 2^24 or more and 2^16 or more records.
+-- records times 2^24" plus that of the rounded numbers times 2^40 (the request for the library; 02 (d)).
+-- A place or a line's length of 2^32 or more counts by its remainder, as do a sheet's length of 2^24 or more and 2^16 or more records or
+-- rounded numbers.
 -- No operation answers with such: the laws of the crate `unpack`.
 use Prim.Native.Nat.{ℕ, _+_, _*_, _/_, _%_, _^_}
 use mathlib.Core.List.{List, [], _∷_}
@@ -24,11 +25,11 @@ use Rattle.feed.specs.declared.FeedAnswer.the-variants as feed
 abbrev pub packedRefusal : Refusal → ℕ → ℕ
 packedRefusal refusal place = numberOf refusal * 2 ^ 56 + place % 2 ^ 32
 
-abbrev pub packedSheet : ℕ → ℕ → ℕ
-packedSheet length records = records % 2 ^ 16 * 2 ^ 24 + length % 2 ^ 24
+abbrev pub packedSheet : ℕ → ℕ → ℕ → ℕ
+packedSheet length records rounded = rounded % 2 ^ 16 * 2 ^ 40 + records % 2 ^ 16 * 2 ^ 24 + length % 2 ^ 24
 
 abbrev pub packedRead : ReadAnswer → ℕ
-packedRead (read.Accepted length records) = packedSheet length records
+packedRead (read.Accepted length records rounded) = packedSheet length records rounded
 packedRead (read.Refused refusal place) = packedRefusal refusal place
 
 abbrev pub packedCheck : CheckAnswer → ℕ
@@ -82,6 +83,9 @@ lengthIn w = w % 2 ^ 24
 
 abbrev pub recordsIn : ℕ → ℕ
 recordsIn w = w / 2 ^ 24 % 2 ^ 16
+
+abbrev pub roundedIn : ℕ → ℕ
+roundedIn w = w / 2 ^ 40 % 2 ^ 16
 
 -- the number of a refused script
 abbrev pub scriptNumberIn : ℕ → ℕ

@@ -32,11 +32,12 @@ fn pack_refusal(refusal: Refusal, place: usize) -> u64
     (error::number_of(refusal) as u64) * 72057594037927936 + low(place)
 }
 
-// A sheet's length in the lowest three bytes, its count of node records in the next two.
-fn pack_sheet(length: usize, records: usize) -> u64
-    ensures { λ r. ⌜ r ≡ packedSheet length records ⌝ }
+// A sheet's length in the lowest three bytes, its count of node records in the next two, and in the next two how many
+// numbers were rounded.
+fn pack_sheet(length: usize, records: usize, rounded: usize) -> u64
+    ensures { λ r. ⌜ r ≡ packedSheet length records rounded ⌝ }
 {
-    (records % 65536 * 16777216 + length % 16777216) as u64
+    (rounded % 65536 * 1099511627776 + records % 65536 * 16777216 + length % 16777216) as u64
 }
 
 // A line's or a page's length, or a refusal.
@@ -79,7 +80,11 @@ pub extern "C" fn strip_read(text: &[u8], scratch: &mut [u16], sheet: &mut [u8])
     ensures { λ r. ⌜ (r, now (scratch .exit), now (sheet .exit)) ≡ readOutcome (reading (now (text .entry)) (now (scratch .entry)) (now (sheet .entry))) ⌝ }
 {
     match parser::read(text, scratch, sheet) {
-        ReadAnswer::Accepted { length, records } => pack_sheet(length, records),
+        ReadAnswer::Accepted {
+            length,
+            records,
+            rounded,
+        } => pack_sheet(length, records, rounded),
         ReadAnswer::Refused { refusal, place } => pack_refusal(refusal, place),
     }
 }

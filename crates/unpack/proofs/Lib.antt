@@ -3,3 +3,4 @@ pub mod RuleLaws
 pub mod SheetLaws
 pub mod Within
 pub mod Unpack
+pub mod AddLaws

@@ -1,12 +1,14 @@
--- Each rule of the grammar refuses at the place of a token. Assumes nothing.
+-- Each rule of the grammar refuses at the place of a token, and counts onto what was counted. Assumes nothing.
 use Prim.Native.Nat.{ℕ, zero, suc}
 use Prim.Native.String.{String}
 use mathlib.Core.Bool.{Bool, true, false, _&&_}
 use mathlib.Core.List.{List, [], _∷_}
 use mathlib.Core.Option.{Option, none, some}
+use mathlib.Core.Path.{refl}
 use Rattle.text.specs.Bytes.{bytes, same}
 use Rattle.text.specs.Words.{words, under}
-use Rattle.number.specs.Number.{whole}
+use Rattle.number.specs.Number.{whole, nearest, bits}
+use Rattle.number.specs.Rounded.{numberRounded, timeRounded}
 use Rattle.number.specs.Time.{Key}
 use Rattle.token.specs.Token.{kind}
 use Rattle.ast.specs.Tree.{Nodes, Leaf, Container}
@@ -22,18 +24,19 @@ use Rattle.grammar.specs.Values.{count, flag, value, commaFloats, fourFloats, b
 use Rattle.grammar.specs.Values.{slowMoFields, slowMoCurve, stepsCurve, wiggleCurve, curves, variantEasing, namedEasing}
 use Rattle.grammar.specs.Values.{curveOr, parseEasing, timesMode, pingPongMode, loopModes, parseLoopMode, easing, loopMode}
 use Rattle.grammar.specs.Grammar.{tweenFields, parseTween, parseSpringPreset, springPreset, integrator, criticalDamping, overDamping}
-use Rattle.grammar.specs.Grammar.{springFields, parseSpring, parseKeyframeTime, keyframeEntry, Track, trackLoop, trackFrame}
+use Rattle.grammar.specs.Grammar.{springFields, parseSpring, keyed, parseKeyframeTime, keyframeEntry, Track, trackLoop, trackFrame}
 use Rattle.grammar.specs.Grammar.{trackStep, parseKeyframes, parseSequence, parseParallel, parseGroup, parseGridOrigin, origin}
 use Rattle.grammar.specs.Grammar.{gridFields, gridPattern, randomFields, randomPattern, patterns, parseStaggerPattern, Opening}
 use Rattle.grammar.specs.Grammar.{openingFields, openingField, openingStep, parseStagger, offset, pathFields, parsePath}
 use Rattle.grammar.specs.Grammar.{morphFields, parseMorph, drawFields, parseDraw, space, colorFields, parseColor, waveformKind}
-use Rattle.grammar.specs.Grammar.{waveformFields, parseWaveform, parsePresetCall, parseLabel, atSign, parseAt, leaves}
+use Rattle.grammar.specs.Grammar.{waveformFields, parseWaveform, parsePresetCall, parseLabel, atSign, turned, parseAt, leaves}
 use Rattle.grammar.specs.Grammar.{containers, orContainer, beginning, nodeBy, parseNode}
 use Rattle.grammar.specs.Grammar.{oneNode, nodesStep, block, animatoInput, underDamping}
 use Rattle.limits.proofs.ListLaws.{_also_}
 use Rattle.unpack.proofs.StepLaws.{Stays, Found, Rows, gives, refuses, then, and, grouped, conds, tests}
 use Rattle.unpack.proofs.StepLaws.{needs, skips, the-mark, two-marks, eats, a-word, a-text, a-choice}
-use Rattle.unpack.proofs.StepLaws.{a-number, in-group, repeats, lists, under-found, by-word, by-word-or}
+use Rattle.unpack.proofs.StepLaws.{a-number, a-float, tallies, conds-too, eats-too, refuses-too}
+use Rattle.unpack.proofs.StepLaws.{in-group, repeats, lists, under-found, by-word, by-word-or}
 
 module _ (n : ℕ) where
   -- ---- fields
@@ -54,8 +57,10 @@ module _ (n : ℕ) where
 
   needs-row : (o : Option (String × Rule Content)) → RowFound o → Stays n (need UnknownKeyword o >>= fieldValue)
   unfolding fieldValue
-  needs-row none x = record { run = λ l ts h. refuses {A = Content} {r = UnknownKeyword} .run l ts h }
-  needs-row (some f) x = record { run = λ l ts h. then {B = List ℕ × Content} {f = λ c. give (bytes (f .0), c)} x (λ c. gives) .run l ts h }
+  needs-row none x = record { run = λ l ts h. refuses {A = Content} {r = UnknownKeyword} .run l ts h; adds = λ c l ts. refl }
+  needs-row (some f) x =
+      let y = then {B = List ℕ × Content} {f = λ c. give (bytes (f .0), c)} x (λ c. gives) in
+      record { run = λ l ts h. y .run l ts h; adds = λ c l ts. y .adds c l ts }
 
   entry-stays : (p : Rule (List ℕ)) (t : Table) → Stays n p → Rows n t → Stays n (entry p t)
   unfolding entry fieldHead
@@ -86,7 +91,13 @@ module _ (n : ℕ) where
 
   fields-stay : (t : Table) → Rows n t → (fs : Fields) → Stays n (parseFieldList t fs)
   unfolding parseFieldList fieldsStep
-  fields-stay t rows fs = repeats (fieldsStep t) (λ gs. record { run = λ l ts h. item-stays (itemOf (kind ts)) t gs rows .run l ts h }) fs
+  fields-stay t rows fs =
+      repeats (fieldsStep t)
+      (λ gs. record {
+        run = λ l ts h. item-stays (itemOf (kind ts)) t gs rows .run l ts h;
+        adds = λ c l ts. item-stays (itemOf (kind ts)) t gs rows .adds c l ts;
+      })
+      fs
 
   -- ---- names, numbers, values
 
@@ -105,7 +116,7 @@ module _ (n : ℕ) where
 
   float-stays : Stays n parseFloat
   unfolding parseFloat
-  float-stays = then (a-number seesNumber Malformed) (λ w. gives)
+  float-stays = a-float n Malformed _ (λ w. tallies (numberRounded (w .0) (w .1)) gives)
 
   uint-stays : Stays n parseUint
   unfolding parseUint
@@ -253,9 +264,10 @@ module _ (n : ℕ) where
   -- ---- keyframes
 
   time-stays : Stays n parseKeyframeTime
-  unfolding parseKeyframeTime
+  unfolding parseKeyframeTime keyed
   time-stays =
-      then (a-number seesNumber Malformed) (λ w. then (conds (w .1 .point) gives (eats 37)) (λ p. conds (p && w .1 .suffix) refuses gives))
+      a-float n Malformed _
+      (λ w. eats-too (w .1 .point) 37 (λ p. conds-too (p && w .1 .suffix) refuses-too (tallies (timeRounded _) gives)))
 
   frame-stays : Stays n keyframeEntry
   unfolding keyframeEntry
@@ -391,7 +403,10 @@ module _ (n : ℕ) where
   unfolding parseAt atSign
   at-stays =
       then (then (eats 43) (λ p. then (conds p gives (eats 45)) (λ m. gives)))
-      (λ s. then (a-number seesNumber Malformed) (λ w. and (eats 59) gives))
+      (λ s. a-float n Malformed _
+      (λ w.
+      let x : Leaf Key = Leaf.at (record { value = bits (nearest (turned (s .1) (w .0)) (w .1)); relative = s .0 }) in
+      tallies (numberRounded (turned (s .1) (w .0)) (w .1)) (and (eats 59) (gives {a = x}))))
 
   -- ---- nodes
 
@@ -420,16 +435,18 @@ module _ (n : ℕ) where
         (λ w. begun-stays (w .0) (under leaves (w .1)) (under containers (w .1)) (under-found n leaves (w .1) leaf-rows)
         (under-found n containers (w .1) container-rows))
 
-    nodes-stay : (ns : Nodes Key) → Stays n (nodesStep b ns)
+    pub nodes-stay : (ns : Nodes Key) → Stays n (nodesStep b ns)
     unfolding nodesStep oneNode
     nodes-stay ns = tests ends gives (tests (sees ";") (and {f = give (more ns)} skips gives) (then node-stays (λ x. gives)))
 
-  block-stays : (d : ℕ) → Stays n (block d)
+  pub block-stays : (d : ℕ) → Stays n (block d)
   unfolding block
-  block-stays zero = record { run = λ l ts h. tests (sees "{") {p = refuse TooManyNested} {q = refuse Missing} refuses refuses .run l ts h }
-  block-stays (suc d) = record {
-    run = λ l ts h. in-group 123 (repeats (nodesStep (block d)) (nodes-stay (block d) (block-stays d)) Nodes.none) .run l ts h;
-  }
+  block-stays zero =
+      let x = tests (sees "{") {p = refuse TooManyNested} {q = refuse Missing} refuses refuses in
+      record { run = λ l ts h. x .run l ts h; adds = λ c l ts. x .adds c l ts }
+  block-stays (suc d) =
+      let x = in-group 123 (repeats (nodesStep (block d)) (nodes-stay (block d) (block-stays d)) Nodes.none) in
+      record { run = λ l ts h. x .run l ts h; adds = λ c l ts. x .adds c l ts }
 
   pub input-stays : Stays n animatoInput
   unfolding animatoInput

@@ -17,9 +17,11 @@ use Rattle.error.specs.declared.CheckAnswer.{CheckAnswer}
 use Rattle.error.specs.declared.CheckAnswer.the-variants as check
 use Rattle.error.specs.declared.LineAnswer.{LineAnswer}
 use Rattle.error.specs.declared.LineAnswer.the-variants as line
-use Rattle.strip.specs.Packed.{packedRead, packedCheck, packedLine, packedFed, numberIn, valueIn, lengthIn, recordsIn, scriptNumberIn}
+use Rattle.strip.specs.Packed.{packedRead, packedCheck, packedLine, packedFed, numberIn}
+use Rattle.strip.specs.Packed.{valueIn, lengthIn, recordsIn, roundedIn, scriptNumberIn}
 use Rattle.strip.proofs.PackedLaws.{script-number, script-refusal, script-place}
-use Rattle.strip.proofs.PackedLaws.{refusal-number, refusal-place, sheet-number, sheet-length, sheet-records, line-number, line-length}
+use Rattle.strip.proofs.PackedLaws.{refusal-number, refusal-place, sheet-number, sheet-length}
+use Rattle.strip.proofs.PackedLaws.{sheet-records, sheet-rounded, line-number, line-length}
 use Rattle.error.specs.declared.Refusal.the-variants.{TooManyScripts}
 use Rattle.totals.specs.Totals.{added}
 use Rattle.feed.specs.Feed.{Fed, readOf, whenRead, judgement, figure, full, feeding}
@@ -31,11 +33,16 @@ use Rattle.unpack.proofs.Within.{ReadWithin, read-within, CheckWithin, 
 
 -- w has the parts of an answer
 abbrev pub ReadParts : ReadAnswer → ℕ → Type 0
-ReadParts (read.Accepted n k) w = (numberIn w ≡ 0) × (lengthIn w ≡ n) × (recordsIn w ≡ k)
+ReadParts (read.Accepted n k j) w = (numberIn w ≡ 0) × (lengthIn w ≡ n) × (recordsIn w ≡ k) × (roundedIn w ≡ j)
 ReadParts (read.Refused r p) w = (numberIn w ≡ numberOf r) × (valueIn w ≡ p)
 
 read-back : (a : ReadAnswer) → ReadWithin a → ReadParts a (packedRead a)
-read-back (read.Accepted n k) h = (sheet-number n k, sheet-length n k (omega (arith, h .0)), sheet-records n k (omega (arith, h .1)))
+read-back (read.Accepted n k j) h = (
+  sheet-number n k j,
+  sheet-length n k j (omega (arith, h .0)),
+  sheet-records n k j (omega (arith, h .1)),
+  sheet-rounded n k j (omega (arith, h .2)),
+)
 read-back (read.Refused r p) h = (refusal-number r p, refusal-place r p (omega arith))
 
 pub read-parts : (t scratch sheet : List ℕ) → ReadParts (reading t scratch sheet .0) (packedRead (reading t scratch sheet .0))
@@ -94,7 +101,7 @@ judged-within : (x : Fed) → CheckWithin (judgement x)
 judged-within x = by (readOf x) (read-within (x .text) (x .scratch) (x .sheet))
   where
     by : (y : ReadAnswer × List ℕ × List ℕ) → ReadWithin (y .0) → CheckWithin (whenRead (x .text) y)
-    by (read.Accepted n c, words, s) h = check-within (x .text) (take n s)
+    by (read.Accepted n c j, words, s) h = check-within (x .text) (take n s)
     by (read.Refused r p, words, s) h = omega arith
 
 pub feed-parts : (ws : List ℕ) (x : Fed) → FedParts (feeding ws x .0) (packedFed (feeding ws x .0))

@@ -76,31 +76,60 @@ split-near n zero p cs (b ∷ t) h =
 -- ---- and the grammar's
 
 abbrev ParsedNear : ℕ → Parsed → Type 0
-ParsedNear n (tree ns) = Unit {0}
+ParsedNear n (tree ns k) = k ≤ suc n
 ParsedNear n (wrong r p) = p ≤ n
 
-left-near : (n : ℕ) (ns : Nodes Key) (o : Option ℕ) → LeftNear n o → ParsedNear n (unlessLeft ns o)
-left-near n ns none h = tt
-left-near n ns (some p) h = h
+left-near : (n : ℕ) (ns : Nodes Key) (k : ℕ) (o : Option ℕ) → k ≤ suc n → LeftNear n o → ParsedNear n (unlessLeft ns k o)
+left-near n ns k none g h = g
+left-near n ns k (some p) g h = h
 
 finished-near : (n : ℕ) (o : Out (Nodes Key)) → OutNear n o → ParsedNear n (finished o)
-finished-near n (got ns l ts) h = left-near n ns (l .leftover) (h .left)
+finished-near n (got ns l ts) h = left-near n ns (l .rounded) (l .leftover) (omega (arith, h .few)) (h .left)
 finished-near n (refused r p) h = h
 
-parsed-near : (n : ℕ) (x : Split) → SplitNear n x → ParsedNear n (parsed n x)
-parsed-near n (unlexed r p) h = h
-parsed-near n (tokens ts) h =
-    let l : Notes = record { leftover = none; bound = suc n } in
-    finished-near n (animatoInput l ts) (input-stays n .run l ts (record { left = tt; near = h }))
+-- a text of n bytes has at most n + 1 tokens
+abbrev SplitFew : ℕ → Split → Type 0
+SplitFew n (unlexed r p) = Unit {0}
+SplitFew n (tokens ts) = length ts ≤ n
+
+ended-few : (n p : ℕ) (cs : List ℕ) → SplitFew (suc n) (ended p cs)
+ended-few n p [] = omega arith
+ended-few n p (c ∷ cs) = tt
+
+more-few : (n : ℕ) (x : Split) → SplitFew n x → SplitFew (suc n) x
+more-few n (unlexed r p) h = tt
+more-few n (tokens ts) h = omega arith
+
+stepped-few : (n p : ℕ) (s : Step) (x : Split) → SplitFew n x → SplitFew (suc n) (stepped s p x)
+stepped-few n p (halt r) x h = tt
+stepped-few n p blank x h = more-few n x h
+stepped-few n p (takes k m cs) (unlexed r q) h = tt
+stepped-few n p (takes k m cs) (tokens ts) h = omega arith
+
+split-few : (k p : ℕ) (cs t : List ℕ) → SplitFew (suc (length t)) (splitFrom k p cs t)
+unfolding splitFrom
+split-few k p cs [] = ended-few 0 p cs
+split-few (suc k) p cs (b ∷ t) = more-few (suc (length t)) (splitFrom k (suc p) cs t) (split-few k (suc p) cs t)
+split-few zero p cs (b ∷ t) =
+    let s = step cs (b ∷ t) in
+    stepped-few (suc (length t)) p s (splitFrom (splitting.more s) (suc p) (awaited cs s) t)
+    (split-few (splitting.more s) (suc p) (awaited cs s) t)
+
+parsed-near : (n : ℕ) (x : Split) → SplitNear n x → SplitFew (suc n) x → ParsedNear n (parsed n x)
+parsed-near n (unlexed r p) h g = h
+parsed-near n (tokens ts) h g =
+    let l : Notes = record { leftover = none; rounded = 0; bound = suc n } in
+    finished-near n (animatoInput l ts) (input-stays n .run l ts (record { left = tt; near = h; few = omega arith }))
 
 pub parse-near : (t : List ℕ) → ParsedNear (length t) (parse t)
 unfolding parse split
-parse-near t = parsed-near (length t) (split t) (split-near (length t) 0 0 [] t (omega arith))
+parse-near t = parsed-near (length t) (split t) (split-near (length t) 0 0 [] t (omega arith)) (split-few 0 0 [] t)
 
--- ---- reading: "a refusal's place is at most the text's length", a sheet has at most 49,152 bytes, and no more records
+-- ---- reading: "a refusal's place is at most the text's length", a sheet has at most 49,152 bytes, and no more records; no more numbers
+-- are rounded than there are tokens
 
 abbrev pub ReadWithin : ReadAnswer → Type 0
-ReadWithin (read.Accepted n k) = (n ≤ 49152) × (k ≤ 49152)
+ReadWithin (read.Accepted n k j) = (n ≤ 49152) × (k ≤ 49152) × (j ≤ 16385)
 ReadWithin (read.Refused r p) = p ≤ textLimit
 
 short-text : (size words : ℕ) → early size words ≡ none → size ≤ textLimit
@@ -113,18 +142,18 @@ short-text size words e = go (ltb textLimit size) refl e
     go true f e = absurd (let z : _≡_ {A = ℕ} 0 1 = cc in omega arith)
     go false f e = omega (arith, ltb-false textLimit size f)
 
-fitting-within : (b : Bool) (bs : List ℕ) (k : ℕ) → length bs ≤ 49152 → k ≤ length bs
-    → ReadWithin (cond {A = ReadAnswer × List ℕ} b (read.Refused SheetTooShort 0, []) (read.Accepted (length bs) k, bs) .0)
-fitting-within true bs k h g = omega arith
-fitting-within false bs k h g = (h, omega arith)
+fitting-within : (b : Bool) (bs : List ℕ) (k j : ℕ) → length bs ≤ 49152 → k ≤ length bs → j ≤ 16385
+    → ReadWithin (cond {A = ReadAnswer × List ℕ} b (read.Refused SheetTooShort 0, []) (read.Accepted (length bs) k j, bs) .0)
+fitting-within true bs k j h g f = omega arith
+fitting-within false bs k j h g f = (h, omega arith, f)
 
 written-within : (t : List ℕ) (room : ℕ) (x : Parsed) → parse t ≡ x → length t ≤ textLimit
     → ParsedNear (length t) x → ReadWithin (answered (length t) room x .0)
 written-within t room (wrong r p) e l h = omega arith
-written-within t room (tree ns) e l h =
+written-within t room (tree ns k) e l h =
     let bs = encode (length t) (mapTimes stored ns) in
-    fitting-within (ltb room (length bs)) bs (records ns) (parses-small t ns l e)
-    (omega (arith, sheet-some (length t) (mapTimes stored ns) (parses-fits t ns l e), records-same stored ns))
+    fitting-within (ltb room (length bs)) bs (records ns) k (parses-small t ns l e)
+    (omega (arith, sheet-some (length t) (mapTimes stored ns) (parses-fits t ns l e), records-same stored ns)) (omega arith)
 
 pub read-within : (t scratch sheet : List ℕ) → ReadWithin (reading t scratch sheet .0)
 unfolding reading

@@ -14,14 +14,14 @@ use Rattle.verdict.specs.declared.Verdict.the-variants.{Unread, Checked}
 -- what reading answered
 abbrev pub readOf : Verdict → ReadAnswer
 readOf (Unread r p) = read.Refused r p
-readOf (Checked n c v) = read.Accepted n c
+readOf (Checked n c k v) = read.Accepted n c k
 
 -- what checking answered: "Checking gets the sheet up to the length reading gave". Where reading refused, it was not called
 abbrev pub Answered : List ℕ → List ℕ → Verdict → Type 0
 Answered t s (Unread r p) = Unit {0}
-Answered t s (Checked n c v) = v ≡ checking t (take n s)
+Answered t s (Checked n c k v) = v ≡ checking t (take n s)
 
 -- demand 3 of both answers and of the sheet s that reading left; where reading refused, whatever checking might answer
 abbrev pub Claims : List ℕ → ℕ → ℕ → List ℕ → Verdict → Type 0
 Claims t words room s (Unread r p) = (v : CheckAnswer) → Claim t words room (read.Refused r p) s v
-Claims t words room s (Checked n c v) = Claim t words room (read.Accepted n c) s v
+Claims t words room s (Checked n c k v) = Claim t words room (read.Accepted n c k) s v

@@ -15,10 +15,11 @@ pub enum Verdict {
         refusal: Refusal,
         place: usize,
     },
-    // Reading gave the sheet's length and its count of node records, and checking this answer.
+    // Reading gave the sheet's length, its count of node records and that of the rounded numbers, and checking this answer.
     Checked {
         length: usize,
         records: usize,
+        rounded: usize,
         answer: CheckAnswer,
     },
 }
@@ -31,11 +32,16 @@ pub fn read_and_check(text: &[u8], scratch: &mut [u16], sheet: &mut [u8]) -> Ver
 {
     match parser::read(text, scratch, sheet) {
         ReadAnswer::Refused { refusal, place } => Verdict::Unread { refusal, place },
-        ReadAnswer::Accepted { length, records } => {
+        ReadAnswer::Accepted {
+            length,
+            records,
+            rounded,
+        } => {
             let answer = validate::check(text, text::part(sheet, 0, length));
             Verdict::Checked {
                 length,
                 records,
+                rounded,
                 answer,
             }
         }

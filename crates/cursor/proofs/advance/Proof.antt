@@ -5,7 +5,7 @@ use mathlib.Core.Path.{ap, sym, _∙_}
 use native.Mathlib.Omega.{arith}
 use Rattle.token.specs.Token.{tokensFrom}
 use borrow.Author.Needs.{needs}
-use Rattle.cursor.proofs.CursorLaws.{head-last}
+use Rattle.cursor.proofs.CursorLaws.{head-last, head-low}
 use Rattle.cursor.proofs.advance.Statement.{statement}
 use Rattle.cursor.proofs.advance.Tie as tie
 
@@ -18,6 +18,7 @@ start-requires c κs =
       search needs,
       start .pre .short,
       rw (c .wide .ensures) (head-last (start .args .text .now) (start .args .c) (start .pre)),
+      omega (arith, c .wide .ensures, start .pre .few, head-low (start .args .text .now) (start .args .c) (start .pre)),
     )
 
 returns : tie.Need-returns
@@ -27,6 +28,7 @@ returns c =
       rest = start .pre .head .rest ∙ ap (tokensFrom (start .args .text .now)) (sym (c .before .wide .ensures)) ∙ c .start .ensures .is;
       at = omega (arith, c .before .wide .ensures, c .start .ensures .low);
       left = c .start .ensures .left;
+      rounded = c .start .ensures .rounded;
       ready = c .start .ensures .ready;
     }
 

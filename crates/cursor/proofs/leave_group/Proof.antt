@@ -30,7 +30,7 @@ returns-2 c =
     let at-ends = at-if1 .before in
     let start = at-ends .before .before in
     leave-left (start .args .text .now) (start .args .c) (c .past-group .result) _ (start .pre) (c .past-group .ensures)
-    (sym (at-ends .ends .ensures (start .args .text .now) (start .pre)) ∙ at-if1 .if1 .left) refl refl (c .before .first-of .ensures)
+    (sym (at-ends .ends .ensures (start .args .text .now) (start .pre)) ∙ at-if1 .if1 .left) refl refl (c .before .first-of .ensures) refl
 
 pub leave-group-spec : {M : Type 1} → statement M
 leave-group-spec =

@@ -1,8 +1,10 @@
 -- `cursor::parse_float` meets its contract. Assumes nothing.
 use Rattle.text.specs.Bytes.{at}
 use Rattle.error.specs.declared.Refusal.the-variants.{Malformed}
-use Rattle.cursor.proofs.CursorLaws.{took-number}
+use Rattle.cursor.proofs.CursorLaws.{counts, took-number}
 use Rattle.number.specs.Number.{nearest}
+use Rattle.number.specs.Rounded.{numberRounded}
+use native.Mathlib.Omega.{arith}
 use Rattle.grammar.specs.Values.{parseFloat}
 use Rattle.number.proofs.Floats.{round-number}
 use mathlib.Core.Path.{_∙_}
@@ -19,6 +21,12 @@ enum-known-p c = search needs
 enum-known-negative : tie.Need-enum-known-negative
 enum-known-negative c = search needs
 
+count-requires : tie.Need-count-requires
+count-requires c κs =
+    let at-negative = c .before .before in
+    let n = rw (at-negative .negative .given .1) at (at-negative .before .before .number .ensures) in
+    omega (arith, n .ready .few, n .ready .high, n .ready .short)
+
 decimal-requires : tie.Need-decimal-requires
 decimal-requires c κs = (rw (c .before .negative .given .1) at (c .before .before .before .number .ensures)) .small .places
 
@@ -27,16 +35,26 @@ unfolding parseFloat
 returns c = let n = rw (c .before .p .given .1) at (c .before .before .before .number .ensures) in rw (n .0, n .1)
 
 returns-2 : tie.Need-returns-2
-unfolding parseFloat nearest
+unfolding parseFloat nearest numberRounded
 returns-2 c =
-    let at-negative = c .before .before in
+    let at-decimal = c .before in
+    let at-negative = at-decimal .before .before in
     let at-number = at-negative .before .before in
-    let args = at-number .before .before .args in
+    let start = at-number .before .before in
+    let args = start .args in
     let n = rw (at-negative .negative .given .1) at (at-number .number .ensures) in
     let t = took-number (args .text .now) (args .c) _ _ _ n Malformed in
-    (record { is = rw (t .is, c .decimal .ensures); low = t .low; ready = t .ready }, rw (c .decimal .ensures) (round-number _ _ _))
+    let x = at-decimal .decimal .ensures in (
+      record {
+        is = rw (t .is, c .count .ensures, x .0, x .1);
+        low = rw (c .count .ensures) (n .low);
+        ready = rw (c .count .ensures)
+            (counts (args .text .now) (args .c) _ (start .pre) (n .ready) (n .rounded) (n .low) (at-decimal .decimal .result .rounded));
+      },
+      rw (x .0) (round-number _ _ _),
+    )
 
 pub parse-float-spec : {M : Type 1} → statement M
 parse-float-spec =
     tie.close
-    (tie.spec number-requires enum-known-p enum-known-negative decimal-requires returns returns-2)
+    (tie.spec number-requires enum-known-p enum-known-negative decimal-requires count-requires returns returns-2)

@@ -8,7 +8,9 @@ token-requires : tie.Need-token-requires
 token-requires c κs = search needs
 
 returns : tie.Need-returns
-returns c = begins _ _ _ _ (c .before .before .pre .1) (c .before .before .pre .2) (c .token .ensures)
+returns c =
+    let start = c .before .before in
+    begins _ _ _ _ _ (start .pre .1) (start .pre .2) (start .pre .3) (c .token .ensures)
 
 pub start-spec : {M : Type 1} → statement M
 start-spec = tie.close (tie.spec token-requires returns)

@@ -1,6 +1,8 @@
+use Rattle.text.specs.Bytes.{at}
 -- `keyframes::parse_keyframe_time` meets its contract. Assumes nothing.
 use Rattle.keyframes.proofs.TimeLaws.{no-time, percent-suffix, took-time}
 use mathlib.Core.Path.{sym, _∙_}
+use native.Mathlib.Omega.{arith}
 use borrow.Author.Needs.{needs}
 use Rattle.keyframes.proofs.parse_keyframe_time.Statement.{statement}
 use Rattle.keyframes.proofs.parse_keyframe_time.Tie as tie
@@ -41,6 +43,9 @@ time-of-requires c κs =
     let at-number = at-negative .before .before in
     (rw (at-negative .negative .given .1) at (at-number .number .ensures)) .small
 
+count-requires : tie.Need-count-requires
+count-requires c κs = let r = c .before .before .before .before .percent-sign .ensures .ready in omega (arith, r .few, r .high, r .short)
+
 returns-2 : tie.Need-returns-2
 returns-2 c =
     let at-number = c .before .before .before in
@@ -49,20 +54,24 @@ returns-2 c =
 
 returns-3 : tie.Need-returns-3
 returns-3 c =
-    let at-all = c .before .before in
+    let at-if1 = c .before .before in
+    let at-all = at-if1 .before in
     let at-percent-sign = at-all .before .before in
     let at-negative = at-percent-sign .before .before in
     let at-number = at-negative .before .before in
-    let args = at-number .before .before .args in
+    let start = at-number .before .before in
     took-time
-    (args .text .now)
-    (args .c)
+    (start .args .text .now)
+    (start .args .c)
     _ _ _ _
     (rw (at-negative .negative .given .1) at (at-number .number .ensures))
     _
     (at-percent-sign .percent-sign .ensures)
-    (sym (at-all .all .ensures) ∙ c .before .if1 .left)
-    (c .time-of .ensures)
+    (sym (at-all .all .ensures) ∙ at-if1 .if1 .left)
+    (start .pre)
+    (c .before .time-of .ensures .0)
+    (c .before .time-of .ensures .1)
+    (c .count .ensures)
 
 pub parse-keyframe-time-spec : {M : Type 1} → statement M
 parse-keyframe-time-spec =
@@ -76,5 +85,6 @@ parse-keyframe-time-spec =
     place-requires
     returns
     time-of-requires
+    count-requires
     returns-2
     returns-3)

@@ -1,5 +1,5 @@
 -- `keyframes::time_of` meets its contract. Assumes nothing.
-use Rattle.keyframes.proofs.TimeLaws.{stores-percent, stores-seconds}
+use Rattle.keyframes.proofs.TimeLaws.{rounds-percent, rounds-seconds, stores-percent, stores-seconds}
 use borrow.Author.Needs.{needs}
 use Rattle.keyframes.proofs.time_of.Statement.{statement}
 use Rattle.keyframes.proofs.time_of.Tie as tie
@@ -10,7 +10,10 @@ percent-requires c κs = search needs
 returns : tie.Need-returns
 returns c =
     let args = c .before .before .args in
-    stores-percent (args .percent) (args .negative) (args .n) _ (c .before .if1 .taken) (c .percent .ensures)
+    let e = c .before .if1 .taken in (
+      stores-percent (args .percent) (args .negative) (args .n) _ e (c .percent .ensures .0),
+      rounds-percent (args .percent) (args .negative) (args .n) e (c .percent .ensures .1),
+    )
 
 decimal-requires : tie.Need-decimal-requires
 decimal-requires c κs = search needs
@@ -18,7 +21,10 @@ decimal-requires c κs = search needs
 returns-2 : tie.Need-returns-2
 returns-2 c =
     let args = c .before .before .args in
-    stores-seconds (args .percent) (args .negative) (args .n) _ (c .before .if1 .left) (c .decimal .ensures)
+    let e = c .before .if1 .left in (
+      stores-seconds (args .percent) (args .negative) (args .n) _ e (c .decimal .ensures .0),
+      rounds-seconds (args .percent) (args .negative) (args .n) e (c .decimal .ensures .1),
+    )
 
 pub time-of-spec : {M : Type 1} → statement M
 time-of-spec = tie.close (tie.spec percent-requires returns decimal-requires returns-2)

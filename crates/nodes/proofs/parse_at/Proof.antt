@@ -3,6 +3,8 @@ use native.Mathlib.Omega.{arith}
 use Rattle.text.specs.Bytes.{at}
 use Rattle.nodes.proofs.NodeLaws.{at-went, no-value}
 use Rattle.number.specs.Number.{bits, nearest}
+use Rattle.number.specs.Rounded.{numberRounded}
+use Rattle.cursor.proofs.CursorLaws.{counts}
 use Rattle.encode.proofs.FieldLaws.{length-word}
 use Rattle.number.proofs.Floats.{round-number}
 use borrow.Author.Needs.{needs}
@@ -21,39 +23,49 @@ enum-known-p c = search needs
 enum-known-negative : tie.Need-enum-known-negative
 enum-known-negative c = search needs
 
-eat-requires : tie.Need-eat-requires
-eat-requires c κs = ((rw (c .before .negative .given .1) at (c .before .before .before .number .ensures)) .ready, omega arith)
-
 turned-requires : tie.Need-turned-requires
 turned-requires c κs = search needs
 
 decimal-requires : tie.Need-decimal-requires
 decimal-requires c κs =
-    let at-negative = c .before .before .before in
+    let at-negative = c .before .before in
     let at-number = at-negative .before .before in
     (rw (at-negative .negative .given .1) at (at-number .number .ensures)) .small .places
 
+count-requires : tie.Need-count-requires
+count-requires c κs =
+    let at-negative = c .before .before .before in
+    let at-number = at-negative .before .before in
+    let n = rw (at-negative .negative .given .1) at (at-number .number .ensures) in
+    omega (arith, n .ready .few, n .ready .high, n .ready .short)
+
+eat-requires : tie.Need-eat-requires
+eat-requires c κs =
+    let at-negative = c .before .before .before .before in
+    let at-number = at-negative .before .before in
+    let at-at-sign = at-number .before .before in
+    let n = rw (at-negative .negative .given .1) at (at-number .number .ensures) in (
+      rw (c .count .ensures)
+          (counts _ _ _ (at-at-sign .at-sign .ensures .ready) (n .ready) (n .rounded) (n .low) (c .before .decimal .result .rounded)),
+      omega arith,
+    )
+
 put-float-requires : tie.Need-put-float-requires
 put-float-requires c κs =
-    let at-decimal = c .before in
-    let c9 = at-decimal .before .before .before .before in
-    let c13 = c9 .before .before .before .before in
-    let start = c13 .before .before .before in
-    (omega (arith, start .pre .1 .low), rw (at-decimal .decimal .ensures) (round-number _ _ _))
+    let at-decimal = c .before .before .before in
+    let c7 = at-decimal .before .before .before .before in
+    let c11 = c7 .before .before .before .before in
+    let start = c11 .before .before in
+    (omega (arith, start .pre .1 .low), rw (at-decimal .decimal .ensures .0) (round-number _ _ _))
 
 put-flag-requires : tie.Need-put-flag-requires
 put-flag-requires c κs =
     let at-put-float = c .before .before .before in
-    let at-decimal = at-put-float .before .before in
-    let c13 = at-decimal .before .before .before .before in
-    let c17 = c13 .before .before .before .before in
-    let start = c17 .before .before .before in
-    omega (
-      arith,
-      start .pre .1 .low,
-      at-put-float .put-float .ensures .place,
-      length-word (bits (at-decimal .decimal .result)),
-    )
+    let at-decimal = at-put-float .before .before .before .before in
+    let c11 = at-decimal .before .before .before .before in
+    let c15 = c11 .before .before .before .before in
+    let start = c15 .before .before in
+    omega (arith, start .pre .1 .low, at-put-float .put-float .ensures .place, length-word (bits (at-decimal .decimal .result .value)))
 
 returns : tie.Need-returns
 returns c =
@@ -65,22 +77,25 @@ same-length : tie.Need-same-length
 same-length c = search needs
 
 returns-2 : tie.Need-returns-2
-unfolding nearest
+unfolding nearest numberRounded
 returns-2 c =
     let at-put-flag = c .before .before .before in
     let at-put-float = at-put-flag .before .before .before .before in
-    let at-decimal = at-put-float .before .before in
+    let at-eat = at-put-float .before .before in
+    let at-count = at-eat .before in
+    let at-decimal = at-count .before in
     let at-turned = at-decimal .before in
-    let at-eat = at-turned .before in
-    let at-negative = at-eat .before .before in
+    let at-negative = at-turned .before .before in
     let at-number = at-negative .before .before in
     let at-at-sign = at-number .before .before in
+    let x = rw (at-turned .turned .ensures) at (at-decimal .decimal .ensures) in
     at-went _ _ _ _ _
     (at-at-sign .at-sign .ensures)
-    _ _ _ _ _
+    _ _ _ _ _ _
     (rw (at-negative .negative .given .1) at (at-number .number .ensures))
-    (at-eat .eat .ensures)
-    (rw (at-decimal .decimal .ensures, at-turned .turned .ensures) at (at-put-float .put-float .ensures))
+    (x .1)
+    (rw (at-count .count .ensures) at (at-eat .eat .ensures))
+    (rw (x .0) at (at-put-float .put-float .ensures))
     (at-put-flag .put-flag .ensures)
 
 pub parse-at-spec : {M : Type 1} → statement M
@@ -91,9 +106,10 @@ parse-at-spec =
     number-requires
     enum-known-p
     enum-known-negative
-    eat-requires
     turned-requires
     decimal-requires
+    count-requires
+    eat-requires
     put-float-requires
     put-flag-requires
     returns

@@ -17,11 +17,13 @@ f32-of-bits-requires c κs = search needs
 
 returns : tie.Need-returns
 returns c =
-    let s = c .before .before in
-    let args = s .args in
-    let x = round binary32 (args .negative) (args .digits) (10 ^ args .places) in
-    c .f32-of-bits .ensures ∙ ap f32 (c .before .decimal-bits .ensures)
-    ∙ f32-bits x (round-fits binary32 (args .negative) (args .digits) (10 ^ args .places))
+    let at-decimal-bits = c .before in
+    let args = at-decimal-bits .before .args in
+    let x = round binary32 (args .negative) (args .digits) (10 ^ args .places) in (
+      c .f32-of-bits .ensures ∙ ap f32 (at-decimal-bits .decimal-bits .ensures .0)
+          ∙ f32-bits x (round-fits binary32 (args .negative) (args .digits) (10 ^ args .places)),
+      at-decimal-bits .decimal-bits .ensures .1,
+    )
 
 pub decimal-spec : {M : Type 1} → statement M
 decimal-spec = tie.close (tie.spec decimal-bits-requires f32-of-bits-requires returns)

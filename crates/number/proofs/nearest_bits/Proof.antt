@@ -1,6 +1,6 @@
 -- `number::nearest_bits` meets its contract: with n of 64 binary digits and d of 40 the quotient has 24 or 25. Assumes nothing.
-use mathlib.Core.Path.{sym, ap, _∙_}
-use mathlib.Core.Bool.{false}
+use mathlib.Core.Path.{_≡_, sym, ap, _∙_}
+use mathlib.Core.Bool.{Bool, false}
 use Prim.Native.Nat.{ℕ, _+_, _-_, _*_, _^_}
 use native.Mathlib.Nat.{mul-assoc}
 use native.Mathlib.Omega.{arith}
@@ -8,7 +8,9 @@ use lib.Count.{leadingZeros}
 use lib.Pow.{pow-add}
 use lib.Ieee.{binary32, round, toBits}
 use Rattle.number.specs.Number.{bits}
-use Rattle.number.proofs.Scaling.{Aligned, aligned, scaled-bits, whole-below}
+use Rattle.number.specs.Rounded.{fraction, rounded}
+use Rattle.number.proofs.Scaling.{Aligned, aligned, scaled-bits, scaled-rounded, whole-below}
+use Rattle.number.proofs.Exactly.{zero-exact}
 use Rattle.number.proofs.Round.{zero-bits}
 use Rattle.number.proofs.nearest_bits.Statement.{statement}
 use Rattle.number.proofs.nearest_bits.Tie as tie
@@ -21,8 +23,12 @@ known c =
 returns : tie.Need-returns
 unfolding bits
 returns c =
-    sym (ap (λ (x : ℕ). toBits binary32 (round binary32 false x (c .before .args .d))) (c .if1 .taken)
-    ∙ zero-bits (c .before .args .d) (c .before .pre .0))
+    let d = c .before .args .d in
+    let zero = c .if1 .taken in
+    let above = c .before .pre .0 in (
+      sym (ap (λ (x : ℕ). toBits binary32 (round binary32 false x d)) zero ∙ zero-bits d above),
+      λ s. sym (ap (λ (x : ℕ). rounded (round binary32 s x d) (fraction s x d)) zero ∙ zero-exact s d above),
+    )
 
 sub-y : tie.Need-sub-y
 sub-y c = known c .l-low
@@ -61,10 +67,19 @@ returns-2 : tie.Need-returns-2
 unfolding bits
 returns-2 c =
     let s = c .before .before .before in
+    let args = s .args in
     let k = known (c .before .before) in
-    c .packed .ensures
-    ∙ scaled-bits (s .args .n) (s .args .d) (leadingZeros 64 (s .args .n)) (leadingZeros 64 (s .args .d) - 24) _ _ _
-    (s .pre .0) (k .a-is) (k .b-is) (omega arith) (omega arith) (omega arith) (omega arith) (omega arith)
+    let z = leadingZeros 64 (args .n) in
+    let y = leadingZeros 64 (args .d) - 24 in (
+      c .packed .ensures .0
+          ∙ scaled-bits (args .n) (args .d) z y _ _ _ (s .pre .0) (k .a-is) (k .b-is) (omega arith) (omega arith) (omega arith)
+          (omega arith)
+          (omega arith),
+      λ t. c .packed .ensures .1
+          ∙ scaled-rounded (args .n) (args .d) z y (149 + y - z) _ _ (s .pre .0) (k .a-is) (k .b-is) (omega arith) (omega arith)
+          (omega arith) (omega arith)
+          (omega arith) t,
+    )
 
 returns-3 : tie.Need-returns-3
 unfolding bits
@@ -72,17 +87,18 @@ returns-3 c =
     let s = c .before .before .before in
     let args = s .args in
     let k = known (c .before .before) in
+    let z = leadingZeros 64 (args .n) in
     let y = leadingZeros 64 (args .d) - 24 in
-    c .packed2 .ensures
-    ∙ scaled-bits (args .n) (args .d) (leadingZeros 64 (args .n)) (y + 1) _ _ _
-    (s .pre .0)
-    (k .a-is)
-    (ap (λ (x : ℕ). x * 2) (k .b-is) ∙ mul-assoc (args .d) (2 ^ y) 2 ∙ ap (λ (x : ℕ). args .d * x) (sym (pow-add 2 y 1)))
-    (omega arith)
-    (omega arith)
-    (omega arith)
-    (omega arith)
-    (omega arith)
+    let twice = ap (λ (x : ℕ). x * 2) (k .b-is) ∙ mul-assoc (args .d) (2 ^ y) 2 ∙ ap (λ (x : ℕ). args .d * x) (sym (pow-add 2 y 1)) in (
+      c .packed2 .ensures .0
+          ∙ scaled-bits (args .n) (args .d) z (y + 1) _ _ _ (s .pre .0) (k .a-is) twice (omega arith) (omega arith) (omega arith)
+          (omega arith)
+          (omega arith),
+      λ t. c .packed2 .ensures .1
+          ∙ scaled-rounded (args .n) (args .d) z (y + 1) (149 + y - z + 1) _ _ (s .pre .0) (k .a-is) twice (omega arith) (omega arith)
+          (omega arith)
+          (omega arith) (omega arith) t,
+    )
 
 pub nearest-bits-spec : {M : Type 1} → statement M
 nearest-bits-spec =

@@ -6,23 +6,26 @@ use Rattle.number.proofs.Closest.{closest-le}
 use Rattle.number.proofs.packed.Statement.{statement}
 use Rattle.number.proofs.packed.Tie as tie
 
-small : (c : tie.After-quotient) → c .quotient .result ≤ 16777216
-small c = omega (arith, closest-le (c .before .args .a) (c .before .args .b) 16777216 (c .before .pre .2), c .quotient .ensures)
+small : (c : tie.After-quotient) → c .quotient .result .whole ≤ 16777216
+small c =
+    omega (arith, closest-le (c .before .args .a) (c .before .args .b) 16777216 (c .before .pre .2), c .quotient .ensures .0)
 
 quotient-requires : tie.Need-quotient-requires
 quotient-requires c κs = search needs
 
-mul-result : tie.Need-mul-result
-mul-result c = search needs
+mul-bits : tie.Need-mul-bits
+mul-bits c = search needs
 
-cast-result : tie.Need-cast-result
-cast-result c = omega (arith, small c)
+cast-bits : tie.Need-cast-bits
+cast-bits c = omega (arith, small (c .before))
 
-add-result : tie.Need-add-result
-add-result c = omega (arith, small c)
+add-bits : tie.Need-add-bits
+add-bits c = omega (arith, small (c .before))
 
 returns : tie.Need-returns
-returns c = search needs
+returns c =
+    let at-quotient = c .before in
+    (omega (arith, at-quotient .quotient .ensures .0), at-quotient .quotient .ensures .1)
 
 pub packed-spec : {M : Type 1} → statement M
-packed-spec = tie.close (tie.spec quotient-requires mul-result cast-result add-result returns)
+packed-spec = tie.close (tie.spec quotient-requires mul-bits cast-bits add-bits returns)

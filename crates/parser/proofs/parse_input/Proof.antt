@@ -35,6 +35,9 @@ enum-told c = search needs
 patch-count-requires : tie.Need-patch-count-requires
 patch-count-requires c κs = search needs
 
+rounded-requires : tie.Need-rounded-requires
+rounded-requires c κs = search needs
+
 place-requires : tie.Need-place-requires
 place-requires c κs = search needs
 
@@ -70,7 +73,8 @@ same-length-3 c = search needs
 
 returns-3 : tie.Need-returns-3
 returns-3 c =
-    let at-patch-count = c .before .before .before in
+    let at-rounded = c .before in
+    let at-patch-count = at-rounded .before .before .before in
     let at-enum-told = at-patch-count .before .before in
     let at-leftover = at-enum-told .before .before in
     let at-nodes = at-leftover .before .before .before in
@@ -79,8 +83,8 @@ returns-3 c =
     let start = at-first .before .before .before in
     let g = rw (at-nodes .nodes .given .1) at (at-parse-nodes .parse-nodes .ensures) in
     let l = rw (at-enum-told .enum-told .given .1) at (at-leftover .leftover .ensures) in
-    input-done (start .args .text .now) (at-first .first .result) (at-first .first .ensures) g _ (sym l)
-    (at-patch-count .patch-count .ensures) (c .place2 .ensures)
+    input-done (start .args .text .now) (at-first .first .result) (at-first .first .ensures) g _ _ (sym l)
+    (at-patch-count .patch-count .ensures) (c .place2 .ensures) (at-rounded .rounded .ensures)
 
 pub parse-input-spec : {M : Type 1} → statement M
 parse-input-spec =
@@ -96,6 +100,7 @@ parse-input-spec =
     refused-requires-2
     enum-told
     patch-count-requires
+    rounded-requires
     place-requires
     same-length
     returns

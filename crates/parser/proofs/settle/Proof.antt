@@ -26,7 +26,7 @@ returns c =
     let at-answer2 = at-if1 .before .before in
     let start = at-answer2 .before .before .before in
     rw (at-answer2 .answer2 .given .1)
-    (settled-short (start .args .sheet .now) (at-clear2 .clear2 .last .0) _ _ (at-if1 .if1 .taken) (at-clear2 .clear2 .ensures))
+    (settled-short (start .args .sheet .now) (at-clear2 .clear2 .last .0) _ _ _ (at-if1 .if1 .taken) (at-clear2 .clear2 .ensures))
 
 clear-requires-3 : tie.Need-clear-requires-3
 clear-requires-3 c κs = search needs
@@ -51,7 +51,7 @@ returns-3 c =
     let at-answer2 = at-if1 .before .before in
     let start = at-answer2 .before .before .before in
     rw (at-answer2 .answer2 .given .1)
-    (settled-accepted (start .args .sheet .now) (at-clear3 .clear3 .last .0) _ _ (at-if1 .if1 .left) (at-clear3 .clear3 .ensures))
+    (settled-accepted (start .args .sheet .now) (at-clear3 .clear3 .last .0) _ _ _ (at-if1 .if1 .left) (at-clear3 .clear3 .ensures))
 
 pub settle-spec : {M : Type 1} → statement M
 settle-spec =

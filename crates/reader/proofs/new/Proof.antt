@@ -81,7 +81,7 @@ module _ {M : Type 1} (𝓤 : URA M) (H : Heap 𝓤) (A : Atoms 𝓤) (W : Given
   Read r = now r ≡ readable (now s)
 
   abbrev Means : RefT (List ℕ) → Cursor → Type 0
-  Means r c = Begins (now r) 0 unnoted c
+  Means r c = Begins (now r) 0 unnoted 0 c
 
   read-short : (r : RefT (List ℕ)) → Read r → length (now r) ≤ textLimit
   read-short r e = subst⁻¹ (λ (l : List ℕ). length l ≤ textLimit) e (readable-short (now s))

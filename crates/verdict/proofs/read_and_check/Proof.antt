@@ -50,7 +50,7 @@ returns-2 c =
     let start = c14 .before .before in
     let e = rw (at-length .length .given .1) at (call .read .ensures .0) in
     let v = rw (c .before .part .ensures) at (c .check .ensures .0) in
-    (e, (v, checked (start .args .text .now) (start .args .scratch .now) (start .args .sheet .now) _ _ _ _ _ e v))
+    (e, (v, checked (start .args .text .now) (start .args .scratch .now) (start .args .sheet .now) _ _ _ _ _ _ e v))
 
 pub read-and-check-spec : {M : Type 1} → statement M
 read-and-check-spec =
