@@ -83,6 +83,18 @@ module _ (t : List ℕ) (w e q : ℕ) where
   fraction-is true k l = let z : e - q ≡ suc w = omega arith in rw z
   fraction-is false k l = rw l
 
+-- a number's digits end in the text
+pub fraction-inside : (t : List ℕ) (w : ℕ) (x : Bool) → x ≡ pointAt t w → w ≤ length t → pastFraction x t w ≤ length t
+unfolding pastFraction
+fraction-inside t w true p h = run-fits isDigit t (suc w) (point-inside t w (sym p))
+fraction-inside t w false p h = h
+
+-- and soon, where few stand behind the point
+fraction-few : (t : List ℕ) (w : ℕ) (x : Bool) → placesOf x w (pastFraction x t w) ≤ 9 → pastFraction x t w ≤ w + 10
+unfolding pastFraction placesOf
+fraction-few t w true h = omega arith
+fraction-few t w false h = omega arith
+
 pub clings-is : (t : List ℕ) (point s : Bool) (n : ℕ) (a b c d e : Bool)
     → isName (getD t n 0) ≡ a → point ≡ b → s ≡ c → eqb (getD t n 0) 46 ≡ d
     → eqb (getD t (n + 1) 0) 46 ≡ e
@@ -136,6 +148,11 @@ module _ {t : List ℕ} {w : ℕ} {x : Bool} {e : ℕ} {z : Bool} {n : ℕ} (p :
   pub digits-few : (q : ℕ) → q ≡ placesOf x w e → Digits t → q ≤ 9
   unfolding writtenBy
   digits-few q g d = rw (written-is, sym g) at (d .places)
+
+  pub digits-soon : Digits t → pastFraction x t w ≤ 20
+  digits-soon d =
+      let few = rw (p .end) at (digits-few _ refl d) in
+      omega (arith, fraction-few t w x few, p .whole, d .whole)
 
   -- the digits before the point, h, and those behind it make one number
   pub value-is : (h v q : ℕ) → h ≡ decimal 0 (part t 0 w) → v ≡ decimal h (part t (e - q) q) → q ≡ placesOf x w e

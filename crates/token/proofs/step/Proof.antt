@@ -4,7 +4,7 @@ use native.Mathlib.Omega.{arith}
 use lib.ListN.{drop, length-drop}
 use borrow.Author.Needs.{needs}
 use Rattle.text.specs.Bytes.{at}
-use Rattle.token.proofs.TokenLaws.{rest-of}
+use Rattle.token.proofs.TokenLaws.{rest-of, start-high}
 use Rattle.token.proofs.SplitLaws.{over-end, over-bad, over-unfit, goes-on}
 use Rattle.token.proofs.WholeLaws.{whole-of}
 use Rattle.token.proofs.step.Statement.{statement}
@@ -12,6 +12,14 @@ use Rattle.token.proofs.step.Tie as tie
 
 run-end-requires : tie.Need-run-end-requires
 run-end-requires c κs = search needs
+
+cast-start : tie.Need-cast-start
+cast-start c =
+    let start = c .before .before .before in
+    omega (arith, start-high (start .args .text .now) (start .args .at) _ (c .run-end .ensures) (start .pre .0))
+
+cast-from : tie.Need-cast-from
+cast-from c = search needs
 
 ended-requires : tie.Need-ended-requires
 ended-requires c κs = search needs
@@ -121,6 +129,8 @@ step-spec =
     tie.close
     (tie.spec
     run-end-requires
+    cast-start
+    cast-from
     ended-requires
     returns
     sub-first
