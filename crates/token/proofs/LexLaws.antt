@@ -149,11 +149,6 @@ module _ {t : List ℕ} {w : ℕ} {x : Bool} {e : ℕ} {z : Bool} {n : ℕ} (p :
   unfolding writtenBy
   digits-few q g d = rw (written-is, sym g) at (d .places)
 
-  pub digits-soon : Digits t → pastFraction x t w ≤ 20
-  digits-soon d =
-      let few = rw (p .end) at (digits-few _ refl d) in
-      omega (arith, fraction-few t w x few, p .whole, d .whole)
-
   -- the digits before the point, h, and those behind it make one number
   pub value-is : (h v q : ℕ) → h ≡ decimal 0 (part t 0 w) → v ≡ decimal h (part t (e - q) q) → q ≡ placesOf x w e
       → v ≡ decimal (decimal 0 (take w t)) (part t (suc w) q)
@@ -163,6 +158,14 @@ module _ {t : List ℕ} {w : ℕ} {x : Bool} {e : ℕ} {z : Bool} {n : ℕ} (p :
       → record { digits = v; places = q; point = x; suffix = z } ≡ writtenAt t
   unfolding writtenBy
   written-parts v q g d = sym (written-is ∙ (rw (sym g, sym d)))
+
+-- the digit limits of 01 bound the place where they end
+pub digits-soon : (t : List ℕ) (w : ℕ) (x : Bool) → w ≡ run isDigit t → x ≡ pointAt t w → Digits t → pastFraction x t w ≤ 20
+digits-soon t w x a b d =
+    let e = pastFraction x t w in
+    let z = suffixAt t e in
+    let p : Parts t w x e z (pastSuffix z e) = record { whole = a; point = b; end = refl; suffix = refl; next = refl } in
+    omega (arith, fraction-few t w x (digits-few p _ refl d), d .whole)
 
 -- ---- the first byte decides
 

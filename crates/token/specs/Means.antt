@@ -124,7 +124,7 @@ abbrev pub answerOf : Split → SplitAnswer
 answerOf (unlexed r p) = answer.Refused r p
 answerOf (tokens ts) = answer.Accepted
 
--- the answer that one with a place of 16 bits is
+-- the answer to the caller, of one whose place has 16 bits
 abbrev pub wideAnswer : ShortAnswer → SplitAnswer
 wideAnswer short.Accepted = answer.Accepted
 wideAnswer (short.Refused r p) = answer.Refused r p

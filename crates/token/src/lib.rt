@@ -1,5 +1,7 @@
 // Tokens of a text: the one at a place; the pass that judges a whole text by the text rules, and the quicker one over its delimiters alone;
 // the words that are no names. For our own crates: the first two require a text of at most the limit.
+// A place in a text, a size and a depth have 16 bits, but where a public function takes or gives one. What is given as a usize is narrowed
+// at once, and an index is widened where it stands.
 ghost use mathlib.Core.Path.{_≡_};
 ghost use mathlib.Core.Bool.{true, false, not, _||_};
 ghost use mathlib.Core.List.{List, [], _++_};
@@ -262,11 +264,10 @@ pub fn token(text: &[u8], at: usize) -> Lexed
     ensures { λ r. ⌜ Lexes (now (text .entry)) at r ⌝ }
 {
     let start = text::run_end(text, at, Class::Blank) as u16;
-    let from = start as usize;
-    if text.len() <= from {
+    if text.len() <= start as usize {
         return token_at(start, start, Tok::Mark(0));
     }
-    match first(&text[from..]) {
+    match first(&text[start as usize..]) {
         Cut::Bad(_) => token_at(start, start, Tok::Mark(0)),
         Cut::Piece(k, n) => token_at(start, start + n, k),
     }
@@ -393,11 +394,10 @@ fn step(text: &[u8], at: u16, words: &mut [u16], depth: u16) -> Turn
     ensures { λ r. ⌜ TurnMeans (now (text .entry)) at (answerFrom (now (text .entry)) at (held (now (words .entry)) depth)) (now (words .exit)) r ⌝ }
 {
     let start = text::run_end(text, at as usize, Class::Blank) as u16;
-    let from = start as usize;
-    if text.len() <= from {
+    if text.len() <= start as usize {
         return Turn::Over(ended(start, depth));
     }
-    match first(&text[from..]) {
+    match first(&text[start as usize..]) {
         Cut::Bad(r) => halt(r, start),
         Cut::Piece(k, n) => match nest(k, words, depth) {
             Depth::Unfit(r) => halt(r, start),
@@ -427,6 +427,7 @@ fn pass(text: &[u8], words: &mut [u16]) -> ShortAnswer
     }
 }
 
+// A scratch may have more words than 16 bits count.
 fn clear(words: &mut [u16])
     ensures { λ _. ⌜ now (words .exit) ≡ replicate (length (now (words .entry))) 0 ⌝ }
 {
@@ -461,7 +462,7 @@ pub fn split(text: &[u8], scratch: &mut [u16]) -> SplitAnswer
 
 // ---- the delimiters alone, for a text whose tokens are all cut
 
-// Whether a byte is surely no delimiter and no quote: a letter, a digit and most marks are told by one test.
+// Whether a byte is surely no delimiter and no quote: a letter, a digit and most marks are told by one test, a space by a second.
 fn is_plain(b: u8) -> bool
     ensures { λ r. ⌜ (r ≡ true → oneOf (bytes "\"([{)]}") b ≡ false) ⌝ }
 {
@@ -524,7 +525,7 @@ fn is_closed(quoted: bool, depth: u16) -> bool
     false
 }
 
-// What a part of a text makes of the delimiters.
+// What a part of a text makes of the delimiters, from within a string or not and with so many open before it.
 fn part_fits(text: &[u8], quoted: bool, words: &mut [u16], depth: u16) -> Fit
     requires { ⌜ (length (now text) ≤ textLimit) × (64 ≤ length (now words)) × (depth ≤ 64) ⌝ }
     ensures { λ r. ⌜ ((u : List ℕ) → FitMeans (nestsFrom quoted (awaits (held (now (words .entry)) depth)) (now (text .entry) ++ u)) (now (words .exit)) u r) ⌝ }
@@ -549,8 +550,7 @@ fn part_fits(text: &[u8], quoted: bool, words: &mut [u16], depth: u16) -> Fit
     }
 }
 
-// Whether the delimiters of a text fit, from within a string or not and with so many open before it. A text over the limit goes by parts,
-// so that a place has 16 bits in it too.
+// Whether the delimiters of a text fit, likewise. A text over the limit goes by parts, so that 16 bits do for each place.
 fn delimiters_fit(text: &[u8], quoted: bool, words: &mut [u16], depth: u16) -> bool
     requires { ⌜ (64 ≤ length (now words)) × (depth ≤ 64) ⌝ }
     ensures { λ r. ⌜ r ≡ nestsFrom quoted (awaits (held (now (words .entry)) depth)) (now (text .entry)) ⌝ }

@@ -32,8 +32,14 @@ delimiters-fit-below t =
 
 -- what the calls ask and give
 abbrev calls : ℕ → delimiters-fit-lts.Claims
-calls t =
-    (part-fits-reads.Asked, part-fits-reads.Learnt, is-closed-reads.Asked, is-closed-reads.Learnt, delimiters-fit-below t, delimiters-fit.Post)
+calls t = (
+  part-fits-reads.Asked,
+  part-fits-reads.Learnt,
+  is-closed-reads.Asked,
+  is-closed-reads.Learnt,
+  delimiters-fit-below t,
+  delimiters-fit.Post,
+)
 
 delimiters-fit-part-fits-requires : (t : ℕ) → delimiters-fit-lts.Need-part-fits-requires (calls t) (delimiters-fit-at t) delimiters-fit.Post
 delimiters-fit-part-fits-requires t c κs = search needs
@@ -66,12 +72,17 @@ delimiters-fit-returns-2 t c =
     let m = rw (at-q .q .given .1) at (at-part-fits .part-fits .ensures []) in
     c .is-closed .ensures (at-part-fits .part-fits .last .1 .1 .0) ∙ sym (rw append-nil at (m .is) ∙ nests-last _ _)
 
-delimiters-fit-slice-aggregate-part-fits : (t : ℕ) → delimiters-fit-lts.Need-slice-aggregate-part-fits (calls t) (delimiters-fit-at t) delimiters-fit.Post
-delimiters-fit-slice-aggregate-part-fits t c = sym (length-take-le textLimit (c .before .before .before .before .args .text .now) (omega arith))
+delimiters-fit-slice-aggregate-part-fits : (t : ℕ)
+    → delimiters-fit-lts.Need-slice-aggregate-part-fits (calls t) (delimiters-fit-at t) delimiters-fit.Post
+delimiters-fit-slice-aggregate-part-fits t c =
+    let start = c .before .before .before .before in
+    sym (length-take-le textLimit (start .args .text .now) (omega arith))
 
-delimiters-fit-part-fits-requires-2 : (t : ℕ) → delimiters-fit-lts.Need-part-fits-requires-2 (calls t) (delimiters-fit-at t) delimiters-fit.Post
+delimiters-fit-part-fits-requires-2 : (t : ℕ)
+    → delimiters-fit-lts.Need-part-fits-requires-2 (calls t) (delimiters-fit-at t) delimiters-fit.Post
 delimiters-fit-part-fits-requires-2 t c κs =
-    let start = c .before .before .before .before .before in
+    let c4 = c .before .before .before .before in
+    let start = c4 .before in
     (omega (arith, length-take-le textLimit (start .args .text .now) (omega arith)), start .pre .1 .0, start .pre .1 .1)
 
 delimiters-fit-enum-told-2 : (t : ℕ) → delimiters-fit-lts.Need-enum-told-2 (calls t) (delimiters-fit-at t) delimiters-fit.Post
@@ -83,17 +94,21 @@ delimiters-fit-enum-known-q-2 t c = search needs
 delimiters-fit-sub-delimiters-fit : (t : ℕ) → delimiters-fit-lts.Need-sub-delimiters-fit (calls t) (delimiters-fit-at t) delimiters-fit.Post
 delimiters-fit-sub-delimiters-fit t c = search needs
 
-delimiters-fit-part-delimiters-fit-start : (t : ℕ) → delimiters-fit-lts.Need-part-delimiters-fit-start (calls t) (delimiters-fit-at t) delimiters-fit.Post
+delimiters-fit-part-delimiters-fit-start : (t : ℕ)
+    → delimiters-fit-lts.Need-part-delimiters-fit-start (calls t) (delimiters-fit-at t) delimiters-fit.Post
 delimiters-fit-part-delimiters-fit-start t c = search needs
 
-delimiters-fit-part-delimiters-fit-end : (t : ℕ) → delimiters-fit-lts.Need-part-delimiters-fit-end (calls t) (delimiters-fit-at t) delimiters-fit.Post
+delimiters-fit-part-delimiters-fit-end : (t : ℕ)
+    → delimiters-fit-lts.Need-part-delimiters-fit-end (calls t) (delimiters-fit-at t) delimiters-fit.Post
 delimiters-fit-part-delimiters-fit-end t c = search needs
 
-delimiters-fit-delimiters-fit-requires : (t : ℕ) → delimiters-fit-lts.Need-delimiters-fit-requires (calls t) (delimiters-fit-at t) delimiters-fit.Post
+delimiters-fit-delimiters-fit-requires : (t : ℕ)
+    → delimiters-fit-lts.Need-delimiters-fit-requires (calls t) (delimiters-fit-at t) delimiters-fit.Post
 delimiters-fit-delimiters-fit-requires t c κs =
     let at-q = c .before .before .before in
     let at-part-fits = at-q .before .before .before .before in
-    let start = at-part-fits .before .before .before .before .before .before in
+    let c11 = at-part-fits .before .before .before .before in
+    let start = c11 .before .before in
     let text = start .args .text .now in
     let m = rw (at-q .q2 .given .1) at (at-part-fits .part-fits2 .ensures []) in
     let l = ap length (rest-of text textLimit) ∙ length-drop textLimit text in
@@ -105,7 +120,8 @@ delimiters-fit-same-length-3 t c = search needs
 delimiters-fit-returns-3 : (t : ℕ) → delimiters-fit-lts.Need-returns-3 (calls t) (delimiters-fit-at t) delimiters-fit.Post
 delimiters-fit-returns-3 t c =
     let at-part-fits = c .before .before .before .before in
-    let start = at-part-fits .before .before .before .before .before .before in
+    let c8 = at-part-fits .before .before .before .before in
+    let start = c8 .before .before in
     let text = start .args .text .now in
     let m = rw (c .enum-told2 .given .1) at (at-part-fits .part-fits2 .ensures (drop textLimit text)) in
     sym (rw (take-append-drop textLimit text) at m)
@@ -118,7 +134,8 @@ delimiters-fit-returns-4 t c =
     let at-delimiters-fit = c .before .before in
     let at-q = at-delimiters-fit .before .before .before .before in
     let at-part-fits = at-q .before .before .before .before in
-    let start = at-part-fits .before .before .before .before .before .before in
+    let c14 = at-part-fits .before .before .before .before in
+    let start = c14 .before .before in
     let text = start .args .text .now in
     let m = rw (at-q .q2 .given .1) at (at-part-fits .part-fits2 .ensures (drop textLimit text)) in
     rw (rest-of text textLimit) at (at-delimiters-fit .delimiters-fit .ensures) ∙ sym (rw (take-append-drop textLimit text) at (m .is))

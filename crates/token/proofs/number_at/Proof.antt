@@ -1,10 +1,13 @@
 -- `token::number_at` meets its contract; each answer comes from the parts of a number, `Parts`. Assumes nothing.
+use Prim.Native.Nat.{_≤_}
 use mathlib.Core.Path.{sym, _∙_}
 use native.Mathlib.Nat.{zero-add}
 use native.Mathlib.Omega.{arith}
 use borrow.Author.Needs.{needs}
 use borrow.Author.Tests.{ltb-false}
 use Rattle.text.specs.Bytes.{isDigit}
+use Rattle.text.specs.Limits.{textLimit}
+use Rattle.token.specs.Token.{pastFraction}
 use Rattle.token.proofs.LexLaws.{Parts, run-fits, fraction-inside, number-clings, number-long, number-written, number-digits}
 use Rattle.token.proofs.WholeLaws.{neither}
 use Rattle.token.proofs.number_at.Statement.{statement}
@@ -36,6 +39,18 @@ parts w =
       next = w .before .before .past-suffix .ensures;
     }
 
+-- the digits end in the text
+ends : (w : tie.After-has-point)
+    →
+    let at-run-end = w .before in
+    pastFraction (w .has-point .result) (at-run-end .before .before .args .t .now) (at-run-end .run-end .result) ≤ textLimit
+ends w =
+    let at-run-end = w .before in
+    let start = at-run-end .before .before in
+    let t = start .args .t .now in
+    let whole = run-fits isDigit t 0 (omega arith) in
+    omega (arith, start .pre, fraction-inside t (at-run-end .run-end .result) _ (w .has-point .ensures) (omega arith))
+
 run-end-requires : tie.Need-run-end-requires
 run-end-requires c κs = search needs
 
@@ -46,26 +61,13 @@ has-point-requires : tie.Need-has-point-requires
 has-point-requires c κs = search needs
 
 past-fraction-requires : tie.Need-past-fraction-requires
-past-fraction-requires c κs =
-    let at-run-end = c .before in
-    let t = at-run-end .before .before .args .t .now in
-    let w = run-fits isDigit t 0 (omega arith) in
-    let point = c .has-point .ensures in
-    let h = fraction-inside t (at-run-end .run-end .result) _ point (omega arith) in
-    (point, omega arith)
+past-fraction-requires c κs = (c .has-point .ensures, ends c)
 
 has-suffix-requires : tie.Need-has-suffix-requires
 has-suffix-requires c κs = search needs
 
 past-suffix-requires : tie.Need-past-suffix-requires
-past-suffix-requires c κs =
-    let at-past-fraction = c .before in
-    let at-has-point = at-past-fraction .before in
-    let at-run-end = at-has-point .before in
-    let t = at-run-end .before .before .args .t .now in
-    let w = run-fits isDigit t 0 (omega arith) in
-    let h = fraction-inside t (at-run-end .run-end .result) _ (at-has-point .has-point .ensures) (omega arith) in
-    (c .has-suffix .ensures, omega (arith, at-past-fraction .past-fraction .ensures))
+past-suffix-requires c κs = (c .has-suffix .ensures, omega (arith, c .before .past-fraction .ensures, ends (c .before .before)))
 
 places-of-requires : tie.Need-places-of-requires
 places-of-requires c κs = search needs
@@ -97,7 +99,8 @@ returns-3 c =
     let w = ltb-false 10 _ (few .0) in
     let q = ltb-false 9 _ (few .1) in
     record {
-      is = number-written (parts at-clinging) (places-of .result) (sym (at-clinging .clinging .ensures) ∙ c .if2 .left) w (places-of .ensures) q;
+      is = number-written (parts at-clinging) (places-of .result) (sym (at-clinging .clinging .ensures) ∙ c .if2 .left) w
+          (places-of .ensures) q;
       stands = number-digits (parts at-clinging) (places-of .result) w (places-of .ensures) q;
     }
 

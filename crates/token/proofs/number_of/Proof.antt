@@ -6,7 +6,7 @@ use mathlib.Core.Path.{_≡_, refl, _∙_}
 use native.Mathlib.Nat.{zero-add}
 use native.Mathlib.Omega.{arith}
 use borrow.Author.Needs.{needs}
-use Rattle.token.specs.Token.{pastFraction, suffixAt, placesOf, pastSuffix}
+use Rattle.token.specs.Token.{placesOf, pastSuffix}
 use Rattle.token.proofs.NumberLaws.{ten-fits, ten-positive, whole-small}
 use Rattle.token.proofs.LexLaws.{Parts, digits-few, digits-soon, value-is, written-parts, fraction-low, fraction-run}
 use Rattle.token.proofs.WholeLaws.{digits-below}
@@ -65,17 +65,9 @@ has-point-requires c κs = search needs
 past-fraction-requires : tie.Need-past-fraction-requires
 past-fraction-requires c κs =
     let at-run-end = c .before in
-    let t = at-run-end .before .before .args .t .now in
-    let point = c .has-point .ensures in
-    let p : Parts t _ _ (pastFraction _ t _) (suffixAt t (pastFraction _ t _)) (pastSuffix (suffixAt t (pastFraction _ t _)) (pastFraction _ t _)) = record {
-      whole = at-run-end .run-end .ensures ∙ zero-add _;
-      point = point;
-      end = refl;
-      suffix = refl;
-      next = refl;
-    }
-    in
-    (point, omega (arith, digits-soon p (at-run-end .before .before .pre)))
+    let start = at-run-end .before .before in
+    let h = digits-soon (start .args .t .now) _ _ (at-run-end .run-end .ensures ∙ zero-add _) (c .has-point .ensures) (start .pre) in
+    (c .has-point .ensures, omega arith)
 
 has-suffix-requires : tie.Need-has-suffix-requires
 has-suffix-requires c κs = search needs

@@ -18,8 +18,8 @@ cast-start c =
     let start = c .before .before .before in
     omega (arith, start-high (start .args .text .now) (start .args .at) _ (c .run-end .ensures) (start .pre .0))
 
-cast-from : tie.Need-cast-from
-cast-from c = search needs
+cast-if1 : tie.Need-cast-if1
+cast-if1 c = search needs
 
 ended-requires : tie.Need-ended-requires
 ended-requires c κs = search needs
@@ -30,6 +30,9 @@ returns c =
     let args = at-run-end .before .before .before .args in
     c .ended .ensures (args .words .now)
     ∙ sym (over-end (args .text .now) (args .at) (at-run-end .run-end .result) (at-run-end .run-end .ensures) _ (omega arith))
+
+cast-first : tie.Need-cast-first
+cast-first c = search needs
 
 sub-first : tie.Need-sub-first
 sub-first c = search needs
@@ -130,9 +133,10 @@ step-spec =
     (tie.spec
     run-end-requires
     cast-start
-    cast-from
+    cast-if1
     ended-requires
     returns
+    cast-first
     sub-first
     part-first-start
     part-first-end

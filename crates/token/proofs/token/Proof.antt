@@ -14,8 +14,8 @@ cast-start c =
     let start = c .before .before in
     omega (arith, start-high (start .args .text .now) (start .args .at) _ (c .run-end .ensures) (start .pre .0))
 
-cast-from : tie.Need-cast-from
-cast-from c = search needs
+cast-if1 : tie.Need-cast-if1
+cast-if1 c = search needs
 
 token-at-requires : tie.Need-token-at-requires
 token-at-requires c κs = search needs
@@ -26,6 +26,9 @@ returns c =
     let start = at-run-end .before .before in
     rw (c .token-at .ensures)
     (lexes-end (start .args .text .now) (start .args .at) _ (at-run-end .run-end .ensures) (start .pre .0) (c .before .if1 .taken))
+
+cast-first : tie.Need-cast-first
+cast-first c = search needs
 
 sub-first : tie.Need-sub-first
 sub-first c = search needs
@@ -87,9 +90,10 @@ token-spec =
     (tie.spec
     run-end-requires
     cast-start
-    cast-from
+    cast-if1
     token-at-requires
     returns
+    cast-first
     sub-first
     part-first-start
     part-first-end
