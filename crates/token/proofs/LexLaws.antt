@@ -83,6 +83,18 @@ module _ (t : List ℕ) (w e q : ℕ) where
   fraction-is true k l = let z : e - q ≡ suc w = omega arith in rw z
   fraction-is false k l = rw l
 
+-- a number's digits end in the text
+pub fraction-inside : (t : List ℕ) (w : ℕ) (x : Bool) → x ≡ pointAt t w → w ≤ length t → pastFraction x t w ≤ length t
+unfolding pastFraction
+fraction-inside t w true p h = run-fits isDigit t (suc w) (point-inside t w (sym p))
+fraction-inside t w false p h = h
+
+-- and soon, where few stand behind the point
+fraction-few : (t : List ℕ) (w : ℕ) (x : Bool) → placesOf x w (pastFraction x t w) ≤ 9 → pastFraction x t w ≤ w + 10
+unfolding pastFraction placesOf
+fraction-few t w true h = omega arith
+fraction-few t w false h = omega arith
+
 pub clings-is : (t : List ℕ) (point s : Bool) (n : ℕ) (a b c d e : Bool)
     → isName (getD t n 0) ≡ a → point ≡ b → s ≡ c → eqb (getD t n 0) 46 ≡ d
     → eqb (getD t (n + 1) 0) 46 ≡ e
@@ -146,6 +158,14 @@ module _ {t : List ℕ} {w : ℕ} {x : Bool} {e : ℕ} {z : Bool} {n : ℕ} (p :
       → record { digits = v; places = q; point = x; suffix = z } ≡ writtenAt t
   unfolding writtenBy
   written-parts v q g d = sym (written-is ∙ (rw (sym g, sym d)))
+
+-- the digit limits of 01 bound the place where they end
+pub digits-soon : (t : List ℕ) (w : ℕ) (x : Bool) → w ≡ run isDigit t → x ≡ pointAt t w → Digits t → pastFraction x t w ≤ 20
+digits-soon t w x a b d =
+    let e = pastFraction x t w in
+    let z = suffixAt t e in
+    let p : Parts t w x e z (pastSuffix z e) = record { whole = a; point = b; end = refl; suffix = refl; next = refl } in
+    omega (arith, fraction-few t w x (digits-few p _ refl d), d .whole)
 
 -- ---- the first byte decides
 

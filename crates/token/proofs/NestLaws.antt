@@ -1,7 +1,7 @@
 -- The delimiters alone: where each token of a text can be cut and the delimiters fit, the text is split (`nests-splits`). The place of the
 -- last token, which tells that each can be cut, is the same wherever a reader stands (`last-rest`). Assumes nothing.
 use Prim.Native.Nat.{ℕ, zero, suc, _+_, _-_, _≤_, _<_}
-use mathlib.Core.List.{List, [], _∷_}
+use mathlib.Core.List.{List, [], _∷_, _++_}
 use mathlib.Core.Bool.{Bool, true, false, not, cond}
 use mathlib.Core.Path.{_≡_, refl, sym, ap, _∙_, subst}
 use native.Mathlib.Omega.{arith}
@@ -117,33 +117,40 @@ nests-unfit q r [] = refl
 nests-unfit true r (b ∷ t) = nests-unfit (quotedBy true b) r t
 nests-unfit false r (b ∷ t) = nests-unfit (quotedBy false b) r t
 
+pub nests-last : (q : Bool) (x : Nest) → nestsFrom q x [] ≡ isClosed q x
+unfolding nestsFrom
+nests-last q x = refl
+
 pub skips-none : {s : List ℕ} {from : ℕ} → from ≤ length s → Skips s from from
-skips-none h = record { same = λ q x. refl; low = omega arith; high = h }
+skips-none h = record { same = λ q x u. refl; low = omega arith; high = h }
 
 module _ {s : List ℕ} {from i : ℕ} (k : Skips s from i) where
   pub skips-more : i < length s → oneOf (bytes "\"([{)]}") (getD s i 0) ≡ false → Skips s from (i + 1)
   skips-more h e = record {
-    same = λ q x. k .same q x ∙ (rw (add-one, drop-cons s i 0 h) (keeps-step q x (getD s i 0) (drop (suc i) s) (plain-keeps q x _ e)));
+    same = λ q x u. k .same q x u
+        ∙ (rw (add-one, drop-cons s i 0 h) (keeps-step q x (getD s i 0) (drop (suc i) s ++ u) (plain-keeps q x _ e)));
     low = omega (arith, k .low);
     high = omega arith;
   }
 
-  pub nests-end : (q : Bool) (x : Nest) → length s ≤ i → nestsFrom q x (drop from s) ≡ isClosed q x
-  unfolding nestsFrom
-  nests-end q x h = k .same q x ∙ (rw (drop-of-length-le s h))
+  -- in a string or not, with u behind the text
+  module _ (q : Bool) (x : Nest) (u : List ℕ) where
+    pub nests-end : length s ≤ i → nestsFrom q x (drop from s ++ u) ≡ nestsFrom q x u
+    nests-end h = k .same q x u ∙ (rw (drop-of-length-le s h))
 
-  -- the byte at i, in a string or not
-  module _ (q : Bool) (x : Nest) (h : i < length s) where
-    nests-on : nestsFrom q x (drop from s) ≡ nestsFrom (quotedBy q (getD s i 0)) (nestByte q (getD s i 0) x) (drop (i + 1) s)
-    unfolding nestsFrom
-    nests-on = k .same q x ∙ (rw (add-one, drop-cons s i 0 h))
+    -- past the byte at i
+    module _ (h : i < length s) where
+      nests-on : nestsFrom q x (drop from s ++ u)
+          ≡ nestsFrom (quotedBy q (getD s i 0)) (nestByte q (getD s i 0) x) (drop (i + 1) s ++ u)
+      unfolding nestsFrom
+      nests-on = k .same q x u ∙ (rw (add-one, drop-cons s i 0 h))
 
-    pub nests-stop : (r : Refusal) → nestByte q (getD s i 0) x ≡ unfit r → nestsFrom q x (drop from s) ≡ false
-    nests-stop r e = nests-on ∙ (rw e) ∙ nests-unfit (quotedBy q (getD s i 0)) r (drop (i + 1) s)
+      pub nests-stop : (r : Refusal) → nestByte q (getD s i 0) x ≡ unfit r → nestsFrom q x (drop from s ++ u) ≡ false
+      nests-stop r e = nests-on ∙ (rw e) ∙ nests-unfit (quotedBy q (getD s i 0)) r (drop (i + 1) s ++ u)
 
-    pub nests-go : (q′ : Bool) (words : List ℕ) (d : ℕ) → q′ ≡ quotedBy q (getD s i 0) → Awaits (nestByte q (getD s i 0) x) words d
-        → nestsFrom q x (drop from s) ≡ nestsFrom q′ (awaits (held words d)) (drop (i + 1) s)
-    nests-go q′ words d e a = nests-on ∙ (rw (e, a .is))
+      pub nests-go : (q′ : Bool) (words : List ℕ) (d : ℕ) → q′ ≡ quotedBy q (getD s i 0) → Awaits (nestByte q (getD s i 0) x) words d
+          → nestsFrom q x (drop from s ++ u) ≡ nestsFrom q′ (awaits (held words d)) (drop (i + 1) s ++ u)
+      nests-go q′ words d e a = nests-on ∙ (rw (e, a .is))
 
 -- ---- a token
 

@@ -1,6 +1,6 @@
 -- What the answers of the code mean. Contracts cite these. Assumes nothing.
 use Prim.Native.Nat.{ℕ, zero, suc, _+_, _-_, _*_, _^_, _≤_, _<_}
-use mathlib.Core.List.{List, [], _∷_}
+use mathlib.Core.List.{List, [], _∷_, _++_}
 use Prim.Native.Char.{code}
 use Prim.Native.String.{String}
 use mathlib.Core.Bool.{Bool, true, false, _&&_, not, cond}
@@ -26,8 +26,12 @@ use Rattle.token.specs.declared.Depth.{Depth}
 use Rattle.token.specs.declared.Depth.the-variants as depth
 use Rattle.token.specs.declared.SplitAnswer.{SplitAnswer}
 use Rattle.token.specs.declared.SplitAnswer.the-variants as answer
+use Rattle.token.specs.declared.ShortAnswer.{ShortAnswer}
+use Rattle.token.specs.declared.ShortAnswer.the-variants as short
 use Rattle.token.specs.declared.Turn.{Turn}
 use Rattle.token.specs.declared.Turn.the-variants as turn
+use Rattle.token.specs.declared.Fit.{Fit}
+use Rattle.token.specs.declared.Fit.the-variants as fit
 
 -- ---- a token
 
@@ -120,6 +124,11 @@ abbrev pub answerOf : Split → SplitAnswer
 answerOf (unlexed r p) = answer.Refused r p
 answerOf (tokens ts) = answer.Accepted
 
+-- the answer to the caller, of one whose place has 16 bits
+abbrev pub wideAnswer : ShortAnswer → SplitAnswer
+wideAnswer short.Accepted = answer.Accepted
+wideAnswer (short.Refused r p) = answer.Refused r p
+
 -- the answer for what stands from a place on, the closers cs being awaited there
 abbrev pub answerFrom : List ℕ → ℕ → List ℕ → SplitAnswer
 answerFrom s at cs = answerOf (splitFrom 0 at cs (drop at s))
@@ -133,7 +142,7 @@ pub record GoesOn (s : List ℕ) (at : ℕ) (a : SplitAnswer) (words : List ℕ)
 
 -- what a step from `at` makes of the answer a from there on
 abbrev pub TurnMeans : List ℕ → ℕ → SplitAnswer → List ℕ → Turn → Type 0
-TurnMeans s at a words (turn.Over b) = b ≡ a
+TurnMeans s at a words (turn.Over b) = wideAnswer b ≡ a
 TurnMeans s at a words (turn.On next d) = GoesOn s at a words next d
 
 -- an answer, and the scratch then
@@ -169,11 +178,21 @@ unfoldable pub nestsFrom : Bool → Nest → List ℕ → Bool
 nestsFrom q x [] = isClosed q x
 nestsFrom q x (b ∷ t) = nestsFrom (quotedBy q b) (nestByte q b x) t
 
--- the bytes from a place to another change nothing
+-- the bytes from a place to another change nothing, whatever stands behind the text
 pub record Skips (s : List ℕ) (from to : ℕ) : Type 0 where
-  pub same : (q : Bool) (x : Nest) → nestsFrom q x (drop from s) ≡ nestsFrom q x (drop to s)
+  pub same : (q : Bool) (x : Nest) (u : List ℕ) → nestsFrom q x (drop from s ++ u) ≡ nestsFrom q x (drop to s ++ u)
   pub low : from ≤ to
   pub high : to ≤ length s
+
+-- behind a part of a text stands u, in a string or not, with d closers awaited; y is whether all of them fit
+pub record Leaves (y : Bool) (words u : List ℕ) (q : Bool) (d : ℕ) : Type 0 where
+  pub is : y ≡ nestsFrom q (awaits (held words d)) u
+  pub few : d ≤ 64
+
+-- what a part makes of the delimiters, as the code has it
+abbrev pub FitMeans : Bool → List ℕ → List ℕ → Fit → Type 0
+FitMeans y words u fit.Fails = y ≡ false
+FitMeans y words u (fit.Goes q d) = Leaves y words u q d
 
 -- ---- keywords as numbers
 

@@ -1,8 +1,10 @@
 // Tokens of a text: the one at a place; the pass that judges a whole text by the text rules, and the quicker one over its delimiters alone;
 // the words that are no names. For our own crates: the first two require a text of at most the limit.
+// A place in a text, a size and a depth have 16 bits, but where a public function takes or gives one. What is given as a usize is narrowed
+// at once, and an index is widened where it stands.
 ghost use mathlib.Core.Path.{_≡_};
 ghost use mathlib.Core.Bool.{true, false, not, _||_};
-ghost use mathlib.Core.List.{List, []};
+ghost use mathlib.Core.List.{List, [], _++_};
 ghost use Prim.Native.Nat.{ℕ, _-_, _^_, _≤_, _<_};
 ghost use lib.ListN.{length, drop, replicate};
 ghost use Rattle.text.specs.Limits.{textLimit};
@@ -11,7 +13,7 @@ ghost use Rattle.token.specs.Token.{nameAt, pointAt, pastFraction, suffi
 ghost use Rattle.token.specs.Split.{awaits, closer, closed, nestMark, nest, ended, split};
 ghost use Rattle.text.specs.Words.{isOneOf};
 ghost use Rattle.token.specs.Names.{isKeyword};
-ghost use Rattle.token.specs.Means.{writtenOf, kindOf, excessOf, Digits, Small, CutMeans, lexedOf, Lexes, held, afterOpener, DepthMeans, answerOf, answerFrom, TurnMeans, splitOutcome, splitting, nestByte, quotedBy, isClosed, nestsFrom, Skips, pack, upTo4, upTo7, packedKeywords, longKeywords};
+ghost use Rattle.token.specs.Means.{writtenOf, kindOf, excessOf, Digits, Small, CutMeans, lexedOf, Lexes, held, afterOpener, DepthMeans, answerOf, wideAnswer, answerFrom, TurnMeans, splitOutcome, splitting, nestByte, quotedBy, isClosed, nestsFrom, Skips, FitMeans, pack, upTo4, upTo7, packedKeywords, longKeywords};
 use error::Refusal;
 use text::Class;
 
@@ -32,9 +34,9 @@ pub enum Tok {
 }
 
 // What a text begins with: no token, or one and its size.
-pub enum Cut {
+enum Cut {
     Bad(Refusal),
-    Piece(Tok, usize),
+    Piece(Tok, u16),
 }
 
 // A token, its place, and the place after it.
@@ -47,22 +49,24 @@ pub struct Lexed {
 // ---- the token that a text begins with
 
 fn name_at(t: &[u8]) -> Cut
+    requires { ⌜ length (now t) ≤ textLimit ⌝ }
     ensures { λ r. ⌜ CutMeans (now (t .entry)) (nameAt (now (t .entry))) r ⌝ }
 {
-    let n = text::run_end(t, 0, Class::NameByte);
-    if text::byte_at(t, n) == b'"' {
+    let n = text::run_end(t, 0, Class::NameByte) as u16;
+    if text::byte_at(t, n as usize) == b'"' {
         return Cut::Bad(Refusal::BadForm);
     }
     Cut::Piece(Tok::Name, n)
 }
 
 fn quoted_at(t: &[u8]) -> Cut
+    requires { ⌜ length (now t) ≤ textLimit ⌝ }
     ensures { λ r. ⌜ CutMeans (now (t .entry)) (quotedAt (now (t .entry))) r ⌝ }
 {
-    let e = text::run_end(t, 1, Class::Inside);
-    if text::byte_at(t, e) == b'"' {
+    let e = text::run_end(t, 1, Class::Inside) as u16;
+    if text::byte_at(t, e as usize) == b'"' {
         let n = e + 1;
-        if text::in_class(Class::NameByte, text::byte_at(t, n)) {
+        if text::in_class(Class::NameByte, text::byte_at(t, n as usize)) {
             return Cut::Bad(Refusal::BadForm);
         }
         return Cut::Piece(Tok::Quoted, n);
@@ -71,35 +75,35 @@ fn quoted_at(t: &[u8]) -> Cut
 }
 
 // Whether a point and a digit stand at w.
-fn has_point(t: &[u8], w: usize) -> bool
+fn has_point(t: &[u8], w: u16) -> bool
     ensures { λ r. ⌜ r ≡ pointAt (now (t .entry)) w ⌝ }
 {
-    if text::byte_at(t, w) == b'.' {
-        return text::in_class(Class::Digit, text::byte_at(t, w + 1));
+    if text::byte_at(t, w as usize) == b'.' {
+        return text::in_class(Class::Digit, text::byte_at(t, w as usize + 1));
     }
     false
 }
 
 // The end of the digits, of which w stand before the point, if there is one.
-fn past_fraction(t: &[u8], w: usize, point: bool) -> usize
-    requires { ⌜ point ≡ pointAt (now t) w ⌝ }
+fn past_fraction(t: &[u8], w: u16, point: bool) -> u16
+    requires { ⌜ (point ≡ pointAt (now t) w) × (pastFraction point (now t) w ≤ textLimit) ⌝ }
     ensures { λ r. ⌜ r ≡ pastFraction point (now (t .entry)) w ⌝ }
 {
     if point {
-        return text::run_end(t, w + 1, Class::Digit);
+        return text::run_end(t, w as usize + 1, Class::Digit) as u16;
     }
     w
 }
 
-fn has_suffix(t: &[u8], end: usize) -> bool
+fn has_suffix(t: &[u8], end: u16) -> bool
     ensures { λ r. ⌜ r ≡ suffixAt (now (t .entry)) end ⌝ }
 {
-    text::byte_at(t, end) == b's'
+    text::byte_at(t, end as usize) == b's'
 }
 
 // The place behind a number whose digits end at `end`.
-fn past_suffix(t: &[u8], suffix: bool, end: usize) -> usize
-    requires { ⌜ suffix ≡ suffixAt (now t) end ⌝ }
+fn past_suffix(t: &[u8], suffix: bool, end: u16) -> u16
+    requires { ⌜ (suffix ≡ suffixAt (now t) end) × (end ≤ textLimit) ⌝ }
     ensures { λ r. ⌜ r ≡ pastSuffix suffix end ⌝ }
 {
     if suffix {
@@ -109,7 +113,7 @@ fn past_suffix(t: &[u8], suffix: bool, end: usize) -> usize
 }
 
 // How many digits stand after the point.
-fn places_of(point: bool, w: usize, end: usize) -> usize
+fn places_of(point: bool, w: u16, end: u16) -> u16
     ensures { λ r. ⌜ r ≡ placesOf point w end ⌝ }
 {
     if point {
@@ -122,10 +126,10 @@ fn places_of(point: bool, w: usize, end: usize) -> usize
 }
 
 // Whether something stands at n that may not follow a number.
-fn clinging(t: &[u8], point: bool, suffix: bool, n: usize) -> bool
+fn clinging(t: &[u8], point: bool, suffix: bool, n: u16) -> bool
     ensures { λ r. ⌜ r ≡ clings (now (t .entry)) (not (point || suffix)) n ⌝ }
 {
-    if text::in_class(Class::NameByte, text::byte_at(t, n)) {
+    if text::in_class(Class::NameByte, text::byte_at(t, n as usize)) {
         return true;
     }
     if point {
@@ -134,21 +138,21 @@ fn clinging(t: &[u8], point: bool, suffix: bool, n: usize) -> bool
     if suffix {
         return false;
     }
-    if text::byte_at(t, n) == b'.' {
-        return text::byte_at(t, n + 1) != b'.';
+    if text::byte_at(t, n as usize) == b'.' {
+        return text::byte_at(t, n as usize + 1) != b'.';
     }
     false
 }
 
 // The n digits from `from` on, onto a number below 10^(19 - n).
-fn value(t: &[u8], seed: u64, from: usize, n: usize) -> u64
+fn value(t: &[u8], seed: u64, from: u16, n: u16) -> u64
     requires { ⌜ (n ≤ run isDigit (drop from (now t))) × (seed < 10 ^ (19 - n)) × (n ≤ 19) ⌝ }
     ensures { λ r. ⌜ r ≡ decimal seed (part (now (t .entry)) from n) ⌝ }
 {
     let mut v = seed;
-    let mut i: usize = 0;
+    let mut i: u16 = 0;
     while i < n {
-        v = v * 10 + (t[from + i] - b'0') as u64;
+        v = v * 10 + (t[from as usize + i as usize] - b'0') as u64;
         i += 1;
     }
     v
@@ -165,19 +169,18 @@ fn excess(clings: bool) -> Refusal
 }
 
 fn number_at(t: &[u8]) -> Cut
+    requires { ⌜ length (now t) ≤ textLimit ⌝ }
     ensures { λ r. ⌜ CutMeans (now (t .entry)) (numberAt (now (t .entry))) r ⌝ }
 {
-    let w = text::run_end(t, 0, Class::Digit);
+    let w = text::run_end(t, 0, Class::Digit) as u16;
     let point = has_point(t, w);
     let end = past_fraction(t, w, point);
     let suffix = has_suffix(t, end);
     let n = past_suffix(t, suffix, end);
     let places = places_of(point, w, end);
+    let many = (10 < w) | (9 < places);
     let clings = clinging(t, point, suffix, n);
-    if 10 < w {
-        return Cut::Bad(excess(clings));
-    }
-    if 9 < places {
+    if many {
         return Cut::Bad(excess(clings));
     }
     if clings {
@@ -191,7 +194,7 @@ pub fn number_of(t: &[u8]) -> Number
     requires { ⌜ Digits (now t) ⌝ }
     ensures { λ r. ⌜ (writtenOf r ≡ writtenAt (now (t .entry))) × Small r ⌝ }
 {
-    let w = text::run_end(t, 0, Class::Digit);
+    let w = text::run_end(t, 0, Class::Digit) as u16;
     let point = has_point(t, w);
     let end = past_fraction(t, w, point);
     let suffix = has_suffix(t, end);
@@ -200,7 +203,7 @@ pub fn number_of(t: &[u8]) -> Number
     let digits = value(t, whole, end - places, places);
     Number {
         digits,
-        places,
+        places: places as usize,
         point,
         suffix,
     }
@@ -228,6 +231,7 @@ fn is_mark(b: u8) -> bool
 
 // The token that a text begins with; no blank stands first.
 fn first(t: &[u8]) -> Cut
+    requires { ⌜ length (now t) ≤ textLimit ⌝ }
     ensures { λ r. ⌜ CutMeans (now (t .entry)) (lexeme (now (t .entry))) r ⌝ }
 {
     let b = text::byte_at(t, 0);
@@ -248,23 +252,10 @@ fn first(t: &[u8]) -> Cut
 
 // ---- the token at a place
 
-// A place in a text, in 16 bits.
-fn short(n: usize) -> u16
-    requires { ⌜ n ≤ textLimit ⌝ }
-    ensures { λ r. ⌜ r ≡ n ⌝ }
-{
-    n as u16
-}
-
-fn token_at(start: usize, end: usize, tok: Tok) -> Lexed
-    requires { ⌜ (start ≤ textLimit) × (end ≤ textLimit) ⌝ }
+fn token_at(start: u16, end: u16, tok: Tok) -> Lexed
     ensures { λ r. ⌜ r ≡ lexedOf start end tok ⌝ }
 {
-    Lexed {
-        start: short(start),
-        end: short(end),
-        tok,
-    }
+    Lexed { start, end, tok }
 }
 
 // The token at a place, and the place after it. Where none can be cut it is the end.
@@ -272,11 +263,11 @@ pub fn token(text: &[u8], at: usize) -> Lexed
     requires { ⌜ (at ≤ length (now text)) × (length (now text) ≤ textLimit) ⌝ }
     ensures { λ r. ⌜ Lexes (now (text .entry)) at r ⌝ }
 {
-    let start = text::run_end(text, at, Class::Blank);
-    if text.len() <= start {
+    let start = text::run_end(text, at, Class::Blank) as u16;
+    if text.len() <= start as usize {
         return token_at(start, start, Tok::Mark(0));
     }
-    match first(&text[start..]) {
+    match first(&text[start as usize..]) {
         Cut::Bad(_) => token_at(start, start, Tok::Mark(0)),
         Cut::Piece(k, n) => token_at(start, start + n, k),
     }
@@ -287,7 +278,7 @@ pub fn token(text: &[u8], at: usize) -> Lexed
 // What a token makes of the delimiters: they do not fit, or so many are open then.
 enum Depth {
     Unfit(Refusal),
-    Open(usize),
+    Open(u16),
 }
 
 // Whether the text rules allow a text.
@@ -296,10 +287,16 @@ pub enum SplitAnswer {
     Refused { refusal: Refusal, place: usize },
 }
 
+// The same, with the place in 16 bits.
+enum ShortAnswer {
+    Accepted,
+    Refused(Refusal, u16),
+}
+
 // A step of the pass: it is over, or goes on from a place with so many delimiters open.
 enum Turn {
-    Over(SplitAnswer),
-    On(usize, usize),
+    Over(ShortAnswer),
+    On(u16, u16),
 }
 
 // A byte as a word.
@@ -320,12 +317,12 @@ fn closer(b: u8) -> u16
 }
 
 // An opener's closer is awaited next.
-fn take_opener(b: u8, words: &mut [u16], depth: usize) -> Depth
+fn take_opener(b: u8, words: &mut [u16], depth: u16) -> Depth
     requires { ⌜ (64 ≤ length (now words)) × (depth ≤ 64) ⌝ }
     ensures { λ r. ⌜ DepthMeans (afterOpener b (held (now (words .entry)) depth)) (now (words .exit)) r ⌝ }
 {
     if depth < 64 {
-        words[depth] = closer(b);
+        words[depth as usize] = closer(b);
         let deeper = depth + 1;
         return Depth::Open(deeper);
     }
@@ -333,7 +330,7 @@ fn take_opener(b: u8, words: &mut [u16], depth: usize) -> Depth
 }
 
 // A closer is the one that is awaited, or it does not fit.
-fn take_closer(b: u8, words: &[u16], depth: usize) -> Depth
+fn take_closer(b: u8, words: &[u16], depth: u16) -> Depth
     requires { ⌜ (64 ≤ length (now words)) × (depth ≤ 64) ⌝ }
     ensures { λ r. ⌜ DepthMeans (closed b (held (now (words .entry)) depth)) (now (words .entry)) r ⌝ }
 {
@@ -341,14 +338,14 @@ fn take_closer(b: u8, words: &[u16], depth: usize) -> Depth
         return Depth::Unfit(Refusal::Unbalanced);
     }
     let last = depth - 1;
-    if words[last] == wide(b) {
+    if words[last as usize] == wide(b) {
         return Depth::Open(last);
     }
     Depth::Unfit(Refusal::Unbalanced)
 }
 
 // What a mark makes of the delimiters.
-fn nest_mark(b: u8, words: &mut [u16], depth: usize) -> Depth
+fn nest_mark(b: u8, words: &mut [u16], depth: u16) -> Depth
     requires { ⌜ (64 ≤ length (now words)) × (depth ≤ 64) ⌝ }
     ensures { λ r. ⌜ DepthMeans (nestMark b (held (now (words .entry)) depth)) (now (words .exit)) r ⌝ }
 {
@@ -362,7 +359,7 @@ fn nest_mark(b: u8, words: &mut [u16], depth: usize) -> Depth
 }
 
 // What a token makes of the delimiters.
-fn nest(k: Tok, words: &mut [u16], depth: usize) -> Depth
+fn nest(k: Tok, words: &mut [u16], depth: u16) -> Depth
     requires { ⌜ (64 ≤ length (now words)) × (depth ≤ 64) ⌝ }
     ensures { λ r. ⌜ ((t : List ℕ) (n : ℕ) → DepthMeans (nest (kindOf t n k) (held (now (words .entry)) depth)) (now (words .exit)) r) ⌝ }
 {
@@ -375,38 +372,32 @@ fn nest(k: Tok, words: &mut [u16], depth: usize) -> Depth
 }
 
 // The answer at the end of the text.
-fn ended(place: usize, depth: usize) -> SplitAnswer
-    ensures { λ r. ⌜ ((s : List ℕ) → r ≡ answerOf (ended place (held s depth))) ⌝ }
+fn ended(place: u16, depth: u16) -> ShortAnswer
+    ensures { λ r. ⌜ ((s : List ℕ) → wideAnswer r ≡ answerOf (ended place (held s depth))) ⌝ }
 {
     if depth == 0 {
-        return SplitAnswer::Accepted;
+        return ShortAnswer::Accepted;
     }
-    SplitAnswer::Refused {
-        refusal: Refusal::Unbalanced,
-        place: place,
-    }
+    ShortAnswer::Refused(Refusal::Unbalanced, place)
 }
 
 // The pass ends with a refusal.
-fn halt(refusal: Refusal, place: usize) -> Turn
-    ensures { λ r. ⌜ r ≡ Turn.Over (SplitAnswer.Refused refusal place) ⌝ }
+fn halt(refusal: Refusal, place: u16) -> Turn
+    ensures { λ r. ⌜ r ≡ Turn.Over (ShortAnswer.Refused refusal place) ⌝ }
 {
-    Turn::Over(SplitAnswer::Refused {
-        refusal: refusal,
-        place: place,
-    })
+    Turn::Over(ShortAnswer::Refused(refusal, place))
 }
 
 // One step of the pass: past blanks to the end of the text, or past a token.
-fn step(text: &[u8], at: usize, words: &mut [u16], depth: usize) -> Turn
-    requires { ⌜ (at ≤ length (now text)) × (64 ≤ length (now words)) × (depth ≤ 64) ⌝ }
+fn step(text: &[u8], at: u16, words: &mut [u16], depth: u16) -> Turn
+    requires { ⌜ (at ≤ length (now text)) × (length (now text) ≤ textLimit) × (64 ≤ length (now words)) × (depth ≤ 64) ⌝ }
     ensures { λ r. ⌜ TurnMeans (now (text .entry)) at (answerFrom (now (text .entry)) at (held (now (words .entry)) depth)) (now (words .exit)) r ⌝ }
 {
-    let start = text::run_end(text, at, Class::Blank);
-    if text.len() <= start {
+    let start = text::run_end(text, at as usize, Class::Blank) as u16;
+    if text.len() <= start as usize {
         return Turn::Over(ended(start, depth));
     }
-    match first(&text[start..]) {
+    match first(&text[start as usize..]) {
         Cut::Bad(r) => halt(r, start),
         Cut::Piece(k, n) => match nest(k, words, depth) {
             Depth::Unfit(r) => halt(r, start),
@@ -419,12 +410,12 @@ fn step(text: &[u8], at: usize, words: &mut [u16], depth: usize) -> Turn
 }
 
 // The answer for a text.
-fn pass(text: &[u8], words: &mut [u16]) -> SplitAnswer
-    requires { ⌜ 64 ≤ length (now words) ⌝ }
-    ensures { λ r. ⌜ r ≡ answerOf (split (now (text .entry))) ⌝ }
+fn pass(text: &[u8], words: &mut [u16]) -> ShortAnswer
+    requires { ⌜ (length (now text) ≤ textLimit) × (64 ≤ length (now words)) ⌝ }
+    ensures { λ r. ⌜ wideAnswer r ≡ answerOf (split (now (text .entry))) ⌝ }
 {
-    let mut at = 0;
-    let mut depth = 0;
+    let mut at: u16 = 0;
+    let mut depth: u16 = 0;
     loop {
         match step(text, at, words, depth) {
             Turn::Over(a) => return a,
@@ -436,6 +427,7 @@ fn pass(text: &[u8], words: &mut [u16]) -> SplitAnswer
     }
 }
 
+// A scratch may have more words than 16 bits count.
 fn clear(words: &mut [u16])
     ensures { λ _. ⌜ now (words .exit) ≡ replicate (length (now (words .entry))) 0 ⌝ }
 {
@@ -459,27 +451,36 @@ pub fn split(text: &[u8], scratch: &mut [u16]) -> SplitAnswer
     }
     let answer = pass(text, scratch);
     clear(scratch);
-    answer
+    match answer {
+        ShortAnswer::Accepted => SplitAnswer::Accepted,
+        ShortAnswer::Refused(refusal, place) => SplitAnswer::Refused {
+            refusal,
+            place: place as usize,
+        },
+    }
 }
 
 // ---- the delimiters alone, for a text whose tokens are all cut
 
-// Whether a byte is surely no delimiter and no quote: a letter, a digit and most marks are told by one test.
+// Whether a byte is surely no delimiter and no quote: a letter, a digit and most marks are told by one test, a space by a second.
 fn is_plain(b: u8) -> bool
     ensures { λ r. ⌜ (r ≡ true → oneOf (bytes "\"([{)]}") b ≡ false) ⌝ }
 {
     let c = b | 32;
-    (42 <= c) & (c <= 122)
+    if (42 <= c) & (c <= 122) {
+        return true;
+    }
+    b == b' '
 }
 
 // The first place from one on whose byte may be a delimiter or a quote.
-fn plain_end(text: &[u8], from: usize) -> usize
-    requires { ⌜ from ≤ length (now text) ⌝ }
+fn plain_end(text: &[u8], from: u16) -> u16
+    requires { ⌜ (from ≤ length (now text)) × (length (now text) ≤ textLimit) ⌝ }
     ensures { λ r. ⌜ Skips (now (text .entry)) from r ⌝ }
 {
     let mut i = from;
-    while i < text.len() {
-        if !is_plain(text[i]) {
+    while (i as usize) < text.len() {
+        if !is_plain(text[i as usize]) {
             return i;
         }
         i += 1;
@@ -498,7 +499,7 @@ fn quoted_by(quoted: bool, b: u8) -> bool
 }
 
 // What a byte makes of the delimiters; in a string, nothing.
-fn nest_byte(quoted: bool, b: u8, words: &mut [u16], depth: usize) -> Depth
+fn nest_byte(quoted: bool, b: u8, words: &mut [u16], depth: u16) -> Depth
     requires { ⌜ (64 ≤ length (now words)) × (depth ≤ 64) ⌝ }
     ensures { λ r. ⌜ DepthMeans (nestByte quoted b (awaits (held (now (words .entry)) depth))) (now (words .exit)) r ⌝ }
 {
@@ -508,8 +509,14 @@ fn nest_byte(quoted: bool, b: u8, words: &mut [u16], depth: usize) -> Depth
     nest_mark(b, words, depth)
 }
 
+// What a part of a text makes of the delimiters: they do not fit, or a string is open behind it or not, and so many delimiters.
+enum Fit {
+    Fails,
+    Goes(bool, u16),
+}
+
 // Whether nothing is open.
-fn is_closed(quoted: bool, depth: usize) -> bool
+fn is_closed(quoted: bool, depth: u16) -> bool
     ensures { λ r. ⌜ ((s : List ℕ) → r ≡ isClosed quoted (awaits (held s depth))) ⌝ }
 {
     if depth == 0 {
@@ -518,28 +525,45 @@ fn is_closed(quoted: bool, depth: usize) -> bool
     false
 }
 
-// Whether the delimiters of a text fit.
-fn delimiters_fit(text: &[u8], words: &mut [u16]) -> bool
-    requires { ⌜ 64 ≤ length (now words) ⌝ }
-    ensures { λ r. ⌜ r ≡ nestsFrom false (awaits []) (now (text .entry)) ⌝ }
+// What a part of a text makes of the delimiters, from within a string or not and with so many open before it.
+fn part_fits(text: &[u8], quoted: bool, words: &mut [u16], depth: u16) -> Fit
+    requires { ⌜ (length (now text) ≤ textLimit) × (64 ≤ length (now words)) × (depth ≤ 64) ⌝ }
+    ensures { λ r. ⌜ ((u : List ℕ) → FitMeans (nestsFrom quoted (awaits (held (now (words .entry)) depth)) (now (text .entry) ++ u)) (now (words .exit)) u r) ⌝ }
 {
-    let mut from = 0;
-    let mut quoted = false;
-    let mut depth = 0;
+    let mut from: u16 = 0;
+    let mut inside = quoted;
+    let mut count = depth;
     loop {
         let at = plain_end(text, from);
-        if text.len() <= at {
-            return is_closed(quoted, depth);
+        if text.len() <= at as usize {
+            return Fit::Goes(inside, count);
         }
-        let b = text[at];
-        match nest_byte(quoted, b, words, depth) {
-            Depth::Unfit(_) => return false,
+        let b = text[at as usize];
+        match nest_byte(inside, b, words, count) {
+            Depth::Unfit(_) => return Fit::Fails,
             Depth::Open(d) => {
                 from = at + 1;
-                quoted = quoted_by(quoted, b);
-                depth = d;
+                inside = quoted_by(inside, b);
+                count = d;
             }
         }
+    }
+}
+
+// Whether the delimiters of a text fit, likewise. A text over the limit goes by parts, so that 16 bits do for each place.
+fn delimiters_fit(text: &[u8], quoted: bool, words: &mut [u16], depth: u16) -> bool
+    requires { ⌜ (64 ≤ length (now words)) × (depth ≤ 64) ⌝ }
+    ensures { λ r. ⌜ r ≡ nestsFrom quoted (awaits (held (now (words .entry)) depth)) (now (text .entry)) ⌝ }
+{
+    if text.len() <= text::TEXT_LIMIT {
+        return match part_fits(text, quoted, words, depth) {
+            Fit::Fails => false,
+            Fit::Goes(q, d) => is_closed(q, d),
+        };
+    }
+    match part_fits(&text[..text::TEXT_LIMIT], quoted, words, depth) {
+        Fit::Fails => false,
+        Fit::Goes(q, d) => delimiters_fit(&text[text::TEXT_LIMIT..], q, words, d),
     }
 }
 
@@ -550,7 +574,7 @@ pub fn nests(text: &[u8], scratch: &mut [u16]) -> bool
     ensures { λ r. ⌜ r ≡ nestsFrom false (awaits []) (now (text .entry)) ⌝ }
     ensures zero { λ _. ⌜ now (scratch .exit) ≡ replicate (length (now (scratch .entry))) 0 ⌝ }
 {
-    let r = delimiters_fit(text, scratch);
+    let r = delimiters_fit(text, false, scratch, 0);
     clear(scratch);
     r
 }
@@ -563,10 +587,10 @@ fn packed(word: &[u8]) -> u64
     ensures { λ r. ⌜ r ≡ pack (now (word .entry)) ⌝ }
 {
     let mut v: u64 = 1;
-    let mut i = word.len();
-    while 0 < i {
-        i -= 1;
-        let b = word[i] as u64;
+    let mut n: u16 = 0;
+    while (n as usize) < word.len() {
+        n += 1;
+        let b = word[word.len() - n as usize] as u64;
         v = v * 256 + b;
     }
     v

@@ -3,6 +3,7 @@ use Prim.Native.Nat.{ℕ}
 use mathlib.Core.Path.{ap, _∙_}
 use lib.ListN.{replicate}
 use borrow.Author.Needs.{needs}
+use Rattle.token.specs.Means.{held}
 use Rattle.token.proofs.nests.Statement.{statement}
 use Rattle.token.proofs.nests.Tie as tie
 
@@ -16,11 +17,12 @@ same-length : tie.Need-same-length
 same-length c = search needs
 
 returns : tie.Need-returns
+unfolding held
 returns c =
     let at-clear = c .before .before in
     let at-delimiters-fit = at-clear .before .before .before .before in (
       at-delimiters-fit .delimiters-fit .ensures,
-      at-clear .clear .ensures ∙ ap (λ (n : ℕ). replicate n 0) (at-delimiters-fit .delimiters-fit .kept .1 .0),
+      at-clear .clear .ensures ∙ ap (λ (n : ℕ). replicate n 0) (at-delimiters-fit .delimiters-fit .kept .1 .1 .0),
     )
 
 pub nests-spec : {M : Type 1} → statement M

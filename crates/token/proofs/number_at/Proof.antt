@@ -1,10 +1,15 @@
 -- `token::number_at` meets its contract; each answer comes from the parts of a number, `Parts`. Assumes nothing.
+use Prim.Native.Nat.{_≤_}
 use mathlib.Core.Path.{sym, _∙_}
 use native.Mathlib.Nat.{zero-add}
 use native.Mathlib.Omega.{arith}
 use borrow.Author.Needs.{needs}
-use borrow.Author.Tests.{le-ltb, lt-ltb}
-use Rattle.token.proofs.LexLaws.{Parts, number-clings, number-long, number-written, number-digits}
+use borrow.Author.Tests.{ltb-false}
+use Rattle.text.specs.Bytes.{isDigit}
+use Rattle.text.specs.Limits.{textLimit}
+use Rattle.token.specs.Token.{pastFraction}
+use Rattle.token.proofs.LexLaws.{Parts, run-fits, fraction-inside, number-clings, number-long, number-written, number-digits}
+use Rattle.token.proofs.WholeLaws.{neither}
 use Rattle.token.proofs.number_at.Statement.{statement}
 use Rattle.token.proofs.number_at.Tie as tie
 
@@ -34,20 +39,35 @@ parts w =
       next = w .before .before .past-suffix .ensures;
     }
 
+-- the digits end in the text
+ends : (w : tie.After-has-point)
+    →
+    let at-run-end = w .before in
+    pastFraction (w .has-point .result) (at-run-end .before .before .args .t .now) (at-run-end .run-end .result) ≤ textLimit
+ends w =
+    let at-run-end = w .before in
+    let start = at-run-end .before .before in
+    let t = start .args .t .now in
+    let whole = run-fits isDigit t 0 (omega arith) in
+    omega (arith, start .pre, fraction-inside t (at-run-end .run-end .result) _ (w .has-point .ensures) (omega arith))
+
 run-end-requires : tie.Need-run-end-requires
 run-end-requires c κs = search needs
+
+cast-w : tie.Need-cast-w
+cast-w c = omega (arith, run-fits isDigit (c .before .before .args .t .now) 0 (omega arith))
 
 has-point-requires : tie.Need-has-point-requires
 has-point-requires c κs = search needs
 
 past-fraction-requires : tie.Need-past-fraction-requires
-past-fraction-requires c κs = search needs
+past-fraction-requires c κs = (c .has-point .ensures, ends c)
 
 has-suffix-requires : tie.Need-has-suffix-requires
 has-suffix-requires c κs = search needs
 
 past-suffix-requires : tie.Need-past-suffix-requires
-past-suffix-requires c κs = search needs
+past-suffix-requires c κs = (c .has-suffix .ensures, omega (arith, c .before .past-fraction .ensures, ends (c .before .before)))
 
 places-of-requires : tie.Need-places-of-requires
 places-of-requires c κs = search needs
@@ -61,48 +81,27 @@ excess-requires c κs = search needs
 returns : tie.Need-returns
 returns c =
     let at-clinging = c .before .before in
-    let c6 = at-clinging .before .before .before .before in
-    let at-run-end = c6 .before .before in
     rw (c .excess .ensures)
     (number-long (parts at-clinging) (at-clinging .clinging .result) (sym (at-clinging .clinging .ensures))
-    (rw (lt-ltb 10 (at-run-end .run-end .result) (c .before .if1 .taken))))
-
-excess-requires-2 : tie.Need-excess-requires-2
-excess-requires-2 c κs = search needs
+    (rw (sym (at-clinging .before .places-of .ensures)) (c .before .if1 .taken)))
 
 returns-2 : tie.Need-returns-2
 returns-2 c =
-    let at-if1 = c .before .before in
-    let at-clinging = at-if1 .before in
-    let at-places-of = at-clinging .before in
-    let c8 = at-places-of .before .before .before .before in
-    let at-run-end = c8 .before in
-    rw (c .excess2 .ensures)
-    (number-long (parts at-clinging) (at-clinging .clinging .result) (sym (at-clinging .clinging .ensures))
-    (rw (
-      le-ltb 10 (at-run-end .run-end .result) (at-if1 .if1 .left),
-      sym (at-places-of .places-of .ensures),
-      lt-ltb 9 (at-places-of .places-of .result) (c .before .if2 .taken),
-    )))
+    let at-clinging = c .before .before in
+    number-clings (parts at-clinging) (sym (at-clinging .clinging .ensures) ∙ c .if2 .taken)
 
 returns-3 : tie.Need-returns-3
 returns-3 c =
-    let at-clinging = c .before .before .before in
-    number-clings (parts at-clinging) (sym (at-clinging .clinging .ensures) ∙ c .if3 .taken)
-
-returns-4 : tie.Need-returns-4
-returns-4 c =
-    let at-clinging = c .before .before .before in
+    let at-if1 = c .before in
+    let at-clinging = at-if1 .before in
     let places-of = at-clinging .before .places-of in
+    let few = neither _ _ (at-if1 .if1 .left) in
+    let w = ltb-false 10 _ (few .0) in
+    let q = ltb-false 9 _ (few .1) in
     record {
-      is = number-written
-          (parts at-clinging)
-          (places-of .result)
-          (sym (at-clinging .clinging .ensures) ∙ c .if3 .left)
-          (omega arith)
-          (places-of .ensures)
-          (omega arith);
-      stands = number-digits (parts at-clinging) (places-of .result) (omega arith) (places-of .ensures) (omega arith);
+      is = number-written (parts at-clinging) (places-of .result) (sym (at-clinging .clinging .ensures) ∙ c .if2 .left) w
+          (places-of .ensures) q;
+      stands = number-digits (parts at-clinging) (places-of .result) w (places-of .ensures) q;
     }
 
 pub number-at-spec : {M : Type 1} → statement M
@@ -110,6 +109,7 @@ number-at-spec =
     tie.close
     (tie.spec
     run-end-requires
+    cast-w
     has-point-requires
     past-fraction-requires
     has-suffix-requires
@@ -118,7 +118,5 @@ number-at-spec =
     clinging-requires
     excess-requires
     returns
-    excess-requires-2
     returns-2
-    returns-3
-    returns-4)
+    returns-3)

@@ -8,7 +8,7 @@ use native.Mathlib.Omega.{arith}
 use borrow.Author.Needs.{needs}
 use Rattle.token.specs.Token.{placesOf, pastSuffix}
 use Rattle.token.proofs.NumberLaws.{ten-fits, ten-positive, whole-small}
-use Rattle.token.proofs.LexLaws.{Parts, digits-few, value-is, written-parts, fraction-low, fraction-run}
+use Rattle.token.proofs.LexLaws.{Parts, digits-few, digits-soon, value-is, written-parts, fraction-low, fraction-run}
 use Rattle.token.proofs.WholeLaws.{digits-below}
 use Rattle.token.proofs.number_of.Statement.{statement}
 use Rattle.token.proofs.number_of.Tie as tie
@@ -56,11 +56,18 @@ few w =
 run-end-requires : tie.Need-run-end-requires
 run-end-requires c κs = search needs
 
+cast-w : tie.Need-cast-w
+cast-w c = omega (arith, c .before .before .pre .whole)
+
 has-point-requires : tie.Need-has-point-requires
 has-point-requires c κs = search needs
 
 past-fraction-requires : tie.Need-past-fraction-requires
-past-fraction-requires c κs = search needs
+past-fraction-requires c κs =
+    let at-run-end = c .before in
+    let start = at-run-end .before .before in
+    let h = digits-soon (start .args .t .now) _ _ (at-run-end .run-end .ensures ∙ zero-add _) (c .has-point .ensures) (start .pre) in
+    (c .has-point .ensures, omega arith)
 
 has-suffix-requires : tie.Need-has-suffix-requires
 has-suffix-requires c κs = search needs
@@ -83,6 +90,9 @@ value-requires-2 c κs =
       omega (arith, f .few),
     )
 
+cast-t9 : tie.Need-cast-t9
+cast-t9 c = search needs
+
 returns : tie.Need-returns
 returns c =
     let f = few (c .before .before) in
@@ -99,6 +109,7 @@ number-of-spec =
     tie.close
     (tie.spec
     run-end-requires
+    cast-w
     has-point-requires
     past-fraction-requires
     has-suffix-requires
@@ -106,4 +117,5 @@ number-of-spec =
     value-requires
     sub-value
     value-requires-2
+    cast-t9
     returns)

@@ -1,6 +1,7 @@
--- `token::packed` meets its contract. Assumes nothing.
-use Prim.Native.Nat.{suc, _-_, _≤_}
+-- `token::packed` meets its contract; the last n bytes are packed. Assumes nothing.
+use Prim.Native.Nat.{suc, _+_, _-_, _<_, _≤_}
 use mathlib.Core.Path.{_≡_, sym}
+use native.Mathlib.Nat.{sub-zero}
 use native.Mathlib.Omega.{arith}
 use lib.ListN.{length, drop}
 use borrow.Author.Needs.{needs}
@@ -10,40 +11,53 @@ use Rattle.token.proofs.packed.Statement.{statement}
 use Rattle.token.proofs.packed.Tie as tie
 
 abbrev Inv-loop : tie.InvT-loop
-Inv-loop word v₀ i₀ v i = (i ≤ length word) × (v ≡ pack (drop i word))
+Inv-loop word v₀ n₀ v n = (n ≤ length word) × (v ≡ pack (drop (length word - n) word))
 
 abbrev μ-loop : tie.MeasureT-loop
-μ-loop word v₀ i₀ v i = i
+μ-loop word v₀ n₀ v n = length word - n
 
 loop-holds : tie.Need-loop-holds Inv-loop μ-loop
-loop-holds c = (omega arith, pack-end (c .args .word .now))
+loop-holds c = (omega arith, rw sub-zero (pack-end (c .args .word .now)))
 
-sub-i : tie.Need-sub-i Inv-loop μ-loop
-sub-i c = search needs
+cast-loop : tie.Need-cast-loop Inv-loop μ-loop
+cast-loop c = search needs
+
+add-n : tie.Need-add-n Inv-loop μ-loop
+add-n c = search needs
+
+cast-b : tie.Need-cast-b Inv-loop μ-loop
+cast-b c = search needs
+
+sub-b : tie.Need-sub-b Inv-loop μ-loop
+sub-b c = search needs
 
 shared-slice-read-b : tie.Need-shared-slice-read-b Inv-loop μ-loop
 shared-slice-read-b c = search needs
 
-cast-b : tie.Need-cast-b Inv-loop μ-loop
-cast-b c = omega (arith, c .shared-slice-known .given (c .before .before .loop .i - 1))
-
-mul-v : tie.Need-mul-v Inv-loop μ-loop
-mul-v c =
-    let at-loop = c .before .before in
+-- one byte more fits
+small : (w : tie.After-shared-slice-known Inv-loop μ-loop) → w .before .before .loop .v < 72057594037927936
+small w =
+    let at-loop = w .before .before in
     let loop = at-loop .loop in
     let start = at-loop .before in
-    let v = pack-small (start .args .word .now) (λ j l. omega (arith, c .shared-slice-known .given j)) (loop .i) (omega arith) (start .pre)
-    in
-    omega (arith, loop .inv .1, c .shared-slice-known .given (loop .i - 1))
+    let word = start .args .word .now in
+    let h = pack-small word (λ j l. omega (arith, w .shared-slice-known .given j)) (length word - loop .n) (omega arith) (start .pre) in
+    omega (arith, loop .inv .1)
+
+cast-b-2 : tie.Need-cast-b-2 Inv-loop μ-loop
+cast-b-2 c =
+    let at-loop = c .before .before in
+    let word = at-loop .before .args .word .now in
+    omega (arith, c .shared-slice-known .given (length word - (at-loop .loop .n + 1)))
+
+mul-v : tie.Need-mul-v Inv-loop μ-loop
+mul-v c = omega (arith, small c)
 
 add-v : tie.Need-add-v Inv-loop μ-loop
 add-v c =
     let at-loop = c .before .before in
-    let loop = at-loop .loop in
-    let start = at-loop .before in
-    let v = pack-small (start .args .word .now) (λ j l. omega (arith, c .shared-slice-known .given j)) (loop .i) (omega arith) (start .pre)
-    in
-    omega (arith, loop .inv .1, c .shared-slice-known .given (loop .i - 1))
+    let word = at-loop .before .args .word .now in
+    omega (arith, small c, c .shared-slice-known .given (length word - (at-loop .loop .n + 1)))
 
 loop-less : tie.Need-loop-less Inv-loop μ-loop
 loop-less c = search needs
@@ -52,15 +66,14 @@ loop-again : tie.Need-loop-again Inv-loop μ-loop
 loop-again c =
     let at-loop = c .before .before in
     let loop = at-loop .loop in
-    let start = at-loop .before in
-    let e : loop .i ≡ suc (loop .i - 1) = omega arith in (
-      omega (arith, loop .inv .0),
-      rw (pack-at (start .args .word .now) (loop .i - 1) (omega (arith, loop .inv .0)), sym e, sym (loop .inv .1)),
-    )
+    let word = at-loop .before .args .word .now in
+    let i = length word - (loop .n + 1) in
+    let e : length word - loop .n ≡ suc i = omega arith in
+    (omega arith, rw (pack-at word i (omega arith), sym e, sym (loop .inv .1)))
 
 returns : tie.Need-returns Inv-loop μ-loop
 returns c =
-    let e : c .before .loop .i ≡ 0 = omega arith in
+    let e : length (c .before .before .args .word .now) - c .before .loop .n ≡ 0 = omega arith in
     rw e at (c .before .loop .inv .1)
 
 pub packed-spec : {M : Type 1} → statement M
@@ -70,9 +83,12 @@ packed-spec =
     Inv-loop
     μ-loop
     loop-holds
-    sub-i
-    shared-slice-read-b
+    cast-loop
+    add-n
     cast-b
+    sub-b
+    shared-slice-read-b
+    cast-b-2
     mul-v
     add-v
     loop-less

@@ -12,10 +12,17 @@ use Rattle.token.proofs.past_fraction.Tie as tie
 add-run-end : tie.Need-add-run-end
 add-run-end c =
     let start = c .before .before in
-    omega (arith, point-inside (start .args .t .now) (start .args .w) (sym (start .pre) ∙ c .if1 .taken))
+    omega (arith, point-inside (start .args .t .now) (start .args .w) (sym (start .pre .0) ∙ c .if1 .taken))
 
 run-end-requires : tie.Need-run-end-requires
 run-end-requires c κs = search needs
+
+cast-result : tie.Need-cast-result
+unfolding pastFraction
+cast-result c =
+    let tests = c .before in
+    let h = rw (tests .if1 .taken) at (tests .before .before .pre .1) in
+    omega (arith, rw add-one at (c .run-end .ensures), h)
 
 returns : tie.Need-returns
 unfolding pastFraction
@@ -26,4 +33,4 @@ unfolding pastFraction
 returns-2 c = rw (c .if1 .left)
 
 pub past-fraction-spec : {M : Type 1} → statement M
-past-fraction-spec = tie.close (tie.spec add-run-end run-end-requires returns returns-2)
+past-fraction-spec = tie.close (tie.spec add-run-end run-end-requires cast-result returns returns-2)

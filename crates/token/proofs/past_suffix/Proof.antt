@@ -7,7 +7,7 @@ use Rattle.token.proofs.past_suffix.Statement.{statement}
 use Rattle.token.proofs.past_suffix.Tie as tie
 
 add-result : tie.Need-add-result
-add-result c = omega (arith, suffix-inside (c .before .args .t .now) (c .before .args .end) (sym (c .before .pre) ∙ c .if1 .taken))
+add-result c = omega (arith, suffix-inside (c .before .args .t .now) (c .before .args .end) (sym (c .before .pre .0) ∙ c .if1 .taken))
 
 returns : tie.Need-returns
 unfolding pastSuffix

@@ -16,7 +16,13 @@ abbrev μ-loop : tie.MeasureT-loop
 μ-loop text from i₀ i = length text - i
 
 loop-holds : tie.Need-loop-holds Inv-loop μ-loop
-loop-holds c = skips-none (c .before .pre)
+loop-holds c = skips-none (c .before .pre .0)
+
+cast-loop : tie.Need-cast-loop Inv-loop μ-loop
+cast-loop c = search needs
+
+cast-is-plain : tie.Need-cast-is-plain Inv-loop μ-loop
+cast-is-plain c = search needs
 
 shared-slice-read-is-plain : tie.Need-shared-slice-read-is-plain Inv-loop μ-loop
 shared-slice-read-is-plain c = search needs
@@ -48,6 +54,8 @@ plain-end-spec =
     Inv-loop
     μ-loop
     loop-holds
+    cast-loop
+    cast-is-plain
     shared-slice-read-is-plain
     is-plain-requires
     returns

@@ -1,25 +1,42 @@
 -- `token::quoted_at` meets its contract; `e` is the place of the closing quote. Assumes nothing.
+use Prim.Native.Nat.{_≤_}
 use mathlib.Core.Bool.{false, true}
 use mathlib.Core.Path.{refl, sym, _∙_}
 use native.Mathlib.Omega.{arith}
+use lib.ListN.{drop, length-drop}
 use borrow.Author.Needs.{needs}
 use borrow.Author.Tests.{eq-eqb, ne-eqb}
-use Rattle.token.proofs.LexLaws.{inside, quoted-at-is}
+use Rattle.text.specs.Bytes.{isInside}
+use Rattle.text.specs.Limits.{textLimit}
+use Rattle.text.proofs.ByteLaws.{run-le}
+use Rattle.token.proofs.LexLaws.{quoted-at-is}
 use Rattle.token.proofs.quoted_at.Statement.{statement}
 use Rattle.token.proofs.quoted_at.Tie as tie
 
+-- the bytes inside end in the text, or behind a quote that is all of it
+ends : (w : tie.After-run-end) → w .run-end .result ≤ textLimit
+ends w =
+    let start = w .before .before in
+    let t = start .args .t .now in
+    omega (arith, w .run-end .ensures, start .pre, run-le isInside (drop 1 t), length-drop 1 t)
+
 run-end-requires : tie.Need-run-end-requires
 run-end-requires c κs = search needs
+
+cast-e : tie.Need-cast-e
+cast-e c = omega (arith, ends c)
+
+cast-byte-at : tie.Need-cast-byte-at
+cast-byte-at c = search needs
 
 byte-at-requires : tie.Need-byte-at-requires
 byte-at-requires c κs = search needs
 
 add-n : tie.Need-add-n
-add-n c =
-    let at-run-end = c .before .before in
-    let start = at-run-end .before .before in
-    omega
-    (arith, inside (start .args .t .now) (at-run-end .run-end .result) 34 (sym (c .before .byte-at .ensures) ∙ c .if1 .taken) (omega arith))
+add-n c = omega (arith, ends (c .before .before))
+
+cast-byte-at-2 : tie.Need-cast-byte-at-2
+cast-byte-at-2 c = omega (arith, ends (c .before .before))
 
 byte-at-requires-2 : tie.Need-byte-at-requires-2
 byte-at-requires-2 c κs = search needs
@@ -72,8 +89,11 @@ quoted-at-spec =
     tie.close
     (tie.spec
     run-end-requires
+    cast-e
+    cast-byte-at
     byte-at-requires
     add-n
+    cast-byte-at-2
     byte-at-requires-2
     in-class-requires
     returns

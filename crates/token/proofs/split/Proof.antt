@@ -1,9 +1,36 @@
 -- `token::split` meets its contract; what `pass` leaves in the scratch is cleared. Assumes nothing.
+use mathlib.Core.Path.{_≡_, ap, sym, _∙_}
 use native.Mathlib.Omega.{arith}
 use borrow.Author.Needs.{needs}
+use Rattle.token.specs.Means.{wideAnswer, splitOutcome, splitting}
+use Rattle.token.specs.declared.SplitAnswer.{SplitAnswer}
 use Rattle.token.proofs.SplitLaws.{too-short, split-by}
 use Rattle.token.proofs.split.Statement.{statement}
 use Rattle.token.proofs.split.Tie as tie
+
+-- once the scratch is clear, the answer of `pass` is the one to give
+answered : (w : tie.After-clear)
+    →
+    let at-pass = w .before .before .before .before in
+    let w8 = at-pass .before .before .before .before in
+    let start = w8 .before in
+    (a : SplitAnswer) → wideAnswer (at-pass .pass .result) ≡ a
+    → splitOutcome a (w .clear .last .0) ≡ splitting (start .args .text .now) (start .args .scratch .now)
+answered w a e =
+    let at-pass = w .before .before .before .before in
+    let pass = at-pass .pass in
+    let w8 = at-pass .before .before .before .before in
+    let start = w8 .before in
+    split-by
+    (start .args .text .now)
+    (start .args .scratch .now)
+    a
+    (pass .last .1 .0)
+    (w .clear .last .0)
+    (omega arith)
+    (sym e ∙ pass .ensures)
+    (pass .kept .1 .0)
+    (w .clear .ensures)
 
 returns : tie.Need-returns
 returns c = too-short _ _ (omega arith)
@@ -14,26 +41,30 @@ pass-requires c κs = search needs
 clear-requires : tie.Need-clear-requires
 clear-requires c κs = search needs
 
+enum-told : tie.Need-enum-told
+enum-told c = search needs
+
+enum-known-answer : tie.Need-enum-known-answer
+enum-known-answer c = search needs
+
+cast-t15 : tie.Need-cast-t15
+cast-t15 c = search needs
+
 same-length : tie.Need-same-length
 same-length c = search needs
 
 returns-2 : tie.Need-returns-2
-returns-2 c =
-    let at-clear = c .before .before in
-    let at-pass = at-clear .before .before .before .before in
-    let pass = at-pass .pass in
-    let c10 = at-pass .before .before .before .before in
-    let args = c10 .before .args in
-    split-by
-    (args .text .now)
-    (args .scratch .now)
-    (pass .result)
-    (pass .last .1 .0)
-    (at-clear .clear .last .0)
-    (omega arith)
-    (pass .ensures)
-    (pass .kept .1 .0)
-    (at-clear .clear .ensures)
+returns-2 c = answered (c .before .before .before .before) _ (ap wideAnswer (c .enum-told .given .1))
+
+same-length-2 : tie.Need-same-length-2
+same-length-2 c = search needs
+
+returns-3 : tie.Need-returns-3
+returns-3 c =
+    let at-answer = c .before in
+    answered (at-answer .before .before .before .before) _ (ap wideAnswer (at-answer .answer .given .1))
 
 pub split-spec : {M : Type 1} → statement M
-split-spec = tie.close (tie.spec returns pass-requires clear-requires same-length returns-2)
+split-spec =
+    tie.close
+    (tie.spec returns pass-requires clear-requires enum-told enum-known-answer cast-t15 same-length returns-2 same-length-2 returns-3)

@@ -4,7 +4,7 @@ use native.Mathlib.Omega.{arith}
 use lib.ListN.{drop, length-drop}
 use borrow.Author.Needs.{needs}
 use Rattle.text.specs.Bytes.{at}
-use Rattle.token.proofs.TokenLaws.{rest-of}
+use Rattle.token.proofs.TokenLaws.{rest-of, start-high}
 use Rattle.token.proofs.SplitLaws.{over-end, over-bad, over-unfit, goes-on}
 use Rattle.token.proofs.WholeLaws.{whole-of}
 use Rattle.token.proofs.step.Statement.{statement}
@@ -12,6 +12,14 @@ use Rattle.token.proofs.step.Tie as tie
 
 run-end-requires : tie.Need-run-end-requires
 run-end-requires c κs = search needs
+
+cast-start : tie.Need-cast-start
+cast-start c =
+    let start = c .before .before .before in
+    omega (arith, start-high (start .args .text .now) (start .args .at) _ (c .run-end .ensures) (start .pre .0))
+
+cast-if1 : tie.Need-cast-if1
+cast-if1 c = search needs
 
 ended-requires : tie.Need-ended-requires
 ended-requires c κs = search needs
@@ -22,6 +30,9 @@ returns c =
     let args = at-run-end .before .before .before .args in
     c .ended .ensures (args .words .now)
     ∙ sym (over-end (args .text .now) (args .at) (at-run-end .run-end .result) (at-run-end .run-end .ensures) _ (omega arith))
+
+cast-first : tie.Need-cast-first
+cast-first c = search needs
 
 sub-first : tie.Need-sub-first
 sub-first c = search needs
@@ -121,8 +132,11 @@ step-spec =
     tie.close
     (tie.spec
     run-end-requires
+    cast-start
+    cast-if1
     ended-requires
     returns
+    cast-first
     sub-first
     part-first-start
     part-first-end

@@ -16,6 +16,9 @@ returns c =
 sub-last : tie.Need-sub-last
 sub-last c = search needs
 
+cast-if2 : tie.Need-cast-if2
+cast-if2 c = search needs
+
 mul-if2 : tie.Need-mul-if2
 mul-if2 c = search needs
 
@@ -45,4 +48,4 @@ returns-3 c =
 pub take-closer-spec : {M : Type 1} → statement M
 take-closer-spec =
     tie.close
-    (tie.spec returns sub-last mul-if2 shared-slice-read-if2 wide-requires returns-2 returns-3)
+    (tie.spec returns sub-last cast-if2 mul-if2 shared-slice-read-if2 wide-requires returns-2 returns-3)

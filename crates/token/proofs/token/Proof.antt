@@ -9,11 +9,16 @@ use Rattle.token.proofs.token.Tie as tie
 run-end-requires : tie.Need-run-end-requires
 run-end-requires c κs = search needs
 
+cast-start : tie.Need-cast-start
+cast-start c =
+    let start = c .before .before in
+    omega (arith, start-high (start .args .text .now) (start .args .at) _ (c .run-end .ensures) (start .pre .0))
+
+cast-if1 : tie.Need-cast-if1
+cast-if1 c = search needs
+
 token-at-requires : tie.Need-token-at-requires
-token-at-requires c κs =
-    let start = c .before .before .before in
-    let h = start-high (start .args .text .now) (start .args .at) _ (c .before .run-end .ensures) (start .pre .0) in
-    (omega arith, omega arith)
+token-at-requires c κs = search needs
 
 returns : tie.Need-returns
 returns c =
@@ -21,6 +26,9 @@ returns c =
     let start = at-run-end .before .before in
     rw (c .token-at .ensures)
     (lexes-end (start .args .text .now) (start .args .at) _ (at-run-end .run-end .ensures) (start .pre .0) (c .before .if1 .taken))
+
+cast-first : tie.Need-cast-first
+cast-first c = search needs
 
 sub-first : tie.Need-sub-first
 sub-first c = search needs
@@ -53,14 +61,7 @@ add-token-at c =
     omega (arith, piece-high (args .text .now) (args .at) _ (at-run-end .run-end .ensures) (at-if1 .if1 .left) _ _ m)
 
 token-at-requires-3 : tie.Need-token-at-requires-3
-token-at-requires-3 c κs =
-    let at-first = c .before .before .before in
-    let at-if1 = at-first .before .before in
-    let at-run-end = at-if1 .before in
-    let args = at-run-end .before .before .args in
-    let m = rw (rest-of (args .text .now) (at-run-end .run-end .result), c .before .k .given .1) at (at-first .first .ensures) in
-    let h = piece-high (args .text .now) (args .at) _ (at-run-end .run-end .ensures) (at-if1 .if1 .left) _ _ m in
-    (omega arith, omega arith)
+token-at-requires-3 c κs = search needs
 
 returns-2 : tie.Need-returns-2
 returns-2 c =
@@ -88,8 +89,11 @@ token-spec =
     tie.close
     (tie.spec
     run-end-requires
+    cast-start
+    cast-if1
     token-at-requires
     returns
+    cast-first
     sub-first
     part-first-start
     part-first-end

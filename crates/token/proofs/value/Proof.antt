@@ -24,6 +24,9 @@ loop-holds c = (omega arith, simp (add-zero, sub-zero), rw add-zero (c .pre .1))
 mul-v : tie.Need-mul-v Inv-loop μ-loop
 mul-v c = omega (arith, ten-fits (c .before .loop .v) _ 18 (c .before .loop .inv .2) (omega arith))
 
+cast-v : tie.Need-cast-v Inv-loop μ-loop
+cast-v c = search needs
+
 add-v : tie.Need-add-v Inv-loop μ-loop
 add-v c =
     let start = c .before .before in
@@ -45,8 +48,8 @@ sub-v c =
           (run-in-at isDigit (a .t .now) (a .from) (at-loop .loop .i) (omega (arith, start .pre))),
     )
 
-cast-v : tie.Need-cast-v Inv-loop μ-loop
-cast-v c =
+cast-v-2 : tie.Need-cast-v-2 Inv-loop μ-loop
+cast-v-2 c =
     let a = c .before .before .before .args in
     omega (arith, c .shared-slice-known .given (a .from + c .before .before .loop .i))
 
@@ -98,10 +101,11 @@ value-spec =
     μ-loop
     loop-holds
     mul-v
+    cast-v
     add-v
     shared-slice-read-v
     sub-v
-    cast-v
+    cast-v-2
     add-v-2
     add-i
     loop-less

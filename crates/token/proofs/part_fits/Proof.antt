@@ -1,44 +1,46 @@
--- `token::delimiters_fit` meets its contract; the loop keeps whether the delimiters fit: they do from `from` on, with the closers that the
--- words hold, or not. Assumes nothing.
-use Prim.Native.Nat.{_-_, _≤_}
-use mathlib.Core.Bool.{false}
-use mathlib.Core.List.{[]}
-use mathlib.Core.Path.{refl, sym, _∙_, _≡_}
+-- `token::part_fits` meets its contract; the loop keeps whether the delimiters fit, whatever stands behind the part: they do from
+-- `from` on, with the closers that the words hold, or not. Assumes nothing.
+use Prim.Native.Nat.{ℕ, _-_, _≤_}
+use mathlib.Core.List.{List, _++_}
+use mathlib.Core.Path.{refl, _∙_, _≡_}
 use native.Mathlib.Omega.{arith}
 use lib.ListN.{length, drop}
 use borrow.Author.Needs.{needs}
 use Rattle.token.specs.Split.{awaits}
 use Rattle.token.specs.Means.{held, nestsFrom}
 use Rattle.token.proofs.NestLaws.{nests-end, nests-stop, nests-go}
-use Rattle.token.proofs.delimiters_fit.Statement.{statement}
-use Rattle.token.proofs.delimiters_fit.Tie as tie
+use Rattle.token.proofs.part_fits.Statement.{statement}
+use Rattle.token.proofs.part_fits.Tie as tie
 
 abbrev Inv-loop : tie.InvT-loop
-Inv-loop text words₀ from₀ quoted₀ depth₀ words from quoted depth =
-    (length words ≡ length words₀) × (from ≤ length text) × (depth ≤ 64)
-    × (nestsFrom false (awaits []) text ≡ nestsFrom quoted (awaits (held words depth)) (drop from text))
+Inv-loop text quoted words₀ depth from₀ inside₀ count₀ words from inside count =
+    (length words ≡ length words₀) × (from ≤ length text) × (count ≤ 64)
+    × ((u : List ℕ)
+    → nestsFrom quoted (awaits (held words₀ depth)) (text ++ u) ≡ nestsFrom inside (awaits (held words count)) (drop from text ++ u))
 
 abbrev μ-loop : tie.MeasureT-loop
-μ-loop text words₀ from₀ quoted₀ depth₀ words from quoted depth = length text - from
+μ-loop text quoted words₀ depth from₀ inside₀ count₀ words from inside count = length text - from
 
 loop-holds : tie.Need-loop-holds Inv-loop μ-loop
-unfolding held
-loop-holds c = (refl, omega arith, omega arith, refl)
+loop-holds c = (refl, omega arith, omega arith, λ u. refl)
 
 plain-end-requires : tie.Need-plain-end-requires Inv-loop μ-loop
 plain-end-requires c κs = search needs
 
-is-closed-requires : tie.Need-is-closed-requires Inv-loop μ-loop
-is-closed-requires c κs = search needs
+cast-if1 : tie.Need-cast-if1 Inv-loop μ-loop
+cast-if1 c = search needs
 
 same-length : tie.Need-same-length Inv-loop μ-loop
 same-length c = search needs
 
 returns : tie.Need-returns Inv-loop μ-loop
-returns c =
-    let at-plain-end = c .before .before in
+returns c = λ u.
+    let at-plain-end = c .before in
     let loop = at-plain-end .before .loop in
-    c .is-closed .ensures (loop .words) ∙ sym (loop .inv .3 ∙ nests-end (at-plain-end .plain-end .ensures) _ _ (omega arith))
+    record { is = loop .inv .3 u ∙ nests-end (at-plain-end .plain-end .ensures) _ _ u (omega arith); few = loop .inv .2 }
+
+cast-b : tie.Need-cast-b Inv-loop μ-loop
+cast-b c = search needs
 
 shared-slice-read-b : tie.Need-shared-slice-read-b Inv-loop μ-loop
 shared-slice-read-b c = search needs
@@ -53,12 +55,12 @@ same-length-2 : tie.Need-same-length-2 Inv-loop μ-loop
 same-length-2 c = search needs
 
 returns-2 : tie.Need-returns-2 Inv-loop μ-loop
-returns-2 c =
+returns-2 c = λ u.
     let at-nest-byte = c .before .before .before .before in
     let at-plain-end = at-nest-byte .before .before .before .before in
     let loop = at-plain-end .before .loop in
     let m = rw (c .enum-told .given .1) at (at-nest-byte .nest-byte .ensures) in
-    sym (loop .inv .3 ∙ nests-stop (at-plain-end .plain-end .ensures) _ _ (omega arith) _ m)
+    loop .inv .3 u ∙ nests-stop (at-plain-end .plain-end .ensures) _ _ u (omega arith) _ m
 
 enum-known-d : tie.Need-enum-known-d Inv-loop μ-loop
 enum-known-d c = search needs
@@ -83,20 +85,21 @@ loop-again c =
     let at-plain-end = at-nest-byte .before .before .before .before in
     let loop = at-plain-end .before .loop in
     let m = rw (at-d .d .given .1) at (at-nest-byte .nest-byte .ensures) in
-    let on = nests-go (at-plain-end .plain-end .ensures) _ _ (omega arith) _ _ _ (c .quoted-by .ensures) m in
-    (search needs, omega arith, m .few, loop .inv .3 ∙ on)
+    let on = nests-go (at-plain-end .plain-end .ensures) in
+    (search needs, omega arith, m .few, λ u. loop .inv .3 u ∙ on _ _ u (omega arith) _ _ _ (c .quoted-by .ensures) m)
 
-pub delimiters-fit-spec : {M : Type 1} → statement M
-delimiters-fit-spec =
+pub part-fits-spec : {M : Type 1} → statement M
+part-fits-spec =
     tie.close
     (tie.spec
     Inv-loop
     μ-loop
     loop-holds
     plain-end-requires
-    is-closed-requires
+    cast-if1
     same-length
     returns
+    cast-b
     shared-slice-read-b
     nest-byte-requires
     enum-told
