@@ -146,7 +146,7 @@ fn mean_line(answer: MeanAnswer) -> String {
 /// start and target its count of entries.
 fn counted(words: &mut [u32; 60], text: &[u8], scratch: &mut [u16], sheet: &mut [u8]) {
     let (length, records) = match read(text, scratch, sheet) {
-        ReadAnswer::Accepted { length, records } => (length, records),
+        ReadAnswer::Accepted { length, records, .. } => (length, records),
         ReadAnswer::Refused { refusal, .. } => return words[usize::from(refusal.number())] += 1,
     };
     if let CheckAnswer::Refused { refusal, .. } = check(text, &sheet[..length]) {
