@@ -18,20 +18,24 @@ expect() {
         cmp "$out/got" "$out/wanted"
     done
 }
-# fed TEXT OUTPUT: the example's output for a script that is fed.
-fed() {
-    printf "$2" > "$out/wanted"
-    printf "$1" | "$out/example" feed > "$out/got"
+# one HOW TEXT OUTPUT: the example's output for a script in one of its other modes.
+one() {
+    printf "$3" > "$out/wanted"
+    printf "$2" | "$out/example" "$1" > "$out/got"
     cmp "$out/got" "$out/wanted"
 }
 expect 'at 0.5;' '00020001FD\n00080E00003F00000000AB\naccept 1\n'
 expect '' '00020000FE\naccept 0\n'
 expect 'tween' 'refuse 6 at 5\n'
 expect 'keyframes p {50%%: 0, 0.5s: 1}' 'refuse 26 at 1\n'
-fed 'sequence {keyframes p {0: 0, 1: 1, 2: 0}} keyframes q {0: 0, 1: 1}' 'accept 3, 5/2\n'
-fed '' 'accept 0\n'
-fed 'tween' 'refuse 6 at 5\n'
-fed 'keyframes p {50%%: 0, 0.5s: 1}' 'refuse 26 at 1\n'
-printf 'at 0.5; at 0.1; at 16777217' | "$out/example" rounded > "$out/got"
-echo 2 | cmp "$out/got" -
-echo "C example: 4 passed, each in two ways, 4 fed, and a count of rounded numbers"
+one feed 'sequence {keyframes p {0: 0, 1: 1, 2: 0}} keyframes q {0: 0, 1: 1}' 'accept 3, 5/2\n'
+one feed '' 'accept 0\n'
+one feed 'tween' 'refuse 6 at 5\n'
+one feed 'keyframes p {50%%: 0, 0.5s: 1}' 'refuse 26 at 1\n'
+one rounded 'at 0.5; at 0.1; at 16777217' '2\n'
+one back '' '\n'
+one back 'at--0.50;label "a";' 'at + 0.5 ; label "a" ;\n'
+one back 'tween' 'refuse 6 at 5\n'
+one back 'keyframes p{loop:once 5%%:[],0.50:10000000 Easing::Linear}' 'keyframes p { 5 %% : [ ] , 0.5 : 9999999.5 Easing :: Linear , loop : once } ;\n'
+one back 'preset fadein' 'refuse 24 at 1\n'
+echo "C example: 4 passed, each in two ways, 4 fed, a count of rounded numbers, and 5 written back"

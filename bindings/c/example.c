@@ -1,8 +1,8 @@
 /*
  * Reads a script from standard input, checks it, and prints its lines, then `accept N`; or `refuse R at P`. With the argument `page`
  * one call does it all; with `feed` the script is fed to empty totals, and what is printed is its answer, the count of its node records
- * and the mean entries of its tracks;
- * with `rounded` it prints how many numbers were rounded instead.
+ * and the mean entries of its tracks; with `rounded` it prints how many numbers were rounded instead; with `back` a fresh script that
+ * reads to the same tree.
  */
 #include "strip.h"
 
@@ -41,6 +41,15 @@ static void feed(size_t length) {
     printf("\n");
 }
 
+/* Prints a fresh script of the text and its sheet. */
+static void back(size_t length, size_t size) {
+    uint64_t written = strip_write(text, length, sheet, size, output, sizeof output);
+    if (refused(written))
+        return;
+    fwrite(output, 1, strip_value(written), stdout);
+    printf("\n");
+}
+
 int main(int argc, char **argv) {
     size_t length = fread(text, 1, sizeof text, stdin);
     if (ferror(stdin)) {
@@ -65,6 +74,10 @@ int main(int argc, char **argv) {
         return 0;
     }
     uint32_t size = strip_sheet_length(reading);
+    if (argc > 1 && strcmp(argv[1], "back") == 0) {
+        back(length, size);
+        return 0;
+    }
     uint32_t records = strip_records(reading);
     if (refused(strip_check(text, length, sheet, size)))
         return 0;

@@ -1,7 +1,7 @@
 /*
  * Motion scripts of shelf-edge strips: reading a script into a sheet of bytes, checking the sheet, lining its records in
- * hexadecimal, all of it at once on a page, and counting many scripts in the totals of a morning sheet. `rt staticlib strip` writes
- * the library, target/staticlib/libstrip.a.
+ * hexadecimal, all of it at once on a page, writing a fresh script from text and sheet, and counting many scripts in the totals of a
+ * morning sheet. `rt staticlib strip` writes the library, target/staticlib/libstrip.a.
  *
  * No pointer is NULL, not even where its length is 0. What is written to overlaps nothing else that is lent. A length is in
  * elements. Nothing is allocated.
@@ -52,7 +52,9 @@ enum strip_refusal {
     STRIP_TOO_FEW_FRAMES = 27,
     STRIP_NO_SUCH_RECORD = 31,
     STRIP_OUTPUT_TOO_SHORT = 32,
-    STRIP_TOO_MANY_SCRIPTS = 33
+    STRIP_TOO_MANY_SCRIPTS = 33,
+    STRIP_UNWRITABLE = 34,
+    STRIP_SCRIPT_TOO_LONG = 35
 };
 
 /*
@@ -85,6 +87,15 @@ uint64_t strip_check(const uint8_t *text, size_t text_length, const uint8_t *she
  */
 uint64_t strip_line(const uint8_t *text, size_t text_length, const uint8_t *sheet, size_t sheet_length, uint32_t ordinal,
                     uint8_t *output, size_t output_length);
+
+/*
+ * Writes a fresh script from a text and its sheet: one that strip_read gives the same tree for, its starts apart. Accepted: strip_value
+ * is the script's length; past it the buffer is zero. Refused, with the buffer all zero: what strip_check refuses, as it does; then 34
+ * if no text reads to the tree, which a sheet of strip_read cannot bring about; then 35 if the script exceeds STRIP_TEXT_BYTES or the
+ * buffer, both at 0.
+ */
+uint64_t strip_write(const uint8_t *text, size_t text_length, const uint8_t *sheet, size_t sheet_length, uint8_t *out,
+                     size_t out_length);
 
 /*
  * Reads and checks a text, and writes at the front of a page what the program prints for it: a line for each record, then

@@ -1,7 +1,7 @@
 //! Motion scripts of shelf-edge strips: reading a script into a sheet of bytes, checking the sheet, lining its records in
-//! hexadecimal, all of it at once on a page, and counting many scripts in the totals of a morning sheet. The functions call a library
-//! that is proved: each answer and every byte that is written equals a definition. They allocate nothing, and what they write to is
-//! lent.
+//! hexadecimal, all of it at once on a page, writing a fresh script from text and sheet, and counting many scripts in the totals of a
+//! morning sheet. The functions call a library that is proved: each answer and every byte that is written equals a definition. They
+//! allocate nothing, and what they write to is lent.
 //!
 //! ```
 //! use strip::{CheckAnswer, LineAnswer, ReadAnswer, Refusal};
@@ -20,6 +20,11 @@
 //! let mut output = [0; 64];
 //! assert_eq!(strip::line(text, sheet, 1, &mut output), LineAnswer::Accepted { length: 23 });
 //! assert_eq!(&output[..23], b"00080E00003F00000000AB\n");
+//!
+//! // a fresh script, which reads to the same tree: tokens one blank apart, the fewest digits, no default
+//! let mut script = [0; 64];
+//! assert_eq!(strip::write(text, sheet, &mut script), LineAnswer::Accepted { length: 8 });
+//! assert_eq!(&script[..8], b"at 0.5 ;");
 //!
 //! // all that the program prints for a text, in one call
 //! let mut page = vec![0; strip::PAGE_BYTES];
@@ -115,19 +120,20 @@ pub enum CheckAnswer {
     },
 }
 
-/// What [`line`] and [`print`] answer.
+/// What [`line`], [`print`] and [`write`] answer.
 #[derive(Clone, Copy, Debug, PartialEq, Eq)]
 pub enum LineAnswer {
-    /// The output's first `length` bytes are the line, its LF included, or the page's all that is printed.
+    /// The output's first `length` bytes are the line, its LF included, the page's all that is printed, or the buffer's the script.
     Accepted {
         /// The length in bytes.
         length: usize,
     },
-    /// Nothing is written, and the output or the page is as it was.
+    /// Nothing is written: the output or the page is as it was, and the buffer of [`write`] is all zero.
     Refused {
         /// Why.
         refusal: Refusal,
-        /// 0 for a page; the ordinal for a line; for [`Refusal::BadForm`] a place in the text; for what is no sheet 0.
+        /// 0 for a page; the ordinal for a line; for a script what [`check`] gives, or 0; for [`Refusal::BadForm`] a place in the text;
+        /// for what is no sheet 0.
         place: usize,
     },
 }
@@ -220,6 +226,7 @@ extern "C" {
     fn strip_read(text: *const u8, text_length: usize, scratch: *mut u16, words: usize, sheet: *mut u8, room: usize) -> u64;
     fn strip_check(text: *const u8, text_length: usize, sheet: *const u8, sheet_length: usize) -> u64;
     fn strip_line(text: *const u8, text_length: usize, sheet: *const u8, sheet_length: usize, ordinal: u32, output: *mut u8, room: usize) -> u64;
+    fn strip_write(text: *const u8, text_length: usize, sheet: *const u8, sheet_length: usize, out: *mut u8, room: usize) -> u64;
     fn strip_print(text: *const u8, text_length: usize, scratch: *mut u16, words: usize, sheet: *mut u8, room: usize, page: *mut u8, page_room: usize) -> u64;
 }
 
@@ -254,6 +261,14 @@ pub fn check(text: &[u8], sheet: &[u8]) -> CheckAnswer {
 pub fn line(text: &[u8], sheet: &[u8], ordinal: u32, output: &mut [u8]) -> LineAnswer {
     // SAFETY: the three slices are whole, and the output overlaps neither of the others.
     line_answer(unsafe { strip_line(text.as_ptr(), text.len(), sheet.as_ptr(), sheet.len(), ordinal, output.as_mut_ptr(), output.len()) })
+}
+
+/// Writes a fresh script from a text and its sheet: one that [`read`] gives the same tree for, its starts apart. Past the script the
+/// buffer is zero, and on a refusal all of it is. Refused: what [`check`] refuses; then [`Refusal::Unwritable`] if no text reads to the
+/// tree, which a sheet of [`read`] cannot bring about; then [`Refusal::ScriptTooLong`].
+pub fn write(text: &[u8], sheet: &[u8], out: &mut [u8]) -> LineAnswer {
+    // SAFETY: the three slices are whole, and the buffer overlaps neither of the others.
+    line_answer(unsafe { strip_write(text.as_ptr(), text.len(), sheet.as_ptr(), sheet.len(), out.as_mut_ptr(), out.len()) })
 }
 
 /// Reads and checks a text, and writes at the front of a page what the program prints for it: a line for each record, then

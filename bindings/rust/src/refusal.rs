@@ -92,4 +92,8 @@ refusals! {
     OutputTooShort = 32,
     /// A 4,097th script, or totals with a figure above the limit.
     TooManyScripts = 33,
+    /// No text reads to the tree of a sheet.
+    Unwritable = 34,
+    /// A script of more than 16,384 bytes, or longer than the buffer.
+    ScriptTooLong = 35,
 }

@@ -1,5 +1,5 @@
 //! Each operation, its refusals, and what it leaves in what is lent.
-use strip::{check, feed, line, mean, print, read, CheckAnswer, FeedAnswer, LineAnswer, Mean, MeanAnswer, ReadAnswer, Refusal, Totals};
+use strip::{check, feed, line, mean, print, read, write, CheckAnswer, FeedAnswer, LineAnswer, Mean, MeanAnswer, ReadAnswer, Refusal, Totals};
 use strip::{FIGURE_LIMIT, PAGE_BYTES, SCRATCH_WORDS, SCRIPT_LIMIT, SHEET_BYTES, TEXT_BYTES};
 
 /// The sheet of a text that reading accepts, and its count of records.
@@ -91,6 +91,57 @@ fn a_page_of_fewer_bytes_is_refused_and_nothing_is_touched() {
     assert!(scratch.iter().all(|&w| w == 1) && sheet.iter().all(|&b| b == 2) && page.iter().all(|&b| b == 3));
 }
 
+/// The script that is written back from a text that reading accepts, in a buffer that is zero behind it.
+fn written(text: &[u8]) -> Vec<u8> {
+    let (sheet, _) = sheet_of(text);
+    let mut out = vec![3; TEXT_BYTES];
+    let LineAnswer::Accepted { length } = write(text, &sheet, &mut out) else {
+        panic!("{:?} is not written", String::from_utf8_lossy(text));
+    };
+    assert!(out[length..].iter().all(|&b| b == 0));
+    out.truncate(length);
+    out
+}
+
+#[test]
+fn a_script_is_written_back() {
+    for (text, script) in [
+        ("", ""),
+        (" at 0.500s", "at 0.5 ;"),
+        ("at--1;at+ 0", "at + 1 ; at + 0 ;"),
+        ("at 10000000; at 16777216", "at 9999999.5 ; at 16777216 ;"),
+        ("keyframes p{loop:once,0%:[ ];0.5:[1,]Easing::Linear}", "keyframes p { 0 % : [ ] , 0.5 : [ 1 ] Easing :: Linear , loop : once } ;"),
+        ("sequence{label \"a b\";preset fade_in(duration:1)}", "sequence { label \"a b\" ; preset fade_in , duration : 1 ; } ;"),
+        ("tween p:0=>1 reverse:false,delay:1,duration:1", "tween p : 0 => 1 duration : 1 delay : 1 ;"),
+        ("stagger pattern: random(max: 0.1, min: -0) {}", "stagger pattern : random ( min : - 0 ) { } ;"),
+    ] {
+        assert_eq!(String::from_utf8_lossy(&written(text.as_bytes())), script);
+        assert_eq!(written(script.as_bytes()), script.as_bytes());
+    }
+}
+
+#[test]
+fn writing_refuses_what_checking_does_then_34_then_35_with_zeros() {
+    let at = |bits: u32, relative: u8| [&[0, 1, 14, 0, 0], &bits.to_be_bytes()[..], &[relative]].concat();
+    let (one, nan) = (0x3F80_0000, 0x7FC0_0000);
+    for (text, sheet, room, refusal, place) in [
+        (&vec![b' '; TEXT_BYTES + 1][..], vec![], 9, Refusal::TextTooLong, 0),
+        (b"at 1\xFF", at(one, 0), 9, Refusal::BadForm, 4),
+        (b"at 1", vec![0, 1], 9, Refusal::NotASheet, 0),
+        (b"at 1; preset p", sheet_of(b"at 1; preset p").0, 0, Refusal::UnknownPreset, 2),
+        (b"at 1", at(nan, 0), 9, Refusal::Unwritable, 0),
+        (b"at 1", at(nan, 1), 3, Refusal::Unwritable, 0),
+        (b"at 1", at(0xBF80_0000, 0), 9, Refusal::Unwritable, 0),
+        (b"at 1", at(one, 0), 5, Refusal::ScriptTooLong, 0),
+        (&b"at 1;".repeat(3276), sheet_of(&b"at 1;".repeat(3276)).0, 32_768, Refusal::ScriptTooLong, 0),
+    ] {
+        let mut out = vec![3; room];
+        assert_eq!(write(text, &sheet, &mut out), LineAnswer::Refused { refusal, place });
+        assert!(out.iter().all(|&b| b == 0));
+    }
+    assert_eq!(write(b"at 1", &at(one, 0), &mut [3; 6]), LineAnswer::Accepted { length: 6 });
+}
+
 #[test]
 fn slices_may_be_empty() {
     assert_eq!(sheet_of(b""), (vec![0, 0], 0));
@@ -99,6 +150,7 @@ fn slices_may_be_empty() {
     assert_eq!(check(b"", b""), CheckAnswer::Refused { refusal: Refusal::NotASheet, place: 0 });
     assert_eq!(line(b"", b"", 0, &mut []), LineAnswer::Refused { refusal: Refusal::NotASheet, place: 0 });
     assert_eq!(line(b"", &[0, 0], 0, &mut []), LineAnswer::Refused { refusal: Refusal::OutputTooShort, place: 0 });
+    assert_eq!(write(b"", &[0, 0], &mut []), LineAnswer::Accepted { length: 0 });
 }
 
 #[test]
@@ -134,13 +186,14 @@ fn two_frames_at_one_time_are_refused() {
 
 #[test]
 fn a_refusal_has_one_number_and_one_name() {
-    assert_eq!(Refusal::ALL.len(), 26);
+    assert_eq!(Refusal::ALL.len(), 28);
     for &refusal in Refusal::ALL {
         assert_eq!(Refusal::of(refusal.number()), Some(refusal));
         assert_eq!(format!("{refusal:?}"), refusal.name());
     }
     assert_eq!((Refusal::DuplicateTime.number(), Refusal::TooManyScripts.number()), (26, 33));
-    assert_eq!((0..=255).filter_map(Refusal::of).count(), 26);
+    assert_eq!((Refusal::Unwritable.number(), Refusal::ScriptTooLong.number()), (34, 35));
+    assert_eq!((0..=255).filter_map(Refusal::of).count(), 28);
 }
 
 /// Feeds a text with buffers that are not zero, and gives what they are then.

@@ -1,7 +1,7 @@
 //! The stored cases of the operations, whose answers are the Rust's or a model's of the rules (oracle/README.md).
 use std::fmt::Write;
 use std::path::Path;
-use strip::{check, feed, line, mean, read, CheckAnswer, FeedAnswer, LineAnswer, Mean, MeanAnswer, ReadAnswer, Refusal, Totals};
+use strip::{check, feed, line, mean, read, write, CheckAnswer, FeedAnswer, LineAnswer, Mean, MeanAnswer, ReadAnswer, Refusal, Totals};
 use strip::{SCRATCH_WORDS, SCRIPT_LIMIT, SHEET_BYTES, TEXT_BYTES};
 
 /// What is stored for a program: its input and its output.
@@ -92,6 +92,35 @@ fn lining() {
         }
     }
     compare(&ours, &answers);
+}
+
+/// Each text and sheet written back into a buffer in which something stands, and whether the rest of it is zero afterwards. Behind the
+/// stored cases the program answers two long texts.
+#[test]
+fn writing() {
+    let (cases, answers) = stored("back_cases");
+    let long = [(vec![0; 16_385], vec![], 64), (vec![0; 16_384], vec![], 64)];
+    let mut ours = String::new();
+    for (text, sheet, room) in cases.lines().map(written_case).chain(long) {
+        let mut out = vec![7; room];
+        let mut used = 0;
+        match write(&text, &sheet, &mut out) {
+            LineAnswer::Accepted { length } => {
+                used = length;
+                write!(ours, "accept {length} {}", std::str::from_utf8(&out[..length]).unwrap()).unwrap();
+            }
+            LineAnswer::Refused { refusal, place } => write!(ours, "refuse {} at {place}", refusal.number()).unwrap(),
+        }
+        ours += if out[used..].iter().all(|&b| b == 0) { "\tzero\n" } else { "\tnot zero\n" };
+    }
+    compare(&ours, &answers);
+}
+
+/// The text, the sheet and the buffer's length of a line.
+fn written_case(case: &str) -> (Vec<u8>, Vec<u8>, usize) {
+    let (pair, room) = case.rsplit_once('\t').unwrap();
+    let (text, sheet) = text_and_sheet(pair);
+    (text, sheet, usize::from_str_radix(room, 16).unwrap())
 }
 
 /// Each line does one thing to totals, which its first byte tells: feeding a text, with less scratch or sheet, emptying, setting a

@@ -30,3 +30,5 @@ numberOf cause.TooFewFrames = 27
 numberOf cause.NoSuchRecord = 31
 numberOf cause.OutputTooShort = 32
 numberOf cause.TooManyScripts = 33
+numberOf cause.Unwritable = 34
+numberOf cause.ScriptTooLong = 35

@@ -48,6 +48,10 @@ pub enum Refusal {
     OutputTooShort,
     // A 4,097th script, or totals with a figure above the limit.
     TooManyScripts,
+    // No text reads to the tree.
+    Unwritable,
+    // The script exceeds a text's limit or the buffer.
+    ScriptTooLong,
 }
 
 // What reading answers: the sheet's length, its count of node records and how many written numbers were rounded, or a
@@ -107,5 +111,7 @@ pub fn number_of(refusal: Refusal) -> u8
         Refusal::NoSuchRecord => 31,
         Refusal::OutputTooShort => 32,
         Refusal::TooManyScripts => 33,
+        Refusal::Unwritable => 34,
+        Refusal::ScriptTooLong => 35,
     }
 }

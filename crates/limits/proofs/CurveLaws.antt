@@ -45,9 +45,9 @@ use Rattle.grammar.specs.Values.{
   loopModes,
   parseLoopMode,
 }
-use Rattle.limits.proofs.RunLaws.{Runs, gives, refuses, then, and, weaken, tests}
-use Rattle.limits.proofs.TakeLaws.{Word, a-word, the-mark, two-marks, in-group}
-use Rattle.limits.proofs.ListLaws.{_also_, a-choice, by-word, by-word-or}
+use Rattle.rules.proofs.RunLaws.{Runs, gives, refuses, then, and, weaken, tests}
+use Rattle.rules.proofs.TakeLaws.{Word, a-word, the-mark, two-marks, in-group}
+use Rattle.rules.proofs.ListLaws.{_also_, a-choice, by-word, by-word-or}
 use Rattle.limits.proofs.SizeLaws.{easing-most}
 use Rattle.limits.proofs.FieldLaws.{limit, Held, Row, Listed, pairs-run, word-or}
 use Rattle.limits.proofs.ValueLaws.{f32Of-small, span-fits, ident-runs, truth-runs, float-runs}

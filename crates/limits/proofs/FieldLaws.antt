@@ -17,36 +17,16 @@ use Rattle.encode.proofs.FieldLaws.{small}
 use Rattle.ast.specs.Tree.{ValueExpr}
 use Rattle.sheet.specs.Sheet.{valueForm}
 use Rattle.sheet.proofs.Laws.{wordL, valueL, easingL, loopL, dampingL}
-use Rattle.token.specs.Token.{Kind, name, number, quoted, mark, tokensFrom, kind, isMark}
-use Rattle.error.specs.declared.Refusal.the-variants.{UnknownKeyword}
-use Rattle.grammar.specs.Rule.{Rule, more, done, give, seesWord}
-use Rattle.grammar.specs.Fields.{Content, Entry, Fields, Table, rowOf, fieldHead, fieldValue, entry, pairName, onePair}
-use Rattle.grammar.specs.Fields.{pairs, Item, halts, closes, passes, starts, itemOf, fieldName, oneField, byItem, fieldsStep}
+use Rattle.grammar.specs.Rule.{Rule}
+use Rattle.grammar.specs.Fields.{Content, Entry, Fields, Table, pairs}
 use Rattle.grammar.specs.Fields.{parseFieldList, last, called, lastNumber, lastEasing, lastLoopMode, lastValue, lastDamping, lastRange}
-use Rattle.limits.proofs.RunLaws.{Runs, gives, then, and, weaken, tests, needs, Onto, repeats}
-use Rattle.limits.proofs.TakeLaws.{a-word, the-mark, skips, skips-word}
-use Rattle.limits.proofs.ListLaws.{lists}
-
--- ---- what is there
-
-abbrev pub On : {A : Type 0} → (A → Type 0) → Option A → Type 0
-On P none = Unit {0}
-On P (some a) = P a
-
-on-map : {A : Type 0} (P Q : A → Type 0) → ((a : A) → P a → Q a) → (o : Option A) → On P o → On Q o
-on-map P Q f none h = tt
-on-map P Q f (some a) h = f a h
-
-on-is : {A : Type 0} (P : A → Type 0) (o : Option A) (a : A) → o ≡ some a → On P o → P a
-on-is P o a e h = subst (On P) e h
+use Rattle.rules.proofs.RunLaws.{Runs}
+use Rattle.rules.proofs.FieldLaws as fields
+use Rattle.rules.proofs.FieldLaws.{On, on-map, on-is, default-in, last-in}
 
 pub on-ok : {A : Type 0} {c : Form A} (l : Law c) (o : Option A) → On (l .ok) o → optL l .ok o
 on-ok l none h = tt
 on-ok l (some a) h = h
-
-default-in : (P : ℕ → Type 0) (o : Option ℕ) (d : ℕ) → On P o → P d → P (default o d)
-default-in P none d h p = p
-default-in P (some a) d h p = h
 
 -- ---- contents
 
@@ -90,51 +70,7 @@ module _ (s : List ℕ) where
     pub paid : weight c + 3 * q ≤ 3 * m
 
   abbrev pub Row : String × Rule Content → Type 0
-  Row f = (q : ℕ) → q ≤ length s → Runs s (f .1) q (Held (bytes (f .0)) q)
-
-  row-in : (t : Table) (w : List ℕ) (f : String × Rule Content) → All Row t → rowOf t w ≡ some f → (w ≡ bytes (f .0)) × Row f
-  unfolding rowOf
-  row-in [] w f h e = absurd (let z : _≡_ {A = ℕ} 0 1 = cc in omega arith)
-  row-in (g ∷ t) w f h e = go (same w (bytes (g .0))) refl e (λ x. row-in t w f (h .1) x)
-    where
-      go : (b : Bool) → same w (bytes (g .0)) ≡ b
-          → elim b as (λ x. Option (String × Rule Content)) [ true ↦ some g | false ↦ rowOf t w ] ≡ some f
-          → (rowOf t w ≡ some f → (w ≡ bytes (f .0)) × Row f)
-          → (w ≡ bytes (f .0)) × Row f
-      go true q x ih =
-          subst (λ (y : String × Rule Content). (w ≡ bytes (y .0)) × Row y) (Option·some-injective g f x) (same-eq w (bytes (g .0)) q, h .0)
-      go false q x ih = ih x
-
-  -- a field's name, which takes as many bytes as it has
-  abbrev Names : Rule (List ℕ) → Type 0
-  Names p = (q : ℕ) → q ≤ length s → Runs s p q (λ w m. q + length w ≤ m)
-
-  pair-name : Names pairName
-  unfolding pairName
-  pair-name q h = then (a-word h) (λ w m g x. gives g (omega (arith, x .low, x .end)))
-
-  field-name : Names fieldName
-  unfolding fieldName
-  field-name q h =
-      tests (seesWord "loop") (λ e. and {f = give (bytes "loop")} (skips-word h (bytes "loop") e) (λ m g u x. gives g x))
-      (λ e. pair-name q h)
-
-  entry-runs : (p : Rule (List ℕ)) (t : Table) → Names p → All Row t
-      → (q : ℕ) → q ≤ length s
-      → Runs s (entry p t) q (λ e m. Fair (length s) (e .0) (e .1) × (price e + 3 * q ≤ 3 * m))
-  unfolding entry fieldHead fieldValue
-  entry-runs p t names rows q h =
-      then (head q h) (λ f m g x. then (x .1 m g) (λ c n i y. gives i (y .fair, omega (arith, x .0, y .paid))))
-    where
-      Head : ℕ → String × Rule Content → ℕ → Type 0
-      Head q f m = (q + length (bytes (f .0)) < m) × Row f
-
-      head : (q : ℕ) → q ≤ length s → Runs s (fieldHead p t) q (Head q)
-      head q h =
-          then (names q h)
-          (λ w m g x. and (the-mark g 58 refl)
-          (λ n i u y. weaken (needs UnknownKeyword (rowOf t w) i)
-          (λ f o z. let r = row-in t w f rows (z .1) in (let e = ap length (r .0) in let k = z .0 in omega arith, r .1))))
+  Row f = fields.Row s Held f
 
   -- the fields fs, which were gs at q
   pub record Listed (gs : Fields) (q : ℕ) (fs : Fields) (m : ℕ) : Type 0 where
@@ -148,80 +84,36 @@ module _ (s : List ℕ) where
   later : (gs : Fields) (q : ℕ) (fs : Fields) (m n : ℕ) → m ≤ n → Listed gs q fs m → Listed gs q fs n
   later gs q fs m n h i = record { fair = i .fair; low = omega (arith, i .low); paid = omega (arith, i .paid) }
 
-  one-more : (gs : Fields) (q : ℕ) (fs : Fields) (m n : ℕ) (e : Entry)
-      → Listed gs q fs m → Fair (length s) (e .0) (e .1) → price e + 3 * m ≤ 3 * n
-      → Listed gs q (e ∷ fs) n
-  one-more gs q fs m n e i f p = record { fair = (f, i .fair); low = omega (arith, i .low, p); paid = omega (arith, i .paid, p) }
+  one-more : (gs : Fields) (q : ℕ) (fs : Fields) (e : Entry) (m n : ℕ)
+      → Listed gs q fs m → fields.Entered s Held m e n → Listed gs q (e ∷ fs) n
+  one-more gs q fs e m n i x = record {
+    fair = (x .held .fair, i .fair);
+    low = omega (arith, i .low, x .low, x .held .paid);
+    paid = omega (arith, i .paid, x .low, x .held .paid);
+  }
 
   pub pairs-run : (t : Table) → All Row t → (q : ℕ) → q ≤ length s → Runs s (pairs t) q (Listed [] q)
-  unfolding pairs onePair
-  pairs-run t rows q h =
-      lists (Listed [] q) (Listed [] q) (λ fs m i. i) (λ fs m n l i. later [] q fs m n (omega arith) i) (onePair t)
-      (λ fs m g i. then (entry-runs pairName t pair-name rows m g) (λ e n f x. gives f (one-more [] q fs m n e i (x .0) (x .1))))
-      h (start [] q tt)
+  pairs-run t rows q h = fields.pairs-run s Held (Listed [] q) (later [] q) (one-more [] q) t rows h (start [] q tt)
 
-  -- ---- parse_field_list
-
-  -- an item that does not halt is not the text's end
-  goes : (k : Kind) (x : Item) → itemOf k ≡ x → (x ≡ halts → ⊥) → isMark k 0 ≡ false
-  unfolding itemOf oneOf
-  goes (name w) x e n = refl
-  goes (number w) x e n = refl
-  goes (quoted w) x e n = refl
-  goes (mark b) x e n = go (eqb b 0) refl
-    where
-      go : (y : Bool) → eqb b 0 ≡ y → y ≡ false
-      go true f = absurd (n (sym e ∙ (rw f)))
-      go false f = refl
-
-  not-closes : closes ≡ halts → ⊥
-  not-closes e = let z : _≡_ {A = ℕ} 0 1 = cc in omega arith
-
-  not-passes : passes ≡ halts → ⊥
-  not-passes e = let z : _≡_ {A = ℕ} 0 1 = cc in omega arith
-
-  module _ (t : Table) (rows : All Row t) (gs : Fields) (q : ℕ) where
-    step-runs : (fs : Fields) (m : ℕ) → m ≤ length s → Listed gs q fs m → Runs s (fieldsStep t fs) m (Onto (Listed gs q) (Listed gs q))
-    unfolding fieldsStep oneField
-    step-runs fs m g i = record { run = λ l. by (itemOf (kind (tokensFrom s m))) refl .run l }
-      where
-        by : (x : Item) → itemOf (kind (tokensFrom s m)) ≡ x → Runs s (byItem x t fs) m (Onto (Listed gs q) (Listed gs q))
-        by halts e = gives g i
-        by closes e =
-            and {f = give (done fs)} (skips g (goes (kind (tokensFrom s m)) closes e not-closes))
-            (λ n f u x. gives f (later gs q fs m n (omega (arith, x .on)) i))
-        by passes e =
-            and {f = give (more fs)} (skips g (goes (kind (tokensFrom s m)) passes e not-passes))
-            (λ n f u x. gives f (later gs q fs m n (omega (arith, x .on)) i))
-        by starts e = then (entry-runs fieldName t field-name rows m g) (λ e n f x. gives f (one-more gs q fs m n e i (x .0) (x .1)))
-
-    pub fields-run : q ≤ length s → AllFair (length s) gs → Runs s (parseFieldList t gs) q (Listed gs q)
-    unfolding parseFieldList
-    fields-run h f = repeats (Listed gs q) (Listed gs q) (λ fs m i. i) (fieldsStep t) step-runs h (start gs q f)
+  pub fields-run : (t : Table) → All Row t → (gs : Fields) (q : ℕ) → q ≤ length s → AllFair (length s) gs
+      → Runs s (parseFieldList t gs) q (Listed gs q)
+  fields-run t rows gs q h f = fields.fields-run s Held (Listed gs q) (later gs q) (one-more gs q) t rows gs h (start gs q f)
 
 -- ---- what a list says
 
 module _ (n : ℕ) where
-  last-in : {A : Type 0} (f : Entry → Option A) (P : A → Type 0)
-      → ((e : Entry) → Fair n (e .0) (e .1) → On P (f e))
-      → (fs : Fields) → AllFair n fs → On P (last f fs)
-  unfolding last
-  last-in f P k [] h = tt
-  last-in f P k (e ∷ fs) h = go (f e) (k e (h .0)) (last-in f P k fs (h .1))
-    where
-      go : (o : Option _) → On P o → On P (last f fs) → On P (orElse o (last f fs))
-      go none x y = y
-      go (some a) x y = x
+  -- an entry that is fair
+  abbrev Entire : Entry → Type 0
+  Entire e = Fair n (e .0) (e .1)
 
   module _ (fs : Fields) (h : AllFair n fs) where
     number-in : (w : String) (k : ℕ) → limit (bytes w) ≡ k → On (λ x. x < k) (lastNumber w fs)
-    number-in w k l = last-in (called w (λ c. c .number)) (λ x. x < k) (λ e f. go e f (same (e .0) (bytes w)) refl) fs h
+    number-in w k l = fields.number-in Entire w (λ x. x < k) go fs h
       where
-        go : (e : Entry) → Fair n (e .0) (e .1) → (b : Bool) → same (e .0) (bytes w) ≡ b → On (λ x. x < k) (cond b (e .1 .number) none)
-        go e f true q =
-            let z : limit (e .0) ≡ k = ap limit (same-eq (e .0) (bytes w) q) ∙ l in
+        go : (e : Entry) → Entire e → e .0 ≡ bytes w → On (λ x. x < k) (e .1 .number)
+        go e f q =
+            let z : limit (e .0) ≡ k = ap limit q ∙ l in
             on-map (λ x. x < limit (e .0)) (λ x. x < k) (λ x y. omega arith) (e .1 .number) (f .number)
-        go e f false q = tt
 
     word-in : (w : String) → limit (bytes w) ≡ 4294967296 → On (Small 4) (lastNumber w fs)
     word-in w l = on-map (λ x. x < 4294967296) (Small 4) (λ x y. small 4 x y) (lastNumber w fs) (number-in w 4294967296 l)
@@ -242,23 +134,24 @@ module _ (n : ℕ) where
     case-opt w k l = on-ok (belowL k) (lastNumber w fs) (number-in w k l)
 
     pub easing-opt : optL (easingL n) .ok (lastEasing fs)
-    easing-opt = on-ok (easingL n) (lastEasing fs) (last-in (λ e. e .1 .easing) (easingL n .ok) (λ e f. f .easing) fs h)
+    easing-opt = on-ok (easingL n) (lastEasing fs) (last-in Entire (λ e. e .1 .easing) (easingL n .ok) (λ e f. f .easing) fs h)
 
     pub loop-opt : optL loopL .ok (lastLoopMode fs)
-    loop-opt = on-ok loopL (lastLoopMode fs) (last-in (λ e. e .1 .loopMode) (loopL .ok) (λ e f. f .loopMode) fs h)
+    loop-opt = on-ok loopL (lastLoopMode fs) (last-in Entire (λ e. e .1 .loopMode) (loopL .ok) (λ e f. f .loopMode) fs h)
 
     pub value-opt : optL valueL .ok (lastValue fs)
     value-opt =
         on-ok valueL (lastValue fs)
-        (last-in (λ e. e .1 .value) (valueL .ok)
+        (last-in Entire (λ e. e .1 .value) (valueL .ok)
         (λ e f. on-map (λ v. valueL .ok v × (8 ≤ length (e .0))) (valueL .ok) (λ v x. x .0) (e .1 .value) (f .value)) fs h)
 
     pub damping-opt : optL dampingL .ok (lastDamping fs)
-    damping-opt = on-ok dampingL (lastDamping fs) (last-in (λ e. e .1 .damping) (dampingL .ok) (λ e f. f .damping) fs h)
+    damping-opt = on-ok dampingL (lastDamping fs) (last-in Entire (λ e. e .1 .damping) (dampingL .ok) (λ e f. f .damping) fs h)
 
     pub range-opt : optL (wordL & wordL) .ok (lastRange fs)
     range-opt =
-        on-ok (wordL & wordL) (lastRange fs) (last-in (λ e. e .1 .range) (λ p. Small 4 (p .0) × Small 4 (p .1)) (λ e f. f .range) fs h)
+        on-ok (wordL & wordL) (lastRange fs)
+        (last-in Entire (λ e. e .1 .range) (λ p. Small 4 (p .0) × Small 4 (p .1)) (λ e f. f .range) fs h)
 
   -- ---- what text a list takes at least
 

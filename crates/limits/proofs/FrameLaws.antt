@@ -25,11 +25,12 @@ use Rattle.error.specs.declared.Refusal.the-variants.{Malformed}
 use Rattle.grammar.specs.Rule.{give, _>>=_, _>>_, if, sees, seesName, seesWord, ends, skip, the, eat, goOn, repeat, more}
 use Rattle.grammar.specs.Values.{parseLoopMode}
 use Rattle.grammar.specs.Grammar.{stored, keyed, parseKeyframeTime, keyframeEntry, Track, trackLoop, trackFrame, trackStep, parseKeyframes}
-use Rattle.limits.proofs.RunLaws.{Runs, gives, refuses, then, and, tallies, weaken, tests, conds, Onto, repeats}
-use Rattle.limits.proofs.TakeLaws.{a-number, the-mark, skips-mark, skips-word, Eaten, eats, eaten, in-group}
-use Rattle.limits.proofs.ListLaws.{_also_}
+use Rattle.rules.proofs.RunLaws.{Runs, gives, refuses, then, and, tallies, weaken, tests, conds, Onto, repeats}
+use Rattle.rules.proofs.TakeLaws.{a-number, the-mark, skips-mark, skips-word, Eaten, eats, eaten, in-group}
+use Rattle.rules.proofs.ListLaws.{_also_}
 use Rattle.limits.proofs.SizeLaws.{entry-size, keyframes-size}
-use Rattle.limits.proofs.FieldLaws.{On, on-ok}
+use Rattle.limits.proofs.FieldLaws.{on-ok}
+use Rattle.rules.proofs.FieldLaws.{On}
 use Rattle.limits.proofs.ValueLaws.{all-more, value-runs, ident-runs}
 use Rattle.limits.proofs.CurveLaws.{easing-runs, loop-runs}
 use Rattle.limits.proofs.LeafLaws.{Leafed, LeafRule}
@@ -70,7 +71,7 @@ module _ (s : List ℕ) (short : length s ≤ textLimit) where
       (λ w m g x.
       then (conds {Q = λ c n. m ≤ n} (w .1 .point) (λ e. gives g (omega arith)) (λ e. weaken (eats g 37 refl) (λ c n y. eaten m c n y)))
       (λ c n f y.
-      conds (c && w .1 .suffix) (λ e. refuses) (λ e. tallies (timeRounded _) (gives f (omega (arith, x .on))))))
+      conds (c && w .1 .suffix) (λ e. refuses) (λ e. tallies (timeRounded _) (gives f (omega (arith, x .is .on))))))
 
   -- ---- a frame: 2 bytes over, which a `,` behind it pays for
 

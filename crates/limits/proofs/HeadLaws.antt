@@ -37,11 +37,12 @@ use Rattle.grammar.specs.Grammar.{
   openingStep,
   parseStagger,
 }
-use Rattle.limits.proofs.RunLaws.{Runs, gives, then, and, weaken, tests, needs, Onto, repeats}
-use Rattle.limits.proofs.TakeLaws.{a-word, the-mark, eats, eaten, in-group}
-use Rattle.limits.proofs.ListLaws.{_also_, a-choice, by-word}
+use Rattle.rules.proofs.RunLaws.{Runs, gives, then, and, weaken, tests, needs, Onto, repeats}
+use Rattle.rules.proofs.TakeLaws.{a-word, the-mark, eats, eaten, in-group}
+use Rattle.rules.proofs.FieldLaws.{On}
+use Rattle.rules.proofs.ListLaws.{_also_, a-choice, by-word}
 use Rattle.limits.proofs.SizeLaws.{Most, all, _⊕_, opt-most, opt-word, pattern-most}
-use Rattle.limits.proofs.FieldLaws.{On, on-ok, limit, Row, Listed, pairs-run, word-is, word-or, case-or}
+use Rattle.limits.proofs.FieldLaws.{on-ok, limit, Row, Listed, pairs-run, word-is, word-or, case-or}
 use Rattle.limits.proofs.ValueLaws.{f32Of-small, float-runs}
 use Rattle.limits.proofs.CurveLaws.{number-row, count-row, case-row}
 

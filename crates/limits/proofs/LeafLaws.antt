@@ -30,9 +30,9 @@ use Rattle.grammar.specs.Grammar.{stored, tweenFields, parseTween, springFields
 use Rattle.grammar.specs.Grammar.{integrator, criticalDamping, overDamping, underDamping, parseSpring, offset, pathFields, parsePath}
 use Rattle.grammar.specs.Grammar.{morphFields, parseMorph, drawFields, parseDraw, space, colorFields, parseColor}
 use Rattle.grammar.specs.Grammar.{waveformKind, waveformFields, parseWaveform, parsePresetCall, parseLabel, atSign, turned, parseAt}
-use Rattle.limits.proofs.RunLaws.{Runs, gives, then, and, tallies, weaken, tests, conds, needs}
-use Rattle.limits.proofs.TakeLaws.{the-mark, two-marks, skips-mark, Eaten, eats, eaten, Number, a-number, in-group}
-use Rattle.limits.proofs.ListLaws.{_also_, a-choice}
+use Rattle.rules.proofs.RunLaws.{Runs, gives, then, and, tallies, weaken, tests, conds, needs}
+use Rattle.rules.proofs.TakeLaws.{the-mark, two-marks, skips-mark, Eaten, eats, eaten, Number, a-number, in-group}
+use Rattle.rules.proofs.ListLaws.{_also_, a-choice}
 use Rattle.limits.proofs.SizeLaws.{Most, all, _⊕_, span-most, tween-size, tween-rest, spring-size, path-size}
 use Rattle.limits.proofs.SizeLaws.{morph-size, draw-size, color-size, waveform-size, preset-size}
 use Rattle.limits.proofs.FieldLaws.{limit, AllFair, total, Held, Row, Listed, pairs-run, fields-run}
@@ -501,5 +501,5 @@ module _ (s : List ℕ) (short : length s ≤ textLimit) {inner : Form Forest} (
       tallies (numberRounded (turned (v .1) (w .0)) (w .1)) (and (eats f 59 refl) (λ o i c z.
       gives {a = a} i (record {
         ok = λ start j. (j, (small 4 _ (bits-lt _ (nearest-fits _ _)), flag-ok (v .0)));
-        paid = λ start. omega (arith, behind-sign q m n e x y, eaten n c o z);
+        paid = λ start. omega (arith, behind-sign q m n e x (y .is), eaten n c o z);
       })))))

@@ -20,37 +20,39 @@ use Rattle.sheet.proofs.Laws.{Fits, innerL, decodes}
 use Rattle.grammar.specs.Rule.{Notes, Out, got, refused}
 use Rattle.grammar.specs.Grammar.{stored, block, animatoInput}
 use Rattle.parser.specs.Reading.{Parsed, tree, wrong, unlessLeft, finished, parsed, parse}
-use Rattle.limits.proofs.RunLaws.{Ends, Outcome}
+use Rattle.rules.proofs.RunLaws.{Ends, Outcome}
 use Rattle.limits.proofs.NodeLaws.{Several, nodes-run, sized-ok, block-runs, top-small}
 
 -- ---- a text that parses
 
--- its tokens, and what the grammar gives
-record Parses (t : List ℕ) (ns : Nodes Key) : Type 0 where
-  ts : List Token
-  splits : split t ≡ tokens ts
-  notes : Notes
-  left : List Token
-  gives : animatoInput (record { leftover = none; rounded = 0; bound = suc (length t) }) ts ≡ got ns notes left
+-- its tokens, and what the grammar gives, with no leftover
+pub record Parses (t : List ℕ) (ns : Nodes Key) : Type 0 where
+  pub ts : List Token
+  pub splits : split t ≡ tokens ts
+  pub notes : Notes
+  pub left : List Token
+  pub gives : animatoInput (record { leftover = none; rounded = 0; bound = suc (length t) }) ts ≡ got ns notes left
+  pub whole : notes .leftover ≡ none
 
 abbrev treeOf : Parsed → Nodes Key
 treeOf (tree ns k) = ns
 treeOf (wrong r p) = Nodes.none
 
-parses : (t : List ℕ) (ns : Nodes Key) {k : ℕ} → parse t ≡ tree ns k → Parses t ns
+pub parses : (t : List ℕ) (ns : Nodes Key) {k : ℕ} → parse t ≡ tree ns k → Parses t ns
 unfolding parse
 parses t ns {k} e = by (split t) refl e
   where
     last : (ts : List Token) → split t ≡ tokens ts → (ms : Nodes Key) (l : Notes) (us : List Token)
         → animatoInput (record { leftover = none; rounded = 0; bound = suc (length t) }) ts ≡ got ms l us
-        → (o : Option ℕ) → unlessLeft ms (l .rounded) o ≡ tree ns k → Parses t ns
-    last ts f ms l us g none h = subst (Parses t) (ap treeOf h) (record { ts = ts; splits = f; notes = l; left = us; gives = g })
-    last ts f ms l us g (some p) h = absurd (let z : _≡_ {A = ℕ} 0 1 = cc in omega arith)
+        → (o : Option ℕ) → l .leftover ≡ o → unlessLeft ms (l .rounded) o ≡ tree ns k → Parses t ns
+    last ts f ms l us g none w h =
+        subst (Parses t) (ap treeOf h) (record { ts = ts; splits = f; notes = l; left = us; gives = g; whole = w })
+    last ts f ms l us g (some p) w h = absurd (let z : _≡_ {A = ℕ} 0 1 = cc in omega arith)
 
     on : (ts : List Token) → split t ≡ tokens ts → (x : Out (Nodes Key))
         → animatoInput (record { leftover = none; rounded = 0; bound = suc (length t) }) ts ≡ x
         → finished x ≡ tree ns k → Parses t ns
-    on ts f (got ms l us) g h = last ts f ms l us g (l .leftover) h
+    on ts f (got ms l us) g h = last ts f ms l us g (l .leftover) refl h
     on ts f (refused r p) g h = absurd (let z : _≡_ {A = ℕ} 0 1 = cc in omega arith)
 
     by : (x : Split) → split t ≡ x → parsed (length t) x ≡ tree ns k → Parses t ns

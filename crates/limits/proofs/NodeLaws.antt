@@ -24,9 +24,9 @@ use Rattle.error.specs.declared.Refusal.the-variants.{Missing, TooManyNested}
 use Rattle.grammar.specs.Rule.{Rule, give, refuse, ends, sees, repeat, more}
 use Rattle.grammar.specs.Grammar.{stored, leaves, containers, aLeaf, aContainer, orContainer}
 use Rattle.grammar.specs.Grammar.{beginning, nodeBy, parseNode, oneNode, nodesStep, block}
-use Rattle.limits.proofs.RunLaws.{Runs, gives, refuses, then, and, weaken-in, tests, Onto, repeats}
-use Rattle.limits.proofs.TakeLaws.{Word, a-word, skips-mark, in-group}
-use Rattle.limits.proofs.ListLaws.{_also_, under-row}
+use Rattle.rules.proofs.RunLaws.{Runs, gives, refuses, then, and, weaken-in, tests, Onto, repeats}
+use Rattle.rules.proofs.TakeLaws.{Word, a-word, skips-mark, in-group}
+use Rattle.rules.proofs.ListLaws.{_also_, under-row}
 use Rattle.limits.proofs.ValueLaws.{is-true}
 use Rattle.limits.proofs.LeafLaws.{LeafRule, tween-runs, spring-runs, path-runs, morph-runs, draw-runs}
 use Rattle.limits.proofs.LeafLaws.{color-runs, waveform-runs, preset-runs, label-runs, at-runs}

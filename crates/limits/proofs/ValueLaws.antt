@@ -26,9 +26,9 @@ use Rattle.error.specs.declared.Refusal.the-variants.{Missing, Malformed}
 use Rattle.grammar.specs.Rule.{sees, seesWord, give}
 use Rattle.grammar.specs.Values.{ident, string, truth, parseFloat, parseUint, parseFloatInParens, commaFloat, twoFloats}
 use Rattle.grammar.specs.Values.{parseTwoFloatsInParens, parseUintInParens, arrayItem, arrayItems, parseValue, f32Of}
-use Rattle.limits.proofs.RunLaws.{Runs, gives, refuses, then, and, tallies, weaken, tests, needs}
-use Rattle.limits.proofs.TakeLaws.{a-word, a-text, Number, a-number, a-whole, Inside, in-group, the-mark, skips-word, next-name}
-use Rattle.limits.proofs.ListLaws.{none≢some, lists}
+use Rattle.rules.proofs.RunLaws.{Runs, gives, refuses, then, and, tallies, weaken, tests, needs}
+use Rattle.rules.proofs.TakeLaws.{a-word, a-text, Number, a-number, a-whole, Inside, in-group, the-mark, skips-word, next-name}
+use Rattle.rules.proofs.ListLaws.{none≢some, lists}
 
 -- ---- small numbers
 
@@ -93,14 +93,14 @@ module _ (s : List ℕ) (short : length s ≤ textLimit) where
   unfolding parseFloat
   float-runs q h =
       then (a-number h Malformed)
-      (λ w m g x. tallies (numberRounded (w .0) (w .1)) (gives g (record { ok = f32-below (w .0) (w .1); is = x })))
+      (λ w m g x. tallies (numberRounded (w .0) (w .1)) (gives g (record { ok = f32-below (w .0) (w .1); is = x .is })))
 
   pub uint-runs : (q : ℕ) → q ≤ length s → Runs s parseUint q (λ n m. (n < 4294967296) × (q < m))
   unfolding parseUint
   uint-runs q h =
       then (a-whole h Missing)
       (λ w m g x. weaken (needs Malformed (whole (w .0) (w .1)) g)
-      (λ n o y. (whole-below (w .0) (w .1) n (y .1), let z = y .0 in omega (arith, x .on))))
+      (λ n o y. (whole-below (w .0) (w .1) n (y .1), let z = y .0 in omega (arith, x .0 .is .on))))
 
   pub float-in-parens : (q : ℕ) → q ≤ length s → Runs s parseFloatInParens q (λ n m. Small 4 n × (q < m))
   unfolding parseFloatInParens

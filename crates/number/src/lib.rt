@@ -27,7 +27,7 @@ const POWERS: [u64; 10] = [
 ];
 
 // 10 to the power of `places`.
-fn ten_to(places: usize) -> u64
+pub fn ten_to(places: usize) -> u64
     requires { ⌜ places ≤ 9 ⌝ }
     ensures { λ r. ⌜ r ≡ 10 ^ places ⌝ }
 {

@@ -1,12 +1,12 @@
 -- A packed answer is below 2^64, and its parts come back where they are below 2^32, 2^24 and 2^16. Assumes nothing.
-use Prim.Native.Nat.{ℕ, _^_, _≤_, _<_}
+use Prim.Native.Nat.{ℕ, _^_, _<_}
 use mathlib.Core.List.{List, [], _∷_}
 use mathlib.Core.Path.{_≡_, refl}
 use lib.ListN.{length, set}
 use native.Mathlib.Omega.{arith}
 use Rattle.error.specs.Refusal.{numberOf}
 use Rattle.error.specs.declared.Refusal.{Refusal}
-use Rattle.totals.proofs.NumberLaws.{Numbered, numbered}
+use Rattle.totals.proofs.NumberLaws.{numbered}
 use Rattle.error.specs.declared.ReadAnswer.{ReadAnswer}
 use Rattle.error.specs.declared.ReadAnswer.the-variants as read
 use Rattle.error.specs.declared.CheckAnswer.{CheckAnswer}

@@ -9,6 +9,7 @@ ghost use Rattle.line.specs.Lining.{lining};
 ghost use Rattle.script.specs.Output.{printing};
 ghost use Rattle.totals.specs.Mean.{mean};
 ghost use Rattle.feed.specs.Feed.{fed, feeding};
+ghost use Rattle.back.specs.Back.{writing};
 ghost use Rattle.strip.specs.Packed.{packedRefusal, packedSheet, packedCheck, packedLine, packedFed, readOutcome, lineOutcome, printOutcome};
 ghost use Rattle.strip.specs.Packed.{feedOutcome, meanOutcome};
 use error::CheckAnswer;
@@ -40,7 +41,7 @@ fn pack_sheet(length: usize, records: usize, rounded: usize) -> u64
     (rounded % 65536 * 1099511627776 + records % 65536 * 16777216 + length % 16777216) as u64
 }
 
-// A line's or a page's length, or a refusal.
+// A line's, a page's or a script's length, or a refusal.
 fn pack_line(answer: LineAnswer) -> u64
     ensures { λ r. ⌜ r ≡ packedLine answer ⌝ }
 {
@@ -150,4 +151,12 @@ pub extern "C" fn strip_mean(totals: &[u32; 60], which: u32, out: &mut [u32; 2])
         MeanAnswer::Nothing => 0,
         MeanAnswer::Refused { refusal, place } => pack_refusal(refusal, place),
     }
+}
+
+// back::write.
+#[no_mangle]
+pub extern "C" fn strip_write(text: &[u8], sheet: &[u8], out: &mut [u8]) -> u64
+    ensures { λ r. ⌜ (r, now (out .exit)) ≡ lineOutcome (writing (now (text .entry)) (now (sheet .entry)) (now (out .entry))) ⌝ }
+{
+    pack_line(back::write(text, sheet, out))
 }

@@ -5,11 +5,10 @@ use Rattle.error.specs.Refusal.{numberOf}
 use Rattle.error.specs.declared.Refusal.{Refusal}
 use Rattle.error.specs.declared.Refusal.the-variants as cause
 
--- at least 1, at most 33
-
+-- "word r, from 1 to 43"
 pub record Numbered (n : ℕ) : Type 0 where
   pub some : 1 ≤ n
-  pub most : n ≤ 33
+  pub most : n ≤ 43
 
 pub numbered : (r : Refusal) → Numbered (numberOf r)
 numbered cause.TextTooLong = record { some = omega arith; most = omega arith }
@@ -38,3 +37,5 @@ numbered cause.TooFewFrames = record { some = omega arith; most = omega arith }
 numbered cause.NoSuchRecord = record { some = omega arith; most = omega arith }
 numbered cause.OutputTooShort = record { some = omega arith; most = omega arith }
 numbered cause.TooManyScripts = record { some = omega arith; most = omega arith }
+numbered cause.Unwritable = record { some = omega arith; most = omega arith }
+numbered cause.ScriptTooLong = record { some = omega arith; most = omega arith }

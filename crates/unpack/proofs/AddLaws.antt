@@ -5,22 +5,13 @@ use mathlib.Core.List.{List}
 use mathlib.Core.Path.{_≡_, refl, sym, ap, _∙_}
 use Rattle.number.specs.Time.{Key}
 use Rattle.token.specs.Token.{Token, rest}
-use Rattle.ast.specs.Tree.{Nodes, leaf, box, MotionNode, push, append}
+use Rattle.ast.specs.Tree.{Nodes, MotionNode, push, append}
 use Rattle.grammar.specs.Rule.{Notes, Out, got, refused, Rule, after, give, if, sees, ends, skip, _>>_, Next, more, done, iterate}
 use Rattle.grammar.specs.Rule.{next as following}
 use Rattle.grammar.specs.Grammar.{parseNode, oneNode, nodesStep, block}
+use Rattle.rules.proofs.TreeLaws.{append-none, append-both}
 use Rattle.unpack.proofs.StepLaws.{plus, plusOut, steps-stay}
 use Rattle.unpack.proofs.RuleLaws.{nodes-stay, block-stays}
-
-append-none : (ns : Nodes Key) → append ns Nodes.none ≡ ns
-append-none Nodes.none = refl
-append-none (leaf p l rest) = ap (leaf p l) (append-none rest)
-append-none (box p b inner rest) = ap (box p b inner) (append-none rest)
-
-append-both : (ns ms os : Nodes Key) → append (append ns ms) os ≡ append ns (append ms os)
-append-both Nodes.none ms os = refl
-append-both (leaf p l rest) ms os = ap (leaf p l) (append-both rest ms os)
-append-both (box p b inner rest) ms os = ap (box p b inner) (append-both rest ms os)
 
 -- the nodes ns in front of those that were read
 abbrev pub behindNodes : Nodes Key → Out (Nodes Key) → Out (Nodes Key)

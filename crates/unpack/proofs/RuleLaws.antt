@@ -15,7 +15,7 @@ use Rattle.ast.specs.Tree.{Nodes, Leaf, Container}
 use Rattle.error.specs.declared.Refusal.the-variants.{Missing, UnknownKeyword, Malformed, UnknownSpringPreset}
 use Rattle.error.specs.declared.Refusal.the-variants.{MissingDuration, StaggerGridIncomplete, TooManyNested}
 use Rattle.grammar.specs.Rule.{Rule, give, need, refuse, _>>=_, _>>_, sees, seesTwo, seesWord}
-use Rattle.grammar.specs.Rule.{seesName, seesNumber, seesWhole, ends, the, eat, more, done, goOn}
+use Rattle.grammar.specs.Rule.{seesName, seesWhole, ends, the, eat, more, done, goOn}
 use Rattle.grammar.specs.Fields.{Content, Fields, Table, Item, halts, closes, passes, starts, rowOf, fieldHead, fieldValue, entry}
 use Rattle.grammar.specs.Fields.{pairName, onePair, pairs, itemOf, fieldName, oneField, byItem, fieldsStep, parseFieldList, lastNumber}
 use Rattle.grammar.specs.Values.{ident, string, truth, parseFloat, parseUint, parseFloatInParens, commaFloat, twoFloats}
@@ -32,7 +32,7 @@ use Rattle.grammar.specs.Grammar.{morphFields, parseMorph, drawFields, parseDra
 use Rattle.grammar.specs.Grammar.{waveformFields, parseWaveform, parsePresetCall, parseLabel, atSign, turned, parseAt, leaves}
 use Rattle.grammar.specs.Grammar.{containers, orContainer, beginning, nodeBy, parseNode}
 use Rattle.grammar.specs.Grammar.{oneNode, nodesStep, block, animatoInput, underDamping}
-use Rattle.limits.proofs.ListLaws.{_also_}
+use Rattle.rules.proofs.ListLaws.{_also_}
 use Rattle.unpack.proofs.StepLaws.{Stays, Found, Rows, gives, refuses, then, and, grouped, conds, tests}
 use Rattle.unpack.proofs.StepLaws.{needs, skips, the-mark, two-marks, eats, a-word, a-text, a-choice}
 use Rattle.unpack.proofs.StepLaws.{a-number, a-float, tallies, conds-too, eats-too, refuses-too}

@@ -12,7 +12,7 @@ use Rattle.number.specs.Number.{Written}
 use Rattle.text.specs.Bytes.{bytes, same}
 use Rattle.text.specs.Words.{under, default, find}
 use Rattle.codec.proofs.Laws.{All}
-use Rattle.token.specs.Token.{Kind, name, number, quoted, mark, Token, token, place, kind, isMark, rest}
+use Rattle.token.specs.Token.{name, number, quoted, mark, Token, token, place, kind, isMark, rest}
 use Rattle.token.specs.Names.{nameOf, quoteOf}
 use Rattle.error.specs.declared.Refusal.{Refusal}
 use Rattle.grammar.specs.Rule.{Notes, Out, got, refused, Rule, after, give, need, refuse, if, _>>=_, _>>_, ends, skip}

@@ -10,6 +10,7 @@ use Rattle.parser.specs.Reading.{reading}
 use Rattle.validate.specs.Checking.{checking}
 use Rattle.line.specs.Lining.{lining}
 use Rattle.script.specs.Output.{pageBytes, printing}
+use Rattle.back.specs.Back.{writing}
 use Rattle.error.specs.Refusal.{numberOf}
 use Rattle.error.specs.declared.ReadAnswer.{ReadAnswer}
 use Rattle.error.specs.declared.ReadAnswer.the-variants as read
@@ -28,6 +29,7 @@ use Rattle.feed.specs.Feed.{Fed, readOf, whenRead, judgement, figure, full, fee
 use Rattle.feed.specs.declared.FeedAnswer.{FeedAnswer}
 use Rattle.feed.specs.declared.FeedAnswer.the-variants as feed
 use Rattle.unpack.proofs.Within.{ReadWithin, read-within, CheckWithin, check-within, LineWithin, line-within, print-within}
+use Rattle.unpack.proofs.Within.{ScriptWithin, write-within}
 
 -- ---- reading
 
@@ -82,6 +84,15 @@ pub print-parts : (t scratch sheet page : List ℕ)
     → LineParts (printing t scratch sheet page .0) (packedLine (printing t scratch sheet page .0))
 print-parts t scratch sheet page =
     line-back pageBytes 0 (omega arith) (omega arith) (printing t scratch sheet page .0) (print-within t scratch sheet page)
+
+-- ---- writing
+
+pub write-parts : (t s out : List ℕ) → LineParts (writing t s out .0) (packedLine (writing t s out .0))
+write-parts t s out = by (writing t s out .0) (write-within t s out)
+  where
+    by : (a : LineAnswer) → ScriptWithin a → LineParts a (packedLine a)
+    by (line.Accepted n) h = (line-number n, line-length n (omega arith))
+    by (line.Refused r p) h = (refusal-number r p, refusal-place r p (omega arith))
 
 -- ---- feeding: 0 for an accepted script, else its refusal's number and its place behind the number 0; or a refusal of feeding
 

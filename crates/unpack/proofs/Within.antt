@@ -1,6 +1,6 @@
 -- The places, lengths and counts that the operations answer with are small. Assumes nothing.
-use Prim.Native.Nat.{ℕ, zero, suc, _+_, _≤_}
-use mathlib.Core.Bool.{Bool, true, false, cond}
+use Prim.Native.Nat.{ℕ, zero, suc, _+_, _-_, _≤_}
+use mathlib.Core.Bool.{Bool, true, false, _||_, cond}
 use mathlib.Core.List.{List, [], _∷_, _++_}
 use mathlib.Core.Logic.{_⊎_, inl, inr}
 use mathlib.Core.Option.{Option, none, some}
@@ -15,7 +15,7 @@ use Rattle.token.specs.Token.{Kind, token}
 use Rattle.token.specs.Split.{Split, unlexed, tokens, Step, halt, blank, takes, before, ended, stepped, awaited, step, splitFrom, split}
 use Rattle.token.specs.Split as splitting
 use Rattle.ast.specs.Tree.{Nodes, mapTimes, records}
-use Rattle.sheet.specs.Sheet.{encode}
+use Rattle.sheet.specs.Sheet.{Forest, encode, decode}
 use Rattle.sheet.specs.Records.{allRecords}
 use Rattle.sheet.specs.Opening.{Opened, opened, shut, opening}
 use Rattle.grammar.specs.Rule.{Notes, Out, got, refused}
@@ -33,12 +33,17 @@ use Rattle.script.specs.Output.{printed, paged, pageBytes, lineBytes, printing}
 use Rattle.script.proofs.OutputLaws.{records-same, printed-small}
 use Rattle.error.specs.declared.Refusal.{Refusal}
 use Rattle.error.specs.declared.Refusal.the-variants.{TextTooLong, ScratchTooShort, SheetTooShort, OutputTooShort}
+use Rattle.error.specs.declared.Refusal.the-variants.{Unwritable, ScriptTooLong}
 use Rattle.error.specs.declared.ReadAnswer.{ReadAnswer}
 use Rattle.error.specs.declared.ReadAnswer.the-variants as read
 use Rattle.error.specs.declared.CheckAnswer.{CheckAnswer}
 use Rattle.error.specs.declared.CheckAnswer.the-variants as check
 use Rattle.error.specs.declared.LineAnswer.{LineAnswer}
 use Rattle.error.specs.declared.LineAnswer.the-variants as lines
+use Rattle.digits.specs.Fewest.{form}
+use Rattle.fresh.specs.Meaning.{Sense}
+use Rattle.fresh.specs.Fresh.{script, hasText}
+use Rattle.back.specs.Back.{refusal, fitted, written, senseOf, ofTree, ofVerdict, writing}
 use Rattle.unpack.proofs.StepLaws.{Near, LeftNear, OutNear}
 use Rattle.unpack.proofs.RuleLaws.{input-stays}
 use Rattle.unpack.proofs.SheetLaws.{sheet-some, Below, nodes-below, Within, opening-within}
@@ -223,3 +228,39 @@ print-within t scratch sheet page = go (ltb (length page) pageBytes)
         (paged (reading t scratch sheet) bs page) .0)
     go true = inl refl
     go false = printed-small t scratch sheet (replicate lineBytes 0)
+
+-- ---- writing: a text's length, or checking's place, or 0
+
+abbrev pub ScriptWithin : LineAnswer → Type 0
+ScriptWithin (lines.Accepted n) = n ≤ textLimit
+ScriptWithin (lines.Refused r p) = p ≤ 65535
+
+fitted-within : (out u : List ℕ) → ScriptWithin (fitted out u .0)
+fitted-within out u = go (ltb textLimit (length u)) (ltb (length out) (length u)) refl
+  where
+    go : (a b : Bool) → ltb textLimit (length u) ≡ a
+        → ScriptWithin
+        (cond {A = LineAnswer × List ℕ} (a || b) (refusal ScriptTooLong 0 out)
+        (lines.Accepted (length u), u ++ replicate (length out - length u) 0) .0)
+    go true b e = omega arith
+    go false true e = omega arith
+    go false false e = ltb-false textLimit (length u) e
+
+script-within : (out : List ℕ) (x : Sense) → ScriptWithin (written out x .0)
+script-within out x = go (hasText form x)
+  where
+    go : (b : Bool) → ScriptWithin (cond {A = LineAnswer × List ℕ} b (fitted out (script form x)) (refusal Unwritable 0 out) .0)
+    go true = fitted-within out (script form x)
+    go false = omega arith
+
+pub write-within : (t s out : List ℕ) → ScriptWithin (writing t s out .0)
+unfolding writing
+write-within t s out = by (checking t s) (check-within t s)
+  where
+    of-tree : (o : Option Forest) → ScriptWithin (ofTree t out o .0)
+    of-tree none = omega arith
+    of-tree (some ns) = script-within out (senseOf t ns)
+
+    by : (a : CheckAnswer) → CheckWithin a → ScriptWithin (ofVerdict t s out a .0)
+    by check.Accepted h = of-tree (decode (length t) s)
+    by (check.Refused r p) h = h

@@ -1,14 +1,11 @@
 -- From a sheet's head to the verdict. Assumes nothing.
 use Prim.Native.Nat.{ℕ}
-use mathlib.Core.List.{List, [], append-nil}
-use mathlib.Core.Option.{some}
+use mathlib.Core.List.{List}
 use mathlib.Core.Path.{_≡_, sym, _∙_, ap}
-use native.Mathlib.Omega.{arith}
 use lib.ListN.{length}
 use Rattle.codec.specs.Codec.{big}
-use Rattle.sheet.specs.Sheet.{Forest, sheet, forest, inner, encode, decode}
 use Rattle.sheet.specs.Opening.{opening}
-use Rattle.decode.specs.Reads.{Reads, got, bad, same}
+use Rattle.decode.specs.Reads.{Reads, same}
 use Rattle.opening.specs.Means.{answerOf}
 use Rattle.opening.specs.declared.Opening.the-variants.{Open, Shut}
 use Rattle.error.specs.Answer.{checkValues}
@@ -16,30 +13,14 @@ use Rattle.error.specs.declared.Refusal.{Refusal}
 use Rattle.error.specs.declared.CheckAnswer.{CheckAnswer}
 use Rattle.error.specs.declared.CheckAnswer.the-variants.{Accepted, Refused}
 use Rattle.presets.specs.Colors.{colors}
-use Rattle.sheet.proofs.Laws.{sheet-lawful}
 use Rattle.sheet.proofs.Laws as sheet-laws
 use Rattle.opening.proofs.OpenLaws.{the-tree, the-refusal}
 use Rattle.validate.specs.Rules.{validateNodes}
 use Rattle.validate.specs.Checking.{answerOf as verdictOf, judged, checking}
-use Rattle.validate.specs.Means.{InLimit, Stands}
+use Rattle.places.proofs.StandLaws.{head}
+use Rattle.validate.specs.Means.{InLimit}
 use Rattle.validate.specs.Walks.{NodesWalk}
 use Rattle.validate.specs.declared.nodes.Walk.the-variants as walk
-use Rattle.validate.proofs.FrameLaws.{none≢some}
-
--- the nodes of a sheet stand behind its head
-head : (n : ℕ) (s : List ℕ) (ns : Forest) {c m : ℕ} → decode n s ≡ some ns
-    → Reads (big 2) same s 0 c m → Stands (forest n (inner n 16) c) s m ns
-unfolding encode
-head n s ns e r = go r all
-  where
-    all : sheet n .read s ≡ some (ns, [])
-    all =
-        let d = sheet-laws.decoded n s ns e in
-        ap (λ (l : List ℕ). sheet n .read l) (d .encodes ∙ sym (append-nil (sheet n .write ns))) ∙ sheet-lawful n .back ns (d .fits) []
-
-    go : {c m : ℕ} → Reads (big 2) same s 0 c m → sheet n .read s ≡ some (ns, []) → Stands (forest n (inner n 16) c) s m ns
-    go (got a e q h l) k = record { within = l; rest = []; reads = rw (e, q) at k }
-    go (bad o j) k = none≢some (rw (j (omega arith)) at k)
 
 module _ (t s : List ℕ) where
   pub short : Open ≡ answerOf (opening t s) → InLimit s

@@ -26,7 +26,8 @@ use Rattle.error.specs.declared.Refusal.the-variants.{UnknownEasing, DuplicateT
 use Rattle.codec.proofs.Laws.{inverse, each-lawful}
 use Rattle.sheet.proofs.Laws.{entryL}
 use Rattle.validate.specs.Rules.{given, unknownEasing, first, timeOf, validateFrames, validateKeyframes}
-use Rattle.validate.specs.Means.{InLimit, Tells, Stands, FramesTell, FramesAt, TrackTells}
+use Rattle.places.specs.Stands.{Stands}
+use Rattle.validate.specs.Means.{InLimit, Tells, FramesTell, FramesAt, TrackTells}
 use Rattle.validate.specs.declared.faults.Fault.{Fault}
 use Rattle.validate.specs.declared.faults.Fault.the-variants.{None, Is}
 

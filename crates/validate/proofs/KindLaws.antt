@@ -21,10 +21,11 @@ use Rattle.records.specs.declared.Kind.the-variants as kind
 use Rattle.presets.specs.Colors.{colors}
 use Rattle.error.specs.declared.Refusal.{Refusal}
 use Rattle.decode.proofs.ReadLaws.{_&_}
-use Rattle.records.proofs.RecordLaws.{made, after, counts, width-blank, of-kind, three-or-four, only-at}
+use Rattle.records.proofs.RecordLaws.{made, after, counts, width-blank, of-kind, three-or-four}
 use Rattle.validate.specs.Rules.{validateLeaf, validateContainer}
-use Rattle.validate.specs.Means.{faultOf, Stands, StaggerTells}
-use Rattle.validate.specs.Walks.{recordView, LeafKind, ContainerKind}
+use Rattle.places.specs.Stands.{Stands, ContainerKind}
+use Rattle.validate.specs.Means.{faultOf, StaggerTells}
+use Rattle.validate.specs.Walks.{recordView}
 use Rattle.validate.specs.declared.faults.Fault.{Fault}
 
 -- the same bytes under another view, where what stands there is known too
@@ -39,20 +40,6 @@ pub leaf-is : (t : List ℕ) (p : ℕ) (l : Leaf KeyframeTime) {o : Option Refus
     → o ≡ validateLeaf colors t l
     → Prim.Path (Option Refusal × Kind) (recordView t (single p l)) (o, kind.Leaf)
 leaf-is t p l e = λ i. (sym e i, kind.Leaf)
-
--- what neither is before nor a container is an `at`
-pub last-kind : (k : ℕ) → LeafKind k → (k ≡ 0 → ⊥) → (k ≡ 1 → ⊥) → (k ≡ 2 → ⊥)
-    → (k ≡ 7 → ⊥) → (k ≡ 8 → ⊥) → (k ≡ 9 → ⊥) → (k ≡ 10 → ⊥)
-    → (k ≡ 11 → ⊥) → (k ≡ 12 → ⊥) → (k ≡ 13 → ⊥) → k ≡ 14
-last-kind k h n0 n1 n2 n7 n8 n9 n10 n11 n12 n13 =
-    ⊎-elim (λ l. absurd (low k l n0 n1 n2))
-    (λ l. only-at k (omega arith) (h .1) (no k 5 l (omega arith)) (no k 6 l (omega arith)) n7 n8 n9 n10 n11 n12 n13) (h .0)
-  where
-    low : (k : ℕ) → k < 3 → (k ≡ 0 → ⊥) → (k ≡ 1 → ⊥) → (k ≡ 2 → ⊥) → ⊥
-    low k h n0 n1 n2 = omega arith
-
-    no : (k j : ℕ) → 7 ≤ k → j < 7 → k ≡ j → ⊥
-    no k j h l e = omega arith
 
 -- ---- a container: its own fields and its count of nodes
 

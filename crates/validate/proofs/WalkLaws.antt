@@ -1,30 +1,25 @@
 -- The walk over nodes to the first refusal. Assumes nothing.
-use Prim.Native.Nat.{ℕ, zero, suc, _+_, _-_, _≤_, _<_}
+use Prim.Native.Nat.{ℕ, suc, _+_, _-_, _≤_, _<_}
 use mathlib.Core.List.{List}
 use mathlib.Core.Option.{Option, none, some, Option·some-injective}
 use mathlib.Core.Path.{_≡_, refl, sym, _∙_, ap, subst}
 use native.Mathlib.Nat.{add-zero}
 use native.Mathlib.Numerals.{add-one}
 use native.Mathlib.Omega.{arith}
-use lib.ListN.{length, drop, drop-of-length-le}
+use lib.ListN.{length, drop}
 use Rattle.text.specs.Words.{orElse}
-use Rattle.codec.specs.Codec.{Form, Reader, andThen, step, never, big}
-use Rattle.ast.specs.Tree.{Nodes, Leaf, Container, KeyframeTime, box, single, holding, push, records, width}
-use Rattle.sheet.specs.Sheet.{Node, Forest, nodeForm, forest, toForest, inner}
-use Rattle.decode.specs.Reads.{Reads, got, bad}
-use Rattle.records.specs.Record.{recordForm}
+use Rattle.ast.specs.Tree.{Nodes, Container, box, single, holding, push, records}
+use Rattle.sheet.specs.Sheet.{Node, Forest, forest, inner}
 use Rattle.records.specs.declared.Kind.{Kind}
 use Rattle.records.specs.declared.Kind.the-variants as kind
 use Rattle.presets.specs.Colors.{colors}
 use Rattle.error.specs.declared.Refusal.{Refusal}
-use Rattle.codec.proofs.Laws.{inverse}
-use Rattle.records.proofs.RecordLaws.{behind, node-read}
 use Rattle.validate.specs.Rules.{validateLeaf, validateContainer, validateNodes}
-use Rattle.validate.specs.Means.{Stands}
-use Rattle.validate.specs.Walks.{recordView, Clean, Says, Onward, NodeWalk}
+use Rattle.places.specs.Stands.{Stands}
+use Rattle.places.proofs.StandLaws.{Opened, plain, boxed, front}
+use Rattle.validate.specs.Walks.{recordFault, Clean, Says, Onward, NodeWalk}
 use Rattle.validate.specs.declared.nodes.Walk.{Walk}
 use Rattle.validate.specs.declared.nodes.Walk.the-variants.{Refused, Passed}
-use Rattle.validate.proofs.FrameLaws.{none≢some}
 
 or-none : {A : Type 0} (o : Option A) → orElse o none ≡ o
 or-none none = refl
@@ -34,59 +29,6 @@ or-assoc : {A : Type 0} (x y z : Option A) → orElse (orElse x y) z ≡ orElse 
 or-assoc none y z = refl
 or-assoc (some a) y z = refl
 
--- ---- a node is its record, then the nodes in it
-
-abbrev insides : ℕ → ℕ → ℕ → Reader Forest
-insides n zero c bs = none
-insides n (suc d) c bs = forest n (inner n d) c .read bs
-
-no-nodes : {A : Type 0} (o : Option (ℕ × List ℕ)) → Prim.Path (Option (A × List ℕ)) none (andThen o (λ c bs. none))
-no-nodes none = refl
-no-nodes (some z) = refl
-
-read-node : (n d : ℕ) (bs : List ℕ) → nodeForm n (inner n d) .read bs ≡ andThen (recordForm n .read bs) (behind (insides n d))
-read-node n zero bs = node-read never (insides n 0) (λ bs. no-nodes (big 2 .read bs)) n bs
-read-node n (suc d) bs = node-read (inner n (suc d)) (insides n (suc d)) (λ bs. refl) n bs
-
--- what stands where a record with the fault o was read: a leaf, or a container whose nodes stand behind
-pub data Opened (t s : List ℕ) (m : ℕ) (o : Option Refusal) (k : Kind) (x : Node) (rest : List ℕ) : Type 0 where
-  plain : (p : ℕ) (l : Leaf KeyframeTime) → x ≡ single p l → k ≡ kind.Leaf
-      → validateLeaf colors t l ≡ o → rest ≡ drop m s → m ≤ length s
-      → Opened t s m o k x rest
-  boxed : (p : ℕ) (b : Container) (ns : Forest) (c d : ℕ) → x ≡ holding p b ns → k ≡ kind.Container c → validateContainer b ≡ o
-      → (g : Stands (forest (length t) (inner (length t) d) c) s m ns) → g .rest ≡ rest → Opened t s m o k x rest
-
-module _ (t s : List ℕ) {at m : ℕ} {o : Option Refusal} {k : Kind} where
-  pub opens : Reads {X = Option Refusal × Kind} (recordForm (length t)) (recordView t) s at (o, k) m
-      → (d : ℕ) (x : Node) (h : Stands (nodeForm (length t) (inner (length t) d)) s at x) → Opened t s m o k x (h .rest)
-  opens (bad p j) d x h = none≢some (sym (read-node (length t) d (drop at s) ∙ rw (j (h .within))) ∙ h .reads)
-  opens (got y e q a l) d x h = go y q d (sym (read-node (length t) d (drop at s) ∙ rw e) ∙ h .reads)
-    where
-      go : (y : Node)
-          → Prim.Path (Option Refusal × Kind) (recordView t y) (o, k)
-          → (d : ℕ)
-          → behind (insides (length t) d) y (drop m s) ≡ some (x, h .rest)
-          → Opened t s m o k x (h .rest)
-      go (single j y) q d e =
-          let p = Option·some-injective (single j y, drop m s) (x, h .rest) e in
-          plain j y (sym (ap (λ (z : Node × List ℕ). z .0) p)) (sym (λ i. q i .1)) (λ i. q i .0) (sym (ap (λ (z : Node × List ℕ). z .1) p))
-          l
-      go (holding j b ns) q zero e = none≢some e
-      go (holding j b ns) q (suc d) e =
-          let (z, e₁, e₂) = inverse (forest (length t) (inner (length t) d) (width ns) .read (drop m s)) (λ ms r. some (holding j b ms, r))
-          (x, h .rest) e
-          in
-          let p = Option·some-injective (holding j b (z .0), z .1) (x, h .rest) e₂ in
-          boxed j b (z .0) (width ns) d (sym (ap (λ (z : Node × List ℕ). z .0) p)) (sym (λ i. q i .1)) (λ i. q i .0)
-          (record { within = l; rest = z .1; reads = e₁ }) (ap (λ (z : Node × List ℕ). z .1) p)
-
--- none stands at the end
-pub no-node : (t s : List ℕ) {at : ℕ} {B : Type 0} → length s ≤ at
-    → (d : ℕ) (x : Node)
-    → Stands (nodeForm (length t) (inner (length t) d)) s at x
-    → B
-no-node t s {at} e d x h = none≢some (rw (drop-of-length-le s {i = at} e) at (h .reads))
-
 -- a walk from a later place
 pub onward : (s : List ℕ) (at m : ℕ) (w : Walk) → length s - m ≤ length s - at → Onward s m w → Onward s at w
 onward s at m (Refused r p) l h = tt
@@ -95,15 +37,17 @@ onward s at m (Passed next after) l h = (omega arith, h .1)
 -- ---- what a node's record decides
 
 module _ (t s : List ℕ) (i : ℕ) {m : ℕ} {x : Node} {rest : List ℕ} where
-  pub refused : {r : Refusal} {k : Kind} → Opened t s m (some r) k x rest → validateNodes colors t i (push x Nodes.none) ≡ some (r, i)
+  pub refused : {r : Refusal} {k : Kind}
+      → Opened (recordFault t) (length t) s m (some r) k x rest
+      → validateNodes colors t i (push x Nodes.none) ≡ some (r, i)
   unfolding validateNodes
   refused (plain j l p q e b w) = rw (p, e)
-  refused (boxed j b ns c d p q e g u) = rw (p, e)
+  refused (boxed j b ms ns c d p q e g u) = rw (p, e)
 
-  pub clean-leaf : Opened t s m none kind.Leaf x rest → Clean t s i (push x Nodes.none) rest m (i + 1)
+  pub clean-leaf : Opened (recordFault t) (length t) s m none kind.Leaf x rest → Clean t s i (push x Nodes.none) rest m (i + 1)
   unfolding validateNodes
   clean-leaf (plain j l p q e b w) = record { accepted = rw (p, e); behind = b; within = w; counted = rw p }
-  clean-leaf (boxed j b ns c d p q e g u) = let z : _≡_ {A = ℕ} 0 1 = cc in absurd (omega arith)
+  clean-leaf (boxed j b ms ns c d p q e g u) = let z : _≡_ {A = ℕ} 0 1 = cc in absurd (omega arith)
 
 module _ (t s : List ℕ) (i : ℕ) (rest : List ℕ) where
   inside-says : (j : ℕ) (b : Container) (ns : Forest) (w : Walk) → validateContainer b ≡ none
@@ -120,11 +64,11 @@ module _ (t s : List ℕ) (i : ℕ) (rest : List ℕ) where
       more : (r : ℕ) → i + 1 + r ≡ i + suc (r + 0)
       more r = omega arith
 
-  pub clean-box : {m c : ℕ} {x : Node} (w : Walk) → Opened t s m none (kind.Container c) x rest
+  pub clean-box : {m c : ℕ} {x : Node} (w : Walk) → Opened (recordFault t) (length t) s m none (kind.Container c) x rest
       → ((d : ℕ) (ns : Forest) (g : Stands (forest (length t) (inner (length t) d) c) s m ns) → Says t s (i + 1) ns (g .rest) w)
       → Says t s i (push x Nodes.none) rest w
   clean-box w (plain j l p q e b h) f = let z : _≡_ {A = ℕ} 0 1 = cc in absurd (omega arith)
-  clean-box {m} {c} w (boxed j b ns k d p q e g u) f =
+  clean-box {m} {c} w (boxed j b ms ns k d p q e g u) f =
       let z : c ≡ k = cc in
       let f′ = subst
       (λ (c : ℕ). (d : ℕ) (ns : Forest) (g : Stands (forest (length t) (inner (length t) d) c) s m ns) → Says t s (i + 1) ns (g .rest) w) z
@@ -144,37 +88,6 @@ split t i (single p l) ns = (rw (or-none, add-one), omega arith)
 split t i (holding p b inside) ns =
     let e : i + suc (records inside + 0) ≡ suc i + records inside = omega arith in
     (rw (e, or-none, or-assoc), omega arith)
-
--- the first of some nodes, and those behind it
-record Front (n : ℕ) (blk : Form Forest) (j : ℕ) (s : List ℕ) (a : ℕ) (ns : Forest) (rest : List ℕ) : Type 0 where
-  node : Node
-  others : Forest
-  these : push node others ≡ ns
-  stands : Stands (nodeForm n blk) s a node
-  reads : forest n blk j .read (stands .rest) ≡ some (others, rest)
-
-front : (n : ℕ) (blk : Form Forest) (j : ℕ) (s : List ℕ) (a : ℕ) (ns : Forest) (g : Stands (forest n blk (suc j)) s a ns)
-    → Front n blk j s a ns (g .rest)
-front n blk j s a ns g =
-    let (p, e, q) = inverse (andThen (nodeForm n blk .read (drop a s)) (λ x. step (forest n blk j .read) (λ xs r. some ((x, xs), r))))
-    (λ p r. some (toForest p, r)) (ns, g .rest) (g .reads)
-    in
-    let (x, e₁, q₁) = inverse (nodeForm n blk .read (drop a s)) (λ x. step (forest n blk j .read) (λ xs r. some ((x, xs), r))) p e in
-    let (y, e₂, q₂) = inverse (forest n blk j .read (x .1)) (λ xs r. some ((x .0, xs), r)) p q₁ in
-    made x y p e₁ e₂ (Option·some-injective ((x .0, y .0), y .1) p q₂) (Option·some-injective (toForest (p .0), p .1) (ns, g .rest) q)
-  where
-    made : (x : Node × List ℕ) (y : Forest × List ℕ) (p : (Node × Forest) × List ℕ)
-        → nodeForm n blk .read (drop a s) ≡ some x → forest n blk j .read (x .1) ≡ some y
-        → Prim.Path ((Node × Forest) × List ℕ) ((x .0, y .0), y .1) p
-        → Prim.Path (Forest × List ℕ) (toForest (p .0), p .1) (ns, g .rest)
-        → Front n blk j s a ns (g .rest)
-    made x y p e₁ e₂ v u = record {
-      node = x .0;
-      others = y .0;
-      these = (λ i. toForest (v i .0)) ∙ (λ i. u i .0);
-      stands = record { within = g .within; rest = x .1; reads = e₁ };
-      reads = e₂ ∙ ap (λ (r : List ℕ). some (y .0, r)) ((λ i. v i .1) ∙ (λ i. u i .1));
-    }
 
 -- a walk over nodes, of which the first has the ordinal i₀
 module _ (t s : List ℕ) (i₀ : ℕ) where

@@ -3,14 +3,15 @@ use Prim.Native.Nat.{ℕ, _≤_}
 use mathlib.Core.List.{List, []}
 use mathlib.Core.Option.{Option, none, some}
 use mathlib.Core.Path.{_≡_}
-use lib.ListN.{length, drop}
-use Rattle.codec.specs.Codec.{Form, each}
+use lib.ListN.{length}
+use Rattle.codec.specs.Codec.{each}
 use Rattle.ast.specs.Tree.{KeyframeEntry, KeyframeSpec, KeyframeTime, StaggerPatternSpec, stagger}
 use Rattle.ast.specs.View.{keyframesView, staggerView}
 use Rattle.ast.specs.declared.KeyframeSpec as tracks
 use Rattle.ast.specs.declared.StaggerSpec as staggers
 use Rattle.sheet.specs.Sheet.{entryForm, keyframesForm}
 use Rattle.error.specs.declared.Refusal.{Refusal}
+use Rattle.places.specs.Stands.{Stands}
 use Rattle.validate.specs.Rules.{validateFrames, validateKeyframes, validateContainer}
 use Rattle.validate.specs.declared.faults.Fault.{Fault}
 use Rattle.validate.specs.declared.faults.Fault.the-variants.{None, Is}
@@ -26,12 +27,6 @@ InLimit s = length s ≤ 65535
 -- r is what f gives, of whatever `view` shows as v
 abbrev pub Tells : {A X B : Type 0} → (A → X) → (A → B) → X → B → Type 0
 Tells {A} view f v r = (a : A) → view a ≡ v → r ≡ f a
-
--- a stands at a place of some bytes, in the form c
-pub record Stands {A : Type 0} (c : Form A) (s : List ℕ) (at : ℕ) (a : A) : Type 0 where
-  pub within : at ≤ length s
-  pub rest : List ℕ
-  pub reads : c .read (drop at s) ≡ some (a, rest)
 
 -- ---- containers and tracks
 

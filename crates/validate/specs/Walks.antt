@@ -1,8 +1,7 @@
 -- What the answers of the walk over nodes mean. Contracts cite these. Assumes nothing.
-use Prim.Native.Nat.{ℕ, _+_, _-_, _≤_, _<_}
+use Prim.Native.Nat.{ℕ, _+_, _-_, _≤_}
 use mathlib.Core.List.{List}
 use mathlib.Core.Option.{Option, none, some}
-use mathlib.Core.Logic.{_⊎_}
 use mathlib.Core.Path.{_≡_}
 use lib.ListN.{length, drop}
 use Rattle.codec.specs.Codec.{Form}
@@ -14,7 +13,8 @@ use Rattle.records.specs.declared.Kind.{Kind}
 use Rattle.presets.specs.Colors.{colors}
 use Rattle.error.specs.declared.Refusal.{Refusal}
 use Rattle.validate.specs.Rules.{validateLeaf, validateContainer, validateNodes}
-use Rattle.validate.specs.Means.{faultOf, Stands}
+use Rattle.places.specs.Stands.{Stands}
+use Rattle.validate.specs.Means.{faultOf}
 use Rattle.validate.specs.declared.faults.Fault.{Fault}
 use Rattle.validate.specs.declared.kinds.RecordCheck.{RecordCheck}
 use Rattle.validate.specs.declared.nodes.Walk.{Walk}
@@ -41,13 +41,6 @@ abbrev pub FieldsTell : List ℕ → List ℕ → ℕ → ℕ → RecordCheck �
 FieldsTell t s kind at r =
     (from start : ℕ) → KindAndStart (length t) s from kind start at
     → Reads (recordForm (length t)) (recordView t) s from (checkView r) (r .next)
-
--- 01: "Containers are sequence, parallel, group and stagger"
-abbrev pub ContainerKind : ℕ → Type 0
-ContainerKind k = (3 ≤ k) × (k < 7)
-
-abbrev pub LeafKind : ℕ → Type 0
-LeafKind k = ((k < 3) ⊎ (7 ≤ k)) × (k < 15)
 
 -- ---- nodes
 

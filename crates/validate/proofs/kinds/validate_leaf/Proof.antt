@@ -6,6 +6,7 @@ use Rattle.ast.specs.Tree as tree
 use Rattle.decode.proofs.ReadLaws.{_&_}
 use Rattle.records.proofs.RecordLaws.{of-kind}
 use Rattle.validate.specs.Rules.{validateLeaf}
+use Rattle.places.proofs.StandLaws.{last-kind}
 use Rattle.validate.proofs.KindLaws as kind-laws
 use Rattle.validate.proofs.kinds.validate_leaf.Statement.{statement}
 use Rattle.validate.proofs.kinds.validate_leaf.Tie as tie
@@ -221,7 +222,7 @@ returns-11 c =
     let m = at-match .match .rest in
     rw (c .leaf11 .ensures)
     (of-kind 14 b
-    (kind-laws.last-kind _ (start-2 .pre .0) (m .0 .0 .0 .0 .0 .0 .0 .0 .0 .1) (m .0 .0 .0 .0 .0 .0 .0 .0 .1) (m .0 .0 .0 .0 .0 .0 .0 .1)
+    (last-kind _ (start-2 .pre .0) (m .0 .0 .0 .0 .0 .0 .0 .0 .0 .1) (m .0 .0 .0 .0 .0 .0 .0 .0 .1) (m .0 .0 .0 .0 .0 .0 .0 .1)
     (m .0 .0 .0 .0 .0 .0 .1) (m .0 .0 .0 .0 .0 .1) (m .0 .0 .0 .0 .1) (m .0 .0 .0 .1) (m .0 .0 .1) (m .0 .1) (m .1))
     (b .startAt & c .before .take-at .ensures) (λ x e. kind-laws.leaf-is (start-2 .args .text .now) (x .0) (tree.at (x .1)) refl))
 

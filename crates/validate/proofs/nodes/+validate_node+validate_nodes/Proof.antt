@@ -8,6 +8,7 @@ use borrow.Fn.Kinds.{In}
 use borrow.Fn.PlainCycle.{Measures, is, falls, and}
 use Rattle.records.proofs.RecordLaws.{moves}
 use Rattle.records.proofs.WalkLaws.{nearer}
+use Rattle.places.proofs.StandLaws.{opens, no-node}
 use Rattle.validate.proofs.WalkLaws as walks
 use Rattle.validate.proofs.nodes.validate_node.Reads as validate-node
 use Rattle.validate.proofs.nodes.validate_node.Kinds as validate-node-kinds
@@ -63,7 +64,7 @@ nodes-calls t = (validate-node-below t, validate-node.Post)
 validate-node-returns : (t : ℕ) → validate-node-lts.Need-returns (node-calls t) (validate-node-at t) validate-node.Post
 validate-node-returns t c =
     let start = c .before .before .before in
-    record { on = (omega arith, start .pre .1 .0); is = λ d x h. walks.no-node (start .args .text .now) _ (c .if1 .taken) d x h }
+    record { on = (omega arith, start .pre .1 .0); is = λ d x h. no-node (start .args .text .now) _ (c .if1 .taken) d x h }
 
 validate-node-validate-record-requires : (t : ℕ)
     → validate-node-lts.Need-validate-record-requires (node-calls t) (validate-node-at t) validate-node.Post
@@ -78,7 +79,7 @@ validate-node-returns-2 t c =
     record {
       on = tt;
       is = λ d x h. walks.refused _ _ _
-          (walks.opens _ _ (rw (c .before .fault .given .1) at (at-validate-record .validate-record .ensures)) d x h);
+          (opens _ _ _ (rw (c .before .fault .given .1) at (at-validate-record .validate-record .ensures)) d x h);
     }
 
 validate-node-enum-told : (t : ℕ) → validate-node-lts.Need-enum-told (node-calls t) (validate-node-at t) validate-node.Post
@@ -125,7 +126,7 @@ validate-node-returns-3 t c =
     record {
       on = (nearer (at-validate-record .validate-record .ensures), omega (arith, m, start .pre .1 .0));
       is = λ d x h. walks.clean-leaf _ _ _
-          (walks.opens _ _
+          (opens _ _ _
           (rw (at-enum-told .enum-told .given .1, c .enum-told2 .given .1) at (at-validate-record .validate-record .ensures)) d x h);
     }
 
@@ -137,7 +138,7 @@ validate-node-returns-4 t c =
     record {
       on = walks.onward _ _ _ (c .validate-nodes .result) (nearer (validate-record .ensures)) (c .validate-nodes .ensures .on);
       is = λ d x h. walks.clean-box _ _ _ (h .rest) (c .validate-nodes .result)
-          (walks.opens _ _ (rw (at-enum-told .enum-told .given .1, at-kind .kind .given .1) at (validate-record .ensures)) d x h)
+          (opens _ _ _ (rw (at-enum-told .enum-told .given .1, at-kind .kind .given .1) at (validate-record .ensures)) d x h)
           (c .validate-nodes .ensures .is);
     }
 

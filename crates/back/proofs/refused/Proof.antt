@@ -1,0 +1,17 @@
+-- `back::refused` meets its contract: the buffer is zeroed. Assumes nothing.
+use native.Mathlib.Nat.{sub-zero}
+use borrow.Author.Needs.{needs}
+use Rattle.back.proofs.refused.Statement.{statement}
+use Rattle.back.proofs.refused.Tie as tie
+
+clear-requires : tie.Need-clear-requires
+clear-requires c κs = search needs
+
+same-length : tie.Need-same-length
+same-length c = search needs
+
+returns : tie.Need-returns
+returns c = rw (c .before .before .clear .ensures, sub-zero)
+
+pub refused-spec : {M : Type 1} → statement M
+refused-spec = tie.close (tie.spec clear-requires same-length returns)

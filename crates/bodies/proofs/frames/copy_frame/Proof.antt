@@ -1,0 +1,52 @@
+-- `bodies::frames::copy_frame` meets its contract. Assumes nothing.
+use mathlib.Core.Path.{refl}
+use Rattle.text.specs.Bytes.{oneOf}
+use Rattle.sheet.specs.Sheet.{toEntry, ofEntry}
+use Rattle.fresh.specs.Fresh.{mark, frame}
+use Rattle.copying.proofs.CopyLaws.{renamed, behind, _then_, made}
+use Rattle.bodies.specs.Body.{frameOf}
+use borrow.Author.Needs.{needs}
+use Rattle.bodies.proofs.frames.copy_frame.Statement.{statement}
+use Rattle.bodies.proofs.frames.copy_frame.Tie as tie
+
+copy-time-requires : tie.Need-copy-time-requires
+copy-time-requires c κs = search needs
+
+put-mark-requires : tie.Need-put-mark-requires
+unfolding oneOf
+put-mark-requires c κs = refl
+
+copy-value-requires : tie.Need-copy-value-requires
+copy-value-requires c κs = search needs
+
+copy-frame-easing-requires : tie.Need-copy-frame-easing-requires
+copy-frame-easing-requires c κs = search needs
+
+same-length : tie.Need-same-length
+same-length c = search needs
+
+returns : tie.Need-returns
+unfolding frame
+returns c =
+    let at-copy-frame-easing = c .before .before in
+    let at-copy-value = at-copy-frame-easing .before .before .before .before in
+    let at-put-mark = at-copy-value .before .before .before .before in
+    let at-copy-time = at-put-mark .before .before .before .before in
+    let c18 = at-copy-time .before .before .before .before in
+    let start = c18 .before in
+    made toEntry ofEntry (λ x. frame (frameOf (start .args .text .now) x))
+    (renamed (behind (mark ":") (at-copy-time .copy-time .ensures) (at-put-mark .put-mark .ensures)
+    then at-copy-value .copy-value .ensures
+    then at-copy-frame-easing .copy-frame-easing .ensures)
+    (λ x ps. refl))
+
+pub copy-frame-spec : {M : Type 1} → statement M
+copy-frame-spec =
+    tie.close
+    (tie.spec
+    copy-time-requires
+    put-mark-requires
+    copy-value-requires
+    copy-frame-easing-requires
+    same-length
+    returns)

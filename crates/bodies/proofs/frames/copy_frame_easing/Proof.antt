@@ -1,0 +1,40 @@
+-- `bodies::frames::copy_frame_easing` meets its contract. Assumes nothing.
+use mathlib.Core.Path.{refl}
+use Rattle.sheet.specs.Sheet.{easingForm}
+use Rattle.fresh.specs.Meaning.{optionSense}
+use Rattle.fresh.specs.Fresh.{frameEasing}
+use Rattle.copying.proofs.CopyLaws.{renamed, is-absent, is-present}
+use borrow.Author.Needs.{needs}
+use Rattle.bodies.proofs.frames.copy_frame_easing.Statement.{statement}
+use Rattle.bodies.proofs.frames.copy_frame_easing.Tie as tie
+
+take-byte-requires : tie.Need-take-byte-requires
+take-byte-requires c κs = search needs
+
+returns : tie.Need-returns
+unfolding frameEasing
+returns c =
+    let at-take-byte = c .before .before in
+    let start = at-take-byte .before .before .before .before in
+    is-absent (easingForm _) (λ o. frameEasing (optionSense (start .args .text .now) o)) (at-take-byte .take-byte .ensures) (c .if1 .taken)
+    (λ ps. refl)
+
+copy-easing-requires : tie.Need-copy-easing-requires
+copy-easing-requires c κs = search needs
+
+same-length : tie.Need-same-length
+same-length c = search needs
+
+returns-2 : tie.Need-returns-2
+unfolding frameEasing
+returns-2 c =
+    let at-copy-easing = c .before .before in
+    let at-if1 = at-copy-easing .before .before in
+    let at-take-byte = at-if1 .before .before in
+    let start = at-take-byte .before .before .before .before in
+    is-present (easingForm _) (λ o. frameEasing (optionSense (start .args .text .now) o)) (at-take-byte .take-byte .ensures)
+    (at-if1 .if1 .left) (renamed (at-copy-easing .copy-easing .ensures) (λ x ps. refl))
+
+pub copy-frame-easing-spec : {M : Type 1} → statement M
+copy-frame-easing-spec =
+    tie.close (tie.spec take-byte-requires returns copy-easing-requires same-length returns-2)

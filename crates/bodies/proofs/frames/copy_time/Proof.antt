@@ -1,0 +1,59 @@
+-- `bodies::frames::copy_time` meets its contract. Assumes nothing.
+use mathlib.Core.Path.{refl}
+use native.Mathlib.Omega.{arith}
+use Rattle.ast.specs.Tree as Tree
+use Rattle.sheet.specs.Sheet.{timeCases, splitTime}
+use Rattle.fresh.specs.Fresh.{time}
+use Rattle.copying.proofs.CopyLaws.{read-put, renamed, in-case}
+use borrow.Author.Needs.{needs}
+use Rattle.bodies.proofs.frames.copy_time.Statement.{statement}
+use Rattle.bodies.proofs.frames.copy_time.Tie as tie
+
+take-byte-requires : tie.Need-take-byte-requires
+take-byte-requires c κs = search needs
+
+take-field-requires : tie.Need-take-field-requires
+take-field-requires c κs = search needs
+
+put-percentage-requires : tie.Need-put-percentage-requires
+put-percentage-requires c κs = search needs
+
+same-length : tie.Need-same-length
+same-length c = search needs
+
+returns : tie.Need-returns
+returns c =
+    let at-put-percentage = c .before .before in
+    let at-take-field = at-put-percentage .before .before in
+    let at-if1 = at-take-field .before in
+    let at-take-byte = at-if1 .before .before in
+    in-case timeCases splitTime time 0 (at-take-byte .take-byte .ensures .reads) (at-if1 .if1 .taken)
+    (read-put (λ b. time (Tree.percent b)) (at-take-field .take-field .ensures .reads) (at-put-percentage .put-percentage .ensures))
+
+copy-f32-requires : tie.Need-copy-f32-requires
+copy-f32-requires c κs = search needs
+
+same-length-2 : tie.Need-same-length-2
+same-length-2 c = search needs
+
+returns-2 : tie.Need-returns-2
+unfolding time
+returns-2 c =
+    let at-copy-f32 = c .before .before in
+    let at-if1 = at-copy-f32 .before .before in
+    let take-byte = at-if1 .before .before .take-byte in
+    in-case timeCases splitTime time 1 (take-byte .ensures .reads) (omega (arith, take-byte .ensures .small, at-if1 .if1 .left))
+    (renamed (at-copy-f32 .copy-f32 .ensures) (λ x ps. refl))
+
+pub copy-time-spec : {M : Type 1} → statement M
+copy-time-spec =
+    tie.close
+    (tie.spec
+    take-byte-requires
+    take-field-requires
+    put-percentage-requires
+    same-length
+    returns
+    copy-f32-requires
+    same-length-2
+    returns-2)

@@ -1,0 +1,63 @@
+-- `bodies::frames::copy_track_loop` meets its contract. Assumes nothing.
+use mathlib.Core.Path.{refl}
+use Rattle.digits.specs.Numeral.{all}
+use Rattle.sheet.specs.Sheet.{loopForm}
+use Rattle.pieces.specs.Pieces.{wordLike}
+use Rattle.fresh.specs.Fresh.{trackLoop}
+use Rattle.copying.proofs.CopyLaws.{_and_, renamed, is-absent, is-present, put-before}
+use Rattle.bodies.specs.Body.{loopBy}
+use borrow.Author.Needs.{needs}
+use Rattle.bodies.proofs.frames.copy_track_loop.Statement.{statement}
+use Rattle.bodies.proofs.frames.copy_track_loop.Tie as tie
+
+take-byte-requires : tie.Need-take-byte-requires
+take-byte-requires c κs = search needs
+
+returns : tie.Need-returns
+returns c =
+    let at-take-byte = c .before .before in
+    let start = at-take-byte .before .before .before in
+    is-absent loopForm (loopBy (start .args .first)) (at-take-byte .take-byte .ensures) (c .if1 .taken) (λ ps. refl)
+
+put-comma-requires : tie.Need-put-comma-requires
+put-comma-requires c κs = search needs
+
+slice-aggregate-put-field : tie.Need-slice-aggregate-put-field
+slice-aggregate-put-field c = search needs
+
+put-field-requires : tie.Need-put-field-requires
+unfolding wordLike all
+put-field-requires c κs = refl
+
+copy-loop-requires : tie.Need-copy-loop-requires
+copy-loop-requires c κs = search needs
+
+same-length : tie.Need-same-length
+same-length c = search needs
+
+returns-2 : tie.Need-returns-2
+unfolding trackLoop
+returns-2 c =
+    let at-copy-loop = c .before .before in
+    let at-put-field = at-copy-loop .before .before .before .before in
+    let c10 = at-put-field .before .before .before .before in
+    let at-put-comma = c10 .before in
+    let at-if1 = at-put-comma .before .before in
+    let at-take-byte = at-if1 .before .before in
+    let start = at-take-byte .before .before .before in
+    is-present loopForm (loopBy (start .args .first)) (at-take-byte .take-byte .ensures) (at-if1 .if1 .left)
+    (renamed (put-before (at-put-comma .put-comma .ensures and at-put-field .put-field .ensures) (at-copy-loop .copy-loop .ensures))
+    (λ x ps. refl))
+
+pub copy-track-loop-spec : {M : Type 1} → statement M
+copy-track-loop-spec =
+    tie.close
+    (tie.spec
+    take-byte-requires
+    returns
+    put-comma-requires
+    slice-aggregate-put-field
+    put-field-requires
+    copy-loop-requires
+    same-length
+    returns-2)

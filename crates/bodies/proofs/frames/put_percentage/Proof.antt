@@ -1,0 +1,70 @@
+-- `bodies::frames::put_percentage` meets its contract. Assumes nothing.
+use mathlib.Core.Path.{refl}
+use Rattle.text.specs.Bytes.{oneOf}
+use Rattle.digits.specs.Numeral.{percentage}
+use Rattle.pieces.specs.Pieces.{aNumeral}
+use Rattle.fresh.specs.Fresh.{mark}
+use Rattle.copying.proofs.CopyLaws.{one-piece, _and_, called}
+use Rattle.bodies.proofs.ThenLaws.{percent-plain, percent-negated}
+use borrow.Author.Needs.{needs}
+use Rattle.bodies.proofs.frames.put_percentage.Statement.{statement}
+use Rattle.bodies.proofs.frames.put_percentage.Tie as tie
+
+put-percent-requires : tie.Need-put-percent-requires
+put-percent-requires c κs = search needs
+
+put-mark-requires : tie.Need-put-mark-requires
+unfolding oneOf
+put-mark-requires c κs = refl
+
+same-length : tie.Need-same-length
+same-length c = search needs
+
+returns : tie.Need-returns
+returns c =
+    let at-put-mark = c .before .before in
+    let at-put-percent = at-put-mark .before .before .before .before in
+    let at-if1 = at-put-percent .before .before in
+    let start = at-if1 .before .before in
+    called (one-piece (aNumeral percentage (start .args .bits)) (at-put-percent .put-percent .ensures)
+    and one-piece (mark "%") (at-put-mark .put-mark .ensures))
+    (percent-plain _ (at-if1 .if1 .taken))
+
+put-mark-requires-2 : tie.Need-put-mark-requires-2
+unfolding oneOf
+put-mark-requires-2 c κs = refl
+
+put-percent-requires-2 : tie.Need-put-percent-requires-2
+put-percent-requires-2 c κs = search needs
+
+put-mark-requires-3 : tie.Need-put-mark-requires-3
+unfolding oneOf
+put-mark-requires-3 c κs = refl
+
+same-length-2 : tie.Need-same-length-2
+same-length-2 c = search needs
+
+returns-2 : tie.Need-returns-2
+returns-2 c =
+    let at-put-mark3 = c .before .before in
+    let at-put-percent2 = at-put-mark3 .before .before .before .before in
+    let at-put-mark2 = at-put-percent2 .before .before .before .before in
+    let at-if1 = at-put-mark2 .before .before in
+    called (one-piece (mark "-") (at-put-mark2 .put-mark2 .ensures)
+    and one-piece (aNumeral percentage _) (at-put-percent2 .put-percent2 .ensures)
+    and one-piece (mark "%") (at-put-mark3 .put-mark3 .ensures))
+    (percent-negated _ (at-if1 .if1 .left))
+
+pub put-percentage-spec : {M : Type 1} → statement M
+put-percentage-spec =
+    tie.close
+    (tie.spec
+    put-percent-requires
+    put-mark-requires
+    same-length
+    returns
+    put-mark-requires-2
+    put-percent-requires-2
+    put-mark-requires-3
+    same-length-2
+    returns-2)

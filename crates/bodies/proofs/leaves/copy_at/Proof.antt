@@ -1,0 +1,50 @@
+-- `bodies::leaves::copy_at` meets its contract. Assumes nothing.
+use mathlib.Core.Path.{refl}
+use Rattle.text.specs.Bytes.{oneOf}
+use Rattle.ast.specs.Tree as Tree
+use Rattle.sheet.specs.Sheet.{toAt, ofAt}
+use Rattle.fresh.specs.Fresh.{mark, leafBody}
+use Rattle.copying.proofs.CopyLaws.{one-piece, _and_, called, made}
+use Rattle.curves.proofs.PairLaws.{two-read}
+use Rattle.bodies.specs.Body.{body}
+use borrow.Author.Needs.{needs}
+use Rattle.bodies.proofs.leaves.copy_at.Statement.{statement}
+use Rattle.bodies.proofs.leaves.copy_at.Tie as tie
+
+take-field-requires : tie.Need-take-field-requires
+take-field-requires c κs = search needs
+
+take-flag-requires : tie.Need-take-flag-requires
+take-flag-requires c κs = search needs
+
+put-at-requires : tie.Need-put-at-requires
+put-at-requires c κs = search needs
+
+put-mark-requires : tie.Need-put-mark-requires
+unfolding oneOf
+put-mark-requires c κs = refl
+
+same-length : tie.Need-same-length
+same-length c = search needs
+
+returns : tie.Need-returns
+unfolding leafBody
+returns c =
+    let at-put-mark = c .before .before in
+    let at-put-at = at-put-mark .before .before .before .before in
+    let at-take-flag = at-put-at .before .before in
+    let at-take-field = at-take-flag .before in
+    λ t. made toAt ofAt (λ d. body t (Tree.at d))
+    (two-read (λ x. body t (Tree.at (toAt x))) (at-take-field .take-field .ensures .reads) (at-take-flag .take-flag .ensures)
+    (called (at-put-at .put-at .ensures and one-piece (mark ";") (at-put-mark .put-mark .ensures)) (λ ps. refl)))
+
+pub copy-at-spec : {M : Type 1} → statement M
+copy-at-spec =
+    tie.close
+    (tie.spec
+    take-field-requires
+    take-flag-requires
+    put-at-requires
+    put-mark-requires
+    same-length
+    returns)

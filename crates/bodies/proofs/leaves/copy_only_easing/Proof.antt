@@ -1,0 +1,74 @@
+-- `bodies::leaves::copy_only_easing` meets its contract. Assumes nothing.
+use mathlib.Core.Option.{none}
+use mathlib.Core.Path.{refl}
+use Rattle.text.specs.Bytes.{oneOf}
+use Rattle.digits.specs.Numeral.{all}
+use Rattle.sheet.specs.Sheet.{easingForm}
+use Rattle.pieces.specs.Pieces.{wordLike}
+use Rattle.fresh.specs.Meaning.{optionSense}
+use Rattle.fresh.specs.Fresh.{mark, field, commaIf}
+use Rattle.copying.proofs.CopyLaws.{one-piece, _and_, renamed, is-absent, is-present, put-before}
+use Rattle.bodies.specs.Body.{presetFields}
+use borrow.Author.Needs.{needs}
+use Rattle.bodies.proofs.leaves.copy_only_easing.Statement.{statement}
+use Rattle.bodies.proofs.leaves.copy_only_easing.Tie as tie
+
+take-byte-requires : tie.Need-take-byte-requires
+take-byte-requires c κs = search needs
+
+returns : tie.Need-returns
+unfolding commaIf field
+returns c =
+    let at-take-byte = c .before .before in
+    let start = at-take-byte .before .before .before .before in
+    is-absent (easingForm _) (λ o. presetFields none (optionSense (start .args .text .now) o)) (at-take-byte .take-byte .ensures)
+    (c .if1 .taken) (λ ps. refl)
+
+put-mark-requires : tie.Need-put-mark-requires
+unfolding oneOf
+put-mark-requires c κs = refl
+
+slice-aggregate-put-field : tie.Need-slice-aggregate-put-field
+slice-aggregate-put-field c = search needs
+
+put-field-requires : tie.Need-put-field-requires
+unfolding wordLike all
+put-field-requires c κs = refl
+
+copy-easing-requires : tie.Need-copy-easing-requires
+copy-easing-requires c κs = search needs
+
+same-length : tie.Need-same-length
+same-length c = search needs
+
+returns-2 : tie.Need-returns-2
+unfolding commaIf field
+returns-2 c =
+    let at-copy-easing = c .before .before in
+    let at-put-field = at-copy-easing .before .before .before .before in
+    let c10 = at-put-field .before .before .before .before in
+    let at-put-mark = c10 .before in
+    let at-if1 = at-put-mark .before .before in
+    let at-take-byte = at-if1 .before .before in
+    let start = at-take-byte .before .before .before .before in
+    is-present
+    (easingForm _)
+    (λ o. presetFields none (optionSense (start .args .text .now) o))
+    (at-take-byte .take-byte .ensures)
+    (at-if1 .if1 .left)
+    (renamed (put-before (one-piece (mark ",") (at-put-mark .put-mark .ensures) and at-put-field .put-field .ensures)
+    (at-copy-easing .copy-easing .ensures))
+    (λ x ps. refl))
+
+pub copy-only-easing-spec : {M : Type 1} → statement M
+copy-only-easing-spec =
+    tie.close
+    (tie.spec
+    take-byte-requires
+    returns
+    put-mark-requires
+    slice-aggregate-put-field
+    put-field-requires
+    copy-easing-requires
+    same-length
+    returns-2)

@@ -1,0 +1,48 @@
+-- `bodies::leaves::copy_preset` meets its contract. Assumes nothing.
+use mathlib.Core.Path.{refl, _∙_}
+use Rattle.text.specs.Bytes.{oneOf}
+use Rattle.ast.specs.Tree as Tree
+use Rattle.sheet.specs.Sheet.{toPreset, ofPreset}
+use Rattle.fresh.specs.Fresh.{mark, leafBody}
+use Rattle.copying.proofs.CopyLaws.{renamed, behind, _then_, made}
+use Rattle.bodies.specs.Body.{body}
+use borrow.Author.Needs.{needs}
+use Rattle.bodies.proofs.leaves.copy_preset.Statement.{statement}
+use Rattle.bodies.proofs.leaves.copy_preset.Tie as tie
+
+copy-name-requires : tie.Need-copy-name-requires
+copy-name-requires c κs = search needs
+
+copy-preset-fields-requires : tie.Need-copy-preset-fields-requires
+copy-preset-fields-requires c κs = search needs
+
+put-mark-requires : tie.Need-put-mark-requires
+unfolding oneOf
+put-mark-requires c κs = refl
+
+same-length : tie.Need-same-length
+same-length c =
+    let at-put-mark = c .before .before in
+    let at-copy-preset-fields = at-put-mark .before .before .before .before in
+    let at-copy-name = at-copy-preset-fields .before .before .before .before in
+    at-put-mark .put-mark .kept .1 .0
+    ∙ at-copy-preset-fields .copy-preset-fields .kept .1 .1 .1 .1 .0
+    ∙ at-copy-name .copy-name .kept .1 .1 .1 .1 .0
+
+returns : tie.Need-returns
+unfolding leafBody
+returns c =
+    let at-put-mark = c .before .before in
+    let at-copy-preset-fields = at-put-mark .before .before .before .before in
+    let at-copy-name = at-copy-preset-fields .before .before .before .before in
+    let c14 = at-copy-name .before .before .before .before in
+    let start = c14 .before in
+    made toPreset ofPreset (λ d. body (start .args .text .now) (Tree.preset d))
+    (renamed (at-copy-name .copy-name .ensures
+    then behind (mark ";") (at-copy-preset-fields .copy-preset-fields .ensures) (at-put-mark .put-mark .ensures))
+    (λ x ps. refl))
+
+pub copy-preset-spec : {M : Type 1} → statement M
+copy-preset-spec =
+    tie.close
+    (tie.spec copy-name-requires copy-preset-fields-requires put-mark-requires same-length returns)

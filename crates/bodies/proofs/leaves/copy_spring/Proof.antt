@@ -1,0 +1,201 @@
+-- `bodies::leaves::copy_spring` meets its contract. Assumes nothing.
+use mathlib.Core.Path.{refl, _∙_}
+use native.Mathlib.Omega.{arith}
+use Rattle.text.specs.Bytes.{oneOf}
+use Rattle.text.specs.Words.{entries}
+use Rattle.digits.specs.Numeral.{all}
+use Rattle.ast.specs.Tree as Tree
+use Rattle.sheet.specs.Sheet.{toSpring, ofSpring}
+use Rattle.pieces.specs.Pieces.{wordLike}
+use Rattle.fresh.specs.Fresh.{mark, two, presetNames, integratorNames, leafBody}
+use Rattle.copying.specs.Words.{allWords}
+use Rattle.copying.proofs.CopyLaws.{renamed, behind, _then_, made}
+use Rattle.bodies.specs.Body.{body}
+use borrow.Author.Needs.{needs}
+use Rattle.bodies.proofs.leaves.copy_spring.Statement.{statement}
+use Rattle.bodies.proofs.leaves.copy_spring.Tie as tie
+
+copy-name-requires : tie.Need-copy-name-requires
+copy-name-requires c κs = search needs
+
+put-mark-requires : tie.Need-put-mark-requires
+unfolding oneOf
+put-mark-requires c κs = refl
+
+copy-value-requires : tie.Need-copy-value-requires
+copy-value-requires c κs = search needs
+
+put-pair-requires : tie.Need-put-pair-requires
+unfolding oneOf
+put-pair-requires c κs = (refl, refl)
+
+copy-value-requires-2 : tie.Need-copy-value-requires-2
+copy-value-requires-2 c κs = search needs
+
+slice-aggregate-copy-opt-case : tie.Need-slice-aggregate-copy-opt-case
+slice-aggregate-copy-opt-case c = search needs
+
+slice-aggregate-copy-opt-case-2 : tie.Need-slice-aggregate-copy-opt-case-2
+slice-aggregate-copy-opt-case-2 c = search needs
+
+copy-opt-case-requires : tie.Need-copy-opt-case-requires
+unfolding allWords entries wordLike all
+copy-opt-case-requires c κs = (refl, refl, refl, omega arith, omega arith)
+
+slice-aggregate-copy-opt-f32 : tie.Need-slice-aggregate-copy-opt-f32
+slice-aggregate-copy-opt-f32 c = search needs
+
+copy-opt-f32-requires : tie.Need-copy-opt-f32-requires
+unfolding wordLike all
+copy-opt-f32-requires c κs = refl
+
+slice-aggregate-copy-opt-f32-2 : tie.Need-slice-aggregate-copy-opt-f32-2
+slice-aggregate-copy-opt-f32-2 c = search needs
+
+copy-opt-f32-requires-2 : tie.Need-copy-opt-f32-requires-2
+unfolding wordLike all
+copy-opt-f32-requires-2 c κs = refl
+
+slice-aggregate-copy-opt-f32-3 : tie.Need-slice-aggregate-copy-opt-f32-3
+slice-aggregate-copy-opt-f32-3 c = search needs
+
+copy-opt-f32-requires-3 : tie.Need-copy-opt-f32-requires-3
+unfolding wordLike all
+copy-opt-f32-requires-3 c κs = refl
+
+slice-aggregate-copy-opt-value : tie.Need-slice-aggregate-copy-opt-value
+slice-aggregate-copy-opt-value c = search needs
+
+copy-opt-value-requires : tie.Need-copy-opt-value-requires
+unfolding wordLike all
+copy-opt-value-requires c κs = refl
+
+slice-aggregate-copy-opt-f32-4 : tie.Need-slice-aggregate-copy-opt-f32-4
+slice-aggregate-copy-opt-f32-4 c = search needs
+
+copy-opt-f32-requires-4 : tie.Need-copy-opt-f32-requires-4
+unfolding wordLike all
+copy-opt-f32-requires-4 c κs = refl
+
+slice-aggregate-copy-opt-case-3 : tie.Need-slice-aggregate-copy-opt-case-3
+slice-aggregate-copy-opt-case-3 c = search needs
+
+slice-aggregate-copy-opt-case-4 : tie.Need-slice-aggregate-copy-opt-case-4
+slice-aggregate-copy-opt-case-4 c = search needs
+
+copy-opt-case-requires-2 : tie.Need-copy-opt-case-requires-2
+unfolding allWords entries wordLike all
+copy-opt-case-requires-2 c κs = (refl, refl, refl, omega arith, omega arith)
+
+copy-opt-damping-requires : tie.Need-copy-opt-damping-requires
+copy-opt-damping-requires c κs = search needs
+
+put-mark-requires-2 : tie.Need-put-mark-requires-2
+unfolding oneOf
+put-mark-requires-2 c κs = refl
+
+same-length : tie.Need-same-length
+same-length c =
+    let at-put-mark2 = c .before .before in
+    let at-copy-opt-damping = at-put-mark2 .before .before .before .before in
+    let at-copy-opt-case2 = at-copy-opt-damping .before .before .before .before in
+    let c14 = at-copy-opt-case2 .before .before .before .before in
+    let at-copy-opt-f324 = c14 .before .before in
+    let c20 = at-copy-opt-f324 .before .before .before .before in
+    let at-copy-opt-value = c20 .before in
+    let c25 = at-copy-opt-value .before .before .before .before in
+    let at-copy-opt-f323 = c25 .before in
+    let c30 = at-copy-opt-f323 .before .before .before .before in
+    let at-copy-opt-f322 = c30 .before in
+    let c35 = at-copy-opt-f322 .before .before .before .before in
+    let at-copy-opt-f32 = c35 .before in
+    let c40 = at-copy-opt-f32 .before .before .before .before in
+    let at-copy-opt-case = c40 .before in
+    let c45 = at-copy-opt-case .before .before .before .before in
+    let at-copy-value2 = c45 .before .before in
+    let at-put-pair = at-copy-value2 .before .before .before .before in
+    let at-copy-value = at-put-pair .before .before .before .before in
+    let at-put-mark = at-copy-value .before .before .before .before in
+    let at-copy-name = at-put-mark .before .before .before .before in
+    at-put-mark2 .put-mark2 .kept .1 .0
+    ∙ at-copy-opt-damping .copy-opt-damping .kept .1 .1 .1 .0
+    ∙ at-copy-opt-case2 .copy-opt-case2 .kept .1 .1 .1 .0
+    ∙ at-copy-opt-f324 .copy-opt-f324 .kept .1 .1 .1 .0
+    ∙ at-copy-opt-value .copy-opt-value .kept .1 .1 .1 .0
+    ∙ at-copy-opt-f323 .copy-opt-f323 .kept .1 .1 .1 .0
+    ∙ at-copy-opt-f322 .copy-opt-f322 .kept .1 .1 .1 .0
+    ∙ at-copy-opt-f32 .copy-opt-f32 .kept .1 .1 .1 .0
+    ∙ at-copy-opt-case .copy-opt-case .kept .1 .1 .1 .0
+    ∙ at-copy-value2 .copy-value2 .kept .1 .1 .1 .0 ∙ at-put-pair .put-pair .kept .1 .0
+    ∙ at-copy-value .copy-value .kept .1 .1 .1 .0 ∙ at-put-mark .put-mark .kept .1 .0
+    ∙ at-copy-name .copy-name .kept .1 .1 .1 .1 .0
+
+returns : tie.Need-returns
+unfolding leafBody entries
+returns c =
+    let at-put-mark2 = c .before .before in
+    let at-copy-opt-damping = at-put-mark2 .before .before .before .before in
+    let at-copy-opt-case2 = at-copy-opt-damping .before .before .before .before in
+    let c14 = at-copy-opt-case2 .before .before .before .before in
+    let at-copy-opt-f324 = c14 .before .before in
+    let c20 = at-copy-opt-f324 .before .before .before .before in
+    let at-copy-opt-value = c20 .before in
+    let c25 = at-copy-opt-value .before .before .before .before in
+    let at-copy-opt-f323 = c25 .before in
+    let c30 = at-copy-opt-f323 .before .before .before .before in
+    let at-copy-opt-f322 = c30 .before in
+    let c35 = at-copy-opt-f322 .before .before .before .before in
+    let at-copy-opt-f32 = c35 .before in
+    let c40 = at-copy-opt-f32 .before .before .before .before in
+    let at-copy-opt-case = c40 .before in
+    let c45 = at-copy-opt-case .before .before .before .before in
+    let at-copy-value2 = c45 .before .before in
+    let at-put-pair = at-copy-value2 .before .before .before .before in
+    let at-copy-value = at-put-pair .before .before .before .before in
+    let at-put-mark = at-copy-value .before .before .before .before in
+    let at-copy-name = at-put-mark .before .before .before .before in
+    let c67 = at-copy-name .before .before .before .before in
+    let start = c67 .before in
+    made toSpring ofSpring (λ d. body (start .args .text .now) (Tree.spring d))
+    (renamed (behind (mark ":") (at-copy-name .copy-name .ensures) (at-put-mark .put-mark .ensures)
+    then behind (two "=" ">") (at-copy-value .copy-value .ensures) (at-put-pair .put-pair .ensures)
+    then at-copy-value2 .copy-value2 .ensures
+    then at-copy-opt-case .copy-opt-case .ensures "preset" presetNames refl refl
+    then at-copy-opt-f32 .copy-opt-f32 .ensures "stiffness" refl
+    then at-copy-opt-f322 .copy-opt-f322 .ensures "damping" refl
+    then at-copy-opt-f323 .copy-opt-f323 .ensures "mass" refl
+    then at-copy-opt-value .copy-opt-value .ensures "velocity" refl
+    then at-copy-opt-f324 .copy-opt-f324 .ensures "epsilon" refl
+    then at-copy-opt-case2 .copy-opt-case2 .ensures "integrator" integratorNames refl refl
+    then behind (mark ";") (at-copy-opt-damping .copy-opt-damping .ensures) (at-put-mark2 .put-mark2 .ensures))
+    (λ x ps. refl))
+
+pub copy-spring-spec : {M : Type 1} → statement M
+copy-spring-spec =
+    tie.close
+    (tie.spec
+    copy-name-requires
+    put-mark-requires
+    copy-value-requires
+    put-pair-requires
+    copy-value-requires-2
+    slice-aggregate-copy-opt-case
+    slice-aggregate-copy-opt-case-2
+    copy-opt-case-requires
+    slice-aggregate-copy-opt-f32
+    copy-opt-f32-requires
+    slice-aggregate-copy-opt-f32-2
+    copy-opt-f32-requires-2
+    slice-aggregate-copy-opt-f32-3
+    copy-opt-f32-requires-3
+    slice-aggregate-copy-opt-value
+    copy-opt-value-requires
+    slice-aggregate-copy-opt-f32-4
+    copy-opt-f32-requires-4
+    slice-aggregate-copy-opt-case-3
+    slice-aggregate-copy-opt-case-4
+    copy-opt-case-requires-2
+    copy-opt-damping-requires
+    put-mark-requires-2
+    same-length
+    returns)

@@ -1,0 +1,175 @@
+-- `bodies::leaves::copy_tween` meets its contract. Assumes nothing.
+use mathlib.Core.Path.{refl, _∙_}
+use Rattle.text.specs.Bytes.{oneOf}
+use Rattle.digits.specs.Numeral.{all}
+use Rattle.ast.specs.Tree as Tree
+use Rattle.sheet.specs.Sheet.{toTween, ofTween}
+use Rattle.pieces.specs.Pieces.{wordLike}
+use Rattle.fresh.specs.Fresh.{mark, two, leafBody}
+use Rattle.copying.proofs.CopyLaws.{renamed, behind, _then_, made}
+use Rattle.bodies.specs.Body.{body}
+use borrow.Author.Needs.{needs}
+use Rattle.bodies.proofs.leaves.copy_tween.Statement.{statement}
+use Rattle.bodies.proofs.leaves.copy_tween.Tie as tie
+
+copy-name-requires : tie.Need-copy-name-requires
+copy-name-requires c κs = search needs
+
+put-mark-requires : tie.Need-put-mark-requires
+unfolding oneOf
+put-mark-requires c κs = refl
+
+copy-value-requires : tie.Need-copy-value-requires
+copy-value-requires c κs = search needs
+
+put-pair-requires : tie.Need-put-pair-requires
+unfolding oneOf
+put-pair-requires c κs = (refl, refl)
+
+copy-value-requires-2 : tie.Need-copy-value-requires-2
+copy-value-requires-2 c κs = search needs
+
+slice-aggregate-copy-f32-field : tie.Need-slice-aggregate-copy-f32-field
+slice-aggregate-copy-f32-field c = search needs
+
+copy-f32-field-requires : tie.Need-copy-f32-field-requires
+unfolding wordLike all
+copy-f32-field-requires c κs = refl
+
+copy-opt-easing-requires : tie.Need-copy-opt-easing-requires
+copy-opt-easing-requires c κs = search needs
+
+slice-aggregate-copy-opt-f32 : tie.Need-slice-aggregate-copy-opt-f32
+slice-aggregate-copy-opt-f32 c = search needs
+
+copy-opt-f32-requires : tie.Need-copy-opt-f32-requires
+unfolding wordLike all
+copy-opt-f32-requires c κs = refl
+
+slice-aggregate-copy-opt-f32-2 : tie.Need-slice-aggregate-copy-opt-f32-2
+slice-aggregate-copy-opt-f32-2 c = search needs
+
+copy-opt-f32-requires-2 : tie.Need-copy-opt-f32-requires-2
+unfolding wordLike all
+copy-opt-f32-requires-2 c κs = refl
+
+copy-opt-loop-requires : tie.Need-copy-opt-loop-requires
+copy-opt-loop-requires c κs = search needs
+
+slice-aggregate-copy-opt-f32-3 : tie.Need-slice-aggregate-copy-opt-f32-3
+slice-aggregate-copy-opt-f32-3 c = search needs
+
+copy-opt-f32-requires-3 : tie.Need-copy-opt-f32-requires-3
+unfolding wordLike all
+copy-opt-f32-requires-3 c κs = refl
+
+slice-aggregate-copy-opt-u32 : tie.Need-slice-aggregate-copy-opt-u32
+slice-aggregate-copy-opt-u32 c = search needs
+
+copy-opt-u32-requires : tie.Need-copy-opt-u32-requires
+unfolding wordLike all
+copy-opt-u32-requires c κs = refl
+
+copy-reverse-requires : tie.Need-copy-reverse-requires
+copy-reverse-requires c κs = search needs
+
+put-mark-requires-2 : tie.Need-put-mark-requires-2
+unfolding oneOf
+put-mark-requires-2 c κs = refl
+
+same-length : tie.Need-same-length
+same-length c =
+    let at-put-mark2 = c .before .before in
+    let at-copy-reverse = at-put-mark2 .before .before .before .before in
+    let at-copy-opt-u32 = at-copy-reverse .before .before .before .before in
+    let c14 = at-copy-opt-u32 .before .before .before .before in
+    let at-copy-opt-f323 = c14 .before in
+    let c19 = at-copy-opt-f323 .before .before .before .before in
+    let at-copy-opt-loop = c19 .before in
+    let at-copy-opt-f322 = at-copy-opt-loop .before .before .before .before in
+    let c28 = at-copy-opt-f322 .before .before .before .before in
+    let at-copy-opt-f32 = c28 .before in
+    let c33 = at-copy-opt-f32 .before .before .before .before in
+    let at-copy-opt-easing = c33 .before in
+    let at-copy-f32-field = at-copy-opt-easing .before .before .before .before in
+    let c42 = at-copy-f32-field .before .before .before .before in
+    let at-copy-value2 = c42 .before in
+    let at-put-pair = at-copy-value2 .before .before .before .before in
+    let at-copy-value = at-put-pair .before .before .before .before in
+    let at-put-mark = at-copy-value .before .before .before .before in
+    let at-copy-name = at-put-mark .before .before .before .before in
+    at-put-mark2 .put-mark2 .kept .1 .0 ∙ at-copy-reverse .copy-reverse .kept .1 .1 .1 .0
+    ∙ at-copy-opt-u32 .copy-opt-u32 .kept .1 .1 .1 .0
+    ∙ at-copy-opt-f323 .copy-opt-f323 .kept .1 .1 .1 .0
+    ∙ at-copy-opt-loop .copy-opt-loop .kept .1 .1 .1 .0
+    ∙ at-copy-opt-f322 .copy-opt-f322 .kept .1 .1 .1 .0
+    ∙ at-copy-opt-f32 .copy-opt-f32 .kept .1 .1 .1 .0
+    ∙ at-copy-opt-easing .copy-opt-easing .kept .1 .1 .1 .1 .0
+    ∙ at-copy-f32-field .copy-f32-field .kept .1 .1 .1 .0
+    ∙ at-copy-value2 .copy-value2 .kept .1 .1 .1 .0 ∙ at-put-pair .put-pair .kept .1 .0
+    ∙ at-copy-value .copy-value .kept .1 .1 .1 .0 ∙ at-put-mark .put-mark .kept .1 .0
+    ∙ at-copy-name .copy-name .kept .1 .1 .1 .1 .0
+
+returns : tie.Need-returns
+unfolding leafBody
+returns c =
+    let at-put-mark2 = c .before .before in
+    let at-copy-reverse = at-put-mark2 .before .before .before .before in
+    let at-copy-opt-u32 = at-copy-reverse .before .before .before .before in
+    let c14 = at-copy-opt-u32 .before .before .before .before in
+    let at-copy-opt-f323 = c14 .before in
+    let c19 = at-copy-opt-f323 .before .before .before .before in
+    let at-copy-opt-loop = c19 .before in
+    let at-copy-opt-f322 = at-copy-opt-loop .before .before .before .before in
+    let c28 = at-copy-opt-f322 .before .before .before .before in
+    let at-copy-opt-f32 = c28 .before in
+    let c33 = at-copy-opt-f32 .before .before .before .before in
+    let at-copy-opt-easing = c33 .before in
+    let at-copy-f32-field = at-copy-opt-easing .before .before .before .before in
+    let c42 = at-copy-f32-field .before .before .before .before in
+    let at-copy-value2 = c42 .before in
+    let at-put-pair = at-copy-value2 .before .before .before .before in
+    let at-copy-value = at-put-pair .before .before .before .before in
+    let at-put-mark = at-copy-value .before .before .before .before in
+    let at-copy-name = at-put-mark .before .before .before .before in
+    let c63 = at-copy-name .before .before .before .before in
+    let start = c63 .before in
+    made toTween ofTween (λ d. body (start .args .text .now) (Tree.tween d))
+    (renamed (behind (mark ":") (at-copy-name .copy-name .ensures) (at-put-mark .put-mark .ensures)
+    then behind (two "=" ">") (at-copy-value .copy-value .ensures) (at-put-pair .put-pair .ensures)
+    then at-copy-value2 .copy-value2 .ensures
+    then at-copy-f32-field .copy-f32-field .ensures "duration" refl
+    then at-copy-opt-easing .copy-opt-easing .ensures
+    then at-copy-opt-f32 .copy-opt-f32 .ensures "delay" refl
+    then at-copy-opt-f322 .copy-opt-f322 .ensures "time_scale" refl
+    then at-copy-opt-loop .copy-opt-loop .ensures
+    then at-copy-opt-f323 .copy-opt-f323 .ensures "snap" refl
+    then at-copy-opt-u32 .copy-opt-u32 .ensures "round" refl
+    then behind (mark ";") (at-copy-reverse .copy-reverse .ensures) (at-put-mark2 .put-mark2 .ensures))
+    (λ x ps. refl))
+
+pub copy-tween-spec : {M : Type 1} → statement M
+copy-tween-spec =
+    tie.close
+    (tie.spec
+    copy-name-requires
+    put-mark-requires
+    copy-value-requires
+    put-pair-requires
+    copy-value-requires-2
+    slice-aggregate-copy-f32-field
+    copy-f32-field-requires
+    copy-opt-easing-requires
+    slice-aggregate-copy-opt-f32
+    copy-opt-f32-requires
+    slice-aggregate-copy-opt-f32-2
+    copy-opt-f32-requires-2
+    copy-opt-loop-requires
+    slice-aggregate-copy-opt-f32-3
+    copy-opt-f32-requires-3
+    slice-aggregate-copy-opt-u32
+    copy-opt-u32-requires
+    copy-reverse-requires
+    put-mark-requires-2
+    same-length
+    returns)

@@ -1,0 +1,166 @@
+-- `bodies::leaves::copy_waveform` meets its contract. Assumes nothing.
+use mathlib.Core.Path.{refl, _∙_}
+use native.Mathlib.Omega.{arith}
+use Rattle.text.specs.Bytes.{oneOf}
+use Rattle.text.specs.Words.{entries}
+use Rattle.digits.specs.Numeral.{all}
+use Rattle.ast.specs.Tree as Tree
+use Rattle.sheet.specs.Sheet.{toWaveform, ofWaveform}
+use Rattle.pieces.specs.Pieces.{wordLike}
+use Rattle.fresh.specs.Fresh.{mark, choose, waveNames, leafBody}
+use Rattle.copying.specs.Words.{allWords}
+use Rattle.copying.proofs.CopyLaws.{read-put, renamed, behind, _then_, made}
+use Rattle.bodies.specs.Body.{body}
+use borrow.Author.Needs.{needs}
+use Rattle.bodies.proofs.leaves.copy_waveform.Statement.{statement}
+use Rattle.bodies.proofs.leaves.copy_waveform.Tie as tie
+
+take-byte-requires : tie.Need-take-byte-requires
+take-byte-requires c κs = search needs
+
+slice-aggregate-put-choice : tie.Need-slice-aggregate-put-choice
+slice-aggregate-put-choice c = search needs
+
+cast-put-choice : tie.Need-cast-put-choice
+cast-put-choice c = search needs
+
+put-choice-requires : tie.Need-put-choice-requires
+unfolding allWords entries wordLike all
+put-choice-requires c κs = (refl, omega (arith, c .before .before .before .take-byte .ensures .small), omega arith)
+
+slice-aggregate-copy-opt-f32 : tie.Need-slice-aggregate-copy-opt-f32
+slice-aggregate-copy-opt-f32 c = search needs
+
+copy-opt-f32-requires : tie.Need-copy-opt-f32-requires
+unfolding wordLike all
+copy-opt-f32-requires c κs = refl
+
+slice-aggregate-copy-opt-f32-2 : tie.Need-slice-aggregate-copy-opt-f32-2
+slice-aggregate-copy-opt-f32-2 c = search needs
+
+copy-opt-f32-requires-2 : tie.Need-copy-opt-f32-requires-2
+unfolding wordLike all
+copy-opt-f32-requires-2 c κs = refl
+
+slice-aggregate-copy-opt-f32-3 : tie.Need-slice-aggregate-copy-opt-f32-3
+slice-aggregate-copy-opt-f32-3 c = search needs
+
+copy-opt-f32-requires-3 : tie.Need-copy-opt-f32-requires-3
+unfolding wordLike all
+copy-opt-f32-requires-3 c κs = refl
+
+slice-aggregate-copy-opt-f32-4 : tie.Need-slice-aggregate-copy-opt-f32-4
+slice-aggregate-copy-opt-f32-4 c = search needs
+
+copy-opt-f32-requires-4 : tie.Need-copy-opt-f32-requires-4
+unfolding wordLike all
+copy-opt-f32-requires-4 c κs = refl
+
+slice-aggregate-copy-opt-u32 : tie.Need-slice-aggregate-copy-opt-u32
+slice-aggregate-copy-opt-u32 c = search needs
+
+copy-opt-u32-requires : tie.Need-copy-opt-u32-requires
+unfolding wordLike all
+copy-opt-u32-requires c κs = refl
+
+slice-aggregate-copy-opt-f32-5 : tie.Need-slice-aggregate-copy-opt-f32-5
+slice-aggregate-copy-opt-f32-5 c = search needs
+
+copy-opt-f32-requires-5 : tie.Need-copy-opt-f32-requires-5
+unfolding wordLike all
+copy-opt-f32-requires-5 c κs = refl
+
+slice-aggregate-copy-opt-f32-6 : tie.Need-slice-aggregate-copy-opt-f32-6
+slice-aggregate-copy-opt-f32-6 c = search needs
+
+copy-opt-f32-requires-6 : tie.Need-copy-opt-f32-requires-6
+unfolding wordLike all
+copy-opt-f32-requires-6 c κs = refl
+
+put-mark-requires : tie.Need-put-mark-requires
+unfolding oneOf
+put-mark-requires c κs = refl
+
+same-length : tie.Need-same-length
+same-length c =
+    let at-put-mark = c .before .before in
+    let at-copy-opt-f326 = at-put-mark .before .before .before .before in
+    let c10 = at-copy-opt-f326 .before .before .before .before in
+    let at-copy-opt-f325 = c10 .before in
+    let c15 = at-copy-opt-f325 .before .before .before .before in
+    let at-copy-opt-u32 = c15 .before in
+    let c20 = at-copy-opt-u32 .before .before .before .before in
+    let at-copy-opt-f324 = c20 .before in
+    let c25 = at-copy-opt-f324 .before .before .before .before in
+    let at-copy-opt-f323 = c25 .before in
+    let c30 = at-copy-opt-f323 .before .before .before .before in
+    let at-copy-opt-f322 = c30 .before in
+    let c35 = at-copy-opt-f322 .before .before .before .before in
+    let at-copy-opt-f32 = c35 .before in
+    let c40 = at-copy-opt-f32 .before .before .before .before in
+    let at-put-choice = c40 .before in
+    at-put-mark .put-mark .kept .1 .0
+    ∙ at-copy-opt-f326 .copy-opt-f326 .kept .1 .1 .1 .0
+    ∙ at-copy-opt-f325 .copy-opt-f325 .kept .1 .1 .1 .0
+    ∙ at-copy-opt-u32 .copy-opt-u32 .kept .1 .1 .1 .0
+    ∙ at-copy-opt-f324 .copy-opt-f324 .kept .1 .1 .1 .0
+    ∙ at-copy-opt-f323 .copy-opt-f323 .kept .1 .1 .1 .0
+    ∙ at-copy-opt-f322 .copy-opt-f322 .kept .1 .1 .1 .0
+    ∙ at-copy-opt-f32 .copy-opt-f32 .kept .1 .1 .1 .0 ∙ at-put-choice .put-choice .kept .1 .0
+
+returns : tie.Need-returns
+unfolding leafBody choose entries
+returns c =
+    let at-put-mark = c .before .before in
+    let at-copy-opt-f326 = at-put-mark .before .before .before .before in
+    let c10 = at-copy-opt-f326 .before .before .before .before in
+    let at-copy-opt-f325 = c10 .before in
+    let c15 = at-copy-opt-f325 .before .before .before .before in
+    let at-copy-opt-u32 = c15 .before in
+    let c20 = at-copy-opt-u32 .before .before .before .before in
+    let at-copy-opt-f324 = c20 .before in
+    let c25 = at-copy-opt-f324 .before .before .before .before in
+    let at-copy-opt-f323 = c25 .before in
+    let c30 = at-copy-opt-f323 .before .before .before .before in
+    let at-copy-opt-f322 = c30 .before in
+    let c35 = at-copy-opt-f322 .before .before .before .before in
+    let at-copy-opt-f32 = c35 .before in
+    let c40 = at-copy-opt-f32 .before .before .before .before in
+    let at-put-choice = c40 .before in
+    let at-take-byte = at-put-choice .before .before .before .before in
+    λ t. made toWaveform ofWaveform (λ d. body t (Tree.waveform d))
+    (renamed (read-put (choose waveNames) (at-take-byte .take-byte .ensures .reads) (at-put-choice .put-choice .ensures waveNames refl)
+    then at-copy-opt-f32 .copy-opt-f32 .ensures "frequency" refl
+    then at-copy-opt-f322 .copy-opt-f322 .ensures "amplitude" refl
+    then at-copy-opt-f323 .copy-opt-f323 .ensures "phase" refl
+    then at-copy-opt-f324 .copy-opt-f324 .ensures "duty_cycle" refl
+    then at-copy-opt-u32 .copy-opt-u32 .ensures "seed" refl
+    then at-copy-opt-f325 .copy-opt-f325 .ensures "smoothness" refl
+    then behind (mark ";") (at-copy-opt-f326 .copy-opt-f326 .ensures "duration" refl) (at-put-mark .put-mark .ensures))
+    (λ x ps. refl))
+
+pub copy-waveform-spec : {M : Type 1} → statement M
+copy-waveform-spec =
+    tie.close
+    (tie.spec
+    take-byte-requires
+    slice-aggregate-put-choice
+    cast-put-choice
+    put-choice-requires
+    slice-aggregate-copy-opt-f32
+    copy-opt-f32-requires
+    slice-aggregate-copy-opt-f32-2
+    copy-opt-f32-requires-2
+    slice-aggregate-copy-opt-f32-3
+    copy-opt-f32-requires-3
+    slice-aggregate-copy-opt-f32-4
+    copy-opt-f32-requires-4
+    slice-aggregate-copy-opt-u32
+    copy-opt-u32-requires
+    slice-aggregate-copy-opt-f32-5
+    copy-opt-f32-requires-5
+    slice-aggregate-copy-opt-f32-6
+    copy-opt-f32-requires-6
+    put-mark-requires
+    same-length
+    returns)

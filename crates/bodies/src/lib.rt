@@ -1,0 +1,3 @@
+// 02 (f): what stands behind a leaf's word, read in the sheet and written. For our own crates.
+mod frames;
+pub mod leaves;

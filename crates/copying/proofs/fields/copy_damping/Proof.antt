@@ -1,0 +1,110 @@
+-- `copying::fields::copy_damping` meets its contract. Assumes nothing.
+use mathlib.Core.Option.{some}
+use mathlib.Core.Path.{refl}
+use native.Mathlib.Omega.{arith}
+use Rattle.digits.specs.Numeral.{all}
+use Rattle.sheet.specs.Sheet.{dampings, splitDamping}
+use Rattle.pieces.specs.Pieces.{wordLike}
+use Rattle.fresh.specs.Fresh.{damping}
+use Rattle.copying.proofs.CopyLaws.{renamed, in-case, put-before}
+use borrow.Author.Needs.{needs}
+use Rattle.copying.proofs.fields.copy_damping.Statement.{statement}
+use Rattle.copying.proofs.fields.copy_damping.Tie as tie
+
+take-byte-requires : tie.Need-take-byte-requires
+take-byte-requires c κs = search needs
+
+slice-aggregate-put-field : tie.Need-slice-aggregate-put-field
+slice-aggregate-put-field c = search needs
+
+put-field-requires : tie.Need-put-field-requires
+unfolding wordLike all
+put-field-requires c κs = refl
+
+copy-in-parens-requires : tie.Need-copy-in-parens-requires
+copy-in-parens-requires c κs = search needs
+
+same-length : tie.Need-same-length
+same-length c = search needs
+
+returns : tie.Need-returns
+unfolding damping
+returns c =
+    let at-copy-in-parens = c .before .before in
+    let at-put-field = at-copy-in-parens .before .before .before .before in
+    let at-if1 = at-put-field .before .before .before in
+    let at-take-byte = at-if1 .before .before in
+    in-case dampings splitDamping (λ d. damping (some d)) 0 (at-take-byte .take-byte .ensures .reads) (at-if1 .if1 .taken)
+    (renamed (put-before (at-put-field .put-field .ensures) (at-copy-in-parens .copy-in-parens .ensures)) (λ x ps. refl))
+
+slice-aggregate-put-field-2 : tie.Need-slice-aggregate-put-field-2
+slice-aggregate-put-field-2 c = search needs
+
+put-field-requires-2 : tie.Need-put-field-requires-2
+unfolding wordLike all
+put-field-requires-2 c κs = refl
+
+copy-two-in-parens-requires : tie.Need-copy-two-in-parens-requires
+copy-two-in-parens-requires c κs = search needs
+
+same-length-2 : tie.Need-same-length-2
+same-length-2 c = search needs
+
+returns-2 : tie.Need-returns-2
+unfolding damping
+returns-2 c =
+    let at-copy-two-in-parens = c .before .before in
+    let at-put-field2 = at-copy-two-in-parens .before .before .before .before in
+    let at-if2 = at-put-field2 .before .before .before in
+    let at-take-byte = at-if2 .before .before .before .before in
+    in-case dampings splitDamping (λ d. damping (some d)) 1 (at-take-byte .take-byte .ensures .reads) (at-if2 .if2 .taken)
+    (renamed (put-before (at-put-field2 .put-field2 .ensures) (at-copy-two-in-parens .copy-two-in-parens .ensures)) (λ x ps. refl))
+
+slice-aggregate-put-field-3 : tie.Need-slice-aggregate-put-field-3
+slice-aggregate-put-field-3 c = search needs
+
+put-field-requires-3 : tie.Need-put-field-requires-3
+unfolding wordLike all
+put-field-requires-3 c κs = refl
+
+copy-two-in-parens-requires-2 : tie.Need-copy-two-in-parens-requires-2
+copy-two-in-parens-requires-2 c κs = search needs
+
+same-length-3 : tie.Need-same-length-3
+same-length-3 c = search needs
+
+returns-3 : tie.Need-returns-3
+unfolding damping
+returns-3 c =
+    let at-copy-two-in-parens2 = c .before .before in
+    let at-put-field3 = at-copy-two-in-parens2 .before .before .before .before in
+    let at-if2 = at-put-field3 .before .before .before in
+    let at-if1 = at-if2 .before .before in
+    let take-byte = at-if1 .before .before .take-byte in
+    in-case dampings splitDamping
+    (λ d. damping (some d))
+    2
+    (take-byte .ensures .reads)
+    (omega (arith, take-byte .ensures .small, at-if1 .if1 .left, at-if2 .if2 .left))
+    (renamed (put-before (at-put-field3 .put-field3 .ensures) (at-copy-two-in-parens2 .copy-two-in-parens2 .ensures)) (λ x ps. refl))
+
+pub copy-damping-spec : {M : Type 1} → statement M
+copy-damping-spec =
+    tie.close
+    (tie.spec
+    take-byte-requires
+    slice-aggregate-put-field
+    put-field-requires
+    copy-in-parens-requires
+    same-length
+    returns
+    slice-aggregate-put-field-2
+    put-field-requires-2
+    copy-two-in-parens-requires
+    same-length-2
+    returns-2
+    slice-aggregate-put-field-3
+    put-field-requires-3
+    copy-two-in-parens-requires-2
+    same-length-3
+    returns-3)

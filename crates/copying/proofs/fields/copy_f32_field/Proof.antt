@@ -1,0 +1,24 @@
+-- `copying::fields::copy_f32_field` meets its contract. Assumes nothing.
+use Rattle.fresh.specs.Fresh.{f32}
+use Rattle.copying.proofs.CopyLaws.{under-name}
+use borrow.Author.Needs.{needs}
+use Rattle.copying.proofs.fields.copy_f32_field.Statement.{statement}
+use Rattle.copying.proofs.fields.copy_f32_field.Tie as tie
+
+put-field-requires : tie.Need-put-field-requires
+put-field-requires c κs = search needs
+
+copy-f32-requires : tie.Need-copy-f32-requires
+copy-f32-requires c κs = search needs
+
+same-length : tie.Need-same-length
+same-length c = search needs
+
+returns : tie.Need-returns
+returns c =
+    let at-copy-f32 = c .before .before in
+    let at-put-field = at-copy-f32 .before .before .before .before in
+    λ n e. under-name n f32 e (at-put-field .put-field .ensures) (at-copy-f32 .copy-f32 .ensures)
+
+pub copy-f32-field-spec : {M : Type 1} → statement M
+copy-f32-field-spec = tie.close (tie.spec put-field-requires copy-f32-requires same-length returns)

@@ -1,0 +1,35 @@
+-- `copying::fields::copy_in_parens` meets its contract. Assumes nothing.
+use mathlib.Core.Path.{refl}
+use Rattle.text.specs.Bytes.{oneOf}
+use Rattle.fresh.specs.Fresh.{mark}
+use Rattle.copying.proofs.CopyLaws.{in-front, behind}
+use borrow.Author.Needs.{needs}
+use Rattle.copying.proofs.fields.copy_in_parens.Statement.{statement}
+use Rattle.copying.proofs.fields.copy_in_parens.Tie as tie
+
+put-mark-requires : tie.Need-put-mark-requires
+unfolding oneOf
+put-mark-requires c κs = refl
+
+copy-f32-requires : tie.Need-copy-f32-requires
+copy-f32-requires c κs = search needs
+
+put-mark-requires-2 : tie.Need-put-mark-requires-2
+unfolding oneOf
+put-mark-requires-2 c κs = refl
+
+same-length : tie.Need-same-length
+same-length c = search needs
+
+returns : tie.Need-returns
+returns c =
+    let at-put-mark2 = c .before .before in
+    let at-copy-f32 = at-put-mark2 .before .before .before .before in
+    let at-put-mark = at-copy-f32 .before .before .before .before in
+    behind (mark ")") (in-front (mark "(") (at-put-mark .put-mark .ensures) (at-copy-f32 .copy-f32 .ensures))
+    (at-put-mark2 .put-mark2 .ensures)
+
+pub copy-in-parens-spec : {M : Type 1} → statement M
+copy-in-parens-spec =
+    tie.close
+    (tie.spec put-mark-requires copy-f32-requires put-mark-requires-2 same-length returns)

@@ -1,0 +1,32 @@
+-- `copying::fields::copy_opt_damping` meets its contract. Assumes nothing.
+use mathlib.Core.Path.{refl}
+use Rattle.sheet.specs.Sheet.{dampingForm}
+use Rattle.fresh.specs.Fresh.{damping}
+use Rattle.copying.proofs.CopyLaws.{is-absent, is-present}
+use borrow.Author.Needs.{needs}
+use Rattle.copying.proofs.fields.copy_opt_damping.Statement.{statement}
+use Rattle.copying.proofs.fields.copy_opt_damping.Tie as tie
+
+take-byte-requires : tie.Need-take-byte-requires
+take-byte-requires c κs = search needs
+
+returns : tie.Need-returns
+unfolding damping
+returns c = is-absent dampingForm damping (c .before .before .take-byte .ensures) (c .if1 .taken) (λ ps. refl)
+
+copy-damping-requires : tie.Need-copy-damping-requires
+copy-damping-requires c κs = search needs
+
+same-length : tie.Need-same-length
+same-length c = search needs
+
+returns-2 : tie.Need-returns-2
+returns-2 c =
+    let at-copy-damping = c .before .before in
+    let at-if1 = at-copy-damping .before .before in
+    let at-take-byte = at-if1 .before .before in
+    is-present dampingForm damping (at-take-byte .take-byte .ensures) (at-if1 .if1 .left) (at-copy-damping .copy-damping .ensures)
+
+pub copy-opt-damping-spec : {M : Type 1} → statement M
+copy-opt-damping-spec =
+    tie.close (tie.spec take-byte-requires returns copy-damping-requires same-length returns-2)

@@ -1,0 +1,70 @@
+-- `copying::fields::copy_opt_offset` meets its contract. Assumes nothing.
+use mathlib.Core.Path.{refl}
+use Rattle.text.specs.Bytes.{oneOf}
+use Rattle.digits.specs.Numeral.{all}
+use Rattle.codec.specs.Codec.{_▹_}
+use Rattle.sheet.specs.Sheet.{word}
+use Rattle.pieces.specs.Pieces.{wordLike}
+use Rattle.fresh.specs.Fresh.{two, offset}
+use Rattle.copying.proofs.CopyLaws.{renamed, behind, _then_, absent-field, present-field}
+use borrow.Author.Needs.{needs}
+use Rattle.copying.proofs.fields.copy_opt_offset.Statement.{statement}
+use Rattle.copying.proofs.fields.copy_opt_offset.Tie as tie
+
+take-byte-requires : tie.Need-take-byte-requires
+take-byte-requires c κs = search needs
+
+returns : tie.Need-returns
+returns c = absent-field "offset" offset (word ▹ word) (c .before .before .take-byte .ensures) (c .if1 .taken)
+
+slice-aggregate-put-field : tie.Need-slice-aggregate-put-field
+slice-aggregate-put-field c = search needs
+
+put-field-requires : tie.Need-put-field-requires
+unfolding wordLike all
+put-field-requires c κs = refl
+
+copy-f32-requires : tie.Need-copy-f32-requires
+copy-f32-requires c κs = search needs
+
+put-pair-requires : tie.Need-put-pair-requires
+unfolding oneOf
+put-pair-requires c κs = (refl, refl)
+
+copy-f32-requires-2 : tie.Need-copy-f32-requires-2
+copy-f32-requires-2 c κs = search needs
+
+same-length : tie.Need-same-length
+same-length c = search needs
+
+returns-2 : tie.Need-returns-2
+unfolding offset
+returns-2 c =
+    let at-copy-f322 = c .before .before in
+    let at-put-pair = at-copy-f322 .before .before .before .before in
+    let at-copy-f32 = at-put-pair .before .before .before .before in
+    let at-put-field = at-copy-f32 .before .before .before .before in
+    let at-if1 = at-put-field .before .before .before in
+    let at-take-byte = at-if1 .before .before in
+    present-field "offset" offset
+    (word ▹ word)
+    (at-take-byte .take-byte .ensures)
+    (at-if1 .if1 .left)
+    refl
+    (at-put-field .put-field .ensures)
+    (renamed (behind (two "." ".") (at-copy-f32 .copy-f32 .ensures) (at-put-pair .put-pair .ensures) then at-copy-f322 .copy-f322 .ensures)
+    (λ x ps. refl))
+
+pub copy-opt-offset-spec : {M : Type 1} → statement M
+copy-opt-offset-spec =
+    tie.close
+    (tie.spec
+    take-byte-requires
+    returns
+    slice-aggregate-put-field
+    put-field-requires
+    copy-f32-requires
+    put-pair-requires
+    copy-f32-requires-2
+    same-length
+    returns-2)

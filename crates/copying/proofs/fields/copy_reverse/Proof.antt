@@ -1,0 +1,59 @@
+-- `copying::fields::copy_reverse` meets its contract. Assumes nothing.
+use mathlib.Core.Path.{refl}
+use Rattle.digits.specs.Numeral.{all}
+use Rattle.pieces.specs.Pieces.{wordLike}
+use Rattle.fresh.specs.Fresh.{spell, truth, field, onlyTrue}
+use Rattle.copying.proofs.CopyLaws.{no-piece, one-piece, _and_, called, read-put}
+use borrow.Author.Needs.{needs}
+use Rattle.copying.proofs.fields.copy_reverse.Statement.{statement}
+use Rattle.copying.proofs.fields.copy_reverse.Tie as tie
+
+take-flag-requires : tie.Need-take-flag-requires
+take-flag-requires c κs = search needs
+
+slice-aggregate-put-field : tie.Need-slice-aggregate-put-field
+slice-aggregate-put-field c = search needs
+
+put-field-requires : tie.Need-put-field-requires
+unfolding wordLike all
+put-field-requires c κs = refl
+
+slice-aggregate-put-word : tie.Need-slice-aggregate-put-word
+slice-aggregate-put-word c = search needs
+
+put-word-requires : tie.Need-put-word-requires
+unfolding wordLike all
+put-word-requires c κs = refl
+
+same-length : tie.Need-same-length
+same-length c = search needs
+
+returns : tie.Need-returns
+unfolding field truth
+returns c =
+    let at-put-word = c .before .before in
+    let c6 = at-put-word .before .before .before .before in
+    let at-put-field = c6 .before in
+    let at-if1 = at-put-field .before .before .before in
+    let at-take-flag = at-if1 .before in
+    read-put (λ b. field "reverse" truth (onlyTrue b)) (at-take-flag .take-flag .ensures)
+    (rw (at-if1 .if1 .taken)
+    (called (at-put-field .put-field .ensures and one-piece (spell "true") (at-put-word .put-word .ensures)) (λ ps. refl)))
+
+returns-2 : tie.Need-returns-2
+unfolding field
+returns-2 c =
+    read-put (λ b. field "reverse" truth (onlyTrue b)) (c .before .take-flag .ensures) (rw (c .if1 .left) (called no-piece (λ ps. refl)))
+
+pub copy-reverse-spec : {M : Type 1} → statement M
+copy-reverse-spec =
+    tie.close
+    (tie.spec
+    take-flag-requires
+    slice-aggregate-put-field
+    put-field-requires
+    slice-aggregate-put-word
+    put-word-requires
+    same-length
+    returns
+    returns-2)

@@ -1,0 +1,74 @@
+-- `copying::fields::copy_space` meets its contract. Assumes nothing.
+use borrow.Author.Tests.{eq-eqb, ne-eqb}
+use Rattle.text.specs.Words.{entries}
+use Rattle.fresh.specs.Fresh.{spaceNames}
+use Rattle.copying.specs.Words.{allWords}
+use mathlib.Core.Path.{refl}
+use native.Mathlib.Omega.{arith}
+use Rattle.digits.specs.Numeral.{all}
+use Rattle.pieces.specs.Pieces.{wordLike}
+use Rattle.fresh.specs.Fresh.{choose, field, unlessIs}
+use Rattle.copying.proofs.CopyLaws.{no-piece, _and_, called, read-put}
+use borrow.Author.Needs.{needs}
+use Rattle.copying.proofs.fields.copy_space.Statement.{statement}
+use Rattle.copying.proofs.fields.copy_space.Tie as tie
+
+take-byte-requires : tie.Need-take-byte-requires
+take-byte-requires c κs = search needs
+
+returns : tie.Need-returns
+unfolding field unlessIs
+returns c =
+    let at-take-byte = c .before .before in
+    read-put (λ k. field "space" (choose spaceNames) (unlessIs 0 k)) (at-take-byte .take-byte .ensures .reads)
+    (called no-piece (λ ps. rw (eq-eqb _ 0 (c .if1 .taken)) refl))
+
+slice-aggregate-put-field : tie.Need-slice-aggregate-put-field
+slice-aggregate-put-field c = search needs
+
+put-field-requires : tie.Need-put-field-requires
+unfolding wordLike all
+put-field-requires c κs = refl
+
+slice-aggregate-put-choice : tie.Need-slice-aggregate-put-choice
+slice-aggregate-put-choice c = search needs
+
+cast-put-choice : tie.Need-cast-put-choice
+cast-put-choice c = search needs
+
+put-choice-requires : tie.Need-put-choice-requires
+unfolding allWords entries wordLike all
+put-choice-requires c κs =
+    let c4 = c .before .before .before .before in
+    let c8 = c4 .before .before .before .before in
+    let at-take-byte = c8 .before .before in
+    (refl, omega (arith, at-take-byte .take-byte .ensures .small), omega arith)
+
+same-length : tie.Need-same-length
+same-length c = search needs
+
+returns-2 : tie.Need-returns-2
+unfolding field unlessIs entries
+returns-2 c =
+    let at-put-choice = c .before .before in
+    let c6 = at-put-choice .before .before .before .before in
+    let at-put-field = c6 .before .before in
+    let at-if1 = at-put-field .before .before .before in
+    let at-take-byte = at-if1 .before .before in
+    read-put (λ k. field "space" (choose spaceNames) (unlessIs 0 k)) (at-take-byte .take-byte .ensures .reads)
+    (called (at-put-field .put-field .ensures and at-put-choice .put-choice .ensures spaceNames refl)
+    (λ ps. rw (ne-eqb _ 0 (at-if1 .if1 .left)) refl))
+
+pub copy-space-spec : {M : Type 1} → statement M
+copy-space-spec =
+    tie.close
+    (tie.spec
+    take-byte-requires
+    returns
+    slice-aggregate-put-field
+    put-field-requires
+    slice-aggregate-put-choice
+    cast-put-choice
+    put-choice-requires
+    same-length
+    returns-2)

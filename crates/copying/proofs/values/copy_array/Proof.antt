@@ -1,0 +1,56 @@
+-- `copying::values::copy_array` meets its contract. Assumes nothing.
+use mathlib.Core.Path.{refl}
+use Rattle.text.specs.Bytes.{oneOf}
+use Rattle.codec.specs.Codec.{each}
+use Rattle.sheet.specs.Sheet.{word}
+use Rattle.fresh.specs.Fresh.{mark, value}
+use lib.ListN.{length}
+use Rattle.copying.proofs.CopyLaws.{renamed, in-front, behind, sized-copied}
+use borrow.Author.Needs.{needs}
+use Rattle.copying.proofs.values.copy_array.Statement.{statement}
+use Rattle.copying.proofs.values.copy_array.Tie as tie
+
+take-field-requires : tie.Need-take-field-requires
+take-field-requires c κs = search needs
+
+put-mark-requires : tie.Need-put-mark-requires
+unfolding oneOf
+put-mark-requires c κs = refl
+
+cast-copy-floats : tie.Need-cast-copy-floats
+cast-copy-floats c = search needs
+
+copy-floats-requires : tie.Need-copy-floats-requires
+copy-floats-requires c κs = search needs
+
+put-mark-requires-2 : tie.Need-put-mark-requires-2
+unfolding oneOf
+put-mark-requires-2 c κs = refl
+
+same-length : tie.Need-same-length
+same-length c = search needs
+
+returns : tie.Need-returns
+unfolding value
+returns c =
+    let at-put-mark2 = c .before .before in
+    let at-copy-floats = at-put-mark2 .before .before .before .before in
+    let c10 = at-copy-floats .before .before .before .before in
+    let at-put-mark = c10 .before in
+    let at-take-field = at-put-mark .before .before in
+    renamed (sized-copied length (each word) (at-take-field .take-field .ensures .reads)
+    (behind (mark "]") (in-front (mark "[") (at-put-mark .put-mark .ensures) (at-copy-floats .copy-floats .ensures))
+    (at-put-mark2 .put-mark2 .ensures)))
+    (λ xs ps. refl)
+
+pub copy-array-spec : {M : Type 1} → statement M
+copy-array-spec =
+    tie.close
+    (tie.spec
+    take-field-requires
+    put-mark-requires
+    cast-copy-floats
+    copy-floats-requires
+    put-mark-requires-2
+    same-length
+    returns)

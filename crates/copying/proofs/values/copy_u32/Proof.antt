@@ -1,0 +1,27 @@
+-- `copying::values::copy_u32` meets its contract. Assumes nothing.
+use Rattle.digits.specs.Numeral.{counted}
+use Rattle.pieces.specs.Pieces.{aNumeral}
+use Rattle.fresh.specs.Fresh.{u32}
+use Rattle.copying.proofs.CopyLaws.{one-piece, read-put}
+use borrow.Author.Needs.{needs}
+use Rattle.copying.proofs.values.copy_u32.Statement.{statement}
+use Rattle.copying.proofs.values.copy_u32.Tie as tie
+
+take-field-requires : tie.Need-take-field-requires
+take-field-requires c κs = search needs
+
+put-count-requires : tie.Need-put-count-requires
+put-count-requires c κs = search needs
+
+same-length : tie.Need-same-length
+same-length c = search needs
+
+returns : tie.Need-returns
+unfolding u32
+returns c =
+    let at-put-count = c .before .before in
+    let at-take-field = at-put-count .before .before in
+    read-put u32 (at-take-field .take-field .ensures .reads) (one-piece (aNumeral counted _) (at-put-count .put-count .ensures))
+
+pub copy-u32-spec : {M : Type 1} → statement M
+copy-u32-spec = tie.close (tie.spec take-field-requires put-count-requires same-length returns)

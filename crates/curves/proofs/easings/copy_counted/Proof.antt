@@ -1,0 +1,47 @@
+-- `curves::easings::copy_counted` meets its contract. Assumes nothing.
+use mathlib.Core.Path.{refl}
+use Rattle.text.specs.Bytes.{oneOf}
+use Rattle.pieces.specs.Pieces.{aWord}
+use Rattle.fresh.specs.Fresh.{mark}
+use Rattle.copying.proofs.CopyLaws.{in-front, behind}
+use borrow.Author.Needs.{needs}
+use Rattle.curves.proofs.easings.copy_counted.Statement.{statement}
+use Rattle.curves.proofs.easings.copy_counted.Tie as tie
+
+put-word-requires : tie.Need-put-word-requires
+put-word-requires c κs = search needs
+
+put-mark-requires : tie.Need-put-mark-requires
+unfolding oneOf
+put-mark-requires c κs = refl
+
+copy-u32-requires : tie.Need-copy-u32-requires
+copy-u32-requires c κs = search needs
+
+put-mark-requires-2 : tie.Need-put-mark-requires-2
+unfolding oneOf
+put-mark-requires-2 c κs = refl
+
+same-length : tie.Need-same-length
+same-length c = search needs
+
+returns : tie.Need-returns
+returns c =
+    let at-put-mark2 = c .before .before in
+    let at-copy-u32 = at-put-mark2 .before .before .before .before in
+    let at-put-mark = at-copy-u32 .before .before .before .before in
+    let at-put-word = at-put-mark .before .before .before .before in
+    in-front (aWord _) (at-put-word .put-word .ensures)
+    (in-front (mark "(") (at-put-mark .put-mark .ensures)
+    (behind (mark ")") (at-copy-u32 .copy-u32 .ensures) (at-put-mark2 .put-mark2 .ensures)))
+
+pub copy-counted-spec : {M : Type 1} → statement M
+copy-counted-spec =
+    tie.close
+    (tie.spec
+    put-word-requires
+    put-mark-requires
+    copy-u32-requires
+    put-mark-requires-2
+    same-length
+    returns)

@@ -1,0 +1,87 @@
+-- `curves::easings::copy_slow_mo` meets its contract. Assumes nothing.
+use mathlib.Core.Path.{refl}
+use Rattle.text.specs.Bytes.{oneOf}
+use Rattle.digits.specs.Numeral.{all}
+use Rattle.pieces.specs.Pieces.{wordLike}
+use Rattle.fresh.specs.Meaning.{slowMo}
+use Rattle.fresh.specs.Fresh.{mark, spell, easing}
+use Rattle.copying.proofs.CopyLaws.{one-piece, _and_, called}
+use Rattle.curves.proofs.PairLaws.{two-read, seven-tenths, two, two-pairs}
+use borrow.Author.Needs.{needs}
+use Rattle.curves.proofs.easings.copy_slow_mo.Statement.{statement}
+use Rattle.curves.proofs.easings.copy_slow_mo.Tie as tie
+
+take-field-requires : tie.Need-take-field-requires
+take-field-requires c κs = search needs
+
+take-field-requires-2 : tie.Need-take-field-requires-2
+take-field-requires-2 c κs = search needs
+
+slice-aggregate-put-word : tie.Need-slice-aggregate-put-word
+slice-aggregate-put-word c = search needs
+
+put-word-requires : tie.Need-put-word-requires
+unfolding wordLike all
+put-word-requires c κs = refl
+
+put-mark-requires : tie.Need-put-mark-requires
+unfolding oneOf
+put-mark-requires c κs = refl
+
+slice-aggregate-put-f32-unless : tie.Need-slice-aggregate-put-f32-unless
+slice-aggregate-put-f32-unless c = search needs
+
+put-f32-unless-requires : tie.Need-put-f32-unless-requires
+unfolding wordLike all
+put-f32-unless-requires c κs = refl
+
+slice-aggregate-put-f32-unless-2 : tie.Need-slice-aggregate-put-f32-unless-2
+slice-aggregate-put-f32-unless-2 c = search needs
+
+put-f32-unless-requires-2 : tie.Need-put-f32-unless-requires-2
+unfolding wordLike all
+put-f32-unless-requires-2 c κs = refl
+
+put-mark-requires-2 : tie.Need-put-mark-requires-2
+unfolding oneOf
+put-mark-requires-2 c κs = refl
+
+same-length : tie.Need-same-length
+same-length c = search needs
+
+returns : tie.Need-returns
+unfolding easing
+returns c =
+    let at-put-mark2 = c .before .before in
+    let at-put-f32-unless2 = at-put-mark2 .before .before .before .before in
+    let c10 = at-put-f32-unless2 .before .before .before .before in
+    let at-put-f32-unless = c10 .before .before in
+    let c16 = at-put-f32-unless .before .before .before .before in
+    let at-put-mark = c16 .before in
+    let at-put-word = at-put-mark .before .before .before .before in
+    let at-take-field2 = at-put-word .before .before .before in
+    let at-take-field = at-take-field2 .before in
+    two-read (λ x. easing (slowMo (x .0) (x .1))) (at-take-field .take-field .ensures .reads) (at-take-field2 .take-field2 .ensures .reads)
+    (called (one-piece (spell "slowmo") (at-put-word .put-word .ensures)
+    and one-piece (mark "(") (at-put-mark .put-mark .ensures)
+    and two-pairs (at-put-f32-unless .put-f32-unless .ensures "linear_ratio" refl)
+    (at-put-f32-unless2 .put-f32-unless2 .ensures "power" refl)
+    and one-piece (mark ")") (at-put-mark2 .put-mark2 .ensures))
+    (λ ps. rw (seven-tenths, two) refl))
+
+pub copy-slow-mo-spec : {M : Type 1} → statement M
+copy-slow-mo-spec =
+    tie.close
+    (tie.spec
+    take-field-requires
+    take-field-requires-2
+    slice-aggregate-put-word
+    put-word-requires
+    put-mark-requires
+    slice-aggregate-put-f32-unless
+    put-f32-unless-requires
+    slice-aggregate-put-f32-unless-2
+    put-f32-unless-requires-2
+    put-mark-requires-2
+    same-length
+    returns)

@@ -1,0 +1,24 @@
+-- `curves::easings::put_comma` meets its contract. Assumes nothing.
+use mathlib.Core.Path.{refl}
+use Rattle.text.specs.Bytes.{oneOf}
+use Rattle.fresh.specs.Fresh.{mark}
+use Rattle.copying.proofs.CopyLaws.{no-piece, one-piece, called}
+use borrow.Author.Needs.{needs}
+use Rattle.curves.proofs.easings.put_comma.Statement.{statement}
+use Rattle.curves.proofs.easings.put_comma.Tie as tie
+
+returns : tie.Need-returns
+returns c = rw (c .if1 .taken) (called no-piece (λ ps. refl))
+
+put-mark-requires : tie.Need-put-mark-requires
+unfolding oneOf
+put-mark-requires c κs = refl
+
+same-length : tie.Need-same-length
+same-length c = search needs
+
+returns-2 : tie.Need-returns-2
+returns-2 c = rw (c .before .before .before .before .if1 .left) (one-piece (mark ",") (c .before .before .put-mark .ensures))
+
+pub put-comma-spec : {M : Type 1} → statement M
+put-comma-spec = tie.close (tie.spec returns put-mark-requires same-length returns-2)

@@ -1,0 +1,34 @@
+-- `curves::easings::put_f32_unless` meets its contract. Assumes nothing.
+use borrow.Author.Tests.{eq-eqb, ne-eqb}
+use Rattle.fresh.specs.Fresh.{f32}
+use Rattle.curves.proofs.PairLaws.{omitted, not-omitted}
+use borrow.Author.Needs.{needs}
+use Rattle.curves.proofs.easings.put_f32_unless.Statement.{statement}
+use Rattle.curves.proofs.easings.put_f32_unless.Tie as tie
+
+returns : tie.Need-returns
+returns c =
+    let args = c .before .before .before .args in
+    λ n e. omitted (args .first) (n, f32 (args .bits)) (eq-eqb _ _ (c .if1 .taken))
+
+put-pair-name-requires : tie.Need-put-pair-name-requires
+put-pair-name-requires c κs = search needs
+
+put-f32-requires : tie.Need-put-f32-requires
+put-f32-requires c κs = search needs
+
+same-length : tie.Need-same-length
+same-length c = search needs
+
+returns-2 : tie.Need-returns-2
+returns-2 c =
+    let at-put-f32 = c .before .before in
+    let at-put-pair-name = at-put-f32 .before .before .before .before in
+    let at-if1 = at-put-pair-name .before .before in
+    let args = at-if1 .before .before .before .args in
+    λ n e. not-omitted (args .first) n (f32 (args .bits)) (ne-eqb _ _ (at-if1 .if1 .left)) e (at-put-pair-name .put-pair-name .ensures)
+    (at-put-f32 .put-f32 .ensures)
+
+pub put-f32-unless-spec : {M : Type 1} → statement M
+put-f32-unless-spec =
+    tie.close (tie.spec returns put-pair-name-requires put-f32-requires same-length returns-2)

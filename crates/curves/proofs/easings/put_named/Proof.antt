@@ -1,0 +1,69 @@
+-- `curves::easings::put_named` meets its contract. Assumes nothing.
+use mathlib.Core.Path.{refl}
+use Rattle.text.specs.Bytes.{oneOf}
+use Rattle.digits.specs.Numeral.{all}
+use Rattle.pieces.specs.Pieces.{aName, aPlain, wordLike}
+use Rattle.fresh.specs.Fresh.{spell, easing}
+use Rattle.fresh.specs.Fresh as fresh
+use Rattle.copying.proofs.CopyLaws.{one-piece, _and_, called}
+use Rattle.curves.proofs.PairLaws.{two}
+use borrow.Author.Needs.{needs}
+use Rattle.curves.proofs.easings.put_named.Statement.{statement}
+use Rattle.curves.proofs.easings.put_named.Tie as tie
+
+slice-aggregate-put-word : tie.Need-slice-aggregate-put-word
+slice-aggregate-put-word c = search needs
+
+put-word-requires : tie.Need-put-word-requires
+unfolding wordLike all
+put-word-requires c κs = refl
+
+put-pair-requires : tie.Need-put-pair-requires
+unfolding oneOf
+put-pair-requires c κs = (refl, refl)
+
+put-name-requires : tie.Need-put-name-requires
+put-name-requires c κs = search needs
+
+same-length : tie.Need-same-length
+same-length c = search needs
+
+returns : tie.Need-returns
+unfolding easing
+returns c =
+    let at-put-name = c .before .before in
+    let at-put-pair = at-put-name .before .before .before .before in
+    let at-put-word = at-put-pair .before .before .before .before in
+    let at-if1 = at-put-word .before .before .before in
+    rw (at-if1 .if1 .taken)
+    (called (one-piece (spell "Easing") (at-put-word .put-word .ensures)
+    and one-piece (fresh.two ":" ":") (at-put-pair .put-pair .ensures)
+    and one-piece (aName _) (at-put-name .put-name .ensures))
+    (λ ps. refl))
+
+put-plain-requires : tie.Need-put-plain-requires
+put-plain-requires c κs = search needs
+
+same-length-2 : tie.Need-same-length-2
+same-length-2 c = search needs
+
+returns-2 : tie.Need-returns-2
+unfolding easing
+returns-2 c =
+    let at-put-plain = c .before .before in
+    let at-if1 = at-put-plain .before .before in
+    rw (at-if1 .if1 .left) (called (one-piece (aPlain _) (at-put-plain .put-plain .ensures)) (λ ps. refl))
+
+pub put-named-spec : {M : Type 1} → statement M
+put-named-spec =
+    tie.close
+    (tie.spec
+    slice-aggregate-put-word
+    put-word-requires
+    put-pair-requires
+    put-name-requires
+    same-length
+    returns
+    put-plain-requires
+    same-length-2
+    returns-2)

@@ -1,0 +1,35 @@
+-- `curves::easings::put_pair_name` meets its contract. Assumes nothing.
+use mathlib.Core.Path.{refl}
+use Rattle.text.specs.Bytes.{oneOf}
+use Rattle.pieces.specs.Pieces.{aWord}
+use Rattle.fresh.specs.Fresh.{mark}
+use Rattle.copying.proofs.CopyLaws.{one-piece, _and_}
+use borrow.Author.Needs.{needs}
+use Rattle.curves.proofs.easings.put_pair_name.Statement.{statement}
+use Rattle.curves.proofs.easings.put_pair_name.Tie as tie
+
+put-comma-requires : tie.Need-put-comma-requires
+put-comma-requires c κs = search needs
+
+put-word-requires : tie.Need-put-word-requires
+put-word-requires c κs = search needs
+
+put-mark-requires : tie.Need-put-mark-requires
+unfolding oneOf
+put-mark-requires c κs = refl
+
+same-length : tie.Need-same-length
+same-length c = search needs
+
+returns : tie.Need-returns
+returns c =
+    let at-put-mark = c .before .before in
+    let at-put-word = at-put-mark .before .before .before .before in
+    let at-put-comma = at-put-word .before .before .before .before in
+    at-put-comma .put-comma .ensures
+    and one-piece (aWord _) (at-put-word .put-word .ensures)
+    and one-piece (mark ":") (at-put-mark .put-mark .ensures)
+
+pub put-pair-name-spec : {M : Type 1} → statement M
+put-pair-name-spec =
+    tie.close (tie.spec put-comma-requires put-word-requires put-mark-requires same-length returns)

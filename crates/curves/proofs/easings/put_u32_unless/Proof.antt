@@ -1,0 +1,38 @@
+-- `curves::easings::put_u32_unless` meets its contract. Assumes nothing.
+use borrow.Author.Tests.{eq-eqb, ne-eqb}
+use Rattle.digits.specs.Numeral.{counted}
+use Rattle.pieces.specs.Pieces.{aNumeral}
+use Rattle.fresh.specs.Fresh.{u32}
+use Rattle.copying.proofs.CopyLaws.{one-piece}
+use Rattle.curves.proofs.PairLaws.{omitted, not-omitted}
+use borrow.Author.Needs.{needs}
+use Rattle.curves.proofs.easings.put_u32_unless.Statement.{statement}
+use Rattle.curves.proofs.easings.put_u32_unless.Tie as tie
+
+returns : tie.Need-returns
+returns c =
+    let args = c .before .before .before .args in
+    λ m e. omitted (args .first) (m, u32 (args .n)) (eq-eqb _ _ (c .if1 .taken))
+
+put-pair-name-requires : tie.Need-put-pair-name-requires
+put-pair-name-requires c κs = search needs
+
+put-count-requires : tie.Need-put-count-requires
+put-count-requires c κs = search needs
+
+same-length : tie.Need-same-length
+same-length c = search needs
+
+returns-2 : tie.Need-returns-2
+unfolding u32
+returns-2 c =
+    let at-put-count = c .before .before in
+    let at-put-pair-name = at-put-count .before .before .before .before in
+    let at-if1 = at-put-pair-name .before .before in
+    let args = at-if1 .before .before .before .args in
+    λ m e. not-omitted (args .first) m (u32 (args .n)) (ne-eqb _ _ (at-if1 .if1 .left)) e (at-put-pair-name .put-pair-name .ensures)
+    (one-piece (aNumeral counted (args .n)) (at-put-count .put-count .ensures))
+
+pub put-u32-unless-spec : {M : Type 1} → statement M
+put-u32-unless-spec =
+    tie.close (tie.spec returns put-pair-name-requires put-count-requires same-length returns-2)

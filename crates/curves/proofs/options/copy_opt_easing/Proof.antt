@@ -1,0 +1,58 @@
+-- `curves::options::copy_opt_easing` meets its contract. Assumes nothing.
+use mathlib.Core.Path.{refl}
+use Rattle.digits.specs.Numeral.{all}
+use Rattle.sheet.specs.Sheet.{easingForm}
+use Rattle.pieces.specs.Pieces.{wordLike}
+use Rattle.fresh.specs.Meaning.{optionSense}
+use Rattle.fresh.specs.Fresh.{easing, field}
+use Rattle.copying.proofs.CopyLaws.{renamed, is-absent, is-present, put-before}
+use borrow.Author.Needs.{needs}
+use Rattle.curves.proofs.options.copy_opt_easing.Statement.{statement}
+use Rattle.curves.proofs.options.copy_opt_easing.Tie as tie
+
+take-byte-requires : tie.Need-take-byte-requires
+take-byte-requires c κs = search needs
+
+returns : tie.Need-returns
+unfolding field
+returns c =
+    let at-take-byte = c .before .before in
+    let start = at-take-byte .before .before .before .before in
+    is-absent (easingForm _) (λ o. field "easing" easing (optionSense (start .args .text .now) o)) (at-take-byte .take-byte .ensures)
+    (c .if1 .taken) (λ ps. refl)
+
+slice-aggregate-put-field : tie.Need-slice-aggregate-put-field
+slice-aggregate-put-field c = search needs
+
+put-field-requires : tie.Need-put-field-requires
+unfolding wordLike all
+put-field-requires c κs = refl
+
+copy-easing-requires : tie.Need-copy-easing-requires
+copy-easing-requires c κs = search needs
+
+same-length : tie.Need-same-length
+same-length c = search needs
+
+returns-2 : tie.Need-returns-2
+unfolding field
+returns-2 c =
+    let at-copy-easing = c .before .before in
+    let at-put-field = at-copy-easing .before .before .before .before in
+    let at-if1 = at-put-field .before .before .before in
+    let at-take-byte = at-if1 .before .before in
+    let start = at-take-byte .before .before .before .before in
+    is-present (easingForm _) (λ o. field "easing" easing (optionSense (start .args .text .now) o)) (at-take-byte .take-byte .ensures)
+    (at-if1 .if1 .left) (renamed (put-before (at-put-field .put-field .ensures) (at-copy-easing .copy-easing .ensures)) (λ x ps. refl))
+
+pub copy-opt-easing-spec : {M : Type 1} → statement M
+copy-opt-easing-spec =
+    tie.close
+    (tie.spec
+    take-byte-requires
+    returns
+    slice-aggregate-put-field
+    put-field-requires
+    copy-easing-requires
+    same-length
+    returns-2)

@@ -1,0 +1,50 @@
+-- `curves::options::copy_opt_loop` meets its contract. Assumes nothing.
+use mathlib.Core.Path.{refl}
+use Rattle.digits.specs.Numeral.{all}
+use Rattle.sheet.specs.Sheet.{loopForm}
+use Rattle.pieces.specs.Pieces.{wordLike}
+use Rattle.fresh.specs.Fresh.{loopMode}
+use Rattle.copying.proofs.CopyLaws.{absent-field, present-field}
+use borrow.Author.Needs.{needs}
+use Rattle.curves.proofs.options.copy_opt_loop.Statement.{statement}
+use Rattle.curves.proofs.options.copy_opt_loop.Tie as tie
+
+take-byte-requires : tie.Need-take-byte-requires
+take-byte-requires c κs = search needs
+
+returns : tie.Need-returns
+returns c = absent-field "loop" loopMode loopForm (c .before .before .take-byte .ensures) (c .if1 .taken)
+
+slice-aggregate-put-field : tie.Need-slice-aggregate-put-field
+slice-aggregate-put-field c = search needs
+
+put-field-requires : tie.Need-put-field-requires
+unfolding wordLike all
+put-field-requires c κs = refl
+
+copy-loop-requires : tie.Need-copy-loop-requires
+copy-loop-requires c κs = search needs
+
+same-length : tie.Need-same-length
+same-length c = search needs
+
+returns-2 : tie.Need-returns-2
+returns-2 c =
+    let at-copy-loop = c .before .before in
+    let at-put-field = at-copy-loop .before .before .before .before in
+    let at-if1 = at-put-field .before .before .before in
+    let at-take-byte = at-if1 .before .before in
+    present-field "loop" loopMode loopForm (at-take-byte .take-byte .ensures) (at-if1 .if1 .left) refl (at-put-field .put-field .ensures)
+    (at-copy-loop .copy-loop .ensures)
+
+pub copy-opt-loop-spec : {M : Type 1} → statement M
+copy-opt-loop-spec =
+    tie.close
+    (tie.spec
+    take-byte-requires
+    returns
+    slice-aggregate-put-field
+    put-field-requires
+    copy-loop-requires
+    same-length
+    returns-2)

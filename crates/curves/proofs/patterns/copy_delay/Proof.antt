@@ -1,0 +1,54 @@
+-- `curves::patterns::copy_delay` meets its contract. Assumes nothing.
+use mathlib.Core.Path.{refl}
+use Rattle.digits.specs.Numeral.{all}
+use Rattle.sheet.specs.Sheet.{word}
+use Rattle.pieces.specs.Pieces.{wordLike}
+use Rattle.copying.proofs.CopyLaws.{renamed, is-absent, is-present, put-before}
+use Rattle.curves.specs.Pairs.{delayBy}
+use borrow.Author.Needs.{needs}
+use Rattle.curves.proofs.patterns.copy_delay.Statement.{statement}
+use Rattle.curves.proofs.patterns.copy_delay.Tie as tie
+
+take-byte-requires : tie.Need-take-byte-requires
+take-byte-requires c κs = search needs
+
+returns : tie.Need-returns
+returns c =
+    let at-take-byte = c .before .before in
+    let start = at-take-byte .before .before .before in
+    is-absent word (delayBy (start .args .first)) (at-take-byte .take-byte .ensures) (c .if1 .taken) (λ ps. refl)
+
+slice-aggregate-put-pair-name : tie.Need-slice-aggregate-put-pair-name
+slice-aggregate-put-pair-name c = search needs
+
+put-pair-name-requires : tie.Need-put-pair-name-requires
+unfolding wordLike all
+put-pair-name-requires c κs = refl
+
+copy-f32-requires : tie.Need-copy-f32-requires
+copy-f32-requires c κs = search needs
+
+same-length : tie.Need-same-length
+same-length c = search needs
+
+returns-2 : tie.Need-returns-2
+returns-2 c =
+    let at-copy-f32 = c .before .before in
+    let at-put-pair-name = at-copy-f32 .before .before .before .before in
+    let at-if1 = at-put-pair-name .before .before .before in
+    let at-take-byte = at-if1 .before .before in
+    let start = at-take-byte .before .before .before in
+    is-present word (delayBy (start .args .first)) (at-take-byte .take-byte .ensures) (at-if1 .if1 .left)
+    (renamed (put-before (at-put-pair-name .put-pair-name .ensures) (at-copy-f32 .copy-f32 .ensures)) (λ x ps. refl))
+
+pub copy-delay-spec : {M : Type 1} → statement M
+copy-delay-spec =
+    tie.close
+    (tie.spec
+    take-byte-requires
+    returns
+    slice-aggregate-put-pair-name
+    put-pair-name-requires
+    copy-f32-requires
+    same-length
+    returns-2)

@@ -1,0 +1,67 @@
+-- `curves::patterns::copy_opening` meets its contract. Assumes nothing.
+use mathlib.Core.Path.{refl}
+use Rattle.digits.specs.Numeral.{all}
+use Rattle.pieces.specs.Pieces.{wordLike}
+use Rattle.fresh.specs.Fresh.{opening}
+use Rattle.curves.proofs.PairLaws.{opening-absent, opening-present}
+use borrow.Author.Needs.{needs}
+use Rattle.curves.proofs.patterns.copy_opening.Statement.{statement}
+use Rattle.curves.proofs.patterns.copy_opening.Tie as tie
+
+take-byte-requires : tie.Need-take-byte-requires
+take-byte-requires c κs = search needs
+
+copy-delay-requires : tie.Need-copy-delay-requires
+copy-delay-requires c κs = search needs
+
+same-length : tie.Need-same-length
+same-length c = search needs
+
+returns : tie.Need-returns
+unfolding opening
+returns c =
+    let at-copy-delay = c .before .before in
+    let at-if1 = at-copy-delay .before .before in
+    let at-take-byte = at-if1 .before .before in
+    opening-absent (at-take-byte .take-byte .ensures) (at-if1 .if1 .taken) (at-copy-delay .copy-delay .ensures)
+
+slice-aggregate-put-field : tie.Need-slice-aggregate-put-field
+slice-aggregate-put-field c = search needs
+
+put-field-requires : tie.Need-put-field-requires
+unfolding wordLike all
+put-field-requires c κs = refl
+
+copy-pattern-requires : tie.Need-copy-pattern-requires
+copy-pattern-requires c κs = search needs
+
+copy-delay-requires-2 : tie.Need-copy-delay-requires-2
+copy-delay-requires-2 c κs = search needs
+
+same-length-2 : tie.Need-same-length-2
+same-length-2 c = search needs
+
+returns-2 : tie.Need-returns-2
+returns-2 c =
+    let at-copy-delay2 = c .before .before in
+    let at-copy-pattern = at-copy-delay2 .before .before .before .before in
+    let at-put-field = at-copy-pattern .before .before .before .before in
+    let at-if1 = at-put-field .before .before .before in
+    let at-take-byte = at-if1 .before .before in
+    opening-present (at-take-byte .take-byte .ensures) (at-if1 .if1 .left) (at-put-field .put-field .ensures)
+    (at-copy-pattern .copy-pattern .ensures) (at-copy-delay2 .copy-delay2 .ensures)
+
+pub copy-opening-spec : {M : Type 1} → statement M
+copy-opening-spec =
+    tie.close
+    (tie.spec
+    take-byte-requires
+    copy-delay-requires
+    same-length
+    returns
+    slice-aggregate-put-field
+    put-field-requires
+    copy-pattern-requires
+    copy-delay-requires-2
+    same-length-2
+    returns-2)

@@ -1,0 +1,101 @@
+-- `curves::patterns::copy_pattern` meets its contract. Assumes nothing.
+use mathlib.Core.Path.{refl}
+use native.Mathlib.Omega.{arith}
+use Rattle.digits.specs.Numeral.{all}
+use Rattle.sheet.specs.Sheet.{patterns, splitPattern}
+use Rattle.pieces.specs.Pieces.{wordLike}
+use Rattle.fresh.specs.Fresh.{spell, pattern}
+use Rattle.copying.proofs.CopyLaws.{one-piece, renamed, in-case}
+use Rattle.curves.proofs.PairLaws.{nothing-read}
+use borrow.Author.Needs.{needs}
+use Rattle.curves.proofs.patterns.copy_pattern.Statement.{statement}
+use Rattle.curves.proofs.patterns.copy_pattern.Tie as tie
+
+take-byte-requires : tie.Need-take-byte-requires
+take-byte-requires c κs = search needs
+
+copy-grid-requires : tie.Need-copy-grid-requires
+copy-grid-requires c κs = search needs
+
+copy-random-requires : tie.Need-copy-random-requires
+copy-random-requires c κs = search needs
+
+slice-aggregate-put-word : tie.Need-slice-aggregate-put-word
+slice-aggregate-put-word c = search needs
+
+put-word-requires : tie.Need-put-word-requires
+unfolding wordLike all
+put-word-requires c κs = refl
+
+slice-aggregate-put-word-2 : tie.Need-slice-aggregate-put-word-2
+slice-aggregate-put-word-2 c = search needs
+
+put-word-requires-2 : tie.Need-put-word-requires-2
+unfolding wordLike all
+put-word-requires-2 c κs = refl
+
+same-length : tie.Need-same-length
+same-length c = search needs
+
+returns : tie.Need-returns
+returns c =
+    let at-copy-grid = c .before .before in
+    let at-match = at-copy-grid .before .before in
+    let at-take-byte = at-match .before in
+    in-case patterns splitPattern pattern 0 (at-take-byte .take-byte .ensures .reads) (at-match .match .keys1)
+    (renamed (at-copy-grid .copy-grid .ensures) (λ x ps. refl))
+
+same-length-2 : tie.Need-same-length-2
+same-length-2 c = search needs
+
+returns-2 : tie.Need-returns-2
+returns-2 c =
+    let at-copy-random = c .before .before in
+    let at-match = at-copy-random .before .before in
+    let at-take-byte = at-match .before in
+    in-case patterns splitPattern pattern 1 (at-take-byte .take-byte .ensures .reads) (at-match .match .keys2)
+    (renamed (at-copy-random .copy-random .ensures) (λ x ps. refl))
+
+same-length-3 : tie.Need-same-length-3
+same-length-3 c = search needs
+
+returns-3 : tie.Need-returns-3
+unfolding pattern
+returns-3 c =
+    let at-put-word = c .before .before in
+    let at-match = at-put-word .before .before .before in
+    let at-take-byte = at-match .before in
+    in-case patterns splitPattern pattern 2 (at-take-byte .take-byte .ensures .reads) (at-match .match .keys3)
+    (renamed (nothing-read (one-piece (spell "center_out") (at-put-word .put-word .ensures))) (λ x ps. refl))
+
+same-length-4 : tie.Need-same-length-4
+same-length-4 c = search needs
+
+returns-4 : tie.Need-returns-4
+unfolding pattern
+returns-4 c =
+    let at-put-word2 = c .before .before in
+    let at-match = at-put-word2 .before .before .before in
+    let take-byte = at-match .before .take-byte in
+    in-case patterns splitPattern pattern 3 (take-byte .ensures .reads) (omega (arith, take-byte .ensures .small, at-match .match .rest))
+    (renamed (nothing-read (one-piece (spell "edges_in") (at-put-word2 .put-word2 .ensures))) (λ x ps. refl))
+
+pub copy-pattern-spec : {M : Type 1} → statement M
+copy-pattern-spec =
+    tie.close
+    (tie.spec
+    take-byte-requires
+    copy-grid-requires
+    copy-random-requires
+    slice-aggregate-put-word
+    put-word-requires
+    slice-aggregate-put-word-2
+    put-word-requires-2
+    same-length
+    returns
+    same-length-2
+    returns-2
+    same-length-3
+    returns-3
+    same-length-4
+    returns-4)

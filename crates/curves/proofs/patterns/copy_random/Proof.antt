@@ -1,0 +1,119 @@
+-- `curves::patterns::copy_random` meets its contract. Assumes nothing.
+use mathlib.Core.Path.{refl, _∙_}
+use Rattle.text.specs.Bytes.{oneOf}
+use Rattle.digits.specs.Numeral.{all}
+use Rattle.ast.specs.Tree.{random}
+use Rattle.pieces.specs.Pieces.{wordLike}
+use Rattle.fresh.specs.Fresh.{mark, spell, pattern}
+use Rattle.copying.proofs.CopyLaws.{one-piece, _and_, called}
+use Rattle.curves.proofs.PairLaws.{three-read, no-number, tenth, three-pairs}
+use borrow.Author.Needs.{needs}
+use Rattle.curves.proofs.patterns.copy_random.Statement.{statement}
+use Rattle.curves.proofs.patterns.copy_random.Tie as tie
+
+take-field-requires : tie.Need-take-field-requires
+take-field-requires c κs = search needs
+
+take-field-requires-2 : tie.Need-take-field-requires-2
+take-field-requires-2 c κs = search needs
+
+take-field-requires-3 : tie.Need-take-field-requires-3
+take-field-requires-3 c κs = search needs
+
+slice-aggregate-put-word : tie.Need-slice-aggregate-put-word
+slice-aggregate-put-word c = search needs
+
+put-word-requires : tie.Need-put-word-requires
+unfolding wordLike all
+put-word-requires c κs = refl
+
+put-mark-requires : tie.Need-put-mark-requires
+unfolding oneOf
+put-mark-requires c κs = refl
+
+slice-aggregate-put-u32-unless : tie.Need-slice-aggregate-put-u32-unless
+slice-aggregate-put-u32-unless c = search needs
+
+put-u32-unless-requires : tie.Need-put-u32-unless-requires
+unfolding wordLike all
+put-u32-unless-requires c κs = refl
+
+slice-aggregate-put-f32-unless : tie.Need-slice-aggregate-put-f32-unless
+slice-aggregate-put-f32-unless c = search needs
+
+put-f32-unless-requires : tie.Need-put-f32-unless-requires
+unfolding wordLike all
+put-f32-unless-requires c κs = refl
+
+slice-aggregate-put-f32-unless-2 : tie.Need-slice-aggregate-put-f32-unless-2
+slice-aggregate-put-f32-unless-2 c = search needs
+
+put-f32-unless-requires-2 : tie.Need-put-f32-unless-requires-2
+unfolding wordLike all
+put-f32-unless-requires-2 c κs = refl
+
+put-mark-requires-2 : tie.Need-put-mark-requires-2
+unfolding oneOf
+put-mark-requires-2 c κs = refl
+
+same-length : tie.Need-same-length
+same-length c =
+    let at-put-mark2 = c .before .before in
+    let at-put-f32-unless2 = at-put-mark2 .before .before .before .before in
+    let c10 = at-put-f32-unless2 .before .before .before .before in
+    let at-put-f32-unless = c10 .before .before .before in
+    let c17 = at-put-f32-unless .before .before .before .before in
+    let at-put-u32-unless = c17 .before .before in
+    let c23 = at-put-u32-unless .before .before .before .before in
+    let at-put-mark = c23 .before in
+    let at-put-word = at-put-mark .before .before .before .before in
+    at-put-mark2 .put-mark2 .kept .1 .0 ∙ at-put-f32-unless2 .put-f32-unless2 .kept .1 .0
+    ∙ at-put-f32-unless .put-f32-unless .kept .1 .0 ∙ at-put-u32-unless .put-u32-unless .kept .1 .0
+    ∙ at-put-mark .put-mark .kept .1 .0 ∙ at-put-word .put-word .kept .1 .0
+
+returns : tie.Need-returns
+unfolding pattern
+returns c =
+    let at-put-mark2 = c .before .before in
+    let at-put-f32-unless2 = at-put-mark2 .before .before .before .before in
+    let c10 = at-put-f32-unless2 .before .before .before .before in
+    let at-put-f32-unless = c10 .before .before .before in
+    let c17 = at-put-f32-unless .before .before .before .before in
+    let at-put-u32-unless = c17 .before .before in
+    let c23 = at-put-u32-unless .before .before .before .before in
+    let at-put-mark = c23 .before in
+    let at-put-word = at-put-mark .before .before .before .before in
+    let at-take-field3 = at-put-word .before .before .before in
+    let at-take-field2 = at-take-field3 .before in
+    let at-take-field = at-take-field2 .before in
+    three-read
+    (λ x. pattern (random (x .0) (x .1 .0) (x .1 .1)))
+    (at-take-field .take-field .ensures .reads)
+    (at-take-field2 .take-field2 .ensures .reads)
+    (at-take-field3 .take-field3 .ensures .reads)
+    (called (one-piece (spell "random") (at-put-word .put-word .ensures)
+    and one-piece (mark "(") (at-put-mark .put-mark .ensures)
+    and three-pairs (at-put-u32-unless .put-u32-unless .ensures "seed" refl) (at-put-f32-unless .put-f32-unless .ensures "min" refl)
+    (at-put-f32-unless2 .put-f32-unless2 .ensures "max" refl)
+    and one-piece (mark ")") (at-put-mark2 .put-mark2 .ensures))
+    (λ ps. rw (no-number, tenth) refl))
+
+pub copy-random-spec : {M : Type 1} → statement M
+copy-random-spec =
+    tie.close
+    (tie.spec
+    take-field-requires
+    take-field-requires-2
+    take-field-requires-3
+    slice-aggregate-put-word
+    put-word-requires
+    put-mark-requires
+    slice-aggregate-put-u32-unless
+    put-u32-unless-requires
+    slice-aggregate-put-f32-unless
+    put-f32-unless-requires
+    slice-aggregate-put-f32-unless-2
+    put-f32-unless-requires-2
+    put-mark-requires-2
+    same-length
+    returns)

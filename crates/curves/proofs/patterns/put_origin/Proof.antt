@@ -1,0 +1,61 @@
+-- `curves::patterns::put_origin` meets its contract. Assumes nothing.
+use mathlib.Core.Bool.{false}
+use mathlib.Core.Path.{refl}
+use native.Mathlib.Omega.{arith}
+use borrow.Author.Tests.{eq-eqb, ne-eqb}
+use Rattle.text.specs.Words.{entries}
+use Rattle.digits.specs.Numeral.{all}
+use Rattle.pieces.specs.Pieces.{wordLike}
+use Rattle.fresh.specs.Fresh.{choose, originNames}
+use Rattle.copying.specs.Words.{allWords}
+use Rattle.curves.proofs.PairLaws.{omitted, not-omitted}
+use borrow.Author.Needs.{needs}
+use Rattle.curves.proofs.patterns.put_origin.Statement.{statement}
+use Rattle.curves.proofs.patterns.put_origin.Tie as tie
+
+returns : tie.Need-returns
+returns c = omitted false ("origin", choose originNames (c .before .before .args .origin)) (eq-eqb _ _ (c .if1 .taken))
+
+slice-aggregate-put-pair-name : tie.Need-slice-aggregate-put-pair-name
+slice-aggregate-put-pair-name c = search needs
+
+put-pair-name-requires : tie.Need-put-pair-name-requires
+unfolding wordLike all
+put-pair-name-requires c κs = refl
+
+slice-aggregate-put-choice : tie.Need-slice-aggregate-put-choice
+slice-aggregate-put-choice c = search needs
+
+put-choice-requires : tie.Need-put-choice-requires
+unfolding allWords entries wordLike all
+put-choice-requires c κs =
+    let c4 = c .before .before .before .before in
+    let c8 = c4 .before .before .before .before in
+    let start = c8 .before in
+    (refl, omega (arith, start .pre), omega arith)
+
+same-length : tie.Need-same-length
+same-length c = search needs
+
+returns-2 : tie.Need-returns-2
+unfolding entries
+returns-2 c =
+    let at-put-choice = c .before .before in
+    let c6 = at-put-choice .before .before .before .before in
+    let at-put-pair-name = c6 .before in
+    let at-if1 = at-put-pair-name .before .before .before in
+    let start = at-if1 .before .before in
+    not-omitted false "origin" (choose originNames (start .args .origin)) (ne-eqb _ _ (at-if1 .if1 .left)) refl
+    (at-put-pair-name .put-pair-name .ensures) (at-put-choice .put-choice .ensures originNames refl)
+
+pub put-origin-spec : {M : Type 1} → statement M
+put-origin-spec =
+    tie.close
+    (tie.spec
+    returns
+    slice-aggregate-put-pair-name
+    put-pair-name-requires
+    slice-aggregate-put-choice
+    put-choice-requires
+    same-length
+    returns-2)

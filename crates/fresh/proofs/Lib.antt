@@ -1,0 +1,13 @@
+pub mod ReadLaws
+pub mod EntryLaws
+pub mod ValueLaws
+pub mod FieldLaws
+pub mod LeafLaws
+pub mod KindLaws
+pub mod HeadLaws
+pub mod TrackLaws
+pub mod NodeLaws
+pub mod NestLaws
+pub mod SenseLaws
+pub mod Back
+pub mod Examples

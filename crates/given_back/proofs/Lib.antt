@@ -1,0 +1,4 @@
+pub mod ReadLaws
+pub mod ScriptLaws
+pub mod CheckLaws
+pub mod ReadBack

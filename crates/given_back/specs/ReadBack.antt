@@ -1,0 +1,41 @@
+-- 02 (f), the two laws on writing: reading the fresh script gives the same tree, and 34 is exact. Assumes nothing.
+use Prim.Native.Nat.{ℕ}
+use mathlib.Core.List.{List}
+use mathlib.Core.Option.{some}
+use mathlib.Core.Path.{_≡_}
+use lib.ListN.{length, take, replicate}
+use Rattle.number.specs.Time.{Key}
+use Rattle.ast.specs.Tree.{Nodes}
+use Rattle.sheet.specs.Sheet.{Forest, decode}
+use Rattle.grammar.specs.Grammar.{stored}
+use Rattle.parser.specs.Reading.{Parsed, parse}
+use Rattle.validate.specs.Checking.{checking}
+use Rattle.error.specs.declared.Refusal.the-variants.{Unwritable}
+use Rattle.error.specs.declared.CheckAnswer.the-variants as check
+use Rattle.error.specs.declared.LineAnswer.the-variants.{Accepted, Refused}
+use Rattle.fresh.specs.Meaning.{sense}
+use Rattle.back.specs.Back.{senseOf, writing}
+use Rattle.given_back.specs.Given.{Given}
+
+-- the sheet s of the text t, and the one that reading the text u gives, hold the same tree
+pub record SameTree (t s u : List ℕ) : Type 0 where
+  pub tree : Forest
+  pub decodes : decode (length t) s ≡ some tree
+  pub reads : Given u (senseOf t tree)
+
+-- "Reading the fresh script must give the same tree: equal values bit for bit, equal names and strings, though starts may differ", for
+-- every pair that writing accepts; n is the fresh script's length, `after` the buffer that holds it
+abbrev pub ReadBack : Type 0
+ReadBack = (t s out : List ℕ) (n : ℕ) (after : List ℕ) → writing t s out ≡ (Accepted n, after) → SameTree t s (take n after)
+
+-- checking accepts t and s, and "no text under 01's rules, its length limit set aside, reads to that tree"
+pub record NoText (t s : List ℕ) : Type 0 where
+  pub checks : checking t s ≡ check.Accepted
+  pub tree : Forest
+  pub decodes : decode (length t) s ≡ some tree
+  pub never : (u : List ℕ) (ms : Nodes Key) (k : ℕ) → parse u ≡ Parsed.tree ms k → sense stored u ms ≡ senseOf t tree → ⊥
+
+-- "Refused: checking's numbers in checking's order, then 34 exactly if no text .. reads to that tree", whatever the buffer
+pub record Exactly34 (t s out : List ℕ) : Type 0 where
+  pub only : (p : ℕ) → writing t s out .0 ≡ Refused Unwritable p → NoText t s
+  pub whenever : NoText t s → writing t s out ≡ (Refused Unwritable 0, replicate (length out) 0)

@@ -1,0 +1,1 @@
+// Laws on rules of the grammar at a place of a text.

@@ -1,0 +1,15 @@
+-- `spelling::judged` meets its contract. Assumes nothing.
+use Rattle.spelling.specs.Spelling.{pageOf}
+use Rattle.spelling.proofs.judged.Statement.{statement}
+use Rattle.spelling.proofs.judged.Tie as tie
+
+returns : tie.Need-returns
+unfolding pageOf
+returns c = λ out. rw (c .if1 .taken)
+
+returns-2 : tie.Need-returns-2
+unfolding pageOf
+returns-2 c = λ out. rw (c .if1 .left)
+
+pub judged-spec : {M : Type 1} → statement M
+judged-spec = tie.close (tie.spec returns returns-2)

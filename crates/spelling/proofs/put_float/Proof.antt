@@ -1,0 +1,26 @@
+-- `spelling::put_float` meets its contract. Assumes nothing.
+use Rattle.spelling.proofs.NumberLaws.{found-float, float-spellable}
+use Rattle.spelling.specs.Spelling.{pageOf, Spellable}
+use mathlib.Core.Path.{sym, subst}
+use borrow.Author.Needs.{needs}
+use Rattle.spelling.proofs.put_float.Statement.{statement}
+use Rattle.spelling.proofs.put_float.Tie as tie
+
+fewest-requires : tie.Need-fewest-requires
+fewest-requires c κs = search needs
+
+put-decimal-requires : tie.Need-put-decimal-requires
+put-decimal-requires c κs = subst Spellable (sym (c .fewest .ensures)) (float-spellable _)
+
+same-length : tie.Need-same-length
+same-length c = search needs
+
+returns : tie.Need-returns
+returns c =
+    let at-put-decimal = c .before .before in
+    let at-fewest = at-put-decimal .before in
+    let args = at-fewest .before .before .before .args in
+    found-float (args .bits) (pageOf (args .out .now) (args .pen)) _ (at-fewest .fewest .ensures) (at-put-decimal .put-decimal .ensures)
+
+pub put-float-spec : {M : Type 1} → statement M
+put-float-spec = tie.close (tie.spec fewest-requires put-decimal-requires same-length returns)

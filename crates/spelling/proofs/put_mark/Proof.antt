@@ -1,0 +1,29 @@
+-- `spelling::put_mark` meets its contract. Assumes nothing.
+use mathlib.Core.Path.{refl}
+use mathlib.Core.List.{[], _∷_}
+use Rattle.pieces.specs.Pieces.{aMark, fits, spelt}
+use Rattle.spelling.proofs.PageLaws.{piece-put}
+use borrow.Author.Needs.{needs}
+use Rattle.spelling.proofs.put_mark.Statement.{statement}
+use Rattle.spelling.proofs.put_mark.Tie as tie
+
+put-byte-requires : tie.Need-put-byte-requires
+put-byte-requires c κs = search needs
+
+put-byte-requires-2 : tie.Need-put-byte-requires-2
+put-byte-requires-2 c κs = search needs
+
+same-length : tie.Need-same-length
+same-length c = search needs
+
+returns : tie.Need-returns
+unfolding fits spelt
+returns c =
+    let at-put-byte2 = c .before .before in
+    let at-put-byte = at-put-byte2 .before .before .before .before in
+    let start = at-put-byte .before .before .before in
+    piece-put (aMark (start .args .b)) _ (start .args .b ∷ []) (at-put-byte .put-byte .ensures) (at-put-byte2 .put-byte2 .ensures) refl
+    (start .pre)
+
+pub put-mark-spec : {M : Type 1} → statement M
+put-mark-spec = tie.close (tie.spec put-byte-requires put-byte-requires-2 same-length returns)

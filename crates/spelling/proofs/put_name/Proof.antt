@@ -1,0 +1,33 @@
+-- `spelling::put_name` meets its contract. Assumes nothing.
+use mathlib.Core.Path.{refl, _∙_}
+use Rattle.pieces.specs.Pieces.{aName, fits, spelt}
+use Rattle.spelling.proofs.PageLaws.{piece-judged}
+use borrow.Author.Needs.{needs}
+use Rattle.spelling.proofs.put_name.Statement.{statement}
+use Rattle.spelling.proofs.put_name.Tie as tie
+
+put-piece-requires : tie.Need-put-piece-requires
+put-piece-requires c κs = search needs
+
+is-name-like-requires : tie.Need-is-name-like-requires
+is-name-like-requires c κs = search needs
+
+judged-requires : tie.Need-judged-requires
+judged-requires c κs = search needs
+
+same-length : tie.Need-same-length
+same-length c = search needs
+
+returns : tie.Need-returns
+unfolding fits spelt
+returns c =
+    let at-put-piece = c .before .before .before .before in
+    let args = at-put-piece .before .before .before .before .args in
+    c .judged .ensures _
+    ∙ piece-judged (aName (args .name .now)) _ (args .name .now) refl (at-put-piece .put-piece .ensures) refl
+    (c .before .is-name-like .ensures)
+
+pub put-name-spec : {M : Type 1} → statement M
+put-name-spec =
+    tie.close
+    (tie.spec put-piece-requires is-name-like-requires judged-requires same-length returns)

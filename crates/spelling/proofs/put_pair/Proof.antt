@@ -1,0 +1,45 @@
+-- `spelling::put_pair` meets its contract. Assumes nothing.
+use mathlib.Core.List.{[], _∷_}
+use mathlib.Core.Path.{refl, _∙_, ap}
+use borrow.Author.Needs.{needs}
+use Rattle.pieces.specs.Pieces.{aPair, fits, spelt}
+use Rattle.spelling.specs.Spelling.{putOn}
+use Rattle.spelling.proofs.PageLaws.{piece-put, put-both}
+use Rattle.spelling.proofs.put_pair.Statement.{statement}
+use Rattle.spelling.proofs.put_pair.Tie as tie
+
+put-byte-requires : tie.Need-put-byte-requires
+put-byte-requires c κs = search needs
+
+put-byte-requires-2 : tie.Need-put-byte-requires-2
+put-byte-requires-2 c κs = search needs
+
+put-byte-requires-3 : tie.Need-put-byte-requires-3
+put-byte-requires-3 c κs = search needs
+
+same-length : tie.Need-same-length
+same-length c = search needs
+
+returns : tie.Need-returns
+unfolding fits spelt
+returns c =
+    let at-put-byte3 = c .before .before in
+    let at-put-byte2 = at-put-byte3 .before .before .before .before in
+    let at-put-byte = at-put-byte2 .before .before .before .before in
+    let start = at-put-byte .before .before .before in
+    let args = start .args in
+    piece-put
+    (aPair (args .b) (args .c))
+    _
+    (args .b ∷ args .c ∷ [])
+    (at-put-byte2 .put-byte2 .ensures
+    ∙ ap (putOn (args .c ∷ [])) (at-put-byte .put-byte .ensures)
+    ∙ put-both (args .b ∷ []) (args .c ∷ []) _)
+    (at-put-byte3 .put-byte3 .ensures)
+    refl
+    (rw (start .pre .0, start .pre .1))
+
+pub put-pair-spec : {M : Type 1} → statement M
+put-pair-spec =
+    tie.close
+    (tie.spec put-byte-requires put-byte-requires-2 put-byte-requires-3 same-length returns)

@@ -1,0 +1,28 @@
+-- `spelling::put_percent` meets its contract. Assumes nothing.
+use Rattle.spelling.proofs.NumberLaws.{found-percent, percent-spellable}
+use Rattle.spelling.specs.Spelling.{pageOf, Spellable}
+use mathlib.Core.Path.{sym, subst}
+use borrow.Author.Needs.{needs}
+use Rattle.spelling.proofs.put_percent.Statement.{statement}
+use Rattle.spelling.proofs.put_percent.Tie as tie
+
+percent-of-requires : tie.Need-percent-of-requires
+percent-of-requires c κs = search needs
+
+put-decimal-requires : tie.Need-put-decimal-requires
+put-decimal-requires c κs = subst Spellable (sym (c .percent-of .ensures)) (percent-spellable _)
+
+same-length : tie.Need-same-length
+same-length c = search needs
+
+returns : tie.Need-returns
+returns c =
+    let at-put-decimal = c .before .before in
+    let at-percent-of = at-put-decimal .before in
+    let args = at-percent-of .before .before .before .args in
+    found-percent (args .bits) (pageOf (args .out .now) (args .pen)) _ (at-percent-of .percent-of .ensures)
+    (at-put-decimal .put-decimal .ensures)
+
+pub put-percent-spec : {M : Type 1} → statement M
+put-percent-spec =
+    tie.close (tie.spec percent-of-requires put-decimal-requires same-length returns)

@@ -1,0 +1,23 @@
+-- `spelling::put_word` meets its contract. Assumes nothing.
+use mathlib.Core.Path.{refl}
+use Rattle.pieces.specs.Pieces.{aWord, fits, spelt}
+use Rattle.spelling.proofs.PageLaws.{piece-put}
+use borrow.Author.Needs.{needs}
+use Rattle.spelling.proofs.put_word.Statement.{statement}
+use Rattle.spelling.proofs.put_word.Tie as tie
+
+put-piece-requires : tie.Need-put-piece-requires
+put-piece-requires c κs = search needs
+
+same-length : tie.Need-same-length
+same-length c = search needs
+
+returns : tie.Need-returns
+unfolding fits spelt
+returns c =
+    let at-put-piece = c .before .before in
+    let start = at-put-piece .before .before .before .before in
+    piece-put (aWord (start .args .word .now)) _ (start .args .word .now) refl (at-put-piece .put-piece .ensures) refl (start .pre)
+
+pub put-word-spec : {M : Type 1} → statement M
+put-word-spec = tie.close (tie.spec put-piece-requires same-length returns)

@@ -1,0 +1,1 @@
+// Laws: a tree that some text reads to can be written, and no other can.
