@@ -33,9 +33,12 @@ one feed '' 'accept 0\n'
 one feed 'tween' 'refuse 6 at 5\n'
 one feed 'keyframes p {50%%: 0, 0.5s: 1}' 'refuse 26 at 1\n'
 one rounded 'at 0.5; at 0.1; at 16777217' '2\n'
+one color 'Tomato' 'FF6347FF\n'
+one color '#1234' '11223344\n'
+one color 'transparent' 'refuse 25 at 0\n'
 one back '' '\n'
 one back 'at--0.50;label "a";' 'at + 0.5 ; label "a" ;\n'
 one back 'tween' 'refuse 6 at 5\n'
 one back 'keyframes p{loop:once 5%%:[],0.50:10000000 Easing::Linear}' 'keyframes p { 5 %% : [ ] , 0.5 : 9999999.5 Easing :: Linear , loop : once } ;\n'
 one back 'preset fadein' 'refuse 24 at 1\n'
-echo "C example: 4 passed, each in two ways, 4 fed, a count of rounded numbers, and 5 written back"
+echo "C example: 4 passed, each in two ways, 4 fed, a count of rounded numbers, 3 colours, and 5 written back"

@@ -30,7 +30,7 @@ ANSWERER = r"""
 #include <stdlib.h>
 #include <string.h>
 uint64_t strip_read(const uint8_t *, size_t, uint16_t *, size_t, uint8_t *, size_t);
-uint64_t strip_write(const uint8_t *, size_t, const uint8_t *, size_t, uint8_t *, size_t);
+uint64_t strip_write(const uint8_t *, size_t, const uint8_t *, size_t, uint8_t *, size_t, uint32_t);
 static uint16_t scratch[16384];
 static uint8_t text[65536], sheet[131072], out[65536 + 64];
 static char line[524288];
@@ -50,7 +50,7 @@ static void read_text(size_t n) {
 static void write_back(size_t n, size_t m, size_t room) {
     size_t used = 0, zero = 1, past = 1;
     memset(out, 7, room + 64);
-    uint64_t a = strip_write(text, n, sheet, m, out, room);
+    uint64_t a = strip_write(text, n, sheet, m, out, room, 1);
     if (a >> 56) refuse(a);
     else {
         used = (uint32_t) a;
@@ -78,7 +78,7 @@ TIMER = r"""
 #include <stdlib.h>
 #include <time.h>
 uint64_t strip_read(const uint8_t *, size_t, uint16_t *, size_t, uint8_t *, size_t);
-uint64_t strip_write(const uint8_t *, size_t, const uint8_t *, size_t, uint8_t *, size_t);
+uint64_t strip_write(const uint8_t *, size_t, const uint8_t *, size_t, uint8_t *, size_t, uint32_t);
 static uint16_t scratch[16384];
 static uint8_t text[16384], sheet[49152], out[16384];
 static double now(void) {
@@ -94,7 +94,7 @@ int main(int argc, char **argv) {
         double start = now();
         a = strip_read(text, n, scratch, 16384, sheet, 49152);
         double middle = now();
-        b = strip_write(text, n, sheet, a & 0xFFFFFF, out, sizeof out);
+        b = strip_write(text, n, sheet, a & 0xFFFFFF, out, sizeof out, 1);
         double end = now();
         if (middle - start < read) read = middle - start;
         if (end - middle < write) write = end - middle;

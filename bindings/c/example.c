@@ -2,7 +2,7 @@
  * Reads a script from standard input, checks it, and prints its lines, then `accept N`; or `refuse R at P`. With the argument `page`
  * one call does it all; with `feed` the script is fed to empty totals, and what is printed is its answer, the count of its node records
  * and the mean entries of its tracks; with `rounded` it prints how many numbers were rounded instead; with `back` a fresh script that
- * reads to the same tree.
+ * reads to the same tree; with `color` the input is one colour, and what is printed is its red, green, blue and alpha.
  */
 #include "strip.h"
 
@@ -27,7 +27,7 @@ static int refused(uint64_t answer) {
 static void feed(size_t length) {
     uint32_t totals[STRIP_TOTALS_WORDS] = {0};
     uint32_t mean[2];
-    uint64_t fed = strip_feed(totals, text, length, scratch, STRIP_SCRATCH_WORDS, sheet, STRIP_SHEET_BYTES);
+    uint64_t fed = strip_feed(totals, text, length, scratch, STRIP_SCRATCH_WORDS, sheet, STRIP_SHEET_BYTES, STRIP_RUST_COLORS);
     if (refused(fed))
         return;
     if (strip_script_number(fed) != STRIP_ACCEPTED) {
@@ -43,7 +43,7 @@ static void feed(size_t length) {
 
 /* Prints a fresh script of the text and its sheet. */
 static void back(size_t length, size_t size) {
-    uint64_t written = strip_write(text, length, sheet, size, output, sizeof output);
+    uint64_t written = strip_write(text, length, sheet, size, output, sizeof output, STRIP_RUST_COLORS);
     if (refused(written))
         return;
     fwrite(output, 1, strip_value(written), stdout);
@@ -56,13 +56,19 @@ int main(int argc, char **argv) {
         perror("standard input");
         return 1;
     }
+    if (argc > 1 && strcmp(argv[1], "color") == 0) {
+        uint64_t color = strip_color(text, length);
+        if (!refused(color))
+            printf("%08X\n", (unsigned)strip_value(color));
+        return 0;
+    }
     if (argc > 1 && strcmp(argv[1], "feed") == 0) {
         feed(length);
         return 0;
     }
     if (argc > 1 && strcmp(argv[1], "page") == 0) {
         uint64_t printed =
-            strip_print(text, length, scratch, STRIP_SCRATCH_WORDS, sheet, STRIP_SHEET_BYTES, page, STRIP_PAGE_BYTES);
+            strip_print(text, length, scratch, STRIP_SCRATCH_WORDS, sheet, STRIP_SHEET_BYTES, page, STRIP_PAGE_BYTES, STRIP_RUST_COLORS);
         fwrite(page, 1, strip_value(printed), stdout);
         return 0;
     }
@@ -79,7 +85,7 @@ int main(int argc, char **argv) {
         return 0;
     }
     uint32_t records = strip_records(reading);
-    if (refused(strip_check(text, length, sheet, size)))
+    if (refused(strip_check(text, length, sheet, size, STRIP_RUST_COLORS)))
         return 0;
     for (uint32_t ordinal = 0; ordinal <= records; ordinal++) {
         uint64_t line = strip_line(text, length, sheet, size, ordinal, output, sizeof output);

@@ -1,7 +1,7 @@
 /*
  * Motion scripts of shelf-edge strips: reading a script into a sheet of bytes, checking the sheet, lining its records in
- * hexadecimal, all of it at once on a page, writing a fresh script from text and sheet, and counting many scripts in the totals of a
- * morning sheet. `rt staticlib strip` writes the library, target/staticlib/libstrip.a.
+ * hexadecimal, all of it at once on a page, writing a fresh script from text and sheet, telling the bytes of a colour, and counting many
+ * scripts in the totals of a morning sheet. `rt staticlib strip` writes the library, target/staticlib/libstrip.a.
  *
  * No pointer is NULL, not even where its length is 0. What is written to overlaps nothing else that is lent. A length is in
  * elements. Nothing is allocated.
@@ -23,6 +23,10 @@ extern "C" {
 #define STRIP_SCRATCH_WORDS 16384
 #define STRIP_SHEET_BYTES 49152
 #define STRIP_PAGE_BYTES 147456
+
+/* The lists of named colours, for what checks: the Rust's 22, and the 148 of CSS Color Module Level 4. */
+#define STRIP_RUST_COLORS 1
+#define STRIP_CSS_COLORS 2
 
 /* The causes of refusal. */
 enum strip_refusal {
@@ -54,7 +58,8 @@ enum strip_refusal {
     STRIP_OUTPUT_TOO_SHORT = 32,
     STRIP_TOO_MANY_SCRIPTS = 33,
     STRIP_UNWRITABLE = 34,
-    STRIP_SCRIPT_TOO_LONG = 35
+    STRIP_SCRIPT_TOO_LONG = 35,
+    STRIP_UNKNOWN_LIST = 36
 };
 
 /*
@@ -75,10 +80,16 @@ uint64_t strip_read(const uint8_t *text, size_t text_length, uint16_t *scratch, 
                     size_t sheet_length);
 
 /*
- * Checks a sheet, lent up to the length that reading gave. Refused: strip_value is the record's ordinal, for 2 a place in the
- * text, for 1 and 20 it is 0.
+ * Checks a sheet, lent up to the length that reading gave, under a list of colours. Refused: strip_value is the record's ordinal, for
+ * 2 a place in the text, for 1, 36 and 20, in this order, it is 0; 36 is for a list other than the two.
  */
-uint64_t strip_check(const uint8_t *text, size_t text_length, const uint8_t *sheet, size_t sheet_length);
+uint64_t strip_check(const uint8_t *text, size_t text_length, const uint8_t *sheet, size_t sheet_length, uint32_t list);
+
+/*
+ * The colour of a string under the second list: a name in letters of any case, or `#` and 3, 4, 6 or 8 hexadecimal digits. Accepted:
+ * strip_value is red times 2^24 plus green times 2^16 plus blue times 2^8 plus alpha, 255 where none is written. Refused: 25 at 0.
+ */
+uint64_t strip_color(const uint8_t *string, size_t length);
 
 /*
  * Writes the line of the record with an ordinal, the head being 0. Accepted: strip_value is the line's length, its LF included; past
@@ -95,23 +106,23 @@ uint64_t strip_line(const uint8_t *text, size_t text_length, const uint8_t *shee
  * buffer, both at 0.
  */
 uint64_t strip_write(const uint8_t *text, size_t text_length, const uint8_t *sheet, size_t sheet_length, uint8_t *out,
-                     size_t out_length);
+                     size_t out_length, uint32_t list);
 
 /*
  * Reads and checks a text, and writes at the front of a page what the program prints for it: a line for each record, then
- * `accept N`; or `refuse R at P`. Accepted: strip_value is the length of what is written; past it the page is as it was, and scratch
+ * `accept N`; or `refuse R at P`; `list` is checking's, and the program's is STRIP_RUST_COLORS. Accepted: strip_value is the length of what is written; past it the page is as it was, and scratch
  * and sheet are as strip_read leaves them. A page of fewer than STRIP_PAGE_BYTES is refused with 32 at 0, and nothing is touched.
  */
 uint64_t strip_print(const uint8_t *text, size_t text_length, uint16_t *scratch, size_t scratch_length, uint8_t *sheet,
-                     size_t sheet_length, uint8_t *page, size_t page_length);
+                     size_t sheet_length, uint8_t *page, size_t page_length, uint32_t list);
 
 /*
  * Reads and checks a text, and counts it in totals. Counted: strip_script_number is 0 for an accepted script, or the number of its
  * refusal, with its place in strip_value; scratch and sheet are as strip_read leaves them. Totals of 4,096 scripts, or with a figure
- * above 268,431,360, are refused with 33 at 0 before all else, and nothing is touched.
+ * above 268,431,360, are refused with 33 at 0 before all else, and nothing is touched. `list` is checking's.
  */
 uint64_t strip_feed(uint32_t totals[STRIP_TOTALS_WORDS], const uint8_t *text, size_t text_length, uint16_t *scratch,
-                    size_t scratch_length, uint8_t *sheet, size_t sheet_length);
+                    size_t scratch_length, uint8_t *sheet, size_t sheet_length, uint32_t list);
 
 /*
  * A mean over totals as a fraction in lowest terms: of the node records of an accepted script where `which` is 0, else of the entries

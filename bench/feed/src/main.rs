@@ -44,7 +44,7 @@ fn main() {
         accepted = 0;
         for text in &texts {
             if let ReadAnswer::Accepted { length, .. } = strip::read(black_box(text), &mut scratch, &mut sheet) {
-                accepted += u32::from(strip::check(text, &sheet[..length]) == CheckAnswer::Accepted);
+                accepted += u32::from(strip::check(text, &sheet[..length], strip::RUST_COLORS) == CheckAnswer::Accepted);
             }
         }
         alone = alone.min(start.elapsed().as_secs_f64());
@@ -52,7 +52,7 @@ fn main() {
         let start = Instant::now();
         let mut totals = Totals::default();
         for text in &texts {
-            let answer = strip::feed(&mut totals, black_box(text), &mut scratch, &mut sheet);
+            let answer = strip::feed(&mut totals, black_box(text), &mut scratch, &mut sheet, strip::RUST_COLORS);
             assert!(matches!(answer, FeedAnswer::Counted(_)));
         }
         fed = fed.min(start.elapsed().as_secs_f64());

@@ -81,7 +81,7 @@ fn reading(lent: &mut Lent, text: &str) -> Pair {
 
 fn checking(text: &str, sheet: &[u8], input: &AnimatoInput) -> Pair {
     times(
-        || strip::check(black_box(text).as_bytes(), black_box(sheet)),
+        || strip::check(black_box(text).as_bytes(), black_box(sheet), strip::RUST_COLORS),
         || validate::validate_nodes(black_box(&input.nodes)).is_ok(),
     )
 }
@@ -113,7 +113,7 @@ fn row(lent: &mut Lent, name: &str, text: &str) {
         _ => panic!("{name}: reading and the Rust differ"),
     };
     let sheet = lent.sheet[..length].to_vec();
-    let accepted = strip::check(text.as_bytes(), &sheet) == CheckAnswer::Accepted;
+    let accepted = strip::check(text.as_bytes(), &sheet, strip::RUST_COLORS) == CheckAnswer::Accepted;
     assert_eq!(accepted, validate::validate_nodes(&input.nodes).is_ok(), "{name}");
     let check = checking(text, &sheet, &input);
     let both = read.and(check);
@@ -151,7 +151,7 @@ fn line_row(lent: &mut Lent, name: &str, text: &str) {
 /// What is printed for a script, on a page: reading, checking and all lines in one call.
 fn print_row(lent: &mut Lent, page: &mut [u8], name: &str, text: &str) {
     let Lent { scratch, sheet, .. } = lent;
-    let mut all = || match strip::print(text.as_bytes(), scratch, sheet, page) {
+    let mut all = || match strip::print(text.as_bytes(), scratch, sheet, page, strip::RUST_COLORS) {
         LineAnswer::Accepted { length } => length,
         LineAnswer::Refused { .. } => panic!("{name}: nothing printed"),
     };

@@ -3,7 +3,7 @@
 //!
 //!     cargo run --release --example morning -- scripts/*.strip
 use std::process::ExitCode;
-use strip::{CheckAnswer, FeedAnswer, Mean, MeanAnswer, Refusal, Totals, KINDS, SCRATCH_WORDS, SHEET_BYTES, TEXT_BYTES};
+use strip::{CheckAnswer, FeedAnswer, Mean, MeanAnswer, Refusal, Totals, KINDS, RUST_COLORS, SCRATCH_WORDS, SHEET_BYTES, TEXT_BYTES};
 
 fn main() -> ExitCode {
     let names: Vec<String> = std::env::args().skip(1).collect();
@@ -18,7 +18,7 @@ fn main() -> ExitCode {
                 return ExitCode::FAILURE;
             }
         };
-        match strip::feed(&mut totals, &text, &mut scratch, &mut sheet) {
+        match strip::feed(&mut totals, &text, &mut scratch, &mut sheet, RUST_COLORS) {
             FeedAnswer::Counted(CheckAnswer::Accepted) => {}
             FeedAnswer::Counted(CheckAnswer::Refused { refusal, place }) => {
                 eprintln!("\n{name}: refuse {} at {place}", refusal.number());

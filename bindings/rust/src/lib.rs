@@ -1,6 +1,6 @@
 //! Motion scripts of shelf-edge strips: reading a script into a sheet of bytes, checking the sheet, lining its records in
-//! hexadecimal, all of it at once on a page, writing a fresh script from text and sheet, and counting many scripts in the totals of a
-//! morning sheet. The functions call a library that is proved: each answer and every byte that is written equals a definition. They
+//! hexadecimal, all of it at once on a page, writing a fresh script from text and sheet, telling the bytes of a colour, and counting many
+//! scripts in the totals of a morning sheet. The functions call a library that is proved: each answer and every byte that is written equals a definition. They
 //! allocate nothing, and what they write to is lent.
 //!
 //! ```
@@ -14,7 +14,7 @@
 //! };
 //! let sheet = &sheet[..length];
 //! assert_eq!((sheet, records, rounded), (&[0, 1, 14, 0, 0, 0x3F, 0, 0, 0, 0][..], 1, 0));
-//! assert_eq!(strip::check(text, sheet), CheckAnswer::Accepted);
+//! assert_eq!(strip::check(text, sheet, strip::RUST_COLORS), CheckAnswer::Accepted);
 //!
 //! // the head is record 0, and a node's ordinals begin at 1
 //! let mut output = [0; 64];
@@ -23,12 +23,12 @@
 //!
 //! // a fresh script, which reads to the same tree: tokens one blank apart, the fewest digits, no default
 //! let mut script = [0; 64];
-//! assert_eq!(strip::write(text, sheet, &mut script), LineAnswer::Accepted { length: 8 });
+//! assert_eq!(strip::write(text, sheet, &mut script, strip::RUST_COLORS), LineAnswer::Accepted { length: 8 });
 //! assert_eq!(&script[..8], b"at 0.5 ;");
 //!
 //! // all that the program prints for a text, in one call
 //! let mut page = vec![0; strip::PAGE_BYTES];
-//! let answer = strip::print(text, &mut scratch, &mut vec![0; strip::SHEET_BYTES], &mut page);
+//! let answer = strip::print(text, &mut scratch, &mut vec![0; strip::SHEET_BYTES], &mut page, strip::RUST_COLORS);
 //! assert_eq!(answer, LineAnswer::Accepted { length: 43 });
 //! assert_eq!(&page[..43], b"00020001FD\n00080E00003F00000000AB\naccept 1\n");
 //!
@@ -43,16 +43,21 @@
 //! let ReadAnswer::Accepted { length, .. } = strip::read(text, &mut scratch, &mut sheet) else {
 //!     panic!("a refusal");
 //! };
-//! let answer = strip::check(text, &sheet[..length]);
+//! let answer = strip::check(text, &sheet[..length], strip::CSS_COLORS);
 //! assert_eq!(answer, CheckAnswer::Refused { refusal: Refusal::UnknownPreset, place: 2 });
 //! assert_eq!(strip::line(text, &sheet[..length], 2, &mut output), LineAnswer::Accepted { length: 25 });
 //! let start = strip::start(&output[..25]).expect("a node's line");
 //! assert_eq!((start, strip::line_and_column(text, start)), (8, (2, 3)));
 //!
+//! // the red, green, blue and alpha of a colour under the second list
+//! assert_eq!(strip::color(b"Tomato"), Ok([255, 99, 71, 255]));
+//! assert_eq!(strip::color(b"#1234"), Ok([0x11, 0x22, 0x33, 0x44]));
+//! assert_eq!(strip::color(b"transparent"), Err(Refusal::InvalidColor));
+//!
 //! // a morning sheet over three scripts
 //! let mut totals = strip::Totals::default();
 //! for text in [&b"keyframes p {0: 0, 1: 1, 2: 0}"[..], b"at 1; at 2;", b"tween"] {
-//!     strip::feed(&mut totals, text, &mut scratch, &mut vec![0; strip::SHEET_BYTES]);
+//!     strip::feed(&mut totals, text, &mut scratch, &mut vec![0; strip::SHEET_BYTES], strip::CSS_COLORS);
 //! }
 //! assert_eq!((totals.scripts(), totals.accepted(), totals.refused(Refusal::Missing)), (3, 2, 1));
 //! assert_eq!((totals.records(2), totals.records(14), totals.entries()), (1, 2, 3));
@@ -73,6 +78,11 @@ pub const SCRATCH_WORDS: usize = 16_384;
 pub const SHEET_BYTES: usize = 49_152;
 /// The shortest page that printing takes, which is long enough for every text.
 pub const PAGE_BYTES: usize = 147_456;
+
+/// The list of the Rust's 22 named colours, for what checks.
+pub const RUST_COLORS: u32 = 1;
+/// The list of the 148 named colours of CSS Color Module Level 4. Any other number is refused with [`Refusal::UnknownList`].
+pub const CSS_COLORS: u32 = 2;
 
 /// The most scripts that are fed to one sheet of totals.
 pub const SCRIPT_LIMIT: u32 = 4_096;
@@ -221,13 +231,14 @@ pub enum MeanAnswer {
 }
 
 extern "C" {
-    fn strip_feed(totals: *mut u32, text: *const u8, text_length: usize, scratch: *mut u16, words: usize, sheet: *mut u8, room: usize) -> u64;
+    fn strip_feed(totals: *mut u32, text: *const u8, text_length: usize, scratch: *mut u16, words: usize, sheet: *mut u8, room: usize, list: u32) -> u64;
     fn strip_mean(totals: *const u32, which: u32, out: *mut u32) -> u64;
     fn strip_read(text: *const u8, text_length: usize, scratch: *mut u16, words: usize, sheet: *mut u8, room: usize) -> u64;
-    fn strip_check(text: *const u8, text_length: usize, sheet: *const u8, sheet_length: usize) -> u64;
+    fn strip_check(text: *const u8, text_length: usize, sheet: *const u8, sheet_length: usize, list: u32) -> u64;
+    fn strip_color(string: *const u8, length: usize) -> u64;
     fn strip_line(text: *const u8, text_length: usize, sheet: *const u8, sheet_length: usize, ordinal: u32, output: *mut u8, room: usize) -> u64;
-    fn strip_write(text: *const u8, text_length: usize, sheet: *const u8, sheet_length: usize, out: *mut u8, room: usize) -> u64;
-    fn strip_print(text: *const u8, text_length: usize, scratch: *mut u16, words: usize, sheet: *mut u8, room: usize, page: *mut u8, page_room: usize) -> u64;
+    fn strip_write(text: *const u8, text_length: usize, sheet: *const u8, sheet_length: usize, out: *mut u8, room: usize, list: u32) -> u64;
+    fn strip_print(text: *const u8, text_length: usize, scratch: *mut u16, words: usize, sheet: *mut u8, room: usize, page: *mut u8, page_room: usize, list: u32) -> u64;
 }
 
 /// Reads a text into a sheet. Afterwards scratch is all zero, and the sheet zero past its length, or everywhere on a refusal;
@@ -246,13 +257,24 @@ pub fn read(text: &[u8], scratch: &mut [u16], sheet: &mut [u8]) -> ReadAnswer {
 }
 
 /// Checks a sheet. `sheet` is what [`read`] gave for this text, up to its length; any other bytes are refused unless they are a
-/// sheet for the text.
-pub fn check(text: &[u8], sheet: &[u8]) -> CheckAnswer {
+/// sheet for the text. `list` is [`RUST_COLORS`] or [`CSS_COLORS`]; any other is refused behind what is wrong with the text.
+pub fn check(text: &[u8], sheet: &[u8], list: u32) -> CheckAnswer {
     // SAFETY: the two slices are whole.
-    let answer = unsafe { strip_check(text.as_ptr(), text.len(), sheet.as_ptr(), sheet.len()) };
+    let answer = unsafe { strip_check(text.as_ptr(), text.len(), sheet.as_ptr(), sheet.len(), list) };
     match refused(answer) {
         Some((refusal, place)) => CheckAnswer::Refused { refusal, place },
         None => CheckAnswer::Accepted,
+    }
+}
+
+/// The red, green, blue and alpha of a string under the second list: a name of [`CSS_COLORS`] in letters of any case, or `#` and 3, 4, 6
+/// or 8 hexadecimal digits. Alpha is 255 where none is written. Refused: [`Refusal::InvalidColor`] alone.
+pub fn color(string: &[u8]) -> Result<[u8; 4], Refusal> {
+    // SAFETY: the slice is whole.
+    let answer = unsafe { strip_color(string.as_ptr(), string.len()) };
+    match refused(answer) {
+        Some((refusal, _)) => Err(refusal),
+        None => Ok((value(answer) as u32).to_be_bytes()),
     }
 }
 
@@ -266,15 +288,15 @@ pub fn line(text: &[u8], sheet: &[u8], ordinal: u32, output: &mut [u8]) -> LineA
 /// Writes a fresh script from a text and its sheet: one that [`read`] gives the same tree for, its starts apart. Past the script the
 /// buffer is zero, and on a refusal all of it is. Refused: what [`check`] refuses; then [`Refusal::Unwritable`] if no text reads to the
 /// tree, which a sheet of [`read`] cannot bring about; then [`Refusal::ScriptTooLong`].
-pub fn write(text: &[u8], sheet: &[u8], out: &mut [u8]) -> LineAnswer {
+pub fn write(text: &[u8], sheet: &[u8], out: &mut [u8], list: u32) -> LineAnswer {
     // SAFETY: the three slices are whole, and the buffer overlaps neither of the others.
-    line_answer(unsafe { strip_write(text.as_ptr(), text.len(), sheet.as_ptr(), sheet.len(), out.as_mut_ptr(), out.len()) })
+    line_answer(unsafe { strip_write(text.as_ptr(), text.len(), sheet.as_ptr(), sheet.len(), out.as_mut_ptr(), out.len(), list) })
 }
 
 /// Reads and checks a text, and writes at the front of a page what the program prints for it: a line for each record, then
-/// `accept N`; or `refuse R at P`. Past that the page is as it was; scratch and sheet are as [`read`] leaves them. A page of fewer
+/// `accept N`; or `refuse R at P`. `list` is checking's, the program's is [`RUST_COLORS`]. Past that the page is as it was; scratch and sheet are as [`read`] leaves them. A page of fewer
 /// than [`PAGE_BYTES`] is refused with [`Refusal::OutputTooShort`], and nothing is touched.
-pub fn print(text: &[u8], scratch: &mut [u16], sheet: &mut [u8], page: &mut [u8]) -> LineAnswer {
+pub fn print(text: &[u8], scratch: &mut [u16], sheet: &mut [u8], page: &mut [u8], list: u32) -> LineAnswer {
     // SAFETY: the four slices are whole, and do not overlap.
     line_answer(unsafe {
         strip_print(
@@ -286,17 +308,19 @@ pub fn print(text: &[u8], scratch: &mut [u16], sheet: &mut [u8], page: &mut [u8]
             sheet.len(),
             page.as_mut_ptr(),
             page.len(),
+            list,
         )
     })
 }
 
 /// Reads and checks a text, and counts it in totals: as accepted, with its node records and keyframe entries, or as refused under the
 /// number of its refusal. Scratch and sheet are as [`read`] leaves them. Totals of [`SCRIPT_LIMIT`] scripts, or with a figure above
-/// [`FIGURE_LIMIT`], are refused before all else, and nothing is touched.
-pub fn feed(totals: &mut Totals, text: &[u8], scratch: &mut [u16], sheet: &mut [u8]) -> FeedAnswer {
+/// [`FIGURE_LIMIT`], are refused before all else, and nothing is touched. `list` is checking's; a script that reading accepts counts
+/// under [`Refusal::UnknownList`] for a list that is none.
+pub fn feed(totals: &mut Totals, text: &[u8], scratch: &mut [u16], sheet: &mut [u8], list: u32) -> FeedAnswer {
     // SAFETY: the totals are 60 words; the slices are whole, and nothing overlaps.
     let answer = unsafe {
-        strip_feed(totals.0.as_mut_ptr(), text.as_ptr(), text.len(), scratch.as_mut_ptr(), scratch.len(), sheet.as_mut_ptr(), sheet.len())
+        strip_feed(totals.0.as_mut_ptr(), text.as_ptr(), text.len(), scratch.as_mut_ptr(), scratch.len(), sheet.as_mut_ptr(), sheet.len(), list)
     };
     if let Some((refusal, place)) = refused(answer) {
         return FeedAnswer::Refused { refusal, place };

@@ -96,4 +96,6 @@ refusals! {
     Unwritable = 34,
     /// A script of more than 16,384 bytes, or longer than the buffer.
     ScriptTooLong = 35,
+    /// A list of colours other than 1 and 2.
+    UnknownList = 36,
 }

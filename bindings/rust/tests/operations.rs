@@ -1,6 +1,6 @@
 //! Each operation, its refusals, and what it leaves in what is lent.
-use strip::{check, feed, line, mean, print, read, write, CheckAnswer, FeedAnswer, LineAnswer, Mean, MeanAnswer, ReadAnswer, Refusal, Totals};
-use strip::{FIGURE_LIMIT, PAGE_BYTES, SCRATCH_WORDS, SCRIPT_LIMIT, SHEET_BYTES, TEXT_BYTES};
+use strip::{check, color, feed, line, mean, print, read, write, CheckAnswer, FeedAnswer, LineAnswer, Mean, MeanAnswer, ReadAnswer, Refusal, Totals};
+use strip::{CSS_COLORS, FIGURE_LIMIT, PAGE_BYTES, RUST_COLORS, SCRATCH_WORDS, SCRIPT_LIMIT, SHEET_BYTES, TEXT_BYTES};
 
 /// The sheet of a text that reading accepts, and its count of records.
 fn sheet_of(text: &[u8]) -> (Vec<u8>, usize) {
@@ -25,7 +25,7 @@ fn a_script_is_read_checked_and_lined() {
     let (sheet, records) = sheet_of(text);
     assert_eq!(sheet, [0, 1, 14, 0, 0, 0x3F, 0, 0, 0, 0]);
     assert_eq!(records, 1);
-    assert_eq!(check(text, &sheet), CheckAnswer::Accepted);
+    assert_eq!(check(text, &sheet, RUST_COLORS), CheckAnswer::Accepted);
     let mut output = [7; 32];
     assert_eq!(line(text, &sheet, 0, &mut output), LineAnswer::Accepted { length: 11 });
     assert_eq!(&output[..11], b"00020001FD\n");
@@ -62,7 +62,7 @@ fn rounded_numbers_are_counted() {
 /// What printing writes for a text, on a page that is otherwise as it was.
 fn printed(text: &[u8]) -> Vec<u8> {
     let (mut scratch, mut sheet, mut page) = (vec![1; SCRATCH_WORDS], vec![2; SHEET_BYTES], vec![3; PAGE_BYTES]);
-    let LineAnswer::Accepted { length } = print(text, &mut scratch, &mut sheet, &mut page) else {
+    let LineAnswer::Accepted { length } = print(text, &mut scratch, &mut sheet, &mut page, RUST_COLORS) else {
         panic!("{:?} is refused", String::from_utf8_lossy(text));
     };
     assert!(page[length..].iter().all(|&b| b == 3));
@@ -86,7 +86,7 @@ fn a_script_is_printed_on_a_page() {
 #[test]
 fn a_page_of_fewer_bytes_is_refused_and_nothing_is_touched() {
     let (mut scratch, mut sheet, mut page) = (vec![1; SCRATCH_WORDS], vec![2; SHEET_BYTES], vec![3; PAGE_BYTES - 1]);
-    let answer = print(b"at 1", &mut scratch, &mut sheet, &mut page);
+    let answer = print(b"at 1", &mut scratch, &mut sheet, &mut page, RUST_COLORS);
     assert_eq!(answer, LineAnswer::Refused { refusal: Refusal::OutputTooShort, place: 0 });
     assert!(scratch.iter().all(|&w| w == 1) && sheet.iter().all(|&b| b == 2) && page.iter().all(|&b| b == 3));
 }
@@ -95,7 +95,7 @@ fn a_page_of_fewer_bytes_is_refused_and_nothing_is_touched() {
 fn written(text: &[u8]) -> Vec<u8> {
     let (sheet, _) = sheet_of(text);
     let mut out = vec![3; TEXT_BYTES];
-    let LineAnswer::Accepted { length } = write(text, &sheet, &mut out) else {
+    let LineAnswer::Accepted { length } = write(text, &sheet, &mut out, RUST_COLORS) else {
         panic!("{:?} is not written", String::from_utf8_lossy(text));
     };
     assert!(out[length..].iter().all(|&b| b == 0));
@@ -136,10 +136,43 @@ fn writing_refuses_what_checking_does_then_34_then_35_with_zeros() {
         (&b"at 1;".repeat(3276), sheet_of(&b"at 1;".repeat(3276)).0, 32_768, Refusal::ScriptTooLong, 0),
     ] {
         let mut out = vec![3; room];
-        assert_eq!(write(text, &sheet, &mut out), LineAnswer::Refused { refusal, place });
+        assert_eq!(write(text, &sheet, &mut out, RUST_COLORS), LineAnswer::Refused { refusal, place });
         assert!(out.iter().all(|&b| b == 0));
     }
-    assert_eq!(write(b"at 1", &at(one, 0), &mut [3; 6]), LineAnswer::Accepted { length: 6 });
+    assert_eq!(write(b"at 1", &at(one, 0), &mut [3; 6], RUST_COLORS), LineAnswer::Accepted { length: 6 });
+}
+
+#[test]
+fn a_list_of_colours_is_chosen() {
+    let text = br#"color c: "tomato" => "RED" duration: 1"#;
+    let (sheet, _) = sheet_of(text);
+    let no_list = CheckAnswer::Refused { refusal: Refusal::UnknownList, place: 0 };
+    assert_eq!(check(text, &sheet, RUST_COLORS), CheckAnswer::Refused { refusal: Refusal::InvalidColor, place: 1 });
+    assert_eq!(check(text, &sheet, CSS_COLORS), CheckAnswer::Accepted);
+    for list in [0, 3, u32::MAX] {
+        assert_eq!(check(text, &sheet, list), no_list);
+        assert_eq!(check(text, b"", list), no_list);
+        assert_eq!(check(b"a\xFF", &sheet, list), CheckAnswer::Refused { refusal: Refusal::BadForm, place: 1 });
+        let mut out = [3; 64];
+        assert_eq!(write(text, &sheet, &mut out, list), LineAnswer::Refused { refusal: Refusal::UnknownList, place: 0 });
+        assert_eq!(out, [0; 64]);
+        let mut totals = Totals::default();
+        let (mut scratch, mut room) = (vec![0; SCRATCH_WORDS], vec![0; SHEET_BYTES]);
+        assert_eq!(feed(&mut totals, text, &mut scratch, &mut room, list), FeedAnswer::Counted(no_list));
+        assert_eq!((totals.scripts(), totals.refused(Refusal::UnknownList)), (1, 1));
+    }
+}
+
+#[test]
+fn a_colour_has_four_bytes() {
+    assert_eq!(color(b"Tomato"), Ok([255, 99, 71, 255]));
+    assert_eq!(color(b"#aBc"), Ok([0xAA, 0xBB, 0xCC, 255]));
+    assert_eq!(color(b"#1234"), Ok([0x11, 0x22, 0x33, 0x44]));
+    assert_eq!(color(b"#102030"), Ok([0x10, 0x20, 0x30, 255]));
+    assert_eq!(color(b"#01020304"), Ok([1, 2, 3, 4]));
+    for string in [&b""[..], b"#", b"#12", b"#12345", b"#ggg", b"transparent", b"currentcolor", b"redd", &[b'a'; 70_000]] {
+        assert_eq!(color(string), Err(Refusal::InvalidColor));
+    }
 }
 
 #[test]
@@ -147,10 +180,10 @@ fn slices_may_be_empty() {
     assert_eq!(sheet_of(b""), (vec![0, 0], 0));
     assert_eq!(read(b"", &mut [], &mut []), refused(Refusal::ScratchTooShort, 0));
     assert_eq!(read(b"", &mut [0; SCRATCH_WORDS], &mut []), refused(Refusal::SheetTooShort, 0));
-    assert_eq!(check(b"", b""), CheckAnswer::Refused { refusal: Refusal::NotASheet, place: 0 });
+    assert_eq!(check(b"", b"", RUST_COLORS), CheckAnswer::Refused { refusal: Refusal::NotASheet, place: 0 });
     assert_eq!(line(b"", b"", 0, &mut []), LineAnswer::Refused { refusal: Refusal::NotASheet, place: 0 });
     assert_eq!(line(b"", &[0, 0], 0, &mut []), LineAnswer::Refused { refusal: Refusal::OutputTooShort, place: 0 });
-    assert_eq!(write(b"", &[0, 0], &mut []), LineAnswer::Accepted { length: 0 });
+    assert_eq!(write(b"", &[0, 0], &mut [], RUST_COLORS), LineAnswer::Accepted { length: 0 });
 }
 
 #[test]
@@ -181,25 +214,26 @@ fn the_longest_values_come_back() {
 fn two_frames_at_one_time_are_refused() {
     let text = b"keyframes p {50%: 0, 0.5s: 1}";
     let (sheet, _) = sheet_of(text);
-    assert_eq!(check(text, &sheet), CheckAnswer::Refused { refusal: Refusal::DuplicateTime, place: 1 });
+    assert_eq!(check(text, &sheet, RUST_COLORS), CheckAnswer::Refused { refusal: Refusal::DuplicateTime, place: 1 });
 }
 
 #[test]
 fn a_refusal_has_one_number_and_one_name() {
-    assert_eq!(Refusal::ALL.len(), 28);
+    assert_eq!(Refusal::ALL.len(), 29);
     for &refusal in Refusal::ALL {
         assert_eq!(Refusal::of(refusal.number()), Some(refusal));
         assert_eq!(format!("{refusal:?}"), refusal.name());
     }
     assert_eq!((Refusal::DuplicateTime.number(), Refusal::TooManyScripts.number()), (26, 33));
     assert_eq!((Refusal::Unwritable.number(), Refusal::ScriptTooLong.number()), (34, 35));
-    assert_eq!((0..=255).filter_map(Refusal::of).count(), 28);
+    assert_eq!(Refusal::UnknownList.number(), 36);
+    assert_eq!((0..=255).filter_map(Refusal::of).count(), 29);
 }
 
 /// Feeds a text with buffers that are not zero, and gives what they are then.
 fn fed(totals: &mut Totals, text: &[u8]) -> (FeedAnswer, Vec<u16>, Vec<u8>) {
     let (mut scratch, mut sheet) = (vec![1; SCRATCH_WORDS], vec![2; SHEET_BYTES]);
-    let answer = feed(totals, text, &mut scratch, &mut sheet);
+    let answer = feed(totals, text, &mut scratch, &mut sheet, RUST_COLORS);
     (answer, scratch, sheet)
 }
 

@@ -1,8 +1,8 @@
 //! The stored cases of the operations, whose answers are the Rust's or a model's of the rules (oracle/README.md).
 use std::fmt::Write;
 use std::path::Path;
-use strip::{check, feed, line, mean, read, write, CheckAnswer, FeedAnswer, LineAnswer, Mean, MeanAnswer, ReadAnswer, Refusal, Totals};
-use strip::{SCRATCH_WORDS, SCRIPT_LIMIT, SHEET_BYTES, TEXT_BYTES};
+use strip::{check, color, feed, line, mean, read, write, CheckAnswer, FeedAnswer, LineAnswer, Mean, MeanAnswer, ReadAnswer, Refusal, Totals};
+use strip::{RUST_COLORS, SCRATCH_WORDS, SCRIPT_LIMIT, SHEET_BYTES, TEXT_BYTES};
 
 /// What is stored for a program: its input and its output.
 fn stored(name: &str) -> (String, String) {
@@ -55,7 +55,7 @@ fn scripts() {
                 write!(ours, "accept {records} ").unwrap();
                 sheet[..length].iter().for_each(|b| write!(ours, "{b:02X}").unwrap());
                 ours += "\t";
-                ours += &check_line(check(&text, &sheet[..length]));
+                ours += &check_line(check(&text, &sheet[..length], RUST_COLORS));
             }
         }
     }
@@ -68,7 +68,26 @@ fn checking() {
     let mut ours = String::new();
     for case in cases.lines() {
         let (text, sheet) = text_and_sheet(case);
-        ours += &check_line(check(&text, &sheet));
+        ours += &check_line(check(&text, &sheet, RUST_COLORS));
+    }
+    compare(&ours, &answers);
+}
+
+/// A list, a text and a sheet, which are checked; or a string, whose four bytes are asked for.
+#[test]
+fn colours() {
+    let (cases, answers) = stored("color_cases");
+    let mut ours = String::new();
+    for case in cases.lines() {
+        let (list, rest) = case.split_once('\t').unwrap();
+        if list.is_empty() {
+            let answer = color(&bytes(rest));
+            answer.unwrap_or_default().iter().for_each(|byte| write!(ours, "{byte} ").unwrap());
+            ours += &answer.map_or_else(|refusal| refusal_line(refusal, 0), |_| "accept\n".to_string());
+        } else {
+            let (text, sheet) = text_and_sheet(rest);
+            ours += &check_line(check(&text, &sheet, u32::from_str_radix(list, 16).unwrap()));
+        }
     }
     compare(&ours, &answers);
 }
@@ -104,7 +123,7 @@ fn writing() {
     for (text, sheet, room) in cases.lines().map(written_case).chain(long) {
         let mut out = vec![7; room];
         let mut used = 0;
-        match write(&text, &sheet, &mut out) {
+        match write(&text, &sheet, &mut out, RUST_COLORS) {
             LineAnswer::Accepted { length } => {
                 used = length;
                 write!(ours, "accept {length} {}", std::str::from_utf8(&out[..length]).unwrap()).unwrap();
@@ -155,7 +174,7 @@ fn feeding() {
                 continue;
             }
         };
-        ours += &match feed(&mut totals, rest, &mut vec![0; words], &mut vec![0; room]) {
+        ours += &match feed(&mut totals, rest, &mut vec![0; words], &mut vec![0; room], RUST_COLORS) {
             FeedAnswer::Counted(answer) => check_line(answer),
             FeedAnswer::Refused { refusal, place } => format!("unfed {}", refusal_line(refusal, place)),
         };
@@ -178,7 +197,7 @@ fn counted(words: &mut [u32; 60], text: &[u8], scratch: &mut [u16], sheet: &mut 
         ReadAnswer::Accepted { length, records, .. } => (length, records),
         ReadAnswer::Refused { refusal, .. } => return words[usize::from(refusal.number())] += 1,
     };
-    if let CheckAnswer::Refused { refusal, .. } = check(text, &sheet[..length]) {
+    if let CheckAnswer::Refused { refusal, .. } = check(text, &sheet[..length], RUST_COLORS) {
         return words[usize::from(refusal.number())] += 1;
     }
     words[0] += 1;
@@ -225,7 +244,7 @@ fn totals_are_the_counts_of_each_script() {
                 (totals, words) = (Totals::default(), [0; 60]);
             }
             counted(&mut words, &text, &mut scratch, &mut sheet);
-            assert!(matches!(feed(&mut totals, &text, &mut scratch, &mut sheet), FeedAnswer::Counted(_)));
+            assert!(matches!(feed(&mut totals, &text, &mut scratch, &mut sheet, RUST_COLORS), FeedAnswer::Counted(_)));
         }
     }
     assert_eq!(totals.0, words);

@@ -27,15 +27,16 @@ use Rattle.error.specs.declared.Refusal.the-variants.{Unwritable, ScriptTooLong
 use Rattle.error.specs.declared.CheckAnswer.the-variants as check
 use Rattle.error.specs.declared.LineAnswer.{LineAnswer}
 use Rattle.error.specs.declared.LineAnswer.the-variants.{Accepted}
-use Rattle.sheet.specs.Opening.{Opened, opened, shut, opening}
+use Rattle.sheet.specs.Opening.{Opened, opened, shut}
 use Rattle.opening.specs.Means.{answerOf}
 use Rattle.opening.specs.declared.Opening.the-variants.{Open}
-use Rattle.opening.proofs.OpenLaws.{Tree, the-tree}
+use Rattle.opening.proofs.OpenLaws.{Tree}
 use Rattle.sheet.specs.Sheet.{Forest, decode}
 use Rattle.codec.specs.Codec.{big}
 use Rattle.decode.specs.Reads.{Reads, same}
 use Rattle.error.specs.declared.Refusal.{Refusal}
-use Rattle.validate.specs.Checking.{verdict, checking}
+use Rattle.validate.specs.Checking.{verdict, openingUnder, checking}
+use Rattle.validate.proofs.CheckLaws.{its-tree}
 use Rattle.places.proofs.StandLaws.{head}
 use Rattle.back.specs.Back.{refusal, written, senseOf, writing}
 use Rattle.preorder.specs.Copy.{NodesPut}
@@ -277,30 +278,31 @@ module _ (start out : List ℕ) (c : Pen) (x : Sense) (l : length start ≡ leng
 
 -- ---- the operation
 
-module _ (t s out : List ℕ) where
-  pub shut-answer : {r : Refusal} {p : ℕ} → check.Refused r p ≡ checking t s → refusal r p out ≡ writing t s out
+module _ (list : ℕ) (t s out : List ℕ) where
+  pub shut-answer : {r : Refusal} {p : ℕ} → check.Refused r p ≡ checking list t s → refusal r p out ≡ writing list t s out
   unfolding writing
   shut-answer e = rw (← e)
 
   -- an accepted sheet is open, and has a tree
-  is-open : (o : Opened) → check.Accepted ≡ verdict t o → Open ≡ answerOf o
+  is-open : (o : Opened) → check.Accepted ≡ verdict list t o → Open ≡ answerOf o
   is-open (opened ns) e = refl
   is-open (shut r p) e = let z : _≡_ {A = ℕ} 0 1 = cc in absurd (omega arith)
 
-  its-tree : check.Accepted ≡ checking t s → Tree t s
+  the-tree : check.Accepted ≡ checking list t s → Tree t s
   unfolding checking
-  its-tree e = the-tree t s (is-open (opening t s) e)
+  the-tree e = its-tree list t s (is-open (openingUnder list t s) e)
 
-  of-tree : {ns : Forest} → check.Accepted ≡ checking t s → decode (length t) s ≡ some ns → written out (senseOf t ns) ≡ writing t s out
+  of-tree : {ns : Forest} → check.Accepted ≡ checking list t s → decode (length t) s ≡ some ns
+      → written out (senseOf t ns) ≡ writing list t s out
   unfolding writing
   of-tree e d = rw (← e, d)
 
-  pub open-answer : {c m next : ℕ} {q : Page} → check.Accepted ≡ checking t s → Reads (big 2) same s 0 c m
+  pub open-answer : {c m next : ℕ} {q : Page} → check.Accepted ≡ checking list t s → Reads (big 2) same s 0 c m
       → NodesPut t s m c (page out 0) q next
       → {r : LineAnswer} {after : List ℕ} → ((x : Sense) → Written (pieces x) (page out 0) q → (r, after) ≡ written out x)
-      → (r, after) ≡ writing t s out
+      → (r, after) ≡ writing list t s out
   open-answer e h g f =
-      let o = its-tree e in
+      let o = the-tree e in
       f (senseOf t (o .nodes)) (g .is 16 (o .nodes) (head (length t) s (o .nodes) (o .decodes) h) .puts) ∙ of-tree e (o .decodes)
 
 -- what equals the operation has its values

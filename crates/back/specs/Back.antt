@@ -47,6 +47,6 @@ abbrev pub ofVerdict : List ℕ → List ℕ → List ℕ → CheckAnswer → Li
 ofVerdict t s out (check.Refused r p) = refusal r p out
 ofVerdict t s out check.Accepted = ofTree t out (decode (length t) s)
 
--- the answer, and the buffer afterwards
-unfoldable pub writing : List ℕ → List ℕ → List ℕ → LineAnswer × List ℕ
-writing t s out = ofVerdict t s out (checking t s)
+-- the answer, and the buffer afterwards, for a list of colours that the text and its sheet are checked under
+unfoldable pub writing : ℕ → List ℕ → List ℕ → List ℕ → LineAnswer × List ℕ
+writing list t s out = ofVerdict t s out (checking list t s)

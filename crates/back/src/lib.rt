@@ -45,12 +45,12 @@ fn finish(out: &mut [u8], pen: Pen) -> LineAnswer
     LineAnswer::Accepted { length }
 }
 
-// A fresh script of a text and its sheet, into a lent buffer.
-pub fn write(text: &[u8], sheet: &[u8], out: &mut [u8]) -> LineAnswer
-    ensures { λ r. ⌜ (r, now (out .exit)) ≡ writing (now (text .entry)) (now (sheet .entry)) (now (out .entry)) ⌝ }
-    ensures values { λ r. ⌜ lineValues r ≡ lineValues (writing (now (text .entry)) (now (sheet .entry)) (now (out .entry)) .0) ⌝ }
+// A fresh script of a text and its sheet, checked under a list of colours, into a lent buffer.
+pub fn write(text: &[u8], sheet: &[u8], out: &mut [u8], list: u32) -> LineAnswer
+    ensures { λ r. ⌜ (r, now (out .exit)) ≡ writing list (now (text .entry)) (now (sheet .entry)) (now (out .entry)) ⌝ }
+    ensures values { λ r. ⌜ lineValues r ≡ lineValues (writing list (now (text .entry)) (now (sheet .entry)) (now (out .entry)) .0) ⌝ }
 {
-    match validate::check(text, sheet) {
+    match validate::check(text, sheet, list) {
         CheckAnswer::Refused { refusal, place } => refused(out, refusal, place),
         CheckAnswer::Accepted => {
             let head = decode::fields::take_field(sheet, 0, 2);

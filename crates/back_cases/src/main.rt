@@ -70,7 +70,7 @@ fn answer(text: &[u8], sheet: &[u8], room: usize)
 fn write_to(text: &[u8], sheet: &[u8], out: &mut [u8], from: usize)
     requires { ⌜ from ≤ length (now out) ⌝ }
 {
-    let answer = back::write(text, sheet, &mut out[from..]);
+    let answer = back::write(text, sheet, &mut out[from..], 1);
     print(answer, &out[from..]);
 }
 

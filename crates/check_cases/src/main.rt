@@ -1,5 +1,5 @@
 // Answers cases: reads lines of a text and a sheet from standard input, both in hexadecimal with a tab between, and writes
-// what checking answers. oracle/store-checks.sh makes the lines and the answers.
+// what checking answers under the Rust's list of colours. oracle/store-checks.sh makes the lines and the answers.
 ghost use Prim.Native.Nat.{_<_};
 ghost use lib.ListN.{length};
 use error::CheckAnswer;
@@ -30,7 +30,7 @@ fn line(s: &[u8], at: usize) -> usize
     let t = cases::unhex(&s[at..tab], 0, &mut text);
     let mut sheet = [0u8; 65538];
     let n = cases::unhex(&s[tab..end], 1, &mut sheet);
-    answer(validate::check(&text[..t], &sheet[..n]));
+    answer(validate::check(&text[..t], &sheet[..n], 1));
     end + 1
 }
 

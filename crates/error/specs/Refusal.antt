@@ -32,3 +32,4 @@ numberOf cause.OutputTooShort = 32
 numberOf cause.TooManyScripts = 33
 numberOf cause.Unwritable = 34
 numberOf cause.ScriptTooLong = 35
+numberOf cause.UnknownList = 36

@@ -52,6 +52,8 @@ pub enum Refusal {
     Unwritable,
     // The script exceeds a text's limit or the buffer.
     ScriptTooLong,
+    // A list of colours other than 1 and 2.
+    UnknownList,
 }
 
 // What reading answers: the sheet's length, its count of node records and how many written numbers were rounded, or a
@@ -113,5 +115,6 @@ pub fn number_of(refusal: Refusal) -> u8
         Refusal::TooManyScripts => 33,
         Refusal::Unwritable => 34,
         Refusal::ScriptTooLong => 35,
+        Refusal::UnknownList => 36,
     }
 }

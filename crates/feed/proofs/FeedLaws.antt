@@ -281,59 +281,61 @@ refused-adds ws r p q = q ∙ added-same 0 (inWord (numberOf r) 1) (λ i. inWord
 
 module _ (t scratch sheet : List ℕ) {n c j : ℕ} {words left : List ℕ}
     (q : (read.Accepted n c j, words, left) ≡ reading t scratch sheet) where
-  judged-as : {v : CheckAnswer} → v ≡ checking t (take n left) → judgement (fed t scratch sheet) ≡ v
-  judged-as f = ap (whenRead t) (sym q) ∙ sym f
-
-  nodes-as : {v : CheckAnswer} → v ≡ checking t (take n left)
-      → nodes (fed t scratch sheet) ≡ ifAccepted v (nodesIn (decode (length t) (take n left)))
-  nodes-as f =
-      ap (λ (x : ReadAnswer × List ℕ × List ℕ). ifAccepted (whenRead t x) (sheetNodes t x)) (sym q)
-      ∙ ap (λ (v : CheckAnswer). ifAccepted v (nodesIn (decode (length t) (take n left)))) (sym f)
-
   -- the sheet that reading gave is one
   pub is-sheet : {s : List ℕ} → s ≡ take n left → IsSheet (length t) s
   is-sheet e = rw e (let h = held t scratch sheet q in record { tree = h .nodes; decodes = h .decodes })
 
-module _ (ws t scratch sheet : List ℕ) where
-  pub feed-full : full ws ≡ true → (Refused TooManyScripts 0, ws, scratch, sheet) ≡ feeding ws (fed t scratch sheet)
+module _ (list : ℕ) (t scratch sheet : List ℕ) {n c j : ℕ} {words left : List ℕ}
+    (q : (read.Accepted n c j, words, left) ≡ reading t scratch sheet) where
+  judged-as : {v : CheckAnswer} → v ≡ checking list t (take n left) → judgement (fed list t scratch sheet) ≡ v
+  judged-as f = ap (whenRead list t) (sym q) ∙ sym f
+
+  nodes-as : {v : CheckAnswer} → v ≡ checking list t (take n left)
+      → nodes (fed list t scratch sheet) ≡ ifAccepted v (nodesIn (decode (length t) (take n left)))
+  nodes-as f =
+      ap (λ (x : ReadAnswer × List ℕ × List ℕ). ifAccepted (whenRead list t x) (sheetNodes t x)) (sym q)
+      ∙ ap (λ (v : CheckAnswer). ifAccepted v (nodesIn (decode (length t) (take n left)))) (sym f)
+
+module _ (ws : List ℕ) (list : ℕ) (t scratch sheet : List ℕ) where
+  pub feed-full : full ws ≡ true → (Refused TooManyScripts 0, ws, scratch, sheet) ≡ feeding ws (fed list t scratch sheet)
   unfolding feeding
   feed-full e = rw (feeding, e) refl
 
   module _ (e : full ws ≡ false) {words left after : List ℕ} where
     -- a script that is judged a, and whose nodes are xs
     counted : {r : FeedAnswer} (a : CheckAnswer) (xs : List Node) {b : ReadAnswer} → (b, words, left) ≡ reading t scratch sheet
-        → judgement (fed t scratch sheet) ≡ a → nodes (fed t scratch sheet) ≡ xs → r ≡ Counted a
+        → judgement (fed list t scratch sheet) ≡ a → nodes (fed list t scratch sheet) ≡ xs → r ≡ Counted a
         → after ≡ added (λ i. inWord (numberIn a) 1 i + nodesAdd xs i) ws
-        → (r, after, words, left) ≡ feeding ws (fed t scratch sheet)
+        → (r, after, words, left) ≡ feeding ws (fed list t scratch sheet)
     unfolding feeding
     counted a xs u j x w q =
         (λ i. (w i, q i, u i .1, u i .2))
         ∙ (λ i. (
           Counted (sym j i),
           added (λ k. inWord (numberIn (sym j i)) 1 k + nodesAdd (sym x i) k) ws,
-          readOf (fed t scratch sheet) .1,
-          readOf (fed t scratch sheet) .2,
+          readOf (fed list t scratch sheet) .1,
+          readOf (fed list t scratch sheet) .2,
         ))
         ∙ sym (rw (feeding, e) refl)
 
     pub feed-unread : {r : Refusal} {p : ℕ} {a : FeedAnswer} → (read.Refused r p, words, left) ≡ reading t scratch sheet
         → after ≡ judgedAdd (check.Refused r p) ws → a ≡ Counted (check.Refused r p)
-        → (a, after, words, left) ≡ feeding ws (fed t scratch sheet)
+        → (a, after, words, left) ≡ feeding ws (fed list t scratch sheet)
     feed-unread {r} {p} q s a =
-        counted (check.Refused r p) [] q (ap (whenRead t) (sym q))
-        (ap (λ (x : ReadAnswer × List ℕ × List ℕ). ifAccepted (whenRead t x) (sheetNodes t x)) (sym q)) a (refused-adds ws r p s)
+        counted (check.Refused r p) [] q (ap (whenRead list t) (sym q))
+        (ap (λ (x : ReadAnswer × List ℕ × List ℕ). ifAccepted (whenRead list t x) (sheetNodes t x)) (sym q)) a (refused-adds ws r p s)
 
     pub feed-refused : {n c j : ℕ} (q : (read.Accepted n c j, words, left) ≡ reading t scratch sheet) {r : Refusal} {p : ℕ} {a : FeedAnswer}
-        → check.Refused r p ≡ checking t (take n left) → after ≡ judgedAdd (check.Refused r p) ws → a ≡ Counted (check.Refused r p)
-        → (a, after, words, left) ≡ feeding ws (fed t scratch sheet)
+        → check.Refused r p ≡ checking list t (take n left) → after ≡ judgedAdd (check.Refused r p) ws → a ≡ Counted (check.Refused r p)
+        → (a, after, words, left) ≡ feeding ws (fed list t scratch sheet)
     feed-refused q {r} {p} f s a =
-        counted (check.Refused r p) [] q (judged-as t scratch sheet q f) (nodes-as t scratch sheet q f) a (refused-adds ws r p s)
+        counted (check.Refused r p) [] q (judged-as list t scratch sheet q f) (nodes-as list t scratch sheet q f) a (refused-adds ws r p s)
 
     pub feed-accepted : {n c j : ℕ} (q : (read.Accepted n c j, words, left) ≡ reading t scratch sheet) {vs : List ℕ}
-        → check.Accepted ≡ checking t (take n left) → vs ≡ added (inWord 0 1) ws
+        → check.Accepted ≡ checking list t (take n left) → vs ≡ added (inWord 0 1) ws
         → after ≡ added (nodesAdd (nodesIn (decode (length t) (take n left)))) vs
-        → (Counted check.Accepted, after, words, left) ≡ feeding ws (fed t scratch sheet)
+        → (Counted check.Accepted, after, words, left) ≡ feeding ws (fed list t scratch sheet)
     feed-accepted {n} q f g h =
         let xs = nodesIn (decode (length t) (take n left)) in
-        counted check.Accepted xs q (judged-as t scratch sheet q f) (nodes-as t scratch sheet q f) refl
+        counted check.Accepted xs q (judged-as list t scratch sheet q f) (nodes-as list t scratch sheet q f) refl
         (h ∙ ap (added (nodesAdd xs)) g ∙ added-twice 0 (nodesAdd xs) (inWord 0 1) ws)

@@ -19,14 +19,15 @@ use Rattle.totals.specs.Totals.{firstKindWord, entriesWord, scriptLimit, sumOf,
 use Rattle.feed.specs.declared.FeedAnswer.{FeedAnswer}
 use Rattle.feed.specs.declared.FeedAnswer.the-variants.{Counted, Refused}
 
--- what is fed: a text, and the scratch and the sheet that are lent with it
+-- what is fed: a text, and the scratch and the sheet that are lent with it; 02 (g): and the list of colours that it is checked under
 pub record Fed : Type 0 where
+  pub list : ℕ
   pub text : List ℕ
   pub scratch : List ℕ
   pub sheet : List ℕ
 
-abbrev pub fed : List ℕ → List ℕ → List ℕ → Fed
-fed t scratch sheet = record { text = t; scratch = scratch; sheet = sheet }
+abbrev pub fed : ℕ → List ℕ → List ℕ → List ℕ → Fed
+fed list t scratch sheet = record { list = list; text = t; scratch = scratch; sheet = sheet }
 
 -- ---- what a script is judged
 
@@ -35,12 +36,12 @@ abbrev pub readOf : Fed → ReadAnswer × List ℕ × List ℕ
 readOf x = reading (x .text) (x .scratch) (x .sheet)
 
 -- "A script counts as refused if reading or checking refuses it"; checking gets the sheet up to the length that reading gave
-abbrev pub whenRead : List ℕ → ReadAnswer × List ℕ × List ℕ → CheckAnswer
-whenRead t (read.Accepted n c j, words, s) = checking t (take n s)
-whenRead t (read.Refused r p, words, s) = check.Refused r p
+abbrev pub whenRead : ℕ → List ℕ → ReadAnswer × List ℕ × List ℕ → CheckAnswer
+whenRead list t (read.Accepted n c j, words, s) = checking list t (take n s)
+whenRead list t (read.Refused r p, words, s) = check.Refused r p
 
 abbrev pub judgement : Fed → CheckAnswer
-judgement x = whenRead (x .text) (readOf x)
+judgement x = whenRead (x .list) (x .text) (readOf x)
 
 -- the number that it counts under: 0 for an accepted one
 abbrev pub numberIn : CheckAnswer → ℕ

@@ -63,15 +63,16 @@ fn count_refused(totals: &mut [u32], refusal: Refusal, place: usize) -> FeedAnsw
     }
 }
 
-// Reads and checks a text, and counts it: as accepted, with its node records and keyframe entries, or as refused. Totals that are full are
-// refused before all else.
+// Reads a text, checks it under a list of colours, and counts it: as accepted, with its node records and keyframe entries, or as refused.
+// Totals that are full are refused before all else.
 pub fn feed(
     totals: &mut [u32; 60],
     text: &[u8],
     scratch: &mut [u16],
     sheet: &mut [u8],
+    list: u32,
 ) -> FeedAnswer
-    ensures { λ r. ⌜ (r, now (totals .exit), now (scratch .exit), now (sheet .exit)) ≡ feeding (now (totals .entry)) (fed (now (text .entry)) (now (scratch .entry)) (now (sheet .entry))) ⌝ }
+    ensures { λ r. ⌜ (r, now (totals .exit), now (scratch .exit), now (sheet .exit)) ≡ feeding (now (totals .entry)) (fed list (now (text .entry)) (now (scratch .entry)) (now (sheet .entry))) ⌝ }
 {
     if full(totals) {
         return FeedAnswer::Refused {
@@ -79,7 +80,7 @@ pub fn feed(
             place: 0,
         };
     }
-    match verdict::read_and_check(text, scratch, sheet) {
+    match verdict::read_and_check(text, scratch, sheet, list) {
         Verdict::Unread { refusal, place } => count_refused(totals, refusal, place),
         Verdict::Checked {
             length,

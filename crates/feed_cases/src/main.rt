@@ -94,7 +94,7 @@ fn feed_with_less_sheet(totals: &mut [u32; 60], text: &[u8]) {
 
 // Feeds a text, and writes the answer.
 fn feed_to(totals: &mut [u32; 60], text: &[u8], scratch: &mut [u16], sheet: &mut [u8]) {
-    match feed::feed(totals, text, scratch, sheet) {
+    match feed::feed(totals, text, scratch, sheet, 1) {
         FeedAnswer::Counted { answer } => match answer {
             CheckAnswer::Accepted => {
                 io::write_all(STDOUT_FILENO, b"accept\n");

@@ -14,16 +14,16 @@ use Rattle.number.specs.Number.{f32}
 use Rattle.number.specs.Time.{anyNear}
 use Rattle.ast.specs.Tree.{KeyframeTime, KeyframeEntry, Leaf, Container, sequence, parallel, group, stagger, Nodes, records}
 use Rattle.sheet.specs.Sheet.{Forest, decode}
-use Rattle.sheet.specs.Opening.{shut, decoded, unlessForeign, foreignFrom, opening}
-use Rattle.presets.specs.Colors.{colors}
+use Rattle.sheet.specs.Opening.{shut, decoded, unlessForeign, foreignFrom}
+use Rattle.colors.specs.Css.{namesOf}
 use Rattle.validate.specs.Rules.{given, unknownEasing, timeOf, first, validateTween, validateSpring}
 use Rattle.validate.specs.Rules.{validateFrames, validateKeyframes, validatePath, validateMorph}
 use Rattle.validate.specs.Rules.{validateDraw, validateColor, validateWaveform, validatePresetCall, validateLeaf, validateContainer}
 use Rattle.validate.specs.Rules.{atOrdinal, validateNodes}
-use Rattle.validate.specs.Checking.{answerOf, judged, verdict, checking}
+use Rattle.validate.specs.Checking.{answerOf, judged, verdict, isList, openingUnder, checking}
 use Rattle.error.specs.Refusal.{numberOf}
 use Rattle.error.specs.declared.Refusal.{Refusal}
-use Rattle.error.specs.declared.Refusal.the-variants.{TextTooLong, UnknownEasing, DuplicateTime, TooFewFrames, Unwritable}
+use Rattle.error.specs.declared.Refusal.the-variants.{TextTooLong, UnknownEasing, DuplicateTime, TooFewFrames, Unwritable, UnknownList}
 use Rattle.error.specs.declared.CheckAnswer.{CheckAnswer}
 use Rattle.error.specs.declared.CheckAnswer.the-variants.{Accepted, Refused}
 use Rattle.token.proofs.WholeLaws.{both}
@@ -124,15 +124,17 @@ unfolding otherIf
 answer-other none h = tt
 answer-other (some f) h = h
 
-checking-other : (t s : List ℕ) → Other (checking t s)
-unfolding checking opening judged
-checking-other t s = go (ltb textLimit (length t)) (foreignFrom 0 t) (decode (length t) s)
+checking-other : (list : ℕ) (t s : List ℕ) → Other (checking list t s)
+unfolding checking openingUnder judged
+checking-other list t s = go (ltb textLimit (length t)) (foreignFrom 0 t) (isList list) (decode (length t) s)
   where
-    go : (b : Bool) (o : Option ℕ) (d : Option Forest) → Other (verdict t (cond b (shut TextTooLong 0) (unlessForeign o (decoded d))))
-    go true o d = refl
-    go false (some i) d = refl
-    go false none none = refl
-    go false none (some ns) = answer-other (validateNodes colors t 1 ns) (nodes-other t colors 1 ns)
+    go : (b : Bool) (o : Option ℕ) (k : Bool) (d : Option Forest)
+        → Other (verdict list t (cond b (shut TextTooLong 0) (unlessForeign o (cond k (decoded d) (shut UnknownList 0)))))
+    go true o k d = refl
+    go false (some i) k d = refl
+    go false none false d = refl
+    go false none true none = refl
+    go false none true (some ns) = answer-other (validateNodes (namesOf list) t 1 ns) (nodes-other t (namesOf list) 1 ns)
 
-pub never-unwritable : (t s : List ℕ) (p : ℕ) → checking t s ≡ Refused Unwritable p → ⊥
-never-unwritable t s p e = true≢false (sym (subst Other e (checking-other t s)))
+pub never-unwritable : (list : ℕ) (t s : List ℕ) (p : ℕ) → checking list t s ≡ Refused Unwritable p → ⊥
+never-unwritable list t s p e = true≢false (sym (subst Other e (checking-other list t s)))

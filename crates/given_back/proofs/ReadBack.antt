@@ -86,7 +86,7 @@ module _ (t s out : List ℕ) (n : ℕ) (after : List ℕ) where
 
 pub read-back : ReadBack
 unfolding writing
-read-back t s out n after e = on (checking t s) e
+read-back list t s out n after e = on (checking list t s) e
   where
     at : (o : Option Forest) → decode (length t) s ≡ o → ofTree t out o ≡ (Accepted n, after) → SameTree t s (take n after)
     at none d e = accepts-not e
@@ -107,14 +107,14 @@ fitted-not out u p e = go (ltb textLimit (length u) || ltb (length out) (length 
     go true e = let z : _≡_ {A = ℕ} 0 1 = cc in omega arith
     go false e = let z : _≡_ {A = ℕ} 0 1 = cc in omega arith
 
-module _ (t s out : List ℕ) where
-  none-at : (ns : Forest) → checking t s ≡ check.Accepted → decode (length t) s ≡ some ns → (p : ℕ)
-      → written out (senseOf t ns) .0 ≡ Refused Unwritable p → NoText t s
+module _ (list : ℕ) (t s out : List ℕ) where
+  none-at : (ns : Forest) → checking list t s ≡ check.Accepted → decode (length t) s ≡ some ns → (p : ℕ)
+      → written out (senseOf t ns) .0 ≡ Refused Unwritable p → NoText list t s
   none-at ns c d p e = go (hasText form (senseOf t ns)) refl e
     where
       go : (b : Bool) → hasText form (senseOf t ns) ≡ b
           → cond {A = Written} b (fitted out (script form (senseOf t ns))) (refusal Unwritable 0 out) .0 ≡ Refused Unwritable p
-          → NoText t s
+          → NoText list t s
       go true q e = absurd (fitted-not out (script form (senseOf t ns)) p e)
       go false q e = record {
         checks = c;
@@ -123,21 +123,21 @@ module _ (t s out : List ℕ) where
         never = λ u ms k h same. no-text t s ns d .0 q u (subst (λ (x : Sense). ReadsTo u x) same (reads-to u ms k h));
       }
 
-  only-where : (p : ℕ) → writing t s out .0 ≡ Refused Unwritable p → NoText t s
+  only-where : (p : ℕ) → writing list t s out .0 ≡ Refused Unwritable p → NoText list t s
   unfolding writing
-  only-where p e = on (checking t s) refl e
+  only-where p e = on (checking list t s) refl e
     where
-      at : checking t s ≡ check.Accepted → (o : Option Forest) → decode (length t) s ≡ o
-          → ofTree t out o .0 ≡ Refused Unwritable p → NoText t s
+      at : checking list t s ≡ check.Accepted → (o : Option Forest) → decode (length t) s ≡ o
+          → ofTree t out o .0 ≡ Refused Unwritable p → NoText list t s
       at c none d e = absurd (let z : _≡_ {A = ℕ} 0 1 = cc in omega arith)
       at c (some ns) d e = none-at ns c d p e
 
-      on : (v : CheckAnswer) → checking t s ≡ v → ofVerdict t s out v .0 ≡ Refused Unwritable p → NoText t s
+      on : (v : CheckAnswer) → checking list t s ≡ v → ofVerdict t s out v .0 ≡ Refused Unwritable p → NoText list t s
       on (check.Refused r q) c e =
-          let z : r ≡ Unwritable = cc in absurd (never-unwritable t s q (c ∙ ap (λ (x : Refusal). check.Refused x q) z))
+          let z : r ≡ Unwritable = cc in absurd (never-unwritable list t s q (c ∙ ap (λ (x : Refusal). check.Refused x q) z))
       on check.Accepted c e = at c (decode (length t) s) refl e
 
-  pub exactly-34 : Exactly34 t s out
+  pub exactly-34 : Exactly34 list t s out
   unfolding writing
   exactly-34 = record {
     only = only-where;

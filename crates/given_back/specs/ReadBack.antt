@@ -24,18 +24,18 @@ pub record SameTree (t s u : List ℕ) : Type 0 where
   pub reads : Given u (senseOf t tree)
 
 -- "Reading the fresh script must give the same tree: equal values bit for bit, equal names and strings, though starts may differ", for
--- every pair that writing accepts; n is the fresh script's length, `after` the buffer that holds it
+-- every pair that writing accepts, under whichever list of colours; n is the fresh script's length, `after` the buffer that holds it
 abbrev pub ReadBack : Type 0
-ReadBack = (t s out : List ℕ) (n : ℕ) (after : List ℕ) → writing t s out ≡ (Accepted n, after) → SameTree t s (take n after)
+ReadBack = (list : ℕ) (t s out : List ℕ) (n : ℕ) (after : List ℕ) → writing list t s out ≡ (Accepted n, after) → SameTree t s (take n after)
 
--- checking accepts t and s, and "no text under 01's rules, its length limit set aside, reads to that tree"
-pub record NoText (t s : List ℕ) : Type 0 where
-  pub checks : checking t s ≡ check.Accepted
+-- checking accepts t and s under a list, and "no text under 01's rules, its length limit set aside, reads to that tree"
+pub record NoText (list : ℕ) (t s : List ℕ) : Type 0 where
+  pub checks : checking list t s ≡ check.Accepted
   pub tree : Forest
   pub decodes : decode (length t) s ≡ some tree
   pub never : (u : List ℕ) (ms : Nodes Key) (k : ℕ) → parse u ≡ Parsed.tree ms k → sense stored u ms ≡ senseOf t tree → ⊥
 
 -- "Refused: checking's numbers in checking's order, then 34 exactly if no text .. reads to that tree", whatever the buffer
-pub record Exactly34 (t s out : List ℕ) : Type 0 where
-  pub only : (p : ℕ) → writing t s out .0 ≡ Refused Unwritable p → NoText t s
-  pub whenever : NoText t s → writing t s out ≡ (Refused Unwritable 0, replicate (length out) 0)
+pub record Exactly34 (list : ℕ) (t s out : List ℕ) : Type 0 where
+  pub only : (p : ℕ) → writing list t s out .0 ≡ Refused Unwritable p → NoText list t s
+  pub whenever : NoText list t s → writing list t s out ≡ (Refused Unwritable 0, replicate (length out) 0)

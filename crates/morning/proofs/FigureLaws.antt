@@ -10,6 +10,7 @@ use native.Mathlib.Omega.{arith}
 use lib.Dec.{eqb}
 use lib.ListN.{length, take, drop, length-append, length-drop, length-map}
 use borrow.Author.Tests.{eq-eqb, ne-eqb, eqb-true, eqb-false}
+use Rattle.error.specs.declared.Refusal.the-variants.{UnknownList}
 use Rattle.error.specs.declared.ReadAnswer.{ReadAnswer}
 use Rattle.error.specs.declared.ReadAnswer.the-variants as read
 use Rattle.error.specs.declared.CheckAnswer.{CheckAnswer}
@@ -21,7 +22,8 @@ use Rattle.sheet.specs.Records.{recordOf, recordsOf, nodesOf, allRecords, kindO
 use Rattle.sheet.proofs.Flat.{concat}
 use Rattle.records.proofs.PlaceLaws.{records-are}
 use Rattle.parser.specs.Reading.{reading}
-use Rattle.validate.specs.Checking.{checking}
+use Rattle.validate.specs.Checking.{isList, checking}
+use Rattle.validate.proofs.ListLaws.{unlisted as checking-unlisted}
 use Rattle.script.proofs.OutputLaws.{Held, held}
 use Rattle.totals.specs.Totals.{sumOf, itself, addedFrom, added, inWord}
 use Rattle.totals.proofs.NumberLaws.{numbered}
@@ -238,8 +240,9 @@ nodes-are x = by (readOf x) refl
     judged n c j words left q (check.Refused r p) = refl
 
     by : (y : ReadAnswer × List ℕ × List ℕ) → y ≡ readOf x
-        → length (feed.ifAccepted (whenRead (x .text) y) (sheetNodes (x .text) y)) ≡ ifAccepted (whenRead (x .text) y) (recordsRead y)
-    by (read.Accepted n c j, words, left) q = judged n c j words left q (checking (x .text) (take n left))
+        → length (feed.ifAccepted (whenRead (x .list) (x .text) y) (sheetNodes (x .text) y))
+        ≡ ifAccepted (whenRead (x .list) (x .text) y) (recordsRead y)
+    by (read.Accepted n c j, words, left) q = judged n c j words left q (checking (x .list) (x .text) (take n left))
     by (read.Refused r p, words, left) q = refl
 
 no-nodes : (i : ℕ) → nodesAdd [] i ≤ 49152
@@ -256,6 +259,18 @@ figure-small i x = omega (arith, in-word-most (numberIn (judgement x)) 1 i, by (
     judged n c j words left q (check.Refused r p) = no-nodes i
 
     by : (y : ReadAnswer × List ℕ × List ℕ) → y ≡ readOf x
-        → nodesAdd (feed.ifAccepted (whenRead (x .text) y) (sheetNodes (x .text) y)) i ≤ 49152
-    by (read.Accepted n c j, words, left) q = judged n c j words left q (checking (x .text) (take n left))
+        → nodesAdd (feed.ifAccepted (whenRead (x .list) (x .text) y) (sheetNodes (x .text) y)) i ≤ 49152
+    by (read.Accepted n c j, words, left) q = judged n c j words left q (checking (x .list) (x .text) (take n left))
     by (read.Refused r p, words, left) q = no-nodes i
+
+-- ---- 02 (g): "36 for a list other than the two, after 1 and 2"
+
+-- so counts a script that reading accepts, with such a list
+pub unlisted : (x : Fed) {n c k : ℕ} → readOf x .0 ≡ read.Accepted n c k → isList (x .list) ≡ false → numberIn (judgement x) ≡ 36
+unlisted x e l = ap numberIn (by (readOf x) refl e)
+  where
+    by : (y : ReadAnswer × List ℕ × List ℕ) → y ≡ readOf x → {n c k : ℕ} → y .0 ≡ read.Accepted n c k
+        → whenRead (x .list) (x .text) y ≡ check.Refused UnknownList 0
+    by (read.Accepted n c j, words, left) q e =
+        checking-unlisted (x .text) (take n left) (x .list) l (held (x .text) (x .scratch) (x .sheet) q .opens)
+    by (read.Refused r p, words, left) q e = absurd (let z : _≡_ {A = ℕ} 0 1 = cc in omega arith)

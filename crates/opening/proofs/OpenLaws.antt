@@ -17,7 +17,8 @@ use Rattle.error.specs.declared.Refusal.{Refusal}
 use Rattle.error.specs.declared.Refusal.the-variants.{TextTooLong, BadForm, NotASheet}
 use Rattle.sheet.specs.Sheet.{Forest, decode}
 use Rattle.sheet.specs.Opening.{foreignFrom, Opened, opened, shut, decoded, unlessForeign, opening}
-use Rattle.opening.specs.Means.{answerOf}
+use Rattle.opening.specs.Means.{answerOf, earlier, foreignAnswer, textAnswer, bytesAnswer}
+use Rattle.opening.specs.declared.Opening.{Opening}
 use Rattle.opening.specs.declared.Opening.the-variants.{Open, Shut}
 
 -- ---- the first foreign byte
@@ -71,35 +72,45 @@ pub not-there : (o : Option ℕ) → false ≡ isSome o → none ≡ o
 not-there none e = refl
 not-there (some i) e = let z : _≡_ {A = ℕ} 0 1 = cc in absurd (omega arith)
 
--- ---- the first refusal
+-- ---- the text's refusal
 
-module _ (t s : List ℕ) where
-  pub too-long : textLimit < length t → Shut TextTooLong 0 ≡ answerOf (opening t s)
-  unfolding opening
+module _ (t : List ℕ) where
+  pub too-long : textLimit < length t → Shut TextTooLong 0 ≡ textAnswer t
+  unfolding textAnswer
   too-long h = rw (lt-ltb textLimit (length t) h)
 
-  module _ (h : length t ≤ textLimit) where
-    pub foreign : {i : ℕ} → some i ≡ foreignFrom 0 t → Shut BadForm i ≡ answerOf (opening t s)
-    unfolding opening
-    foreign e = rw (le-ltb textLimit (length t) h, ← e)
+  pub not-long : length t ≤ textLimit → {f : Option ℕ} → f ≡ foreignFrom 0 t → foreignAnswer f ≡ textAnswer t
+  unfolding textAnswer
+  not-long h e = rw (le-ltb textLimit (length t) h, ← e)
 
-    plain : none ≡ foreignFrom 0 t → opening t s ≡ decoded (decode (length t) s)
-    unfolding opening
-    plain e = rw (le-ltb textLimit (length t) h, ← e)
+-- ---- the bytes' refusal
 
-    pub a-sheet : none ≡ foreignFrom 0 t → true ≡ isSome (decode (length t) s) → Open ≡ answerOf (opening t s)
-    a-sheet e p = go (decode (length t) s) p ∙ sym (ap answerOf (plain e))
-      where
-        go : (o : Option Forest) → true ≡ isSome o → Open ≡ answerOf (decoded o)
-        go none q = let z : _≡_ {A = ℕ} 0 1 = cc in absurd (omega arith)
-        go (some ns) q = refl
+pub sheet-or-not : (n : ℕ) (s : List ℕ) {b : Bool} → b ≡ isSome (decode n s) → cond b Open (Shut NotASheet 0) ≡ bytesAnswer n s
+unfolding bytesAnswer
+sheet-or-not n s e = go (decode n s) e
+  where
+    go : (o : Option Forest) {b : Bool} → b ≡ isSome o → cond b Open (Shut NotASheet 0) ≡ answerOf (decoded o)
+    go none e = rw e
+    go (some ns) e = rw e
 
-    pub no-sheet : none ≡ foreignFrom 0 t → false ≡ isSome (decode (length t) s) → Shut NotASheet 0 ≡ answerOf (opening t s)
-    no-sheet e p = go (decode (length t) s) p ∙ sym (ap answerOf (plain e))
-      where
-        go : (o : Option Forest) → false ≡ isSome o → Shut NotASheet 0 ≡ answerOf (decoded o)
-        go none q = refl
-        go (some ns) q = let z : _≡_ {A = ℕ} 0 1 = cc in absurd (omega arith)
+-- ---- the first of the refusals
+
+-- 1 and 2, then whatever comes behind them
+pub text-first : (t : List ℕ) (o : Opened)
+    → earlier (textAnswer t) (answerOf o)
+    ≡ answerOf (cond (ltb textLimit (length t)) (shut TextTooLong 0) (unlessForeign (foreignFrom 0 t) o))
+unfolding textAnswer
+text-first t o = go (ltb textLimit (length t)) (foreignFrom 0 t)
+  where
+    go : (b : Bool) (f : Option ℕ)
+        → earlier (cond b (Shut TextTooLong 0) (foreignAnswer f)) (answerOf o) ≡ answerOf (cond b (shut TextTooLong 0) (unlessForeign f o))
+    go true f = refl
+    go false none = refl
+    go false (some i) = refl
+
+pub first-shut : (t s : List ℕ) {a b : Opening} → a ≡ textAnswer t → b ≡ bytesAnswer (length t) s → earlier a b ≡ answerOf (opening t s)
+unfolding opening bytesAnswer
+first-shut t s e g = rw (e, g) (text-first t (decoded (decode (length t) s)))
 
 -- ---- what an answer tells
 

@@ -3,7 +3,7 @@ ghost use mathlib.Core.Path.{_≡_};
 ghost use Rattle.text.specs.Words.{isSome};
 ghost use Rattle.text.specs.Means.{placeOf};
 ghost use Rattle.sheet.specs.Opening.{foreignFrom, opening};
-ghost use Rattle.opening.specs.Means.{answerOf};
+ghost use Rattle.opening.specs.Means.{answerOf, textAnswer, bytesAnswer};
 use error::Refusal;
 use text::Class;
 use text::Found;
@@ -44,8 +44,9 @@ pub fn first_foreign(text: &[u8]) -> Found
     Found::Nothing
 }
 
-pub fn open_sheet(text: &[u8], sheet: &[u8]) -> Opening
-    ensures { λ r. ⌜ r ≡ answerOf (opening (now (text .entry)) (now (sheet .entry))) ⌝ }
+// What is refused of a text alone.
+pub fn open_text(text: &[u8]) -> Opening
+    ensures { λ r. ⌜ r ≡ textAnswer (now (text .entry)) ⌝ }
 {
     if text::TEXT_LIMIT < text.len() {
         return Opening::Shut {
@@ -60,11 +61,31 @@ pub fn open_sheet(text: &[u8], sheet: &[u8]) -> Opening
             place,
         };
     }
-    if records::is_sheet(sheet, text.len()) {
+    Opening::Open
+}
+
+// Whether bytes are a sheet for a text of a length.
+pub fn open_bytes(sheet: &[u8], text_len: usize) -> Opening
+    ensures { λ r. ⌜ r ≡ bytesAnswer «text_len» (now (sheet .entry)) ⌝ }
+{
+    if records::is_sheet(sheet, text_len) {
         return Opening::Open;
     }
     Opening::Shut {
         refusal: Refusal::NotASheet,
         place: 0,
+    }
+}
+
+pub fn open_sheet(text: &[u8], sheet: &[u8]) -> Opening
+    ensures { λ r. ⌜ r ≡ answerOf (opening (now (text .entry)) (now (sheet .entry))) ⌝ }
+{
+    let opened = open_text(text);
+    match opened {
+        Opening::Open => open_bytes(sheet, text.len()),
+        Opening::Shut {
+            refusal: _,
+            place: _,
+        } => opened,
     }
 }

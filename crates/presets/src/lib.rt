@@ -42,7 +42,7 @@ fn is_hex_size(n: usize) -> bool
 }
 
 // Whether what stands behind a `#` is a colour.
-fn is_hex_color(digits: &[u8]) -> bool
+pub fn is_hex_color(digits: &[u8]) -> bool
     ensures { λ r. ⌜ r ≡ isHexColor (now (digits .entry)) ⌝ }
 {
     if is_hex_size(digits.len()) {

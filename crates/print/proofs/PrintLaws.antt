@@ -127,43 +127,43 @@ module _ {n : ℕ} {s : List ℕ} {rs : List (List ℕ)} {c : ℕ} {before page 
 
 -- ---- the page
 
-module _ (t scratch sheet page : List ℕ) where
-  pub page-short : length page < pageBytes → (lined.Refused OutputTooShort 0, scratch, sheet, page) ≡ printing t scratch sheet page
+module _ (list : ℕ) (t scratch sheet page : List ℕ) where
+  pub page-short : length page < pageBytes → (lined.Refused OutputTooShort 0, scratch, sheet, page) ≡ printing list t scratch sheet page
   unfolding printing
   page-short h = rw (lt-ltb (length page) pageBytes h)
 
   pub page-long : pageBytes ≤ length page
-      → printing t scratch sheet page ≡ paged (reading t scratch sheet) (printed t scratch sheet (replicate lineBytes 0)) page
+      → printing list t scratch sheet page ≡ paged (reading t scratch sheet) (printed list t scratch sheet (replicate lineBytes 0)) page
   unfolding printing
   page-long h = rw (le-ltb (length page) pageBytes h)
 
   -- what is printed once reading has accepted
   checked : {n c k : ℕ} {words left : List ℕ} {v : CheckAnswer} → (read.Accepted n c k, words, left) ≡ reading t scratch sheet
-      → v ≡ checking t (take n left)
-      → printed t scratch sheet (replicate lineBytes 0) ≡ whenChecked t (take n left) c (replicate lineBytes 0) v
+      → v ≡ checking list t (take n left)
+      → printed list t scratch sheet (replicate lineBytes 0) ≡ whenChecked t (take n left) c (replicate lineBytes 0) v
   checked {n} {c} {left = left} e f =
-      ap (whenRead t (replicate lineBytes 0)) (sym e) ∙ ap (whenChecked t (take n left) c (replicate lineBytes 0)) (sym f)
+      ap (whenRead list t (replicate lineBytes 0)) (sym e) ∙ ap (whenChecked t (take n left) c (replicate lineBytes 0)) (sym f)
 
   module _ (room : pageBytes ≤ length page) {words left after : List ℕ} {m : ℕ} where
     page-filled : {a : ReadAnswer} {bs : List ℕ} → (a, words, left) ≡ reading t scratch sheet
-        → printed t scratch sheet (replicate lineBytes 0) ≡ bs → Puts page 0 bs after m
-        → (lined.Accepted m, words, left, after) ≡ printing t scratch sheet page
+        → printed list t scratch sheet (replicate lineBytes 0) ≡ bs → Puts page 0 bs after m
+        → (lined.Accepted m, words, left, after) ≡ printing list t scratch sheet page
     page-filled e f p =
-        let h = printed-small t scratch sheet (replicate lineBytes 0) in
+        let h = printed-small list t scratch sheet (replicate lineBytes 0) in
         let w = puts-whole (omega (arith, ap length f)) p in
         (λ i. (lined.Accepted (w .0 i), words, left, w .1 i)) ∙ (λ i. paged (e i) (sym f i) page) ∙ sym (page-long room)
 
     pub page-unread : {r : Refusal} {p : ℕ} → (read.Refused r p, words, left) ≡ reading t scratch sheet → Puts page 0 (refusal r p) after m
-        → (lined.Accepted m, words, left, after) ≡ printing t scratch sheet page
-    page-unread e p = page-filled e (ap (whenRead t (replicate lineBytes 0)) (sym e)) p
+        → (lined.Accepted m, words, left, after) ≡ printing list t scratch sheet page
+    page-unread e p = page-filled e (ap (whenRead list t (replicate lineBytes 0)) (sym e)) p
 
     module _ {n c k : ℕ} (e : (read.Accepted n c k, words, left) ≡ reading t scratch sheet) where
-      pub page-refused : {r : Refusal} {p : ℕ} → check.Refused r p ≡ checking t (take n left) → Puts page 0 (refusal r p) after m
-          → (lined.Accepted m, words, left, after) ≡ printing t scratch sheet page
+      pub page-refused : {r : Refusal} {p : ℕ} → check.Refused r p ≡ checking list t (take n left) → Puts page 0 (refusal r p) after m
+          → (lined.Accepted m, words, left, after) ≡ printing list t scratch sheet page
       page-refused f p = page-filled e (checked e f) p
 
-      pub page-lined : check.Accepted ≡ checking t (take n left) → Lines (length t) (take n left) c page after m
-          → (lined.Accepted m, words, left, after) ≡ printing t scratch sheet page
+      pub page-lined : check.Accepted ≡ checking list t (take n left) → Lines (length t) (take n left) c page after m
+          → (lined.Accepted m, words, left, after) ≡ printing list t scratch sheet page
       page-lined f p =
           let h = held t scratch sheet e in
           let rs = allRecords (length t) (h .nodes) in
@@ -171,13 +171,13 @@ module _ (t scratch sheet page : List ℕ) where
           page-filled e (checked e f ∙ l) (p (h .nodes) (h .decodes))
 
   -- the length that is given is one of the page
-  pub printed-fits : {n : ℕ} {words left after : List ℕ} → (lined.Accepted n, words, left, after) ≡ printing t scratch sheet page
+  pub printed-fits : {n : ℕ} {words left after : List ℕ} → (lined.Accepted n, words, left, after) ≡ printing list t scratch sheet page
       → n ≤ length after
   unfolding printing
   printed-fits {n} {words} {left} {after} e = go (ltb (length page) pageBytes) e
     where
       bs : List ℕ
-      bs = printed t scratch sheet (replicate lineBytes 0)
+      bs = printed list t scratch sheet (replicate lineBytes 0)
 
       go : (b : Bool)
           → (lined.Accepted n, words, left, after)
@@ -197,13 +197,13 @@ module _ (t scratch sheet page : List ℕ) where
             length-append bs (drop (length bs) page),
           )
 
--- with the program's buffers the front of the page is the program's output
+-- with the program's buffers and the first list the front of the page is the program's output
 pub print-whole : (t page : List ℕ) → pageBytes ≤ length page
-    → (printing t (replicate scratchWords 0) (replicate sheetBytes 0) page .0 ≡ lined.Accepted (length (output t)))
-    × (take (length (output t)) (printing t (replicate scratchWords 0) (replicate sheetBytes 0) page .3) ≡ output t)
+    → (printing 1 t (replicate scratchWords 0) (replicate sheetBytes 0) page .0 ≡ lined.Accepted (length (output t)))
+    × (take (length (output t)) (printing 1 t (replicate scratchWords 0) (replicate sheetBytes 0) page .3) ≡ output t)
 unfolding output
 print-whole t page h =
-    let e = page-long t (replicate scratchWords 0) (replicate sheetBytes 0) page h in
+    let e = page-long 1 t (replicate scratchWords 0) (replicate sheetBytes 0) page h in
     let bs = output t in (
       ap (λ (x : LineAnswer × List ℕ × List ℕ × List ℕ). x .0) e,
       ap (λ (x : LineAnswer × List ℕ × List ℕ × List ℕ). take (length bs) (x .3)) e ∙ take-append-seam bs (drop (length bs) page),

@@ -93,10 +93,16 @@ fn put_lines(sheet: &[u8], text_len: usize, count: usize, page: &mut [u8]) -> us
     }
 }
 
-// Reads and checks a text, and writes at the front of the page all that the program prints for it. Gives its length; or, for a page of
-// fewer than PAGE_BYTES, a refusal.
-pub fn print(text: &[u8], scratch: &mut [u16], sheet: &mut [u8], page: &mut [u8]) -> LineAnswer
-    ensures { λ r. ⌜ (r, now (scratch .exit), now (sheet .exit), now (page .exit)) ≡ printing (now (text .entry)) (now (scratch .entry)) (now (sheet .entry)) (now (page .entry)) ⌝ }
+// Reads a text, checks it under a list of colours, and writes at the front of the page all that the program prints for it. Gives its
+// length; or, for a page of fewer than PAGE_BYTES, a refusal.
+pub fn print(
+    text: &[u8],
+    scratch: &mut [u16],
+    sheet: &mut [u8],
+    page: &mut [u8],
+    list: u32,
+) -> LineAnswer
+    ensures { λ r. ⌜ (r, now (scratch .exit), now (sheet .exit), now (page .exit)) ≡ printing list (now (text .entry)) (now (scratch .entry)) (now (sheet .entry)) (now (page .entry)) ⌝ }
 {
     if page.len() < PAGE_BYTES {
         return LineAnswer::Refused {
@@ -104,7 +110,7 @@ pub fn print(text: &[u8], scratch: &mut [u16], sheet: &mut [u8], page: &mut [u8]
             place: 0,
         };
     }
-    match verdict::read_and_check(text, scratch, sheet) {
+    match verdict::read_and_check(text, scratch, sheet, list) {
         Verdict::Unread { refusal, place } => LineAnswer::Accepted {
             length: put_refusal(page, 0, refusal, place),
         },

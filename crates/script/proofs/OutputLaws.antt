@@ -192,10 +192,10 @@ module _ (t out : List ℕ) {s : List ℕ} {c : ℕ} (h : Held t s c) where
   checked-small (check.Refused r p) = omega (arith, refusal-short r p)
 
 -- nine bytes for each byte that a text may have are enough
-pub printed-small : (t scratch sheet out : List ℕ) → length (printed t scratch sheet out) ≤ pageBytes
-printed-small t scratch sheet out = by (reading t scratch sheet) refl
+pub printed-small : (list : ℕ) (t scratch sheet out : List ℕ) → length (printed list t scratch sheet out) ≤ pageBytes
+printed-small list t scratch sheet out = by (reading t scratch sheet) refl
   where
-    by : (x : ReadAnswer × List ℕ × List ℕ) → x ≡ reading t scratch sheet → length (whenRead t out x) ≤ pageBytes
+    by : (x : ReadAnswer × List ℕ × List ℕ) → x ≡ reading t scratch sheet → length (whenRead list t out x) ≤ pageBytes
     by (read.Accepted n c k, words, left) e =
-        checked-small t out (held t scratch sheet e) (checking t (take n left))
+        checked-small t out (held t scratch sheet e) (checking list t (take n left))
     by (read.Refused r p, words, left) e = omega (arith, refusal-short r p)

@@ -15,7 +15,7 @@ use Rattle.number.proofs.Tracks.{never, always}
 use Rattle.ast.specs.Tree.{KeyframeTime, percent, seconds, KeyframeEntry, KeyframeSpec, Leaf}
 use Rattle.ast.specs.Tree.{keyframes, Nodes, leaf, box, mapFrames, mapLeaf, mapTimes, preorder}
 use Rattle.grammar.specs.Grammar.{stored}
-use Rattle.presets.specs.Colors.{colors}
+use Rattle.colors.specs.Css.{namesOf}
 use Rattle.validate.specs.Rules.{timeOf}
 use Rattle.validate.specs.Checking.{answerOf, judged}
 use Rattle.validate.proofs.FrameLaws.{stamps, none≢some}
@@ -83,26 +83,28 @@ answered-some (some (s, m)) r n e = let p : s ≡ r = cc in let q : m ≡ n = cc
 true≢false : true ≡ false → ⊥
 true≢false e = let z : _≡_ {A = ℕ} 0 1 = cc in omega arith
 
-module _ (t : List ℕ) (ns : Nodes Key) (i : ℕ) (x : KeyframeSpec Key) (e : getElem? (preorder ns) i ≡ some (some (keyframes x))) where
+module _ (list : ℕ) (t : List ℕ) (ns : Nodes Key) (i : ℕ) (x : KeyframeSpec Key)
+    (e : getElem? (preorder ns) i ≡ some (some (keyframes x))) where
   pub track-at : getElem? (preorder (mapTimes stored ns)) i ≡ some (some (keyframes (storedTrack x)))
   track-at = rw (preorder-stored ns) (node-at (preorder ns) i _ e)
 
   -- the track has no duplicates where checking accepts, and some where it refuses the track for one
-  accepted-clear : judged t (mapTimes stored ns) ≡ Accepted → duplicates [] (map storedTime (times (x .frames))) ≡ false
+  accepted-clear : judged list t (mapTimes stored ns) ≡ Accepted → duplicates [] (map storedTime (times (x .frames))) ≡ false
   unfolding judged
   accepted-clear a =
       rw (sym (stored-stamps (x .frames)))
-      (track-clear t colors (storedTrack x) (clear colors t 1 (mapTimes stored ns) (answered-none _ a) i _ track-at))
+      (track-clear t (namesOf list) (storedTrack x) (clear (namesOf list) t 1 (mapTimes stored ns) (answered-none _ a) i _ track-at))
 
-  refused-near : judged t (mapTimes stored ns) ≡ Refused DuplicateTime (suc i) → duplicates [] (map storedTime (times (x .frames))) ≡ true
+  refused-near : judged list t (mapTimes stored ns) ≡ Refused DuplicateTime (suc i)
+      → duplicates [] (map storedTime (times (x .frames))) ≡ true
   unfolding judged
   refused-near a =
-      let w = locate colors t 1 (mapTimes stored ns) DuplicateTime (suc i) (answered-some _ DuplicateTime (suc i) a) in
+      let w = locate (namesOf list) t 1 (mapTimes stored ns) DuplicateTime (suc i) (answered-some _ DuplicateTime (suc i) a) in
       let same : w .at ≡ i = omega (arith, w .is) in
-      rw (sym (stored-stamps (x .frames))) (track-near t colors (storedTrack x) (w .fault _ (rw same track-at)))
+      rw (sym (stored-stamps (x .frames))) (track-near t (namesOf list) (storedTrack x) (w .fault _ (rw same track-at)))
 
   -- "each time stored for the track is within 2^(k-25) of the written one", and the rest
-  pub track-claim : TrackClaim x (storedTrack x) (suc i) (judged t (mapTimes stored ns))
+  pub track-claim : TrackClaim x (storedTrack x) (suc i) (judged list t (mapTimes stored ns))
   track-claim two fair k K most = (
     λ j u h. (stored u, stored-at (x .frames) j u h, rw (stored-is u) (stored-within k K u (fair j u h) (most j u h))),
     λ far a. true≢false (sym (refused-near a) ∙ never k K (times (x .frames)) fair most far),
@@ -111,8 +113,8 @@ module _ (t : List ℕ) (ns : Nodes Key) (i : ℕ) (x : KeyframeSpec Key) (e : g
   )
 
 -- every track of a tree: it stands at the same place in the sheet's tree, with what demand 3 says of it
-pub tracks : (t : List ℕ) (ns : Nodes Key) (i : ℕ) (x : KeyframeSpec Key) → getElem? (preorder ns) i ≡ some (some (keyframes x))
+pub tracks : (list : ℕ) (t : List ℕ) (ns : Nodes Key) (i : ℕ) (x : KeyframeSpec Key) → getElem? (preorder ns) i ≡ some (some (keyframes x))
     → (y : KeyframeSpec KeyframeTime)
     × (getElem? (preorder (mapTimes stored ns)) i ≡ some (some (keyframes y)))
-    × TrackClaim x y (suc i) (judged t (mapTimes stored ns))
-tracks t ns i x e = (storedTrack x, track-at t ns i x e, track-claim t ns i x e)
+    × TrackClaim x y (suc i) (judged list t (mapTimes stored ns))
+tracks list t ns i x e = (storedTrack x, track-at list t ns i x e, track-claim list t ns i x e)

@@ -1,5 +1,6 @@
 -- Demand 3, one claim over both calls. Assumes nothing.
 use Prim.Native.Nat.{ℕ, suc, _≤_}
+use mathlib.Core.Bool.{true}
 use mathlib.Core.List.{List, [], _∷_}
 use mathlib.Core.Option.{Option, some}
 use mathlib.Core.Path.{_≡_}
@@ -13,7 +14,7 @@ use Rattle.sheet.specs.Sheet.{encode, decode}
 use Rattle.grammar.specs.Grammar.{stored}
 use Rattle.parser.specs.Reading.{parse, tree, reading, scratchWords}
 use Rattle.validate.specs.Rules.{timeOf}
-use Rattle.validate.specs.Checking.{judged, checking}
+use Rattle.validate.specs.Checking.{judged, isList, checking}
 use Rattle.error.specs.declared.Refusal.the-variants.{DuplicateTime}
 use Rattle.error.specs.declared.ReadAnswer.{ReadAnswer}
 use Rattle.error.specs.declared.ReadAnswer.the-variants as read
@@ -53,9 +54,9 @@ pub record Unrefused (t : List ℕ) (words room : ℕ) (ns : Nodes Key) (c : ℕ
   pub parses : parse t ≡ tree ns c
   pub fits : length (encoding t ns) ≤ room
 
--- what is so of reading's answer a, the sheet s that it left and checking's answer v, where ns is the grammar's tree, with c rounded
--- numbers
-pub record Agreed (t : List ℕ) (a : ReadAnswer) (s : List ℕ) (v : CheckAnswer) (ns : Nodes Key) (c : ℕ) : Type 0 where
+-- what is so of reading's answer a, the sheet s that it left and checking's answer v under a list, where ns is the grammar's tree, with c
+-- rounded numbers
+pub record Agreed (list : ℕ) (t : List ℕ) (a : ReadAnswer) (s : List ℕ) (v : CheckAnswer) (ns : Nodes Key) (c : ℕ) : Type 0 where
   -- the sheet's length is the encoding's
   pub answer : a ≡ read.Accepted (length (encoding t ns)) (records ns) c
   pub encodes : take (length (encoding t ns)) s ≡ encoding t ns
@@ -64,21 +65,22 @@ pub record Agreed (t : List ℕ) (a : ReadAnswer) (s : List ℕ) (v : CheckAnswe
   pub decodes : decode (length t) (take (length (encoding t ns)) s) ≡ some held
   -- "it answers, number and ordinal included, as the checking rules do for that tree"
   pub same : held ≡ mapTimes stored ns
-  pub checked : v ≡ judged t held
+  pub checked : v ≡ judged list t held
   pub tracks : (i : ℕ) (x : KeyframeSpec Key) → getElem? (preorder ns) i ≡ some (some (keyframes x))
       → (y : KeyframeSpec KeyframeTime) × (getElem? (preorder held) i ≡ some (some (keyframes y))) × TrackClaim x y (suc i) v
 
 -- t is the text, words and room the lengths of scratch and sheet; a is what reading answered, s the sheet's bytes then, v what checking
--- answered
-pub record Claim (t : List ℕ) (words room : ℕ) (a : ReadAnswer) (s : List ℕ) (v : CheckAnswer) : Type 0 where
+-- answered under a list
+pub record Claim (list : ℕ) (t : List ℕ) (words room : ℕ) (a : ReadAnswer) (s : List ℕ) (v : CheckAnswer) : Type 0 where
   -- "Reading accepts exactly where none of its refusals is due"
   pub only : (n m c : ℕ) → a ≡ read.Accepted n m c → (ns : Nodes Key) × Unrefused t words room ns c
   -- "and its sheet then encodes the grammar's tree", and the rest
-  pub whenever : (ns : Nodes Key) (c : ℕ) → Unrefused t words room ns c → Agreed t a s v ns c
+  pub whenever : (ns : Nodes Key) (c : ℕ) → Unrefused t words room ns c → Agreed list t a s v ns c
 
--- for every text, scratch and sheet slice, and for the answer of checking to the text and the sheet up to the length that reading gave
+-- 02 (g): "Demand 3 speaks of these two lists"; for every text, scratch and sheet slice, and for the answer of checking, under the list, to
+-- the text and the sheet up to the length that reading gave
 abbrev pub Demand3 : Type 0
 Demand3 =
-    (t scratch sheet : List ℕ) (v : CheckAnswer)
-    → ((n m c : ℕ) → reading t scratch sheet .0 ≡ read.Accepted n m c → v ≡ checking t (take n (reading t scratch sheet .2)))
-    → Claim t (length scratch) (length sheet) (reading t scratch sheet .0) (reading t scratch sheet .2) v
+    (list : ℕ) → isList list ≡ true → (t scratch sheet : List ℕ) (v : CheckAnswer)
+    → ((n m c : ℕ) → reading t scratch sheet .0 ≡ read.Accepted n m c → v ≡ checking list t (take n (reading t scratch sheet .2)))
+    → Claim list t (length scratch) (length sheet) (reading t scratch sheet .0) (reading t scratch sheet .2) v

@@ -46,13 +46,14 @@ abbrev pub whenChecked : List ℕ → List ℕ → ℕ → List ℕ → CheckAns
 whenChecked t sheet n out check.Accepted = lines t sheet n (suc n) 0 out
 whenChecked t sheet n out (check.Refused r p) = refusal r p
 
-abbrev pub whenRead : List ℕ → List ℕ → ReadAnswer × List ℕ × List ℕ → List ℕ
-whenRead t out (read.Accepted length n k, scratch, sheet) = whenChecked t (take length sheet) n out (checking t (take length sheet))
-whenRead t out (read.Refused r p, scratch, sheet) = refusal r p
+abbrev pub whenRead : ℕ → List ℕ → List ℕ → ReadAnswer × List ℕ × List ℕ → List ℕ
+whenRead list t out (read.Accepted length n k, scratch, sheet) =
+    whenChecked t (take length sheet) n out (checking list t (take length sheet))
+whenRead list t out (read.Refused r p, scratch, sheet) = refusal r p
 
--- reading, checking, then lining record by record, with the buffers that are lent
-abbrev pub printed : List ℕ → List ℕ → List ℕ → List ℕ → List ℕ
-printed t scratch sheet out = whenRead t out (reading t scratch sheet)
+-- reading, checking under a list of colours, then lining record by record, with the buffers that are lent
+abbrev pub printed : ℕ → List ℕ → List ℕ → List ℕ → List ℕ → List ℕ
+printed list t scratch sheet out = whenRead list t out (reading t scratch sheet)
 
 -- "the program lends 65,536 and gives reading a sheet of 49,152"
 abbrev pub lineBytes : ℕ
@@ -61,9 +62,9 @@ lineBytes = 65536
 abbrev pub sheetBytes : ℕ
 sheetBytes = 49152
 
--- with the program's buffers
+-- with the program's buffers; 02 (g): "the program takes 1"
 unfoldable pub output : List ℕ → List ℕ
-output t = printed t (replicate scratchWords 0) (replicate sheetBytes 0) (replicate lineBytes 0)
+output t = printed 1 t (replicate scratchWords 0) (replicate sheetBytes 0) (replicate lineBytes 0)
 
 -- ---- printing: the same text on a page that is lent
 
@@ -76,7 +77,7 @@ abbrev pub paged : ReadAnswer × List ℕ × List ℕ → List ℕ → List ℕ 
 paged left bs page = (line.Accepted (length bs), left .1, left .2, bs ++ drop (length bs) page)
 
 -- the answer, and the scratch, the sheet and the page afterwards; 32 at 0 for a shorter page, and then nothing is touched
-unfoldable pub printing : List ℕ → List ℕ → List ℕ → List ℕ → LineAnswer × List ℕ × List ℕ × List ℕ
-printing t scratch sheet page =
+unfoldable pub printing : ℕ → List ℕ → List ℕ → List ℕ → List ℕ → LineAnswer × List ℕ × List ℕ × List ℕ
+printing list t scratch sheet page =
     cond (ltb (length page) pageBytes) (line.Refused OutputTooShort 0, scratch, sheet, page)
-    (paged (reading t scratch sheet) (printed t scratch sheet (replicate lineBytes 0)) page)
+    (paged (reading t scratch sheet) (printed list t scratch sheet (replicate lineBytes 0)) page)

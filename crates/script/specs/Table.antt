@@ -40,10 +40,10 @@ sheetValues (Refused r p, scratch, sheet) = readValues (Refused r p)
 abbrev pub read : String → List ℕ
 read s = sheetValues (reading (bytes s) (replicate scratchWords 0) (replicate sheetBytes 0))
 
--- checking what reading gave; of a refusal nothing
+-- checking what reading gave, under the first list; of a refusal nothing
 abbrev pub checkRead : List ℕ → List ℕ → List ℕ
 checkRead t [] = []
-checkRead t (r ∷ bs) = cond (ltb r 1) (checkValues (checking t bs)) []
+checkRead t (r ∷ bs) = cond (ltb r 1) (checkValues (checking 1 t bs)) []
 
 -- whether the definitions give what a case says
 unfoldable pub holds : Case → Bool
@@ -51,7 +51,7 @@ holds (prints s o) = same (output (bytes s)) (bytes o)
 holds (gives s h) = same (read s) (0 ∷ hexBytes (bytes h))
 holds (refuses s r p) = same (read s) (r ∷ p ∷ 0 ∷ [])
 holds (checks s v) = same (checkRead (bytes s) (read s)) v
-holds (checksSheet s h v) = same (checkValues (checking (bytes s) (hexBytes (bytes h)))) v
+holds (checksSheet s h v) = same (checkValues (checking 1 (bytes s) (hexBytes (bytes h)))) v
 
 unfoldable pub every : List Case → Bool
 every [] = true
@@ -135,7 +135,8 @@ unfolding Rattle.text.specs.Bytes.same Rattle.text.specs.Bytes.oneOf Rattle.t
     Rattle.grammar.specs.Values.timesMode Rattle.grammar.specs.Values.pingPongMode Rattle.grammar.specs.Values.loopModes
     Rattle.grammar.specs.Values.parseLoopMode Rattle.grammar.specs.Values.easing Rattle.grammar.specs.Values.loopMode
     Rattle.parser.specs.Reading.parse Rattle.parser.specs.Reading.early Rattle.parser.specs.Reading.reading
-    Rattle.validate.specs.Checking.judged Rattle.validate.specs.Checking.checking Rattle.validate.specs.Rules.negative
+    Rattle.colors.specs.Css.namesOf Rattle.validate.specs.Checking.judged Rattle.validate.specs.Checking.isList
+    Rattle.validate.specs.Checking.openingUnder Rattle.validate.specs.Checking.checking Rattle.validate.specs.Rules.negative
     Rattle.validate.specs.Rules.notPositive Rattle.validate.specs.Rules.outsideUnit Rattle.validate.specs.Rules.unknownEasing
     Rattle.validate.specs.Rules.first Rattle.validate.specs.Rules.validateTween Rattle.validate.specs.Rules.validateSpring
     Rattle.validate.specs.Rules.validateFrames Rattle.validate.specs.Rules.validateKeyframes Rattle.validate.specs.Rules.validatePath

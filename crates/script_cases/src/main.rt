@@ -56,7 +56,7 @@ fn take_byte(text: &mut [u8], digits: usize, b: u8) -> usize {
 fn answer(text: &[u8]) {
     let mut scratch = [0u16; parser::SCRATCH_WORDS];
     let mut sheet = [0u8; 49152];
-    match verdict::read_and_check(text, &mut scratch, &mut sheet) {
+    match verdict::read_and_check(text, &mut scratch, &mut sheet, 1) {
         Verdict::Unread { refusal, place } => refuse(refusal, place),
         Verdict::Checked {
             length,

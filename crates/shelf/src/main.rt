@@ -24,7 +24,7 @@ fn run_all(input: &[u8], scratch: &mut [u16], sheet: &mut [u8], page: &mut [u8])
 
 // Has all that is printed made on the page, and writes it at once.
 fn print_page(text: &[u8], scratch: &mut [u16], sheet: &mut [u8], page: &mut [u8]) {
-    if let LineAnswer::Accepted { length } = print::print(text, scratch, sheet, page) {
+    if let LineAnswer::Accepted { length } = print::print(text, scratch, sheet, page, 1) {
         io::write_all(STDOUT_FILENO, &page[..length]);
     }
 }

@@ -7,6 +7,7 @@
 -- No operation answers with such: the laws of the crate `unpack`.
 use Prim.Native.Nat.{ℕ, _+_, _*_, _/_, _%_, _^_}
 use mathlib.Core.List.{List, [], _∷_}
+use lib.ListN.{getD}
 use Rattle.error.specs.Refusal.{numberOf}
 use Rattle.error.specs.declared.Refusal.{Refusal}
 use Rattle.error.specs.declared.ReadAnswer.{ReadAnswer}
@@ -49,6 +50,14 @@ abbrev pub packedFed : FeedAnswer → ℕ
 packedFed (feed.Counted answer) = packedScript answer
 packedFed (feed.Refused refusal place) = packedRefusal refusal place
 
+-- 02 (g): "red times 2^24 + green times 2^16 + blue times 2^8 + alpha"
+abbrev pub packedBytes : List ℕ → ℕ
+packedBytes bs = getD bs 0 0 * 2 ^ 24 + getD bs 1 0 * 2 ^ 16 + getD bs 2 0 * 2 ^ 8 + getD bs 3 0
+
+abbrev pub packedColor : CheckAnswer → List ℕ → ℕ
+packedColor check.Accepted bs = packedBytes bs
+packedColor (check.Refused refusal place) bs = packedRefusal refusal place
+
 -- ---- an answer with the buffers afterwards
 
 abbrev pub readOutcome : ReadAnswer × List ℕ × List ℕ → ℕ × List ℕ × List ℕ
@@ -70,6 +79,10 @@ meanOutcome (mean.Fraction numerator denominator) out = (1, numerator ∷ denomi
 meanOutcome mean.Nothing out = (0, out)
 meanOutcome (mean.Refused refusal place) out = (packedRefusal refusal place, out)
 
+-- the four bytes are part of the answer
+abbrev pub colorOutcome : CheckAnswer × List ℕ → ℕ
+colorOutcome x = packedColor (x .0) (x .1)
+
 -- ---- its parts
 
 abbrev pub numberIn : ℕ → ℕ
@@ -86,6 +99,10 @@ recordsIn w = w / 2 ^ 24 % 2 ^ 16
 
 abbrev pub roundedIn : ℕ → ℕ
 roundedIn w = w / 2 ^ 40 % 2 ^ 16
+
+-- a byte of a colour: alpha from 0 on, blue from 8, green from 16, red from 24
+abbrev pub byteIn : ℕ → ℕ → ℕ
+byteIn k w = w / 2 ^ k % 2 ^ 8
 
 -- the number of a refused script
 abbrev pub scriptNumberIn : ℕ → ℕ

@@ -3,6 +3,7 @@ ghost use mathlib.Core.List.{[], _∷_};
 ghost use mathlib.Core.Path.{_≡_};
 ghost use Prim.Native.Nat.{_%_, _^_};
 ghost use lib.ListN.{length};
+ghost use Rattle.colors.specs.Css.{coloring};
 ghost use Rattle.parser.specs.Reading.{reading};
 ghost use Rattle.validate.specs.Checking.{checking};
 ghost use Rattle.line.specs.Lining.{lining};
@@ -11,7 +12,7 @@ ghost use Rattle.totals.specs.Mean.{mean};
 ghost use Rattle.feed.specs.Feed.{fed, feeding};
 ghost use Rattle.back.specs.Back.{writing};
 ghost use Rattle.strip.specs.Packed.{packedRefusal, packedSheet, packedCheck, packedLine, packedFed, readOutcome, lineOutcome, printOutcome};
-ghost use Rattle.strip.specs.Packed.{feedOutcome, meanOutcome};
+ghost use Rattle.strip.specs.Packed.{feedOutcome, meanOutcome, packedBytes, colorOutcome};
 use error::CheckAnswer;
 use error::LineAnswer;
 use error::ReadAnswer;
@@ -66,6 +67,13 @@ fn pack_fed(answer: FeedAnswer) -> u64
     }
 }
 
+// Red, green, blue and alpha as one number, alpha the lowest byte.
+fn pack_color(red: u8, green: u8, blue: u8, alpha: u8) -> u64
+    ensures { λ r. ⌜ r ≡ packedBytes (red ∷ green ∷ blue ∷ alpha ∷ []) ⌝ }
+{
+    (red as u64) * 16777216 + (green as u64) * 65536 + (blue as u64) * 256 + (alpha as u64)
+}
+
 // Writes two words.
 fn put_pair(out: &mut [u32], a: u32, b: u32)
     requires { ⌜ length (now out) ≡ 2 ⌝ }
@@ -92,10 +100,10 @@ pub extern "C" fn strip_read(text: &[u8], scratch: &mut [u16], sheet: &mut [u8])
 
 // validate::check.
 #[no_mangle]
-pub extern "C" fn strip_check(text: &[u8], sheet: &[u8]) -> u64
-    ensures { λ r. ⌜ r ≡ packedCheck (checking (now (text .entry)) (now (sheet .entry))) ⌝ }
+pub extern "C" fn strip_check(text: &[u8], sheet: &[u8], list: u32) -> u64
+    ensures { λ r. ⌜ r ≡ packedCheck (checking list (now (text .entry)) (now (sheet .entry))) ⌝ }
 {
-    match validate::check(text, sheet) {
+    match validate::check(text, sheet, list) {
         CheckAnswer::Accepted => 0,
         CheckAnswer::Refused { refusal, place } => pack_refusal(refusal, place),
     }
@@ -116,10 +124,11 @@ pub extern "C" fn strip_print(
     scratch: &mut [u16],
     sheet: &mut [u8],
     page: &mut [u8],
+    list: u32,
 ) -> u64
-    ensures { λ r. ⌜ (r, now (scratch .exit), now (sheet .exit), now (page .exit)) ≡ printOutcome (printing (now (text .entry)) (now (scratch .entry)) (now (sheet .entry)) (now (page .entry))) ⌝ }
+    ensures { λ r. ⌜ (r, now (scratch .exit), now (sheet .exit), now (page .exit)) ≡ printOutcome (printing list (now (text .entry)) (now (scratch .entry)) (now (sheet .entry)) (now (page .entry))) ⌝ }
 {
-    pack_line(print::print(text, scratch, sheet, page))
+    pack_line(print::print(text, scratch, sheet, page, list))
 }
 
 // feed::feed.
@@ -129,10 +138,11 @@ pub extern "C" fn strip_feed(
     text: &[u8],
     scratch: &mut [u16],
     sheet: &mut [u8],
+    list: u32,
 ) -> u64
-    ensures { λ r. ⌜ (r, now (totals .exit), now (scratch .exit), now (sheet .exit)) ≡ feedOutcome (feeding (now (totals .entry)) (fed (now (text .entry)) (now (scratch .entry)) (now (sheet .entry)))) ⌝ }
+    ensures { λ r. ⌜ (r, now (totals .exit), now (scratch .exit), now (sheet .exit)) ≡ feedOutcome (feeding (now (totals .entry)) (fed list (now (text .entry)) (now (scratch .entry)) (now (sheet .entry)))) ⌝ }
 {
-    pack_fed(feed::feed(totals, text, scratch, sheet))
+    pack_fed(feed::feed(totals, text, scratch, sheet, list))
 }
 
 // totals::mean: 1, and the fraction in `out`; 0 for nothing, and `out` as it was.
@@ -155,8 +165,21 @@ pub extern "C" fn strip_mean(totals: &[u32; 60], which: u32, out: &mut [u32; 2])
 
 // back::write.
 #[no_mangle]
-pub extern "C" fn strip_write(text: &[u8], sheet: &[u8], out: &mut [u8]) -> u64
-    ensures { λ r. ⌜ (r, now (out .exit)) ≡ lineOutcome (writing (now (text .entry)) (now (sheet .entry)) (now (out .entry))) ⌝ }
+pub extern "C" fn strip_write(text: &[u8], sheet: &[u8], out: &mut [u8], list: u32) -> u64
+    ensures { λ r. ⌜ (r, now (out .exit)) ≡ lineOutcome (writing list (now (text .entry)) (now (sheet .entry)) (now (out .entry))) ⌝ }
 {
-    pack_line(back::write(text, sheet, out))
+    pack_line(back::write(text, sheet, out, list))
+}
+
+// colors::color.
+#[no_mangle]
+pub extern "C" fn strip_color(string: &[u8]) -> u64
+    ensures { λ r. ⌜ r ≡ colorOutcome (coloring (now (string .entry))) ⌝ }
+{
+    let mut bytes = [0u8; 4];
+    let answer = colors::color(string, &mut bytes);
+    if let CheckAnswer::Refused { refusal, place } = answer {
+        return pack_refusal(refusal, place);
+    }
+    pack_color(bytes[0], bytes[1], bytes[2], bytes[3])
 }

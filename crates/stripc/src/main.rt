@@ -64,9 +64,9 @@ fn run(text: &[u8]) {
     }
 }
 
-// Has all that is printed made on the page, and writes it at once. Says whether it was written.
+// Has all that is printed made on the page, with the Rust's list of colours, and writes it at once. Says whether it was written.
 fn print_page(text: &[u8], scratch: &mut [u16], sheet: &mut [u8], page: &mut [u8]) -> bool {
-    match print::print(text, scratch, sheet, page) {
+    match print::print(text, scratch, sheet, page, 1) {
         LineAnswer::Accepted { length } => io::write_all(STDOUT_FILENO, &page[..length]),
         LineAnswer::Refused {
             refusal: _,

@@ -39,3 +39,4 @@ numbered cause.OutputTooShort = record { some = omega arith; most = omega arith 
 numbered cause.TooManyScripts = record { some = omega arith; most = omega arith }
 numbered cause.Unwritable = record { some = omega arith; most = omega arith }
 numbered cause.ScriptTooLong = record { some = omega arith; most = omega arith }
+numbered cause.UnknownList = record { some = omega arith; most = omega arith }

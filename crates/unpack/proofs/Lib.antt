@@ -4,3 +4,4 @@ pub mod SheetLaws
 pub mod Within
 pub mod Unpack
 pub mod AddLaws
+pub mod ColorParts

@@ -22,8 +22,9 @@ use Rattle.sheet.specs.Opening as begins
 use Rattle.sheet.proofs.Laws.{Fits, decoded}
 use Rattle.sheet.proofs.Flat.{concat, concat-append, sheet-flat}
 use Rattle.validate.specs.Rules.{validateLeaf, validateContainer, atOrdinal, validateNodes}
+use Rattle.validate.specs.Checking.{isList, unlessUnknown, openingUnder}
 use Rattle.error.specs.declared.Refusal.{Refusal}
-use Rattle.error.specs.declared.Refusal.the-variants.{TextTooLong}
+use Rattle.error.specs.declared.Refusal.the-variants.{TextTooLong, UnknownList}
 
 -- ---- as many bytes as records, or more
 
@@ -149,20 +150,39 @@ slight n s ns e =
       short = λ i r g. omega (arith, d .short, h, sheet-one n ns (d .fits) i r g);
     }
 
-pub opening-within : (t s : List ℕ) → Within (length t) (opening t s)
-unfolding opening
-opening-within t s = long (ltb textLimit (length t)) refl
+decoded-within : (t s : List ℕ) → Within (length t) (begins.decoded (decode (length t) s))
+decoded-within t s = go (decode (length t) s) refl
   where
-    tree-of : (f : Option ℕ) → Before (length t) f → (d : Option Forest)
-        → decode (length t) s ≡ d → length t ≤ textLimit
-        → Within (length t) (unlessForeign f (begins.decoded d))
-    tree-of (some p) h d e l = omega arith
-    tree-of none h none e l = omega arith
-    tree-of none h (some ns) e l = slight (length t) s ns e
+    go : (d : Option Forest) → decode (length t) s ≡ d → Within (length t) (begins.decoded d)
+    go none e = omega arith
+    go (some ns) e = slight (length t) s ns e
+
+-- 1 and 2, then o
+text-within : (t : List ℕ) (o : Opened) → Within (length t) o
+    → Within (length t) (cond (ltb textLimit (length t)) (shut TextTooLong 0) (unlessForeign (foreignFrom 0 t) o))
+text-within t o w = long (ltb textLimit (length t)) refl
+  where
+    foreign : (f : Option ℕ) → Before (length t) f → length t ≤ textLimit → Within (length t) (unlessForeign f o)
+    foreign (some p) h l = omega arith
+    foreign none h l = w
 
     long : (b : Bool) → ltb textLimit (length t) ≡ b
-        → Within (length t) (cond b (shut TextTooLong 0) (unlessForeign (foreignFrom 0 t) (begins.decoded (decode (length t) s))))
+        → Within (length t) (cond b (shut TextTooLong 0) (unlessForeign (foreignFrom 0 t) o))
     long true e = omega arith
     long false e =
-        tree-of (foreignFrom 0 t) (before-more (foreignFrom 0 t) (0 + length t) (length t) (omega arith) (foreign-before 0 t))
-        (decode (length t) s) refl (omega (arith, ltb-false textLimit (length t) e))
+        foreign (foreignFrom 0 t) (before-more (foreignFrom 0 t) (0 + length t) (length t) (omega arith) (foreign-before 0 t))
+        (omega (arith, ltb-false textLimit (length t) e))
+
+-- before lining
+pub opening-within : (t s : List ℕ) → Within (length t) (opening t s)
+unfolding opening
+opening-within t s = text-within t (begins.decoded (decode (length t) s)) (decoded-within t s)
+
+-- before checking
+pub under-within : (list : ℕ) (t s : List ℕ) → Within (length t) (openingUnder list t s)
+unfolding openingUnder
+under-within list t s = text-within t (unlessUnknown list (begins.decoded (decode (length t) s))) (go (isList list))
+  where
+    go : (b : Bool) → Within (length t) (cond b (begins.decoded (decode (length t) s)) (shut UnknownList 0))
+    go true = decoded-within t s
+    go false = omega arith

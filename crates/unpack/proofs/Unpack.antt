@@ -60,8 +60,8 @@ check-back : (a : CheckAnswer) → CheckWithin a → CheckParts a (packedCheck a
 check-back check.Accepted h = refl
 check-back (check.Refused r p) h = (refusal-number r p, refusal-place r p (omega arith))
 
-pub check-parts : (t sheet : List ℕ) → CheckParts (checking t sheet) (packedCheck (checking t sheet))
-check-parts t sheet = check-back (checking t sheet) (check-within t sheet)
+pub check-parts : (list : ℕ) (t sheet : List ℕ) → CheckParts (checking list t sheet) (packedCheck (checking list t sheet))
+check-parts list t sheet = check-back (checking list t sheet) (check-within list t sheet)
 
 -- ---- lining, whose ordinal is a u32
 
@@ -80,15 +80,15 @@ line-parts t sheet i out g = line-back 131077 i (omega arith) g (lining t sheet 
 
 -- ---- printing
 
-pub print-parts : (t scratch sheet page : List ℕ)
-    → LineParts (printing t scratch sheet page .0) (packedLine (printing t scratch sheet page .0))
-print-parts t scratch sheet page =
-    line-back pageBytes 0 (omega arith) (omega arith) (printing t scratch sheet page .0) (print-within t scratch sheet page)
+pub print-parts : (list : ℕ) (t scratch sheet page : List ℕ)
+    → LineParts (printing list t scratch sheet page .0) (packedLine (printing list t scratch sheet page .0))
+print-parts list t scratch sheet page =
+    line-back pageBytes 0 (omega arith) (omega arith) (printing list t scratch sheet page .0) (print-within list t scratch sheet page)
 
 -- ---- writing
 
-pub write-parts : (t s out : List ℕ) → LineParts (writing t s out .0) (packedLine (writing t s out .0))
-write-parts t s out = by (writing t s out .0) (write-within t s out)
+pub write-parts : (list : ℕ) (t s out : List ℕ) → LineParts (writing list t s out .0) (packedLine (writing list t s out .0))
+write-parts list t s out = by (writing list t s out .0) (write-within list t s out)
   where
     by : (a : LineAnswer) → ScriptWithin a → LineParts a (packedLine a)
     by (line.Accepted n) h = (line-number n, line-length n (omega arith))
@@ -111,8 +111,8 @@ script-back (check.Refused r p) h = (script-number r p, script-refusal r p, scri
 judged-within : (x : Fed) → CheckWithin (judgement x)
 judged-within x = by (readOf x) (read-within (x .text) (x .scratch) (x .sheet))
   where
-    by : (y : ReadAnswer × List ℕ × List ℕ) → ReadWithin (y .0) → CheckWithin (whenRead (x .text) y)
-    by (read.Accepted n c j, words, s) h = check-within (x .text) (take n s)
+    by : (y : ReadAnswer × List ℕ × List ℕ) → ReadWithin (y .0) → CheckWithin (whenRead (x .list) (x .text) y)
+    by (read.Accepted n c j, words, s) h = check-within (x .list) (x .text) (take n s)
     by (read.Refused r p, words, s) h = omega arith
 
 pub feed-parts : (ws : List ℕ) (x : Fed) → FedParts (feeding ws x .0) (packedFed (feeding ws x .0))

@@ -23,9 +23,9 @@ use Rattle.grammar.specs.Grammar.{stored, animatoInput}
 use Rattle.parser.specs.Reading.{Parsed, tree, wrong, unlessLeft, finished, parsed, parse}
 use Rattle.parser.specs.Reading.{answered, early, unlessEarly, reading, scratchWords}
 use Rattle.limits.proofs.Limits.{parses-fits, parses-small}
-use Rattle.presets.specs.Colors.{colors}
+use Rattle.colors.specs.Css.{namesOf}
 use Rattle.validate.specs.Rules.{validateNodes}
-use Rattle.validate.specs.Checking.{answerOf, judged, verdict, checking}
+use Rattle.validate.specs.Checking.{answerOf, judged, verdict, openingUnder, checking}
 use Rattle.line.specs.Line.{line}
 use Rattle.line.specs.Lining.{ofRecord, ofOpened, lining}
 use Rattle.line.proofs.LineLaws.{length-line}
@@ -46,7 +46,7 @@ use Rattle.fresh.specs.Fresh.{script, hasText}
 use Rattle.back.specs.Back.{refusal, fitted, written, senseOf, ofTree, ofVerdict, writing}
 use Rattle.unpack.proofs.StepLaws.{Near, LeftNear, OutNear}
 use Rattle.unpack.proofs.RuleLaws.{input-stays}
-use Rattle.unpack.proofs.SheetLaws.{sheet-some, Below, nodes-below, Within, opening-within}
+use Rattle.unpack.proofs.SheetLaws.{sheet-some, Below, nodes-below, Within, opening-within, under-within}
 
 -- ---- reading: a text's tokens, and its refusals 2 to 5
 
@@ -178,15 +178,15 @@ answer-within : (o : Option (Refusal × ℕ)) (m : ℕ) → m ≤ 65536 → Belo
 answer-within none m h b = tt
 answer-within (some f) m h b = omega arith
 
-verdict-within : (t : List ℕ) (o : Opened) → Within (length t) o → CheckWithin (verdict t o)
+verdict-within : (list : ℕ) (t : List ℕ) (o : Opened) → Within (length t) o → CheckWithin (verdict list t o)
 unfolding judged
-verdict-within t (shut r p) h = omega arith
-verdict-within t (opened ns) h =
-    answer-within (validateNodes colors t 1 ns) (1 + records ns) (omega (arith, h .few)) (nodes-below colors t 1 ns)
+verdict-within list t (shut r p) h = omega arith
+verdict-within list t (opened ns) h =
+    answer-within (validateNodes (namesOf list) t 1 ns) (1 + records ns) (omega (arith, h .few)) (nodes-below (namesOf list) t 1 ns)
 
-pub check-within : (t sheet : List ℕ) → CheckWithin (checking t sheet)
+pub check-within : (list : ℕ) (t sheet : List ℕ) → CheckWithin (checking list t sheet)
 unfolding checking
-check-within t sheet = verdict-within t (opening t sheet) (opening-within t sheet)
+check-within list t sheet = verdict-within list t (openingUnder list t sheet) (under-within list t sheet)
 
 -- ---- lining: a line is at most 131,077 bytes; a refusal's place is the ordinal, or at most 16,384
 
@@ -215,19 +215,19 @@ line-within t sheet i out = opened-within (length t) i out (opening t sheet) (op
 
 -- ---- printing: a page has at most 147,456 bytes of text
 
-pub print-within : (t scratch sheet page : List ℕ) → LineWithin pageBytes 0 (printing t scratch sheet page .0)
+pub print-within : (list : ℕ) (t scratch sheet page : List ℕ) → LineWithin pageBytes 0 (printing list t scratch sheet page .0)
 unfolding printing
-print-within t scratch sheet page = go (ltb (length page) pageBytes)
+print-within list t scratch sheet page = go (ltb (length page) pageBytes)
   where
     bs : List ℕ
-    bs = printed t scratch sheet (replicate lineBytes 0)
+    bs = printed list t scratch sheet (replicate lineBytes 0)
 
     go : (b : Bool)
         → LineWithin pageBytes 0
         (cond {A = LineAnswer × List ℕ × List ℕ × List ℕ} b (lines.Refused OutputTooShort 0, scratch, sheet, page)
         (paged (reading t scratch sheet) bs page) .0)
     go true = inl refl
-    go false = printed-small t scratch sheet (replicate lineBytes 0)
+    go false = printed-small list t scratch sheet (replicate lineBytes 0)
 
 -- ---- writing: a text's length, or checking's place, or 0
 
@@ -253,9 +253,9 @@ script-within out x = go (hasText form x)
     go true = fitted-within out (script form x)
     go false = omega arith
 
-pub write-within : (t s out : List ℕ) → ScriptWithin (writing t s out .0)
+pub write-within : (list : ℕ) (t s out : List ℕ) → ScriptWithin (writing list t s out .0)
 unfolding writing
-write-within t s out = by (checking t s) (check-within t s)
+write-within list t s out = by (checking list t s) (check-within list t s)
   where
     of-tree : (o : Option Forest) → ScriptWithin (ofTree t out o .0)
     of-tree none = omega arith

@@ -18,7 +18,7 @@ use Rattle.decode.specs.Reads.{Reads, got, bad, same, KindAndStart}
 use Rattle.records.specs.Record.{blank, countForm, recordForm}
 use Rattle.records.specs.declared.Kind.{Kind}
 use Rattle.records.specs.declared.Kind.the-variants as kind
-use Rattle.presets.specs.Colors.{colors}
+use Rattle.colors.specs.Css.{namesOf}
 use Rattle.error.specs.declared.Refusal.{Refusal}
 use Rattle.decode.proofs.ReadLaws.{_&_}
 use Rattle.records.proofs.RecordLaws.{made, after, counts, width-blank, of-kind, three-or-four}
@@ -36,19 +36,19 @@ known (bad o n) k = bad o n
 
 -- ---- a leaf
 
-pub leaf-is : (t : List ℕ) (p : ℕ) (l : Leaf KeyframeTime) {o : Option Refusal}
-    → o ≡ validateLeaf colors t l
-    → Prim.Path (Option Refusal × Kind) (recordView t (single p l)) (o, kind.Leaf)
-leaf-is t p l e = λ i. (sym e i, kind.Leaf)
+pub leaf-is : (list : ℕ) (t : List ℕ) (p : ℕ) (l : Leaf KeyframeTime) {o : Option Refusal}
+    → o ≡ validateLeaf (namesOf list) t l
+    → Prim.Path (Option Refusal × Kind) (recordView list t (single p l)) (o, kind.Leaf)
+leaf-is list t p l e = λ i. (sym e i, kind.Leaf)
 
 -- ---- a container: its own fields and its count of nodes
 
 -- the fault of the record at `from` is o, and it holds c nodes
-abbrev Holding : List ℕ → List ℕ → ℕ → ℕ → Option Refusal → ℕ → Type 0
-Holding t s from m o c = Reads {X = Option Refusal × Kind} (recordForm (length t)) (recordView t) s from (o, kind.Container c) m
+abbrev Holding : ℕ → List ℕ → List ℕ → ℕ → ℕ → Option Refusal → ℕ → Type 0
+Holding list t s from m o c = Reads {X = Option Refusal × Kind} (recordForm (length t)) (recordView list t) s from (o, kind.Container c) m
 
-module _ (t : List ℕ) {s : List ℕ} {from start at k : ℕ} (b : KindAndStart (length t) s from k start at) where
-  pub count-record : {c m : ℕ} → ContainerKind k → (k ≡ 5 → ⊥) → (k ≡ 6 → ⊥) → Reads (big 2) same s at c m → Holding t s from m none c
+module _ (list : ℕ) (t : List ℕ) {s : List ℕ} {from start at k : ℕ} (b : KindAndStart (length t) s from k start at) where
+  pub count-record : {c m : ℕ} → ContainerKind k → (k ≡ 5 → ⊥) → (k ≡ 6 → ⊥) → Reads (big 2) same s at c m → Holding list t s from m none c
   unfolding validateContainer
   count-record {c} {m} h n5 n6 r =
       ⊎-elim (λ e. of-kind 3 b e (b .startAt & nodes) (λ x e i. e i .1))
@@ -63,25 +63,25 @@ module _ (t : List ℕ) {s : List ℕ} {from start at k : ℕ} (b : KindAndStart
 
   pub group-record : {m : ℕ} {v : groups.GroupSpec} → k ≡ 5
       → Reads (below 2 ▹ big 2) (λ p. groupView (p .0) (p .1)) s at v m
-      → Holding t s from m none (v .nodes)
+      → Holding list t s from m none (v .nodes)
   unfolding validateContainer
   group-record e r =
       of-kind 5 b e
       (b .startAt
       & made (below 2 ▹ big 2) (below 2 ▹ countForm) (λ p. (p .0, blank (p .1)))
-      {g = λ p. recordView t (holding start (tree.group (p .0)) (p .1))}
+      {g = λ p. recordView list t (holding start (tree.group (p .0)) (p .1))}
       (after (below 2) (big 2) countForm blank counts) r
       (λ p e i. (none, kind.Container ((width-blank (p .1) ∙ ap (λ (g : groups.GroupSpec). g .nodes) e) i))))
       (λ x e i. e i .1)
 
   pub stagger-record : (f : Fault) {m : ℕ} {v : staggers.StaggerSpec} → k ≡ 6
       → Reads (opt patternForm ▹ opt word ▹ big 2) (λ p. staggerView (p .0) (p .1 .0) (p .1 .1)) s at v m
-      → StaggerTells v f → Holding t s from m (faultOf f) (v .nodes)
+      → StaggerTells v f → Holding list t s from m (faultOf f) (v .nodes)
   stagger-record f e r g =
       of-kind 6 b e
       (b .startAt
       & made (opt patternForm ▹ opt word ▹ big 2) (opt patternForm ▹ opt word ▹ countForm) (λ p. (p .0, (p .1 .0, blank (p .1 .1))))
-      {g = λ p. recordView t (holding start (tree.stagger (p .0) (p .1 .0)) (p .1 .1))}
+      {g = λ p. recordView list t (holding start (tree.stagger (p .0) (p .1 .0)) (p .1 .1))}
       (after (opt patternForm) (opt word ▹ big 2) (opt word ▹ countForm) (λ q. (q .0, blank (q .1)))
       (after (opt word) (big 2) countForm blank counts))
       r

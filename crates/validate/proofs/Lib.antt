@@ -4,3 +4,4 @@ pub mod FrameLaws
 pub mod KindLaws
 pub mod WalkLaws
 pub mod CheckLaws
+pub mod ListLaws

@@ -1,5 +1,6 @@
 -- What the answers of the code mean. Contracts cite these. Assumes nothing.
 use Prim.Native.Nat.{ℕ, _≤_}
+use mathlib.Core.Bool.{cond}
 use mathlib.Core.List.{List, []}
 use mathlib.Core.Option.{Option, none, some}
 use mathlib.Core.Path.{_≡_}
@@ -10,11 +11,19 @@ use Rattle.ast.specs.View.{keyframesView, staggerView}
 use Rattle.ast.specs.declared.KeyframeSpec as tracks
 use Rattle.ast.specs.declared.StaggerSpec as staggers
 use Rattle.sheet.specs.Sheet.{entryForm, keyframesForm}
+use Rattle.opening.specs.declared.Opening.{Opening}
+use Rattle.opening.specs.declared.Opening.the-variants.{Open, Shut}
 use Rattle.error.specs.declared.Refusal.{Refusal}
+use Rattle.error.specs.declared.Refusal.the-variants.{UnknownList}
 use Rattle.places.specs.Stands.{Stands}
+use Rattle.validate.specs.Checking.{isList}
 use Rattle.validate.specs.Rules.{validateFrames, validateKeyframes, validateContainer}
 use Rattle.validate.specs.declared.faults.Fault.{Fault}
 use Rattle.validate.specs.declared.faults.Fault.the-variants.{None, Is}
+
+-- the answer to a list of colours: 36
+abbrev pub listAnswer : ℕ → Opening
+listAnswer list = cond (isList list) Open (Shut UnknownList 0)
 
 abbrev pub faultOf : Fault → Option Refusal
 faultOf None = none

@@ -55,9 +55,9 @@ fn leaf(fault: Fault, next: usize) -> RecordCheck
 }
 
 // A leaf of a kind: its fields at a place.
-fn validate_leaf(text: &[u8], s: &[u8], at: usize, kind: u8) -> RecordCheck
+fn validate_leaf(text: &[u8], s: &[u8], at: usize, kind: u8, list: u32) -> RecordCheck
     requires { ⌜ LeafKind kind × InLimit (now s) ⌝ }
-    ensures { λ r. ⌜ FieldsTell (now (text .entry)) (now (s .entry)) kind at r ⌝ }
+    ensures { λ r. ⌜ FieldsTell list (now (text .entry)) (now (s .entry)) kind at r ⌝ }
 {
     let n = text.len();
     match kind {
@@ -87,7 +87,7 @@ fn validate_leaf(text: &[u8], s: &[u8], at: usize, kind: u8) -> RecordCheck
         }
         10 => {
             let x = take_color(s, at, n);
-            leaf(validate_color(text, x.v), x.next)
+            leaf(validate_color(text, x.v, list), x.next)
         }
         11 => {
             let x = take_waveform(s, at);
@@ -115,7 +115,7 @@ fn container(fault: Fault, count: usize, next: usize) -> RecordCheck
 // A container of a kind: its own fields at a place.
 fn validate_container(s: &[u8], at: usize, kind: u8) -> RecordCheck
     requires { ⌜ ContainerKind kind ⌝ }
-    ensures { λ r. ⌜ ((t : List ℕ) → FieldsTell t (now (s .entry)) kind at r) ⌝ }
+    ensures { λ r. ⌜ ((list : ℕ) (t : List ℕ) → FieldsTell list t (now (s .entry)) kind at r) ⌝ }
 {
     match kind {
         5 => {
@@ -136,14 +136,14 @@ fn validate_container(s: &[u8], at: usize, kind: u8) -> RecordCheck
 }
 
 // The record at a place, without the nodes in it.
-pub fn validate_record(text: &[u8], s: &[u8], at: usize) -> RecordCheck
+pub fn validate_record(text: &[u8], s: &[u8], at: usize, list: u32) -> RecordCheck
     requires { ⌜ InLimit (now s) ⌝ }
-    ensures { λ r. ⌜ Reads (recordForm (length (now (text .entry)))) (recordView (now (text .entry))) (now (s .entry)) at (checkView r) (r .next) ⌝ }
+    ensures { λ r. ⌜ Reads (recordForm (length (now (text .entry)))) (recordView list (now (text .entry))) (now (s .entry)) at (checkView r) (r .next) ⌝ }
 {
     let k = take_kind(s, at, text.len());
     let kind = k.kind;
     match kind {
         3..=6 => validate_container(s, k.next, kind),
-        _ => validate_leaf(text, s, k.next, kind),
+        _ => validate_leaf(text, s, k.next, kind, list),
     }
 }

@@ -15,14 +15,14 @@ pub enum Walk {
 }
 
 // The node at a place, with the nodes in it, its record being of an ordinal.
-fn validate_node(text: &[u8], s: &[u8], at: usize, ordinal: usize) -> Walk
+fn validate_node(text: &[u8], s: &[u8], at: usize, ordinal: usize, list: u32) -> Walk
     requires { ⌜ (ordinal ≤ at + 1) × InLimit (now s) ⌝ }
-    ensures { λ r. ⌜ NodeWalk (now (text .entry)) (now (s .entry)) at ordinal r ⌝ }
+    ensures { λ r. ⌜ NodeWalk list (now (text .entry)) (now (s .entry)) at ordinal r ⌝ }
 {
     if s.len() <= at {
         return Walk::Passed { next: at, ordinal };
     }
-    let r = validate_record(text, s, at);
+    let r = validate_record(text, s, at, list);
     let fault = r.fault;
     if let Fault::Is(refusal) = fault {
         return Walk::Refused { refusal, ordinal };
@@ -33,20 +33,27 @@ fn validate_node(text: &[u8], s: &[u8], at: usize, ordinal: usize) -> Walk
             next: r.next,
             ordinal: ordinal + 1,
         },
-        Kind::Container(count) => validate_nodes(text, s, r.next, count, ordinal + 1),
+        Kind::Container(count) => validate_nodes(text, s, r.next, count, ordinal + 1, list),
     }
 }
 
 // So many nodes from a place on, the first record being of an ordinal.
-pub fn validate_nodes(text: &[u8], s: &[u8], at: usize, count: usize, ordinal: usize) -> Walk
+pub fn validate_nodes(
+    text: &[u8],
+    s: &[u8],
+    at: usize,
+    count: usize,
+    ordinal: usize,
+    list: u32,
+) -> Walk
     requires { ⌜ (ordinal ≤ at + 1) × InLimit (now s) ⌝ }
-    ensures { λ r. ⌜ NodesWalk (now (text .entry)) (now (s .entry)) at count ordinal r ⌝ }
+    ensures { λ r. ⌜ NodesWalk list (now (text .entry)) (now (s .entry)) at count ordinal r ⌝ }
 {
     let mut a = at;
     let mut o = ordinal;
     let mut k: usize = 0;
     while k < count {
-        let w = validate_node(text, s, a, o);
+        let w = validate_node(text, s, a, o, list);
         let Walk::Passed { next, ordinal } = w else {
             return w;
         };

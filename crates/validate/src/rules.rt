@@ -1,6 +1,6 @@
 // The rules of each kind of node, in validate.rs's order and under its names.
 ghost use Rattle.ast.specs.View.{tweenView, springView, pathView, morphView, drawView, colorView, waveformView, presetView, patternView, optPatternView};
-ghost use Rattle.presets.specs.Colors.{colors};
+ghost use Rattle.colors.specs.Css.{namesOf};
 ghost use Rattle.validate.specs.Rules.{validateTween, validateSpring, validatePath, validateMorph, validateDraw, validateColor, validateWaveform, validatePresetCall, given, emptyGrid};
 ghost use Rattle.validate.specs.Means.{faultOf, Tells, StaggerTells};
 use crate::faults::Fault;
@@ -85,8 +85,8 @@ pub fn validate_draw(text: &[u8], spec: DrawSpec) -> Fault
     validate_easing(text, f, easing)
 }
 
-pub fn validate_color(text: &[u8], spec: ColorSpec) -> Fault
-    ensures { λ r. ⌜ Tells colorView (validateColor colors (now (text .entry))) spec (faultOf r) ⌝ }
+pub fn validate_color(text: &[u8], spec: ColorSpec, list: u32) -> Fault
+    ensures { λ r. ⌜ Tells colorView (validateColor (namesOf list) (now (text .entry))) spec (faultOf r) ⌝ }
 {
     let easing = spec.easing;
     let from = spec.from;
@@ -94,12 +94,12 @@ pub fn validate_color(text: &[u8], spec: ColorSpec) -> Fault
     let f = rule(Fault::None, is_negative(spec.duration), Refusal::OutOfRange);
     let f = rule(
         f,
-        !presets::is_valid_color(text, from.start, from.size),
+        !colors::is_color(text, from.start, from.size, list),
         Refusal::InvalidColor,
     );
     let f = rule(
         f,
-        !presets::is_valid_color(text, to.start, to.size),
+        !colors::is_color(text, to.start, to.size, list),
         Refusal::InvalidColor,
     );
     validate_easing(text, f, easing)

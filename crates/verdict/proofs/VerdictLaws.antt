@@ -14,13 +14,15 @@ use Rattle.script.proofs.Closed.{claim}
 use Rattle.verdict.specs.Verdict.{Claims}
 use Rattle.verdict.specs.declared.Verdict.the-variants.{Unread, Checked}
 
-module _ (t scratch sheet words s : List ℕ) where
+module _ (list : ℕ) (t scratch sheet words s : List ℕ) where
   pub unread : (r : Refusal) (p : ℕ)
       → outcome (read.Refused r p) words s ≡ reading t scratch sheet
-      → Claims t (length scratch) (length sheet) s (Unread r p)
-  unread r p e v = claim t scratch sheet (read.Refused r p, words, s) v e (λ n c k q. absurd (let z : _≡_ {A = ℕ} 0 1 = cc in omega arith))
+      → Claims list t (length scratch) (length sheet) s (Unread r p)
+  unread r p e known v =
+      claim list known t scratch sheet (read.Refused r p, words, s) v e (λ n c k q. absurd (let z : _≡_ {A = ℕ} 0 1 = cc in omega arith))
 
   pub checked : (n c k : ℕ) (v : CheckAnswer) → outcome (read.Accepted n c k) words s ≡ reading t scratch sheet
-      → v ≡ checking t (take n s)
-      → Claims t (length scratch) (length sheet) s (Checked n c k v)
-  checked n c k v e f = claim t scratch sheet (read.Accepted n c k, words, s) v e (λ m d j q. let z : n ≡ m = cc in rw (sym z) f)
+      → v ≡ checking list t (take n s)
+      → Claims list t (length scratch) (length sheet) s (Checked n c k v)
+  checked n c k v e f known =
+      claim list known t scratch sheet (read.Accepted n c k, words, s) v e (λ m d j q. let z : n ≡ m = cc in rw (sym z) f)

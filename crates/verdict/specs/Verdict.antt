@@ -1,12 +1,13 @@
 -- What the two calls answered, and what demand 3 says of it. Assumes nothing.
 use Prim.Native.Nat.{ℕ}
+use mathlib.Core.Bool.{true}
 use mathlib.Core.List.{List}
 use mathlib.Core.Path.{_≡_}
 use lib.ListN.{take}
 use Rattle.error.specs.declared.ReadAnswer.{ReadAnswer}
 use Rattle.error.specs.declared.ReadAnswer.the-variants as read
 use Rattle.error.specs.declared.CheckAnswer.{CheckAnswer}
-use Rattle.validate.specs.Checking.{checking}
+use Rattle.validate.specs.Checking.{isList, checking}
 use Rattle.script.specs.Claim.{Claim}
 use Rattle.verdict.specs.declared.Verdict.{Verdict}
 use Rattle.verdict.specs.declared.Verdict.the-variants.{Unread, Checked}
@@ -17,11 +18,12 @@ readOf (Unread r p) = read.Refused r p
 readOf (Checked n c k v) = read.Accepted n c k
 
 -- what checking answered: "Checking gets the sheet up to the length reading gave". Where reading refused, it was not called
-abbrev pub Answered : List ℕ → List ℕ → Verdict → Type 0
-Answered t s (Unread r p) = Unit {0}
-Answered t s (Checked n c k v) = v ≡ checking t (take n s)
+abbrev pub Answered : ℕ → List ℕ → List ℕ → Verdict → Type 0
+Answered list t s (Unread r p) = Unit {0}
+Answered list t s (Checked n c k v) = v ≡ checking list t (take n s)
 
--- demand 3 of both answers and of the sheet s that reading left; where reading refused, whatever checking might answer
-abbrev pub Claims : List ℕ → ℕ → ℕ → List ℕ → Verdict → Type 0
-Claims t words room s (Unread r p) = (v : CheckAnswer) → Claim t words room (read.Refused r p) s v
-Claims t words room s (Checked n c k v) = Claim t words room (read.Accepted n c k) s v
+-- demand 3, under either list, of both answers and of the sheet s that reading left; where reading refused, whatever checking might answer
+abbrev pub Claims : ℕ → List ℕ → ℕ → ℕ → List ℕ → Verdict → Type 0
+Claims list t words room s (Unread r p) =
+    isList list ≡ true → (v : CheckAnswer) → Claim list t words room (read.Refused r p) s v
+Claims list t words room s (Checked n c k v) = isList list ≡ true → Claim list t words room (read.Accepted n c k) s v

@@ -24,11 +24,11 @@ pub enum Verdict {
     },
 }
 
-// Reads a text into a sheet, and checks the sheet up to the length that reading gave.
-pub fn read_and_check(text: &[u8], scratch: &mut [u16], sheet: &mut [u8]) -> Verdict
+// Reads a text into a sheet, and checks the sheet up to the length that reading gave, under a list of colours.
+pub fn read_and_check(text: &[u8], scratch: &mut [u16], sheet: &mut [u8], list: u32) -> Verdict
     ensures { λ r. ⌜ outcome (readOf r) (now (scratch .exit)) (now (sheet .exit)) ≡ reading (now (text .entry)) (now (scratch .entry)) (now (sheet .entry)) ⌝ }
-    ensures { λ r. ⌜ Answered (now (text .entry)) (now (sheet .exit)) r ⌝ }
-    ensures { λ r. ⌜ Claims (now (text .entry)) (length (now (scratch .entry))) (length (now (sheet .entry))) (now (sheet .exit)) r ⌝ }
+    ensures { λ r. ⌜ Answered list (now (text .entry)) (now (sheet .exit)) r ⌝ }
+    ensures { λ r. ⌜ Claims list (now (text .entry)) (length (now (scratch .entry))) (length (now (sheet .entry))) (now (sheet .exit)) r ⌝ }
 {
     match parser::read(text, scratch, sheet) {
         ReadAnswer::Refused { refusal, place } => Verdict::Unread { refusal, place },
@@ -37,7 +37,7 @@ pub fn read_and_check(text: &[u8], scratch: &mut [u16], sheet: &mut [u8]) -> Ver
             records,
             rounded,
         } => {
-            let answer = validate::check(text, text::part(sheet, 0, length));
+            let answer = validate::check(text, text::part(sheet, 0, length), list);
             Verdict::Checked {
                 length,
                 records,

@@ -39,7 +39,7 @@ returns c =
     let at-refused = c .before .before in
     let at-refusal = at-refused .before .before .before in
     let at-check = at-refusal .before .before in
-    with-values (at-refused .refused .ensures ∙ shut-answer _ _ _ (sym (at-refusal .refusal .given .1) ∙ at-check .check .ensures .0))
+    with-values (at-refused .refused .ensures ∙ shut-answer _ _ _ _ (sym (at-refusal .refusal .given .1) ∙ at-check .check .ensures .0))
 
 same-length-2 : tie.Need-same-length-2
 same-length-2 c = search needs
@@ -52,7 +52,7 @@ returns-2 c =
     let at-take-field = at-copy-nodes .before .before .before in
     let at-enum-told = at-take-field .before in
     let at-check = at-enum-told .before .before in
-    with-values (open-answer _ _ _ (sym (at-enum-told .enum-told .given .1) ∙ at-check .check .ensures .0)
+    with-values (open-answer _ _ _ _ (sym (at-enum-told .enum-told .given .1) ∙ at-check .check .ensures .0)
     (at-take-field .take-field .ensures .reads) (at-copy-nodes .copy-nodes .ensures)
     (λ x w. at-finish .finish .ensures _ x (sym (at-copy-nodes .copy-nodes .kept .1 .1 .1 .1 .1 .0)) w))
 

@@ -11,7 +11,7 @@ full-requires : tie.Need-full-requires
 full-requires c κs = search needs
 
 returns : tie.Need-returns
-returns c = feed-full _ _ _ _ (sym (c .before .full .ensures) ∙ c .if1 .taken)
+returns c = feed-full _ _ _ _ _ (sym (c .before .full .ensures) ∙ c .if1 .taken)
 
 read-and-check-requires : tie.Need-read-and-check-requires
 read-and-check-requires c κs = search needs
@@ -83,7 +83,7 @@ returns-2 c =
     let at-read-and-check = c7 .before .before in
     let at-if1 = at-read-and-check .before .before .before in
     let at-full = at-if1 .before in
-    feed-unread _ _ _ _
+    feed-unread _ _ _ _ _
     (sym (at-full .full .ensures) ∙ at-if1 .if1 .left)
     (rw (at-refusal .refusal .given .1) at (at-read-and-check .read-and-check .ensures .0))
     (c .count-refused .ensures .0)
@@ -103,7 +103,7 @@ returns-3 c =
     let at-read-and-check = c10 .before .before in
     let at-if1 = at-read-and-check .before .before .before in
     let at-full = at-if1 .before in
-    feed-refused _ _ _ _
+    feed-refused _ _ _ _ _
     (sym (at-full .full .ensures) ∙ at-if1 .if1 .left)
     (rw (at-length .length .given .1) at (at-read-and-check .read-and-check .ensures .0))
     (rw (at-length .length .given .1, at-answer .answer .given .1) at (at-read-and-check .read-and-check .ensures .1 .0))
@@ -125,7 +125,7 @@ returns-4 c =
     let at-read-and-check = c13 .before .before in
     let at-if1 = at-read-and-check .before .before .before in
     let at-full = at-if1 .before in
-    feed-accepted _ _ _ _
+    feed-accepted _ _ _ _ _
     (sym (at-full .full .ensures) ∙ at-if1 .if1 .left)
     (rw (at-length .length .given .1) at (at-read-and-check .read-and-check .ensures .0))
     (rw (at-length .length .given .1, at-enum-told .enum-told .given .1) at (at-read-and-check .read-and-check .ensures .1 .0))

@@ -6,7 +6,7 @@ use Rattle.print.proofs.print.Statement.{statement}
 use Rattle.print.proofs.print.Tie as tie
 
 returns : tie.Need-returns
-returns c = page-short _ _ _ _ (omega arith)
+returns c = page-short _ _ _ _ _ (omega arith)
 
 read-and-check-requires : tie.Need-read-and-check-requires
 read-and-check-requires c κs = search needs
@@ -51,7 +51,7 @@ returns-2 c =
     let c9 = at-refusal .before .before .before .before in
     let at-read-and-check = c9 .before .before in
     let at-if1 = at-read-and-check .before .before .before in
-    page-unread _ _ _ _ (omega (arith, at-if1 .if1 .left))
+    page-unread _ _ _ _ _ (omega (arith, at-if1 .if1 .left))
     (rw (at-refusal .refusal .given .1) at (at-read-and-check .read-and-check .ensures .0))
     (at-put-refusal .put-refusal .ensures)
 
@@ -72,7 +72,7 @@ returns-3 c =
     let c12 = at-length .before .before .before .before in
     let at-read-and-check = c12 .before .before in
     let at-if1 = at-read-and-check .before .before .before in
-    page-refused _ _ _ _ (omega (arith, at-if1 .if1 .left))
+    page-refused _ _ _ _ _ (omega (arith, at-if1 .if1 .left))
     (rw (at-length .length .given .1) at (at-read-and-check .read-and-check .ensures .0))
     (rw (at-length .length .given .1, at-answer .answer .given .1) at (at-read-and-check .read-and-check .ensures .1 .0))
     (at-put-refusal2 .put-refusal2 .ensures)
@@ -95,7 +95,7 @@ returns-4 c =
     let c13 = at-length .before .before .before .before in
     let at-read-and-check = c13 .before .before in
     let at-if1 = at-read-and-check .before .before .before in
-    page-lined _ _ _ _ (omega (arith, at-if1 .if1 .left))
+    page-lined _ _ _ _ _ (omega (arith, at-if1 .if1 .left))
     (rw (at-length .length .given .1) at (at-read-and-check .read-and-check .ensures .0))
     (rw (at-length .length .given .1, at-enum-told .enum-told .given .1) at (at-read-and-check .read-and-check .ensures .1 .0))
     (rw (at-part .part .ensures) at (at-put-lines .put-lines .ensures))

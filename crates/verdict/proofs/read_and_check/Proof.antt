@@ -33,7 +33,7 @@ returns c =
     let c11 = call .before .before .before .before in
     let start = c11 .before .before in
     let e = rw (at-refusal .refusal .given .1) at (call .read .ensures .0) in
-    (e, (tt, unread (start .args .text .now) (start .args .scratch .now) (start .args .sheet .now) _ _ _ _ e))
+    (e, (tt, unread (start .args .list) (start .args .text .now) (start .args .scratch .now) (start .args .sheet .now) _ _ _ _ e))
 
 same-length-3 : tie.Need-same-length-3
 same-length-3 c = search needs
@@ -50,7 +50,7 @@ returns-2 c =
     let start = c14 .before .before in
     let e = rw (at-length .length .given .1) at (call .read .ensures .0) in
     let v = rw (c .before .part .ensures) at (c .check .ensures .0) in
-    (e, (v, checked (start .args .text .now) (start .args .scratch .now) (start .args .sheet .now) _ _ _ _ _ _ e v))
+    (e, (v, checked (start .args .list) (start .args .text .now) (start .args .scratch .now) (start .args .sheet .now) _ _ _ _ _ _ e v))
 
 pub read-and-check-spec : {M : Type 1} → statement M
 read-and-check-spec =

@@ -32,14 +32,16 @@ returns : tie.Need-returns
 returns c =
     let at-take-group = c .before .before in
     let at-match = at-take-group .before in
-    λ t from start b. rw (c .container .ensures) (kind-laws.group-record t b (at-match .match .keys1) (at-take-group .take-group .ensures))
+    λ list t from start b. rw (c .container .ensures)
+    (kind-laws.group-record list t b (at-match .match .keys1) (at-take-group .take-group .ensures))
 
 returns-2 : tie.Need-returns-2
 returns-2 c =
     let at-take-stagger = c .before .before .before in
     let at-match = at-take-stagger .before in
-    λ t from start b. rw (c .container2 .ensures)
-    (kind-laws.stagger-record t b (c .before .validate-stagger .result) (at-match .match .keys2) (at-take-stagger .take-stagger .ensures)
+    λ list t from start b. rw (c .container2 .ensures)
+    (kind-laws.stagger-record list t b (c .before .validate-stagger .result) (at-match .match .keys2)
+    (at-take-stagger .take-stagger .ensures)
     (c .before .validate-stagger .ensures))
 
 returns-3 : tie.Need-returns-3
@@ -47,8 +49,8 @@ returns-3 c =
     let at-take-field = c .before .before in
     let at-match = at-take-field .before in
     let pre = at-match .before .before .pre in
-    λ t from start b. rw (c .container3 .ensures)
-    (kind-laws.count-record t b pre (at-match .match .rest .0 .1) (at-match .match .rest .1)
+    λ list t from start b. rw (c .container3 .ensures)
+    (kind-laws.count-record list t b pre (at-match .match .rest .0 .1) (at-match .match .rest .1)
     (at-take-field .take-field .ensures .reads))
 
 pub validate-container-spec : {M : Type 1} → statement M

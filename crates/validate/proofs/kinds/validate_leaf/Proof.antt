@@ -113,7 +113,8 @@ returns c =
     λ from start b. rw (c .leaf .ensures)
     (of-kind 0 b (at-match .match .keys1)
     (b .startAt & at-take-tween .take-tween .ensures)
-    (λ x e. kind-laws.leaf-is (args .text .now) (x .0) (tree.tween (x .1)) (c .before .validate-tween .ensures (x .1) (λ i. e i .1))))
+    (λ x e. kind-laws.leaf-is (args .list) (args .text .now) (x .0) (tree.tween (x .1))
+    (c .before .validate-tween .ensures (x .1) (λ i. e i .1))))
 
 returns-2 : tie.Need-returns-2
 unfolding validateLeaf
@@ -124,7 +125,8 @@ returns-2 c =
     λ from start b. rw (c .leaf2 .ensures)
     (of-kind 1 b (at-match .match .keys2)
     (b .startAt & at-take-spring .take-spring .ensures)
-    (λ x e. kind-laws.leaf-is (args .text .now) (x .0) (tree.spring (x .1)) (c .before .validate-spring .ensures (x .1) (λ i. e i .1))))
+    (λ x e. kind-laws.leaf-is (args .list) (args .text .now) (x .0) (tree.spring (x .1))
+    (c .before .validate-spring .ensures (x .1) (λ i. e i .1))))
 
 returns-3 : tie.Need-returns-3
 unfolding validateLeaf
@@ -135,7 +137,7 @@ returns-3 c =
     λ from start b. rw (c .leaf3 .ensures)
     (of-kind 2 b (at-match .match .keys3)
     (b .startAt & kind-laws.known (at-take-keyframes .take-keyframes .ensures) (c .before .validate-keyframes .ensures))
-    (λ x e. kind-laws.leaf-is (args .text .now) (x .0) (tree.keyframes (x .1)) (sym (λ i. e i .1))))
+    (λ x e. kind-laws.leaf-is (args .list) (args .text .now) (x .0) (tree.keyframes (x .1)) (sym (λ i. e i .1))))
 
 returns-4 : tie.Need-returns-4
 unfolding validateLeaf
@@ -146,7 +148,8 @@ returns-4 c =
     λ from start b. rw (c .leaf4 .ensures)
     (of-kind 7 b (at-match .match .keys4)
     (b .startAt & at-take-path .take-path .ensures)
-    (λ x e. kind-laws.leaf-is (args .text .now) (x .0) (tree.path (x .1)) (c .before .validate-path .ensures (x .1) (λ i. e i .1))))
+    (λ x e. kind-laws.leaf-is (args .list) (args .text .now) (x .0) (tree.path (x .1))
+    (c .before .validate-path .ensures (x .1) (λ i. e i .1))))
 
 returns-5 : tie.Need-returns-5
 unfolding validateLeaf
@@ -157,7 +160,8 @@ returns-5 c =
     λ from start b. rw (c .leaf5 .ensures)
     (of-kind 8 b (at-match .match .keys5)
     (b .startAt & at-take-morph .take-morph .ensures)
-    (λ x e. kind-laws.leaf-is (args .text .now) (x .0) (tree.morph (x .1)) (c .before .validate-morph .ensures (x .1) (λ i. e i .1))))
+    (λ x e. kind-laws.leaf-is (args .list) (args .text .now) (x .0) (tree.morph (x .1))
+    (c .before .validate-morph .ensures (x .1) (λ i. e i .1))))
 
 returns-6 : tie.Need-returns-6
 unfolding validateLeaf
@@ -168,7 +172,8 @@ returns-6 c =
     λ from start b. rw (c .leaf6 .ensures)
     (of-kind 9 b (at-match .match .keys6)
     (b .startAt & at-take-draw .take-draw .ensures)
-    (λ x e. kind-laws.leaf-is (args .text .now) (x .0) (tree.draw (x .1)) (c .before .validate-draw .ensures (x .1) (λ i. e i .1))))
+    (λ x e. kind-laws.leaf-is (args .list) (args .text .now) (x .0) (tree.draw (x .1))
+    (c .before .validate-draw .ensures (x .1) (λ i. e i .1))))
 
 returns-7 : tie.Need-returns-7
 unfolding validateLeaf
@@ -179,7 +184,8 @@ returns-7 c =
     λ from start b. rw (c .leaf7 .ensures)
     (of-kind 10 b (at-match .match .keys7)
     (b .startAt & at-take-color .take-color .ensures)
-    (λ x e. kind-laws.leaf-is (args .text .now) (x .0) (tree.color (x .1)) (c .before .validate-color .ensures (x .1) (λ i. e i .1))))
+    (λ x e. kind-laws.leaf-is (args .list) (args .text .now) (x .0) (tree.color (x .1))
+    (c .before .validate-color .ensures (x .1) (λ i. e i .1))))
 
 returns-8 : tie.Need-returns-8
 unfolding validateLeaf
@@ -190,7 +196,8 @@ returns-8 c =
     λ from start b. rw (c .leaf8 .ensures)
     (of-kind 11 b (at-match .match .keys8)
     (b .startAt & at-take-waveform .take-waveform .ensures)
-    (λ x e. kind-laws.leaf-is (args .text .now) (x .0) (tree.waveform (x .1)) (c .before .validate-waveform .ensures (x .1) (λ i. e i .1))))
+    (λ x e. kind-laws.leaf-is (args .list) (args .text .now) (x .0) (tree.waveform (x .1))
+    (c .before .validate-waveform .ensures (x .1) (λ i. e i .1))))
 
 returns-9 : tie.Need-returns-9
 unfolding validateLeaf
@@ -201,7 +208,7 @@ returns-9 c =
     λ from start b. rw (c .leaf9 .ensures)
     (of-kind 12 b (at-match .match .keys9)
     (b .startAt & at-take-preset .take-preset .ensures)
-    (λ x e. kind-laws.leaf-is (args .text .now) (x .0) (tree.preset (x .1))
+    (λ x e. kind-laws.leaf-is (args .list) (args .text .now) (x .0) (tree.preset (x .1))
     (c .before .validate-preset-call .ensures (x .1) (λ i. e i .1))))
 
 returns-10 : tie.Need-returns-10
@@ -211,7 +218,7 @@ returns-10 c =
     let args = at-match .before .before .before .args in
     λ from start b. rw (c .leaf10 .ensures)
     (of-kind 13 b (at-match .match .keys10)
-    (b .startAt & c .before .take-span .ensures) (λ x e. kind-laws.leaf-is (args .text .now) (x .0) (tree.label (x .1)) refl))
+    (b .startAt & c .before .take-span .ensures) (λ x e. kind-laws.leaf-is (args .list) (args .text .now) (x .0) (tree.label (x .1)) refl))
 
 returns-11 : tie.Need-returns-11
 unfolding validateLeaf
@@ -224,7 +231,8 @@ returns-11 c =
     (of-kind 14 b
     (last-kind _ (start-2 .pre .0) (m .0 .0 .0 .0 .0 .0 .0 .0 .0 .1) (m .0 .0 .0 .0 .0 .0 .0 .0 .1) (m .0 .0 .0 .0 .0 .0 .0 .1)
     (m .0 .0 .0 .0 .0 .0 .1) (m .0 .0 .0 .0 .0 .1) (m .0 .0 .0 .0 .1) (m .0 .0 .0 .1) (m .0 .0 .1) (m .0 .1) (m .1))
-    (b .startAt & c .before .take-at .ensures) (λ x e. kind-laws.leaf-is (start-2 .args .text .now) (x .0) (tree.at (x .1)) refl))
+    (b .startAt & c .before .take-at .ensures)
+    (λ x e. kind-laws.leaf-is (start-2 .args .list) (start-2 .args .text .now) (x .0) (tree.at (x .1)) refl))
 
 pub validate-leaf-spec : {M : Type 1} → statement M
 validate-leaf-spec =

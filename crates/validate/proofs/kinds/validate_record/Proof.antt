@@ -19,7 +19,7 @@ validate-leaf-requires c κs =
     )
 
 returns : tie.Need-returns
-returns c = c .validate-container .ensures _ _ _ (c .before .before .before .take-kind .ensures)
+returns c = c .validate-container .ensures _ _ _ _ (c .before .before .before .take-kind .ensures)
 
 returns-2 : tie.Need-returns-2
 returns-2 c = c .validate-leaf .ensures _ _ (c .before .before .take-kind .ensures)

@@ -78,7 +78,7 @@ validate-node-returns-2 t c =
     let at-validate-record = c .before .before .before in
     record {
       on = tt;
-      is = λ d x h. walks.refused _ _ _
+      is = λ d x h. walks.refused _ _ _ _
           (opens _ _ _ (rw (c .before .fault .given .1) at (at-validate-record .validate-record .ensures)) d x h);
     }
 
@@ -88,8 +88,8 @@ validate-node-enum-told t c = search needs
 validate-node-enum-told-2 : (t : ℕ) → validate-node-lts.Need-enum-told-2 (node-calls t) (validate-node-at t) validate-node.Post
 validate-node-enum-told-2 t c = search needs
 
-validate-node-add-t13 : (t : ℕ) → validate-node-lts.Need-add-t13 (node-calls t) (validate-node-at t) validate-node.Post
-validate-node-add-t13 t c =
+validate-node-add-t14 : (t : ℕ) → validate-node-lts.Need-add-t14 (node-calls t) (validate-node-at t) validate-node.Post
+validate-node-add-t14 t c =
     let c4 = c .before .before .before .before in
     let at-if1 = c4 .before in
     let start = at-if1 .before .before .before in
@@ -125,7 +125,7 @@ validate-node-returns-3 t c =
     let m = moves _ (at-validate-record .validate-record .ensures) (at-if1 .if1 .left) in
     record {
       on = (nearer (at-validate-record .validate-record .ensures), omega (arith, m, start .pre .1 .0));
-      is = λ d x h. walks.clean-leaf _ _ _
+      is = λ d x h. walks.clean-leaf _ _ _ _
           (opens _ _ _
           (rw (at-enum-told .enum-told .given .1, c .enum-told2 .given .1) at (at-validate-record .validate-record .ensures)) d x h);
     }
@@ -137,17 +137,17 @@ validate-node-returns-4 t c =
     let validate-record = at-enum-told .before .before .validate-record in
     record {
       on = walks.onward _ _ _ (c .validate-nodes .result) (nearer (validate-record .ensures)) (c .validate-nodes .ensures .on);
-      is = λ d x h. walks.clean-box _ _ _ (h .rest) (c .validate-nodes .result)
+      is = λ d x h. walks.clean-box _ _ _ _ (h .rest) (c .validate-nodes .result)
           (opens _ _ _ (rw (at-enum-told .enum-told .given .1, at-kind .kind .given .1) at (validate-record .ensures)) d x h)
           (c .validate-nodes .ensures .is);
     }
 
 abbrev validate-nodes-Inv-loop : validate-nodes-lts.InvT-loop
-validate-nodes-Inv-loop text s at count ordinal a₀ o₀ k₀ a o k =
-    (k ≤ count) × (o ≤ a + 1) × (length s - a ≤ length s - at) × walks.Going text s ordinal at count a o k
+validate-nodes-Inv-loop text s at count ordinal list a₀ o₀ k₀ a o k =
+    (k ≤ count) × (o ≤ a + 1) × (length s - a ≤ length s - at) × walks.Going list text s ordinal at count a o k
 
 abbrev validate-nodes-μ-loop : validate-nodes-lts.MeasureT-loop
-validate-nodes-μ-loop text s at count ordinal a₀ o₀ k₀ a o k = count - k
+validate-nodes-μ-loop text s at count ordinal list a₀ o₀ k₀ a o k = count - k
 
 validate-nodes-loop-holds : (t : ℕ)
     → validate-nodes-lts.Need-loop-holds (nodes-calls t) (validate-nodes-at t) validate-nodes.Post validate-nodes-Inv-loop
@@ -158,7 +158,7 @@ validate-nodes-loop-holds t c =
       omega arith,
       start .pre .1 .0,
       omega arith,
-      walks.going-start (args .text .now) (args .s .now) (args .ordinal) (args .at) (args .count),
+      walks.going-start (args .list) (args .text .now) (args .s .now) (args .ordinal) (args .at) (args .count),
     )
 
 validate-nodes-validate-node-requires : (t : ℕ)
@@ -187,7 +187,7 @@ validate-nodes-returns t c =
     let at-loop = at-loop-test .before in
     let w = rw (c .enum-told .given .1) at (at-validate-node .validate-node .ensures) in
     rw (c .enum-told .given .1)
-    (record { on = tt; is = walks.going-refused _ _ _ _ _ (at-loop .loop .inv .3) (at-loop-test .loop-test .taken) w })
+    (record { on = tt; is = walks.going-refused _ _ _ _ _ _ (at-loop .loop .inv .3) (at-loop-test .loop-test .taken) w })
 
 validate-nodes-add-k : (t : ℕ)
     → validate-nodes-lts.Need-add-k (nodes-calls t) (validate-nodes-at t) validate-nodes.Post validate-nodes-Inv-loop validate-nodes-μ-loop
@@ -209,7 +209,7 @@ validate-nodes-loop-again t c =
       omega arith,
       w .on .1,
       omega (arith, w .on .0, loop .inv .2),
-      walks.going-next _ _ _ _ _ (loop .inv .3) (at-loop-test .loop-test .taken) w,
+      walks.going-next _ _ _ _ _ _ (loop .inv .3) (at-loop-test .loop-test .taken) w,
     )
 
 validate-nodes-returns-2 : (t : ℕ)
@@ -220,6 +220,7 @@ validate-nodes-returns-2 t c =
     record {
       on = (c .before .loop .inv .2, c .before .loop .inv .1);
       is = walks.going-done
+          (args .list)
           (args .text .now)
           (args .s .now)
           (args .ordinal)
@@ -243,7 +244,7 @@ pub +validate-node+validate-nodes-spec : {M : Type 1} → statement M
     (validate-node-returns-2 t)
     (validate-node-enum-told t)
     (validate-node-enum-told-2 t)
-    (validate-node-add-t13 t)
+    (validate-node-add-t14 t)
     (validate-node-enum-known-kind t)
     (validate-node-add-validate-nodes t)
     (validate-node-validate-nodes-requires t)

@@ -3,7 +3,8 @@ use mathlib.Core.Path.{ap, refl, sym, _∙_}
 use mathlib.Core.Bool.{not}
 use borrow.Author.Needs.{needs}
 use Rattle.error.specs.declared.Refusal.the-variants.{OutOfRange, UnknownEasing, InvalidColor}
-use Rattle.presets.specs.Colors.{colors, isColor}
+use Rattle.presets.specs.Colors.{isColor}
+use Rattle.colors.specs.Css.{namesOf}
 use Rattle.text.specs.Bytes.{part}
 use Rattle.validate.specs.Rules.{validateColor}
 use Rattle.validate.proofs.RuleLaws as rules
@@ -16,14 +17,14 @@ is-negative-requires c κs = search needs
 rule-requires : tie.Need-rule-requires
 rule-requires c κs = search needs
 
-is-valid-color-requires : tie.Need-is-valid-color-requires
-is-valid-color-requires c κs = search needs
+is-color-requires : tie.Need-is-color-requires
+is-color-requires c κs = search needs
 
 rule-requires-2 : tie.Need-rule-requires-2
 rule-requires-2 c κs = search needs
 
-is-valid-color-requires-2 : tie.Need-is-valid-color-requires-2
-is-valid-color-requires-2 c κs = search needs
+is-color-requires-2 : tie.Need-is-color-requires-2
+is-color-requires-2 c κs = search needs
 
 rule-requires-3 : tie.Need-rule-requires-3
 rule-requires-3 c κs = search needs
@@ -34,21 +35,22 @@ validate-easing-requires c κs = search needs
 returns : tie.Need-returns
 unfolding validateColor
 returns c =
-    let at-is-valid-color2 = c .before .before in
-    let at-rule2 = at-is-valid-color2 .before in
-    let at-is-valid-color = at-rule2 .before in
-    let at-rule = at-is-valid-color .before in
+    let at-is-color2 = c .before .before in
+    let at-rule2 = at-is-color2 .before in
+    let at-is-color = at-rule2 .before in
+    let at-rule = at-is-color .before in
     let at-is-negative = at-rule .before in
     let start = at-is-negative .before .before .before .before in
     λ x e.
     let t = start .args .text .now in
+    let names = namesOf (start .args .list) in
     let f1 = rules.one OutOfRange (at-is-negative .is-negative .ensures (x .duration) (ap (λ v. v .duration) e)) (at-rule .rule .ensures) in
     let f2 = rules.more _ InvalidColor f1
-    (ap not (at-is-valid-color .is-valid-color .ensures ∙ sym (ap (λ v. isColor colors (part t (v .from .start) (v .from .size))) e)))
+    (ap not (at-is-color .is-color .ensures ∙ sym (ap (λ v. isColor names (part t (v .from .start) (v .from .size))) e)))
     (at-rule2 .rule2 .ensures)
     in
     let f3 = rules.more _ InvalidColor f2
-    (ap not (at-is-valid-color2 .is-valid-color2 .ensures ∙ sym (ap (λ v. isColor colors (part t (v .to .start) (v .to .size))) e)))
+    (ap not (at-is-color2 .is-color2 .ensures ∙ sym (ap (λ v. isColor names (part t (v .to .start) (v .to .size))) e)))
     (c .before .rule3 .ensures)
     in
     rules.more _ UnknownEasing f3 refl (c .validate-easing .ensures (x .easing) (ap (λ v. v .easing) e))
@@ -59,9 +61,9 @@ validate-color-spec =
     (tie.spec
     is-negative-requires
     rule-requires
-    is-valid-color-requires
+    is-color-requires
     rule-requires-2
-    is-valid-color-requires-2
+    is-color-requires-2
     rule-requires-3
     validate-easing-requires
     returns)

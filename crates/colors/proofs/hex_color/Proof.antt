@@ -1,0 +1,46 @@
+-- `colors::hex_color` meets its contract: each way out is one law of what stands behind a `#`. Assumes nothing.
+use mathlib.Core.Path.{sym, _∙_}
+use borrow.Author.Tests.{not-true, not-false}
+use Rattle.colors.proofs.HexLaws.{hex-color, no-hex-color}
+use borrow.Author.Needs.{needs}
+use Rattle.colors.proofs.hex_color.Statement.{statement}
+use Rattle.colors.proofs.hex_color.Tie as tie
+
+is-hex-color-requires : tie.Need-is-hex-color-requires
+is-hex-color-requires c κs = search needs
+
+returns : tie.Need-returns
+returns c = no-hex-color _ (sym (c .before .is-hex-color .ensures) ∙ not-true _ (c .if1 .taken))
+
+written-requires : tie.Need-written-requires
+written-requires c κs = search needs
+
+written-requires-2 : tie.Need-written-requires-2
+written-requires-2 c κs = search needs
+
+written-requires-3 : tie.Need-written-requires-3
+written-requires-3 c κs = search needs
+
+written-requires-4 : tie.Need-written-requires-4
+written-requires-4 c κs = search needs
+
+returns-2 : tie.Need-returns-2
+returns-2 c =
+    let at-written2 = c .before .before in
+    let at-written = at-written2 .before in
+    let at-if1 = at-written .before in
+    let at-is-hex-color = at-if1 .before in
+    (rw (at-written .written .ensures, at-written2 .written2 .ensures, c .before .written3 .ensures, c .written4 .ensures))
+    ∙ hex-color _ (sym (at-is-hex-color .is-hex-color .ensures) ∙ not-false _ (at-if1 .if1 .left))
+
+pub hex-color-spec : {M : Type 1} → statement M
+hex-color-spec =
+    tie.close
+    (tie.spec
+    is-hex-color-requires
+    returns
+    written-requires
+    written-requires-2
+    written-requires-3
+    written-requires-4
+    returns-2)

@@ -1,0 +1,68 @@
+-- `colors::is_css_color` meets its contract: each way out is one law of colours. Assumes nothing.
+use mathlib.Core.Path.{ap, sym, _∙_}
+use Rattle.text.specs.Words.{isSome}
+use Rattle.colors.specs.Means.{rgbaOf}
+use Rattle.presets.proofs.ColorLaws.{color-hex}
+use Rattle.colors.proofs.ColorLaws.{css-name}
+use borrow.Author.Needs.{needs}
+use Rattle.colors.proofs.is_css_color.Statement.{statement}
+use Rattle.colors.proofs.is_css_color.Tie as tie
+
+byte-at-requires : tie.Need-byte-at-requires
+byte-at-requires c κs = search needs
+
+part-requires : tie.Need-part-requires
+part-requires c κs = search needs
+
+is-hex-color-requires : tie.Need-is-hex-color-requires
+is-hex-color-requires c κs = search needs
+
+returns : tie.Need-returns
+returns c =
+    let at-if1 = c .before .before in
+    let at-byte-at = at-if1 .before in
+    let start = at-byte-at .before .before in
+    c .is-hex-color .ensures
+    ∙ color-hex _ (start .args .s .now) (at-byte-at .byte-at .result) (at-byte-at .byte-at .ensures) _ (at-if1 .if1 .taken)
+    (c .before .part .ensures)
+
+named-color-requires : tie.Need-named-color-requires
+named-color-requires c κs = search needs
+
+enum-told : tie.Need-enum-told
+enum-told c = search needs
+
+enum-told-2 : tie.Need-enum-told-2
+enum-told-2 c = search needs
+
+returns-2 : tie.Need-returns-2
+returns-2 c =
+    let at-named-color = c .before .before in
+    let at-if1 = at-named-color .before in
+    let at-byte-at = at-if1 .before in
+    let start = at-byte-at .before .before in
+    ap isSome (sym (ap rgbaOf (c .enum-told .given .1)) ∙ at-named-color .named-color .ensures)
+    ∙ css-name (start .args .s .now) (at-byte-at .byte-at .result) (at-byte-at .byte-at .ensures) (at-if1 .if1 .left)
+
+returns-3 : tie.Need-returns-3
+returns-3 c =
+    let at-named-color = c .before .before in
+    let at-if1 = at-named-color .before in
+    let at-byte-at = at-if1 .before in
+    let start = at-byte-at .before .before in
+    ap isSome (sym (ap rgbaOf (c .enum-told2 .given .1)) ∙ at-named-color .named-color .ensures)
+    ∙ css-name (start .args .s .now) (at-byte-at .byte-at .result) (at-byte-at .byte-at .ensures) (at-if1 .if1 .left)
+
+pub is-css-color-spec : {M : Type 1} → statement M
+is-css-color-spec =
+    tie.close
+    (tie.spec
+    byte-at-requires
+    part-requires
+    is-hex-color-requires
+    returns
+    named-color-requires
+    enum-told
+    enum-told-2
+    returns-2
+    returns-3)

@@ -1,0 +1,105 @@
+-- `colors::row_in` meets its contract: the loop keeps the lookup in what is left of the table. Assumes nothing.
+use Rattle.text.specs.Bytes.{at}
+use Rattle.text.specs.Words.{table}
+use Prim.Native.Nat.{_-_}
+use mathlib.Core.Path.{ap, sym, _∙_, _≡_}
+use native.Mathlib.Omega.{arith}
+use lib.ListN.{drop, length}
+use borrow.Author.Needs.{needs}
+use Rattle.text.specs.Bytes.{same}
+use Rattle.colors.specs.Means.{rows, rowUnder, inTable}
+use Rattle.colors.proofs.NameLaws.{row-here, row-past, row-end}
+use Rattle.colors.proofs.row_in.Statement.{statement}
+use Rattle.colors.proofs.row_in.Tie as tie
+
+abbrev Inv-loop : tie.InvT-loop
+Inv-loop table word n at₀ at = rowUnder (rows n table) word ≡ rowUnder (rows n (drop at table)) word
+
+abbrev μ-loop : tie.MeasureT-loop
+μ-loop table word n at₀ at = length table - at
+
+loop-holds : tie.Need-loop-holds Inv-loop μ-loop
+loop-holds c = search needs
+
+part-requires : tie.Need-part-requires Inv-loop μ-loop
+part-requires c κs = search needs
+
+is-word-requires : tie.Need-is-word-requires Inv-loop μ-loop
+is-word-requires c κs = search needs
+
+add-end : tie.Need-add-end Inv-loop μ-loop
+add-end c = search needs
+
+byte-at-requires : tie.Need-byte-at-requires Inv-loop μ-loop
+byte-at-requires c κs = search needs
+
+add-byte-at : tie.Need-add-byte-at Inv-loop μ-loop
+add-byte-at c = search needs
+
+byte-at-requires-2 : tie.Need-byte-at-requires-2 Inv-loop μ-loop
+byte-at-requires-2 c κs = search needs
+
+add-byte-at-2 : tie.Need-add-byte-at-2 Inv-loop μ-loop
+add-byte-at-2 c = search needs
+
+byte-at-requires-3 : tie.Need-byte-at-requires-3 Inv-loop μ-loop
+byte-at-requires-3 c κs = search needs
+
+returns : tie.Need-returns Inv-loop μ-loop
+unfolding inTable
+returns c =
+    let at-byte-at = c .before .before in
+    let at-if1 = at-byte-at .before in
+    let at-is-word = at-if1 .before in
+    let at-part = at-is-word .before in
+    let at-loop = at-part .before .before in
+    let args = at-loop .before .before .before .args in
+    let e = ap (same (args .word .now)) (sym (at-part .part .ensures)) ∙ sym (at-is-word .is-word .ensures) ∙ at-if1 .if1 .taken in
+    (rw (at-byte-at .byte-at .ensures, c .before .byte-at2 .ensures, c .byte-at3 .ensures))
+    ∙ sym
+    (at-loop .loop .inv ∙ row-here (length (args .word .now)) (args .table .now) (at-loop .loop .at) (args .word .now) (omega arith) e)
+
+add-at : tie.Need-add-at Inv-loop μ-loop
+add-at c = search needs
+
+add-at-2 : tie.Need-add-at-2 Inv-loop μ-loop
+add-at-2 c = search needs
+
+loop-less : tie.Need-loop-less Inv-loop μ-loop
+loop-less c = search needs
+
+loop-again : tie.Need-loop-again Inv-loop μ-loop
+loop-again c =
+    let at-part = c .before .before in
+    let at-loop = at-part .before .before in
+    let args = at-loop .before .before .before .args in
+    let e = ap (same (args .word .now)) (sym (at-part .part .ensures)) ∙ sym (c .before .is-word .ensures) ∙ c .if1 .left in
+    at-loop .loop .inv ∙ row-past (length (args .word .now)) (args .table .now) (at-loop .loop .at) (args .word .now) (omega arith) e
+
+returns-2 : tie.Need-returns-2 Inv-loop μ-loop
+unfolding inTable
+returns-2 c =
+    let args = c .before .before .before .before .args in
+    sym (c .before .loop .inv ∙ row-end (length (args .word .now)) (args .table .now) (c .before .loop .at) (args .word .now) (omega arith))
+
+pub row-in-spec : {M : Type 1} → statement M
+row-in-spec =
+    tie.close
+    (tie.spec
+    Inv-loop
+    μ-loop
+    loop-holds
+    part-requires
+    is-word-requires
+    add-end
+    byte-at-requires
+    add-byte-at
+    byte-at-requires-2
+    add-byte-at-2
+    byte-at-requires-3
+    returns
+    add-at
+    add-at-2
+    loop-less
+    loop-again
+    returns-2)

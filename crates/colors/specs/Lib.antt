@@ -1,0 +1,2 @@
+pub mod Css
+pub mod Means
