@@ -81,10 +81,12 @@ fn lines(parser: &str) -> String {
     let names: Vec<usize> = NAMES.iter().map(|(f, v)| line(f, v)).collect();
     format!(
         "pub const KEYWORD: u32 = {};\npub const EASING: u32 = {};\npub const VARIANT: u32 = {};\n\
+         pub const WAVEFORM: u32 = {};\n\
          pub const NAMES: [u32; {}] = {:?};\npub const KEYFRAMES: (u32, u32) = {:?};\n",
         line("parse_node", "keyword"),
         line("parse_easing", "ident"),
         line("parse_easing", "variant"),
+        line("parse_waveform", "kind_ident"),
         names.len(),
         names,
         keyframes,

@@ -351,6 +351,15 @@ def rooms():
             yield text, sheet, 9
 
 
+def retired():
+    """02 (h): noise, which checking refuses, first, behind what cannot be written, beside a bad frequency and behind one."""
+    noise, falls = {"kind": "noise"}, {"frequency": "-1"}
+    yield Pair([("waveform", noise)]).case()
+    yield Pair([at_node(NAN), ("sequence", {"nodes": [("waveform", {**noise, "phase": NAN})]})]).case(0)
+    yield Pair([("waveform", {**noise, **falls})]).case()
+    yield Pair([("waveform", {"kind": "sine", **falls}), ("waveform", noise)]).case()
+
+
 def nested(depth):
     nodes = [AT]
     for k in range(depth):
@@ -384,7 +393,7 @@ def accepted():
 
 def stored():
     """The cases of the gate: at most 65,536 bytes of input, and 2,048 bytes a text or a sheet."""
-    cases = [*each_field(), *each_value_spoiled(), *numbers(), *causes(), *rooms(), nested(16), nested(17), *checked()]
+    cases = [*each_field(), *each_value_spoiled(), *numbers(), *causes(), *rooms(), *retired(), nested(16), nested(17), *checked()]
     cases += [case for case in accepted() if len(case[0]) + len(case[1]) < 400][::15]
     return list(dict.fromkeys(cases))
 

@@ -6,6 +6,7 @@ import back_writer as writer
 from back_writer import ENUMS, INFINITY, SIGN, written_bits
 
 NAN = 0x7FC00000
+WAVES = [word for word in ENUMS["waveform"] if word != "noise"]  # 02 (h): no text has noise
 
 
 class Script:
@@ -263,7 +264,7 @@ class Script:
             self.color()
             self.fields([("easing", e), ("space", self.word("space"))], lasting)
         elif kind == "waveform":
-            self.word("waveform")()
+            self.put(self.pick.choice(WAVES))
             rows = [(name, f) for name in ("amplitude", "phase", "duty_cycle", "smoothness", "duration")]
             self.fields(rows + [("frequency", self.duration), ("seed", u)])
         elif kind == "preset":
@@ -331,7 +332,7 @@ def damaged(pick, text, sheet):
         elif places:
             at, _ = pick.choice(places)
             if at < len(sheet):
-                sheet[at] = pick.choice([0, 1, 2, sheet[at] ^ 1, pick.randrange(256)])
+                sheet[at] = pick.choice([0, 1, 2, 4, sheet[at] ^ 1, pick.randrange(256)])
     return bytes(sheet)
 
 

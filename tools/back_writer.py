@@ -1,4 +1,4 @@
-"""A fresh script from a text and its sheet, by the words of document 02 (f) and of 01: `answer` is what writing must answer.
+"""A fresh script from a text and its sheet, by the words of document 02 (f) and (h) and of 01: `answer` is what writing must answer.
 Numbers are exact, whole ones over whole ones. An f32 is its bits; those of a size have no sign bit."""
 import functools
 import re
@@ -307,6 +307,7 @@ def check_node(kind, f):
     elif kind == "draw":
         check_easing(f["easing"])
     elif kind == "waveform":
+        rule(f["kind"] == ("noise",), 28)  # 02 (h)
         rule(negative(f["frequency"] or 0), 21)
     elif kind == "preset":
         rule(f["name"].decode() not in PRESETS, 24)

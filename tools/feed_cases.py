@@ -23,7 +23,7 @@ LEAVES = {
 # what stands before the braces of a container, by its kind
 CONTAINERS = {3: "sequence", 4: "parallel", 5: "group parallel", 6: "stagger delay: 1"}
 
-# scripts that are refused, with number and place: 01's table
+# scripts that are refused, with number and place: 01's table and 02 (h)
 REFUSED = [
     (b" " * 16385, 1, 0),
     (b"at 1x", 2, 3),
@@ -38,6 +38,7 @@ REFUSED = [
     (b"stagger pattern: grid(cols: 2) {}", 11, 29),
     (b"sequence{" * 17 + b"}" * 17, 12, 152),
     (b'draw "m" duration: 1 easing: steps(3, 4)', 13, 36),
+    (b"waveform noise", 15, 14),
     (b"tween p: 0 => 1 duration: -1", 21, 1),
     (b"tween p: 0 => [] duration: 1", 22, 1),
     (b"tween p: 0 => 1 duration: 1 easing: fast", 23, 1),

@@ -1,7 +1,7 @@
 /*
  * Motion scripts of shelf-edge strips: reading a script into a sheet of bytes, checking the sheet, lining its records in
- * hexadecimal, all of it at once on a page, writing a fresh script from text and sheet, telling the bytes of a colour, and counting many
- * scripts in the totals of a morning sheet. `rt staticlib strip` writes the library, target/staticlib/libstrip.a.
+ * hexadecimal, all of it at once on a page, writing a fresh script from text and sheet, telling the bytes of a colour, converting old
+ * sheets, and counting many scripts in the totals of a morning sheet. `rt staticlib strip` writes the library, target/staticlib/libstrip.a.
  *
  * No pointer is NULL, not even where its length is 0. What is written to overlaps nothing else that is lent. A length is in
  * elements. Nothing is allocated.
@@ -45,6 +45,7 @@ enum strip_refusal {
     STRIP_TOO_MANY_NESTED = 12,
     STRIP_LEFTOVER = 13,
     STRIP_SHEET_TOO_SHORT = 14,
+    STRIP_NOISE_WRITTEN = 15,
     STRIP_SCRATCH_TOO_SHORT = 16,
     STRIP_NOT_A_SHEET = 20,
     STRIP_OUT_OF_RANGE = 21,
@@ -54,6 +55,7 @@ enum strip_refusal {
     STRIP_INVALID_COLOR = 25,
     STRIP_DUPLICATE_TIME = 26,
     STRIP_TOO_FEW_FRAMES = 27,
+    STRIP_NOISE_HELD = 28,
     STRIP_NO_SUCH_RECORD = 31,
     STRIP_OUTPUT_TOO_SHORT = 32,
     STRIP_TOO_MANY_SCRIPTS = 33,
@@ -90,6 +92,12 @@ uint64_t strip_check(const uint8_t *text, size_t text_length, const uint8_t *she
  * strip_value is red times 2^24 plus green times 2^16 plus blue times 2^8 plus alpha, 255 where none is written. Refused: 25 at 0.
  */
 uint64_t strip_color(const uint8_t *string, size_t length);
+
+/*
+ * Overwrites a sheet with one that has triangle where it had the retired waveform noise, and every other byte as it was. Refused as
+ * strip_check refuses, with 1, 2 or 20, and then the sheet is as it was.
+ */
+uint64_t strip_convert(const uint8_t *text, size_t text_length, uint8_t *sheet, size_t sheet_length);
 
 /*
  * Writes the line of the record with an ordinal, the head being 0. Accepted: strip_value is the line's length, its LF included; past

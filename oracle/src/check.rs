@@ -26,7 +26,7 @@ fn both(line: &str, answer: impl Fn(&[u8], &[u8]) -> String) -> String {
     }
 }
 
-/// 01's checking: 1, 2 and 20 are a model, the others are the Rust's.
+/// 01's checking: 1, 2, 20 and 02 (h)'s 28 are a model, the others are the Rust's.
 pub fn checked(text: &[u8], sheet: &[u8]) -> Result<(), Refusal> {
     if text.len() > TEXT_LIMIT {
         return Err(Refusal { number: 1, place: 0 });
@@ -35,7 +35,27 @@ pub fn checked(text: &[u8], sheet: &[u8]) -> Result<(), Refusal> {
         return Err(Refusal { number: 2, place });
     }
     let nodes = sheet::decode(text, sheet).ok_or(Refusal { number: 20, place: 0 })?;
-    validated(&nodes)
+    let rust = validated(&nodes);
+    match first_noise(&nodes, &mut 0) {
+        Some(place) if rust.is_ok() || rust.is_err_and(|found| place <= found.place) => Err(Refusal { number: 28, place }),
+        _ => rust,
+    }
+}
+
+/// The ordinal of the first waveform of the kind noise: before any rule of that node comes its 28.
+fn first_noise(nodes: &[MotionNode], ordinal: &mut usize) -> Option<usize> {
+    for node in nodes {
+        *ordinal += 1;
+        let noise = matches!(node, MotionNode::Waveform(spec) if spec.kind == WaveformKind::Noise);
+        if noise {
+            return Some(*ordinal);
+        }
+        let found = first_noise(parted(node).1, ordinal);
+        if found.is_some() {
+            return found;
+        }
+    }
+    None
 }
 
 fn is_plain(byte: u8) -> bool {

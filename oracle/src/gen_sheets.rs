@@ -49,11 +49,11 @@ fn case(random: &mut Random) -> (Vec<u8>, Vec<u8>) {
     (text, sheet.bytes)
 }
 
-/// A generated script that reading accepts, and its sheet.
+/// A generated script that the Rust reads, and its sheet: noise may be in it.
 fn good(random: &mut Random) -> (Vec<u8>, Sheet) {
     loop {
         let text = gen::right(random);
-        if let Ok(tree) = read::read(&text, Rules::All) {
+        if let Ok(tree) = read::read(&text, Rules::Text) {
             let sheet = read::encoded(&text, &tree);
             return (text, sheet);
         }

@@ -56,11 +56,12 @@ fn offset(text: &str, line: usize, column: usize) -> usize {
 }
 
 #[cfg(feature = "places")]
-pub use noted::{node_parts, seventeenth, take};
+pub use noted::{node_parts, take, unlike_the_rust};
 
 #[cfg(feature = "places")]
 mod noted {
     use super::*;
+    use crate::answer::Refusal;
     use crate::lines;
     use syn::live::Event;
 
@@ -70,9 +71,10 @@ mod noted {
         syn::live::take()
     }
 
-    /// The `{` of a container entered while 16 others are live, a model of
-    /// refusal 12.
-    pub fn seventeenth(text: &str, events: &[Event]) -> Option<usize> {
+    /// The first refusal of a text that the Rust reads on from, a model: 12 at
+    /// the `{` of a container entered while 16 others are live, or 15 behind
+    /// `noise` taken for a waveform's kind.
+    pub fn unlike_the_rust(text: &str, events: &[Event]) -> Option<Refusal> {
         let mut live = Vec::new();
         for event in events {
             match event {
@@ -80,15 +82,27 @@ mod noted {
                     let container = *line < lines::KEYFRAMES.0 || *line > lines::KEYFRAMES.1;
                     let containers = live.iter().filter(|c| **c).count();
                     if container && containers == CONTAINER_LIMIT {
-                        return Some(start(text, *span));
+                        return Some(Refusal { number: 12, place: start(text, *span) });
                     }
                     live.push(container);
                 }
                 Event::Leave => drop(live.pop().expect("a brace left")),
+                Event::Token { line, span } if *line == lines::WAVEFORM => {
+                    let kind = part(text, *span);
+                    if kind.of(text.as_bytes()) == b"noise" {
+                        return Some(Refusal { number: 15, place: next(text, kind) });
+                    }
+                }
                 Event::Token { .. } => {}
             }
         }
         None
+    }
+
+    /// The start of the token behind a part, or the text's end.
+    fn next(text: &str, part: Part) -> usize {
+        let rest = &text[part.start + part.length..];
+        text.len() - rest.trim_start_matches([' ', '\t', '\n', '\r']).len()
     }
 
     /// The parts of each node, in preorder.

@@ -8,10 +8,10 @@ use crate::sheet::Sheet;
 use crate::{check, hex, places, sheet, text_rules};
 use proc_macro2::TokenStream;
 
-/// Which of 01's own refusals are added to the Rust's.
+/// Which of the documents' own refusals are added to the Rust's.
 #[derive(Clone, Copy, PartialEq, Eq)]
 pub enum Rules {
-    /// 1 to 5 and 12.
+    /// 1 to 5, 12 and 02 (h)'s 15.
     All,
     /// 1 to 5.
     Text,
@@ -88,9 +88,7 @@ fn parsed(text: &str, tokens: TokenStream, rules: Rules) -> Result<Tree, Failure
     let note = error::take();
     let events = places::take();
     if rules == Rules::All {
-        if let Some(place) = places::seventeenth(text, &events) {
-            return Err(Refusal { number: 12, place }.into());
-        }
+        places::unlike_the_rust(text, &events).map_or(Ok(()), Err)?;
     }
     let input = result.map_err(|error| failure(text, &error, note))?;
     Ok(Tree { nodes: input.nodes, parts: Some(places::node_parts(text, &events)) })

@@ -1,6 +1,6 @@
 //! Motion scripts of shelf-edge strips: reading a script into a sheet of bytes, checking the sheet, lining its records in
-//! hexadecimal, all of it at once on a page, writing a fresh script from text and sheet, telling the bytes of a colour, and counting many
-//! scripts in the totals of a morning sheet. The functions call a library that is proved: each answer and every byte that is written equals a definition. They
+//! hexadecimal, all of it at once on a page, writing a fresh script from text and sheet, telling the bytes of a colour, converting old
+//! sheets, and counting many scripts in the totals of a morning sheet. The functions call a library that is proved: each answer and every byte that is written equals a definition. They
 //! allocate nothing, and what they write to is lent.
 //!
 //! ```
@@ -53,6 +53,14 @@
 //! assert_eq!(strip::color(b"Tomato"), Ok([255, 99, 71, 255]));
 //! assert_eq!(strip::color(b"#1234"), Ok([0x11, 0x22, 0x33, 0x44]));
 //! assert_eq!(strip::color(b"transparent"), Err(Refusal::InvalidColor));
+//!
+//! // a sheet of an older strip has noise, which is retired; converted it has triangle
+//! let text = b"waveform triangle";
+//! let mut old = [0, 1, 11, 0, 0, 4, 0, 0, 0, 0, 0, 0, 0];
+//! let answer = strip::check(text, &old, strip::RUST_COLORS);
+//! assert_eq!(answer, CheckAnswer::Refused { refusal: Refusal::NoiseHeld, place: 1 });
+//! assert_eq!(strip::convert(text, &mut old), CheckAnswer::Accepted);
+//! assert_eq!(old, [0, 1, 11, 0, 0, 3, 0, 0, 0, 0, 0, 0, 0]);
 //!
 //! // a morning sheet over three scripts
 //! let mut totals = strip::Totals::default();
@@ -116,7 +124,7 @@ pub enum ReadAnswer {
     },
 }
 
-/// What [`check`] answers.
+/// What [`check`] and [`convert`] answer.
 #[derive(Clone, Copy, Debug, PartialEq, Eq)]
 pub enum CheckAnswer {
     /// No rule is broken.
@@ -236,6 +244,7 @@ extern "C" {
     fn strip_read(text: *const u8, text_length: usize, scratch: *mut u16, words: usize, sheet: *mut u8, room: usize) -> u64;
     fn strip_check(text: *const u8, text_length: usize, sheet: *const u8, sheet_length: usize, list: u32) -> u64;
     fn strip_color(string: *const u8, length: usize) -> u64;
+    fn strip_convert(text: *const u8, text_length: usize, sheet: *mut u8, sheet_length: usize) -> u64;
     fn strip_line(text: *const u8, text_length: usize, sheet: *const u8, sheet_length: usize, ordinal: u32, output: *mut u8, room: usize) -> u64;
     fn strip_write(text: *const u8, text_length: usize, sheet: *const u8, sheet_length: usize, out: *mut u8, room: usize, list: u32) -> u64;
     fn strip_print(text: *const u8, text_length: usize, scratch: *mut u16, words: usize, sheet: *mut u8, room: usize, page: *mut u8, page_room: usize, list: u32) -> u64;
@@ -260,11 +269,7 @@ pub fn read(text: &[u8], scratch: &mut [u16], sheet: &mut [u8]) -> ReadAnswer {
 /// sheet for the text. `list` is [`RUST_COLORS`] or [`CSS_COLORS`]; any other is refused behind what is wrong with the text.
 pub fn check(text: &[u8], sheet: &[u8], list: u32) -> CheckAnswer {
     // SAFETY: the two slices are whole.
-    let answer = unsafe { strip_check(text.as_ptr(), text.len(), sheet.as_ptr(), sheet.len(), list) };
-    match refused(answer) {
-        Some((refusal, place)) => CheckAnswer::Refused { refusal, place },
-        None => CheckAnswer::Accepted,
-    }
+    check_answer(unsafe { strip_check(text.as_ptr(), text.len(), sheet.as_ptr(), sheet.len(), list) })
 }
 
 /// The red, green, blue and alpha of a string under the second list: a name of [`CSS_COLORS`] in letters of any case, or `#` and 3, 4, 6
@@ -276,6 +281,13 @@ pub fn color(string: &[u8]) -> Result<[u8; 4], Refusal> {
         Some((refusal, _)) => Err(refusal),
         None => Ok((value(answer) as u32).to_be_bytes()),
     }
+}
+
+/// Overwrites a sheet with one that has triangle where it had the retired waveform noise, and every other byte as it was. Refused as
+/// [`check`] refuses a text or bytes that are no sheet, and then the sheet is as it was.
+pub fn convert(text: &[u8], sheet: &mut [u8]) -> CheckAnswer {
+    // SAFETY: the two slices are whole, and do not overlap.
+    check_answer(unsafe { strip_convert(text.as_ptr(), text.len(), sheet.as_mut_ptr(), sheet.len()) })
 }
 
 /// Writes the line of the record with an ordinal, the head being 0. Past the line the output is as it was. A record of n bytes
@@ -363,6 +375,13 @@ pub fn line_and_column(text: &[u8], place: usize) -> (usize, usize) {
 /// The number that some hexadecimal digits spell.
 fn hexadecimal(digits: &[u8]) -> Option<usize> {
     usize::from_str_radix(std::str::from_utf8(digits).ok()?, 16).ok()
+}
+
+fn check_answer(answer: u64) -> CheckAnswer {
+    match refused(answer) {
+        Some((refusal, place)) => CheckAnswer::Refused { refusal, place },
+        None => CheckAnswer::Accepted,
+    }
 }
 
 fn line_answer(answer: u64) -> LineAnswer {

@@ -68,6 +68,8 @@ refusals! {
     Leftover = 13,
     /// A sheet slice that is shorter than the encoding.
     SheetTooShort = 14,
+    /// A waveform of the kind noise, in a text.
+    NoiseWritten = 15,
     /// A scratch of fewer than 16,384 words.
     ScratchTooShort = 16,
     /// Bytes that are no sheet for the text.
@@ -86,6 +88,8 @@ refusals! {
     DuplicateTime = 26,
     /// A track of fewer than 2 frames.
     TooFewFrames = 27,
+    /// A waveform of the kind noise, in a sheet.
+    NoiseHeld = 28,
     /// No record has the ordinal.
     NoSuchRecord = 31,
     /// An output slice that is shorter than the line.

@@ -1,5 +1,5 @@
 //! Each operation, its refusals, and what it leaves in what is lent.
-use strip::{check, color, feed, line, mean, print, read, write, CheckAnswer, FeedAnswer, LineAnswer, Mean, MeanAnswer, ReadAnswer, Refusal, Totals};
+use strip::{check, color, convert, feed, line, mean, print, read, write, CheckAnswer, FeedAnswer, LineAnswer, Mean, MeanAnswer, ReadAnswer, Refusal, Totals};
 use strip::{CSS_COLORS, FIGURE_LIMIT, PAGE_BYTES, RUST_COLORS, SCRATCH_WORDS, SCRIPT_LIMIT, SHEET_BYTES, TEXT_BYTES};
 
 /// The sheet of a text that reading accepts, and its count of records.
@@ -176,6 +176,28 @@ fn a_colour_has_four_bytes() {
 }
 
 #[test]
+fn noise_is_refused_and_converted() {
+    let text = b"sequence { waveform noise frequency: 1 }";
+    let answer = read(text, &mut vec![0; SCRATCH_WORDS], &mut vec![0; SHEET_BYTES]);
+    assert_eq!(answer, refused(Refusal::NoiseWritten, 26));
+    // the sheet of that text from before, with a second node behind it whose start is 4
+    let mut sheet = vec![0, 2, 3, 0, 0, 0, 1, 11, 0, 11, 4, 1, 0x3F, 0x80, 0, 0, 0, 0, 0, 0, 0, 0, 14, 0, 4, 0, 0, 0, 4, 0];
+    let before = sheet.clone();
+    for list in [RUST_COLORS, CSS_COLORS] {
+        assert_eq!(check(text, &sheet, list), CheckAnswer::Refused { refusal: Refusal::NoiseHeld, place: 2 });
+    }
+    assert_eq!(convert(&vec![b' '; TEXT_BYTES + 1], &mut sheet), CheckAnswer::Refused { refusal: Refusal::TextTooLong, place: 0 });
+    assert_eq!(convert(b"a\xFF", &mut sheet), CheckAnswer::Refused { refusal: Refusal::BadForm, place: 1 });
+    assert_eq!(convert(text, &mut sheet[1..]), CheckAnswer::Refused { refusal: Refusal::NotASheet, place: 0 });
+    assert_eq!(sheet, before);
+    for _ in 0..2 {
+        assert_eq!(convert(text, &mut sheet), CheckAnswer::Accepted);
+        assert_eq!((&sheet[..10], sheet[10], &sheet[11..]), (&before[..10], 3, &before[11..]));
+    }
+    assert_eq!(check(text, &sheet, RUST_COLORS), CheckAnswer::Accepted);
+}
+
+#[test]
 fn slices_may_be_empty() {
     assert_eq!(sheet_of(b""), (vec![0, 0], 0));
     assert_eq!(read(b"", &mut [], &mut []), refused(Refusal::ScratchTooShort, 0));
@@ -219,7 +241,7 @@ fn two_frames_at_one_time_are_refused() {
 
 #[test]
 fn a_refusal_has_one_number_and_one_name() {
-    assert_eq!(Refusal::ALL.len(), 29);
+    assert_eq!(Refusal::ALL.len(), 31);
     for &refusal in Refusal::ALL {
         assert_eq!(Refusal::of(refusal.number()), Some(refusal));
         assert_eq!(format!("{refusal:?}"), refusal.name());
@@ -227,7 +249,7 @@ fn a_refusal_has_one_number_and_one_name() {
     assert_eq!((Refusal::DuplicateTime.number(), Refusal::TooManyScripts.number()), (26, 33));
     assert_eq!((Refusal::Unwritable.number(), Refusal::ScriptTooLong.number()), (34, 35));
     assert_eq!(Refusal::UnknownList.number(), 36);
-    assert_eq!((0..=255).filter_map(Refusal::of).count(), 29);
+    assert_eq!((0..=255).filter_map(Refusal::of).count(), 31);
 }
 
 /// Feeds a text with buffers that are not zero, and gives what they are then.

@@ -1,7 +1,7 @@
 //! The stored cases of the operations, whose answers are the Rust's or a model's of the rules (oracle/README.md).
 use std::fmt::Write;
 use std::path::Path;
-use strip::{check, color, feed, line, mean, read, write, CheckAnswer, FeedAnswer, LineAnswer, Mean, MeanAnswer, ReadAnswer, Refusal, Totals};
+use strip::{check, color, convert, feed, line, mean, read, write, CheckAnswer, FeedAnswer, LineAnswer, Mean, MeanAnswer, ReadAnswer, Refusal, Totals};
 use strip::{RUST_COLORS, SCRATCH_WORDS, SCRIPT_LIMIT, SHEET_BYTES, TEXT_BYTES};
 
 /// What is stored for a program: its input and its output.
@@ -88,6 +88,22 @@ fn colours() {
             let (text, sheet) = text_and_sheet(rest);
             ours += &check_line(check(&text, &sheet, u32::from_str_radix(list, 16).unwrap()));
         }
+    }
+    compare(&ours, &answers);
+}
+
+/// Each sheet converted in place. Behind the stored cases the program answers a waveform of noise with two long texts.
+#[test]
+fn converting() {
+    let (cases, answers) = stored("convert_cases");
+    let noise = bytes("00010B00000400000000000000");
+    let long = [(vec![b' '; 16_385], noise.clone()), (vec![b' '; 16_384], noise)];
+    let mut ours = String::new();
+    for (text, mut sheet) in cases.lines().map(text_and_sheet).chain(long) {
+        ours += check_line(convert(&text, &mut sheet)).trim_end();
+        ours += "\t";
+        sheet.iter().for_each(|b| write!(ours, "{b:02x}").unwrap());
+        ours += "\n";
     }
     compare(&ours, &answers);
 }

@@ -4,14 +4,16 @@ use mathlib.Core.Bool.{Bool, true, false, true≢false}
 use mathlib.Core.List.{List, [], _∷_}
 use mathlib.Core.Option.{Option, none, some}
 use mathlib.Core.Path.{_≡_, refl, sym, ap, _∙_}
+use native.Mathlib.Omega.{arith}
 use borrow.Author.Tests.{lt-leb, le-leb}
 use Rattle.digits.specs.Numeral.{percentage}
 use Rattle.codec.specs.Codec.{Form, _▹_, below, opt, each}
 use Rattle.decode.specs.Reads.{Reads, Number, same}
 use Rattle.decode.proofs.ReadLaws.{_&_, seen, absent, present, each-next}
 use Rattle.ast.specs.Tree.{LoopSpec, KeyframeTime, KeyframeEntry, percent}
-use Rattle.pieces.specs.Pieces.{Piece, aNumeral}
+use Rattle.pieces.specs.Pieces.{Piece, aName, aNumeral}
 use Rattle.fresh.specs.Meaning.{FrameSense}
+use Rattle.fresh.specs.Fresh.{waveNames, wordAt}
 use Rattle.fresh.specs.Fresh.{Writer, mark, negative, minusIf, sizeOf, signedBy, time, frame, moreFrames, track}
 use Rattle.spelling.specs.Spelling.{Page, run}
 use Rattle.copying.specs.Copies.{Copies}
@@ -128,3 +130,12 @@ pub percent-negated : (b : ℕ) → 2147483648 ≤ b → (ps : List Piece)
     → time (percent b) ps ≡ mark "-" ∷ aNumeral percentage (b - 2147483648) ∷ mark "%" ∷ ps
 unfolding time signedBy negative minusIf sizeOf
 percent-negated b h ps = rw (le-leb 2147483648 b h) refl
+
+-- ---- waveforms
+
+-- 02 (h): noise has no word
+pub noise-wordless : (k : ℕ) → 4 ≤ k → wordAt waveNames k ≡ aName []
+unfolding wordAt
+noise-wordless k h =
+    let e : k ≡ suc (suc (suc (suc (k - 4)))) = omega arith in
+    ap (λ (j : ℕ). wordAt waveNames j) e

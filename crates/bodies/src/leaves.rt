@@ -40,6 +40,7 @@ use decode::fields::take_flag;
 use spelling::Pen;
 use spelling::put_float;
 use spelling::put_mark;
+use spelling::put_name;
 use spelling::put_pair;
 use spelling::put_word;
 
@@ -47,7 +48,7 @@ const PRESETS: [u8; 32] = *b"\x06gentle\x06wobbly\x05stiff\x04slow\x06snappy";
 
 const INTEGRATORS: [u8; 24] = *b"\x13semi_implicit_euler\x03rk4";
 
-const WAVES: [u8; 36] = *b"\x04sine\x08sawtooth\x06square\x08triangle\x05noise";
+const WAVES: [u8; 30] = *b"\x04sine\x08sawtooth\x06square\x08triangle";
 
 pub fn copy_tween(text: &[u8], s: &[u8], at: usize, pen: Pen, out: &mut [u8]) -> Copied
     ensures { λ r. ⌜ CopiesTo (tweenForm (length (now (text .entry)))) (λ d. body (now (text .entry)) (tween d)) (now (s .entry)) at (now (out .entry)) pen (now (out .exit)) r ⌝ }
@@ -172,11 +173,21 @@ pub fn copy_color(text: &[u8], s: &[u8], at: usize, pen: Pen, out: &mut [u8]) ->
     }
 }
 
+// The word of a waveform's kind. No text has noise, the kind behind the last word: 02 (h).
+fn put_wave(pen: Pen, out: &mut [u8], kind: usize) -> Pen
+    ensures { λ r. ⌜ Puts (fresh.choose fresh.waveNames kind) (now (out .entry)) pen (now (out .exit)) r ⌝ }
+{
+    if kind < 4 {
+        return put_choice(pen, out, &WAVES, kind);
+    }
+    put_name(pen, out, b"")
+}
+
 pub fn copy_waveform(s: &[u8], at: usize, pen: Pen, out: &mut [u8]) -> Copied
     ensures { λ r. ⌜ ((t : List ℕ) → CopiesTo waveformForm (λ d. body t (waveform d)) (now (s .entry)) at (now (out .entry)) pen (now (out .exit)) r) ⌝ }
 {
     let kind = take_byte(s, at, 5);
-    let p = put_choice(pen, out, &WAVES, kind.v as usize);
+    let p = put_wave(pen, out, kind.v as usize);
     let frequency = copy_opt_f32(s, kind.next, p, out, b"frequency");
     let amplitude = copy_opt_f32(s, frequency.next, frequency.pen, out, b"amplitude");
     let phase = copy_opt_f32(s, amplitude.next, amplitude.pen, out, b"phase");

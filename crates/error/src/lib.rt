@@ -28,6 +28,8 @@ pub enum Refusal {
     Leftover,
     // A sheet slice that is shorter than the encoding.
     SheetTooShort,
+    // A waveform of the kind noise in a text.
+    NoiseWritten,
     // A scratch of fewer words than reading asks for.
     ScratchTooShort,
     // Bytes that are no sheet for the text.
@@ -42,6 +44,8 @@ pub enum Refusal {
     DuplicateTime,
     // A track of fewer than 2 frames.
     TooFewFrames,
+    // A waveform of the kind noise in a sheet.
+    NoiseHeld,
     // No record has the ordinal.
     NoSuchRecord,
     // An output slice that is shorter than the line.
@@ -101,6 +105,7 @@ pub fn number_of(refusal: Refusal) -> u8
         Refusal::TooManyNested => 12,
         Refusal::Leftover => 13,
         Refusal::SheetTooShort => 14,
+        Refusal::NoiseWritten => 15,
         Refusal::ScratchTooShort => 16,
         Refusal::NotASheet => 20,
         Refusal::OutOfRange => 21,
@@ -110,6 +115,7 @@ pub fn number_of(refusal: Refusal) -> u8
         Refusal::InvalidColor => 25,
         Refusal::DuplicateTime => 26,
         Refusal::TooFewFrames => 27,
+        Refusal::NoiseHeld => 28,
         Refusal::NoSuchRecord => 31,
         Refusal::OutputTooShort => 32,
         Refusal::TooManyScripts => 33,

@@ -1,11 +1,12 @@
 -- Lists of fields, as they are written, are read. Assumes nothing.
-use Prim.Native.Nat.{ℕ, zero, suc, _+_}
+use Prim.Native.Nat.{ℕ, zero, suc, _+_, _<_}
 use Prim.Native.String.{String}
 use mathlib.Core.Bool.{true, false}
 use mathlib.Core.List.{List, [], _∷_}
 use mathlib.Core.Option.{Option, none, some}
 use mathlib.Core.Path.{_≡_, refl, ap, _∙_}
 use native.Mathlib.Omega.{arith}
+use lib.ListN.{length}
 use Rattle.text.specs.Bytes.{bytes, same, oneOf}
 use Rattle.text.specs.Words.{words, find}
 use Rattle.token.specs.Names.{isKeyword}
@@ -113,21 +114,24 @@ module _ {form : Form} {s : List ℕ} where
 
   -- ---- choices
 
-  reads-word : (r : Refusal) (names : List String) (ns : List String) (i k : ℕ) (us : List Piece)
+  -- a word of some of the names
+  pub reads-word : (r : Refusal) (names : List String) (ns : List String) (i k : ℕ) (us : List Piece)
       → AllFound names ns i
-      → Reads form s 1 (choice r names) (wordAt ns k ∷ us) us (λ j. j ≡ i + k)
+      → Reads form s 1 (choice r names) (wordAt ns k ∷ us) us (λ j. (j ≡ i + k) × (k < length ns))
   unfolding wordAt wordLike
   reads-word r names [] i k us f = record {
     run = λ l q b d g. absurd (let e : false ≡ true = g .0 .0 in let z : _≡_ {A = ℕ} 0 1 = cc in omega arith);
   }
   reads-word r names (n ∷ ns) i zero us f =
-      then (a-word (bytes n) us (f .0)) (λ w h. weaken (needs r (find (words names) 0 (w .1)) i (rw h (f .1))) (λ j g. g ∙ (omega arith)))
-  reads-word r names (n ∷ ns) i (suc k) us f = weaken (reads-word r names ns (suc i) k us (f .2)) (λ j g. g ∙ (omega arith))
+      then (a-word (bytes n) us (f .0))
+      (λ w h. weaken (needs r (find (words names) 0 (w .1)) i (rw h (f .1))) (λ j g. (g ∙ (omega arith), omega arith)))
+  reads-word r names (n ∷ ns) i (suc k) us f =
+      weaken (reads-word r names ns (suc i) k us (f .2)) (λ j g. (g .0 ∙ (omega arith), let l = g .1 in omega arith))
 
   pub reads-choice : (r : Refusal) (names : List String) (k : ℕ) (us : List Piece)
       → AllFound names names 0
       → Reads form s 1 (choice r names) (wordAt names k ∷ us) us (λ j. j ≡ k)
-  reads-choice r names k us f = weaken (reads-word r names names 0 k us f) (λ j g. g ∙ (omega arith))
+  reads-choice r names k us f = weaken (reads-word r names names 0 k us f) (λ j g. g .0 ∙ (omega arith))
 
   -- ---- a damping mode
 

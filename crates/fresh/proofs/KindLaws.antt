@@ -3,6 +3,8 @@ use Prim.Native.Nat.{ℕ}
 use mathlib.Core.List.{List, [], _∷_}
 use mathlib.Core.Option.{Option, some}
 use mathlib.Core.Path.{_≡_, refl}
+use native.Mathlib.Omega.{arith}
+use borrow.Author.Tests.{ne-eqb}
 use Rattle.text.specs.Bytes.{same}
 use Rattle.text.specs.Words.{find}
 use Rattle.token.specs.Names.{isKeyword}
@@ -13,7 +15,8 @@ use Rattle.grammar.specs.Fields.{last, lastNumber, lastTruth, lastEasing, lastL
 use Rattle.grammar.specs.Values.{number, count, flag, easing, loopMode}
 use Rattle.grammar.specs.Values.{value as valueField}
 use Rattle.grammar.specs.Grammar.{stored, parseSpringPreset, springPreset, integrator, springFields, parseSpring, pathFields, parsePath}
-use Rattle.grammar.specs.Grammar.{morphFields, parseMorph, space, colorFields, parseColor, waveformKind, waveformFields, parseWaveform}
+use Rattle.grammar.specs.Grammar.{morphFields, parseMorph, space, colorFields, parseColor}
+use Rattle.grammar.specs.Grammar.{unlessNoise, waveformKind, waveformFields, parseWaveform}
 use Rattle.grammar.specs.Grammar.{offset as offsetField}
 use Rattle.pieces.specs.Pieces.{Piece, Form}
 use Rattle.fresh.specs.Meaning.{optionSense, leafSense, SpringSense, PathSense, MorphSense}
@@ -26,7 +29,8 @@ use Rattle.fresh.proofs.ValueLaws.{quiet-mark, quiet-field, reads-value
 use Rattle.fresh.proofs.EntryLaws.{put, opt, damp, number-past, number-here, truth-past, truth-here, easing-past}
 use Rattle.fresh.proofs.EntryLaws.{easing-here, loop-past, loop-here, value-past, value-here, range-past, range-here}
 use Rattle.fresh.proofs.EntryLaws.{damping-past, number-damp, value-damp, damp-here, or-none, unless-default}
-use Rattle.fresh.proofs.FieldLaws.{plain-name, loop-name, closes-list, exact, eased, damped, a-loop, a-value, a-range, reads-choice}
+use Rattle.fresh.proofs.FieldLaws.{plain-name, loop-name, closes-list, exact, eased, damped, a-loop, a-value, a-range}
+use Rattle.fresh.proofs.FieldLaws.{reads-word, reads-choice}
 
 -- ---- what the lists of fields say
 
@@ -236,11 +240,19 @@ module _ {form : Form} {s : List ℕ} where
 
   -- ---- waveform
 
+  -- a kind that has a word is not noise
+  reads-kind : (k : ℕ) (us : List Piece) → Reads form s 1 waveformKind (wordAt waveNames k ∷ us) us (λ j. j ≡ k)
+  unfolding waveformKind unlessNoise same isKeyword find
+  reads-kind k us =
+      then {d = 0} (reads-word Malformed ("sine" ∷ "sawtooth" ∷ "square" ∷ "triangle" ∷ "noise" ∷ []) waveNames 0 k us
+      (refl, refl, (refl, refl, (refl, refl, (refl, refl, tt)))))
+      (λ j h. let e = h .0 in let l = h .1 in rw (ne-eqb j 4 (λ f. omega arith)) (gives (omega arith)))
+
   pub reads-waveform : (d : WaveformSpec) (us : List Piece)
       → Reads form s 1 parseWaveform (leafBody (waveform d) us) us (λ l. leafSense stored s l ≡ waveform d)
-  unfolding leafBody parseWaveform waveformKind parseFieldList waveformFields rowOf same isKeyword find
+  unfolding leafBody parseWaveform parseFieldList waveformFields rowOf same isKeyword find
   reads-waveform d us =
-      then (reads-choice Malformed waveNames (d .kind) _ (refl, refl, (refl, refl, (refl, refl, (refl, refl, (refl, refl, tt))))))
+      then (reads-kind (d .kind) _)
       (λ k h.
       then {R = λ fs. fs ≡ waved d}
       (loops (exact waveformFields [] "frequency" number f32 aNumber (d .frequency) (plain-name "frequency" refl refl) refl

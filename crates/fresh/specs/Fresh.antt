@@ -150,8 +150,9 @@ integratorNames = "semi_implicit_euler" ∷ "rk4" ∷ []
 abbrev pub spaceNames : List String
 spaceNames = "linear" ∷ "lab" ∷ "oklch" ∷ []
 
+-- 02 (h): reading refuses `noise`, so that no text has it
 abbrev pub waveNames : List String
-waveNames = "sine" ∷ "sawtooth" ∷ "square" ∷ "triangle" ∷ "noise" ∷ []
+waveNames = "sine" ∷ "sawtooth" ∷ "square" ∷ "triangle" ∷ []
 
 abbrev pub modeNames : List String
 modeNames = "sequence" ∷ "parallel" ∷ []

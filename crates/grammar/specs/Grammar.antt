@@ -5,6 +5,7 @@ use Prim.Native.String.{String}
 use mathlib.Core.Bool.{Bool, true, false, _&&_, _||_, not, cond}
 use mathlib.Core.List.{List, [], _∷_, _++_}
 use mathlib.Core.Option.{Option, none, some}
+use lib.Dec.{eqb}
 use Rattle.text.specs.Words.{default}
 use Rattle.text.specs.Words as words
 use Rattle.number.specs.Number.{Written, nearest, bits}
@@ -45,7 +46,7 @@ use Rattle.grammar.specs.Values.{parseValue, f32Of, parseEasing, parseLo
 use Rattle.grammar.specs.Rule.{Rule, _>>=_, _>>_, give, refuse, need, if, sees, seesWord, seesName, seesNumber, ends}
 use Rattle.grammar.specs.Rule.{skip, the, both, eat, word, choice, signed, counted, inside, repeat, Next, more, done, goOn}
 use Rattle.error.specs.declared.Refusal.the-variants.{Missing, UnknownKeyword, Malformed, UnknownSpringPreset}
-use Rattle.error.specs.declared.Refusal.the-variants.{MissingDuration, StaggerGridIncomplete, TooManyNested}
+use Rattle.error.specs.declared.Refusal.the-variants.{MissingDuration, StaggerGridIncomplete, TooManyNested, NoiseWritten}
 
 -- ---- tween
 
@@ -364,8 +365,13 @@ parseColor = do
 
 -- ---- waveform
 
+-- 02 (h): "Reading refuses `noise` as a waveform kind", "15 in reading, raised where 8 would be for a bad kind"
+unfoldable pub unlessNoise : ℕ → Rule ℕ
+unlessNoise k = cond (eqb k 4) (refuse NoiseWritten) (give k)
+
+-- a kind of the Rust's, but for the last
 unfoldable pub waveformKind : Rule ℕ
-waveformKind = choice Malformed ("sine" ∷ "sawtooth" ∷ "square" ∷ "triangle" ∷ "noise" ∷ [])
+waveformKind = choice Malformed ("sine" ∷ "sawtooth" ∷ "square" ∷ "triangle" ∷ "noise" ∷ []) >>= unlessNoise
 
 unfoldable pub waveformFields : Table
 waveformFields =

@@ -2,15 +2,16 @@
 use Prim.Native.Nat.{ℕ, _+_, _≤_}
 use mathlib.Core.List.{List, [], _∷_}
 use mathlib.Core.Path.{_≡_}
+use borrow.Author.Tests.{eq-eqb, ne-eqb}
 use native.Mathlib.Omega.{arith}
 use lib.ListN.{length}
 use Rattle.ast.specs.declared.Span.{Span}
 use Rattle.encode.specs.Of.{spanOf}
 use Rattle.error.specs.declared.Refusal.{Refusal}
-use Rattle.error.specs.declared.Refusal.the-variants.{Missing, Malformed}
-use Rattle.grammar.specs.Rule.{refused, text, word, theByte, bothBytes, choice}
+use Rattle.error.specs.declared.Refusal.the-variants.{Missing, Malformed, NoiseWritten}
+use Rattle.grammar.specs.Rule.{Rule, refused, text, word, theByte, bothBytes, choice}
 use Rattle.grammar.specs.Values.{ident, string}
-use Rattle.grammar.specs.Grammar.{parseDraw, parseMorph, parseColor, parsePath, parseWaveform, waveformKind}
+use Rattle.grammar.specs.Grammar.{parseDraw, parseMorph, parseColor, parsePath, unlessNoise, waveformKind, parseWaveform}
 use Rattle.cursor.specs.Means.{run, Took, spelled}
 use Rattle.cursor.specs.declared.Cursor.{Cursor}
 use Rattle.values.proofs.EasingLaws.{spelled-length}
@@ -134,14 +135,25 @@ module _ (s : List ℕ) (c : Cursor) where
 
 -- ---- waveform
 
+-- the Rust's kinds
+abbrev anyKind : Rule ℕ
+anyKind = choice Malformed ("sine" ∷ "sawtooth" ∷ "square" ∷ "triangle" ∷ "noise" ∷ [])
+
 module _ (s : List ℕ) (c : Cursor) where
-  pub no-waveform : (r : Refusal) (q : ℕ) → run s c waveformKind ≡ refused r q → run s c parseWaveform ≡ refused r q
-  unfolding parseWaveform
+  pub no-waveform : (r : Refusal) (q : ℕ) → run s c anyKind ≡ refused r q → run s c parseWaveform ≡ refused r q
+  unfolding parseWaveform waveformKind
   no-waveform r q h = rw h
 
-  pub waveform-node : (m : Cursor) (i : ℕ) → Took 1 s c m waveformKind i → (b a : List ℕ) (out : ℕ) (r : NodeRead)
-      → EndMeans s b a m out (waveformEnd i) r → LeafMeans s b a c out parseWaveform r
-  unfolding parseWaveform
-  waveform-node m i t =
-      whole-node s parseWaveform c m (waveformEnd i)
-      (λ v u z. record { is = rw (t .is, z .is); low = omega (arith, t .low, z .low); ready = z .ready }) (λ r q h. rw (t .is, h)) (t .low)
+  module _ (m : Cursor) (i : ℕ) (t : Took 1 s c m anyKind i) where
+    pub noise-refused : i ≡ 4 → run s c parseWaveform ≡ refused NoiseWritten (m .at)
+    unfolding parseWaveform waveformKind unlessNoise
+    noise-refused e = rw (t .is, eq-eqb i 4 e, t .ready .head .place)
+
+    pub waveform-node : (i ≡ 4 → ⊥) → (b a : List ℕ) (out : ℕ) (r : NodeRead)
+        → EndMeans s b a m out (waveformEnd i) r → LeafMeans s b a c out parseWaveform r
+    unfolding parseWaveform waveformKind unlessNoise
+    waveform-node n =
+        let e = ne-eqb i 4 n in
+        whole-node s parseWaveform c m (waveformEnd i)
+        (λ v u z. record { is = rw (t .is, e, z .is); low = omega (arith, t .low, z .low); ready = z .ready })
+        (λ r q h. rw (t .is, e, h)) (t .low)

@@ -273,13 +273,21 @@ fn waveform_end(
 
 const WAVEFORMS: [u8; 36] = *b"\x04sine\x08sawtooth\x06square\x08triangle\x05noise";
 
+// The last of them, which reading refuses: 02 (h).
+const NOISE: usize = 4;
+
 pub fn parse_waveform(text: &[u8], sheet: &mut [u8], c: Cursor, out: usize) -> NodeRead
     requires { ⌜ Ready (now text) c × Room (now text) out ⌝ }
     ensures { λ r. ⌜ LeafMeans (now (text .entry)) (now (sheet .entry)) (now (sheet .exit)) c out parseWaveform r ⌝ }
 {
     match cursor::choice(text, c, &WAVEFORMS, Refusal::Malformed) {
         CaseRead::Refused(r, p) => NodeRead::Refused(r, p),
-        CaseRead::Is(i, m) => waveform_end(text, sheet, m, out, i as u8),
+        CaseRead::Is(i, m) => {
+            if i == NOISE {
+                return NodeRead::Refused(Refusal::NoiseWritten, cursor::place(m));
+            }
+            waveform_end(text, sheet, m, out, i as u8)
+        }
     }
 }
 

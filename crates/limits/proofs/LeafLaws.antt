@@ -6,6 +6,7 @@ use mathlib.Core.Option.{Option, none, some}
 use mathlib.Core.Path.{_≡_, refl, ap, _∙_}
 use mathlib.Core.Logic.{_⊎_, inl, inr}
 use native.Mathlib.Omega.{arith}
+use lib.Dec.{eqb}
 use lib.ListN.{length, getD}
 use Rattle.text.specs.Limits.{textLimit}
 use Rattle.text.specs.Bytes.{bytes, same, isName}
@@ -29,8 +30,9 @@ use Rattle.grammar.specs.Fields.{lastTruth, lastEasing, lastLoopMode, lastValue
 use Rattle.grammar.specs.Grammar.{stored, tweenFields, parseTween, springFields, parseSpringPreset, springPreset}
 use Rattle.grammar.specs.Grammar.{integrator, criticalDamping, overDamping, underDamping, parseSpring, offset, pathFields, parsePath}
 use Rattle.grammar.specs.Grammar.{morphFields, parseMorph, drawFields, parseDraw, space, colorFields, parseColor}
-use Rattle.grammar.specs.Grammar.{waveformKind, waveformFields, parseWaveform, parsePresetCall, parseLabel, atSign, turned, parseAt}
-use Rattle.rules.proofs.RunLaws.{Runs, gives, then, and, tallies, weaken, tests, conds, needs}
+use Rattle.grammar.specs.Grammar.{unlessNoise, waveformKind, waveformFields, parseWaveform, parsePresetCall, parseLabel}
+use Rattle.grammar.specs.Grammar.{atSign, turned, parseAt}
+use Rattle.rules.proofs.RunLaws.{Runs, gives, refuses, then, and, tallies, weaken, tests, conds, needs}
 use Rattle.rules.proofs.TakeLaws.{the-mark, two-marks, skips-mark, Eaten, eats, eaten, Number, a-number, in-group}
 use Rattle.rules.proofs.ListLaws.{_also_, a-choice}
 use Rattle.limits.proofs.SizeLaws.{Most, all, _⊕_, span-most, tween-size, tween-rest, spring-size, path-size}
@@ -394,10 +396,16 @@ module _ (s : List ℕ) (short : length s ≤ textLimit) {inner : Form Forest} (
   waveform-total k [] f = omega arith
   waveform-total k (e ∷ fs) f = omega (arith, waveform-size (length s) (waveformOf k (e ∷ fs)), total-some (length s) e fs f)
 
+  waveform-kind : {q : ℕ} → q ≤ length s → Runs s waveformKind q (λ k m. (k < 5) × (q < m))
+  unfolding waveformKind unlessNoise
+  waveform-kind h =
+      then (a-choice h Malformed (words ("sine" ∷ "sawtooth" ∷ "square" ∷ "triangle" ∷ "noise" ∷ [])))
+      (λ k m g x. conds (eqb k 4) (λ e. refuses) (λ e. gives g x))
+
   pub waveform-runs : LeafRule 8 parseWaveform
-  unfolding parseWaveform waveformKind limit same
+  unfolding parseWaveform limit same
   waveform-runs q h e =
-      then (a-choice h Malformed (words ("sine" ∷ "sawtooth" ∷ "square" ∷ "triangle" ∷ "noise" ∷ []))) (λ k m1 g1 x1.
+      then (waveform-kind h) (λ k m1 g1 x1.
       then (fields-run s waveformFields waveform-rows [] m1 g1 tt) (λ fs m2 g2 x2.
       let n = length s in
       let f = x2 .fair in

@@ -116,7 +116,8 @@ unfolding Rattle.text.specs.Bytes.same Rattle.text.specs.Bytes.oneOf Rattle.t
     Rattle.grammar.specs.Grammar.pathFields Rattle.grammar.specs.Grammar.parsePath Rattle.grammar.specs.Grammar.morphFields
     Rattle.grammar.specs.Grammar.parseMorph Rattle.grammar.specs.Grammar.drawFields Rattle.grammar.specs.Grammar.parseDraw
     Rattle.grammar.specs.Grammar.space Rattle.grammar.specs.Grammar.colorFields Rattle.grammar.specs.Grammar.parseColor
-    Rattle.grammar.specs.Grammar.waveformKind Rattle.grammar.specs.Grammar.waveformFields Rattle.grammar.specs.Grammar.parseWaveform
+    Rattle.grammar.specs.Grammar.unlessNoise Rattle.grammar.specs.Grammar.waveformKind Rattle.grammar.specs.Grammar.waveformFields
+    Rattle.grammar.specs.Grammar.parseWaveform
     Rattle.grammar.specs.Grammar.parsePresetCall Rattle.grammar.specs.Grammar.parseLabel Rattle.grammar.specs.Grammar.atSign
     Rattle.grammar.specs.Grammar.parseAt Rattle.grammar.specs.Grammar.leaves Rattle.grammar.specs.Grammar.containers
     Rattle.grammar.specs.Grammar.beginning Rattle.grammar.specs.Grammar.parseNode Rattle.grammar.specs.Grammar.oneNode

@@ -83,6 +83,10 @@ meanOutcome (mean.Refused refusal place) out = (packedRefusal refusal place, out
 abbrev pub colorOutcome : CheckAnswer × List ℕ → ℕ
 colorOutcome x = packedColor (x .0) (x .1)
 
+-- 02 (h): 0 for a sheet that is converted, and the lent sheet afterwards
+abbrev pub convertOutcome : CheckAnswer × List ℕ → ℕ × List ℕ
+convertOutcome x = (packedCheck (x .0), x .1)
+
 -- ---- its parts
 
 abbrev pub numberIn : ℕ → ℕ

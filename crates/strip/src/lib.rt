@@ -7,12 +7,13 @@ ghost use Rattle.colors.specs.Css.{coloring};
 ghost use Rattle.parser.specs.Reading.{reading};
 ghost use Rattle.validate.specs.Checking.{checking};
 ghost use Rattle.line.specs.Lining.{lining};
+ghost use Rattle.convert.specs.Convert.{converting};
 ghost use Rattle.script.specs.Output.{printing};
 ghost use Rattle.totals.specs.Mean.{mean};
 ghost use Rattle.feed.specs.Feed.{fed, feeding};
 ghost use Rattle.back.specs.Back.{writing};
 ghost use Rattle.strip.specs.Packed.{packedRefusal, packedSheet, packedCheck, packedLine, packedFed, readOutcome, lineOutcome, printOutcome};
-ghost use Rattle.strip.specs.Packed.{feedOutcome, meanOutcome, packedBytes, colorOutcome};
+ghost use Rattle.strip.specs.Packed.{feedOutcome, meanOutcome, packedBytes, colorOutcome, convertOutcome};
 use error::CheckAnswer;
 use error::LineAnswer;
 use error::ReadAnswer;
@@ -40,6 +41,16 @@ fn pack_sheet(length: usize, records: usize, rounded: usize) -> u64
     ensures { λ r. ⌜ r ≡ packedSheet length records rounded ⌝ }
 {
     (rounded % 65536 * 1099511627776 + records % 65536 * 16777216 + length % 16777216) as u64
+}
+
+// 0 for what is accepted, or a refusal.
+fn pack_check(answer: CheckAnswer) -> u64
+    ensures { λ r. ⌜ r ≡ packedCheck answer ⌝ }
+{
+    match answer {
+        CheckAnswer::Accepted => 0,
+        CheckAnswer::Refused { refusal, place } => pack_refusal(refusal, place),
+    }
 }
 
 // A line's, a page's or a script's length, or a refusal.
@@ -103,10 +114,7 @@ pub extern "C" fn strip_read(text: &[u8], scratch: &mut [u16], sheet: &mut [u8])
 pub extern "C" fn strip_check(text: &[u8], sheet: &[u8], list: u32) -> u64
     ensures { λ r. ⌜ r ≡ packedCheck (checking list (now (text .entry)) (now (sheet .entry))) ⌝ }
 {
-    match validate::check(text, sheet, list) {
-        CheckAnswer::Accepted => 0,
-        CheckAnswer::Refused { refusal, place } => pack_refusal(refusal, place),
-    }
+    pack_check(validate::check(text, sheet, list))
 }
 
 // line::line.
@@ -182,4 +190,12 @@ pub extern "C" fn strip_color(string: &[u8]) -> u64
         return pack_refusal(refusal, place);
     }
     pack_color(bytes[0], bytes[1], bytes[2], bytes[3])
+}
+
+// convert::convert.
+#[no_mangle]
+pub extern "C" fn strip_convert(text: &[u8], sheet: &mut [u8]) -> u64
+    ensures { λ r. ⌜ (r, now (sheet .exit)) ≡ convertOutcome (converting (now (text .entry)) (now (sheet .entry))) ⌝ }
+{
+    pack_check(convert::convert(text, sheet))
 }

@@ -25,6 +25,7 @@ numbered cause.StaggerGridIncomplete = record { some = omega arith; most = omega
 numbered cause.TooManyNested = record { some = omega arith; most = omega arith }
 numbered cause.Leftover = record { some = omega arith; most = omega arith }
 numbered cause.SheetTooShort = record { some = omega arith; most = omega arith }
+numbered cause.NoiseWritten = record { some = omega arith; most = omega arith }
 numbered cause.ScratchTooShort = record { some = omega arith; most = omega arith }
 numbered cause.NotASheet = record { some = omega arith; most = omega arith }
 numbered cause.OutOfRange = record { some = omega arith; most = omega arith }
@@ -34,6 +35,7 @@ numbered cause.UnknownPreset = record { some = omega arith; most = omega arith }
 numbered cause.InvalidColor = record { some = omega arith; most = omega arith }
 numbered cause.DuplicateTime = record { some = omega arith; most = omega arith }
 numbered cause.TooFewFrames = record { some = omega arith; most = omega arith }
+numbered cause.NoiseHeld = record { some = omega arith; most = omega arith }
 numbered cause.NoSuchRecord = record { some = omega arith; most = omega arith }
 numbered cause.OutputTooShort = record { some = omega arith; most = omega arith }
 numbered cause.TooManyScripts = record { some = omega arith; most = omega arith }

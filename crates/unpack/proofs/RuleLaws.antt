@@ -5,6 +5,7 @@ use mathlib.Core.Bool.{Bool, true, false, _&&_}
 use mathlib.Core.List.{List, [], _∷_}
 use mathlib.Core.Option.{Option, none, some}
 use mathlib.Core.Path.{refl}
+use lib.Dec.{eqb}
 use Rattle.text.specs.Bytes.{bytes, same}
 use Rattle.text.specs.Words.{words, under}
 use Rattle.number.specs.Number.{whole, nearest, bits}
@@ -28,7 +29,7 @@ use Rattle.grammar.specs.Grammar.{springFields, parseSpring, keyed, parseKeyfra
 use Rattle.grammar.specs.Grammar.{trackStep, parseKeyframes, parseSequence, parseParallel, parseGroup, parseGridOrigin, origin}
 use Rattle.grammar.specs.Grammar.{gridFields, gridPattern, randomFields, randomPattern, patterns, parseStaggerPattern, Opening}
 use Rattle.grammar.specs.Grammar.{openingFields, openingField, openingStep, parseStagger, offset, pathFields, parsePath}
-use Rattle.grammar.specs.Grammar.{morphFields, parseMorph, drawFields, parseDraw, space, colorFields, parseColor, waveformKind}
+use Rattle.grammar.specs.Grammar.{morphFields, parseMorph, drawFields, parseDraw, space, colorFields, parseColor, unlessNoise, waveformKind}
 use Rattle.grammar.specs.Grammar.{waveformFields, parseWaveform, parsePresetCall, parseLabel, atSign, turned, parseAt, leaves}
 use Rattle.grammar.specs.Grammar.{containers, orContainer, beginning, nodeBy, parseNode}
 use Rattle.grammar.specs.Grammar.{oneNode, nodesStep, block, animatoInput, underDamping}
@@ -379,9 +380,10 @@ module _ (n : ℕ) where
       then (needs MissingDuration (lastNumber "duration" fs)) (λ d. gives)))))))
 
   waveform-stays : Stays n parseWaveform
-  unfolding parseWaveform waveformKind waveformFields
+  unfolding parseWaveform waveformKind unlessNoise waveformFields
   waveform-stays =
-      then (a-choice Malformed (words ("sine" ∷ "sawtooth" ∷ "square" ∷ "triangle" ∷ "noise" ∷ [])))
+      then (then (a-choice Malformed (words ("sine" ∷ "sawtooth" ∷ "square" ∷ "triangle" ∷ "noise" ∷ [])))
+      (λ k. conds (eqb k 4) refuses gives))
       (λ k.
       then (fields-stay waveformFields
       (number-row also number-row also number-row also number-row also count-row also number-row also number-row also tt) [])

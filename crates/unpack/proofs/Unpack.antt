@@ -9,6 +9,7 @@ use lib.ListN.{take}
 use Rattle.parser.specs.Reading.{reading}
 use Rattle.validate.specs.Checking.{checking}
 use Rattle.line.specs.Lining.{lining}
+use Rattle.convert.specs.Convert.{converting}
 use Rattle.script.specs.Output.{pageBytes, printing}
 use Rattle.back.specs.Back.{writing}
 use Rattle.error.specs.Refusal.{numberOf}
@@ -29,7 +30,7 @@ use Rattle.feed.specs.Feed.{Fed, readOf, whenRead, judgement, figure, full, fee
 use Rattle.feed.specs.declared.FeedAnswer.{FeedAnswer}
 use Rattle.feed.specs.declared.FeedAnswer.the-variants as feed
 use Rattle.unpack.proofs.Within.{ReadWithin, read-within, CheckWithin, check-within, LineWithin, line-within, print-within}
-use Rattle.unpack.proofs.Within.{ScriptWithin, write-within}
+use Rattle.unpack.proofs.Within.{ScriptWithin, write-within, convert-within}
 
 -- ---- reading
 
@@ -62,6 +63,11 @@ check-back (check.Refused r p) h = (refusal-number r p, refusal-place r p (omega
 
 pub check-parts : (list : ℕ) (t sheet : List ℕ) → CheckParts (checking list t sheet) (packedCheck (checking list t sheet))
 check-parts list t sheet = check-back (checking list t sheet) (check-within list t sheet)
+
+-- ---- converting
+
+pub convert-parts : (t sheet : List ℕ) → CheckParts (converting t sheet .0) (packedCheck (converting t sheet .0))
+convert-parts t sheet = check-back (converting t sheet .0) (convert-within t sheet)
 
 -- ---- lining, whose ordinal is a u32
 

@@ -29,6 +29,7 @@ use Rattle.validate.specs.Checking.{answerOf, judged, verdict, openingUnder, ch
 use Rattle.line.specs.Line.{line}
 use Rattle.line.specs.Lining.{ofRecord, ofOpened, lining}
 use Rattle.line.proofs.LineLaws.{length-line}
+use Rattle.convert.specs.Convert.{convertOpened, converting}
 use Rattle.script.specs.Output.{printed, paged, pageBytes, lineBytes, printing}
 use Rattle.script.proofs.OutputLaws.{records-same, printed-small}
 use Rattle.error.specs.declared.Refusal.{Refusal}
@@ -187,6 +188,16 @@ verdict-within list t (opened ns) h =
 pub check-within : (list : ℕ) (t sheet : List ℕ) → CheckWithin (checking list t sheet)
 unfolding checking
 check-within list t sheet = verdict-within list t (openingUnder list t sheet) (under-within list t sheet)
+
+-- ---- converting, which refuses as checking does
+
+pub convert-within : (t sheet : List ℕ) → CheckWithin (converting t sheet .0)
+unfolding converting
+convert-within t sheet = by (opening t sheet) (opening-within t sheet)
+  where
+    by : (o : Opened) → Within (length t) o → CheckWithin (convertOpened (length t) sheet o .0)
+    by (shut r p) h = omega arith
+    by (opened ns) h = tt
 
 -- ---- lining: a line is at most 131,077 bytes; a refusal's place is the ordinal, or at most 16,384
 

@@ -68,7 +68,7 @@ use Rattle.ast.specs.Tree.{
 }
 use Rattle.error.specs.declared.Refusal.{Refusal}
 use Rattle.error.specs.declared.Refusal.the-variants.{OutOfRange, ValueTypeMismatch, UnknownEasing}
-use Rattle.error.specs.declared.Refusal.the-variants.{UnknownPreset, InvalidColor, DuplicateTime, TooFewFrames}
+use Rattle.error.specs.declared.Refusal.the-variants.{UnknownPreset, InvalidColor, DuplicateTime, TooFewFrames, NoiseHeld}
 
 -- ---- tests: comparisons as IEEE 754 has them
 
@@ -168,9 +168,9 @@ validateColor names t x = first (
     (negative (x .duration), OutOfRange) ∷ (not (isColor names (spelled t (x .from))), InvalidColor)
     ∷ (not (isColor names (spelled t (x .to))), InvalidColor) ∷ (given (unknownEasing t) (x .easing), UnknownEasing) ∷ [])
 
--- validate_waveform
+-- validate_waveform; 02 (h): "checking names them as retired", "28 in checking, at that node, before its frequency rule"
 unfoldable pub validateWaveform : WaveformSpec → Option Refusal
-validateWaveform x = first ((given negative (x .frequency), OutOfRange) ∷ [])
+validateWaveform x = first ((eqb (x .kind) 4, NoiseHeld) ∷ (given negative (x .frequency), OutOfRange) ∷ [])
 
 -- validate_preset_call
 unfoldable pub validatePresetCall : List ℕ → PresetCall → Option Refusal

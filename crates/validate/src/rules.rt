@@ -105,11 +105,17 @@ pub fn validate_color(text: &[u8], spec: ColorSpec, list: u32) -> Fault
     validate_easing(text, f, easing)
 }
 
+// The kind that is retired: 02 (h).
+const NOISE: u8 = 4;
+
 pub fn validate_waveform(spec: WaveformSpec) -> Fault
     ensures { λ r. ⌜ Tells waveformView validateWaveform spec (faultOf r) ⌝ }
 {
     let frequency = spec.frequency;
-    rule(Fault::None, some_negative(frequency), Refusal::OutOfRange)
+    let retired = spec.kind == NOISE;
+    let negative = some_negative(frequency);
+    let f = rule(Fault::None, retired, Refusal::NoiseHeld);
+    rule(f, negative, Refusal::OutOfRange)
 }
 
 pub fn validate_preset_call(text: &[u8], call: PresetCall) -> Fault

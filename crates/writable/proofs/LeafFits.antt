@@ -1,13 +1,16 @@
 -- The leaves that a rule reads can be written, but for tracks. Assumes nothing.
-use Prim.Native.Nat.{ℕ, _≤_}
+use Prim.Native.Nat.{ℕ, _≤_, _<_}
 use Prim.Native.String.{String}
 use mathlib.Core.Bool.{Bool, true, false, cond}
 use mathlib.Core.List.{List, [], _∷_}
 use mathlib.Core.Option.{Option, none, some}
 use mathlib.Core.Path.{_≡_, refl, sym}
+use native.Mathlib.Omega.{arith}
+use borrow.Author.Tests.{eqb-false}
+use lib.Dec.{eqb}
 use lib.ListN.{length, drop}
 use Rattle.text.specs.Bytes.{same, oneOf}
-use Rattle.text.specs.Words.{find, default}
+use Rattle.text.specs.Words.{words, find, default}
 use Rattle.number.specs.Number.{Written, nearest, bits}
 use Rattle.number.specs.Rounded.{numberRounded}
 use Rattle.number.specs.Time.{Key}
@@ -22,7 +25,8 @@ use Rattle.grammar.specs.Fields.{lastLoopMode, lastValue, lastDamping, lastRang
 use Rattle.grammar.specs.Grammar.{stored, tweenFields, parseTween, springFields, parseSpringPreset, springPreset, integrator}
 use Rattle.grammar.specs.Grammar.{criticalDamping, overDamping, underDamping, parseSpring, offset, pathFields, parsePath}
 use Rattle.grammar.specs.Grammar.{morphFields, parseMorph, drawFields, parseDraw, space, colorFields, parseColor}
-use Rattle.grammar.specs.Grammar.{waveformKind, waveformFields, parseWaveform, parsePresetCall, parseLabel, atSign, turned, parseAt}
+use Rattle.grammar.specs.Grammar.{unlessNoise, waveformKind, waveformFields, parseWaveform, parsePresetCall, parseLabel}
+use Rattle.grammar.specs.Grammar.{atSign, turned, parseAt}
 use Rattle.digits.specs.Numeral.{all}
 use Rattle.pieces.specs.Pieces.{Form, wordLike}
 use Rattle.pieces.specs.Fits.{InText, Complete}
@@ -35,7 +39,7 @@ use Rattle.rules.proofs.RunLaws as run
 use Rattle.rules.proofs.TakeLaws as tokens
 use Rattle.rules.proofs.ListLaws.{_also_}
 use Rattle.rules.proofs.FieldLaws.{On}
-use Rattle.rules.proofs.AlwaysLaws.{Always, gives, then, and, tests, needs, skips, weaken}
+use Rattle.rules.proofs.AlwaysLaws.{Always, gives, refuses, then, and, tests, conds, needs, skips, weaken}
 use Rattle.rules.proofs.AlwaysLaws.{the-mark, two-marks, in-group, a-choice, Row, pairs-of, fields-of}
 use Rattle.writable.proofs.ValueFits.{Fit, _▸_, fit-one, fit-none, fit-mark, ident-fits, string-fits, nearest-fits}
 use Rattle.writable.proofs.ValueFits.{float-fits, float-in-parens, two-in-parens, value-fits, truth-fits}
@@ -294,12 +298,19 @@ module _ {form : Form} (complete : Complete form) (u : List ℕ) where
       ▸ field-fits form "smoothness" f32 _ refl (number-on form u fs h "smoothness" f32 refl)
       ▸ field-fits form "duration" f32 _ refl (number-on form u fs h "duration" f32 refl)
 
+  -- a kind that is not noise has a word
+  waveform-kind : Always u waveformKind (λ k. k < length (words waveNames))
+  unfolding waveformKind unlessNoise
+  waveform-kind =
+      then (a-choice Malformed ("sine" ∷ "sawtooth" ∷ "square" ∷ "triangle" ∷ "noise" ∷ []))
+      (λ k l. conds (eqb k 4) (λ e. refuses) (λ e. gives (let n = eqb-false k 4 e in omega arith)))
+
   pub waveform-fits : LeafFits parseWaveform
-  unfolding parseWaveform waveformKind leafBody wordLike all
+  unfolding parseWaveform leafBody wordLike all
   waveform-fits =
-      then (a-choice Malformed waveNames) (λ k l.
+      then waveform-kind (λ k l.
       then (fields-of u (Fair form u) waveformFields waveform-rows [] tt) (λ fs h.
-      gives (fit-one (word-fits form waveNames k (refl also refl also refl also refl also refl also tt) l) ▸ waveform-written fs h ▸ semi)))
+      gives (fit-one (word-fits form waveNames k (refl also refl also refl also refl also tt) l) ▸ waveform-written fs h ▸ semi)))
 
   -- ---- preset, label
 

@@ -1,10 +1,9 @@
 -- `kinds::parse_waveform` meets its contract. Assumes nothing.
-use native.Mathlib.Omega.{arith}
 use Rattle.error.specs.declared.Refusal.the-variants.{Malformed}
-use Rattle.grammar.specs.Grammar.{waveformKind}
 use Rattle.text.specs.Words.{entries}
 use Rattle.heads.proofs.NameLaws.{choice-below}
-use Rattle.kinds.proofs.KindLaws.{no-waveform, waveform-node}
+use Rattle.kinds.proofs.KindLaws.{no-waveform, noise-refused, waveform-node}
+use native.Mathlib.Omega.{arith}
 use borrow.Author.Needs.{needs}
 use Rattle.kinds.proofs.parse_waveform.Statement.{statement}
 use Rattle.kinds.proofs.parse_waveform.Tie as tie
@@ -21,10 +20,22 @@ enum-known-r c = search needs
 enum-known-i : tie.Need-enum-known-i
 enum-known-i c = search needs
 
+place-requires : tie.Need-place-requires
+place-requires c κs = search needs
+
+returns : tie.Need-returns
+unfolding entries
+returns c =
+    let at-i = c .before .before .before in
+    let at-choice = at-i .before .before in
+    let args = at-choice .before .before .before .before .args in
+    rw (c .place .ensures)
+    (noise-refused (args .text .now) (args .c) _ _ (rw (at-i .i .given .1) at (at-choice .choice .ensures)) (c .before .if1 .taken))
+
 cast-waveform-end : tie.Need-cast-waveform-end
 unfolding entries
 cast-waveform-end c =
-    let at-i = c .before .before in
+    let at-i = c .before .before .before in
     let at-choice = at-i .before .before in
     let args = at-choice .before .before .before .before .args in
     let b = choice-below (args .text .now) (args .c) _ Malformed _ _ (rw (at-i .i .given .1) at (at-choice .choice .ensures)) in
@@ -32,14 +43,14 @@ cast-waveform-end c =
 
 waveform-end-requires : tie.Need-waveform-end-requires
 waveform-end-requires c κs =
-    let at-i = c .before .before in
+    let at-i = c .before .before .before in
     let at-choice = at-i .before .before in
     let start = at-choice .before .before .before .before in
     ((rw (at-i .i .given .1) at (at-choice .choice .ensures)) .ready, start .pre .1)
 
-returns : tie.Need-returns
-unfolding entries waveformKind
-returns c =
+returns-2 : tie.Need-returns-2
+unfolding entries
+returns-2 c =
     let at-choice = c .before .before .before in
     let args = at-choice .before .before .before .before .args in
     no-waveform (args .text .now) (args .c) _ _ (rw (c .before .r .given .1) at (at-choice .choice .ensures))
@@ -47,14 +58,15 @@ returns c =
 same-length : tie.Need-same-length
 same-length c = search needs
 
-returns-2 : tie.Need-returns-2
-unfolding entries waveformKind
-returns-2 c =
+returns-3 : tie.Need-returns-3
+unfolding entries
+returns-3 c =
     let at-waveform-end = c .before .before in
-    let at-i = at-waveform-end .before .before .before in
+    let at-if1 = at-waveform-end .before .before in
+    let at-i = at-if1 .before .before in
     let at-choice = at-i .before .before in
     let args = at-choice .before .before .before .before .args in
-    waveform-node (args .text .now) (args .c) _ _ (rw (at-i .i .given .1) at (at-choice .choice .ensures)) _ _ _
+    waveform-node (args .text .now) (args .c) _ _ (rw (at-i .i .given .1) at (at-choice .choice .ensures)) (at-if1 .if1 .left) _ _ _
     (at-waveform-end .waveform-end .result) (at-waveform-end .waveform-end .ensures)
 
 pub parse-waveform-spec : {M : Type 1} → statement M
@@ -65,8 +77,10 @@ parse-waveform-spec =
     choice-requires
     enum-known-r
     enum-known-i
+    place-requires
+    returns
     cast-waveform-end
     waveform-end-requires
-    returns
+    returns-2
     same-length
-    returns-2)
+    returns-3)

@@ -1,14 +1,11 @@
 -- `bodies::leaves::copy_waveform` meets its contract. Assumes nothing.
 use mathlib.Core.Path.{refl, _∙_}
-use native.Mathlib.Omega.{arith}
 use Rattle.text.specs.Bytes.{oneOf}
-use Rattle.text.specs.Words.{entries}
 use Rattle.digits.specs.Numeral.{all}
 use Rattle.ast.specs.Tree as Tree
 use Rattle.sheet.specs.Sheet.{toWaveform, ofWaveform}
 use Rattle.pieces.specs.Pieces.{wordLike}
 use Rattle.fresh.specs.Fresh.{mark, choose, waveNames, leafBody}
-use Rattle.copying.specs.Words.{allWords}
 use Rattle.copying.proofs.CopyLaws.{read-put, renamed, behind, _then_, made}
 use Rattle.bodies.specs.Body.{body}
 use borrow.Author.Needs.{needs}
@@ -18,15 +15,11 @@ use Rattle.bodies.proofs.leaves.copy_waveform.Tie as tie
 take-byte-requires : tie.Need-take-byte-requires
 take-byte-requires c κs = search needs
 
-slice-aggregate-put-choice : tie.Need-slice-aggregate-put-choice
-slice-aggregate-put-choice c = search needs
+cast-put-wave : tie.Need-cast-put-wave
+cast-put-wave c = search needs
 
-cast-put-choice : tie.Need-cast-put-choice
-cast-put-choice c = search needs
-
-put-choice-requires : tie.Need-put-choice-requires
-unfolding allWords entries wordLike all
-put-choice-requires c κs = (refl, omega (arith, c .before .before .before .take-byte .ensures .small), omega arith)
+put-wave-requires : tie.Need-put-wave-requires
+put-wave-requires c κs = search needs
 
 slice-aggregate-copy-opt-f32 : tie.Need-slice-aggregate-copy-opt-f32
 slice-aggregate-copy-opt-f32 c = search needs
@@ -98,7 +91,7 @@ same-length c =
     let c35 = at-copy-opt-f322 .before .before .before .before in
     let at-copy-opt-f32 = c35 .before in
     let c40 = at-copy-opt-f32 .before .before .before .before in
-    let at-put-choice = c40 .before in
+    let at-put-wave = c40 .before in
     at-put-mark .put-mark .kept .1 .0
     ∙ at-copy-opt-f326 .copy-opt-f326 .kept .1 .1 .1 .0
     ∙ at-copy-opt-f325 .copy-opt-f325 .kept .1 .1 .1 .0
@@ -106,10 +99,10 @@ same-length c =
     ∙ at-copy-opt-f324 .copy-opt-f324 .kept .1 .1 .1 .0
     ∙ at-copy-opt-f323 .copy-opt-f323 .kept .1 .1 .1 .0
     ∙ at-copy-opt-f322 .copy-opt-f322 .kept .1 .1 .1 .0
-    ∙ at-copy-opt-f32 .copy-opt-f32 .kept .1 .1 .1 .0 ∙ at-put-choice .put-choice .kept .1 .0
+    ∙ at-copy-opt-f32 .copy-opt-f32 .kept .1 .1 .1 .0 ∙ at-put-wave .put-wave .kept .1 .0
 
 returns : tie.Need-returns
-unfolding leafBody choose entries
+unfolding leafBody choose
 returns c =
     let at-put-mark = c .before .before in
     let at-copy-opt-f326 = at-put-mark .before .before .before .before in
@@ -126,10 +119,10 @@ returns c =
     let c35 = at-copy-opt-f322 .before .before .before .before in
     let at-copy-opt-f32 = c35 .before in
     let c40 = at-copy-opt-f32 .before .before .before .before in
-    let at-put-choice = c40 .before in
-    let at-take-byte = at-put-choice .before .before .before .before in
+    let at-put-wave = c40 .before in
+    let at-take-byte = at-put-wave .before .before .before in
     λ t. made toWaveform ofWaveform (λ d. body t (Tree.waveform d))
-    (renamed (read-put (choose waveNames) (at-take-byte .take-byte .ensures .reads) (at-put-choice .put-choice .ensures waveNames refl)
+    (renamed (read-put (choose waveNames) (at-take-byte .take-byte .ensures .reads) (at-put-wave .put-wave .ensures)
     then at-copy-opt-f32 .copy-opt-f32 .ensures "frequency" refl
     then at-copy-opt-f322 .copy-opt-f322 .ensures "amplitude" refl
     then at-copy-opt-f323 .copy-opt-f323 .ensures "phase" refl
@@ -144,9 +137,8 @@ copy-waveform-spec =
     tie.close
     (tie.spec
     take-byte-requires
-    slice-aggregate-put-choice
-    cast-put-choice
-    put-choice-requires
+    cast-put-wave
+    put-wave-requires
     slice-aggregate-copy-opt-f32
     copy-opt-f32-requires
     slice-aggregate-copy-opt-f32-2

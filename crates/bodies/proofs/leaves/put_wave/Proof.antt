@@ -1,0 +1,58 @@
+-- `bodies::leaves::put_wave` meets its contract. Assumes nothing.
+use Rattle.pieces.specs.Pieces.{Piece}
+use mathlib.Core.List.{[], _∷_}
+use mathlib.Core.Path.{refl, ap}
+use native.Mathlib.Omega.{arith}
+use Rattle.text.specs.Words.{entries}
+use Rattle.digits.specs.Numeral.{all}
+use Rattle.pieces.specs.Pieces.{aName, wordLike}
+use Rattle.fresh.specs.Fresh.{choose, waveNames}
+use Rattle.copying.specs.Words.{allWords}
+use Rattle.copying.proofs.CopyLaws.{one-piece, called}
+use Rattle.bodies.proofs.ThenLaws.{noise-wordless}
+use borrow.Author.Needs.{needs}
+use Rattle.bodies.proofs.leaves.put_wave.Statement.{statement}
+use Rattle.bodies.proofs.leaves.put_wave.Tie as tie
+
+slice-aggregate-put-choice : tie.Need-slice-aggregate-put-choice
+slice-aggregate-put-choice c = search needs
+
+put-choice-requires : tie.Need-put-choice-requires
+unfolding allWords entries wordLike all
+put-choice-requires c κs = (refl, omega (arith, c .before .before .if1 .taken), omega arith)
+
+same-length : tie.Need-same-length
+same-length c = search needs
+
+returns : tie.Need-returns
+unfolding entries
+returns c = c .before .before .put-choice .ensures waveNames refl
+
+slice-aggregate-put-name : tie.Need-slice-aggregate-put-name
+slice-aggregate-put-name c = search needs
+
+put-name-requires : tie.Need-put-name-requires
+put-name-requires c κs = search needs
+
+same-length-2 : tie.Need-same-length-2
+same-length-2 c = search needs
+
+returns-2 : tie.Need-returns-2
+unfolding choose
+returns-2 c =
+    let at-put-name = c .before .before in
+    let at-if1 = at-put-name .before .before .before in
+    called (one-piece (aName []) (at-put-name .put-name .ensures)) (λ ps. ap (λ (x : Piece). x ∷ ps) (noise-wordless _ (at-if1 .if1 .left)))
+
+pub put-wave-spec : {M : Type 1} → statement M
+put-wave-spec =
+    tie.close
+    (tie.spec
+    slice-aggregate-put-choice
+    put-choice-requires
+    same-length
+    returns
+    slice-aggregate-put-name
+    put-name-requires
+    same-length-2
+    returns-2)

@@ -1,0 +1,356 @@
+-- Laws of the converter, 02 (h), for every text and every lent sheet. Assumes nothing.
+use Prim.Native.Nat.{ℕ, zero, suc, _<_}
+use mathlib.Core.Bool.{Bool, true, false, _&&_, cond}
+use mathlib.Core.List.{List, [], _∷_, _++_, map, map-append}
+use mathlib.Core.Logic.{_⊎_, inl, inr}
+use mathlib.Core.Option.{Option, none, some}
+use mathlib.Core.Path.{_≡_, refl, sym, _∙_, ap, subst⁻¹}
+use native.Mathlib.Omega.{arith}
+use borrow.Author.Tests.{eqb-true}
+use lib.Dec.{eqb, ltb}
+use lib.ListN.{length, getD, set}
+use Rattle.text.specs.Limits.{textLimit}
+use Rattle.error.specs.declared.Refusal.{Refusal}
+use Rattle.error.specs.declared.Refusal.the-variants.{TextTooLong}
+use Rattle.error.specs.declared.CheckAnswer.{CheckAnswer}
+use Rattle.error.specs.declared.CheckAnswer.the-variants.{Accepted, Refused}
+use Rattle.error.specs.Answer.{checkValues}
+use Rattle.codec.specs.Codec.{big, opt, eachOut}
+use Rattle.codec.proofs.Laws.{Small}
+use Rattle.ast.specs.Tree as tree
+use Rattle.ast.specs.Tree.{Nodes, KeyframeTime, Leaf, Container, leaf, box, single, holding, width}
+use Rattle.sheet.specs.Sheet.{word, patternForm, Forest, encode, decode}
+use Rattle.sheet.specs.Records.{recordOf, recordsOf, allRecords}
+use Rattle.sheet.specs.Opening.{foreignFrom, Opened, opened, shut, decoded, unlessForeign, opening}
+use Rattle.sheet.proofs.Laws as sheet-laws
+use Rattle.sheet.proofs.Laws.{nodeL, innerL, OkNodes, Fits, decodes}
+use Rattle.sheet.proofs.Flat.{concat, inside, sheet-flat}
+use Rattle.opening.specs.declared.Opening.the-variants.{Open, Shut}
+use Rattle.opening.specs.Means.{answerOf}
+use Rattle.opening.proofs.OpenLaws.{the-tree, the-refusal}
+use Rattle.convert.specs.Convert.{waveformKind, triangle, noise, waveAt, holdsNoise}
+use Rattle.convert.specs.Convert.{convertedRecord, convertedSheet, convertOpened, converting}
+use Rattle.convert.specs.Triangled.{triangledKind, triangledLeaf, triangled}
+use Rattle.convert.specs.Means.{Converts, IsSheet}
+use Rattle.convert.proofs.WalkLaws.{head-stays}
+
+-- ---- each byte
+
+-- a byte is as it was, or it was noise and is triangle
+abbrev pub Kept : ℕ → ℕ → Type 0
+Kept was now = (now ≡ was) ⊎ ((was ≡ noise) × (now ≡ triangle))
+
+-- so each of them, and there are as many
+abbrev AllKept : List ℕ → List ℕ → Type 0
+AllKept [] [] = Unit {0}
+AllKept [] (c ∷ cs) = ⊥
+AllKept (b ∷ bs) [] = ⊥
+AllKept (b ∷ bs) (c ∷ cs) = Kept b c × AllKept bs cs
+
+kept-same : (bs : List ℕ) → AllKept bs bs
+kept-same [] = tt
+kept-same (b ∷ bs) = (inl refl, kept-same bs)
+
+kept-append : (xs ys cs ds : List ℕ) → AllKept xs ys → AllKept cs ds → AllKept (xs ++ cs) (ys ++ ds)
+kept-append [] [] cs ds h g = g
+kept-append [] (b ∷ ys) cs ds h g = absurd h
+kept-append (a ∷ xs) [] cs ds h g = absurd h
+kept-append (a ∷ xs) (b ∷ ys) cs ds h g = (h .0, kept-append xs ys cs ds (h .1) g)
+
+kept-set : (bs : List ℕ) (i : ℕ) → getD bs i 0 ≡ noise → AllKept bs (set bs i triangle)
+kept-set [] i e = tt
+kept-set (b ∷ bs) zero e = (inr (e, refl), kept-same bs)
+kept-set (b ∷ bs) (suc i) e = (inl refl, kept-set bs i e)
+
+kept-record : (r : List ℕ) → AllKept r (convertedRecord r)
+unfolding convertedRecord holdsNoise
+kept-record r = go (eqb (getD r 0 0) waveformKind) (eqb (getD r waveAt 0) noise) refl
+  where
+    go : (a b : Bool) → eqb (getD r waveAt 0) noise ≡ b → AllKept r (cond (a && b) (set r waveAt triangle) r)
+    go true true e = kept-set r waveAt (eqb-true (getD r waveAt 0) noise e)
+    go true false e = kept-same r
+    go false b e = kept-same r
+
+kept-records : (rs : List (List ℕ)) → AllKept (concat rs) (eachOut convertedRecord rs)
+kept-records [] = tt
+kept-records (r ∷ rs) = kept-append r (convertedRecord r) (concat rs) (eachOut convertedRecord rs) (kept-record r) (kept-records rs)
+
+kept-length : (xs ys : List ℕ) → AllKept xs ys → length ys ≡ length xs
+kept-length [] [] h = refl
+kept-length [] (b ∷ ys) h = absurd h
+kept-length (a ∷ xs) [] h = absurd h
+kept-length (a ∷ xs) (b ∷ ys) h = ap suc (kept-length xs ys (h .1))
+
+kept-at : (xs ys : List ℕ) → AllKept xs ys → (i : ℕ) → Kept (getD xs i 0) (getD ys i 0)
+kept-at [] [] h i = inl refl
+kept-at [] (b ∷ ys) h i = absurd h
+kept-at (a ∷ xs) [] h i = absurd h
+kept-at (a ∷ xs) (b ∷ ys) h zero = h .0
+kept-at (a ∷ xs) (b ∷ ys) h (suc i) = kept-at xs ys (h .1) i
+
+-- ---- the tree with triangle
+
+-- as many nodes beside each other
+pub same-width : (ns : Forest) → width (triangled ns) ≡ width ns
+unfolding triangled
+same-width Nodes.none = refl
+same-width (leaf p l rest) = ap suc (same-width rest)
+same-width (box p k ns rest) = ap suc (same-width rest)
+
+-- twice is once
+triangled-kind : (k : ℕ) → triangledKind (triangledKind k) ≡ triangledKind k
+triangled-kind k = go (eqb k noise) refl
+  where
+    go : (b : Bool) → eqb k noise ≡ b → triangledKind (cond b triangle k) ≡ cond b triangle k
+    go true e = refl
+    go false e = rw e refl
+
+triangled-leaf : (l : Leaf KeyframeTime) → triangledLeaf (triangledLeaf l) ≡ triangledLeaf l
+triangled-leaf (tree.tween x) = refl
+triangled-leaf (tree.spring x) = refl
+triangled-leaf (tree.keyframes x) = refl
+triangled-leaf (tree.path x) = refl
+triangled-leaf (tree.morph x) = refl
+triangled-leaf (tree.draw x) = refl
+triangled-leaf (tree.color x) = refl
+triangled-leaf (tree.waveform x) =
+    ap (λ (k : ℕ). tree.waveform (record {
+      kind = k;
+      frequency = x .frequency;
+      amplitude = x .amplitude;
+      phase = x .phase;
+      dutyCycle = x .dutyCycle;
+      seed = x .seed;
+      smoothness = x .smoothness;
+      duration = x .duration;
+    })) (triangled-kind (x .kind))
+triangled-leaf (tree.preset x) = refl
+triangled-leaf (tree.label x) = refl
+triangled-leaf (tree.at x) = refl
+
+triangled-twice : (ns : Forest) → triangled (triangled ns) ≡ triangled ns
+unfolding triangled
+triangled-twice Nodes.none = refl
+triangled-twice (leaf p l rest) = (λ i. leaf p (triangled-leaf l i) (triangled-twice rest i))
+triangled-twice (box p k ns rest) = (λ i. box p k (triangled-twice ns i) (triangled-twice rest i))
+
+-- ---- its records are the converted ones
+
+leaf-record : (n p : ℕ) (l : Leaf KeyframeTime) → convertedRecord (recordOf n (single p l)) ≡ recordOf n (single p (triangledLeaf l))
+unfolding convertedRecord holdsNoise
+leaf-record n p (tree.tween x) = refl
+leaf-record n p (tree.spring x) = refl
+leaf-record n p (tree.keyframes x) = refl
+leaf-record n p (tree.path x) = refl
+leaf-record n p (tree.morph x) = refl
+leaf-record n p (tree.draw x) = refl
+leaf-record n p (tree.color x) = refl
+leaf-record n p (tree.waveform x) = go (eqb (x .kind) noise)
+  where
+    rest : List ℕ
+    rest =
+        opt word .write (x .frequency) ++ (opt word .write (x .amplitude)
+        ++ (opt word .write (x .phase) ++ (opt word .write (x .dutyCycle)
+        ++ (opt word .write (x .seed) ++ (opt word .write (x .smoothness) ++ opt word .write (x .duration))))))
+
+    go : (b : Bool)
+        → cond b (waveformKind ∷ big 2 .write p ++ triangle ∷ rest) (waveformKind ∷ big 2 .write p ++ x .kind ∷ rest)
+        ≡ waveformKind ∷ big 2 .write p ++ cond b triangle (x .kind) ∷ rest
+    go true = refl
+    go false = refl
+leaf-record n p (tree.preset x) = refl
+leaf-record n p (tree.label x) = refl
+leaf-record n p (tree.at x) = refl
+
+-- a container's record says no more of the nodes in it than their count
+box-record : (n p : ℕ) (k : Container) (ns ms : Forest) → width ms ≡ width ns
+    → convertedRecord (recordOf n (holding p k ns)) ≡ recordOf n (holding p k ms)
+unfolding convertedRecord holdsNoise
+box-record n p tree.sequence ns ms e = ap (λ (w : ℕ). 3 ∷ big 2 .write p ++ big 2 .write w) (sym e)
+box-record n p tree.parallel ns ms e = ap (λ (w : ℕ). 4 ∷ big 2 .write p ++ big 2 .write w) (sym e)
+box-record n p (tree.group m) ns ms e = ap (λ (w : ℕ). 5 ∷ big 2 .write p ++ (m ∷ big 2 .write w)) (sym e)
+box-record n p (tree.stagger q d) ns ms e =
+    ap (λ (w : ℕ). 6 ∷ big 2 .write p ++ (opt patternForm .write q ++ (opt word .write d ++ big 2 .write w))) (sym e)
+
+records-converted : (n : ℕ) (ns : Forest) → map convertedRecord (recordsOf n ns) ≡ recordsOf n (triangled ns)
+unfolding triangled
+records-converted n Nodes.none = refl
+records-converted n (leaf p l rest) = (λ i. leaf-record n p l i ∷ records-converted n rest i)
+records-converted n (box p k ns rest) =
+    ap (λ (rs : List (List ℕ)). convertedRecord (recordOf n (holding p k ns)) ∷ rs)
+    (map-append convertedRecord (recordsOf n ns) (recordsOf n rest))
+    ∙ (λ i. box-record n p k ns (triangled ns) (same-width ns) i ∷ records-converted n ns i ++ records-converted n rest i)
+
+each-out : (rs : List (List ℕ)) → eachOut convertedRecord rs ≡ concat (map convertedRecord rs)
+each-out [] = refl
+each-out (r ∷ rs) = ap (λ (l : List ℕ). convertedRecord r ++ l) (each-out rs)
+
+-- the converted sheet is that of the tree with triangle
+sheet-converted : (n : ℕ) (ns : Forest) → convertedSheet n ns ≡ concat (allRecords n (triangled ns))
+unfolding convertedSheet allRecords
+sheet-converted n ns =
+    each-out (allRecords n ns)
+    ∙ (λ i. (head-stays (width ns) ∙ ap (big 2 .write) (sym (same-width ns))) i ++ concat (records-converted n ns i))
+
+-- ---- which is within the limits
+
+kind-below : (k : ℕ) → k < 5 → triangledKind k < 5
+kind-below k h = go (eqb k noise)
+  where
+    go : (b : Bool) → cond b triangle k < 5
+    go true = omega arith
+    go false = h
+
+leaf-fine : (n d p : ℕ) (l : Leaf KeyframeTime) → nodeL n (innerL n d) .ok (single p l)
+    → nodeL n (innerL n d) .ok (single p (triangledLeaf l))
+leaf-fine n d p (tree.tween x) h = h
+leaf-fine n d p (tree.spring x) h = h
+leaf-fine n d p (tree.keyframes x) h = h
+leaf-fine n d p (tree.path x) h = h
+leaf-fine n d p (tree.morph x) h = h
+leaf-fine n d p (tree.draw x) h = h
+leaf-fine n d p (tree.color x) h = h
+leaf-fine n d p (tree.waveform x) h = (h .0, (kind-below (x .kind) (h .1 .0), h .1 .1))
+leaf-fine n d p (tree.preset x) h = h
+leaf-fine n d p (tree.label x) h = h
+leaf-fine n d p (tree.at x) h = h
+
+box-fine : (n d p : ℕ) (k : Container) (ns ms : Forest) → nodeL n (innerL n d) .ok (holding p k ns) → innerL n d .ok ms
+    → nodeL n (innerL n d) .ok (holding p k ms)
+box-fine n d p tree.sequence ns ms h g = (h .0, g)
+box-fine n d p tree.parallel ns ms h g = (h .0, g)
+box-fine n d p (tree.group m) ns ms h g = (h .0, (h .1 .0, g))
+box-fine n d p (tree.stagger q e) ns ms h g = (h .0, (h .1 .0, (h .1 .1 .0, g)))
+
+nodes-fine : (n d : ℕ) (ns : Forest) → OkNodes n (innerL n d) ns → OkNodes n (innerL n d) (triangled ns)
+unfolding triangled
+nodes-fine n d Nodes.none h = tt
+nodes-fine n d (leaf p l rest) h = (leaf-fine n d p l (h .0), nodes-fine n d rest (h .1))
+nodes-fine n zero (box p k ns rest) h = absurd (inside n 0 p k ns (h .0))
+nodes-fine n (suc d) (box p k ns rest) h =
+    let g = inside n (suc d) p k ns (h .0) in (
+      box-fine n (suc d) p k ns (triangled ns) (h .0) (subst⁻¹ (Small 2) (same-width ns) (g .0), nodes-fine n d ns (g .1)),
+      nodes-fine n (suc d) rest (h .1),
+    )
+
+fits-triangled : (n : ℕ) (ns : Forest) → Fits n ns → Fits n (triangled ns)
+unfolding Fits
+fits-triangled n ns h = (subst⁻¹ (Small 2) (same-width ns) (h .0), nodes-fine n 16 ns (h .1))
+
+-- ---- an opened sheet
+
+-- a text that is not refused
+opened-text : (t s : List ℕ) (ns : Forest) → opening t s ≡ opened ns → (x : List ℕ) → opening t x ≡ decoded (decode (length t) x)
+unfolding opening
+opened-text t s ns e x = long (ltb textLimit (length t)) refl e
+  where
+    no : {r : Refusal} {p : ℕ} {A : Type 0} → shut r p ≡ opened ns → A
+    no q = let z : _≡_ {A = ℕ} 0 1 = cc in absurd (omega arith)
+
+    foreign : (f : Option ℕ) → foreignFrom 0 t ≡ f → ltb textLimit (length t) ≡ false
+        → unlessForeign f (decoded (decode (length t) s)) ≡ opened ns
+        → cond (ltb textLimit (length t)) (shut TextTooLong 0) (unlessForeign (foreignFrom 0 t) (decoded (decode (length t) x)))
+        ≡ decoded (decode (length t) x)
+    foreign none f l q = rw (l, f) refl
+    foreign (some i) f l q = no q
+
+    long : (b : Bool) → ltb textLimit (length t) ≡ b
+        → cond b (shut TextTooLong 0) (unlessForeign (foreignFrom 0 t) (decoded (decode (length t) s))) ≡ opened ns
+        → cond (ltb textLimit (length t)) (shut TextTooLong 0) (unlessForeign (foreignFrom 0 t) (decoded (decode (length t) x)))
+        ≡ decoded (decode (length t) x)
+    long true l q = no q
+    long false l q = foreign (foreignFrom 0 t) refl l q
+
+decoded-opened : (o : Option Forest) (ns : Forest) → decoded o ≡ opened ns → o ≡ some ns
+decoded-opened none ns e = let z : _≡_ {A = ℕ} 0 1 = cc in absurd (omega arith)
+decoded-opened (some ms) ns e = let z : ms ≡ ns = cc in ap some z
+
+module _ (t s : List ℕ) (ns : Forest) (o : opening t s ≡ opened ns) where
+  holds-tree : decode (length t) s ≡ some ns
+  holds-tree = decoded-opened (decode (length t) s) ns (sym (opened-text t s ns o s) ∙ o)
+
+  -- what the converter leaves
+  pub leaves : converting t s ≡ (Accepted, convertedSheet (length t) ns)
+  unfolding converting
+  leaves = ap (convertOpened (length t) s) o
+
+  within : sheet-laws.Decoded (length t) s ns
+  within = sheet-laws.decoded (length t) s ns holds-tree
+
+  is-records : s ≡ concat (allRecords (length t) ns)
+  is-records = within .encodes ∙ sheet-flat (length t) ns (within .fits)
+
+  sheet-kept : AllKept s (converting t s .1)
+  unfolding convertedSheet
+  sheet-kept =
+      rw leaves (subst⁻¹ (λ (l : List ℕ). AllKept l (convertedSheet (length t) ns)) is-records (kept-records (allRecords (length t) ns)))
+
+  -- "one that has triangle in its place": the sheet of the tree with triangle
+  pub encodes-triangled : converting t s .1 ≡ encode (length t) (triangled ns)
+  encodes-triangled =
+      ap (λ (x : CheckAnswer × List ℕ). x .1) leaves ∙ sheet-converted (length t) ns
+      ∙ sym (sheet-flat (length t) (triangled ns) (fits-triangled (length t) ns (within .fits)))
+
+  pub decodes-triangled : decode (length t) (converting t s .1) ≡ some (triangled ns)
+  decodes-triangled =
+      ap (decode (length t)) encodes-triangled
+      ∙ decodes (length t) (triangled ns) (fits-triangled (length t) ns (within .fits))
+      (omega (arith, ap length encodes-triangled, kept-length s (converting t s .1) sheet-kept, within .short))
+
+  pub opens-triangled : opening t (converting t s .1) ≡ opened (triangled ns)
+  opens-triangled = opened-text t s ns o (converting t s .1) ∙ ap decoded decodes-triangled
+
+-- ---- for every text and every lent sheet
+
+module _ (t s : List ℕ) where
+  -- a refused sheet is as it was
+  pub refused-stays : {r : Refusal} {p : ℕ} → opening t s ≡ shut r p → converting t s ≡ (Refused r p, s)
+  unfolding converting
+  refused-stays e = ap (convertOpened (length t) s) e
+
+  bytes-kept : AllKept s (converting t s .1)
+  bytes-kept = go (opening t s) refl
+    where
+      go : (o : Opened) → opening t s ≡ o → AllKept s (converting t s .1)
+      go (shut r p) e = rw (refused-stays e) (kept-same s)
+      go (opened ns) e = sheet-kept t s ns e
+
+  -- "every other byte equal": as many bytes
+  pub as-long : length (converting t s .1) ≡ length s
+  as-long = kept-length s (converting t s .1) bytes-kept
+
+  -- and each is as it was, or was noise and is triangle
+  pub each-byte : (i : ℕ) → Kept (getD s i 0) (getD (converting t s .1) i 0)
+  each-byte i = kept-at s (converting t s .1) bytes-kept i
+
+  -- "Converting twice equals converting once"
+  pub twice : converting t (converting t s .1) ≡ converting t s
+  twice = go (opening t s) refl
+    where
+      go : (o : Opened) → opening t s ≡ o → converting t (converting t s .1) ≡ converting t s
+      go (shut r p) e = ap (λ (x : CheckAnswer × List ℕ). converting t (x .1)) (refused-stays e)
+      go (opened ns) e =
+          let n = length t in
+          leaves t (converting t s .1) (triangled ns) (opens-triangled t s ns e)
+          ∙ ap (λ (l : List ℕ). (Accepted, l))
+          (sheet-converted n (triangled ns)
+          ∙ ap (λ (ms : Forest). concat (allRecords n ms)) (triangled-twice ns)
+          ∙ sym (sheet-converted n ns))
+          ∙ sym (leaves t s ns e)
+
+-- ---- the operation's ways out
+
+module _ (t s : List ℕ) where
+  pub is-refused : {r : Refusal} {p : ℕ} → Shut r p ≡ answerOf (opening t s) → (Refused r p, s) ≡ converting t s
+  is-refused e = sym (refused-stays t s (the-refusal (opening t s) e))
+
+  pub is-sheet : Open ≡ answerOf (opening t s) → IsSheet (length t) s
+  is-sheet e = let o = the-tree t s e in record { tree = o .nodes; decodes = o .decodes }
+
+  pub is-converted : {after : List ℕ} → Open ≡ answerOf (opening t s) → Converts (length t) s after → (Accepted, after) ≡ converting t s
+  is-converted e h =
+      let o = the-tree t s e in
+      ap (λ (l : List ℕ). (Accepted, l)) (h (o .nodes) (o .decodes)) ∙ sym (leaves t s (o .nodes) (o .opens))
+
+pub with-values : {x y : CheckAnswer × List ℕ} → x ≡ y → (x ≡ y) × (checkValues (x .0) ≡ checkValues (y .0))
+with-values e = (e, ap (λ (p : CheckAnswer × List ℕ). checkValues (p .0)) e)

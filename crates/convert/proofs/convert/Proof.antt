@@ -1,0 +1,52 @@
+-- `convert::convert` meets its contract: what is shut is refused so, and an open sheet is converted. Assumes nothing.
+use mathlib.Core.Path.{sym, _∙_}
+use borrow.Author.Needs.{needs}
+use Rattle.convert.proofs.ConvertLaws.{is-refused, is-sheet, is-converted, with-values}
+use Rattle.convert.proofs.convert.Statement.{statement}
+use Rattle.convert.proofs.convert.Tie as tie
+
+open-sheet-requires : tie.Need-open-sheet-requires
+open-sheet-requires c κs = search needs
+
+enum-known-refusal : tie.Need-enum-known-refusal
+enum-known-refusal c = search needs
+
+same-length : tie.Need-same-length
+same-length c = search needs
+
+returns : tie.Need-returns
+returns c =
+    let at-refusal = c .before in
+    with-values (is-refused _ _ (sym (at-refusal .refusal .given .1) ∙ at-refusal .before .before .open-sheet .ensures))
+
+enum-told : tie.Need-enum-told
+enum-told c = search needs
+
+convert-records-requires : tie.Need-convert-records-requires
+convert-records-requires c κs =
+    let told = c .before in
+    is-sheet _ _ (sym (told .enum-told .given .1) ∙ told .before .before .open-sheet .ensures)
+
+same-length-2 : tie.Need-same-length-2
+same-length-2 c = search needs
+
+returns-2 : tie.Need-returns-2
+returns-2 c =
+    let at-convert-records = c .before .before in
+    let told = at-convert-records .before .before in
+    let at-open-sheet = told .before .before in
+    with-values (is-converted _ _ (sym (told .enum-told .given .1) ∙ at-open-sheet .open-sheet .ensures)
+    (at-convert-records .convert-records .ensures))
+
+pub convert-spec : {M : Type 1} → statement M
+convert-spec =
+    tie.close
+    (tie.spec
+    open-sheet-requires
+    enum-known-refusal
+    same-length
+    returns
+    enum-told
+    convert-records-requires
+    same-length-2
+    returns-2)

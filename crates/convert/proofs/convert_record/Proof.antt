@@ -1,0 +1,53 @@
+-- `convert::convert_record` meets its contract: what is noise is overwritten, and the record is passed. Assumes nothing.
+use mathlib.Core.Path.{sym, _∙_}
+use borrow.Author.Needs.{needs}
+use Rattle.convert.proofs.WalkLaws.{overwritten, as-it-was}
+use Rattle.convert.proofs.convert_record.Statement.{statement}
+use Rattle.convert.proofs.convert_record.Tie as tie
+
+take-record-requires : tie.Need-take-record-requires
+take-record-requires c κs = search needs
+
+holds-noise-requires : tie.Need-holds-noise-requires
+holds-noise-requires c κs = search needs
+
+add-sheet : tie.Need-add-sheet
+add-sheet c = search needs
+
+slice-write-sheet : tie.Need-slice-write-sheet
+slice-write-sheet c = search needs
+
+same-length : tie.Need-same-length
+same-length c = search needs
+
+returns : tie.Need-returns
+returns c =
+    let at-take-record = c .before .before .before in
+    let start = at-take-record .before .before .before in (
+      record { kind = _; number = _; entries = _; reads = at-take-record .take-record .ensures },
+      overwritten (start .args .sheet .now) (start .args .at) (sym (c .before .holds-noise .ensures) ∙ c .if1 .taken),
+    )
+
+same-length-2 : tie.Need-same-length-2
+same-length-2 c = search needs
+
+returns-2 : tie.Need-returns-2
+returns-2 c =
+    let at-take-record = c .before .before .before in
+    let start = at-take-record .before .before .before in (
+      record { kind = _; number = _; entries = _; reads = at-take-record .take-record .ensures },
+      as-it-was (start .args .sheet .now) (start .args .at) (sym (c .before .holds-noise .ensures) ∙ c .if1 .left),
+    )
+
+pub convert-record-spec : {M : Type 1} → statement M
+convert-record-spec =
+    tie.close
+    (tie.spec
+    take-record-requires
+    holds-noise-requires
+    add-sheet
+    slice-write-sheet
+    same-length
+    returns
+    same-length-2
+    returns-2)

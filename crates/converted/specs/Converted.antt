@@ -1,0 +1,17 @@
+-- 02 (h), the law on checking a converted sheet. Assumes nothing.
+use Prim.Native.Nat.{ℕ}
+use mathlib.Core.Bool.{true}
+use mathlib.Core.List.{List}
+use mathlib.Core.Path.{_≡_}
+use Rattle.sheet.specs.Sheet.{Forest}
+use Rattle.sheet.specs.Opening.{opened, opening}
+use Rattle.validate.specs.Checking.{judged, isList, checking}
+use Rattle.convert.specs.Convert.{converting}
+use Rattle.convert.specs.Triangled.{triangled}
+
+-- "Checking a converted sheet answers, under either list, as the checking rules do for the tree with triangle": ns is the tree of the sheet
+-- s that was lent, for a text that 1 and 2 do not refuse
+abbrev pub AsWithTriangle : Type 0
+AsWithTriangle =
+    (list : ℕ) (t s : List ℕ) (ns : Forest) → isList list ≡ true → opening t s ≡ opened ns
+    → checking list t (converting t s .1) ≡ judged list t (triangled ns)
