@@ -21,6 +21,7 @@ import tempfile
 from collections import Counter
 
 import back_writer as writer
+from archive import CLOCK, compiled, without_archive
 from back_scripts import NAN, damaged, generated, odd_float
 from back_writer import ENUMS, GROUPS, INFINITY, LISTS, NODES, ROWS, SIGN, WIDTHS, written_bits
 
@@ -71,7 +72,8 @@ int main(void) {
 }
 """
 
-TIMER = r"""
+TIMER = (
+    r"""
 #define _POSIX_C_SOURCE 200809L
 #include <stdint.h>
 #include <stdio.h>
@@ -81,11 +83,9 @@ uint64_t strip_read(const uint8_t *, size_t, uint16_t *, size_t, uint8_t *, size
 uint64_t strip_write(const uint8_t *, size_t, const uint8_t *, size_t, uint8_t *, size_t, uint32_t);
 static uint16_t scratch[16384];
 static uint8_t text[16384], sheet[49152], out[16384];
-static double now(void) {
-    struct timespec t;
-    clock_gettime(CLOCK_MONOTONIC, &t);
-    return t.tv_sec * 1e6 + t.tv_nsec / 1e3;
-}
+"""
+    + CLOCK
+    + r"""
 int main(int argc, char **argv) {
     size_t n = fread(text, 1, sizeof text, stdin);
     double read = 1e9, write = 1e9;
@@ -103,6 +103,7 @@ int main(int argc, char **argv) {
     printf("%zu bytes, written as %u: read %.1f us, write %.1f us, ratio %.2f\n", n, (unsigned)b, read, write, write / read);
 }
 """
+)
 
 ROOM = 16640  # what the program of the stored cases can lend
 
@@ -426,13 +427,6 @@ def store():
 # ---- through an archive
 
 
-def compiled(code, archive, folder):
-    """The program of some C code over the archive."""
-    open(f"{folder}/code.c", "w").write(code)
-    subprocess.run(["cc", "-O1", "-o", f"{folder}/program", f"{folder}/code.c", archive], check=True)
-    return f"{folder}/program"
-
-
 class Library:
     """An archive's functions, which answer lines."""
 
@@ -559,11 +553,10 @@ def main():
     args = sys.argv[1:]
     if args == ["--store"]:
         return store()
-    if "--lib" not in args:
+    found = without_archive(args)
+    if found is None:
         sys.exit(__doc__)
-    at = args.index("--lib")
-    archive = args[at + 1]
-    del args[at : at + 2]
+    archive, args = found
     with tempfile.TemporaryDirectory() as folder:
         if args[0] == "--time":
             return run_time(compiled(TIMER, archive, folder), int(args[1]))

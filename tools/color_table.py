@@ -16,6 +16,8 @@ import sys
 import tempfile
 from collections import Counter
 
+from archive import CLOCK, compiled, without_archive
+
 NPM = "/usr/lib/node_modules/npm/node_modules/color-name/index.js"
 VIM = "/usr/share/vim/vim90/colors/lists/csscolors.vim"
 X11 = "/usr/share/X11/rgb.txt"  # many more names, which are no colours here
@@ -45,7 +47,8 @@ int main(void) {
 """
 
 
-TIMER = r"""
+TIMER = (
+    r"""
 #include <stdint.h>
 #include <stdio.h>
 #include <stdlib.h>
@@ -54,11 +57,9 @@ uint64_t strip_read(const uint8_t *, size_t, uint16_t *, size_t, uint8_t *, size
 uint64_t strip_check(const uint8_t *, size_t, const uint8_t *, size_t, uint32_t);
 static uint16_t scratch[16384];
 static uint8_t text[16385], sheet[49152];
-static double now(void) {
-    struct timespec t;
-    clock_gettime(CLOCK_MONOTONIC, &t);
-    return t.tv_sec * 1e6 + t.tv_nsec / 1e3;
-}
+"""
+    + CLOCK
+    + r"""
 int main(int argc, char **argv) {
     size_t n = fread(text, 1, sizeof text, stdin);
     uint64_t length = strip_read(text, n, scratch, 16384, sheet, 49152) & 0xFFFFFF;
@@ -74,6 +75,7 @@ int main(int argc, char **argv) {
     return argc < 2;
 }
 """
+)
 
 # is_named_color of presets.rs
 RUST = """black white red green blue yellow cyan magenta gray grey orange purple pink brown lime teal navy maroon olive silver aqua
@@ -145,10 +147,9 @@ def strings(names, count, pick):
 
 def answers(archive, asked):
     with tempfile.TemporaryDirectory() as folder:
-        open(f"{folder}/code.c", "w").write(ANSWERER)
-        subprocess.run(["cc", "-O1", "-o", f"{folder}/program", f"{folder}/code.c", archive], check=True)
+        program = compiled(ANSWERER, archive, folder)
         lines = "".join(string.encode().hex() + "\n" for string in asked)
-        done = subprocess.run([f"{folder}/program"], input=lines, capture_output=True, text=True, check=True)
+        done = subprocess.run([program], input=lines, capture_output=True, text=True, check=True)
     return [int(line, 16) for line in done.stdout.split()]
 
 
@@ -161,22 +162,19 @@ def timed(archive, rounds):
     fade = "".join(f'color c: "{a}" => "{b}" duration: 1;\n' for a, b in zip(RUST, RUST[1:] + RUST[:1]))
     scripts["a fade through the Rust's names"] = fade.encode()
     with tempfile.TemporaryDirectory() as folder:
-        open(f"{folder}/code.c", "w").write(TIMER)
-        subprocess.run(["cc", "-O1", "-o", f"{folder}/program", f"{folder}/code.c", archive], check=True)
+        program = compiled(TIMER, archive, folder)
         for name, script in scripts.items():
-            done = subprocess.run([f"{folder}/program", rounds], input=repeated(script), capture_output=True, check=True)
+            done = subprocess.run([program, rounds], input=repeated(script), capture_output=True, check=True)
             print(f"{name}: {done.stdout.decode().strip()}")
 
 
 def main():
-    args = sys.argv[1:]
-    if len(args) == 4 and args[0] == "--time" and args[2] == "--lib":
-        return timed(args[3], args[1])
-    if "--lib" not in args or len(args) != 4:
+    found = without_archive(sys.argv[1:])
+    if found is None or len(found[1]) != 2:
         sys.exit(__doc__)
-    at = args.index("--lib")
-    archive = args[at + 1]
-    del args[at : at + 2]
+    archive, args = found
+    if args[0] == "--time":
+        return timed(archive, args[1])
     names = tables()
     asked = list(strings(names, int(args[0]), random.Random(int(args[1]))))
     got = answers(archive, asked)

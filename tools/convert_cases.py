@@ -16,6 +16,7 @@ import tempfile
 from collections import Counter
 
 import back_writer as writer
+from archive import compiled, without_archive
 from back_scripts import damaged, generated
 
 TRIANGLE, NOISE = 3, 4
@@ -238,9 +239,7 @@ class Library:
     """An archive's functions, which answer lines."""
 
     def __init__(self, archive, folder):
-        self.program = f"{folder}/program"
-        open(f"{folder}/code.c", "w").write(ANSWERER)
-        subprocess.run(["cc", "-O1", "-o", self.program, f"{folder}/code.c", archive], check=True)
+        self.program = compiled(ANSWERER, archive, folder)
 
     def answer(self, lines):
         done = subprocess.run([self.program], input="".join(lines), capture_output=True, text=True, check=True)
@@ -336,11 +335,10 @@ def main():
     args = sys.argv[1:]
     if args == ["--store"]:
         return store()
-    if "--lib" not in args:
+    found = without_archive(args)
+    if found is None:
         sys.exit(__doc__)
-    at = args.index("--lib")
-    archive = args[at + 1]
-    del args[at : at + 2]
+    archive, args = found
     with tempfile.TemporaryDirectory() as folder:
         library = Library(archive, folder)
         if args == ["--stored"]:
