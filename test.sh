@@ -1,7 +1,16 @@
 #!/bin/sh
-# The tests: the layout of every file, then every crate proved from nothing, every must-fail edit refused and every
-# program's output compared. Its last line is rt ci's own, 'N passed, M failed'.
+# The tests: the names that the documents cite, the layout of every file, then every crate proved from nothing, every must-fail
+# edit refused and every program's output compared, and the bindings on the archive that was proved. Its last line is rt ci's own,
+# 'N passed, M failed'. Three checks at a time, unless RT_JOBS says otherwise.
 set -eu
 cd "$(dirname "$0")"
+RT_JOBS=${RT_JOBS:-3}
+export RT_JOBS
+python3 tools/names.py
 rt fmt --check
-rt ci
+room=$(mktemp -d)
+trap 'rm -rf "$room"' EXIT
+{ rt ci 2>&1 && touch "$room/passed"; } | tee "$room/log"
+[ -e "$room/passed" ]
+bindings/test.sh
+tail -n 1 "$room/log"

@@ -1,23 +1,23 @@
 #!/bin/sh
-# Compares the answers of target/bin/script_cases with the oracle's, and prints the differences. Those with the same two refusals
+# Compares the answers of `target/bin/cases script` with the oracle's, and prints the differences. Those with the same two refusals
 # (or accept) are one sort, of which it prints how many there are and the shortest text, made shorter as long as it still
 # differs so.
-# usage: oracle/compare-scripts.sh [-x WORDS] [TEXTS ANSWERS]   after oracle/build.sh and `rt check script_cases`
+# usage: oracle/compare-scripts.sh [-x WORDS] [TEXTS ANSWERS]   after oracle/build.sh and `rt check cases`
 # TEXTS and ANSWERS are the stored cases if left out. Texts in which one of WORDS stands are left out.
 set -eu
 here=$(cd "$(dirname "$0")" && pwd)
 oracle=$here/../target/oracle/places/release/oracle
-program=$here/../target/bin/script_cases
-crate=$here/../crates/script_cases
+program=$here/../target/bin/cases
+crate=$here/../crates/cases
 words=
 if [ "${1:-}" = -x ]; then
     words=$2
     shift 2
 fi
-texts=${1:-$crate/stdin}
-answers=${2:-$crate/stdout}
 work=$(mktemp -d)
 trap 'rm -rf "$work"' EXIT
+texts=${1:-$crate/data/script/cases}
+answers=${2:-$work/stored}
 . "$here/hex.sh"
 
 # without: of lines TEXT TAB NUMBER, the numbers of those with none of the words in it.
@@ -30,7 +30,7 @@ without() {
 
 # differing TEXTS ANSWERS: lines SORT TAB TEXT TAB ANSWER TAB THE PROGRAM'S where these differ.
 differing() {
-    "$program" < "$1" | tr '\t' ' ' | paste "$1" "$2" - | awk -F'\t' -v OFS='\t' '
+    "$program" script < "$1" | tr '\t' ' ' | paste "$1" "$2" - | awk -F'\t' -v OFS='\t' '
         function sort(answer, word) { split(answer, word, " "); return word[1] == "accept" ? "accept, " word[4] " " word[5] : word[1] " " word[2] }
         $2 != $3 { print sort($2) ", not " sort($3), $0 }'
 }
@@ -55,6 +55,7 @@ shrink() {
     echo "$line"
 }
 
+[ $# -gt 1 ] || (cd "$here/.." && python3 tools/stored.py answers script) > "$answers"
 # The verdict stands behind a blank here, so that an answer is one field.
 tr '\t' ' ' < "$answers" | paste "$texts" - > "$work/cases"
 if [ -n "$words" ]; then

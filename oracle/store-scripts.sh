@@ -1,11 +1,12 @@
 #!/bin/sh
-# Makes the cases of crates/script_cases anew: each text of answers/read.txt.gz and of answers/reference.txt once, and 01's
-# "Run only" cases. The answers are the oracle's.
+# Makes the stored cases `script` anew: each text of answers/read.txt.gz and of answers/reference.txt once, and 01's "Run only"
+# cases. The answers are the oracle's.
 # usage: oracle/store-scripts.sh   after oracle/build.sh
 set -eu
 here=$(cd "$(dirname "$0")" && pwd)
 oracle=$here/../target/oracle/places/release/oracle
-crate=$here/../crates/script_cases
+work=$(mktemp -d)
+trap 'rm -rf "$work"' EXIT
 . "$here/hex.sh"
 
 # padded SIZE TEXT: TEXT and blanks, SIZE bytes in all.
@@ -71,5 +72,7 @@ texts() {
     { bytes; containers; openers; digits; values; } | to_hex
 }
 
-texts | awk '!seen[$0]++' > "$crate/stdin"
-"$oracle" read < "$crate/stdin" > "$crate/stdout"
+texts | awk '!seen[$0]++' > "$work/texts"
+"$oracle" read < "$work/texts" > "$work/answers"
+cd "$here/.."
+python3 tools/stored.py store script "$work/texts" "$work/answers"

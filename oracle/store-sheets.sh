@@ -1,12 +1,10 @@
 #!/bin/sh
-# Makes the cases of crates/sheet_cases anew: good sheets, each kind of node first in some, and each of them with every byte
-# one more, one less, removed and doubled; then the sheets of answers/reference.txt, and 16 and 17 containers nested. Of a text
+# Makes the stored cases `sheet` anew: good sheets, each kind of node first in some, and each of them with every byte one more, one less, removed and doubled; then the sheets of answers/reference.txt, and 16 and 17 containers nested. Of a text
 # only the length matters: it is all `x`.
 # usage: oracle/store-sheets.sh   after oracle/build.sh
 set -eu
 here=$(cd "$(dirname "$0")" && pwd)
 oracle=$here/../target/oracle/places/release/oracle
-crate=$here/../crates/sheet_cases
 work=$(mktemp -d)
 trap 'rm -rf "$work"' EXIT
 . "$here/hex.sh"
@@ -53,5 +51,7 @@ nested() {
 }
 
 { good | damaged; reference; nested 16; nested 17; } > "$work/cases"
-awk -F'\t' '{ print length($1) / 2 "\t" $2 }' "$work/cases" > "$crate/stdin"
-"$oracle" records < "$work/cases" > "$crate/stdout"
+awk -F'\t' '{ print length($1) / 2 "\t" $2 }' "$work/cases" > "$work/lengths"
+"$oracle" records < "$work/cases" > "$work/answers"
+cd "$here/.."
+python3 tools/stored.py store sheet "$work/lengths" "$work/answers"

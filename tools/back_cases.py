@@ -2,9 +2,9 @@
 """Scripts written back from a text and its sheet, against tools/back_writer.py, which goes by document 02 (f). Run it from the
 repository's root.
 
-  back_cases.py --store                    write crates/back_cases/stdin and stdout: a line is a text, a sheet and the buffer's length, all
-                                           in hexadecimal; its answer `accept LENGTH SCRIPT` or `refuse R at P`, a tab, and whether the rest
-                                           of the buffer is zero
+  back_cases.py --store                    make the stored cases `back`: a line is a text, a sheet and the buffer's length, all in
+                                           hexadecimal; its answer `accept LENGTH SCRIPT` or `refuse R at P`, a tab, and whether the rest of
+                                           the buffer is zero
   back_cases.py --stored --lib A.a         run these through strip_write of an archive, and say where the answers differ
   back_cases.py N SEED --lib A.a           N generated scripts that reading and checking accept, each read, written and read again: whether
                                            the answers are right, and the trees equal but for starts; and the Rust's stored sheets, damaged
@@ -24,6 +24,7 @@ import back_writer as writer
 from archive import CLOCK, compiled, without_archive
 from back_scripts import NAN, damaged, generated, odd_float
 from back_writer import ENUMS, GROUPS, INFINITY, LISTS, NODES, ROWS, SIGN, WIDTHS, written_bits
+from stored import store, stored_answers, stored_cases
 
 ANSWERER = r"""
 #include <stdint.h>
@@ -369,14 +370,11 @@ def nested(depth):
     return Pair(nodes).case()
 
 
-def lines(name):
-    return [line.rstrip("\n").split("\t") for line in open(f"crates/{name}")]
-
-
 def checked():
     """Cases of the Rust's stored verdicts, some of each number, which writing refuses as checking does."""
     seen = Counter()
-    for (text, sheet), (verdict,) in zip(lines("check_cases/stdin"), lines("check_cases/stdout")):
+    for case, verdict in zip(stored_cases("check"), stored_answers("check")):
+        text, sheet = case.split("\t")
         number = verdict.split(" at ")[0]
         if verdict != "accept" and len(text) + len(sheet) <= 300 and seen[number] < 4:
             seen[number] += 1
@@ -387,20 +385,16 @@ def checked():
 
 def accepted():
     """The texts of the Rust's stored answers which reading and checking accept, each with the Rust's sheet."""
-    for (text,), answer in zip(lines("script_cases/stdin"), lines("script_cases/stdout")):
-        if answer[-1] == "accept":
-            yield bytes.fromhex(text), bytes.fromhex(answer[0].split()[-1]), ROOM
+    for text, answer in zip(stored_cases("script"), stored_answers("script")):
+        if answer.endswith("\taccept"):
+            yield bytes.fromhex(text), bytes.fromhex(answer.split("\t")[0].split()[-1]), ROOM
 
 
 def stored():
-    """The cases of the gate: at most 65,536 bytes of input, and 2,048 bytes a text or a sheet."""
+    """The cases of the gate. The last two are a text that is too long, and one of the longest size."""
     cases = [*each_field(), *each_value_spoiled(), *numbers(), *causes(), *rooms(), *retired(), nested(16), nested(17), *checked()]
     cases += [case for case in accepted() if len(case[0]) + len(case[1]) < 400][::15]
-    return list(dict.fromkeys(cases))
-
-
-# The program answers two texts of its own behind these: one that is too long, and one of the longest size.
-LONG = [(bytes(16385), b"", 64), (bytes(16384), b"", 64)]
+    return [*dict.fromkeys(cases), (bytes(16385), b"", 64), (bytes(16384), b"", 64)]
 
 
 def asked(case):
@@ -415,12 +409,9 @@ def said(answer):
     return f"accept {len(answer)} {answer.decode()}\tzero"
 
 
-def store():
+def store_cases():
     made = stored()
-    assert sum(map(len, map(asked, made))) <= 65536 and max(max(len(text), len(sheet)) for text, sheet, _ in made) <= 2048
-    open("crates/back_cases/stdin", "w").write("".join(map(asked, made)))
-    answers = [said(writer.answer(*case)) for case in made + LONG]
-    open("crates/back_cases/stdout", "w").write("".join(answer + "\n" for answer in answers))
+    store("back", [asked(case).rstrip("\n") for case in made], [said(writer.answer(*case)) for case in made])
     print(len(made), "cases")
 
 
@@ -470,9 +461,10 @@ class Report:
 
 def run_stored(library):
     report = Report()
-    cases = [(bytes.fromhex(text), bytes.fromhex(sheet), int(room, 16)) for text, sheet, room in lines("back_cases/stdin")] + LONG
-    for case, wanted, got in zip(cases, lines("back_cases/stdout"), library.write(cases), strict=True):
-        report.compare(case, "\t".join(wanted), got)
+    rows = [line.split("\t") for line in stored_cases("back")]
+    cases = [(bytes.fromhex(text), bytes.fromhex(sheet), int(room, 16)) for text, sheet, room in rows]
+    for case, wanted, got in zip(cases, stored_answers("back"), library.write(cases), strict=True):
+        report.compare(case, wanted, got)
     report.end(f"{len(cases)} stored cases")
 
 
@@ -552,7 +544,7 @@ def run_time(program, rounds):
 def main():
     args = sys.argv[1:]
     if args == ["--store"]:
-        return store()
+        return store_cases()
     found = without_archive(args)
     if found is None:
         sys.exit(__doc__)

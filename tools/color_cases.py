@@ -1,9 +1,10 @@
 #!/usr/bin/env python3
-"""Makes crates/color_cases/stdin and stdout by the words of 02 (g): names and forms of `#` under both lists, their four bytes, and lists
-that are none. The names and values are those of tools/color_table.py. Run from the repository's root."""
+"""Makes the stored cases `color` by the words of 02 (g): names and forms of `#` under both lists, their four bytes, and lists that are
+none. The names and values are those of tools/color_table.py. Run from the repository's root."""
 import random
 
 from color_table import RUST, near, tables, wanted
+from stored import store
 
 HEX = "09afAF"
 LISTS = (0, 1, 2, 3, 4294967295)
@@ -89,8 +90,7 @@ def main():
     for string in strings(names):
         rows += [checked(names, 1, string), checked(names, 2, string), four(names, string)]
     rows += [checked(names, number, "blue", second) for number in (1, 2) for second in ("Tomato", "#12", "NAVY")]
-    open("crates/color_cases/stdin", "w").write("".join(row + "\n" for row, _ in rows))
-    open("crates/color_cases/stdout", "w").write("".join(answer + "\n" for _, answer in rows))
+    store("color", [row for row, _ in rows], [answer for _, answer in rows])
     print(f"{len(rows)} cases")
 
 

@@ -2,8 +2,8 @@
 """Sheets with noise and their converted ones, by the words of document 02 (h). The form of a sheet is tools/back_writer.py's, which goes
 by document 01. Run it from the repository's root.
 
-  convert_cases.py --store            write crates/convert_cases/stdin and stdout: a line is a text and a sheet, both in hexadecimal; its
-                                      answer `accept` or `refuse R at P`, a tab, and the sheet that is left
+  convert_cases.py --store            make the stored cases `convert`: a line is a text and a sheet, both in hexadecimal; its answer
+                                      `accept` or `refuse R at P`, a tab, and the sheet that is left
   convert_cases.py --stored --lib A.a run these through strip_convert of an archive, and say where the answers differ
   convert_cases.py N SEED --lib A.a   N generated scripts whose waveforms get kinds at will, and damaged ones, foreign bytes and texts that
                                       are too long: whether the answers and the sheets are right, whether converting again changes a byte,
@@ -18,6 +18,7 @@ from collections import Counter
 import back_writer as writer
 from archive import compiled, without_archive
 from back_scripts import damaged, generated
+from stored import store, stored_answers, stored_cases
 
 TRIANGLE, NOISE = 3, 4
 
@@ -166,19 +167,14 @@ def stored():
     # a span whose first byte is 04, right behind the start: of a label and of a preset
     long_text = TEXT * 40
     cases += [(long_text, sheet("0D" + "0000" + "04000004", "0C" + "0404" + "04040004" + NONE * 2, NOISE_WAVE))]
-    return cases
+    # a text that is too long, and one of the longest size
+    return cases + [(b" " * size, sheet(NOISE_WAVE)) for size in (16385, 16384)]
 
 
-# the two that convert_cases makes itself: what the first leaves is lent to the second
-LONG = [(b" " * 16385, sheet(NOISE_WAVE)), (b" " * 16384, sheet(NOISE_WAVE))]
-
-
-def store():
+def store_cases():
     made = stored()
-    assert sum(map(len, map(asked, made))) <= 65536 and max(max(map(len, case)) for case in made) <= 2048
-    open("crates/convert_cases/stdin", "w").write("".join(map(asked, made)))
-    open("crates/convert_cases/stdout", "w").write("".join(said(converted(*case)) + "\n" for case in made + LONG))
-    print(len(made), "cases", dict(Counter(converted(*case)[0].split(" at ")[0] for case in made + LONG)))
+    store("convert", [asked(case).rstrip("\n") for case in made], [said(converted(*case)) for case in made])
+    print(len(made), "cases", dict(Counter(converted(*case)[0].split(" at ")[0] for case in made)))
 
 
 # ---- through an archive
@@ -323,9 +319,8 @@ def run(library, count, seed):
 
 def run_stored(library):
     report = Report()
-    cases = [tuple(map(bytes.fromhex, line.rstrip("\n").split("\t"))) for line in open("crates/convert_cases/stdin")] + LONG
-    kept = [line.rstrip("\n") for line in open("crates/convert_cases/stdout")]
-    for case, wanted, got in zip(cases, kept, library.answer(map(asked, cases)), strict=True):
+    cases = [tuple(map(bytes.fromhex, line.split("\t"))) for line in stored_cases("convert")]
+    for case, wanted, got in zip(cases, stored_answers("convert"), library.answer(map(asked, cases)), strict=True):
         assert wanted == said(converted(*case))
         report.compare(case, got)
     report.end(f"{len(cases)} stored cases")
@@ -334,7 +329,7 @@ def run_stored(library):
 def main():
     args = sys.argv[1:]
     if args == ["--store"]:
-        return store()
+        return store_cases()
     found = without_archive(args)
     if found is None:
         sys.exit(__doc__)

@@ -1,8 +1,10 @@
 #!/usr/bin/env python3
-"""Makes crates/feed_cases/stdin and stdout: scripts fed one after another, and what 02 (b) says of them. The scripts are made of pieces
+"""Makes the stored cases `feed`: scripts fed one after another, and what 02 (b) says of them. The scripts are made of pieces
 whose kinds and keyframe entries are known, and the refused ones are examples of 01's table of refusals with their places, so the counts
 are those of what was written and of no sheet. Run from the repository's root."""
 import math
+
+from stored import store
 
 LIMIT = 268_431_360
 FEED, LESS_SCRATCH, LESS_SHEET, EMPTY, SET, TOTALS, MEANS = range(7)
@@ -187,10 +189,7 @@ def main():
     s.feed("")
     s.feed("")
     s.totals()
-    with open("crates/feed_cases/stdin", "w") as f:
-        f.write("\n".join(s.lines) + "\n")
-    with open("crates/feed_cases/stdout", "w") as f:
-        f.write("\n".join(s.answers) + "\n")
+    store("feed", s.lines, s.answers)
 
 
 main()

@@ -1,12 +1,14 @@
 #!/usr/bin/env python3
-"""Makes crates/line_cases/stdin and stdout: texts with sheets, good and damaged, and the lines of the records by the rules of 01 and 02 (c).
+"""Makes the stored cases `line`: texts with sheets, good and damaged, and the lines of the records by the rules of 01 and 02 (c).
 The sizes of the records are the oracle's, so oracle/build.sh goes first. Run from the repository's root."""
 import gzip, subprocess
 
+from stored import store
+
 ORACLE = "target/oracle/places/release/oracle"
-ROOM = 101  # the bytes of output that line_cases lends
+ROOM = 101  # the bytes of output that the program lends
 SHELF = [("", "0000"), ("617420302E353B", "00010E00003F00000000")]  # P1 and P2
-LONG = [(bytes(16385), b""), (bytes(16384), b"")]  # line_cases makes these two itself
+LONG = [(bytes(16385), b""), (bytes(16384), b"")]
 
 
 def sizes(cases):
@@ -62,12 +64,9 @@ def stored():
 
 
 def main():
-    cases = [(bytes.fromhex(text), bytes.fromhex(sheet)) for text, sheet in SHELF] + list(stored())
-    with open("crates/line_cases/stdin", "w") as out:
-        out.writelines(f"{text.hex().upper()}\t{sheet.hex().upper()}\n" for text, sheet in cases)
-    with open("crates/line_cases/stdout", "w") as out:
-        for (text, sheet), found in zip(cases + LONG, sizes(cases + LONG)):
-            out.writelines(f"{line}\n" for line in answer(text, sheet, found))
+    cases = [(bytes.fromhex(text), bytes.fromhex(sheet)) for text, sheet in SHELF] + list(stored()) + LONG
+    answers = [line for (text, sheet), found in zip(cases, sizes(cases)) for line in answer(text, sheet, found)]
+    store("line", [f"{text.hex()}\t{sheet.hex()}".upper() for text, sheet in cases], answers)
 
 
 if __name__ == "__main__":

@@ -4,14 +4,16 @@ A line is a script in hexadecimal, a tab, and the count, or `refused`.
 
   rounded_cases.py NUMBERS [SEED]            write cases with at least so many numbers
   rounded_cases.py NUMBERS [SEED] --lib A.a  run them through strip_read of an archive instead, and say where the counts differ
-  rounded_cases.py --store                   write crates/rounded_cases/stdin and stdout: those below, and short ones. Run it from the
-                                             repository's root
+  rounded_cases.py --store                   make the stored cases `rounded`: those below, and short ones. Run it from the repository's
+                                             root
 """
 import random
 import subprocess
 import sys
 import tempfile
 from fractions import Fraction
+
+from stored import store
 
 ANSWERER = r"""
 #include <stdint.h>
@@ -279,7 +281,7 @@ SAID = [
 
 
 def stored():
-    """The cases of the gate: at most 65,535 bytes of input, and 1,000 bytes a script."""
+    """The cases of the gate: at most 65,535 bytes of lines, and 1,000 bytes a script."""
     room = 65535
     for text, count in SAID + [(t, c) for t, c in cases(20000, 3) if len(t) <= 1000]:
         room -= 2 * len(text) + 1
@@ -305,16 +307,15 @@ def cases(numbers, seed):
             yield text, str(s.rounded)
 
 
-def store():
+def store_cases():
     made = list(stored())
-    for name, lines in (("stdin", [text.encode().hex() for text, _ in made]), ("stdout", [count for _, count in made])):
-        open(f"crates/rounded_cases/{name}", "w").write("".join(line + "\n" for line in lines))
+    store("rounded", [text.encode().hex() for text, _ in made], [count for _, count in made])
     print(len(made), "cases")
 
 
 def main():
     if sys.argv[1:] == ["--store"]:
-        return store()
+        return store_cases()
     args = [a for a in sys.argv[1:] if a != "--lib"]
     archive = args.pop() if "--lib" in sys.argv else None
     numbers, seed = int(args[0]), int(args[1]) if len(args) > 1 else 1

@@ -4,11 +4,15 @@ use std::path::Path;
 use strip::{check, color, convert, feed, line, mean, read, write, CheckAnswer, FeedAnswer, LineAnswer, Mean, MeanAnswer, ReadAnswer, Refusal, Totals};
 use strip::{RUST_COLORS, SCRATCH_WORDS, SCRIPT_LIMIT, SHEET_BYTES, TEXT_BYTES};
 
-/// What is stored for a program: its input and its output.
-fn stored(name: &str) -> (String, String) {
-    let folder = Path::new(env!("CARGO_MANIFEST_DIR")).join("../../crates").join(name);
+/// The stored cases of a kind, and their answers, which stand behind the line `== KIND`.
+fn stored(kind: &str) -> (String, String) {
+    let folder = Path::new(env!("CARGO_MANIFEST_DIR")).join("../../crates/cases");
     let file = |part: &str| std::fs::read_to_string(folder.join(part)).unwrap();
-    (file("stdin"), file("stdout"))
+    let all = file("stdout");
+    let answers = all.lines().skip_while(|line| line.strip_prefix("== ") != Some(kind)).skip(1);
+    let answers: Vec<&str> = answers.take_while(|line| !line.starts_with("== ")).collect();
+    assert!(!answers.is_empty());
+    (file(&format!("data/{kind}/cases")), answers.join("\n"))
 }
 
 fn bytes(hex: &str) -> Vec<u8> {
@@ -44,7 +48,7 @@ fn check_line(answer: CheckAnswer) -> String {
 /// Each text is read, and its sheet checked.
 #[test]
 fn scripts() {
-    let (cases, answers) = stored("script_cases");
+    let (cases, answers) = stored("script");
     let (mut scratch, mut sheet) = (vec![0; SCRATCH_WORDS], vec![0; SHEET_BYTES]);
     let mut ours = String::new();
     for case in cases.lines() {
@@ -64,7 +68,7 @@ fn scripts() {
 
 #[test]
 fn checking() {
-    let (cases, answers) = stored("check_cases");
+    let (cases, answers) = stored("check");
     let mut ours = String::new();
     for case in cases.lines() {
         let (text, sheet) = text_and_sheet(case);
@@ -76,7 +80,7 @@ fn checking() {
 /// A list, a text and a sheet, which are checked; or a string, whose four bytes are asked for.
 #[test]
 fn colours() {
-    let (cases, answers) = stored("color_cases");
+    let (cases, answers) = stored("color");
     let mut ours = String::new();
     for case in cases.lines() {
         let (list, rest) = case.split_once('\t').unwrap();
@@ -92,14 +96,12 @@ fn colours() {
     compare(&ours, &answers);
 }
 
-/// Each sheet converted in place. Behind the stored cases the program answers a waveform of noise with two long texts.
+/// Each sheet converted in place.
 #[test]
 fn converting() {
-    let (cases, answers) = stored("convert_cases");
-    let noise = bytes("00010B00000400000000000000");
-    let long = [(vec![b' '; 16_385], noise.clone()), (vec![b' '; 16_384], noise)];
+    let (cases, answers) = stored("convert");
     let mut ours = String::new();
-    for (text, mut sheet) in cases.lines().map(text_and_sheet).chain(long) {
+    for (text, mut sheet) in cases.lines().map(text_and_sheet) {
         ours += check_line(convert(&text, &mut sheet)).trim_end();
         ours += "\t";
         sheet.iter().for_each(|b| write!(ours, "{b:02x}").unwrap());
@@ -108,13 +110,12 @@ fn converting() {
     compare(&ours, &answers);
 }
 
-/// Each line of a sheet up to a refusal, with 101 bytes of output. Behind the stored cases the program answers two long texts.
+/// Each line of a sheet up to a refusal, with 101 bytes of output.
 #[test]
 fn lining() {
-    let (cases, answers) = stored("line_cases");
-    let long = [(vec![0; 16_385], vec![]), (vec![0; 16_384], vec![])];
+    let (cases, answers) = stored("line");
     let mut ours = String::new();
-    for (text, sheet) in cases.lines().map(text_and_sheet).chain(long) {
+    for (text, sheet) in cases.lines().map(text_and_sheet) {
         for ordinal in 0.. {
             let mut output = [0; 101];
             match line(&text, &sheet, ordinal, &mut output) {
@@ -129,14 +130,12 @@ fn lining() {
     compare(&ours, &answers);
 }
 
-/// Each text and sheet written back into a buffer in which something stands, and whether the rest of it is zero afterwards. Behind the
-/// stored cases the program answers two long texts.
+/// Each text and sheet written back into a buffer in which something stands, and whether the rest of it is zero afterwards.
 #[test]
 fn writing() {
-    let (cases, answers) = stored("back_cases");
-    let long = [(vec![0; 16_385], vec![], 64), (vec![0; 16_384], vec![], 64)];
+    let (cases, answers) = stored("back");
     let mut ours = String::new();
-    for (text, sheet, room) in cases.lines().map(written_case).chain(long) {
+    for (text, sheet, room) in cases.lines().map(written_case) {
         let mut out = vec![7; room];
         let mut used = 0;
         match write(&text, &sheet, &mut out, RUST_COLORS) {
@@ -162,7 +161,7 @@ fn written_case(case: &str) -> (Vec<u8>, Vec<u8>, usize) {
 /// word, and writing the totals and the means.
 #[test]
 fn feeding() {
-    let (cases, answers) = stored("feed_cases");
+    let (cases, answers) = stored("feed");
     let mut totals = Totals::default();
     let mut ours = String::new();
     for case in cases.lines().map(bytes) {
@@ -234,7 +233,7 @@ fn counted(words: &mut [u32; 60], text: &[u8], scratch: &mut [u16], sheet: &mut 
 #[test]
 fn totals_are_the_counts_of_each_script() {
     let copies: u64 = std::env::var("STRIP_COPIES").map_or(2, |n| n.parse().unwrap());
-    let texts: Vec<Vec<u8>> = stored("script_cases").0.lines().map(bytes).collect();
+    let texts: Vec<Vec<u8>> = stored("script").0.lines().map(bytes).collect();
     let (mut scratch, mut sheet) = (vec![0; SCRATCH_WORDS], vec![0; SHEET_BYTES]);
     let (mut totals, mut words) = (Totals::default(), [0; 60]);
     let mut seed = 1u64;

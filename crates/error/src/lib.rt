@@ -1,4 +1,4 @@
-// error.rs: the refusals of the rules' table, and the answers of the three operations.
+// error.rs: the refusals of the rules' table, and the answers of the operations.
 ghost use mathlib.Core.Path.{_≡_};
 ghost use Rattle.error.specs.Refusal.{numberOf};
 
@@ -83,6 +83,19 @@ pub enum CheckAnswer {
 // What lining answers: the line's length, or a refusal and its place or the ordinal.
 pub enum LineAnswer {
     Accepted { length: usize },
+    Refused { refusal: Refusal, place: usize },
+}
+
+// What feeding answers: what the script was judged, which is counted; or a refusal, and nothing is counted.
+pub enum FeedAnswer {
+    Counted { answer: CheckAnswer },
+    Refused { refusal: Refusal, place: usize },
+}
+
+// A mean: a fraction in lowest terms; nothing, where there is no script or no track; or a refusal.
+pub enum MeanAnswer {
+    Fraction { numerator: u32, denominator: u32 },
+    Nothing,
     Refused { refusal: Refusal, place: usize },
 }
 

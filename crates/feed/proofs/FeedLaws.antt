@@ -30,14 +30,14 @@ use Rattle.records.proofs.PlaceLaws.{Behind, behind-head, behind-next, behind-l
 use Rattle.parser.specs.Reading.{reading}
 use Rattle.validate.specs.Checking.{checking}
 use Rattle.totals.specs.Totals.{firstKindWord, entriesWord, figureLimit, sumOf, over, scripts, added, inWord}
-use Rattle.totals.proofs.NumberLaws.{numbered}
+use Rattle.error.proofs.NumberLaws.{numbered}
 use Rattle.totals.proofs.TotalsLaws.{length-added, word-added, added-same, added-twice, added-none, within}
 use Rattle.script.proofs.OutputLaws.{Held, held}
 use Rattle.feed.specs.Feed.{Fed, fed, readOf, whenRead, judgement, numberIn, nodesIn}
 use Rattle.feed.specs.Feed.{sheetNodes, ifAccepted, nodes, nodeFigure, full, feeding}
 use Rattle.feed.specs.Means.{Words, IsSheet, nodesAdd, judgedAdd}
-use Rattle.feed.specs.declared.FeedAnswer.{FeedAnswer}
-use Rattle.feed.specs.declared.FeedAnswer.the-variants.{Counted, Refused}
+use Rattle.error.specs.declared.FeedAnswer.{FeedAnswer}
+use Rattle.error.specs.declared.FeedAnswer.the-variants.{Counted, Refused}
 
 -- ---- what a record adds is no more than its bytes
 

@@ -16,8 +16,8 @@ use Rattle.sheet.specs.Records.{nodesOf, kindOf, entriesOf}
 use Rattle.parser.specs.Reading.{reading}
 use Rattle.validate.specs.Checking.{checking}
 use Rattle.totals.specs.Totals.{firstKindWord, entriesWord, scriptLimit, sumOf, over, scripts, added, inWord}
-use Rattle.feed.specs.declared.FeedAnswer.{FeedAnswer}
-use Rattle.feed.specs.declared.FeedAnswer.the-variants.{Counted, Refused}
+use Rattle.error.specs.declared.FeedAnswer.{FeedAnswer}
+use Rattle.error.specs.declared.FeedAnswer.the-variants.{Counted, Refused}
 
 -- what is fed: a text, and the scratch and the sheet that are lent with it; 02 (g): and the list of colours that it is checked under
 pub record Fed : Type 0 where

@@ -4,11 +4,12 @@ ghost use Rattle.totals.specs.Totals.{added};
 ghost use Rattle.error.specs.declared.CheckAnswer.the-variants as check;
 ghost use Rattle.sheet.specs.Sheet.{decode};
 ghost use Rattle.feed.specs.Feed.{fed, nodesIn, full as Feed·full, feeding};
-ghost use Rattle.feed.specs.declared.FeedAnswer.the-variants as answers;
+ghost use Rattle.error.specs.declared.FeedAnswer.the-variants as answers;
 ghost use Rattle.feed.specs.Means.{Words, IsSheet, nodesAdd, judgedAdd};
 ghost use lib.ListN.{length};
 use decode::fields::take_field;
 use error::CheckAnswer;
+use error::FeedAnswer;
 use error::Refusal;
 use records::take_record;
 use verdict::Verdict;
@@ -17,12 +18,6 @@ pub const SCRIPT_LIMIT: u64 = 4096;
 
 // The words of totals that count scripts.
 pub const NUMBER_WORDS: usize = 44;
-
-// What feeding answers: what the script was judged, which is counted; or a refusal, and nothing is counted.
-pub enum FeedAnswer {
-    Counted { answer: CheckAnswer },
-    Refused { refusal: Refusal, place: usize },
-}
 
 // Whether no script may be fed: a figure is above the limit, or 4,096 scripts are counted.
 fn full(totals: &[u32]) -> bool

@@ -26,7 +26,7 @@ use Rattle.validate.specs.Checking.{isList, checking}
 use Rattle.validate.proofs.ListLaws.{unlisted as checking-unlisted}
 use Rattle.script.proofs.OutputLaws.{Held, held}
 use Rattle.totals.specs.Totals.{sumOf, itself, addedFrom, added, inWord}
-use Rattle.totals.proofs.NumberLaws.{numbered}
+use Rattle.error.proofs.NumberLaws.{numbered}
 use Rattle.feed.specs.Feed.{Fed, readOf, whenRead, judgement, numberIn, nodesIn, sheetNodes, nodes, nodeFigure, figure}
 use Rattle.feed.specs.Feed as feed
 use Rattle.feed.specs.Means.{nodesAdd}

@@ -14,13 +14,13 @@ use Rattle.decode.proofs.ReadLaws.{le-or-lt}
 use Rattle.error.specs.declared.Refusal.the-variants.{TooManyScripts}
 use Rattle.totals.specs.Totals.{scriptLimit, figureLimit, emptyTotals, sumOf, itself, over, scripts, added}
 use Rattle.totals.specs.Mean.{gcd, fraction, nodeRecords, mean, meanOf, Lowest}
-use Rattle.totals.specs.declared.MeanAnswer.{MeanAnswer}
-use Rattle.totals.specs.declared.MeanAnswer.the-variants.{Fraction}
+use Rattle.error.specs.declared.MeanAnswer.{MeanAnswer}
+use Rattle.error.specs.declared.MeanAnswer.the-variants.{Fraction}
 use Rattle.totals.proofs.TotalsLaws.{length-added, word-added}
 use Rattle.totals.proofs.MeanLaws.{lowest-terms}
 use Rattle.feed.specs.Feed.{Fed, readOf, judgement, figure, full, feeding}
-use Rattle.feed.specs.declared.FeedAnswer.{FeedAnswer}
-use Rattle.feed.specs.declared.FeedAnswer.the-variants.{Counted, Refused}
+use Rattle.error.specs.declared.FeedAnswer.{FeedAnswer}
+use Rattle.error.specs.declared.FeedAnswer.the-variants.{Counted, Refused}
 use Rattle.morning.specs.Morning.{after, under, kindCount, entryCount, acceptCount, Figures, Morning}
 use Rattle.morning.proofs.FigureLaws.{sum-same, figure-number, figure-kind, figure-entries, figure-small, sum-added}
 use Rattle.morning.proofs.FigureLaws.{figure-in-numbers, figure-in-kinds, nodes-are}

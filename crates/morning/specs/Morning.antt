@@ -16,7 +16,7 @@ use Rattle.sheet.specs.Records.{kindOf, entriesOf}
 use Rattle.totals.specs.Totals.{scriptLimit, figureLimit, emptyTotals, sumOf}
 use Rattle.totals.specs.Mean.{nodeRecords}
 use Rattle.feed.specs.Feed.{Fed, readOf, judgement, numberIn, nodes, feeding}
-use Rattle.feed.specs.declared.FeedAnswer.the-variants.{Counted, Refused}
+use Rattle.error.specs.declared.FeedAnswer.the-variants.{Counted, Refused}
 
 -- the totals after some feeds, one after the other
 unfoldable pub after : List ℕ → List Fed → List ℕ

@@ -1,3 +1,2 @@
 pub mod TotalsLaws
-pub mod NumberLaws
 pub mod MeanLaws

@@ -13,8 +13,8 @@ use borrow.Author.Tests.{eq-eqb, ne-eqb, eqb-true, eqb-false}
 use Rattle.error.specs.declared.Refusal.the-variants.{TooManyScripts}
 use Rattle.totals.specs.Totals.{acceptedWord, firstKindWord, entriesWord, kindWords, figureLimit, over}
 use Rattle.totals.specs.Mean.{gcdBy, gcd, fraction, tracksWord, nodeRecords, meanOf, mean, Lowest}
-use Rattle.totals.specs.declared.MeanAnswer.{MeanAnswer}
-use Rattle.totals.specs.declared.MeanAnswer.the-variants.{Fraction, Nothing, Refused}
+use Rattle.error.specs.declared.MeanAnswer.{MeanAnswer}
+use Rattle.error.specs.declared.MeanAnswer.the-variants.{Fraction, Nothing, Refused}
 use Rattle.totals.proofs.TotalsLaws.{within, sum-within}
 
 -- ---- the loop

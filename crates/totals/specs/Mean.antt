@@ -8,8 +8,8 @@ use lib.Dec.{eqb}
 use lib.ListN.{getD, take, drop}
 use Rattle.error.specs.declared.Refusal.the-variants.{TooManyScripts}
 use Rattle.totals.specs.Totals.{acceptedWord, firstKindWord, entriesWord, kindWords, sumOf, itself, over}
-use Rattle.totals.specs.declared.MeanAnswer.{MeanAnswer}
-use Rattle.totals.specs.declared.MeanAnswer.the-variants.{Fraction, Nothing, Refused}
+use Rattle.error.specs.declared.MeanAnswer.{MeanAnswer}
+use Rattle.error.specs.declared.MeanAnswer.the-variants.{Fraction, Nothing, Refused}
 
 -- Euclid's algorithm, at most k divisions
 unfoldable pub gcdBy : ℕ → ℕ → ℕ → ℕ

@@ -5,6 +5,7 @@ ghost use mathlib.Core.Path.{_≡_};
 ghost use lib.ListN.{length, getD, take, drop};
 ghost use Rattle.totals.specs.Totals.{sumOf, itself, over, added, inWord};
 ghost use Rattle.totals.specs.Mean.{gcd, fraction, mean as Mean·mean};
+use error::MeanAnswer;
 use error::Refusal;
 
 pub const WORDS: usize = 60;
@@ -18,13 +19,6 @@ pub const TRACKS_WORD: usize = 46;
 pub const ENTRIES_WORD: usize = 59;
 
 pub const FIGURE_LIMIT: u32 = 268431360;
-
-// A mean: a fraction in lowest terms; nothing, where there is no script or no track; or a refusal.
-pub enum MeanAnswer {
-    Fraction { numerator: u32, denominator: u32 },
-    Nothing,
-    Refused { refusal: Refusal, place: usize },
-}
 
 // Whether a figure is above the limit.
 pub fn over_limit(words: &[u32]) -> bool

@@ -19,8 +19,8 @@ use Rattle.error.specs.Refusal.{numberOf}
 use Rattle.error.specs.declared.Refusal.the-variants.{InvalidColor}
 use Rattle.error.specs.declared.CheckAnswer.{CheckAnswer}
 use Rattle.error.specs.declared.CheckAnswer.the-variants as check
-use Rattle.strip.specs.Packed.{colorOutcome, numberIn, valueIn, byteIn}
-use Rattle.strip.proofs.PackedLaws.{refusal-number, refusal-place}
+use Rattle.packed.specs.Packed.{colorOutcome, numberIn, valueIn, byteIn}
+use Rattle.packed.proofs.PackedLaws.{refusal-number, refusal-place}
 
 -- ---- bytes
 

@@ -19,16 +19,16 @@ use Rattle.error.specs.declared.CheckAnswer.{CheckAnswer}
 use Rattle.error.specs.declared.CheckAnswer.the-variants as check
 use Rattle.error.specs.declared.LineAnswer.{LineAnswer}
 use Rattle.error.specs.declared.LineAnswer.the-variants as line
-use Rattle.strip.specs.Packed.{packedRead, packedCheck, packedLine, packedFed, numberIn}
-use Rattle.strip.specs.Packed.{valueIn, lengthIn, recordsIn, roundedIn, scriptNumberIn}
-use Rattle.strip.proofs.PackedLaws.{script-number, script-refusal, script-place}
-use Rattle.strip.proofs.PackedLaws.{refusal-number, refusal-place, sheet-number, sheet-length}
-use Rattle.strip.proofs.PackedLaws.{sheet-records, sheet-rounded, line-number, line-length}
+use Rattle.packed.specs.Packed.{packedRead, packedCheck, packedLine, packedFed, numberIn}
+use Rattle.packed.specs.Packed.{valueIn, lengthIn, recordsIn, roundedIn, scriptNumberIn}
+use Rattle.packed.proofs.PackedLaws.{script-number, script-refusal, script-place}
+use Rattle.packed.proofs.PackedLaws.{refusal-number, refusal-place, sheet-number, sheet-length}
+use Rattle.packed.proofs.PackedLaws.{sheet-records, sheet-rounded, line-number, line-length}
 use Rattle.error.specs.declared.Refusal.the-variants.{TooManyScripts}
 use Rattle.totals.specs.Totals.{added}
 use Rattle.feed.specs.Feed.{Fed, readOf, whenRead, judgement, figure, full, feeding}
-use Rattle.feed.specs.declared.FeedAnswer.{FeedAnswer}
-use Rattle.feed.specs.declared.FeedAnswer.the-variants as feed
+use Rattle.error.specs.declared.FeedAnswer.{FeedAnswer}
+use Rattle.error.specs.declared.FeedAnswer.the-variants as feed
 use Rattle.unpack.proofs.Within.{ReadWithin, read-within, CheckWithin, check-within, LineWithin, line-within, print-within}
 use Rattle.unpack.proofs.Within.{ScriptWithin, write-within, convert-within}
 

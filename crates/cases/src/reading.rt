@@ -1,0 +1,49 @@
+// The kinds `script` and `rounded`, whose lines are texts. The answer of `script` is what reading answers, its sheet, and what checking
+// answers to that (oracle/store-scripts.sh); of `rounded` how many of its numbers were rounded, or `refused` (tools/rounded_cases.py).
+use crate::answers::refuse;
+use crate::answers::say;
+use crate::answers::say_answer;
+use crate::answers::say_bytes;
+use crate::answers::say_number;
+use crate::lines;
+use crate::lines::Fields;
+use error::ReadAnswer;
+use verdict::Verdict;
+
+pub fn answer(line: &[u8], f: Fields) {
+    let mut scratch = [0u16; parser::SCRATCH_WORDS];
+    let mut sheet = [0u8; 49152];
+    match verdict::read_and_check(lines::field(line, f, 0), &mut scratch, &mut sheet, 1) {
+        Verdict::Unread { refusal, place } => refuse(refusal, place, b"\n"),
+        Verdict::Checked {
+            length,
+            records,
+            rounded: _,
+            answer,
+        } => {
+            say(b"accept ");
+            say_number(records as u64);
+            say(b" ");
+            say_bytes(text::part(&sheet, 0, length), true);
+            say(b"\t");
+            say_answer(answer, b"\n");
+        }
+    }
+}
+
+pub fn answer_rounded(line: &[u8], f: Fields) {
+    let mut scratch = [0u16; parser::SCRATCH_WORDS];
+    let mut sheet = [0u8; 49152];
+    match parser::read(lines::field(line, f, 0), &mut scratch, &mut sheet) {
+        ReadAnswer::Accepted {
+            length: _,
+            records: _,
+            rounded,
+        } => say_number(rounded as u64),
+        ReadAnswer::Refused {
+            refusal: _,
+            place: _,
+        } => say(b"refused"),
+    }
+    say(b"\n");
+}
