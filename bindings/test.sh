@@ -1,6 +1,8 @@
 #!/bin/sh
 # Builds the library and tests both of its bindings. Needs rt, cargo and a C compiler; no packages.
 set -eu
+# cargo's own folder, where the search path leaves it out
+PATH=$PATH:${CARGO_HOME:-${HOME:-/root}/.cargo}/bin
 root=$(cd "$(dirname "$0")/.." && pwd)
 out=$root/target/bindings
 cd "$root"
