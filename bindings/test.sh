@@ -26,6 +26,12 @@ one() {
     printf "$2" | "$out/example" "$1" > "$out/got"
     cmp "$out/got" "$out/wanted"
 }
+# look CHAIN NAME STORE OUTPUT: the example's output for a lookup.
+look() {
+    printf "$4" > "$out/wanted"
+    printf "$3" | "$out/example" lookup "$1" "$2" > "$out/got"
+    cmp "$out/got" "$out/wanted"
+}
 expect 'at 0.5;' '00020001FD\n00080E00003F00000000AB\naccept 1\n'
 expect '' '00020000FE\naccept 0\n'
 expect 'tween' 'refuse 6 at 5\n'
@@ -43,4 +49,11 @@ one back 'at--0.50;label "a";' 'at + 0.5 ; label "a" ;\n'
 one back 'tween' 'refuse 6 at 5\n'
 one back 'keyframes p{loop:once 5%%:[],0.50:10000000 Easing::Linear}' 'keyframes p { 5 %% : [ ] , 0.5 : 9999999.5 Easing :: Linear , loop : once } ;\n'
 one back 'preset fadein' 'refuse 24 at 1\n'
-echo "C example: 4 passed, each in two ways, 4 fed, a count of rounded numbers, 3 colours, and 5 written back"
+look 'a={at 1} b={at 2}' a 'a={ at 0 }' ' at 0 \n'
+look 'a={at 1} b={at 2}' b 'a={ at 0 }' 'at 2\n'
+look 'a={at 1} b={at 2}' c 'a={ at 0 }' 'refuse 43 at 0\n'
+look '#' a 'a={}' 'refuse 2 at 0\n'
+one order 'a={preset c} b={} c={}' '1 2 0\n'
+one order 'a={preset b} b={preset a}' 'refuse 39 at 0\n'
+one order 'a={};b={}' 'refuse 6 at 4\n'
+echo "C example: 4 passed, each in two ways, 4 fed, a count of rounded numbers, 3 colours, 5 written back, 4 looked up, and 3 listed"

@@ -2,7 +2,9 @@
  * Reads a script from standard input, checks it, and prints its lines, then `accept N`; or `refuse R at P`. With the argument `page`
  * one call does it all; with `feed` the script is fed to empty totals, and what is printed is its answer, the count of its node records
  * and the mean entries of its tracks; with `rounded` it prints how many numbers were rounded instead; with `back` a fresh script that
- * reads to the same tree; with `color` the input is one colour, and what is printed is its red, green, blue and alpha.
+ * reads to the same tree; with `color` the input is one colour, and what is printed is its red, green, blue and alpha; with `lookup`, a
+ * chain's book and a name the input is a store's book, and what is printed is the body; with `order` it is a book, and what is printed
+ * are the ordinals of its items by their calls.
  */
 #include "strip.h"
 
@@ -50,6 +52,26 @@ static void back(size_t length, size_t size) {
     printf("\n");
 }
 
+/* Prints the body of a name, from the text as the store's book or from the chain's. */
+static void lookup(size_t length, const char *chain, const char *name) {
+    const uint8_t *books[2] = {text, (const uint8_t *)chain};
+    uint64_t found = strip_lookup(text, length, books[1], strlen(chain), (const uint8_t *)name, strlen(name));
+    if (refused(found))
+        return;
+    fwrite(books[strip_body_book(found)] + strip_body_start(found), 1, strip_body_length(found), stdout);
+    printf("\n");
+}
+
+/* Prints the ordinals of the text's items. */
+static void order(size_t length) {
+    uint64_t listed = strip_order(text, length, output, STRIP_ITEM_LIMIT);
+    if (refused(listed))
+        return;
+    for (uint32_t i = 0; i < strip_value(listed); i++)
+        printf("%s%u", i ? " " : "", (unsigned)output[i]);
+    printf("\n");
+}
+
 int main(int argc, char **argv) {
     size_t length = fread(text, 1, sizeof text, stdin);
     if (ferror(stdin)) {
@@ -60,6 +82,14 @@ int main(int argc, char **argv) {
         uint64_t color = strip_color(text, length);
         if (!refused(color))
             printf("%08X\n", (unsigned)strip_value(color));
+        return 0;
+    }
+    if (argc > 3 && strcmp(argv[1], "lookup") == 0) {
+        lookup(length, argv[2], argv[3]);
+        return 0;
+    }
+    if (argc > 1 && strcmp(argv[1], "order") == 0) {
+        order(length);
         return 0;
     }
     if (argc > 1 && strcmp(argv[1], "feed") == 0) {

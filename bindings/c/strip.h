@@ -1,7 +1,8 @@
 /*
  * Motion scripts of shelf-edge strips: reading a script into a sheet of bytes, checking the sheet, lining its records in
  * hexadecimal, all of it at once on a page, writing a fresh script from text and sheet, telling the bytes of a colour, converting old
- * sheets, and counting many scripts in the totals of a morning sheet. `rt staticlib strip` writes the library, target/staticlib/libstrip.a.
+ * sheets, counting many scripts in the totals of a morning sheet, looking a name up in books of named scripts, and listing a book's items
+ * by their calls. `rt staticlib strip` writes the library, target/staticlib/libstrip.a.
  *
  * No pointer is NULL, not even where its length is 0. What is written to overlaps nothing else that is lent. A length is in
  * elements. Nothing is allocated.
@@ -23,6 +24,9 @@ extern "C" {
 #define STRIP_SCRATCH_WORDS 16384
 #define STRIP_SHEET_BYTES 49152
 #define STRIP_PAGE_BYTES 147456
+
+/* The most items that a book may have. */
+#define STRIP_ITEM_LIMIT 128
 
 /* The lists of named colours, for what checks: the Rust's 22, and the 148 of CSS Color Module Level 4. */
 #define STRIP_RUST_COLORS 1
@@ -61,7 +65,11 @@ enum strip_refusal {
     STRIP_TOO_MANY_SCRIPTS = 33,
     STRIP_UNWRITABLE = 34,
     STRIP_SCRIPT_TOO_LONG = 35,
-    STRIP_UNKNOWN_LIST = 36
+    STRIP_UNKNOWN_LIST = 36,
+    STRIP_NAME_TWICE = 37,
+    STRIP_TOO_MANY_ITEMS = 38,
+    STRIP_RING_OF_CALLS = 39,
+    STRIP_NO_SUCH_ITEM = 43
 };
 
 /*
@@ -139,12 +147,35 @@ uint64_t strip_feed(uint32_t totals[STRIP_TOTALS_WORDS], const uint8_t *text, si
  */
 uint64_t strip_mean(const uint32_t totals[STRIP_TOTALS_WORDS], uint32_t which, uint32_t out[2]);
 
+/*
+ * Looks a name up in the store's book, then in the chain's. A book is a text of `name = { nodes }` items, none the empty text. Accepted:
+ * strip_body_book is the book that has it, 0 the store's and 1 the chain's; its body, what stands between its braces, is the part of
+ * that book from strip_body_start on, of strip_body_length bytes. Refused, the store's book wholly before the chain's, both before the
+ * name is looked for: a book's 1 to 13 and 15 at a place in it, as strip_read refuses a text; then 37 and 38; 43 last if neither book
+ * has the name; these three at 0.
+ */
+uint64_t strip_lookup(const uint8_t *store, size_t store_length, const uint8_t *chain, size_t chain_length, const uint8_t *name,
+                      size_t name_length);
+
+/*
+ * Lists the ordinals of a book's items, from 0, one byte each, so that each stands behind all that it calls, the first by place among
+ * those free; a `preset` node with an item's name calls it. Accepted: strip_value is the count of items; past them the output is as it
+ * was. Refused, with the output as it was: what strip_lookup refuses of a book; then 39 if a chain of calls comes round to its start;
+ * then 32 if the output is shorter than the list; both at 0. STRIP_ITEM_LIMIT bytes are enough.
+ */
+uint64_t strip_order(const uint8_t *book, size_t book_length, uint8_t *out, size_t out_length);
+
 /* The parts of an answer. */
 static inline enum strip_refusal strip_number(uint64_t answer) { return (enum strip_refusal)(answer >> 56); }
 static inline uint32_t strip_value(uint64_t answer) { return (uint32_t)answer; }
 static inline uint32_t strip_sheet_length(uint64_t answer) { return (uint32_t)(answer & 0xFFFFFF); }
 static inline uint32_t strip_records(uint64_t answer) { return (uint32_t)(answer >> 24 & 0xFFFF); }
 static inline uint32_t strip_rounded(uint64_t answer) { return (uint32_t)(answer >> 40 & 0xFFFF); }
+
+/* Of strip_lookup. */
+static inline uint32_t strip_body_length(uint64_t answer) { return (uint32_t)(answer & 0xFFFFFF); }
+static inline uint32_t strip_body_start(uint64_t answer) { return (uint32_t)(answer >> 24 & 0xFFFFFF); }
+static inline uint32_t strip_body_book(uint64_t answer) { return (uint32_t)(answer >> 48 & 0xFF); }
 
 /* Of strip_feed: the number of a refused script, 0 for an accepted one. */
 static inline enum strip_refusal strip_script_number(uint64_t answer) { return (enum strip_refusal)(answer >> 32 & 0xFF); }

@@ -1,6 +1,7 @@
 //! Motion scripts of shelf-edge strips: reading a script into a sheet of bytes, checking the sheet, lining its records in
 //! hexadecimal, all of it at once on a page, writing a fresh script from text and sheet, telling the bytes of a colour, converting old
-//! sheets, and counting many scripts in the totals of a morning sheet. The functions call a library that is proved: each answer and every byte that is written equals a definition. They
+//! sheets, counting many scripts in the totals of a morning sheet, looking a name up in books of named scripts, and listing a book's
+//! items by their calls. The functions call a library that is proved: each answer and every byte that is written equals a definition. They
 //! allocate nothing, and what they write to is lent.
 //!
 //! ```
@@ -71,6 +72,16 @@
 //! assert_eq!((totals.records(2), totals.records(14), totals.entries()), (1, 2, 3));
 //! let mean = strip::MeanAnswer::Fraction { numerator: 3, denominator: 2 };
 //! assert_eq!(strip::mean(&totals, strip::Mean::RecordsAScript), mean);
+//!
+//! // a name is looked up in the store's book, then in the chain's; the body is a part of the book
+//! let (store, chain) = (b"enter = { preset slide }", b"slide = { at 1 } enter = {}");
+//! let answer = strip::lookup(store, chain, b"slide");
+//! assert_eq!(answer, strip::LookupAnswer::Found { book: strip::Book::InChain, body: b" at 1 " });
+//!
+//! // the items of a book, each behind all that it calls
+//! let mut list = [0; strip::ITEM_LIMIT];
+//! let answer = strip::order(b"a = { preset c } b = {} c = {}", &mut list);
+//! assert_eq!((answer, &list[..3]), (strip::OrderAnswer::Listed { items: 3 }, &[1, 2, 0][..]));
 //! ```
 #![warn(missing_docs)]
 
@@ -96,6 +107,8 @@ pub const CSS_COLORS: u32 = 2;
 pub const SCRIPT_LIMIT: u32 = 4_096;
 /// The largest figure that feeding and the means take; no feed reaches it from empty totals.
 pub const FIGURE_LIMIT: u32 = 268_431_360;
+/// The most items that a book may have.
+pub const ITEM_LIMIT: usize = 128;
 /// The kinds of nodes, by their numbers.
 pub const KINDS: [&str; 15] = [
     "tween", "spring", "keyframes", "sequence", "parallel", "group", "stagger", "path", "morph", "draw", "color", "waveform", "preset",
@@ -238,8 +251,55 @@ pub enum MeanAnswer {
     },
 }
 
+/// The book that a body stands in.
+#[derive(Clone, Copy, Debug, PartialEq, Eq)]
+pub enum Book {
+    /// The store's.
+    InStore,
+    /// The chain's.
+    InChain,
+}
+
+/// What [`lookup`] answers.
+#[derive(Clone, Copy, Debug, PartialEq, Eq)]
+pub enum LookupAnswer<'a> {
+    /// There is an item of that name.
+    Found {
+        /// The book that has it.
+        book: Book,
+        /// Its body, a part of that book: what stands between its braces, blanks included.
+        body: &'a [u8],
+    },
+    /// There is none, or a book is refused.
+    Refused {
+        /// Why.
+        refusal: Refusal,
+        /// Where in the text of the book that is refused, in bytes; 0 where no place is at fault.
+        place: usize,
+    },
+}
+
+/// What [`order`] answers.
+#[derive(Clone, Copy, Debug, PartialEq, Eq)]
+pub enum OrderAnswer {
+    /// The output's first `items` bytes are the ordinals.
+    Listed {
+        /// How many items the book has.
+        items: usize,
+    },
+    /// The output is as it was.
+    Refused {
+        /// Why.
+        refusal: Refusal,
+        /// Where in the book's text, in bytes; 0 where no place is at fault.
+        place: usize,
+    },
+}
+
 extern "C" {
     fn strip_feed(totals: *mut u32, text: *const u8, text_length: usize, scratch: *mut u16, words: usize, sheet: *mut u8, room: usize, list: u32) -> u64;
+    fn strip_lookup(store: *const u8, store_length: usize, chain: *const u8, chain_length: usize, name: *const u8, name_length: usize) -> u64;
+    fn strip_order(book: *const u8, book_length: usize, out: *mut u8, room: usize) -> u64;
     fn strip_mean(totals: *const u32, which: u32, out: *mut u32) -> u64;
     fn strip_read(text: *const u8, text_length: usize, scratch: *mut u16, words: usize, sheet: *mut u8, room: usize) -> u64;
     fn strip_check(text: *const u8, text_length: usize, sheet: *const u8, sheet_length: usize, list: u32) -> u64;
@@ -352,6 +412,33 @@ pub fn mean(totals: &Totals, which: Mean) -> MeanAnswer {
         (Some((refusal, place)), _) => MeanAnswer::Refused { refusal, place },
         (None, 0) => MeanAnswer::Nothing,
         (None, _) => MeanAnswer::Fraction { numerator: out[0], denominator: out[1] },
+    }
+}
+
+/// Looks a name up in the store's book, then in the chain's. A book is a text of `name = { nodes }` items, none the empty text. Both are
+/// read before the name is looked for. Refused, the store's book wholly before the chain's: what [`read`] refuses of a text by 1 to 13
+/// and 15; then [`Refusal::NameTwice`], [`Refusal::TooManyItems`]; [`Refusal::NoSuchItem`] last.
+pub fn lookup<'a>(store: &'a [u8], chain: &'a [u8], name: &[u8]) -> LookupAnswer<'a> {
+    // SAFETY: the three slices are whole.
+    let answer = unsafe { strip_lookup(store.as_ptr(), store.len(), chain.as_ptr(), chain.len(), name.as_ptr(), name.len()) };
+    if let Some((refusal, place)) = refused(answer) {
+        return LookupAnswer::Refused { refusal, place };
+    }
+    let (book, text) = if answer >> 48 == 0 { (Book::InStore, store) } else { (Book::InChain, chain) };
+    let start = (answer >> 24 & 0xFF_FFFF) as usize;
+    LookupAnswer::Found { book, body: &text[start..start + (answer & 0xFF_FFFF) as usize] }
+}
+
+/// Lists the ordinals of a book's items, from 0, one byte each, so that each stands behind all that it calls, the first by place among
+/// those free. A `preset` node with an item's name calls it. Past the list the output is as it was; [`ITEM_LIMIT`] bytes are enough.
+/// Refused: what [`lookup`] refuses of a book; then [`Refusal::RingOfCalls`] if a chain of calls comes round to its start; then
+/// [`Refusal::OutputTooShort`].
+pub fn order(book: &[u8], out: &mut [u8]) -> OrderAnswer {
+    // SAFETY: the two slices are whole, and do not overlap.
+    let answer = unsafe { strip_order(book.as_ptr(), book.len(), out.as_mut_ptr(), out.len()) };
+    match refused(answer) {
+        Some((refusal, place)) => OrderAnswer::Refused { refusal, place },
+        None => OrderAnswer::Listed { items: value(answer) },
     }
 }
 

@@ -92,7 +92,7 @@ refusals! {
     NoiseHeld = 28,
     /// No record has the ordinal.
     NoSuchRecord = 31,
-    /// An output slice that is shorter than the line.
+    /// An output slice that is shorter than the line, or the list of items.
     OutputTooShort = 32,
     /// A 4,097th script, or totals with a figure above the limit.
     TooManyScripts = 33,
@@ -102,4 +102,12 @@ refusals! {
     ScriptTooLong = 35,
     /// A list of colours other than 1 and 2.
     UnknownList = 36,
+    /// Two items of a book with the same name.
+    NameTwice = 37,
+    /// A 129th item in a book.
+    TooManyItems = 38,
+    /// A chain of calls in a book that comes round to its start.
+    RingOfCalls = 39,
+    /// Neither book has the name.
+    NoSuchItem = 43,
 }

@@ -1,6 +1,7 @@
 //! Each operation, its refusals, and what it leaves in what is lent.
-use strip::{check, color, convert, feed, line, mean, print, read, write, CheckAnswer, FeedAnswer, LineAnswer, Mean, MeanAnswer, ReadAnswer, Refusal, Totals};
-use strip::{CSS_COLORS, FIGURE_LIMIT, PAGE_BYTES, RUST_COLORS, SCRATCH_WORDS, SCRIPT_LIMIT, SHEET_BYTES, TEXT_BYTES};
+use strip::{check, color, convert, feed, line, lookup, mean, order, print, read, write};
+use strip::{Book, CheckAnswer, FeedAnswer, LineAnswer, LookupAnswer, Mean, MeanAnswer, OrderAnswer, ReadAnswer, Refusal, Totals};
+use strip::{CSS_COLORS, FIGURE_LIMIT, ITEM_LIMIT, PAGE_BYTES, RUST_COLORS, SCRATCH_WORDS, SCRIPT_LIMIT, SHEET_BYTES, TEXT_BYTES};
 
 /// The sheet of a text that reading accepts, and its count of records.
 fn sheet_of(text: &[u8]) -> (Vec<u8>, usize) {
@@ -198,6 +199,77 @@ fn noise_is_refused_and_converted() {
 }
 
 #[test]
+fn a_body_is_lent_from_the_book_that_has_it() {
+    let store = b"enter = { preset slide }\nleave={}".to_vec();
+    let chain = b"slide={\tat 1;\n} enter={at 2}".to_vec();
+    let found = |book, body: &'static [u8]| LookupAnswer::Found { book, body };
+    assert_eq!(lookup(&store, &chain, b"enter"), found(Book::InStore, b" preset slide "));
+    assert_eq!(lookup(&chain, &store, b"enter"), found(Book::InStore, b"at 2"));
+    assert_eq!(lookup(&store, &chain, b"slide"), found(Book::InChain, b"\tat 1;\n"));
+    assert_eq!(lookup(&store, &chain, b"leave"), found(Book::InStore, b""));
+    assert_eq!(lookup(b"", &chain, b"enter"), found(Book::InChain, b"at 2"));
+    // the body is no copy
+    let LookupAnswer::Found { body, .. } = lookup(&store, &chain, b"slide") else { panic!("a refusal") };
+    assert_eq!(body.as_ptr(), chain[7..].as_ptr());
+    // and it reads alone
+    assert_eq!(sheet_of(body).1, 1);
+}
+
+#[test]
+fn lookups_are_refused_by_the_store_then_the_chain_then_43() {
+    let many: String = (0..=ITEM_LIMIT).map(|k| format!("n{k}={{}} ")).collect();
+    for (store, chain, name, refusal, place) in [
+        ("a={}", "#", "a", Refusal::BadForm, 0),
+        ("a={} b", "#", "a", Refusal::Missing, 6),
+        ("a={at 1 tween}", "a={}", "a", Refusal::Missing, 13),
+        ("a={} a={}", "#", "a", Refusal::NameTwice, 0),
+        (&many, "#", "n0", Refusal::TooManyItems, 0),
+        ("a={}", &many, "a", Refusal::TooManyItems, 0),
+        ("a={}", "b={}", "A", Refusal::NoSuchItem, 0),
+        ("a={}", "b={}", "", Refusal::NoSuchItem, 0),
+        ("", "", "a", Refusal::NoSuchItem, 0),
+    ] {
+        assert_eq!(lookup(store.as_bytes(), chain.as_bytes(), name.as_bytes()), LookupAnswer::Refused { refusal, place });
+    }
+    // a ring of calls is the listing's matter
+    assert!(matches!(lookup(b"a={preset a}", b"", b"a"), LookupAnswer::Found { .. }));
+}
+
+#[test]
+fn items_are_listed_behind_what_they_call() {
+    let most: String = (0..ITEM_LIMIT).map(|k| format!("n{k}={{preset n{}}} ", k + 1)).collect();
+    let last_first: Vec<u8> = (0..ITEM_LIMIT as u8).rev().collect();
+    for (book, list) in [
+        ("", &[][..]),
+        ("a={preset c} b={} c={}", &[1, 2, 0]),
+        ("a={} b={preset a} c={sequence{parallel{preset b, duration: 1;}}} d={spring p: 0 => 1 preset: gentle}", &[0, 1, 2, 3]),
+        ("a={preset nobody} gentle={spring p: 0 => 1 preset: gentle}", &[0, 1]),
+        (&most, &last_first),
+    ] {
+        let mut out = vec![7; list.len() + 3];
+        assert_eq!(order(book.as_bytes(), &mut out), OrderAnswer::Listed { items: list.len() });
+        assert_eq!((&out[..list.len()], &out[list.len()..]), (list, &[7; 3][..]));
+    }
+}
+
+#[test]
+fn a_ring_of_calls_is_refused_and_then_a_short_output() {
+    let ring: String = (0..ITEM_LIMIT).map(|k| format!("n{k}={{preset n{}}} ", (k + 1) % ITEM_LIMIT)).collect();
+    for (book, room, refusal, place) in [
+        ("a={};b={}", 2, Refusal::Missing, 4),
+        ("a={} a={preset a}", 0, Refusal::NameTwice, 0),
+        ("a={preset a}", 0, Refusal::RingOfCalls, 0),
+        ("a={preset b} b={group sequence {preset a}}", 2, Refusal::RingOfCalls, 0),
+        (&ring, ITEM_LIMIT, Refusal::RingOfCalls, 0),
+        ("a={} b={}", 1, Refusal::OutputTooShort, 0),
+    ] {
+        let mut out = vec![7; room];
+        assert_eq!(order(book.as_bytes(), &mut out), OrderAnswer::Refused { refusal, place });
+        assert!(out.iter().all(|&b| b == 7));
+    }
+}
+
+#[test]
 fn slices_may_be_empty() {
     assert_eq!(sheet_of(b""), (vec![0, 0], 0));
     assert_eq!(read(b"", &mut [], &mut []), refused(Refusal::ScratchTooShort, 0));
@@ -206,6 +278,7 @@ fn slices_may_be_empty() {
     assert_eq!(line(b"", b"", 0, &mut []), LineAnswer::Refused { refusal: Refusal::NotASheet, place: 0 });
     assert_eq!(line(b"", &[0, 0], 0, &mut []), LineAnswer::Refused { refusal: Refusal::OutputTooShort, place: 0 });
     assert_eq!(write(b"", &[0, 0], &mut [], RUST_COLORS), LineAnswer::Accepted { length: 0 });
+    assert_eq!(order(b"", &mut []), OrderAnswer::Listed { items: 0 });
 }
 
 #[test]
@@ -241,7 +314,7 @@ fn two_frames_at_one_time_are_refused() {
 
 #[test]
 fn a_refusal_has_one_number_and_one_name() {
-    assert_eq!(Refusal::ALL.len(), 31);
+    assert_eq!(Refusal::ALL.len(), 35);
     for &refusal in Refusal::ALL {
         assert_eq!(Refusal::of(refusal.number()), Some(refusal));
         assert_eq!(format!("{refusal:?}"), refusal.name());
@@ -249,7 +322,8 @@ fn a_refusal_has_one_number_and_one_name() {
     assert_eq!((Refusal::DuplicateTime.number(), Refusal::TooManyScripts.number()), (26, 33));
     assert_eq!((Refusal::Unwritable.number(), Refusal::ScriptTooLong.number()), (34, 35));
     assert_eq!(Refusal::UnknownList.number(), 36);
-    assert_eq!((0..=255).filter_map(Refusal::of).count(), 31);
+    assert_eq!((Refusal::NameTwice.number(), Refusal::RingOfCalls.number(), Refusal::NoSuchItem.number()), (37, 39, 43));
+    assert_eq!((0..=255).filter_map(Refusal::of).count(), 35);
 }
 
 /// Feeds a text with buffers that are not zero, and gives what they are then.

@@ -2,6 +2,7 @@
 use std::fmt::Write;
 use std::path::Path;
 use strip::{check, color, convert, feed, line, mean, read, write, CheckAnswer, FeedAnswer, LineAnswer, Mean, MeanAnswer, ReadAnswer, Refusal, Totals};
+use strip::{lookup, order, Book, LookupAnswer, OrderAnswer};
 use strip::{RUST_COLORS, SCRATCH_WORDS, SCRIPT_LIMIT, SHEET_BYTES, TEXT_BYTES};
 
 /// The stored cases of a kind, and their answers, which stand behind the line `== KIND`.
@@ -155,6 +156,41 @@ fn written_case(case: &str) -> (Vec<u8>, Vec<u8>, usize) {
     let (pair, room) = case.rsplit_once('\t').unwrap();
     let (text, sheet) = text_and_sheet(pair);
     (text, sheet, usize::from_str_radix(room, 16).unwrap())
+}
+
+/// Each line is a lookup in two books, or a listing of one into an output in which something stands.
+#[test]
+fn books() {
+    let (cases, answers) = stored("book");
+    let mut ours = String::new();
+    for case in cases.lines() {
+        let fields: Vec<Vec<u8>> = case.split('\t').map(bytes).collect();
+        if fields[0] == [0] {
+            ours += &lookup_line(&fields[1], &fields[2], lookup(&fields[1], &fields[2], &fields[3]));
+            continue;
+        }
+        let mut out = vec![7; usize::from(fields[2][0]) << 8 | usize::from(fields[2][1])];
+        match order(&fields[1], &mut out) {
+            OrderAnswer::Listed { items } => write!(ours, "list {items} ").unwrap(),
+            OrderAnswer::Refused { refusal, place } => write!(ours, "refuse {} at {place} ", refusal.number()).unwrap(),
+        }
+        out.iter().for_each(|b| write!(ours, "{b:02X}").unwrap());
+        ours += "\n";
+    }
+    compare(&ours, &answers);
+}
+
+/// The book that a body is lent from, where it starts there, its size and its bytes.
+fn lookup_line(store: &[u8], chain: &[u8], answer: LookupAnswer) -> String {
+    match answer {
+        LookupAnswer::Refused { refusal, place } => refusal_line(refusal, place),
+        LookupAnswer::Found { book, body } => {
+            let (name, text) = if book == Book::InStore { ("store", store) } else { ("chain", chain) };
+            let start = body.as_ptr() as usize - text.as_ptr() as usize;
+            let hex: String = body.iter().map(|b| format!("{b:02X}")).collect();
+            format!("{name} {start} {} {hex}\n", body.len())
+        }
+    }
 }
 
 /// Each line does one thing to totals, which its first byte tells: feeding a text, with less scratch or sheet, emptying, setting a

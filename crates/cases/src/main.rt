@@ -2,6 +2,7 @@
 // `== KIND` and then the answers. With an argument, the name of a kind, it answers that kind's cases from standard input, without the line
 // in front. What cannot be read is told among the answers, so that they are not those that are stored.
 mod answers;
+mod books;
 mod checking;
 mod converting;
 mod feeding;
@@ -18,8 +19,8 @@ use lines::Fields;
 use text::Found;
 
 // The kinds, each behind its length, in the order in which they are answered.
-const KINDS: [u8; 56] =
-    *b"\x05sheet\x05check\x05color\x07convert\x04line\x06script\x04feed\x07rounded\x04back";
+const KINDS: [u8; 61] =
+    *b"\x05sheet\x05check\x05color\x07convert\x04line\x06script\x04feed\x07rounded\x04back\x04book";
 
 // A line has room for a list, a text and a sheet, each of the last two with a byte more than the longest case.
 fn main() {
@@ -155,6 +156,7 @@ fn answer(kind: usize, line: &[u8], fields: Fields, totals: &mut [u32; 60]) {
         5 => reading::answer(line, fields),
         6 => feeding::answer(line, fields, totals),
         7 => reading::answer_rounded(line, fields),
-        _ => writing::answer(line, fields),
+        8 => writing::answer(line, fields),
+        _ => books::answer(line, fields),
     }
 }

@@ -42,3 +42,7 @@ numbered cause.TooManyScripts = record { some = omega arith; most = omega arith 
 numbered cause.Unwritable = record { some = omega arith; most = omega arith }
 numbered cause.ScriptTooLong = record { some = omega arith; most = omega arith }
 numbered cause.UnknownList = record { some = omega arith; most = omega arith }
+numbered cause.NameTwice = record { some = omega arith; most = omega arith }
+numbered cause.TooManyItems = record { some = omega arith; most = omega arith }
+numbered cause.RingOfCalls = record { some = omega arith; most = omega arith }
+numbered cause.NoSuchItem = record { some = omega arith; most = omega arith }

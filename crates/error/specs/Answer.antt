@@ -8,6 +8,10 @@ use Rattle.error.specs.declared.CheckAnswer.{CheckAnswer}
 use Rattle.error.specs.declared.CheckAnswer.the-variants as check
 use Rattle.error.specs.declared.LineAnswer.{LineAnswer}
 use Rattle.error.specs.declared.LineAnswer.the-variants as line
+use Rattle.error.specs.declared.LookupAnswer.{LookupAnswer}
+use Rattle.error.specs.declared.LookupAnswer.the-variants as lookup
+use Rattle.error.specs.declared.OrderAnswer.{OrderAnswer}
+use Rattle.error.specs.declared.OrderAnswer.the-variants as order
 
 -- reading: the sheet's length, its count of node records and that of the rounded numbers; "On a refusal the count is 0"
 abbrev pub readValues : ReadAnswer → List ℕ
@@ -23,3 +27,14 @@ checkValues (check.Refused refusal place) = numberOf refusal ∷ place ∷ []
 abbrev pub lineValues : LineAnswer → List ℕ
 lineValues (line.Accepted length) = 0 ∷ length ∷ []
 lineValues (line.Refused refusal place) = numberOf refusal ∷ place ∷ []
+
+-- 02 (i), a lookup: the book, 0 for the store's and 1 for the chain's; the body's start and its size
+abbrev pub lookupValues : LookupAnswer → List ℕ
+lookupValues (lookup.InStore start size) = 0 ∷ 0 ∷ start ∷ size ∷ []
+lookupValues (lookup.InChain start size) = 0 ∷ 1 ∷ start ∷ size ∷ []
+lookupValues (lookup.Refused refusal place) = numberOf refusal ∷ place ∷ []
+
+-- 02 (i), listing: how many items are listed
+abbrev pub orderValues : OrderAnswer → List ℕ
+orderValues (order.Listed items) = 0 ∷ items ∷ []
+orderValues (order.Refused refusal place) = numberOf refusal ∷ place ∷ []

@@ -35,3 +35,7 @@ numberOf cause.TooManyScripts = 33
 numberOf cause.Unwritable = 34
 numberOf cause.ScriptTooLong = 35
 numberOf cause.UnknownList = 36
+numberOf cause.NameTwice = 37
+numberOf cause.TooManyItems = 38
+numberOf cause.RingOfCalls = 39
+numberOf cause.NoSuchItem = 43

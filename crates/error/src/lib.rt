@@ -58,6 +58,14 @@ pub enum Refusal {
     ScriptTooLong,
     // A list of colours other than 1 and 2.
     UnknownList,
+    // Two items of a book with the same name.
+    NameTwice,
+    // A 129th item in a book.
+    TooManyItems,
+    // A chain of calls that comes round to its start.
+    RingOfCalls,
+    // Neither book has the name.
+    NoSuchItem,
 }
 
 // What reading answers: the sheet's length, its count of node records and how many written numbers were rounded, or a
@@ -99,6 +107,19 @@ pub enum MeanAnswer {
     Refused { refusal: Refusal, place: usize },
 }
 
+// What a lookup answers: where the body stands, and in which book; or a refusal and its place.
+pub enum LookupAnswer {
+    InStore { start: usize, size: usize },
+    InChain { start: usize, size: usize },
+    Refused { refusal: Refusal, place: usize },
+}
+
+// What listing the items of a book answers: how many are listed; or a refusal and its place.
+pub enum OrderAnswer {
+    Listed { items: usize },
+    Refused { refusal: Refusal, place: usize },
+}
+
 // The number of a refusal.
 pub fn number_of(refusal: Refusal) -> u8
     ensures { λ r. ⌜ r ≡ numberOf refusal ⌝ }
@@ -135,5 +156,9 @@ pub fn number_of(refusal: Refusal) -> u8
         Refusal::Unwritable => 34,
         Refusal::ScriptTooLong => 35,
         Refusal::UnknownList => 36,
+        Refusal::NameTwice => 37,
+        Refusal::TooManyItems => 38,
+        Refusal::RingOfCalls => 39,
+        Refusal::NoSuchItem => 43,
     }
 }

@@ -17,6 +17,11 @@ use Rattle.packed.specs.Packed.{packedRefusal, packedSheet, packedRead, 
 use Rattle.packed.specs.Packed.{packedLine, packedScript, packedFed, numberIn, valueIn, lengthIn, recordsIn, roundedIn, scriptNumberIn}
 use Rattle.error.specs.declared.FeedAnswer.{FeedAnswer}
 use Rattle.error.specs.declared.FeedAnswer.the-variants as feed
+use Rattle.error.specs.declared.LookupAnswer.{LookupAnswer}
+use Rattle.error.specs.declared.LookupAnswer.the-variants as lookup
+use Rattle.error.specs.declared.OrderAnswer.{OrderAnswer}
+use Rattle.error.specs.declared.OrderAnswer.the-variants as order
+use Rattle.packed.specs.Packed.{packedBody, packedLookup, packedOrder, startIn, bookIn}
 
 -- ---- below 2^64
 
@@ -42,6 +47,18 @@ pub fed-fits : (a : FeedAnswer) → packedFed a < 2 ^ 64
 fed-fits (feed.Counted check.Accepted) = omega arith
 fed-fits (feed.Counted (check.Refused r p)) = let n = numbered r in omega (arith, n .most)
 fed-fits (feed.Refused r p) = refusal-fits r p
+
+pub body-fits : (start n : ℕ) → packedBody start n < 2 ^ 48
+body-fits start n = omega arith
+
+pub lookup-fits : (a : LookupAnswer) → packedLookup a < 2 ^ 64
+lookup-fits (lookup.InStore start n) = omega (arith, body-fits start n)
+lookup-fits (lookup.InChain start n) = omega (arith, body-fits start n)
+lookup-fits (lookup.Refused r p) = refusal-fits r p
+
+pub order-fits : (a : OrderAnswer) → packedOrder a < 2 ^ 64
+order-fits (order.Listed n) = omega arith
+order-fits (order.Refused r p) = refusal-fits r p
 
 -- ---- the parts
 
@@ -80,6 +97,25 @@ script-refusal r p = omega arith
 
 pub script-place : (r : Refusal) (p : ℕ) → p < 2 ^ 32 → valueIn (packedScript (check.Refused r p)) ≡ p
 script-place r p h = omega arith
+
+-- a body in the store's book, and one in the chain's
+pub record BodyParts (book start n w : ℕ) : Type 0 where
+  pub number : numberIn w ≡ 0
+  pub in-book : bookIn w ≡ book
+  pub from : startIn w ≡ start
+  pub length : lengthIn w ≡ n
+
+pub store-body : (start n : ℕ) → start < 2 ^ 24 → n < 2 ^ 24 → BodyParts 0 start n (packedLookup (lookup.InStore start n))
+store-body start n h g = record { number = omega arith; in-book = omega arith; from = omega arith; length = omega arith }
+
+pub chain-body : (start n : ℕ) → start < 2 ^ 24 → n < 2 ^ 24 → BodyParts 1 start n (packedLookup (lookup.InChain start n))
+chain-body start n h g = record { number = omega arith; in-book = omega arith; from = omega arith; length = omega arith }
+
+pub order-number : (n : ℕ) → numberIn (packedOrder (order.Listed n)) ≡ 0
+order-number n = omega arith
+
+pub order-items : (n : ℕ) → n < 2 ^ 32 → valueIn (packedOrder (order.Listed n)) ≡ n
+order-items n h = omega arith
 
 -- a numerator and a denominator, in the two words that are lent
 pub pair-written : (out : List ℕ) (n d : ℕ) → length out ≡ 2 → set (set out 0 n) 1 d ≡ n ∷ d ∷ []

@@ -2,8 +2,8 @@
 -- "Each answers one u64: the refusal's number, 0 for accepted, times 2^56, plus a value below 2^32 that is the place of a refusal (the
 -- ordinal in lining), 0 for checking's accept, or lining's line length; reading's accept has its sheet length plus its count of node
 -- records times 2^24" plus that of the rounded numbers times 2^40 (the request for the library; 02 (d)).
--- A place or a line's length of 2^32 or more counts by its remainder, as do a sheet's length of 2^24 or more and 2^16 or more records or
--- rounded numbers.
+-- A place or a line's length of 2^32 or more counts by its remainder, as do a sheet's or a body's length and a body's
+-- start of 2^24 or more, and 2^16 or more records or rounded numbers.
 -- No operation answers with such: the laws of the crate `unpack`.
 use Prim.Native.Nat.{ℕ, _+_, _*_, _/_, _%_, _^_}
 use mathlib.Core.List.{List, [], _∷_}
@@ -20,6 +20,10 @@ use Rattle.error.specs.declared.MeanAnswer.{MeanAnswer}
 use Rattle.error.specs.declared.MeanAnswer.the-variants as mean
 use Rattle.error.specs.declared.FeedAnswer.{FeedAnswer}
 use Rattle.error.specs.declared.FeedAnswer.the-variants as feed
+use Rattle.error.specs.declared.LookupAnswer.{LookupAnswer}
+use Rattle.error.specs.declared.LookupAnswer.the-variants as lookup
+use Rattle.error.specs.declared.OrderAnswer.{OrderAnswer}
+use Rattle.error.specs.declared.OrderAnswer.the-variants as order
 
 -- ---- an answer
 
@@ -58,6 +62,20 @@ abbrev pub packedColor : CheckAnswer → List ℕ → ℕ
 packedColor check.Accepted bs = packedBytes bs
 packedColor (check.Refused refusal place) bs = packedRefusal refusal place
 
+-- 02 (i): "length + start times 2^24 + (0 store, 1 chain) times 2^48"
+abbrev pub packedBody : ℕ → ℕ → ℕ
+packedBody start length = start % 2 ^ 24 * 2 ^ 24 + length % 2 ^ 24
+
+abbrev pub packedLookup : LookupAnswer → ℕ
+packedLookup (lookup.InStore start size) = packedBody start size
+packedLookup (lookup.InChain start size) = 2 ^ 48 + packedBody start size
+packedLookup (lookup.Refused refusal place) = packedRefusal refusal place
+
+-- 02 (i): "the count of items"
+abbrev pub packedOrder : OrderAnswer → ℕ
+packedOrder (order.Listed items) = items % 2 ^ 32
+packedOrder (order.Refused refusal place) = packedRefusal refusal place
+
 -- ---- an answer with the buffers afterwards
 
 abbrev pub readOutcome : ReadAnswer × List ℕ × List ℕ → ℕ × List ℕ × List ℕ
@@ -87,6 +105,10 @@ colorOutcome x = packedColor (x .0) (x .1)
 abbrev pub convertOutcome : CheckAnswer × List ℕ → ℕ × List ℕ
 convertOutcome x = (packedCheck (x .0), x .1)
 
+-- 02 (i): the count of items, and the lent output afterwards
+abbrev pub orderOutcome : OrderAnswer × List ℕ → ℕ × List ℕ
+orderOutcome x = (packedOrder (x .0), x .1)
+
 -- ---- its parts
 
 abbrev pub numberIn : ℕ → ℕ
@@ -107,6 +129,14 @@ roundedIn w = w / 2 ^ 40 % 2 ^ 16
 -- a byte of a colour: alpha from 0 on, blue from 8, green from 16, red from 24
 abbrev pub byteIn : ℕ → ℕ → ℕ
 byteIn k w = w / 2 ^ k % 2 ^ 8
+
+-- a body's start
+abbrev pub startIn : ℕ → ℕ
+startIn w = w / 2 ^ 24 % 2 ^ 24
+
+-- the book that a body stands in: 0 the store's, 1 the chain's
+abbrev pub bookIn : ℕ → ℕ
+bookIn w = w / 2 ^ 48 % 2 ^ 8
 
 -- the number of a refused script
 abbrev pub scriptNumberIn : ℕ → ℕ

@@ -3,11 +3,13 @@ ghost use mathlib.Core.List.{[], _∷_};
 ghost use mathlib.Core.Path.{_≡_};
 ghost use Prim.Native.Nat.{_%_, _^_};
 ghost use lib.ListN.{length};
-ghost use Rattle.packed.specs.Packed.{packedRefusal, packedSheet, packedRead, packedCheck, packedLine, packedFed, packedBytes, packedColor, meanOutcome};
+ghost use Rattle.packed.specs.Packed.{packedRefusal, packedSheet, packedRead, packedCheck, packedLine, packedFed, packedBytes, packedColor, packedBody, packedLookup, packedOrder, meanOutcome};
 use error::CheckAnswer;
 use error::FeedAnswer;
 use error::LineAnswer;
+use error::LookupAnswer;
 use error::MeanAnswer;
+use error::OrderAnswer;
 use error::ReadAnswer;
 use error::Refusal;
 
@@ -122,4 +124,32 @@ fn pack_bytes(red: u8, green: u8, blue: u8, alpha: u8) -> u64
     ensures { λ r. ⌜ r ≡ packedBytes (red ∷ green ∷ blue ∷ alpha ∷ []) ⌝ }
 {
     (red as u64) * 16777216 + (green as u64) * 65536 + (blue as u64) * 256 + (alpha as u64)
+}
+
+// A body's length in the lowest three bytes, its start in the next three.
+fn pack_body(start: usize, length: usize) -> u64
+    ensures { λ r. ⌜ r ≡ packedBody start length ⌝ }
+{
+    (start % 16777216 * 16777216 + length % 16777216) as u64
+}
+
+// A body, behind it 0 for the store's book and 1 for the chain's; or a refusal.
+pub fn pack_lookup(answer: LookupAnswer) -> u64
+    ensures { λ r. ⌜ r ≡ packedLookup answer ⌝ }
+{
+    match answer {
+        LookupAnswer::InStore { start, size } => pack_body(start, size),
+        LookupAnswer::InChain { start, size } => 281474976710656 + pack_body(start, size),
+        LookupAnswer::Refused { refusal, place } => pack_refusal(refusal, place),
+    }
+}
+
+// How many items are listed, or a refusal.
+pub fn pack_order(answer: OrderAnswer) -> u64
+    ensures { λ r. ⌜ r ≡ packedOrder answer ⌝ }
+{
+    match answer {
+        OrderAnswer::Listed { items } => low(items),
+        OrderAnswer::Refused { refusal, place } => pack_refusal(refusal, place),
+    }
 }

@@ -9,12 +9,16 @@ ghost use Rattle.script.specs.Output.{printing};
 ghost use Rattle.totals.specs.Mean.{mean};
 ghost use Rattle.feed.specs.Feed.{fed, feeding};
 ghost use Rattle.back.specs.Back.{writing};
-ghost use Rattle.packed.specs.Packed.{packedCheck, readOutcome, lineOutcome, printOutcome, feedOutcome, meanOutcome, colorOutcome, convertOutcome};
+ghost use Rattle.lookup.specs.Lookup.{lookingUp};
+ghost use Rattle.listing.specs.Listing.{listing};
+ghost use Rattle.packed.specs.Packed.{packedCheck, packedLookup, readOutcome, lineOutcome, printOutcome, feedOutcome, meanOutcome, colorOutcome, convertOutcome, orderOutcome};
 use packed::pack_check;
 use packed::pack_color;
 use packed::pack_fed;
 use packed::pack_line;
+use packed::pack_lookup;
 use packed::pack_mean;
+use packed::pack_order;
 use packed::pack_read;
 
 // parser::read.
@@ -101,4 +105,20 @@ pub extern "C" fn strip_convert(text: &[u8], sheet: &mut [u8]) -> u64
     ensures { λ r. ⌜ (r, now (sheet .exit)) ≡ convertOutcome (converting (now (text .entry)) (now (sheet .entry))) ⌝ }
 {
     pack_check(convert::convert(text, sheet))
+}
+
+// lookup::find: the body is a part of the book, from the start that is answered.
+#[no_mangle]
+pub extern "C" fn strip_lookup(store: &[u8], chain: &[u8], name: &[u8]) -> u64
+    ensures { λ r. ⌜ r ≡ packedLookup (lookingUp (now (store .entry)) (now (chain .entry)) (now (name .entry))) ⌝ }
+{
+    pack_lookup(lookup::find(store, chain, name))
+}
+
+// listing::list.
+#[no_mangle]
+pub extern "C" fn strip_order(book: &[u8], out: &mut [u8]) -> u64
+    ensures { λ r. ⌜ (r, now (out .exit)) ≡ orderOutcome (listing (now (book .entry)) (now (out .entry))) ⌝ }
+{
+    pack_order(listing::list(book, out))
 }

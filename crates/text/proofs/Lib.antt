@@ -1,3 +1,4 @@
 pub mod ByteLaws
 pub mod WordLaws
 pub mod WriteLaws
+pub mod CaseLaws

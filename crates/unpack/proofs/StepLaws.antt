@@ -28,7 +28,7 @@ unfoldable pub Near : ℕ → List Token → Type 0
 Near n [] = Unit {0}
 Near n (token p k ∷ ts) = (p ≤ n) × Near n ts
 
-place-near : (n : ℕ) (ts : List Token) → Near n ts → place ts ≤ n
+pub place-near : (n : ℕ) (ts : List Token) → Near n ts → place ts ≤ n
 unfolding Near
 place-near n [] h = omega arith
 place-near n (token p k ∷ ts) h = h .0

@@ -12,6 +12,8 @@ use Rattle.line.specs.Lining.{lining}
 use Rattle.convert.specs.Convert.{converting}
 use Rattle.script.specs.Output.{pageBytes, printing}
 use Rattle.back.specs.Back.{writing}
+use Rattle.lookup.specs.Lookup.{lookingUp}
+use Rattle.listing.specs.Listing.{listing}
 use Rattle.error.specs.Refusal.{numberOf}
 use Rattle.error.specs.declared.ReadAnswer.{ReadAnswer}
 use Rattle.error.specs.declared.ReadAnswer.the-variants as read
@@ -19,8 +21,14 @@ use Rattle.error.specs.declared.CheckAnswer.{CheckAnswer}
 use Rattle.error.specs.declared.CheckAnswer.the-variants as check
 use Rattle.error.specs.declared.LineAnswer.{LineAnswer}
 use Rattle.error.specs.declared.LineAnswer.the-variants as line
+use Rattle.error.specs.declared.LookupAnswer.{LookupAnswer}
+use Rattle.error.specs.declared.LookupAnswer.the-variants as lookup
+use Rattle.error.specs.declared.OrderAnswer.{OrderAnswer}
+use Rattle.error.specs.declared.OrderAnswer.the-variants as order
+use Rattle.packed.specs.Packed.{packedLookup, packedOrder}
 use Rattle.packed.specs.Packed.{packedRead, packedCheck, packedLine, packedFed, numberIn}
 use Rattle.packed.specs.Packed.{valueIn, lengthIn, recordsIn, roundedIn, scriptNumberIn}
+use Rattle.packed.proofs.PackedLaws.{BodyParts, store-body, chain-body, order-number, order-items}
 use Rattle.packed.proofs.PackedLaws.{script-number, script-refusal, script-place}
 use Rattle.packed.proofs.PackedLaws.{refusal-number, refusal-place, sheet-number, sheet-length}
 use Rattle.packed.proofs.PackedLaws.{sheet-records, sheet-rounded, line-number, line-length}
@@ -30,6 +38,7 @@ use Rattle.feed.specs.Feed.{Fed, readOf, whenRead, judgement, figure, full, fee
 use Rattle.error.specs.declared.FeedAnswer.{FeedAnswer}
 use Rattle.error.specs.declared.FeedAnswer.the-variants as feed
 use Rattle.unpack.proofs.Within.{ReadWithin, read-within, CheckWithin, check-within, LineWithin, line-within, print-within}
+use Rattle.unpack.proofs.BookWithin.{LookupWithin, lookup-within, OrderWithin, order-within}
 use Rattle.unpack.proofs.Within.{ScriptWithin, write-within, convert-within}
 
 -- ---- reading
@@ -132,3 +141,32 @@ feed-parts ws x = go (full ws)
         FedParts (a .0) (packedFed (a .0))
     go true = (refusal-number TooManyScripts 0, refusal-place TooManyScripts 0 (omega arith))
     go false = script-back (judgement x) (judged-within x)
+
+-- ---- lookups: the book, where the body starts in it, and its length
+
+abbrev pub LookupParts : LookupAnswer → ℕ → Type 0
+LookupParts (lookup.InStore start n) w = BodyParts 0 start n w
+LookupParts (lookup.InChain start n) w = BodyParts 1 start n w
+LookupParts (lookup.Refused r p) w = (numberIn w ≡ numberOf r) × (valueIn w ≡ p)
+
+pub lookup-parts : (store chain name : List ℕ)
+    → LookupParts (lookingUp store chain name) (packedLookup (lookingUp store chain name))
+lookup-parts store chain name = by (lookingUp store chain name) (lookup-within store chain name)
+  where
+    by : (a : LookupAnswer) → LookupWithin a → LookupParts a (packedLookup a)
+    by (lookup.InStore start n) h = store-body start n (omega (arith, h .0)) (omega (arith, h .1))
+    by (lookup.InChain start n) h = chain-body start n (omega (arith, h .0)) (omega (arith, h .1))
+    by (lookup.Refused r p) h = (refusal-number r p, refusal-place r p (omega arith))
+
+-- ---- listings
+
+abbrev pub OrderParts : OrderAnswer → ℕ → Type 0
+OrderParts (order.Listed n) w = (numberIn w ≡ 0) × (valueIn w ≡ n)
+OrderParts (order.Refused r p) w = (numberIn w ≡ numberOf r) × (valueIn w ≡ p)
+
+pub order-parts : (t out : List ℕ) → OrderParts (listing t out .0) (packedOrder (listing t out .0))
+order-parts t out = by (listing t out .0) (order-within t out)
+  where
+    by : (a : OrderAnswer) → OrderWithin a → OrderParts a (packedOrder a)
+    by (order.Listed n) h = (order-number n, order-items n (omega arith))
+    by (order.Refused r p) h = (refusal-number r p, refusal-place r p (omega arith))

@@ -51,7 +51,7 @@ use Rattle.unpack.proofs.SheetLaws.{sheet-some, Below, nodes-below, Wit
 
 -- ---- reading: a text's tokens, and its refusals 2 to 5
 
-abbrev SplitNear : ℕ → Split → Type 0
+abbrev pub SplitNear : ℕ → Split → Type 0
 SplitNear n (unlexed r p) = p ≤ n
 SplitNear n (tokens ts) = Near n ts
 
@@ -70,7 +70,7 @@ stepped-near n p (halt r) x h g = h
 stepped-near n p blank x h g = g
 stepped-near n p (takes k m cs) x h g = before-near n p k x h g
 
-split-near : (n k p : ℕ) (cs t : List ℕ) → p + length t ≤ n → SplitNear n (splitFrom k p cs t)
+pub split-near : (n k p : ℕ) (cs t : List ℕ) → p + length t ≤ n → SplitNear n (splitFrom k p cs t)
 unfolding splitFrom
 split-near n k p cs [] h = ended-near n p cs (omega arith)
 split-near n (suc k) p cs (b ∷ t) h = split-near n k (suc p) cs t (omega arith)
@@ -94,7 +94,7 @@ finished-near n (got ns l ts) h = left-near n ns (l .rounded) (l .leftover) (ome
 finished-near n (refused r p) h = h
 
 -- a text of n bytes has at most n + 1 tokens
-abbrev SplitFew : ℕ → Split → Type 0
+abbrev pub SplitFew : ℕ → Split → Type 0
 SplitFew n (unlexed r p) = Unit {0}
 SplitFew n (tokens ts) = length ts ≤ n
 
@@ -112,7 +112,7 @@ stepped-few n p blank x h = more-few n x h
 stepped-few n p (takes k m cs) (unlexed r q) h = tt
 stepped-few n p (takes k m cs) (tokens ts) h = omega arith
 
-split-few : (k p : ℕ) (cs t : List ℕ) → SplitFew (suc (length t)) (splitFrom k p cs t)
+pub split-few : (k p : ℕ) (cs t : List ℕ) → SplitFew (suc (length t)) (splitFrom k p cs t)
 unfolding splitFrom
 split-few k p cs [] = ended-few 0 p cs
 split-few (suc k) p cs (b ∷ t) = more-few (suc (length t)) (splitFrom k (suc p) cs t) (split-few k (suc p) cs t)

@@ -98,6 +98,18 @@ enum-told-30 c = search needs
 enum-told-31 : tie.Need-enum-told-31
 enum-told-31 c = search needs
 
+enum-told-32 : tie.Need-enum-told-32
+enum-told-32 c = search needs
+
+enum-told-33 : tie.Need-enum-told-33
+enum-told-33 c = search needs
+
+enum-told-34 : tie.Need-enum-told-34
+enum-told-34 c = search needs
+
+enum-told-35 : tie.Need-enum-told-35
+enum-told-35 c = search needs
+
 returns : tie.Need-returns
 returns c = sym (ap numberOf (c .enum-told .given .1))
 
@@ -191,6 +203,18 @@ returns-30 c = sym (ap numberOf (c .enum-told30 .given .1))
 returns-31 : tie.Need-returns-31
 returns-31 c = sym (ap numberOf (c .enum-told31 .given .1))
 
+returns-32 : tie.Need-returns-32
+returns-32 c = sym (ap numberOf (c .enum-told32 .given .1))
+
+returns-33 : tie.Need-returns-33
+returns-33 c = sym (ap numberOf (c .enum-told33 .given .1))
+
+returns-34 : tie.Need-returns-34
+returns-34 c = sym (ap numberOf (c .enum-told34 .given .1))
+
+returns-35 : tie.Need-returns-35
+returns-35 c = sym (ap numberOf (c .enum-told35 .given .1))
+
 pub number-of-spec : {M : Type 1} → statement M
 number-of-spec =
     tie.close
@@ -226,6 +250,10 @@ number-of-spec =
     enum-told-29
     enum-told-30
     enum-told-31
+    enum-told-32
+    enum-told-33
+    enum-told-34
+    enum-told-35
     returns
     returns-2
     returns-3
@@ -256,4 +284,8 @@ number-of-spec =
     returns-28
     returns-29
     returns-30
-    returns-31)
+    returns-31
+    returns-32
+    returns-33
+    returns-34
+    returns-35)

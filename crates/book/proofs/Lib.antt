@@ -1,0 +1,4 @@
+pub mod ItemLaws
+pub mod TableLaws
+pub mod BookLaws
+pub mod HeldLaws

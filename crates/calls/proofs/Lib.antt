@@ -1,0 +1,4 @@
+pub mod MarkLaws
+pub mod NodeLaws
+pub mod BodyLaws
+pub mod FillLaws

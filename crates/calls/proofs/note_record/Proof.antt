@@ -1,0 +1,46 @@
+-- `calls::note_record` meets its contract. Assumes nothing.
+use Rattle.book.specs.Book.{names}
+use Rattle.calls.proofs.BodyLaws.{no-call, a-call}
+use borrow.Author.Needs.{needs}
+use Rattle.calls.proofs.note_record.Statement.{statement}
+use Rattle.calls.proofs.note_record.Tie as tie
+
+returns : tie.Need-returns
+returns c xs e x h =
+    let c4 = c .before .before .before .before in
+    let args = c4 .before .args in
+    no-call (args .text .now) (args .calls .now) (args .i) (names xs) x h (c .if1 .taken)
+
+add-take-span : tie.Need-add-take-span
+add-take-span c = search needs
+
+take-span-requires : tie.Need-take-span-requires
+take-span-requires c κs = search needs
+
+note-requires : tie.Need-note-requires
+note-requires c κs = search needs
+
+same-length : tie.Need-same-length
+same-length c = search needs
+
+returns-2 : tie.Need-returns-2
+returns-2 c xs e x h =
+    let at-note = c .before .before in
+    let at-take-span = at-note .before .before .before in
+    let at-if1 = at-take-span .before in
+    let c10 = at-if1 .before .before .before .before in
+    let args = c10 .before .args in
+    a-call
+    (args .text .now)
+    (args .calls .now)
+    (args .i)
+    (names xs)
+    x h
+    (at-if1 .if1 .left)
+    (at-take-span .take-span .ensures)
+    (at-note .note .ensures xs e)
+
+pub note-record-spec : {M : Type 1} → statement M
+note-record-spec =
+    tie.close
+    (tie.spec returns add-take-span take-span-requires note-requires same-length returns-2)
