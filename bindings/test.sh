@@ -44,6 +44,7 @@ one rounded 'at 0.5; at 0.1; at 16777217' '2\n'
 one color 'Tomato' 'FF6347FF\n'
 one color '#1234' '11223344\n'
 one color 'transparent' 'refuse 25 at 0\n'
+one short 'at 0.5;' 'refuse 16 at 0\n'
 one back '' '\n'
 one back 'at--0.50;label "a";' 'at + 0.5 ; label "a" ;\n'
 one back 'tween' 'refuse 6 at 5\n'
@@ -56,4 +57,4 @@ look '#' a 'a={}' 'refuse 2 at 0\n'
 one order 'a={preset c} b={} c={}' '1 2 0\n'
 one order 'a={preset b} b={preset a}' 'refuse 39 at 0\n'
 one order 'a={};b={}' 'refuse 6 at 4\n'
-echo "C example: 4 passed, each in two ways, 4 fed, a count of rounded numbers, 3 colours, 5 written back, 4 looked up, and 3 listed"
+echo "C example: 4 passed, each in two ways, 4 fed, a count of rounded numbers, 3 colours, a short scratch, 5 written back, 4 looked up, and 3 listed"

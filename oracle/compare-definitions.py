@@ -38,7 +38,7 @@ sheetOf (r ∷ bs) = bs
 -- reading's values, and checking's of the sheet that it gave
 abbrev agrees : Case → Bool
 agrees (reads t r s v) =
-    let x = readValues (reading (hexBytes (bytes t)) (replicate 16384 0) (replicate 4096 0)) in
+    let x = readValues (reading (hexBytes (bytes t)) (replicate 64 0) (replicate 4096 0)) in
     elim (same x (elim (ltb 0 (first r)) [ true ↦ r | false ↦ 0 ∷ hexBytes (bytes s) ])) [ true ↦ same (elim (ltb 0 (first r)) [ true ↦ [] | false ↦ checkValues (checking (hexBytes (bytes t)) (sheetOf x)) ]) v | false ↦ false ]
   where
     first : List ℕ → ℕ

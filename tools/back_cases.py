@@ -33,7 +33,7 @@ ANSWERER = r"""
 #include <string.h>
 uint64_t strip_read(const uint8_t *, size_t, uint16_t *, size_t, uint8_t *, size_t);
 uint64_t strip_write(const uint8_t *, size_t, const uint8_t *, size_t, uint8_t *, size_t, uint32_t);
-static uint16_t scratch[16384];
+static uint16_t scratch[64];
 static uint8_t text[65536], sheet[131072], out[65536 + 64];
 static char line[524288];
 static int digit(char c) { return c <= '9' ? c - '0' : (c & 7) + 9; }
@@ -44,7 +44,7 @@ static size_t unhex(const char *s, uint8_t *to) {
 }
 static void refuse(uint64_t a) { printf("refuse %u at %u", (unsigned)(a >> 56), (unsigned)a); }
 static void read_text(size_t n) {
-    uint64_t a = strip_read(text, n, scratch, 16384, sheet, 49152);
+    uint64_t a = strip_read(text, n, scratch, 64, sheet, 49152);
     if (a >> 56) refuse(a);
     else for (size_t i = 0; i < (a & 0xFFFFFF); i++) printf("%02X", sheet[i]);
     puts("");
@@ -82,7 +82,7 @@ TIMER = (
 #include <time.h>
 uint64_t strip_read(const uint8_t *, size_t, uint16_t *, size_t, uint8_t *, size_t);
 uint64_t strip_write(const uint8_t *, size_t, const uint8_t *, size_t, uint8_t *, size_t, uint32_t);
-static uint16_t scratch[16384];
+static uint16_t scratch[64];
 static uint8_t text[16384], sheet[49152], out[16384];
 """
     + CLOCK
@@ -93,7 +93,7 @@ int main(int argc, char **argv) {
     uint64_t a = 0, b = 0;
     for (long i = argc > 1 ? atol(argv[1]) : 1; i > 0; i--) {
         double start = now();
-        a = strip_read(text, n, scratch, 16384, sheet, 49152);
+        a = strip_read(text, n, scratch, 64, sheet, 49152);
         double middle = now();
         b = strip_write(text, n, sheet, a & 0xFFFFFF, out, sizeof out, 1);
         double end = now();

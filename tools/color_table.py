@@ -55,14 +55,14 @@ TIMER = (
 #include <time.h>
 uint64_t strip_read(const uint8_t *, size_t, uint16_t *, size_t, uint8_t *, size_t);
 uint64_t strip_check(const uint8_t *, size_t, const uint8_t *, size_t, uint32_t);
-static uint16_t scratch[16384];
+static uint16_t scratch[64];
 static uint8_t text[16385], sheet[49152];
 """
     + CLOCK
     + r"""
 int main(int argc, char **argv) {
     size_t n = fread(text, 1, sizeof text, stdin);
-    uint64_t length = strip_read(text, n, scratch, 16384, sheet, 49152) & 0xFFFFFF;
+    uint64_t length = strip_read(text, n, scratch, 64, sheet, 49152) & 0xFFFFFF;
     double least[3] = {0, 1e9, 1e9};
     for (int round = 0; round < atoi(argv[1]); round++)
         for (uint32_t list = 1; list < 3; list++) {

@@ -186,7 +186,7 @@ ANSWERER = r"""
 uint64_t strip_read(const uint8_t *, size_t, uint16_t *, size_t, uint8_t *, size_t);
 uint64_t strip_check(const uint8_t *, size_t, const uint8_t *, size_t, uint32_t);
 uint64_t strip_convert(const uint8_t *, size_t, uint8_t *, size_t);
-static uint16_t scratch[16384];
+static uint16_t scratch[64];
 static uint8_t text[65536], sheet[131072 + 64], again[131072];
 static char line[524288];
 static int digit(char c) { return c <= '9' ? c - '0' : (c & 7) + 9; }
@@ -200,7 +200,7 @@ static void print(uint64_t a) {
     else printf(a ? "accept with %u" : "accept", (unsigned)a);
 }
 static void read_text(size_t n) {
-    uint64_t a = strip_read(text, n, scratch, 16384, sheet, 49152);
+    uint64_t a = strip_read(text, n, scratch, 64, sheet, 49152);
     if (a >> 56) print(a);
     else for (size_t i = 0; i < (a & 0xFFFFFF); i++) printf("%02x", sheet[i]);
     puts("");

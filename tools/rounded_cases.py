@@ -20,7 +20,7 @@ ANSWERER = r"""
 #include <stdio.h>
 #include <string.h>
 uint64_t strip_read(const uint8_t *, size_t, uint16_t *, size_t, uint8_t *, size_t);
-static uint16_t scratch[16384];
+static uint16_t scratch[64];
 static uint8_t sheet[49152], text[32768];
 static char line[65536];
 static int digit(char c) { return c <= '9' ? c - '0' : c - 'a' + 10; }
@@ -28,7 +28,7 @@ int main(void) {
     while (fgets(line, sizeof line, stdin)) {
         size_t n = strcspn(line, "\n") / 2;
         for (size_t i = 0; i < n; i++) text[i] = digit(line[2 * i]) * 16 + digit(line[2 * i + 1]);
-        uint64_t r = strip_read(text, n, scratch, 16384, sheet, 49152);
+        uint64_t r = strip_read(text, n, scratch, 64, sheet, 49152);
         if (r >> 56) puts("refused"); else printf("%u\n", (unsigned) (r >> 40 & 65535));
     }
 }

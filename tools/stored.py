@@ -9,7 +9,7 @@ import os
 import sys
 
 # in the order in which the program answers them
-KINDS = ("sheet", "check", "color", "convert", "line", "script", "feed", "rounded", "back", "book")
+KINDS = ("sheet", "check", "color", "convert", "line", "script", "feed", "rounded", "back", "book", "scratch")
 ANSWERS = "crates/cases/stdout"
 
 

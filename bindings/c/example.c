@@ -4,7 +4,7 @@
  * and the mean entries of its tracks; with `rounded` it prints how many numbers were rounded instead; with `back` a fresh script that
  * reads to the same tree; with `color` the input is one colour, and what is printed is its red, green, blue and alpha; with `lookup`, a
  * chain's book and a name the input is a store's book, and what is printed is the body; with `order` it is a book, and what is printed
- * are the ordinals of its items by their calls.
+ * are the ordinals of its items by their calls; with `short` reading is lent a word of scratch less than it needs, and refuses.
  */
 #include "strip.h"
 
@@ -102,7 +102,10 @@ int main(int argc, char **argv) {
         fwrite(page, 1, strip_value(printed), stdout);
         return 0;
     }
-    uint64_t reading = strip_read(text, length, scratch, STRIP_SCRATCH_WORDS, sheet, STRIP_SHEET_BYTES);
+    size_t words = STRIP_SCRATCH_WORDS;
+    if (argc > 1 && strcmp(argv[1], "short") == 0)
+        words--;
+    uint64_t reading = strip_read(text, length, scratch, words, sheet, STRIP_SHEET_BYTES);
     if (refused(reading))
         return 0;
     if (argc > 1 && strcmp(argv[1], "rounded") == 0) {

@@ -21,7 +21,7 @@ extern "C" {
 
 /* The longest text, the fewest words of scratch, a sheet long enough for every text, and the shortest page, which is so too. */
 #define STRIP_TEXT_BYTES 16384
-#define STRIP_SCRATCH_WORDS 16384
+#define STRIP_SCRATCH_WORDS 64
 #define STRIP_SHEET_BYTES 49152
 #define STRIP_PAGE_BYTES 147456
 

@@ -7,7 +7,7 @@ use strip::{CheckAnswer, FeedAnswer, Mean, MeanAnswer, Refusal, Totals, KINDS, R
 
 fn main() -> ExitCode {
     let names: Vec<String> = std::env::args().skip(1).collect();
-    let (mut scratch, mut sheet) = (vec![0; SCRATCH_WORDS], vec![0; SHEET_BYTES]);
+    let (mut scratch, mut sheet) = ([0; SCRATCH_WORDS], vec![0; SHEET_BYTES]);
     let mut totals = Totals::default();
     for (number, name) in names.iter().enumerate() {
         eprint!("\r{} of {}", number + 1, names.len());

@@ -8,7 +8,7 @@
 //! use strip::{CheckAnswer, LineAnswer, ReadAnswer, Refusal};
 //!
 //! let text = b"at 0.5;";
-//! let mut scratch = vec![0; strip::SCRATCH_WORDS];
+//! let mut scratch = [0; strip::SCRATCH_WORDS];
 //! let mut sheet = vec![0; strip::SHEET_BYTES];
 //! let ReadAnswer::Accepted { length, records, rounded } = strip::read(text, &mut scratch, &mut sheet) else {
 //!     panic!("a refusal");
@@ -92,7 +92,7 @@ pub use refusal::Refusal;
 /// The longest text that reading takes, in bytes.
 pub const TEXT_BYTES: usize = 16_384;
 /// The fewest words of scratch that reading takes.
-pub const SCRATCH_WORDS: usize = 16_384;
+pub const SCRATCH_WORDS: usize = 64;
 /// A sheet of so many bytes is long enough for every text.
 pub const SHEET_BYTES: usize = 49_152;
 /// The shortest page that printing takes, which is long enough for every text.

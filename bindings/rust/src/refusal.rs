@@ -70,7 +70,7 @@ refusals! {
     SheetTooShort = 14,
     /// A waveform of the kind noise, in a text.
     NoiseWritten = 15,
-    /// A scratch of fewer than 16,384 words.
+    /// A scratch of fewer than 64 words.
     ScratchTooShort = 16,
     /// Bytes that are no sheet for the text.
     NotASheet = 20,

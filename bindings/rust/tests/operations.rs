@@ -292,6 +292,31 @@ fn refusals_of_reading_clear_what_is_lent_but_for_two() {
 }
 
 #[test]
+fn reading_asks_for_sixty_four_words() {
+    let (sixty_four, sixty_five) = ("(".repeat(64) + &")".repeat(64), "(".repeat(65));
+    for text in ["sequence {at 1;}", "at 1", "at", "\"", &sixty_four, &sixty_five] {
+        let left = |words| {
+            let (mut scratch, mut sheet) = (vec![3; words], vec![4; 100]);
+            let answer = read(text.as_bytes(), &mut scratch, &mut sheet);
+            (answer, scratch, sheet)
+        };
+        assert_eq!(left(63), (refused(Refusal::ScratchTooShort, 0), vec![3; 63], vec![4; 100]));
+        let (answer, scratch, sheet) = left(64);
+        assert_eq!(scratch, [0; 64]);
+        for words in [65, 16_384, 65_537] {
+            assert_eq!(left(words), (answer, vec![0; words], sheet.clone()));
+        }
+    }
+    assert_eq!(read(sixty_four.as_bytes(), &mut [0; 64], &mut [0; 100]), refused(Refusal::Missing, 0));
+    assert_eq!(read(sixty_five.as_bytes(), &mut [0; 64], &mut [0; 100]), refused(Refusal::TooManyOpen, 64));
+    let (mut totals, mut page) = (Totals::default(), vec![3; PAGE_BYTES]);
+    let short = CheckAnswer::Refused { refusal: Refusal::ScratchTooShort, place: 0 };
+    assert_eq!(feed(&mut totals, b"at 1", &mut [0; 63], &mut [0; 100], RUST_COLORS), FeedAnswer::Counted(short));
+    assert_eq!(print(b"at 1", &mut [0; 63], &mut [0; 100], &mut page, RUST_COLORS), LineAnswer::Accepted { length: 15 });
+    assert_eq!(&page[..15], b"refuse 16 at 0\n");
+}
+
+#[test]
 fn the_longest_values_come_back() {
     let text = "at 1;".repeat(TEXT_BYTES / 5);
     let (sheet, records) = sheet_of(text.as_bytes());

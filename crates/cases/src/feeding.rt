@@ -33,7 +33,7 @@ fn feed_whole(totals: &mut [u32; 60], text: &[u8]) {
 }
 
 fn feed_with_less_scratch(totals: &mut [u32; 60], text: &[u8]) {
-    let mut scratch = [0u16; 16383];
+    let mut scratch = [0u16; 63];
     let mut sheet = [0u8; 49152];
     feed_to(totals, text, &mut scratch, &mut sheet);
 }

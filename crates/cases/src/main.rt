@@ -9,6 +9,7 @@ mod feeding;
 mod lines;
 mod lining;
 mod reading;
+mod scratches;
 mod sheets;
 mod writing;
 
@@ -19,8 +20,8 @@ use lines::Fields;
 use text::Found;
 
 // The kinds, each behind its length, in the order in which they are answered.
-const KINDS: [u8; 61] =
-    *b"\x05sheet\x05check\x05color\x07convert\x04line\x06script\x04feed\x07rounded\x04back\x04book";
+const KINDS: [u8; 69] =
+    *b"\x05sheet\x05check\x05color\x07convert\x04line\x06script\x04feed\x07rounded\x04back\x04book\x07scratch";
 
 // A line has room for a list, a text and a sheet, each of the last two with a byte more than the longest case.
 fn main() {
@@ -157,6 +158,7 @@ fn answer(kind: usize, line: &[u8], fields: Fields, totals: &mut [u32; 60]) {
         6 => feeding::answer(line, fields, totals),
         7 => reading::answer_rounded(line, fields),
         8 => writing::answer(line, fields),
-        _ => books::answer(line, fields),
+        9 => books::answer(line, fields),
+        _ => scratches::answer(line, fields),
     }
 }

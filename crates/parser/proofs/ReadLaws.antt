@@ -137,7 +137,7 @@ module _ (t s : List ℕ) (l : 64 ≤ length s) where
 module _ (t s s′ : List ℕ) (x : SplitAnswer) (l : scratchWords ≤ length s) (e : lexing.splitOutcome x s′ ≡ splitting t s) where
   split-both : lexing.splitOutcome x s′ ≡ lexing.splitOutcome (answerOf (split t)) (replicate (length s) 0)
   unfolding splitting
-  split-both = e ∙ (rw (le-ltb (length s) 64 (omega arith)))
+  split-both = e ∙ (rw (le-ltb (length s) 64 l))
 
   pub split-zero : s′ ≡ replicate (length s) 0
   split-zero = ap (λ (p : SplitAnswer × List ℕ). p .1) split-both

@@ -49,9 +49,9 @@ abbrev pub answered : ℕ → ℕ → Parsed → ReadAnswer × List ℕ
 answered n room (wrong r p) = (Refused r p, [])
 answered n room (tree ns k) = fitting room (encode n (mapTimes stored ns)) (records ns) k
 
--- "scratch under 16,384 words (reading)": 16
+-- 02 (j): "16 now means fewer than 64 words"
 abbrev pub scratchWords : ℕ
-scratchWords = 16384
+scratchWords = 64
 
 -- "Order in reading: 1, 16", which leave everything as it was
 unfoldable pub early : ℕ → ℕ → Option Refusal

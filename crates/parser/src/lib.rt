@@ -15,7 +15,7 @@ use error::Refusal;
 use token::SplitAnswer;
 
 // The words that reading asks of a scratch.
-pub const SCRATCH_WORDS: usize = 16384;
+pub const SCRATCH_WORDS: usize = 64;
 
 // What the grammar says of a text, and whether it was read to its end.
 struct Input {

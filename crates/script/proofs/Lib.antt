@@ -4,3 +4,4 @@ pub mod Reading
 pub mod Whole
 pub mod Closed
 pub mod OutputLaws
+pub mod ScratchLaws
