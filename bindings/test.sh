@@ -57,4 +57,6 @@ look '#' a 'a={}' 'refuse 2 at 0\n'
 one order 'a={preset c} b={} c={}' '1 2 0\n'
 one order 'a={preset b} b={preset a}' 'refuse 39 at 0\n'
 one order 'a={};b={}' 'refuse 6 at 4\n'
-echo "C example: 4 passed, each in two ways, 4 fed, a count of rounded numbers, 3 colours, a short scratch, 5 written back, 4 looked up, and 3 listed"
+one plane 'at 0.5;' '00010E00003F00000000\n'
+one plane 'keyframes p {0: 1, 1: [2]}' '0001020000000A0001000201000001010001400000000000003F3F008080000000000000\n'
+echo "C example: 4 passed, each in two ways, 4 fed, a count of rounded numbers, 3 colours, a short scratch, 5 written back, 4 looked up, 3 listed, and 2 planed and back"

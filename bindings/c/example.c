@@ -2,9 +2,10 @@
  * Reads a script from standard input, checks it, and prints its lines, then `accept N`; or `refuse R at P`. With the argument `page`
  * one call does it all; with `feed` the script is fed to empty totals, and what is printed is its answer, the count of its node records
  * and the mean entries of its tracks; with `rounded` it prints how many numbers were rounded instead; with `back` a fresh script that
- * reads to the same tree; with `color` the input is one colour, and what is printed is its red, green, blue and alpha; with `lookup`, a
- * chain's book and a name the input is a store's book, and what is printed is the body; with `order` it is a book, and what is printed
- * are the ordinals of its items by their calls; with `short` reading is lent a word of scratch less than it needs, and refuses.
+ * reads to the same tree; with `plane` the planed form of its sheet in hexadecimal, once it has come back to the sheet; with `color` the
+ * input is one colour, and what is printed is its red, green, blue and alpha; with `lookup`, a chain's book and a name the input is a
+ * store's book, and what is printed is the body; with `order` it is a book, and what is printed are the ordinals of its items by their
+ * calls; with `short` reading is lent a word of scratch less than it needs, and refuses.
  */
 #include "strip.h"
 
@@ -72,6 +73,23 @@ static void order(size_t length) {
     printf("\n");
 }
 
+/* Prints the planed form of the sheet, if it comes back to the sheet. */
+static void plane(size_t length, size_t size) {
+    uint64_t planed = strip_plane(text, length, sheet, size, output, sizeof output);
+    if (refused(planed))
+        return;
+    uint64_t again = strip_unplane(text, length, output, strip_value(planed), page, sizeof page);
+    if (refused(again))
+        return;
+    if (strip_value(again) != size || memcmp(page, sheet, size) != 0) {
+        printf("another sheet\n");
+        return;
+    }
+    for (uint32_t i = 0; i < strip_value(planed); i++)
+        printf("%02X", (unsigned)output[i]);
+    printf("\n");
+}
+
 int main(int argc, char **argv) {
     size_t length = fread(text, 1, sizeof text, stdin);
     if (ferror(stdin)) {
@@ -115,6 +133,10 @@ int main(int argc, char **argv) {
     uint32_t size = strip_sheet_length(reading);
     if (argc > 1 && strcmp(argv[1], "back") == 0) {
         back(length, size);
+        return 0;
+    }
+    if (argc > 1 && strcmp(argv[1], "plane") == 0) {
+        plane(length, size);
         return 0;
     }
     uint32_t records = strip_records(reading);

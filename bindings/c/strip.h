@@ -1,8 +1,9 @@
 /*
  * Motion scripts of shelf-edge strips: reading a script into a sheet of bytes, checking the sheet, lining its records in
  * hexadecimal, all of it at once on a page, writing a fresh script from text and sheet, telling the bytes of a colour, converting old
- * sheets, counting many scripts in the totals of a morning sheet, looking a name up in books of named scripts, and listing a book's items
- * by their calls. `rt staticlib strip` writes the library, target/staticlib/libstrip.a.
+ * sheets, putting like bytes of a sheet together for storage and back, counting many scripts in the totals of a morning sheet, looking a
+ * name up in books of named scripts, and listing a book's items by their calls. `rt staticlib strip` writes the library,
+ * target/staticlib/libstrip.a.
  *
  * No pointer is NULL, not even where its length is 0. What is written to overlaps nothing else that is lent. A length is in
  * elements. Nothing is allocated.
@@ -69,6 +70,7 @@ enum strip_refusal {
     STRIP_NAME_TWICE = 37,
     STRIP_TOO_MANY_ITEMS = 38,
     STRIP_RING_OF_CALLS = 39,
+    STRIP_NOT_PLANED = 40,
     STRIP_NO_SUCH_ITEM = 43
 };
 
@@ -123,6 +125,20 @@ uint64_t strip_line(const uint8_t *text, size_t text_length, const uint8_t *shee
  */
 uint64_t strip_write(const uint8_t *text, size_t text_length, const uint8_t *sheet, size_t sheet_length, uint8_t *out,
                      size_t out_length, uint32_t list);
+
+/*
+ * Writes the planed form of a sheet, as long as the sheet: the numbers of its frames, each time and each value that is no array, are taken
+ * out; what remains comes first, then the numbers as four planes, all their first bytes to all their fourth. Accepted: strip_value is the
+ * length; past it the output is as it was. Refused, with the output as it was: 1, 2 and 20 as strip_check does; then 32 at 0.
+ */
+uint64_t strip_plane(const uint8_t *text, size_t text_length, const uint8_t *sheet, size_t sheet_length, uint8_t *out, size_t out_length);
+
+/*
+ * Writes the sheet that strip_plane gives some bytes for. Accepted: strip_value is the length; past it the output is as it was. Refused,
+ * with the output as it was: 1 and 2 as strip_check does; then 40 at 0 if no sheet for the text planes to the bytes; then 32 at 0.
+ */
+uint64_t strip_unplane(const uint8_t *text, size_t text_length, const uint8_t *planed, size_t planed_length, uint8_t *out,
+                       size_t out_length);
 
 /*
  * Reads and checks a text, and writes at the front of a page what the program prints for it: a line for each record, then

@@ -1,7 +1,8 @@
 //! Motion scripts of shelf-edge strips: reading a script into a sheet of bytes, checking the sheet, lining its records in
 //! hexadecimal, all of it at once on a page, writing a fresh script from text and sheet, telling the bytes of a colour, converting old
-//! sheets, counting many scripts in the totals of a morning sheet, looking a name up in books of named scripts, and listing a book's
-//! items by their calls. The functions call a library that is proved: each answer and every byte that is written equals a definition. They
+//! sheets, putting like bytes of a sheet together for storage and back, counting many scripts in the totals of a morning sheet, looking a
+//! name up in books of named scripts, and listing a book's items by their calls. The functions call a library that is proved: each answer
+//! and every byte that is written equals a definition. They
 //! allocate nothing, and what they write to is lent.
 //!
 //! ```
@@ -62,6 +63,19 @@
 //! assert_eq!(answer, CheckAnswer::Refused { refusal: Refusal::NoiseHeld, place: 1 });
 //! assert_eq!(strip::convert(text, &mut old), CheckAnswer::Accepted);
 //! assert_eq!(old, [0, 1, 11, 0, 0, 3, 0, 0, 0, 0, 0, 0, 0]);
+//!
+//! // for storage the frames' numbers stand behind all other bytes, as four planes
+//! let text = b"keyframes p {0: 1}";
+//! let mut sheet = vec![0; strip::SHEET_BYTES];
+//! let ReadAnswer::Accepted { length, .. } = strip::read(text, &mut scratch, &mut sheet) else {
+//!     panic!("a refusal");
+//! };
+//! let sheet = &sheet[..length];
+//! let (mut planed, mut again) = (vec![0; length], vec![0; length]);
+//! assert_eq!(strip::plane(text, sheet, &mut planed), LineAnswer::Accepted { length });
+//! assert_eq!(planed[length - 8..], [0, 0x3F, 0, 0x80, 0, 0, 0, 0]);
+//! assert_eq!(strip::unplane(text, &planed, &mut again), LineAnswer::Accepted { length });
+//! assert_eq!(again, sheet);
 //!
 //! // a morning sheet over three scripts
 //! let mut totals = strip::Totals::default();
@@ -151,10 +165,11 @@ pub enum CheckAnswer {
     },
 }
 
-/// What [`line`], [`print`] and [`write`] answer.
+/// What [`line`], [`print`], [`write`], [`plane`] and [`unplane`] answer.
 #[derive(Clone, Copy, Debug, PartialEq, Eq)]
 pub enum LineAnswer {
-    /// The output's first `length` bytes are the line, its LF included, the page's all that is printed, or the buffer's the script.
+    /// The output's first `length` bytes are the line, its LF included, the planed form or the sheet; the page's all that is printed; or
+    /// the buffer's the script.
     Accepted {
         /// The length in bytes.
         length: usize,
@@ -164,7 +179,7 @@ pub enum LineAnswer {
         /// Why.
         refusal: Refusal,
         /// 0 for a page; the ordinal for a line; for a script what [`check`] gives, or 0; for [`Refusal::BadForm`] a place in the text;
-        /// for what is no sheet 0.
+        /// for what is no sheet, or is not planed, 0.
         place: usize,
     },
 }
@@ -307,6 +322,8 @@ extern "C" {
     fn strip_convert(text: *const u8, text_length: usize, sheet: *mut u8, sheet_length: usize) -> u64;
     fn strip_line(text: *const u8, text_length: usize, sheet: *const u8, sheet_length: usize, ordinal: u32, output: *mut u8, room: usize) -> u64;
     fn strip_write(text: *const u8, text_length: usize, sheet: *const u8, sheet_length: usize, out: *mut u8, room: usize, list: u32) -> u64;
+    fn strip_plane(text: *const u8, text_length: usize, sheet: *const u8, sheet_length: usize, out: *mut u8, room: usize) -> u64;
+    fn strip_unplane(text: *const u8, text_length: usize, planed: *const u8, planed_length: usize, out: *mut u8, room: usize) -> u64;
     fn strip_print(text: *const u8, text_length: usize, scratch: *mut u16, words: usize, sheet: *mut u8, room: usize, page: *mut u8, page_room: usize, list: u32) -> u64;
 }
 
@@ -363,6 +380,22 @@ pub fn line(text: &[u8], sheet: &[u8], ordinal: u32, output: &mut [u8]) -> LineA
 pub fn write(text: &[u8], sheet: &[u8], out: &mut [u8], list: u32) -> LineAnswer {
     // SAFETY: the three slices are whole, and the buffer overlaps neither of the others.
     line_answer(unsafe { strip_write(text.as_ptr(), text.len(), sheet.as_ptr(), sheet.len(), out.as_mut_ptr(), out.len(), list) })
+}
+
+/// Writes the planed form of a sheet, as long as the sheet: the numbers of its frames, each time and each value that is no array, are
+/// taken out; what remains comes first, then the numbers as four planes, all their first bytes to all their fourth. Past it the output is
+/// as it was, and on a refusal all of it is. Refused: a text or bytes that are no sheet as [`check`] refuses them; then
+/// [`Refusal::OutputTooShort`].
+pub fn plane(text: &[u8], sheet: &[u8], out: &mut [u8]) -> LineAnswer {
+    // SAFETY: the three slices are whole, and the output overlaps neither of the others.
+    line_answer(unsafe { strip_plane(text.as_ptr(), text.len(), sheet.as_ptr(), sheet.len(), out.as_mut_ptr(), out.len()) })
+}
+
+/// Writes the sheet that [`plane`] gives some bytes for. Past it the output is as it was, and on a refusal all of it is. Refused: a text as
+/// [`check`] refuses it; then [`Refusal::NotPlaned`] if no sheet for the text planes to the bytes; then [`Refusal::OutputTooShort`].
+pub fn unplane(text: &[u8], planed: &[u8], out: &mut [u8]) -> LineAnswer {
+    // SAFETY: the three slices are whole, and the output overlaps neither of the others.
+    line_answer(unsafe { strip_unplane(text.as_ptr(), text.len(), planed.as_ptr(), planed.len(), out.as_mut_ptr(), out.len()) })
 }
 
 /// Reads and checks a text, and writes at the front of a page what the program prints for it: a line for each record, then

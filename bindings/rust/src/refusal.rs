@@ -92,7 +92,7 @@ refusals! {
     NoiseHeld = 28,
     /// No record has the ordinal.
     NoSuchRecord = 31,
-    /// An output slice that is shorter than the line, or the list of items.
+    /// An output slice that is shorter than the line, the list of items, the sheet or its planed form.
     OutputTooShort = 32,
     /// A 4,097th script, or totals with a figure above the limit.
     TooManyScripts = 33,
@@ -108,6 +108,8 @@ refusals! {
     TooManyItems = 38,
     /// A chain of calls in a book that comes round to its start.
     RingOfCalls = 39,
+    /// The bytes are the planed form of no sheet for the text.
+    NotPlaned = 40,
     /// Neither book has the name.
     NoSuchItem = 43,
 }

@@ -1,5 +1,5 @@
 //! Each operation, its refusals, and what it leaves in what is lent.
-use strip::{check, color, convert, feed, line, lookup, mean, order, print, read, write};
+use strip::{check, color, convert, feed, line, lookup, mean, order, plane, print, read, unplane, write};
 use strip::{Book, CheckAnswer, FeedAnswer, LineAnswer, LookupAnswer, Mean, MeanAnswer, OrderAnswer, ReadAnswer, Refusal, Totals};
 use strip::{CSS_COLORS, FIGURE_LIMIT, ITEM_LIMIT, PAGE_BYTES, RUST_COLORS, SCRATCH_WORDS, SCRIPT_LIMIT, SHEET_BYTES, TEXT_BYTES};
 
@@ -270,6 +270,58 @@ fn a_ring_of_calls_is_refused_and_then_a_short_output() {
 }
 
 #[test]
+fn frames_numbers_are_planed_and_come_back() {
+    let text = b"keyframes p {0: 1, 50%: [2], 0.25: -3 linear} at 4";
+    let (sheet, _) = sheet_of(text);
+    let mut planed = vec![7; sheet.len() + 3];
+    assert_eq!(plane(text, &sheet, &mut planed), LineAnswer::Accepted { length: sheet.len() });
+    assert_eq!(planed[sheet.len()..], [7; 3]);
+    // the times and values 0, 1, 0.5, 0.25 and -3; the array and what is no frame's stay
+    let planes = [[0, 0x3F, 0x3F, 0x3E, 0xC0], [0, 0x80, 0, 0x80, 0x40], [0; 5], [0; 5]].concat();
+    assert_eq!(planed[sheet.len() - 20..sheet.len()], planes);
+    assert_eq!(planed[..2], [0, 2]);
+    let mut again = vec![7; sheet.len() + 3];
+    assert_eq!(unplane(text, &planed[..sheet.len()], &mut again), LineAnswer::Accepted { length: sheet.len() });
+    assert_eq!((&again[..sheet.len()], &again[sheet.len()..]), (&sheet[..], &[7; 3][..]));
+    // a sheet without tracks is its own planed form
+    let (sheet, _) = sheet_of(b"at 1; sequence {spring p: 0 => [1, 2]}");
+    let mut same = vec![7; sheet.len()];
+    assert_eq!(plane(b"at 1; sequence {spring p: 0 => [1, 2]}", &sheet, &mut same), LineAnswer::Accepted { length: sheet.len() });
+    assert_eq!(same, sheet);
+}
+
+#[test]
+fn planing_refuses_the_text_then_20_or_40_then_a_short_output() {
+    let text = b"keyframes p {1: 1}";
+    let (sheet, _) = sheet_of(text);
+    let mut planed = vec![0; sheet.len()];
+    assert_eq!(plane(text, &sheet, &mut planed), LineAnswer::Accepted { length: sheet.len() });
+    let long = vec![b' '; TEXT_BYTES + 1];
+    let more = [&planed[..], &[0]].concat();
+    let (plane, unplane): (Operation, Operation) = (plane, unplane);
+    for (operation, text, bytes, room, refusal, place) in [
+        (plane, &long[..], &sheet[..], 99, Refusal::TextTooLong, 0),
+        (unplane, &long, &planed, 99, Refusal::TextTooLong, 0),
+        (plane, b"a\xFF", &[], 0, Refusal::BadForm, 1),
+        (unplane, b"a\xFF", &[], 0, Refusal::BadForm, 1),
+        (plane, text, &sheet[1..], 0, Refusal::NotASheet, 0),
+        (plane, text, &planed, 99, Refusal::NotASheet, 0),
+        (unplane, text, &planed[1..], 0, Refusal::NotPlaned, 0),
+        (unplane, text, &sheet, 99, Refusal::NotPlaned, 0),
+        (unplane, text, &more, 99, Refusal::NotPlaned, 0),
+        (plane, text, &sheet, sheet.len() - 1, Refusal::OutputTooShort, 0),
+        (unplane, text, &planed, sheet.len() - 1, Refusal::OutputTooShort, 0),
+    ] {
+        let mut out = vec![7; room];
+        assert_eq!(operation(text, bytes, &mut out), LineAnswer::Refused { refusal, place });
+        assert!(out.iter().all(|&b| b == 7));
+    }
+}
+
+/// [`plane`] or [`unplane`].
+type Operation = fn(&[u8], &[u8], &mut [u8]) -> LineAnswer;
+
+#[test]
 fn slices_may_be_empty() {
     assert_eq!(sheet_of(b""), (vec![0, 0], 0));
     assert_eq!(read(b"", &mut [], &mut []), refused(Refusal::ScratchTooShort, 0));
@@ -279,6 +331,8 @@ fn slices_may_be_empty() {
     assert_eq!(line(b"", &[0, 0], 0, &mut []), LineAnswer::Refused { refusal: Refusal::OutputTooShort, place: 0 });
     assert_eq!(write(b"", &[0, 0], &mut [], RUST_COLORS), LineAnswer::Accepted { length: 0 });
     assert_eq!(order(b"", &mut []), OrderAnswer::Listed { items: 0 });
+    assert_eq!(plane(b"", b"", &mut []), LineAnswer::Refused { refusal: Refusal::NotASheet, place: 0 });
+    assert_eq!(unplane(b"", b"", &mut []), LineAnswer::Refused { refusal: Refusal::NotPlaned, place: 0 });
 }
 
 #[test]
@@ -339,16 +393,16 @@ fn two_frames_at_one_time_are_refused() {
 
 #[test]
 fn a_refusal_has_one_number_and_one_name() {
-    assert_eq!(Refusal::ALL.len(), 35);
+    assert_eq!(Refusal::ALL.len(), 36);
     for &refusal in Refusal::ALL {
         assert_eq!(Refusal::of(refusal.number()), Some(refusal));
         assert_eq!(format!("{refusal:?}"), refusal.name());
     }
     assert_eq!((Refusal::DuplicateTime.number(), Refusal::TooManyScripts.number()), (26, 33));
     assert_eq!((Refusal::Unwritable.number(), Refusal::ScriptTooLong.number()), (34, 35));
-    assert_eq!(Refusal::UnknownList.number(), 36);
+    assert_eq!((Refusal::UnknownList.number(), Refusal::NotPlaned.number()), (36, 40));
     assert_eq!((Refusal::NameTwice.number(), Refusal::RingOfCalls.number(), Refusal::NoSuchItem.number()), (37, 39, 43));
-    assert_eq!((0..=255).filter_map(Refusal::of).count(), 35);
+    assert_eq!((0..=255).filter_map(Refusal::of).count(), 36);
 }
 
 /// Feeds a text with buffers that are not zero, and gives what they are then.

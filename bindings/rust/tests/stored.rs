@@ -2,7 +2,7 @@
 use std::fmt::Write;
 use std::path::Path;
 use strip::{check, color, convert, feed, line, mean, read, write, CheckAnswer, FeedAnswer, LineAnswer, Mean, MeanAnswer, ReadAnswer, Refusal, Totals};
-use strip::{lookup, order, Book, LookupAnswer, OrderAnswer};
+use strip::{lookup, order, plane, unplane, Book, LookupAnswer, OrderAnswer};
 use strip::{RUST_COLORS, SCRATCH_WORDS, SCRIPT_LIMIT, SHEET_BYTES, TEXT_BYTES};
 
 /// The stored cases of a kind, and their answers, which stand behind the line `== KIND`.
@@ -300,4 +300,23 @@ fn totals_are_the_counts_of_each_script() {
     }
     assert_eq!(totals.0, words);
     assert!(words[0] > 0 && words[59] > 0);
+}
+
+/// Each line is a sheet that is planed, or planed bytes that are turned back, into an output in which something stands.
+#[test]
+fn planing() {
+    let (cases, answers) = stored("plane");
+    let mut ours = String::new();
+    for case in cases.lines() {
+        let fields: Vec<Vec<u8>> = case.split('\t').map(bytes).collect();
+        let mut out = vec![7; usize::from(fields[3][0]) << 8 | usize::from(fields[3][1])];
+        let answer = if fields[0] == [0] { plane(&fields[1], &fields[2], &mut out) } else { unplane(&fields[1], &fields[2], &mut out) };
+        match answer {
+            LineAnswer::Accepted { length } => write!(ours, "accept {length} ").unwrap(),
+            LineAnswer::Refused { refusal, place } => write!(ours, "refuse {} at {place} ", refusal.number()).unwrap(),
+        }
+        out.iter().for_each(|b| write!(ours, "{b:02X}").unwrap());
+        ours += "\n";
+    }
+    compare(&ours, &answers);
 }

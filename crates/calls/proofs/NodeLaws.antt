@@ -94,10 +94,10 @@ all-append P (x ∷ xs) ys h g = (h .0, all-append P xs ys (h .1) g)
 pub all-spans : (n d : ℕ) (ns : Forest) → OkNodes n (innerL n d) ns → All (SpanOk n) (nodesOf ns)
 all-spans n d Nodes.none h = tt
 all-spans n d (leaf p l rest) h = (leaf-span n d p l (h .0), all-spans n d rest (h .1))
-all-spans n zero (box p k ns rest) h = absurd (inside n 0 p k ns (h .0))
+all-spans n zero (box p k ns rest) h = absurd (inside 4 n (innerL n 0) p k ns (h .0))
 all-spans n (suc d) (box p k ns rest) h = (
   tt,
-  all-append (SpanOk n) (nodesOf ns) (nodesOf rest) (all-spans n d ns (inside n (suc d) p k ns (h .0) .1))
+  all-append (SpanOk n) (nodesOf ns) (nodesOf rest) (all-spans n d ns (inside 4 n (innerL n (suc d)) p k ns (h .0) .1))
       (all-spans n (suc d) rest (h .1)),
 )
 

@@ -8,6 +8,7 @@ mod converting;
 mod feeding;
 mod lines;
 mod lining;
+mod planes;
 mod reading;
 mod scratches;
 mod sheets;
@@ -20,8 +21,8 @@ use lines::Fields;
 use text::Found;
 
 // The kinds, each behind its length, in the order in which they are answered.
-const KINDS: [u8; 69] =
-    *b"\x05sheet\x05check\x05color\x07convert\x04line\x06script\x04feed\x07rounded\x04back\x04book\x07scratch";
+const KINDS: [u8; 75] =
+    *b"\x05sheet\x05check\x05color\x07convert\x04line\x06script\x04feed\x07rounded\x04back\x04book\x07scratch\x05plane";
 
 // A line has room for a list, a text and a sheet, each of the last two with a byte more than the longest case.
 fn main() {
@@ -159,6 +160,7 @@ fn answer(kind: usize, line: &[u8], fields: Fields, totals: &mut [u32; 60]) {
         7 => reading::answer_rounded(line, fields),
         8 => writing::answer(line, fields),
         9 => books::answer(line, fields),
-        _ => scratches::answer(line, fields),
+        10 => scratches::answer(line, fields),
+        _ => planes::answer(line, fields),
     }
 }

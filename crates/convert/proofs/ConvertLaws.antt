@@ -226,9 +226,9 @@ nodes-fine : (n d : ℕ) (ns : Forest) → OkNodes n (innerL n d) ns → OkNodes
 unfolding triangled
 nodes-fine n d Nodes.none h = tt
 nodes-fine n d (leaf p l rest) h = (leaf-fine n d p l (h .0), nodes-fine n d rest (h .1))
-nodes-fine n zero (box p k ns rest) h = absurd (inside n 0 p k ns (h .0))
+nodes-fine n zero (box p k ns rest) h = absurd (inside 4 n (innerL n 0) p k ns (h .0))
 nodes-fine n (suc d) (box p k ns rest) h =
-    let g = inside n (suc d) p k ns (h .0) in (
+    let g = inside 4 n (innerL n (suc d)) p k ns (h .0) in (
       box-fine n (suc d) p k ns (triangled ns) (h .0) (subst⁻¹ (Small 2) (same-width ns) (g .0), nodes-fine n d ns (g .1)),
       nodes-fine n (suc d) rest (h .1),
     )

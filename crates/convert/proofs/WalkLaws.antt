@@ -15,9 +15,9 @@ use Rattle.ast.specs.Tree as tree
 use Rattle.ast.specs.Tree.{single, holding, width}
 use Rattle.sheet.specs.Sheet.{Node}
 use Rattle.sheet.specs.Records.{recordOf, nodesOf, allRecords}
-use Rattle.sheet.proofs.Flat.{concat}
+use Rattle.sheet.proofs.Flat.{concat, records-are}
 use Rattle.decode.specs.Reads.{Reads, same}
-use Rattle.records.proofs.PlaceLaws.{Behind, behind-head, behind-next, behind-last, first, this-one, records-are}
+use Rattle.records.proofs.PlaceLaws.{Behind, behind-head, behind-next, behind-last, first, this-one}
 use Rattle.convert.specs.Convert.{waveformKind, triangle, noise, waveAt, holdsNoise, convertedRecord, convertedSheet}
 use Rattle.convert.specs.Means.{IsSheet, PassesRecord, Converts}
 

@@ -45,4 +45,5 @@ numbered cause.UnknownList = record { some = omega arith; most = omega arith }
 numbered cause.NameTwice = record { some = omega arith; most = omega arith }
 numbered cause.TooManyItems = record { some = omega arith; most = omega arith }
 numbered cause.RingOfCalls = record { some = omega arith; most = omega arith }
+numbered cause.NotPlaned = record { some = omega arith; most = omega arith }
 numbered cause.NoSuchItem = record { some = omega arith; most = omega arith }

@@ -38,4 +38,5 @@ numberOf cause.UnknownList = 36
 numberOf cause.NameTwice = 37
 numberOf cause.TooManyItems = 38
 numberOf cause.RingOfCalls = 39
+numberOf cause.NotPlaned = 40
 numberOf cause.NoSuchItem = 43

@@ -64,6 +64,8 @@ pub enum Refusal {
     TooManyItems,
     // A chain of calls that comes round to its start.
     RingOfCalls,
+    // Bytes that no sheet for the text planes to.
+    NotPlaned,
     // Neither book has the name.
     NoSuchItem,
 }
@@ -159,6 +161,7 @@ pub fn number_of(refusal: Refusal) -> u8
         Refusal::NameTwice => 37,
         Refusal::TooManyItems => 38,
         Refusal::RingOfCalls => 39,
+        Refusal::NotPlaned => 40,
         Refusal::NoSuchItem => 43,
     }
 }

@@ -19,8 +19,7 @@ use Rattle.codec.specs.Codec.{big}
 use Rattle.ast.specs.Tree.{width}
 use Rattle.sheet.specs.Sheet.{Node, decode}
 use Rattle.sheet.specs.Records.{recordOf, recordsOf, nodesOf, allRecords, kindOf, entriesOf}
-use Rattle.sheet.proofs.Flat.{concat}
-use Rattle.records.proofs.PlaceLaws.{records-are}
+use Rattle.sheet.proofs.Flat.{concat, records-are}
 use Rattle.parser.specs.Reading.{reading}
 use Rattle.validate.specs.Checking.{isList, checking}
 use Rattle.validate.proofs.ListLaws.{unlisted as checking-unlisted}

@@ -59,7 +59,7 @@ pub fn pack_check(answer: CheckAnswer) -> u64
     }
 }
 
-// A line's, a page's or a script's length, or a refusal.
+// The length of a line, a page, a script or a sheet, or a refusal.
 pub fn pack_line(answer: LineAnswer) -> u64
     ensures { λ r. ⌜ r ≡ packedLine answer ⌝ }
 {

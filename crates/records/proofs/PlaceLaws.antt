@@ -1,6 +1,6 @@
 -- Where the records of a sheet stand. Assumes nothing.
 use Prim.Native.Nat.{ℕ, zero, suc, _+_, _-_, _≤_, _<_}
-use mathlib.Core.List.{List, [], _∷_, _++_, map, map-append}
+use mathlib.Core.List.{List, [], _∷_, _++_, map}
 use mathlib.Core.Option.{Option, none, some, Option·some-injective}
 use mathlib.Core.Path.{_≡_, refl, sym, _∙_, ap, subst⁻¹}
 use native.Mathlib.Nat.{le-of-suc-le-suc}
@@ -14,7 +14,7 @@ use Rattle.ast.specs.Tree.{Nodes, Container, leaf, box, single, holding, width}
 use Rattle.sheet.specs.Sheet.{word, patternForm, Node, Forest, kinds, splitNode, decode}
 use Rattle.sheet.specs.Records.{counted, recordOf, recordsOf, nodesOf, allRecords, kindOf, entriesOf}
 use Rattle.sheet.proofs.Laws.{nodeL, innerL, OkNodes, Fits, decoded}
-use Rattle.sheet.proofs.Flat.{concat, leaf-same, leaf-ok, inside, sheet-flat}
+use Rattle.sheet.proofs.Flat.{concat, leaf-same, leaf-ok, inside, records-are, sheet-flat}
 use Rattle.decode.specs.Reads.{Reads, got, bad, same}
 use Rattle.records.specs.Record.{blank, countForm, recordForm, recordView}
 use Rattle.records.specs.declared.Kind.{Kind}
@@ -68,24 +68,16 @@ all-append P (x ∷ xs) ys h g = (h .0, all-append P xs ys (h .1) g)
 pub all-alone : (n d : ℕ) (ns : Forest) → OkNodes n (innerL n d) ns → All (AloneAs n) (nodesOf ns)
 all-alone n d Nodes.none h = tt
 all-alone n d (leaf p l rest) h = (
-  written n (single p l) (single p l) (leaf-ok n (innerL n d) countL p l (h .0)) (sym (leaf-same n countForm p l)) refl refl,
+  written n (single p l) (single p l) (leaf-ok n (innerL n d) countL p l (h .0)) (sym (leaf-same 4 n countForm p l)) refl refl,
   all-alone n d rest (h .1),
 )
-all-alone n zero (box p k ns rest) h = absurd (inside n 0 p k ns (h .0))
+all-alone n zero (box p k ns rest) h = absurd (inside 4 n (innerL n 0) p k ns (h .0))
 all-alone n (suc d) (box p k ns rest) h = (
   written n (holding p k ns) (holding p k (blank (width ns))) (box-ok n (suc d) p k ns (h .0))
       (same-count n p k ns (blank (width ns)) (sym (width-blank (width ns)))) (same-kind p k ns (blank (width ns))) refl,
-  all-append (AloneAs n) (nodesOf ns) (nodesOf rest) (all-alone n d ns (inside n (suc d) p k ns (h .0) .1))
+  all-append (AloneAs n) (nodesOf ns) (nodesOf rest) (all-alone n d ns (inside 4 n (innerL n (suc d)) p k ns (h .0) .1))
       (all-alone n (suc d) rest (h .1)),
 )
-
--- the records of a tree are those of its nodes
-pub records-are : (n : ℕ) (ns : Forest) → recordsOf n ns ≡ map (recordOf n) (nodesOf ns)
-records-are n Nodes.none = refl
-records-are n (leaf p l rest) = ap (λ (rs : List (List ℕ)). recordOf n (single p l) ∷ rs) (records-are n rest)
-records-are n (box p k ns rest) =
-    (λ i. recordOf n (holding p k ns) ∷ records-are n ns i ++ records-are n rest i)
-    ∙ ap (λ (rs : List (List ℕ)). recordOf n (holding p k ns) ∷ rs) (sym (map-append (recordOf n) (nodesOf ns) (nodesOf rest)))
 
 alone-records : (n : ℕ) (xs : List Node) → All (AloneAs n) xs → All (Alone n) (map (recordOf n) xs)
 alone-records n [] h = tt

@@ -96,12 +96,15 @@ spanL n = suchL (Sheet.inText n) (structL Sheet.toSpan Sheet.ofSpan (bigL 2 & bi
 
 -- ---- enums: each value is its case's, and each case's value is told apart again
 
-pub value-same : (v : ValueExpr) → makeAt Sheet.values (Sheet.splitValue v .0) (Sheet.splitValue v .1) ≡ v
-value-same (scalar x) = refl
-value-same (array xs) = refl
+pub value-same : (w : ℕ) (v : ValueExpr) → makeAt (Sheet.valuesOf w) (Sheet.splitValueOf w v .0) (Sheet.splitValueOf w v .1) ≡ v
+value-same w (scalar x) = refl
+value-same w (array xs) = refl
+
+abbrev pub valueLOf : (w : ℕ) → Law (Sheet.valueFormOf w)
+valueLOf w = enumL (Sheet.valuesOf w) (Sheet.splitValueOf w) (bigL w, (manyL wordL, tt)) (value-same w) ((λ x. refl), ((λ x. refl), tt))
 
 abbrev pub valueL : Law Sheet.valueForm
-valueL = enumL Sheet.values Sheet.splitValue (wordL, (manyL wordL, tt)) value-same ((λ x. refl), ((λ x. refl), tt))
+valueL = valueLOf 4
 
 pub easing-same : (n : ℕ) (e : EasingSpec) → makeAt (Sheet.easings n) (Sheet.splitEasing n e .0) (Sheet.splitEasing n e .1) ≡ e
 easing-same n (named v s) = refl
@@ -139,12 +142,15 @@ dampingL =
     enumL Sheet.dampings Sheet.splitDamping (wordL, (wordL & wordL, (wordL & wordL, tt))) damping-same
     ((λ x. refl), ((λ x. refl), ((λ x. refl), tt)))
 
-pub time-same : (t : KeyframeTime) → makeAt Sheet.timeCases (Sheet.splitTime t .0) (Sheet.splitTime t .1) ≡ t
-time-same (percent x) = refl
-time-same (seconds x) = refl
+pub time-same : (w : ℕ) (t : KeyframeTime) → makeAt (Sheet.timesOf w) (Sheet.splitTimeOf w t .0) (Sheet.splitTimeOf w t .1) ≡ t
+time-same w (percent x) = refl
+time-same w (seconds x) = refl
+
+abbrev pub timeLOf : (w : ℕ) → Law (Sheet.timeFormOf w)
+timeLOf w = enumL (Sheet.timesOf w) (Sheet.splitTimeOf w) (bigL w, (bigL w, tt)) (time-same w) ((λ x. refl), ((λ x. refl), tt))
 
 abbrev pub timeL : Law Sheet.timeForm
-timeL = enumL Sheet.timeCases Sheet.splitTime (wordL, (wordL, tt)) time-same ((λ x. refl), ((λ x. refl), tt))
+timeL = timeLOf 4
 
 pub pattern-same : (p : StaggerPatternSpec) → makeAt Sheet.patterns (Sheet.splitPattern p .0) (Sheet.splitPattern p .1) ≡ p
 pattern-same (grid c r o) = refl
@@ -159,8 +165,11 @@ patternL =
 
 -- ---- structs
 
+abbrev pub entryLOf : (w n : ℕ) → Law (Sheet.entryFormOf w n)
+entryLOf w n = structL Sheet.toEntry Sheet.ofEntry (timeLOf w & valueLOf w & optL (easingL n)) (λ b. refl) (λ a. refl)
+
 abbrev pub entryL : (n : ℕ) → Law (Sheet.entryForm n)
-entryL n = structL Sheet.toEntry Sheet.ofEntry (timeL & valueL & optL (easingL n)) (λ b. refl) (λ a. refl)
+entryL = entryLOf 4
 
 abbrev pub tweenL : (n : ℕ) → Law (Sheet.tweenForm n)
 tweenL n =
@@ -176,8 +185,11 @@ springL n =
     & optL (belowL 2) & optL dampingL)
     (λ b. refl) (λ a. refl)
 
+abbrev pub keyframesLOf : (w n : ℕ) → Law (Sheet.keyframesFormOf w n)
+keyframesLOf w n = structL Sheet.toKeyframes Sheet.ofKeyframes (spanL n & manyL (entryLOf w n) & optL loopL) (λ b. refl) (λ a. refl)
+
 abbrev pub keyframesL : (n : ℕ) → Law (Sheet.keyframesForm n)
-keyframesL n = structL Sheet.toKeyframes Sheet.ofKeyframes (spanL n & manyL (entryL n) & optL loopL) (λ b. refl) (λ a. refl)
+keyframesL = keyframesLOf 4
 
 abbrev pub pathL : (n : ℕ) → Law (Sheet.pathForm n)
 pathL n =
@@ -207,37 +219,37 @@ atL = structL Sheet.toAt Sheet.ofAt (wordL & flagL) (λ b. refl) (λ a. refl)
 
 -- ---- nodes
 
-pub node-same : (n : ℕ) (inner : Form Sheet.Forest) (x : Sheet.Node)
-    → makeAt (Sheet.kinds n inner) (Sheet.splitNode n inner x .0) (Sheet.splitNode n inner x .1) ≡ x
-node-same n inner (single p (tween x)) = refl
-node-same n inner (single p (spring x)) = refl
-node-same n inner (single p (keyframes x)) = refl
-node-same n inner (holding p sequence ns) = refl
-node-same n inner (holding p parallel ns) = refl
-node-same n inner (holding p (group m) ns) = refl
-node-same n inner (holding p (stagger q d) ns) = refl
-node-same n inner (single p (path x)) = refl
-node-same n inner (single p (morph x)) = refl
-node-same n inner (single p (draw x)) = refl
-node-same n inner (single p (color x)) = refl
-node-same n inner (single p (waveform x)) = refl
-node-same n inner (single p (preset x)) = refl
-node-same n inner (single p (label s)) = refl
-node-same n inner (single p (at x)) = refl
+pub node-same : (w n : ℕ) (inner : Form Sheet.Forest) (x : Sheet.Node)
+    → makeAt (Sheet.kindsOf w n inner) (Sheet.splitNodeOf w n inner x .0) (Sheet.splitNodeOf w n inner x .1) ≡ x
+node-same w n inner (single p (tween x)) = refl
+node-same w n inner (single p (spring x)) = refl
+node-same w n inner (single p (keyframes x)) = refl
+node-same w n inner (holding p sequence ns) = refl
+node-same w n inner (holding p parallel ns) = refl
+node-same w n inner (holding p (group m) ns) = refl
+node-same w n inner (holding p (stagger q d) ns) = refl
+node-same w n inner (single p (path x)) = refl
+node-same w n inner (single p (morph x)) = refl
+node-same w n inner (single p (draw x)) = refl
+node-same w n inner (single p (color x)) = refl
+node-same w n inner (single p (waveform x)) = refl
+node-same w n inner (single p (preset x)) = refl
+node-same w n inner (single p (label s)) = refl
+node-same w n inner (single p (at x)) = refl
 
 abbrev pub startL : (n : ℕ) → Law (Sheet.startForm n)
 startL n = suchL (λ p. ltb p n) (bigL 2)
 
 -- `b` is the law of the form of the nodes in a container
-module _ (n : ℕ) {inner : Form Sheet.Forest} (b : Law inner) where
-  abbrev pub nodeL : Law (Sheet.nodeForm n inner)
-  nodeL =
-      enumL (Sheet.kinds n inner) (Sheet.splitNode n inner) (
+module _ (w n : ℕ) {inner : Form Sheet.Forest} (b : Law inner) where
+  abbrev pub nodeLOf : Law (Sheet.nodeFormOf w n inner)
+  nodeLOf =
+      enumL (Sheet.kindsOf w n inner) (Sheet.splitNodeOf w n inner) (
         startL n & tweenL n,
         (
           startL n & springL n,
           (
-            startL n & keyframesL n,
+            startL n & keyframesLOf w n,
             (
               startL n & b,
               (
@@ -266,7 +278,7 @@ module _ (n : ℕ) {inner : Form Sheet.Forest} (b : Law inner) where
           ),
         ),
       )
-      (node-same n inner) (
+      (node-same w n inner) (
         (λ x. refl),
         (
           (λ x. refl),
@@ -293,13 +305,13 @@ module _ (n : ℕ) {inner : Form Sheet.Forest} (b : Law inner) where
       )
 
   -- every one of some nodes
-  abbrev pub OkNodes : Sheet.Forest → Type 0
-  OkNodes Nodes.none = Unit {0}
-  OkNodes (leaf p l rest) = nodeL .ok (single p l) × OkNodes rest
-  OkNodes (box p k ns rest) = nodeL .ok (holding p k ns) × OkNodes rest
+  abbrev pub OkNodesOf : Sheet.Forest → Type 0
+  OkNodesOf Nodes.none = Unit {0}
+  OkNodesOf (leaf p l rest) = nodeLOf .ok (single p l) × OkNodesOf rest
+  OkNodesOf (box p k ns rest) = nodeLOf .ok (holding p k ns) × OkNodesOf rest
 
   abbrev Some : ℕ → Sheet.Forest → Type 0
-  Some c ns = (width ns ≡ c) × OkNodes ns
+  Some c ns = (width ns ≡ c) × OkNodesOf ns
 
   zero≢suc : {A : Type 0} (c : ℕ) → 0 ≡ suc c → A
   zero≢suc c h = absurd (no c h)
@@ -312,7 +324,7 @@ module _ (n : ℕ) {inner : Form Sheet.Forest} (b : Law inner) where
   no-nodes (leaf p l rest) h = zero≢suc (width rest) (sym h)
   no-nodes (box p k ns rest) h = zero≢suc (width rest) (sym h)
 
-  there : (c : ℕ) (ns : Sheet.Forest) → Some (suc c) ns → nodeL .ok (Sheet.ofForest ns .0) × Some c (Sheet.ofForest ns .1)
+  there : (c : ℕ) (ns : Sheet.Forest) → Some (suc c) ns → nodeLOf .ok (Sheet.ofForest ns .0) × Some c (Sheet.ofForest ns .1)
   there c Nodes.none h = zero≢suc c (h .0)
   there c (leaf p l rest) h = (h .1 .0, (suc-inj (h .0), h .1 .1))
   there c (box p k ns rest) h = (h .1 .0, (suc-inj (h .0), h .1 .1))
@@ -322,7 +334,7 @@ module _ (n : ℕ) {inner : Form Sheet.Forest} (b : Law inner) where
   same c (leaf p l rest) h = refl
   same c (box p k ns rest) h = refl
 
-  fine : (c : ℕ) (x : Sheet.Node) (rest : Sheet.Forest) → nodeL .ok x → Some c rest → Some (suc c) (push x rest)
+  fine : (c : ℕ) (x : Sheet.Node) (rest : Sheet.Forest) → nodeLOf .ok x → Some c rest → Some (suc c) (push x rest)
   fine c (single p l) rest h o = (ap suc (o .0), (h, o .1))
   fine c (holding p k ns) rest h o = (ap suc (o .0), (h, o .1))
 
@@ -330,7 +342,7 @@ module _ (n : ℕ) {inner : Form Sheet.Forest} (b : Law inner) where
   again (single p l) rest = refl
   again (holding p k ns) rest = refl
 
-  forest-lawful : (c : ℕ) → Lawful (Sheet.forest n inner c) (Some c)
+  forest-lawful : (c : ℕ) → Lawful (Sheet.forestOf w n inner c) (Some c)
   forest-lawful zero =
       via-lawful empty
       (λ u. Nodes.none)
@@ -343,20 +355,29 @@ module _ (n : ℕ) {inner : Form Sheet.Forest} (b : Law inner) where
       (λ u h. (refl, tt))
       (λ u h. refl)
   forest-lawful (suc c) =
-      via-lawful (Sheet.nodeForm n inner ▹ Sheet.forest n inner c) Sheet.toForest Sheet.ofForest (λ p. nodeL .ok (p .0) × Some c (p .1))
+      via-lawful (Sheet.nodeFormOf w n inner ▹ Sheet.forestOf w n inner c) Sheet.toForest Sheet.ofForest (λ p. nodeLOf .ok (p .0) × Some c (p .1))
       (Some (suc c))
-      (both-lawful (Sheet.nodeForm n inner) (Sheet.forest n inner c) (nodeL .ok) (Some c) (nodeL .law) (forest-lawful c))
+      (both-lawful (Sheet.nodeFormOf w n inner) (Sheet.forestOf w n inner c) (nodeLOf .ok) (Some c) (nodeLOf .law) (forest-lawful c))
       (there c) (same c) (λ p h. fine c (p .0) (p .1) (h .0) (h .1)) (λ p h. again (p .0) (p .1))
 
-  pub sized-nodes : Lawful (sized width (Sheet.forest n inner)) (λ ns. Small 2 (width ns) × OkNodes ns)
-  sized-nodes = sized-lawful width (Sheet.forest n inner) OkNodes forest-lawful
+  pub sized-nodes : Lawful (sized width (Sheet.forestOf w n inner)) (λ ns. Small 2 (width ns) × OkNodesOf ns)
+  sized-nodes = sized-lawful width (Sheet.forestOf w n inner) OkNodesOf forest-lawful
 
-  abbrev pub sizedL : Law (sized width (Sheet.forest n inner))
-  sizedL = record { ok = λ ns. Small 2 (width ns) × OkNodes ns; law = sized-nodes }
+  abbrev pub sizedLOf : Law (sized width (Sheet.forestOf w n inner))
+  sizedLOf = record { ok = λ ns. Small 2 (width ns) × OkNodesOf ns; law = sized-nodes }
+
+abbrev pub innerLOf : (w n d : ℕ) → Law (Sheet.innerOf w n d)
+innerLOf w n zero = neverL
+innerLOf w n (suc d) = sizedLOf w n (innerLOf w n d)
+
+abbrev pub nodeL : (n : ℕ) {inner : Form Sheet.Forest} (b : Law inner) → Law (Sheet.nodeForm n inner)
+nodeL n b = nodeLOf 4 n b
+
+abbrev pub OkNodes : (n : ℕ) {inner : Form Sheet.Forest} (b : Law inner) → Sheet.Forest → Type 0
+OkNodes n b = OkNodesOf 4 n b
 
 abbrev pub innerL : (n d : ℕ) → Law (Sheet.inner n d)
-innerL n zero = neverL
-innerL n (suc d) = sizedL n (innerL n d)
+innerL = innerLOf 4
 
 -- ---- the whole sheet
 

@@ -6,14 +6,18 @@ use Rattle.codec.specs.Codec.{Form, big}
 use lib.ListN.{length}
 use Rattle.ast.specs.Tree as tree
 use Rattle.ast.specs.Tree.{Nodes, KeyframeTime, Leaf, leaf, box, single, holding, width}
-use Rattle.sheet.specs.Sheet.{Node, Forest, nodeForm, splitNode}
+use Rattle.sheet.specs.Sheet.{Node, Forest, nodeFormOf, splitNode}
 
 -- the nodes in a container as their count alone
 abbrev pub counted : Form Forest
 counted = record { write = λ ns. big 2 .write (width ns); read = λ bs. none }
 
+-- the record of a node, its frames' numbers of w bytes each
+abbrev pub recordAs : ℕ → ℕ → Node → List ℕ
+recordAs w n x = nodeFormOf w n counted .write x
+
 abbrev pub recordOf : ℕ → Node → List ℕ
-recordOf n x = nodeForm n counted .write x
+recordOf n x = recordAs 4 n x
 
 -- "one record a node, preorder"
 abbrev pub recordsOf : ℕ → Forest → List (List ℕ)

@@ -1,4 +1,6 @@
 -- 01, "The sheet": each type of ast.rs as a form of bytes. n is the text's length. Assumes nothing.
+-- 02 (k) takes the numbers of frames out of a sheet, so a frame's time and scalar value have w bytes each (`..Of w`): 4 in a sheet, 0 where
+-- they are taken out.
 use Prim.Native.Nat.{ℕ, zero, suc, _+_}
 use mathlib.Core.Bool.{Bool, true, false, cond}
 use mathlib.Core.List.{List, [], _∷_}
@@ -97,15 +99,24 @@ spanForm n = such (inText n) (via (big 2 ▹ big 2) toSpan ofSpan)
 -- ---- "An enum: a byte, its case's position, then its fields"
 
 -- "An array ..: count, then elements"
+abbrev pub valuesOf : ℕ → List (Case ValueExpr)
+valuesOf w = case (big w) scalar ∷ case (many word) array ∷ []
+
+abbrev pub splitValueOf : (w : ℕ) → ValueExpr → (i : ℕ) × FieldsAt (valuesOf w) i
+splitValueOf w (scalar x) = (0, x)
+splitValueOf w (array xs) = (1, xs)
+
+abbrev pub valueFormOf : ℕ → Form ValueExpr
+valueFormOf w = enum (valuesOf w) (splitValueOf w)
+
 abbrev pub values : List (Case ValueExpr)
-values = case word scalar ∷ case (many word) array ∷ []
+values = valuesOf 4
 
 abbrev pub splitValue : ValueExpr → (i : ℕ) × FieldsAt values i
-splitValue (scalar x) = (0, x)
-splitValue (array xs) = (1, xs)
+splitValue = splitValueOf 4
 
 abbrev pub valueForm : Form ValueExpr
-valueForm = enum values splitValue
+valueForm = valueFormOf 4
 
 -- "`Named` also has, before its start, 1 if written `Easing::`, else 0"
 abbrev pub easings : ℕ → List (Case EasingSpec)
@@ -157,15 +168,24 @@ splitDamping (underdamped s r) = (2, (s, r))
 abbrev pub dampingForm : Form DampingMode
 dampingForm = enum dampings splitDamping
 
+abbrev pub timesOf : ℕ → List (Case KeyframeTime)
+timesOf w = case (big w) percent ∷ case (big w) seconds ∷ []
+
+abbrev pub splitTimeOf : (w : ℕ) → KeyframeTime → (i : ℕ) × FieldsAt (timesOf w) i
+splitTimeOf w (percent x) = (0, x)
+splitTimeOf w (seconds x) = (1, x)
+
+abbrev pub timeFormOf : ℕ → Form KeyframeTime
+timeFormOf w = enum (timesOf w) (splitTimeOf w)
+
 abbrev pub timeCases : List (Case KeyframeTime)
-timeCases = case word percent ∷ case word seconds ∷ []
+timeCases = timesOf 4
 
 abbrev pub splitTime : KeyframeTime → (i : ℕ) × FieldsAt timeCases i
-splitTime (percent x) = (0, x)
-splitTime (seconds x) = (1, x)
+splitTime = splitTimeOf 4
 
 abbrev pub timeForm : Form KeyframeTime
-timeForm = enum timeCases splitTime
+timeForm = timeFormOf 4
 
 abbrev pub patterns : List (Case StaggerPatternSpec)
 patterns =
@@ -192,8 +212,11 @@ toEntry (time, (value, easing)) = record { time = time; value = value; easing = 
 abbrev pub ofEntry : KeyframeEntry KeyframeTime → KeyframeTime × (ValueExpr × Option EasingSpec)
 ofEntry x = (x .time, (x .value, x .easing))
 
+abbrev pub entryFormOf : ℕ → ℕ → Form (KeyframeEntry KeyframeTime)
+entryFormOf w n = via (timeFormOf w ▹ valueFormOf w ▹ opt (easingForm n)) toEntry ofEntry
+
 abbrev pub entryForm : ℕ → Form (KeyframeEntry KeyframeTime)
-entryForm n = via (timeForm ▹ valueForm ▹ opt (easingForm n)) toEntry ofEntry
+entryForm = entryFormOf 4
 
 abbrev pub TweenFields : Type 0
 TweenFields =
@@ -267,8 +290,11 @@ toKeyframes (target, (frames, loopMode)) = record { target = target; frames = fr
 abbrev pub ofKeyframes : KeyframeSpec KeyframeTime → Span × (List (KeyframeEntry KeyframeTime) × Option LoopSpec)
 ofKeyframes x = (x .target, (x .frames, x .loopMode))
 
+abbrev pub keyframesFormOf : ℕ → ℕ → Form (KeyframeSpec KeyframeTime)
+keyframesFormOf w n = via (spanForm n ▹ many (entryFormOf w n) ▹ opt loopForm) toKeyframes ofKeyframes
+
 abbrev pub keyframesForm : ℕ → Form (KeyframeSpec KeyframeTime)
-keyframesForm n = via (spanForm n ▹ many (entryForm n) ▹ opt loopForm) toKeyframes ofKeyframes
+keyframesForm = keyframesFormOf 4
 
 abbrev pub PathFields : Type 0
 PathFields = Span × (Span × (ℕ × (Option EasingSpec × (Option Bool × (Option (ℕ × ℕ) × Option LoopSpec)))))
@@ -390,11 +416,11 @@ abbrev pub nodeCase : {A : Type 0} → ℕ → Form A → (ℕ → A → Node) �
 nodeCase n fields make = case (startForm n ▹ fields) (λ x. make (x .0) (x .1))
 
 -- "A record is the kind (position in `MotionNode`, tween 0 to at 14), then the fields"; `inner` is the form of the nodes in a container
-abbrev pub kinds : ℕ → Form Forest → List (Case Node)
-kinds n inner =
+abbrev pub kindsOf : ℕ → ℕ → Form Forest → List (Case Node)
+kindsOf w n inner =
     nodeCase n (tweenForm n) (λ p x. single p (tween x))
     ∷ nodeCase n (springForm n) (λ p x. single p (spring x))
-    ∷ nodeCase n (keyframesForm n) (λ p x. single p (keyframes x))
+    ∷ nodeCase n (keyframesFormOf w n) (λ p x. single p (keyframes x))
     ∷ nodeCase n inner (λ p ns. holding p sequence ns)
     ∷ nodeCase n inner (λ p ns. holding p parallel ns)
     ∷ nodeCase n (below 2 ▹ inner) (λ p x. holding p (group (x .0)) (x .1))
@@ -409,25 +435,34 @@ kinds n inner =
     ∷ nodeCase n atForm (λ p x. single p (at x))
     ∷ []
 
+abbrev pub splitNodeOf : (w n : ℕ) (inner : Form Forest) → Node → (i : ℕ) × FieldsAt (kindsOf w n inner) i
+splitNodeOf w n inner (single p (tween x)) = (0, (p, x))
+splitNodeOf w n inner (single p (spring x)) = (1, (p, x))
+splitNodeOf w n inner (single p (keyframes x)) = (2, (p, x))
+splitNodeOf w n inner (holding p sequence ns) = (3, (p, ns))
+splitNodeOf w n inner (holding p parallel ns) = (4, (p, ns))
+splitNodeOf w n inner (holding p (group mode) ns) = (5, (p, (mode, ns)))
+splitNodeOf w n inner (holding p (stagger pattern delay) ns) = (6, (p, (pattern, (delay, ns))))
+splitNodeOf w n inner (single p (path x)) = (7, (p, x))
+splitNodeOf w n inner (single p (morph x)) = (8, (p, x))
+splitNodeOf w n inner (single p (draw x)) = (9, (p, x))
+splitNodeOf w n inner (single p (color x)) = (10, (p, x))
+splitNodeOf w n inner (single p (waveform x)) = (11, (p, x))
+splitNodeOf w n inner (single p (preset x)) = (12, (p, x))
+splitNodeOf w n inner (single p (label s)) = (13, (p, s))
+splitNodeOf w n inner (single p (at x)) = (14, (p, x))
+
+abbrev pub nodeFormOf : ℕ → ℕ → Form Forest → Form Node
+nodeFormOf w n inner = enum (kindsOf w n inner) (splitNodeOf w n inner)
+
+abbrev pub kinds : ℕ → Form Forest → List (Case Node)
+kinds = kindsOf 4
+
 abbrev pub splitNode : (n : ℕ) (inner : Form Forest) → Node → (i : ℕ) × FieldsAt (kinds n inner) i
-splitNode n inner (single p (tween x)) = (0, (p, x))
-splitNode n inner (single p (spring x)) = (1, (p, x))
-splitNode n inner (single p (keyframes x)) = (2, (p, x))
-splitNode n inner (holding p sequence ns) = (3, (p, ns))
-splitNode n inner (holding p parallel ns) = (4, (p, ns))
-splitNode n inner (holding p (group mode) ns) = (5, (p, (mode, ns)))
-splitNode n inner (holding p (stagger pattern delay) ns) = (6, (p, (pattern, (delay, ns))))
-splitNode n inner (single p (path x)) = (7, (p, x))
-splitNode n inner (single p (morph x)) = (8, (p, x))
-splitNode n inner (single p (draw x)) = (9, (p, x))
-splitNode n inner (single p (color x)) = (10, (p, x))
-splitNode n inner (single p (waveform x)) = (11, (p, x))
-splitNode n inner (single p (preset x)) = (12, (p, x))
-splitNode n inner (single p (label s)) = (13, (p, s))
-splitNode n inner (single p (at x)) = (14, (p, x))
+splitNode = splitNodeOf 4
 
 abbrev pub nodeForm : ℕ → Form Forest → Form Node
-nodeForm n inner = enum (kinds n inner) (splitNode n inner)
+nodeForm = nodeFormOf 4
 
 abbrev pub toForest : Node × Forest → Forest
 toForest (x, rest) = push x rest
@@ -439,18 +474,27 @@ ofForest (leaf p l rest) = (single p l, rest)
 ofForest (box p b ns rest) = (holding p b ns, rest)
 
 -- so many nodes
+abbrev pub forestOf : ℕ → ℕ → Form Forest → ℕ → Form Forest
+forestOf w n inner zero = via empty (λ u. Nodes.none) (λ ns. tt)
+forestOf w n inner (suc c) = via (nodeFormOf w n inner ▹ forestOf w n inner c) toForest ofForest
+
 abbrev pub forest : ℕ → Form Forest → ℕ → Form Forest
-forest n inner zero = via empty (λ u. Nodes.none) (λ ns. tt)
-forest n inner (suc c) = via (nodeForm n inner ▹ forest n inner c) toForest ofForest
+forest = forestOf 4
 
 -- "nodes inside a container appear as their count, and their records follow"; d containers more may nest
+abbrev pub innerOf : ℕ → ℕ → ℕ → Form Forest
+innerOf w n zero = never
+innerOf w n (suc d) = sized width (forestOf w n (innerOf w n d))
+
 abbrev pub inner : ℕ → ℕ → Form Forest
-inner n zero = never
-inner n (suc d) = sized width (forest n (inner n d))
+inner = innerOf 4
 
 -- "Head record: count of top nodes. Then one record a node, preorder", "at most 16 containers nested"
+abbrev pub sheetOf : ℕ → ℕ → Form Forest
+sheetOf w n = innerOf w n 17
+
 abbrev pub sheet : ℕ → Form Forest
-sheet n = inner n 17
+sheet = sheetOf 4
 
 -- ---- encoding and decoding
 

@@ -11,6 +11,7 @@ ghost use Rattle.feed.specs.Feed.{fed, feeding};
 ghost use Rattle.back.specs.Back.{writing};
 ghost use Rattle.lookup.specs.Lookup.{lookingUp};
 ghost use Rattle.listing.specs.Listing.{listing};
+ghost use Rattle.plane.specs.Planing.{planing, unplaning};
 ghost use Rattle.packed.specs.Packed.{packedCheck, packedLookup, readOutcome, lineOutcome, printOutcome, feedOutcome, meanOutcome, colorOutcome, convertOutcome, orderOutcome};
 use packed::pack_check;
 use packed::pack_color;
@@ -121,4 +122,20 @@ pub extern "C" fn strip_order(book: &[u8], out: &mut [u8]) -> u64
     ensures { λ r. ⌜ (r, now (out .exit)) ≡ orderOutcome (listing (now (book .entry)) (now (out .entry))) ⌝ }
 {
     pack_order(listing::list(book, out))
+}
+
+// plane::plane.
+#[no_mangle]
+pub extern "C" fn strip_plane(text: &[u8], sheet: &[u8], out: &mut [u8]) -> u64
+    ensures { λ r. ⌜ (r, now (out .exit)) ≡ lineOutcome (planing (now (text .entry)) (now (sheet .entry)) (now (out .entry))) ⌝ }
+{
+    pack_line(plane::plane(text, sheet, out))
+}
+
+// plane::unplane.
+#[no_mangle]
+pub extern "C" fn strip_unplane(text: &[u8], planed: &[u8], out: &mut [u8]) -> u64
+    ensures { λ r. ⌜ (r, now (out .exit)) ≡ lineOutcome (unplaning (now (text .entry)) (now (planed .entry)) (now (out .entry))) ⌝ }
+{
+    pack_line(plane::unplane(text, planed, out))
 }

@@ -127,7 +127,7 @@ foreign-step : (x : Bool) (i n : ℕ) (o : Option ℕ) → Before (suc i + n) o 
 foreign-step true i n o h = omega arith
 foreign-step false i n o h = before-more o (suc i + n) (i + suc n) (omega arith) h
 
-foreign-before : (i : ℕ) (t : List ℕ) → Before (i + length t) (foreignFrom i t)
+pub foreign-before : (i : ℕ) (t : List ℕ) → Before (i + length t) (foreignFrom i t)
 unfolding foreignFrom
 foreign-before i [] = tt
 foreign-before i (b ∷ t) = foreign-step (isForeign b) i (length t) (foreignFrom (suc i) t) (foreign-before (suc i) t)

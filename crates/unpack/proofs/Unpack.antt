@@ -14,6 +14,7 @@ use Rattle.script.specs.Output.{pageBytes, printing}
 use Rattle.back.specs.Back.{writing}
 use Rattle.lookup.specs.Lookup.{lookingUp}
 use Rattle.listing.specs.Listing.{listing}
+use Rattle.plane.specs.Planing.{planing, unplaning}
 use Rattle.error.specs.Refusal.{numberOf}
 use Rattle.error.specs.declared.ReadAnswer.{ReadAnswer}
 use Rattle.error.specs.declared.ReadAnswer.the-variants as read
@@ -39,7 +40,7 @@ use Rattle.error.specs.declared.FeedAnswer.{FeedAnswer}
 use Rattle.error.specs.declared.FeedAnswer.the-variants as feed
 use Rattle.unpack.proofs.Within.{ReadWithin, read-within, CheckWithin, check-within, LineWithin, line-within, print-within}
 use Rattle.unpack.proofs.BookWithin.{LookupWithin, lookup-within, OrderWithin, order-within}
-use Rattle.unpack.proofs.Within.{ScriptWithin, write-within, convert-within}
+use Rattle.unpack.proofs.Within.{ScriptWithin, write-within, convert-within, plane-within, unplane-within}
 
 -- ---- reading
 
@@ -108,6 +109,14 @@ write-parts list t s out = by (writing list t s out .0) (write-within list t s o
     by : (a : LineAnswer) → ScriptWithin a → LineParts a (packedLine a)
     by (line.Accepted n) h = (line-number n, line-length n (omega arith))
     by (line.Refused r p) h = (refusal-number r p, refusal-place r p (omega arith))
+
+-- ---- planing and its inverse
+
+pub plane-parts : (t s out : List ℕ) → LineParts (planing t s out .0) (packedLine (planing t s out .0))
+plane-parts t s out = line-back 65535 0 (omega arith) (omega arith) (planing t s out .0) (plane-within t s out)
+
+pub unplane-parts : (t bs out : List ℕ) → LineParts (unplaning t bs out .0) (packedLine (unplaning t bs out .0))
+unplane-parts t bs out = line-back 65535 0 (omega arith) (omega arith) (unplaning t bs out .0) (unplane-within t bs out)
 
 -- ---- feeding: 0 for an accepted script, else its refusal's number and its place behind the number 0; or a refusal of feeding
 

@@ -4,7 +4,7 @@ use mathlib.Core.Bool.{Bool, true, false, _||_, cond}
 use mathlib.Core.List.{List, [], _∷_, _++_}
 use mathlib.Core.Logic.{_⊎_, inl, inr}
 use mathlib.Core.Option.{Option, none, some}
-use mathlib.Core.Path.{_≡_, refl}
+use mathlib.Core.Path.{_≡_, refl, ap}
 use native.Mathlib.Omega.{arith}
 use lib.Dec.{ltb}
 use lib.ListN.{length, drop, replicate, getElem?}
@@ -17,7 +17,12 @@ use Rattle.token.specs.Split as splitting
 use Rattle.ast.specs.Tree.{Nodes, mapTimes, records}
 use Rattle.sheet.specs.Sheet.{Forest, encode, decode}
 use Rattle.sheet.specs.Records.{allRecords}
-use Rattle.sheet.specs.Opening.{Opened, opened, shut, opening}
+use Rattle.sheet.specs.Opening.{Opened, opened, shut, foreignFrom, unlessForeign, opening}
+use Rattle.sheet.proofs.Laws.{decoded}
+use Rattle.planed.specs.Planes.{planed, unplaned}
+use Rattle.planed.proofs.PlanedLaws.{length-planed, unplaned-is}
+use Rattle.plane.specs.Planing.{treeOr, openedAs, planing, unplaning}
+use Rattle.plane.specs.Planing.{answered as writtenAs}
 use Rattle.grammar.specs.Rule.{Notes, Out, got, refused}
 use Rattle.grammar.specs.Grammar.{stored, animatoInput}
 use Rattle.parser.specs.Reading.{Parsed, tree, wrong, unlessLeft, finished, parsed, parse}
@@ -34,7 +39,7 @@ use Rattle.script.specs.Output.{printed, paged, pageBytes, lineBytes, printing}
 use Rattle.script.proofs.OutputLaws.{records-same, printed-small}
 use Rattle.error.specs.declared.Refusal.{Refusal}
 use Rattle.error.specs.declared.Refusal.the-variants.{TextTooLong, ScratchTooShort, SheetTooShort, OutputTooShort}
-use Rattle.error.specs.declared.Refusal.the-variants.{Unwritable, ScriptTooLong}
+use Rattle.error.specs.declared.Refusal.the-variants.{Unwritable, ScriptTooLong, NotASheet, NotPlaned}
 use Rattle.error.specs.declared.ReadAnswer.{ReadAnswer}
 use Rattle.error.specs.declared.ReadAnswer.the-variants as read
 use Rattle.error.specs.declared.CheckAnswer.{CheckAnswer}
@@ -47,7 +52,7 @@ use Rattle.fresh.specs.Fresh.{script, hasText}
 use Rattle.back.specs.Back.{refusal, fitted, written, senseOf, ofTree, ofVerdict, writing}
 use Rattle.unpack.proofs.StepLaws.{Near, LeftNear, OutNear}
 use Rattle.unpack.proofs.RuleLaws.{input-stays}
-use Rattle.unpack.proofs.SheetLaws.{sheet-some, Below, nodes-below, Within, opening-within, under-within}
+use Rattle.unpack.proofs.SheetLaws.{sheet-some, Below, nodes-below, Before, foreign-before, Within, opening-within, under-within}
 
 -- ---- reading: a text's tokens, and its refusals 2 to 5
 
@@ -275,3 +280,42 @@ write-within list t s out = by (checking list t s) (check-within list t s)
     by : (a : CheckAnswer) → CheckWithin a → ScriptWithin (ofVerdict t s out a .0)
     by check.Accepted h = of-tree (decode (length t) s)
     by (check.Refused r p) h = h
+
+-- ---- planing and its inverse: a sheet's length, or a place in the text, or 0
+
+answered-within : (t : List ℕ) (r : Refusal) (o : Option Forest) (write : Forest → List ℕ) (out : List ℕ)
+    → ((ns : Forest) → o ≡ some ns → length (write ns) ≤ 65535) → LineWithin 65535 0 (writtenAs write out (openedAs t r o) .0)
+answered-within t r o write out h = go (ltb textLimit (length t)) (foreignFrom 0 t) o refl (foreign-before 0 t) refl
+  where
+    put : (b : Bool) (bs : List ℕ) → length bs ≤ 65535
+        → LineWithin 65535 0
+        (cond {A = LineAnswer × List ℕ} b (lines.Refused OutputTooShort 0, out) (lines.Accepted (length bs), bs ++ drop (length bs) out) .0)
+    put true bs l = inl refl
+    put false bs l = l
+
+    go : (b : Bool) (f : Option ℕ) (x : Option Forest) → ltb textLimit (length t) ≡ b → Before (0 + length t) f → o ≡ x
+        → LineWithin 65535 0 (writtenAs write out (cond b (shut TextTooLong 0) (unlessForeign f (treeOr r x))) .0)
+    go true f x e g z = inl refl
+    go false (some p) x e g z = inr (omega (arith, g, ltb-false textLimit (length t) e))
+    go false none none e g z = inl refl
+    go false none (some ns) e g z = put (ltb (length out) (length (write ns))) (write ns) (h ns z)
+
+pub plane-within : (t s out : List ℕ) → LineWithin 65535 0 (planing t s out .0)
+unfolding planing
+plane-within t s out = answered-within t NotASheet (decode n s) (planed n) out short
+  where
+    n : ℕ
+    n = length t
+
+    short : (ns : Forest) → decode n s ≡ some ns → length (planed n ns) ≤ 65535
+    short ns e = let d = decoded n s ns e in omega (arith, length-planed n ns (d .fits), ap length (d .encodes), d .short)
+
+pub unplane-within : (t bs out : List ℕ) → LineWithin 65535 0 (unplaning t bs out .0)
+unfolding unplaning
+unplane-within t bs out = answered-within t NotPlaned (unplaned n bs) (encode n) out short
+  where
+    n : ℕ
+    n = length t
+
+    short : (ns : Forest) → unplaned n bs ≡ some ns → length (encode n ns) ≤ 65535
+    short ns e = let d = unplaned-is n bs ns e in omega (arith, length-planed n ns (d .fits), ap length (d .planes), d .short)

@@ -110,6 +110,9 @@ enum-told-34 c = search needs
 enum-told-35 : tie.Need-enum-told-35
 enum-told-35 c = search needs
 
+enum-told-36 : tie.Need-enum-told-36
+enum-told-36 c = search needs
+
 returns : tie.Need-returns
 returns c = sym (ap numberOf (c .enum-told .given .1))
 
@@ -215,6 +218,9 @@ returns-34 c = sym (ap numberOf (c .enum-told34 .given .1))
 returns-35 : tie.Need-returns-35
 returns-35 c = sym (ap numberOf (c .enum-told35 .given .1))
 
+returns-36 : tie.Need-returns-36
+returns-36 c = sym (ap numberOf (c .enum-told36 .given .1))
+
 pub number-of-spec : {M : Type 1} → statement M
 number-of-spec =
     tie.close
@@ -254,6 +260,7 @@ number-of-spec =
     enum-told-33
     enum-told-34
     enum-told-35
+    enum-told-36
     returns
     returns-2
     returns-3
@@ -288,4 +295,5 @@ number-of-spec =
     returns-32
     returns-33
     returns-34
-    returns-35)
+    returns-35
+    returns-36)

@@ -1,0 +1,15 @@
+pub mod FrameLaws
+pub mod NodeLaws
+pub mod ShapeLaws
+pub mod PlaningLaws
+pub mod MoveLaws
+pub mod GapLaws
+pub mod CarryLaws
+pub mod FrameMoveLaws
+pub mod LandLaws
+pub mod AtLaws
+pub mod FramesMoveLaws
+pub mod RecordMoveLaws
+pub mod AllMoveLaws
+pub mod StartLaws
+pub mod AnswerLaws

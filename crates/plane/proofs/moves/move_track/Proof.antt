@@ -1,0 +1,49 @@
+-- `plane::moves::move_track` meets its contract: the frames behind their count, then the loop mode. Assumes nothing.
+use Rattle.plane.proofs.RecordMoveLaws.{frames-before, loop-passed}
+use borrow.Author.Needs.{needs}
+use Rattle.plane.proofs.moves.move_track.Statement.{statement}
+use Rattle.plane.proofs.moves.move_track.Tie as tie
+
+add-take-field : tie.Need-add-take-field
+add-take-field c = search needs
+
+take-field-requires : tie.Need-take-field-requires
+take-field-requires c κs = search needs
+
+add-move-frames : tie.Need-add-move-frames
+add-move-frames c = search needs
+
+cast-move-frames : tie.Need-cast-move-frames
+cast-move-frames c = search needs
+
+move-frames-requires : tie.Need-move-frames-requires
+move-frames-requires c κs =
+    let at-take-field = c .before .before in
+    let start = at-take-field .before .before .before in
+    frames-before (start .pre) (at-take-field .take-field .ensures .reads)
+
+take-opt-loop-requires : tie.Need-take-opt-loop-requires
+take-opt-loop-requires c κs = search needs
+
+same-length : tie.Need-same-length
+same-length c = search needs
+
+returns : tie.Need-returns
+returns c =
+    let at-move-frames = c .before .before .before in
+    let at-take-field = at-move-frames .before .before .before in
+    λ d. loop-passed d (at-move-frames .move-frames .ensures (frames-before d (at-take-field .take-field .ensures .reads)))
+    (c .take-opt-loop .ensures)
+
+pub move-track-spec : {M : Type 1} → statement M
+move-track-spec =
+    tie.close
+    (tie.spec
+    add-take-field
+    take-field-requires
+    add-move-frames
+    cast-move-frames
+    move-frames-requires
+    take-opt-loop-requires
+    same-length
+    returns)

@@ -1,0 +1,28 @@
+-- `plane::walk::pass_sheet` meets its contract: the head's count, and so many nodes. Assumes nothing.
+use Rattle.ast.specs.Tree.{width}
+use Rattle.sheet.specs.Sheet.{forestOf, innerOf}
+use Rattle.decode.proofs.ReadLaws as laws
+use borrow.Author.Needs.{needs}
+use Rattle.plane.proofs.walk.pass_sheet.Statement.{statement}
+use Rattle.plane.proofs.walk.pass_sheet.Tie as tie
+
+take-field-requires : tie.Need-take-field-requires
+take-field-requires c κs = search needs
+
+cast-pass-nodes : tie.Need-cast-pass-nodes
+cast-pass-nodes c = search needs
+
+pass-nodes-requires : tie.Need-pass-nodes-requires
+pass-nodes-requires c κs = search needs
+
+returns : tie.Need-returns
+returns c =
+    let at-field = c .before .before in
+    let start = at-field .before .before in
+    let w = start .args .w in
+    let n = start .args .n in
+    laws.counted width (forestOf w n (innerOf w n 16)) (at-field .take-field .ensures .reads) (c .pass-nodes .ensures)
+
+pub pass-sheet-spec : {M : Type 1} → statement M
+pass-sheet-spec =
+    tie.close (tie.spec take-field-requires cast-pass-nodes pass-nodes-requires returns)
