@@ -32,6 +32,12 @@ look() {
     printf "$3" | "$out/example" lookup "$1" "$2" > "$out/got"
     cmp "$out/got" "$out/wanted"
 }
+# draw KIND PHASE OUTPUT: the example's output for a waveform.
+draw() {
+    printf '%s\n' "$3" > "$out/wanted"
+    "$out/example" wave "$1" "$2" < /dev/null > "$out/got"
+    cmp "$out/got" "$out/wanted"
+}
 expect 'at 0.5;' '00020001FD\n00080E00003F00000000AB\naccept 1\n'
 expect '' '00020000FE\naccept 0\n'
 expect 'tween' 'refuse 6 at 5\n'
@@ -59,4 +65,9 @@ one order 'a={preset b} b={preset a}' 'refuse 39 at 0\n'
 one order 'a={};b={}' 'refuse 6 at 4\n'
 one plane 'at 0.5;' '00010E00003F00000000\n'
 one plane 'keyframes p {0: 1, 1: [2]}' '0001020000000A0001000201000001010001400000000000003F3F008080000000000000\n'
-echo "C example: 4 passed, each in two ways, 4 fed, a count of rounded numbers, 3 colours, a short scratch, 5 written back, 4 looked up, 3 listed, and 2 planed and back"
+draw 0 0 '0 12539 23170 30273 32767 30273 23170 12539 0 -12539 -23170 -30273 -32767 -30273 -23170 -12539'
+draw 1 0 '-32767 -28656 -24544 -20432 -16320 -12208 -8096 -3984 128 4240 8352 12464 16576 20688 24800 28912'
+draw 3 129 '-511 -8703 -16895 -25087 -32255 -24063 -15871 -7679 511 8703 16895 25087 32255 24063 15871 7679'
+draw 4 256 'refuse 41 at 0'
+draw 2 256 'refuse 42 at 0'
+echo "C example: 4 passed, each in two ways, 4 fed, a count of rounded numbers, 3 colours, a short scratch, 5 written back, 4 looked up, 3 listed, 2 planed and back, and 5 drawn"

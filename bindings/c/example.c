@@ -5,11 +5,13 @@
  * reads to the same tree; with `plane` the planed form of its sheet in hexadecimal, once it has come back to the sheet; with `color` the
  * input is one colour, and what is printed is its red, green, blue and alpha; with `lookup`, a chain's book and a name the input is a
  * store's book, and what is printed is the body; with `order` it is a book, and what is printed are the ordinals of its items by their
- * calls; with `short` reading is lent a word of scratch less than it needs, and refuses.
+ * calls; with `wave`, a kind and a phase the input is left aside, and what is printed is every sixteenth height; with `short` reading is
+ * lent a word of scratch less than it needs, and refuses.
  */
 #include "strip.h"
 
 #include <stdio.h>
+#include <stdlib.h>
 #include <string.h>
 
 static uint8_t text[STRIP_TEXT_BYTES + 1];
@@ -90,6 +92,16 @@ static void plane(size_t length, size_t size) {
     printf("\n");
 }
 
+/* Prints every sixteenth height of a waveform. */
+static void wave(uint32_t kind, uint32_t phase) {
+    int16_t heights[STRIP_WAVE_HEIGHTS];
+    if (refused(strip_wave(kind, phase, heights, STRIP_WAVE_HEIGHTS)))
+        return;
+    for (int i = 0; i < STRIP_WAVE_HEIGHTS; i += 16)
+        printf("%s%d", i ? " " : "", heights[i]);
+    printf("\n");
+}
+
 int main(int argc, char **argv) {
     size_t length = fread(text, 1, sizeof text, stdin);
     if (ferror(stdin)) {
@@ -104,6 +116,10 @@ int main(int argc, char **argv) {
     }
     if (argc > 3 && strcmp(argv[1], "lookup") == 0) {
         lookup(length, argv[2], argv[3]);
+        return 0;
+    }
+    if (argc > 3 && strcmp(argv[1], "wave") == 0) {
+        wave((uint32_t)strtoul(argv[2], NULL, 10), (uint32_t)strtoul(argv[3], NULL, 10));
         return 0;
     }
     if (argc > 1 && strcmp(argv[1], "order") == 0) {

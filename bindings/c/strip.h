@@ -2,8 +2,8 @@
  * Motion scripts of shelf-edge strips: reading a script into a sheet of bytes, checking the sheet, lining its records in
  * hexadecimal, all of it at once on a page, writing a fresh script from text and sheet, telling the bytes of a colour, converting old
  * sheets, putting like bytes of a sheet together for storage and back, counting many scripts in the totals of a morning sheet, looking a
- * name up in books of named scripts, and listing a book's items by their calls. `rt staticlib strip` writes the library,
- * target/staticlib/libstrip.a.
+ * name up in books of named scripts, listing a book's items by their calls, and drawing a waveform as heights. `rt staticlib strip`
+ * writes the library, target/staticlib/libstrip.a.
  *
  * No pointer is NULL, not even where its length is 0. What is written to overlaps nothing else that is lent. A length is in
  * elements. Nothing is allocated.
@@ -32,6 +32,13 @@ extern "C" {
 /* The lists of named colours, for what checks: the Rust's 22, and the 148 of CSS Color Module Level 4. */
 #define STRIP_RUST_COLORS 1
 #define STRIP_CSS_COLORS 2
+
+/* The kinds of waveforms that are drawn, and how many heights a period has. */
+#define STRIP_SINE 0
+#define STRIP_SAWTOOTH 1
+#define STRIP_SQUARE 2
+#define STRIP_TRIANGLE 3
+#define STRIP_WAVE_HEIGHTS 256
 
 /* The causes of refusal. */
 enum strip_refusal {
@@ -71,6 +78,8 @@ enum strip_refusal {
     STRIP_TOO_MANY_ITEMS = 38,
     STRIP_RING_OF_CALLS = 39,
     STRIP_NOT_PLANED = 40,
+    STRIP_NOT_DRAWN = 41,
+    STRIP_PHASE_TOO_LARGE = 42,
     STRIP_NO_SUCH_ITEM = 43
 };
 
@@ -180,6 +189,14 @@ uint64_t strip_lookup(const uint8_t *store, size_t store_length, const uint8_t *
  * then 32 if the output is shorter than the list; both at 0. STRIP_ITEM_LIMIT bytes are enough.
  */
 uint64_t strip_order(const uint8_t *book, size_t book_length, uint8_t *out, size_t out_length);
+
+/*
+ * Draws one period of a waveform into the first STRIP_WAVE_HEIGHTS heights, from -32,767 to 32,767. The phase is in 256ths of the period:
+ * the first height is that of so many steps on. Accepted: the answer is 0; heights behind them are as they were. Refused, with all of them
+ * as they were, at 0: 41 for a kind that is not one of the four above, as noise, which is 4; then 42 for a phase of 256 or more; then 32
+ * for fewer heights.
+ */
+uint64_t strip_wave(uint32_t kind, uint32_t phase, int16_t *heights, size_t height_count);
 
 /* The parts of an answer. */
 static inline enum strip_refusal strip_number(uint64_t answer) { return (enum strip_refusal)(answer >> 56); }

@@ -1,9 +1,9 @@
 //! Motion scripts of shelf-edge strips: reading a script into a sheet of bytes, checking the sheet, lining its records in
 //! hexadecimal, all of it at once on a page, writing a fresh script from text and sheet, telling the bytes of a colour, converting old
 //! sheets, putting like bytes of a sheet together for storage and back, counting many scripts in the totals of a morning sheet, looking a
-//! name up in books of named scripts, and listing a book's items by their calls. The functions call a library that is proved: each answer
-//! and every byte that is written equals a definition. They
-//! allocate nothing, and what they write to is lent.
+//! name up in books of named scripts, listing a book's items by their calls, and drawing a waveform as heights. The functions call a
+//! library that is proved: each answer and every byte that is written equals a definition. They allocate nothing, and what they write to
+//! is lent.
 //!
 //! ```
 //! use strip::{CheckAnswer, LineAnswer, ReadAnswer, Refusal};
@@ -96,6 +96,11 @@
 //! let mut list = [0; strip::ITEM_LIMIT];
 //! let answer = strip::order(b"a = { preset c } b = {} c = {}", &mut list);
 //! assert_eq!((answer, &list[..3]), (strip::OrderAnswer::Listed { items: 3 }, &[1, 2, 0][..]));
+//!
+//! // one period of a sine, from its peak on
+//! let mut heights = [0; strip::WAVE_HEIGHTS];
+//! assert_eq!(strip::wave(strip::SINE, 64, &mut heights), CheckAnswer::Accepted);
+//! assert_eq!((heights[0], heights[64], heights[128], heights[193]), (32_767, 0, -32_767, 804));
 //! ```
 #![warn(missing_docs)]
 
@@ -123,6 +128,17 @@ pub const SCRIPT_LIMIT: u32 = 4_096;
 pub const FIGURE_LIMIT: u32 = 268_431_360;
 /// The most items that a book may have.
 pub const ITEM_LIMIT: usize = 128;
+/// The sine, a waveform that [`wave`] draws. The kinds have the numbers of a sheet; any but these four, as 4 for noise, is refused with
+/// [`Refusal::NotDrawn`].
+pub const SINE: u32 = 0;
+/// The sawtooth: it rises over the whole period.
+pub const SAWTOOTH: u32 = 1;
+/// The square: the peak in the first half, the lowest height in the second.
+pub const SQUARE: u32 = 2;
+/// The triangle: straight from 0 to the peak, to the lowest height and back.
+pub const TRIANGLE: u32 = 3;
+/// How many heights a period has.
+pub const WAVE_HEIGHTS: usize = 256;
 /// The kinds of nodes, by their numbers.
 pub const KINDS: [&str; 15] = [
     "tween", "spring", "keyframes", "sequence", "parallel", "group", "stagger", "path", "morph", "draw", "color", "waveform", "preset",
@@ -151,16 +167,16 @@ pub enum ReadAnswer {
     },
 }
 
-/// What [`check`] and [`convert`] answer.
+/// What [`check`], [`convert`] and [`wave`] answer.
 #[derive(Clone, Copy, Debug, PartialEq, Eq)]
 pub enum CheckAnswer {
-    /// No rule is broken.
+    /// No rule is broken, the sheet is converted, or the waveform drawn.
     Accepted,
-    /// A rule is broken, or there is nothing to check.
+    /// A rule is broken, or there is nothing to check, to convert or to draw.
     Refused {
         /// Why.
         refusal: Refusal,
-        /// The record's ordinal; for [`Refusal::BadForm`] a place in the text; for what is no sheet 0.
+        /// The record's ordinal; for [`Refusal::BadForm`] a place in the text; for what is no sheet, and for a waveform, 0.
         place: usize,
     },
 }
@@ -325,6 +341,7 @@ extern "C" {
     fn strip_plane(text: *const u8, text_length: usize, sheet: *const u8, sheet_length: usize, out: *mut u8, room: usize) -> u64;
     fn strip_unplane(text: *const u8, text_length: usize, planed: *const u8, planed_length: usize, out: *mut u8, room: usize) -> u64;
     fn strip_print(text: *const u8, text_length: usize, scratch: *mut u16, words: usize, sheet: *mut u8, room: usize, page: *mut u8, page_room: usize, list: u32) -> u64;
+    fn strip_wave(kind: u32, phase: u32, heights: *mut i16, count: usize) -> u64;
 }
 
 /// Reads a text into a sheet. Afterwards scratch is all zero, and the sheet zero past its length, or everywhere on a refusal;
@@ -473,6 +490,15 @@ pub fn order(book: &[u8], out: &mut [u8]) -> OrderAnswer {
         Some((refusal, place)) => OrderAnswer::Refused { refusal, place },
         None => OrderAnswer::Listed { items: value(answer) },
     }
+}
+
+/// Draws one period of a waveform of a kind ([`SINE`], [`SAWTOOTH`], [`SQUARE`] or [`TRIANGLE`]) into the first [`WAVE_HEIGHTS`] heights,
+/// from -32,767 to 32,767. The phase is in 256ths of the period: the first height is that of so many steps on. Heights behind them are as
+/// they were, and on a refusal all of them are. Refused: [`Refusal::NotDrawn`], then [`Refusal::PhaseTooLarge`] for a phase of 256 or more,
+/// then [`Refusal::OutputTooShort`].
+pub fn wave(kind: u32, phase: u32, heights: &mut [i16]) -> CheckAnswer {
+    // SAFETY: the slice is whole.
+    check_answer(unsafe { strip_wave(kind, phase, heights.as_mut_ptr(), heights.len()) })
 }
 
 /// The start in the text of the keyword of a record's node, from the line that [`line`] wrote for the record: the two bytes behind

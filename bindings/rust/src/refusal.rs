@@ -92,7 +92,7 @@ refusals! {
     NoiseHeld = 28,
     /// No record has the ordinal.
     NoSuchRecord = 31,
-    /// An output slice that is shorter than the line, the list of items, the sheet or its planed form.
+    /// An output slice that is shorter than the line, the list of items, the sheet or its planed form, or fewer than 256 heights.
     OutputTooShort = 32,
     /// A 4,097th script, or totals with a figure above the limit.
     TooManyScripts = 33,
@@ -110,6 +110,10 @@ refusals! {
     RingOfCalls = 39,
     /// The bytes are the planed form of no sheet for the text.
     NotPlaned = 40,
+    /// A waveform that is not drawn: noise, or a number that is no kind.
+    NotDrawn = 41,
+    /// A phase of 256 or more.
+    PhaseTooLarge = 42,
     /// Neither book has the name.
     NoSuchItem = 43,
 }

@@ -1,7 +1,8 @@
 //! Each operation, its refusals, and what it leaves in what is lent.
-use strip::{check, color, convert, feed, line, lookup, mean, order, plane, print, read, unplane, write};
+use strip::{check, color, convert, feed, line, lookup, mean, order, plane, print, read, unplane, wave, write};
 use strip::{Book, CheckAnswer, FeedAnswer, LineAnswer, LookupAnswer, Mean, MeanAnswer, OrderAnswer, ReadAnswer, Refusal, Totals};
 use strip::{CSS_COLORS, FIGURE_LIMIT, ITEM_LIMIT, PAGE_BYTES, RUST_COLORS, SCRATCH_WORDS, SCRIPT_LIMIT, SHEET_BYTES, TEXT_BYTES};
+use strip::{SAWTOOTH, SINE, SQUARE, TRIANGLE, WAVE_HEIGHTS};
 
 /// The sheet of a text that reading accepts, and its count of records.
 fn sheet_of(text: &[u8]) -> (Vec<u8>, usize) {
@@ -392,8 +393,43 @@ fn two_frames_at_one_time_are_refused() {
 }
 
 #[test]
+fn a_wave_is_drawn_from_its_phase_on() {
+    let mut heights = [7; 257];
+    assert_eq!(wave(SINE, 0, &mut heights), CheckAnswer::Accepted);
+    assert_eq!((heights[0], heights[1], heights[64], heights[127]), (0, 804, 32_767, 804));
+    assert_eq!((heights[128], heights[129], heights[192], heights[256]), (0, -804, -32_767, 7));
+    for kind in [SINE, SAWTOOTH, SQUARE, TRIANGLE] {
+        let (mut first, mut later) = ([0; WAVE_HEIGHTS], [0; WAVE_HEIGHTS]);
+        assert_eq!(wave(kind, 0, &mut first), CheckAnswer::Accepted);
+        assert_eq!(wave(kind, 255, &mut later), CheckAnswer::Accepted);
+        first.rotate_left(255);
+        assert_eq!(first, later);
+    }
+    // the sign comes after the rounding
+    assert_eq!(wave(TRIANGLE, 128, &mut heights), CheckAnswer::Accepted);
+    assert_eq!((heights[1], heights[64], heights[129]), (-511, -32_767, 511));
+}
+
+#[test]
+fn a_wave_that_is_not_drawn_leaves_the_heights() {
+    for (kind, phase, count, refusal) in [
+        (4, 256, 255, Refusal::NotDrawn),
+        (5, 0, 256, Refusal::NotDrawn),
+        (u32::MAX, 0, 256, Refusal::NotDrawn),
+        (SQUARE, 256, 255, Refusal::PhaseTooLarge),
+        (SQUARE, u32::MAX, 256, Refusal::PhaseTooLarge),
+        (SAWTOOTH, 255, 255, Refusal::OutputTooShort),
+        (SAWTOOTH, 0, 0, Refusal::OutputTooShort),
+    ] {
+        let mut heights = vec![7; count];
+        assert_eq!(wave(kind, phase, &mut heights), CheckAnswer::Refused { refusal, place: 0 });
+        assert_eq!(heights, vec![7; count]);
+    }
+}
+
+#[test]
 fn a_refusal_has_one_number_and_one_name() {
-    assert_eq!(Refusal::ALL.len(), 36);
+    assert_eq!(Refusal::ALL.len(), 38);
     for &refusal in Refusal::ALL {
         assert_eq!(Refusal::of(refusal.number()), Some(refusal));
         assert_eq!(format!("{refusal:?}"), refusal.name());
@@ -402,7 +438,8 @@ fn a_refusal_has_one_number_and_one_name() {
     assert_eq!((Refusal::Unwritable.number(), Refusal::ScriptTooLong.number()), (34, 35));
     assert_eq!((Refusal::UnknownList.number(), Refusal::NotPlaned.number()), (36, 40));
     assert_eq!((Refusal::NameTwice.number(), Refusal::RingOfCalls.number(), Refusal::NoSuchItem.number()), (37, 39, 43));
-    assert_eq!((0..=255).filter_map(Refusal::of).count(), 36);
+    assert_eq!((Refusal::NotDrawn.number(), Refusal::PhaseTooLarge.number()), (41, 42));
+    assert_eq!((0..=255).filter_map(Refusal::of).count(), 38);
 }
 
 /// Feeds a text with buffers that are not zero, and gives what they are then.

@@ -2,7 +2,7 @@
 use std::fmt::Write;
 use std::path::Path;
 use strip::{check, color, convert, feed, line, mean, read, write, CheckAnswer, FeedAnswer, LineAnswer, Mean, MeanAnswer, ReadAnswer, Refusal, Totals};
-use strip::{lookup, order, plane, unplane, Book, LookupAnswer, OrderAnswer};
+use strip::{lookup, order, plane, unplane, wave, Book, LookupAnswer, OrderAnswer};
 use strip::{RUST_COLORS, SCRATCH_WORDS, SCRIPT_LIMIT, SHEET_BYTES, TEXT_BYTES};
 
 /// The stored cases of a kind, and their answers, which stand behind the line `== KIND`.
@@ -316,6 +316,24 @@ fn planing() {
             LineAnswer::Refused { refusal, place } => write!(ours, "refuse {} at {place} ", refusal.number()).unwrap(),
         }
         out.iter().for_each(|b| write!(ours, "{b:02X}").unwrap());
+        ours += "\n";
+    }
+    compare(&ours, &answers);
+}
+
+/// Each line is a waveform's kind and a phase, and how many heights are lent, in each of which something stands.
+#[test]
+fn drawing() {
+    let (cases, answers) = stored("wave");
+    let mut ours = String::new();
+    for case in cases.lines() {
+        let fields: Vec<u32> = case.split('\t').map(|field| u32::from_str_radix(field, 16).unwrap()).collect();
+        let mut heights = vec![0x0707; fields[2] as usize];
+        match wave(fields[0], fields[1], &mut heights) {
+            CheckAnswer::Accepted => ours += "accept\t",
+            CheckAnswer::Refused { refusal, place } => write!(ours, "refuse {} at {place}\t", refusal.number()).unwrap(),
+        }
+        heights.iter().for_each(|height| write!(ours, "{height:04X}").unwrap());
         ours += "\n";
     }
     compare(&ours, &answers);

@@ -20,7 +20,7 @@ pub fn refuse(refusal: Refusal, place: usize, end: &[u8]) {
     say(end);
 }
 
-// Writes what checking or converting answers, and `end` behind it.
+// Writes what checking, converting or drawing answers, and `end` behind it.
 pub fn say_answer(answer: CheckAnswer, end: &[u8]) {
     match answer {
         CheckAnswer::Accepted => {

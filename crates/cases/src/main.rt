@@ -12,6 +12,7 @@ mod planes;
 mod reading;
 mod scratches;
 mod sheets;
+mod waves;
 mod writing;
 
 ghost use Prim.Native.Nat.{_<_};
@@ -21,8 +22,8 @@ use lines::Fields;
 use text::Found;
 
 // The kinds, each behind its length, in the order in which they are answered.
-const KINDS: [u8; 75] =
-    *b"\x05sheet\x05check\x05color\x07convert\x04line\x06script\x04feed\x07rounded\x04back\x04book\x07scratch\x05plane";
+const KINDS: [u8; 80] =
+    *b"\x05sheet\x05check\x05color\x07convert\x04line\x06script\x04feed\x07rounded\x04back\x04book\x07scratch\x05plane\x04wave";
 
 // A line has room for a list, a text and a sheet, each of the last two with a byte more than the longest case.
 fn main() {
@@ -161,6 +162,7 @@ fn answer(kind: usize, line: &[u8], fields: Fields, totals: &mut [u32; 60]) {
         8 => writing::answer(line, fields),
         9 => books::answer(line, fields),
         10 => scratches::answer(line, fields),
-        _ => planes::answer(line, fields),
+        11 => planes::answer(line, fields),
+        _ => waves::answer(line, fields),
     }
 }

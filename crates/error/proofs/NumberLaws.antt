@@ -46,4 +46,6 @@ numbered cause.NameTwice = record { some = omega arith; most = omega arith }
 numbered cause.TooManyItems = record { some = omega arith; most = omega arith }
 numbered cause.RingOfCalls = record { some = omega arith; most = omega arith }
 numbered cause.NotPlaned = record { some = omega arith; most = omega arith }
+numbered cause.NotDrawn = record { some = omega arith; most = omega arith }
+numbered cause.PhaseTooLarge = record { some = omega arith; most = omega arith }
 numbered cause.NoSuchItem = record { some = omega arith; most = omega arith }

@@ -39,4 +39,6 @@ numberOf cause.NameTwice = 37
 numberOf cause.TooManyItems = 38
 numberOf cause.RingOfCalls = 39
 numberOf cause.NotPlaned = 40
+numberOf cause.NotDrawn = 41
+numberOf cause.PhaseTooLarge = 42
 numberOf cause.NoSuchItem = 43

@@ -66,6 +66,10 @@ pub enum Refusal {
     RingOfCalls,
     // Bytes that no sheet for the text planes to.
     NotPlaned,
+    // A waveform that is not drawn: noise, or a number that is no kind.
+    NotDrawn,
+    // A phase of 256 or more.
+    PhaseTooLarge,
     // Neither book has the name.
     NoSuchItem,
 }
@@ -162,6 +166,8 @@ pub fn number_of(refusal: Refusal) -> u8
         Refusal::TooManyItems => 38,
         Refusal::RingOfCalls => 39,
         Refusal::NotPlaned => 40,
+        Refusal::NotDrawn => 41,
+        Refusal::PhaseTooLarge => 42,
         Refusal::NoSuchItem => 43,
     }
 }

@@ -7,6 +7,7 @@
 -- No operation answers with such: the laws of the crate `unpack`.
 use Prim.Native.Nat.{ℕ, _+_, _*_, _/_, _%_, _^_}
 use mathlib.Core.List.{List, [], _∷_}
+use lib.IntN.{ℤ}
 use lib.ListN.{getD}
 use Rattle.error.specs.Refusal.{numberOf}
 use Rattle.error.specs.declared.Refusal.{Refusal}
@@ -108,6 +109,10 @@ convertOutcome x = (packedCheck (x .0), x .1)
 -- 02 (i): the count of items, and the lent output afterwards
 abbrev pub orderOutcome : OrderAnswer × List ℕ → ℕ × List ℕ
 orderOutcome x = (packedOrder (x .0), x .1)
+
+-- 02 (l): 0 for a waveform that is drawn, and the lent heights afterwards
+abbrev pub waveOutcome : CheckAnswer × List ℤ → ℕ × List ℤ
+waveOutcome x = (packedCheck (x .0), x .1)
 
 -- ---- its parts
 

@@ -12,7 +12,8 @@ ghost use Rattle.back.specs.Back.{writing};
 ghost use Rattle.lookup.specs.Lookup.{lookingUp};
 ghost use Rattle.listing.specs.Listing.{listing};
 ghost use Rattle.plane.specs.Planing.{planing, unplaning};
-ghost use Rattle.packed.specs.Packed.{packedCheck, packedLookup, readOutcome, lineOutcome, printOutcome, feedOutcome, meanOutcome, colorOutcome, convertOutcome, orderOutcome};
+ghost use Rattle.wave.specs.Wave.{drawing};
+ghost use Rattle.packed.specs.Packed.{packedCheck, packedLookup, readOutcome, lineOutcome, printOutcome, feedOutcome, meanOutcome, colorOutcome, convertOutcome, orderOutcome, waveOutcome};
 use packed::pack_check;
 use packed::pack_color;
 use packed::pack_fed;
@@ -138,4 +139,12 @@ pub extern "C" fn strip_unplane(text: &[u8], planed: &[u8], out: &mut [u8]) -> u
     ensures { λ r. ⌜ (r, now (out .exit)) ≡ lineOutcome (unplaning (now (text .entry)) (now (planed .entry)) (now (out .entry))) ⌝ }
 {
     pack_line(plane::unplane(text, planed, out))
+}
+
+// wave::wave.
+#[no_mangle]
+pub extern "C" fn strip_wave(kind: u32, phase: u32, heights: &mut [i16]) -> u64
+    ensures { λ r. ⌜ (r, now (heights .exit)) ≡ waveOutcome (drawing kind phase (now (heights .entry))) ⌝ }
+{
+    pack_check(wave::wave(kind, phase, heights))
 }

@@ -5,6 +5,7 @@ use mathlib.Core.List.{List}
 use mathlib.Core.Logic.{inl, inr}
 use mathlib.Core.Path.{_≡_, refl}
 use native.Mathlib.Omega.{arith}
+use lib.IntN.{ℤ}
 use lib.ListN.{take}
 use Rattle.parser.specs.Reading.{reading}
 use Rattle.validate.specs.Checking.{checking}
@@ -15,6 +16,7 @@ use Rattle.back.specs.Back.{writing}
 use Rattle.lookup.specs.Lookup.{lookingUp}
 use Rattle.listing.specs.Listing.{listing}
 use Rattle.plane.specs.Planing.{planing, unplaning}
+use Rattle.wave.specs.Wave.{drawing}
 use Rattle.error.specs.Refusal.{numberOf}
 use Rattle.error.specs.declared.ReadAnswer.{ReadAnswer}
 use Rattle.error.specs.declared.ReadAnswer.the-variants as read
@@ -40,7 +42,7 @@ use Rattle.error.specs.declared.FeedAnswer.{FeedAnswer}
 use Rattle.error.specs.declared.FeedAnswer.the-variants as feed
 use Rattle.unpack.proofs.Within.{ReadWithin, read-within, CheckWithin, check-within, LineWithin, line-within, print-within}
 use Rattle.unpack.proofs.BookWithin.{LookupWithin, lookup-within, OrderWithin, order-within}
-use Rattle.unpack.proofs.Within.{ScriptWithin, write-within, convert-within, plane-within, unplane-within}
+use Rattle.unpack.proofs.Within.{ScriptWithin, write-within, convert-within, plane-within, unplane-within, wave-within}
 
 -- ---- reading
 
@@ -78,6 +80,11 @@ check-parts list t sheet = check-back (checking list t sheet) (check-within list
 
 pub convert-parts : (t sheet : List ℕ) → CheckParts (converting t sheet .0) (packedCheck (converting t sheet .0))
 convert-parts t sheet = check-back (converting t sheet .0) (convert-within t sheet)
+
+-- ---- drawing a waveform
+
+pub wave-parts : (kind phase : ℕ) (hs : List ℤ) → CheckParts (drawing kind phase hs .0) (packedCheck (drawing kind phase hs .0))
+wave-parts kind phase hs = check-back (drawing kind phase hs .0) (wave-within kind phase hs)
 
 -- ---- lining, whose ordinal is a u32
 

@@ -6,7 +6,8 @@ use mathlib.Core.Logic.{_⊎_, inl, inr}
 use mathlib.Core.Option.{Option, none, some}
 use mathlib.Core.Path.{_≡_, refl, ap}
 use native.Mathlib.Omega.{arith}
-use lib.Dec.{ltb}
+use lib.Dec.{leb, ltb}
+use lib.IntN.{ℤ}
 use lib.ListN.{length, drop, replicate, getElem?}
 use borrow.Author.Tests.{ltb-false}
 use Rattle.text.specs.Limits.{textLimit}
@@ -23,6 +24,7 @@ use Rattle.planed.specs.Planes.{planed, unplaned}
 use Rattle.planed.proofs.PlanedLaws.{length-planed, unplaned-is}
 use Rattle.plane.specs.Planing.{treeOr, openedAs, planing, unplaning}
 use Rattle.plane.specs.Planing.{answered as writtenAs}
+use Rattle.wave.specs.Wave.{filled, shifted, drawing}
 use Rattle.grammar.specs.Rule.{Notes, Out, got, refused}
 use Rattle.grammar.specs.Grammar.{stored, animatoInput}
 use Rattle.parser.specs.Reading.{Parsed, tree, wrong, unlessLeft, finished, parsed, parse}
@@ -39,7 +41,7 @@ use Rattle.script.specs.Output.{printed, paged, pageBytes, lineBytes, printing}
 use Rattle.script.proofs.OutputLaws.{records-same, printed-small}
 use Rattle.error.specs.declared.Refusal.{Refusal}
 use Rattle.error.specs.declared.Refusal.the-variants.{TextTooLong, ScratchTooShort, SheetTooShort, OutputTooShort}
-use Rattle.error.specs.declared.Refusal.the-variants.{Unwritable, ScriptTooLong, NotASheet, NotPlaned}
+use Rattle.error.specs.declared.Refusal.the-variants.{Unwritable, ScriptTooLong, NotASheet, NotPlaned, NotDrawn, PhaseTooLarge}
 use Rattle.error.specs.declared.ReadAnswer.{ReadAnswer}
 use Rattle.error.specs.declared.ReadAnswer.the-variants as read
 use Rattle.error.specs.declared.CheckAnswer.{CheckAnswer}
@@ -203,6 +205,23 @@ convert-within t sheet = by (opening t sheet) (opening-within t sheet)
     by : (o : Opened) → Within (length t) o → CheckWithin (convertOpened (length t) sheet o .0)
     by (shut r p) h = omega arith
     by (opened ns) h = tt
+
+-- ---- drawing a waveform, refused at 0
+
+pub wave-within : (kind phase : ℕ) (hs : List ℤ) → CheckWithin (drawing kind phase hs .0)
+unfolding drawing
+wave-within kind phase hs = go (leb 4 kind) (leb 256 phase) (ltb (length hs) 256)
+  where
+    go : (a b c : Bool)
+        → let x = cond {A = CheckAnswer × List ℤ} a (check.Refused NotDrawn 0, hs)
+        (cond b (check.Refused PhaseTooLarge 0, hs)
+        (cond c (check.Refused OutputTooShort 0, hs) (check.Accepted, filled (shifted kind phase) 256 hs)))
+        in
+        CheckWithin (x .0)
+    go true b c = omega arith
+    go false true c = omega arith
+    go false false true = omega arith
+    go false false false = tt
 
 -- ---- lining: a line is at most 131,077 bytes; a refusal's place is the ordinal, or at most 16,384
 

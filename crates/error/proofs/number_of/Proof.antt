@@ -113,6 +113,12 @@ enum-told-35 c = search needs
 enum-told-36 : tie.Need-enum-told-36
 enum-told-36 c = search needs
 
+enum-told-37 : tie.Need-enum-told-37
+enum-told-37 c = search needs
+
+enum-told-38 : tie.Need-enum-told-38
+enum-told-38 c = search needs
+
 returns : tie.Need-returns
 returns c = sym (ap numberOf (c .enum-told .given .1))
 
@@ -221,6 +227,12 @@ returns-35 c = sym (ap numberOf (c .enum-told35 .given .1))
 returns-36 : tie.Need-returns-36
 returns-36 c = sym (ap numberOf (c .enum-told36 .given .1))
 
+returns-37 : tie.Need-returns-37
+returns-37 c = sym (ap numberOf (c .enum-told37 .given .1))
+
+returns-38 : tie.Need-returns-38
+returns-38 c = sym (ap numberOf (c .enum-told38 .given .1))
+
 pub number-of-spec : {M : Type 1} → statement M
 number-of-spec =
     tie.close
@@ -261,6 +273,8 @@ number-of-spec =
     enum-told-34
     enum-told-35
     enum-told-36
+    enum-told-37
+    enum-told-38
     returns
     returns-2
     returns-3
@@ -296,4 +310,6 @@ number-of-spec =
     returns-33
     returns-34
     returns-35
-    returns-36)
+    returns-36
+    returns-37
+    returns-38)

@@ -1,0 +1,53 @@
+-- `wave::mirror` meets its contract. Assumes nothing.
+use Rattle.wave.proofs.WaveLaws as laws
+use mathlib.Core.Path.{refl, sym, _∙_}
+use borrow.Author.Needs.{needs}
+use Rattle.wave.proofs.mirror.Statement.{statement}
+use Rattle.wave.proofs.mirror.Tie as tie
+
+fold-requires : tie.Need-fold-requires
+fold-requires c κs = search needs
+
+quarter-requires : tie.Need-quarter-requires
+quarter-requires c κs = search needs
+
+less-requires : tie.Need-less-requires
+less-requires c κs = search needs
+
+fold-requires-2 : tie.Need-fold-requires-2
+fold-requires-2 c κs = search needs
+
+quarter-requires-2 : tie.Need-quarter-requires-2
+quarter-requires-2 c κs = search needs
+
+less-requires-2 : tie.Need-less-requires-2
+less-requires-2 c κs = search needs
+
+returns : tie.Need-returns
+returns c =
+    let at-fold = c .before .before in
+    let at-if1 = at-fold .before in
+    laws.given (c .less .result) (c .less .ok) ∙ c .less .ensures
+    ∙ (rw (c .before .quarter .ensures .0, at-fold .fold .ensures .0) refl)
+    ∙ sym (laws.up _ _ (at-if1 .if1 .taken))
+
+returns-2 : tie.Need-returns-2
+returns-2 c =
+    let at-fold2 = c .before .before in
+    let at-if1 = at-fold2 .before in
+    laws.given (c .less2 .result) (c .less2 .ok) ∙ c .less2 .ensures
+    ∙ (rw (c .before .quarter2 .ensures .0, at-fold2 .fold2 .ensures .0) refl)
+    ∙ sym (laws.down _ _ (at-if1 .if1 .left))
+
+pub mirror-spec : {M : Type 1} → statement M
+mirror-spec =
+    tie.close
+    (tie.spec
+    fold-requires
+    quarter-requires
+    less-requires
+    fold-requires-2
+    quarter-requires-2
+    less-requires-2
+    returns
+    returns-2)

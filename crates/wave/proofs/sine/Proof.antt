@@ -1,0 +1,38 @@
+-- `wave::sine` meets its contract: the table's entries fit. Assumes nothing.
+use native.Mathlib.Omega.{arith}
+use Rattle.wave.proofs.WaveLaws as laws
+use borrow.Author.Needs.{needs}
+use Rattle.wave.proofs.sine.Statement.{statement}
+use Rattle.wave.proofs.sine.Tie as tie
+
+mul-result : tie.Need-mul-result
+mul-result c = search needs
+
+cast-result : tie.Need-cast-result
+cast-result c = search needs
+
+mul-result-2 : tie.Need-mul-result-2
+mul-result-2 c = search needs
+
+shared-slice-read-result : tie.Need-shared-slice-read-result
+shared-slice-read-result c =
+    let start = c .before in
+    laws.inside (start .args .t .now) (start .args .p) (start .pre .0) (start .pre .1)
+
+cast-result-2 : tie.Need-cast-result-2
+cast-result-2 c =
+    let start = c .before in
+    record {
+      fits = omega
+          (arith, laws.entry (start .args .t .now) (start .args .p) (start .pre .0), laws.sine-most (start .args .p) (start .pre .1));
+    }
+
+returns : tie.Need-returns
+returns c =
+    let start = c .before in
+    laws.entry (start .args .t .now) (start .args .p) (start .pre .0)
+
+pub sine-spec : {M : Type 1} → statement M
+sine-spec =
+    tie.close
+    (tie.spec mul-result cast-result mul-result-2 shared-slice-read-result cast-result-2 returns)
