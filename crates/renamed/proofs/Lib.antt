@@ -1,0 +1,12 @@
+pub mod StreamLaws
+pub mod TextLaws
+pub mod KindLaws
+pub mod BytewiseLaws
+pub mod StepLaws
+pub mod FieldLaws
+pub mod ValueLaws
+pub mod LeafLaws
+pub mod NodeLaws
+pub mod Renamed
+pub mod Symmetry
+pub mod Examples
