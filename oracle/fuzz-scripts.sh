@@ -1,6 +1,6 @@
 #!/bin/sh
 # Answers generated scripts with the oracle and with `target/bin/cases script`: how often each answer and each kind of node came up,
-# then the differences, as compare-scripts.sh prints them. One script in ten is of the kind `rare`.
+# then the differences, as compare-scripts.sh prints them. One script in ten is of the kind `rare`, one in ten of the kind `long`.
 # usage: oracle/fuzz-scripts.sh SEED COUNT [-x WORDS]   after oracle/build.sh and `rt check cases`
 # With `short` for SEED, and any COUNT, the scripts are all short strings of tokens at the chosen spots.
 set -eu
@@ -34,8 +34,9 @@ kinds() {
 if [ "$seed" = short ]; then
     "$oracle" gen-short
 else
-    "$oracle" gen "$seed" $((count - count / 10))
+    "$oracle" gen "$seed" $((count - 2 * (count / 10)))
     "$oracle" gen "$seed" $((count / 10)) rare
+    "$oracle" gen "$seed" $((count / 10)) long
 fi > "$work/texts"
 "$oracle" read < "$work/texts" > "$work/answers"
 awk -F'\t' '

@@ -55,10 +55,13 @@ openers() {
     done
 }
 
-# "10 and 11 digits"; after the point 9 and 10
+# "10 and 11 digits", by 02 (n) 40 and 41; after the point 40 and 41
 digits() {
-    printf '%s\n' 'at 1234567890' 'at 12345678901' 'at 0000000001' 'at 00000000001' 'at 1.123456789' 'at 1.1234567890' \
-        'tween p:0=>1 duration:1 round:1234567890' 'tween p:0=>1 duration:1 round:12345678901'
+    for count in 40 41; do
+        zeros=$(many $((count - 10)) 0)
+        printf '%s\n' "at ${zeros}1234567890" "at $(many "$count" 1)" "at 1.${zeros}1234567890" "at 1.$(many "$count" 9)e-5" \
+            "tween p:0=>1 duration:1 round:${zeros}1234567890"
+    done
 }
 
 # "`0` to `[5]`", and "`0` to `[]`", which checking refuses, not reading

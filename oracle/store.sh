@@ -31,6 +31,7 @@ scripts() {
     "$oracle" gen 4 9000 short | take 200 0 200
     "$oracle" gen 5 9000 limits | take 120 0 900
     "$oracle" gen 6 9000 limits | take 10 30000 40000
+    "$oracle" gen 8 9000 long | take 150 0 500
     "$oracle" gen 7 40000 | take 40000 0 500 > "$work/inputs"
     each read 20 1
 }

@@ -10,6 +10,9 @@ repository's root.
                                            the answers are right, and the trees equal but for starts; and the Rust's stored sheets, damaged
                                            sheets and short buffers
   back_cases.py --floats N SEED --lib A.a  N bit patterns of f32, each as a relative `at` and as a percent time, written and read again
+  back_cases.py --percents N SEED --lib A.a
+                                           N whole percents of 1 to 40 digits: the f32 that each reads to, or one beside it, as a percent
+                                           time, written and read again
   back_cases.py --time ROUNDS --lib A.a    the least time of reading and of writing, by turns, for each script of examples/ repeated to
                                            10 KB
 """
@@ -534,6 +537,21 @@ def run_floats(library, count, seed):
     report.end(f"{count} patterns")
 
 
+def run_percents(library, count, seed):
+    pick, report = random.Random(seed), Report()
+    for start in range(0, count, 20000):
+        cases = []
+        for _ in range(min(20000, count - start)):
+            n = pick.randrange(10 ** pick.randrange(1, 41))
+            size = writer.read_percent(n) + pick.choice([0, 0, 0, 1, -1])
+            cases.append(Pair([percent_track(max(size, 0) + SIGN * pick.randrange(2))]).case(100))
+        answers = [writer.answer(*case) for case in cases]
+        for case, wanted, got in zip(cases, answers, library.write(cases)):
+            report.compare(case, said(wanted), got)
+        compare_trees(library, [(*case[:2], answer) for case, answer in zip(cases, answers)], report)
+    report.end(f"{count} percents")
+
+
 def run_time(program, rounds):
     for path in sorted(glob.glob("examples/*.strip")):
         text = open(path, "rb").read()
@@ -557,6 +575,8 @@ def main():
             run_stored(library)
         elif args[0] == "--floats":
             run_floats(library, int(args[1]), int(args[2]))
+        elif args[0] == "--percents":
+            run_percents(library, int(args[1]), int(args[2]))
         else:
             run_scripts(library, int(args[0]), int(args[1]))
 

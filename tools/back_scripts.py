@@ -3,6 +3,7 @@ containers, numbers of every size."""
 from fractions import Fraction
 
 import back_writer as writer
+import numbers_drawn as numbers
 from back_writer import ENUMS, INFINITY, SIGN, written_bits
 
 NAN = 0x7FC00000
@@ -14,7 +15,8 @@ class Script:
 
     NUMBERS = (
         "0 0.0 00 1 0.5 0.25 0.1 0.7 2 8 32 0.3 16777216 16777217 10000000 100000000 4294967296 9999999999 9999999999.999999999 "
-        "0.000000001 007 00.50 0000000000 0.000000000"
+        "0.000000001 007 00.50 0000000000 0.000000000 1.25e-3 1e2 1E+2 0e99 1e-45 7e-46 1e38 4e38 1e-99 340282356779733661637539395458142568447 "
+        "340282356779733661637539395458142568448 0.0000000000000000000000000000000000000001 0.1000000000000000055511151231257827021182"
     ).split()
     NAMES = "p x opacity _a A1 s e1 __ tween easing along Easing once r b loop_ duration union auto a1b2_c3 at label".split()
 
@@ -30,7 +32,9 @@ class Script:
     def written(self):
         """A number's digits."""
         pick = self.pick
-        kind = pick.randrange(9)
+        kind = pick.randrange(10)
+        if kind == 9:  # 02 (n): long ones, and exponents
+            return numbers.drawn(pick)
         if kind == 0:
             return pick.choice(self.NUMBERS)
         if kind == 1:  # exact where the digits fit
@@ -342,13 +346,15 @@ def odd_float(pick):
     sign = SIGN * pick.randrange(2)
     if kind < 2:
         return pick.getrandbits(32)
-    if kind < 4:  # where some are written and some are not
-        return sign + pick.randrange(written_bits("0.000000001") - 2**20, written_bits("10000000000") + 2**20)
+    if kind == 2:  # very small ones, of which some are written and some are not
+        return sign + pick.randrange(2 ** pick.randrange(1, 26))
+    if kind == 3:
+        return sign + pick.randrange(written_bits("0.000000001"), written_bits("10000000000"))
     if kind == 4:
         return sign + pick.choice([0, NAN, INFINITY, INFINITY + 1, INFINITY - 1, 1, written_bits("0.1"), written_bits("1")])
     if kind == 5:  # near a power of two
         return (sign + (pick.randrange(256) << 23) + pick.randrange(-4, 5)) % 2**32
     if kind == 6:  # near a power of ten
-        k = pick.randrange(-10, 12)
+        k = pick.randrange(-46, 40)
         return (sign + writer.nearest(10 ** max(k, 0), 10 ** max(-k, 0)) + pick.randrange(-4, 5)) % 2**32
     return (sign + written_bits(Script(pick).written()) + pick.choice([0, 0, 0, 0, 1, -1, 2, -2])) % 2**32

@@ -20,9 +20,11 @@ def nearest(above, below):
 
 
 def written_bits(text):
-    """The f32 of digits with a point or none, and a sign or none."""
-    whole, _, part = text.lstrip("-").partition(".")
-    return nearest(int(whole + part), 10 ** len(part)) + SIGN * text.startswith("-")
+    """The f32 of digits with a point or none, an exponent or none, and a sign or none."""
+    digits, _, power = text.lstrip("-").lower().partition("e")
+    whole, _, part = digits.partition(".")
+    power = int(power or "0") - len(part)
+    return nearest(int(whole + part) * 10 ** max(power, 0), 10 ** max(-power, 0)) + SIGN * text.startswith("-")
 
 
 def units(bits):
@@ -46,19 +48,20 @@ def negative(bits):
 
 
 def read_percent(n):
-    """A whole percent n becomes n as f32, divided by 100.0."""
-    return nearest(units(nearest(n, 1)), 100 << 149)
+    """A whole percent n becomes n as f32, divided by 100.0: infinity stays one."""
+    whole = nearest(n, 1)
+    return nearest(units(whole), 100 << 149) if is_finite(whole) else whole
 
 
 def least_digits(size, places):
-    """The least n which, with so many digits behind the point, reads to the size, if there is one: n to its f32 rises. 01 takes 10 digits
-    before the point."""
+    """The least n which, with so many digits behind the point, reads to the size, if there is one: n to its f32 rises. 02 (n) takes 40
+    digits before the point."""
     n, scale = 0, 10**places
     if size:
         n = (units(size - 1) + units(size)) * scale >> 150  # what lies below the middle reads to a smaller f32
         n += nearest(n, scale) < size
     assert nearest(n, scale) >= size and (n == 0 or nearest(n - 1, scale) < size)
-    return n if nearest(n, scale) == size and n < 10**10 * scale else None
+    return n if nearest(n, scale) == size and n < 10**40 * scale else None
 
 
 @functools.cache
@@ -66,28 +69,25 @@ def digits(size):
     """The fewest digits that read to a size, the smallest in size of these; None if no written number does. Digits are all that are
     written, a 0 before the point too, so of those with p places the least has the fewest."""
     found = []
-    for places in range(10) if size < INFINITY else ():
+    for places in range(41) if size <= INFINITY else ():
         n = least_digits(size, places)
         if n is not None:
             all_digits = f"{n:0{places + 1}d}"
             point = len(all_digits) - places
-            found.append((len(all_digits), n * 10 ** (9 - places), all_digits[:point] + "." * (places > 0) + all_digits[point:]))
+            found.append((len(all_digits), n * 10 ** (40 - places), all_digits[:point] + "." * (places > 0) + all_digits[point:]))
     return min(found)[2] if found else None
 
 
 @functools.cache
 def percent_digits(size):
-    """The same of a whole percent: the least n of at most 10 digits, found by halving between one that is surely too small and one that is
-    not."""
-    if size >= INFINITY:
+    """The same of a whole percent: the least n of at most 40 digits, found by halving: n to its f32 rises."""
+    if size > INFINITY:
         return None
-    near = units(size) * 100 >> 149
-    low, high = max(-1, near - near // 2**20 - 2), min(10**10, near + near // 2**20 + 3)
-    assert (low < 0 or read_percent(low) < size) and (high == 10**10 or read_percent(high) >= size)
+    low, high = -1, 10**40
     while high - low > 1:
         n = (low + high) // 2
         low, high = (low, n) if read_percent(n) >= size else (n, high)
-    return str(high) if high < 10**10 and read_percent(high) == size else None
+    return str(high) if high < 10**40 and read_percent(high) == size else None
 
 
 # ---- the sheet: 01, "The sheet", with 02 (a)'s start behind the kind

@@ -156,7 +156,7 @@ def grammar_cases(reader):
             body = reader.blanks(b" ", body, b"\n")
             yield order(text_of(item(b"a"), item(b"b", body)), 2)
             yield find(b"", text_of(item(b"a", body), item(b"b")), b"b")
-    for body in (b"#", b"1.", b'"', b"a\"", b"12345678901", b"0.1234567890", b"(", b")", b"(]", b"\x80", b"\x00", b"'"):
+    for body in (b"#", b"1.", b'"', b"a\"", b"1e005", b"1" * 41, b"0." + b"1" * 41, b"(", b")", b"(]", b"\x80", b"\x00", b"'"):
         yield order(text_of(item(b"a"), item(b"b", body)), 2)
         yield find(item(b"a", body), b"", b"a")
 

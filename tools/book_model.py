@@ -20,7 +20,7 @@ class Refused(Exception):
 
 BLANKS = re.compile(rb"[ \t\n\r]+")
 NAME = re.compile(rb"[A-Za-z_][A-Za-z0-9_]*")
-NUMBER = re.compile(rb"([0-9]+)(?:\.([0-9]+))?s?")
+NUMBER = re.compile(rb"([0-9]+)(?:\.([0-9]+))?(?:[eE][+-]?[0-9]{1,2})?s?")  # 02 (n): a third digit, or an `e` without one, then stands behind it
 STRING = re.compile(rb'"[ !#-\[\]-~]*"')
 MARKS, OPENERS, CLOSERS = b":;,=>.+-%", b"([{", b")]}"
 
@@ -34,7 +34,7 @@ def number_end(text, at):
     whole, point, end = found.end(1), found.group(2), found.end()
     if point is None and text[whole : whole + 1] == b"." and text[whole + 1 : whole + 2] != b"." or is_name_byte(text[end : end + 1]):
         raise Refused(2, at)
-    if len(found.group(1)) > 10 or len(point or b"") > 9:
+    if len(found.group(1)) > 40 or len(point or b"") > 40:
         raise Refused(3, at)
     return end
 

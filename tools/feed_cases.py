@@ -29,7 +29,7 @@ CONTAINERS = {3: "sequence", 4: "parallel", 5: "group parallel", 6: "stagger del
 REFUSED = [
     (b" " * 16385, 1, 0),
     (b"at 1x", 2, 3),
-    (b"at 12345678901", 3, 3),
+    (b"at " + 41 * b"1", 3, 3),
     (b"sequence {", 4, 10),
     (b"(" * 65, 5, 64),
     (b"tween : 0 => 1", 6, 6),

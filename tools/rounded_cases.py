@@ -13,6 +13,7 @@ import sys
 import tempfile
 from fractions import Fraction
 
+from numbers_drawn import drawn
 from stored import store
 
 ANSWERER = r"""
@@ -47,8 +48,9 @@ def f32(x):
 
 
 def stored_percent(n):
-    """A whole percent n becomes n as f32, divided by 100.0."""
-    return f32(f32(Fraction(n)) / 100)
+    """A whole percent n becomes n as f32, divided by 100.0; None for an infinity."""
+    whole = f32(Fraction(n))
+    return None if whole is None else f32(whole / 100)
 
 
 class Script:
@@ -63,7 +65,9 @@ class Script:
     def written(self):
         """A number's digits and their value."""
         pick = self.pick
-        kind = pick.randrange(8)
+        kind = pick.randrange(9)
+        if kind == 8:  # 02 (n): long ones, and exponents
+            return drawn(pick)
         if kind == 0:
             return pick.choice(["0", "0.0", "1", "0.5", "0.25", "0.1", "0.3", "16777216", "16777217", "33554434", "33554435", "0.000000001"])
         if kind == 1:  # a half, a quarter, ..: exact where the digits fit
@@ -102,7 +106,8 @@ class Script:
         sign = self.sign()
         n = self.pick.choice([
             self.pick.randrange(101), self.pick.randrange(10 ** self.pick.randrange(1, 11)), self.pick.randrange(2**24 - 5, 2**24 + 5),
-            100 * self.pick.randrange(2**23, 2**24), 100 * self.pick.randrange(2**24, 10**8), 1677721500, 1677721400])
+            100 * self.pick.randrange(2**23, 2**24), 100 * self.pick.randrange(2**24, 10**8), 1677721500, 1677721400,
+            self.pick.randrange(10 ** self.pick.randrange(11, 41)), 2**128 - 2**103 - self.pick.randrange(2)])
         self.count(stored_percent(n) == Fraction(n, 100))
         self.put(f"{sign}{n}" + self.pick.choice(["%", " %"]))
 

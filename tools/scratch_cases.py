@@ -45,7 +45,7 @@ TEXTS = [
     ("at 0.5;".ljust(16385), "refuse 1 at 0"),
     ("at 1x", "refuse 2 at 3"),
     ('at 1; "', "refuse 2 at 6"),
-    ("at 12345678901", "refuse 3 at 3"),
+    ("at " + 41 * "1", "refuse 3 at 3"),
     ("at 1)", "refuse 4 at 4"),
     ("sequence {", "refuse 4 at 10"),
     ("(" * 64 + "]", "refuse 4 at 64"),

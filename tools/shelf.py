@@ -44,7 +44,7 @@ SHELF = [
     ("at 0.1", accepted(1, "0E 0000 3DCCCCCD 00")),
 ]
 
-# 16,384 and 16,385 bytes; 16 and 17 containers; 64 and 65 openers; 10 and 11 digits; 0 to [5] and to []
+# 16,384 and 16,385 bytes; 16 and 17 containers; 64 and 65 openers; 10 and 11 digits, by 02 (n) 40 and 41; 0 to [5] and to []
 LIMITS = [
     ("at 0.5;".ljust(16384), accepted(1, "0E 0000 3F000000 00")),
     ("at 0.5;".ljust(16385), refused(1, 0)),
@@ -52,8 +52,8 @@ LIMITS = [
     ("sequence {" * 17 + "}" * 17, refused(12, 169)),
     ("(" * 64 + ")" * 64, refused(6, 0)),
     ("(" * 65 + ")" * 65, refused(5, 64)),
-    ("at 1234567890", accepted(1, "0E 0000 4E932C06 00")),
-    ("at 12345678901", refused(3, 3)),
+    ("at " + 30 * "0" + "1234567890", accepted(1, "0E 0000 4E932C06 00")),
+    ("at " + 31 * "0" + "1234567890", refused(3, 3)),
     ("tween p: 0 => [5] duration: 1", accepted(1, "00 0000 0006 0001 00 00000000 01 0001 40A00000 3F800000 00 00 00 00 00 00 00")),
     ("tween p: 0 => [] duration: 1", refused(22, 1)),
 ]

@@ -129,8 +129,8 @@ uint64_t strip_line(const uint8_t *text, size_t text_length, const uint8_t *shee
 /*
  * Writes a fresh script from a text and its sheet: one that strip_read gives the same tree for, its starts apart. Accepted: strip_value
  * is the script's length; past it the buffer is zero. Refused, with the buffer all zero: what strip_check refuses, as it does; then 34
- * if no text reads to the tree, which a sheet of strip_read cannot bring about; then 35 if the script exceeds STRIP_TEXT_BYTES or the
- * buffer, both at 0.
+ * if no text without an exponent reads to the tree, which a sheet that strip_read gave for such a text cannot bring about; then 35 if the
+ * script exceeds STRIP_TEXT_BYTES or the buffer, both at 0.
  */
 uint64_t strip_write(const uint8_t *text, size_t text_length, const uint8_t *sheet, size_t sheet_length, uint8_t *out,
                      size_t out_length, uint32_t list);

@@ -1,9 +1,11 @@
 //! Makes scripts: by the grammar, damaged, at the limits, with every reserved
-//! word as a name, short ones at chosen spots, and ones for rare refusals.
+//! word as a name, short ones at chosen spots, ones for rare refusals, and ones
+//! with long numbers and exponents.
 
 mod damage;
 mod grammar;
 mod limits;
+mod long;
 mod numbers;
 mod rare;
 mod short;
@@ -49,11 +51,12 @@ fn script(seed: u64, index: u64, kind: &str) -> Option<Vec<u8>> {
         "words" => words::script(index as usize, random),
         "short" => short::script(random),
         "rare" => rare::script(random),
+        "long" => long::script(random),
         _ => return None,
     })
 }
 
-/// All but `rare`, so that the stored files stay as they are.
+/// All but `rare` and `long`, so that the stored files stay as they are.
 fn mixed(random: &mut Random) -> &'static str {
     match random.below(100) {
         0..=44 => "grammar",

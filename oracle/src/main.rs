@@ -52,7 +52,7 @@ fn main() {
 
 fn usage() -> ! {
     eprintln!("usage: oracle read [--rust-only] | check | records | tree | compare-syn PLAIN-ORACLE");
-    eprintln!("     | gen SEED COUNT [grammar|damage|limits|words|short|rare] | gen-short | gen-sheets SEED COUNT");
+    eprintln!("     | gen SEED COUNT [grammar|damage|limits|words|short|rare|long] | gen-short | gen-sheets SEED COUNT");
     std::process::exit(2)
 }
 

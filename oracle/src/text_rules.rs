@@ -1,12 +1,13 @@
-//! A model of 01's text rules, refusals 1 to 5. Not the Rust: its lexer takes
+//! A model of 01's text rules with 02 (n)'s numbers, refusals 1 to 5. Not the Rust: its lexer takes
 //! more texts than these rules do.
 
 use crate::answer::Refusal;
 
 pub const TEXT_LIMIT: usize = 16_384;
 const OPEN_LIMIT: usize = 64;
-const WHOLE_DIGITS: usize = 10;
-const POINT_DIGITS: usize = 9;
+const WHOLE_DIGITS: usize = 40;
+const POINT_DIGITS: usize = 40;
+const POWER_DIGITS: usize = 2;
 
 /// The first refusal of the text rules, if any.
 pub fn refusal(text: &[u8]) -> Option<Refusal> {
@@ -76,6 +77,14 @@ fn number(text: &[u8], at: usize) -> Result<usize, Refusal> {
             }
             _ => return refuse(2, at),
         }
+    }
+    if matches!(text.get(end), Some(b'e' | b'E')) {
+        let sign = usize::from(matches!(text.get(end + 1), Some(b'+' | b'-')));
+        let power = run(text, end + 1 + sign, digit);
+        if power == 0 || power > POWER_DIGITS {
+            return refuse(2, at);
+        }
+        end += 1 + sign + power;
     }
     if text.get(end) == Some(&b's') {
         end += 1;

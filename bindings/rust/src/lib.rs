@@ -392,8 +392,8 @@ pub fn line(text: &[u8], sheet: &[u8], ordinal: u32, output: &mut [u8]) -> LineA
 }
 
 /// Writes a fresh script from a text and its sheet: one that [`read`] gives the same tree for, its starts apart. Past the script the
-/// buffer is zero, and on a refusal all of it is. Refused: what [`check`] refuses; then [`Refusal::Unwritable`] if no text reads to the
-/// tree, which a sheet of [`read`] cannot bring about; then [`Refusal::ScriptTooLong`].
+/// buffer is zero, and on a refusal all of it is. Refused: what [`check`] refuses; then [`Refusal::Unwritable`] if no text without an
+/// exponent reads to the tree, which a sheet that [`read`] gave for such a text cannot bring about; then [`Refusal::ScriptTooLong`].
 pub fn write(text: &[u8], sheet: &[u8], out: &mut [u8], list: u32) -> LineAnswer {
     // SAFETY: the three slices are whole, and the buffer overlaps neither of the others.
     line_answer(unsafe { strip_write(text.as_ptr(), text.len(), sheet.as_ptr(), sheet.len(), out.as_mut_ptr(), out.len(), list) })

@@ -44,7 +44,7 @@ refusals! {
     TextTooLong = 1,
     /// A byte or a form outside the text rules.
     BadForm = 2,
-    /// A number with too many digits.
+    /// A number with more than 40 digits before or after its point.
     TooManyDigits = 3,
     /// A closer without its opener, or an opener that is not closed.
     Unbalanced = 4,
@@ -96,7 +96,7 @@ refusals! {
     OutputTooShort = 32,
     /// A 4,097th script, or totals with a figure above the limit.
     TooManyScripts = 33,
-    /// No text reads to the tree of a sheet.
+    /// No text without an exponent reads to the tree of a sheet.
     Unwritable = 34,
     /// A script of more than 16,384 bytes, or longer than the buffer.
     ScriptTooLong = 35,

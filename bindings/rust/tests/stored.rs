@@ -46,10 +46,9 @@ fn check_line(answer: CheckAnswer) -> String {
     }
 }
 
-/// Each text is read, and its sheet checked.
-#[test]
-fn scripts() {
-    let (cases, answers) = stored("script");
+/// Each text of a kind is read, and its sheet checked.
+fn read_and_checked(kind: &str) {
+    let (cases, answers) = stored(kind);
     let (mut scratch, mut sheet) = (vec![0; SCRATCH_WORDS], vec![0; SHEET_BYTES]);
     let mut ours = String::new();
     for case in cases.lines() {
@@ -65,6 +64,16 @@ fn scripts() {
         }
     }
     compare(&ours, &answers);
+}
+
+#[test]
+fn scripts() {
+    read_and_checked("script");
+}
+
+#[test]
+fn numbers() {
+    read_and_checked("number");
 }
 
 #[test]

@@ -1,5 +1,6 @@
-// The kinds `script` and `rounded`, whose lines are texts. The answer of `script` is what reading answers, its sheet, and what checking
-// answers to that (oracle/store-scripts.sh); of `rounded` how many of its numbers were rounded, or `refused` (tools/rounded_cases.py).
+// The kinds `script`, `number` and `rounded`, whose lines are texts. The answer of the first two is what reading answers, its sheet, and
+// what checking answers to that (oracle/store-scripts.sh, tools/number_cases.py); of `rounded` how many of its numbers were rounded, or
+// `refused` (tools/rounded_cases.py).
 use crate::answers::refuse;
 use crate::answers::say;
 use crate::answers::say_answer;

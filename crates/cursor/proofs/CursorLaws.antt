@@ -14,8 +14,8 @@ use lib.Ieee.{isNan}
 use Rattle.text.specs.Bytes.{bytes, part, among}
 use Rattle.text.specs.Words.{isSome}
 use Rattle.number.specs.Number.{Written, whole, bits}
-use Rattle.token.specs.Token.{Kind, name, number, quoted, mark, Token, token, tokensFrom, place, kind, isMark, rest}
-use Rattle.token.specs.Means.{Lexes, Small, kindOf, writtenOf, lastPlace}
+use Rattle.token.specs.Token.{Kind, name, number, quoted, mark, Token, token, tokensFrom, place, kind, isMark, rest, writtenAt}
+use Rattle.token.specs.Means.{Lexes, Digits, NumberIs, Known, kindOf, writtenIn, lastPlace}
 use Rattle.text.specs.Limits.{textLimit}
 use Rattle.token.proofs.NestLaws.{last-rest}
 use Rattle.token.specs.declared.Lexed.{Lexed}
@@ -233,8 +233,18 @@ pair-apart s c m r f a b n =
 
 -- ---- numbers
 
+-- the number at a place p, as the code has it
+pub seen-known : (s : List ℕ) (p : ℕ) (n : Number) → n .at ≡ p → p ≤ length s
+    → length s ≤ textLimit → Digits (drop p s) → NumberIs (drop p s) n
+    → (number (writtenAt (drop p s)) ≡ number (writtenIn s n)) × Known s n
+seen-known s p n e h g d i =
+    let f : drop p s ≡ drop (n .at) s = ap (λ (z : ℕ). drop z s) (sym e) in (
+      ap (λ (t : List ℕ). number (writtenAt t)) f,
+      record { inside = omega arith; short = g; limits = subst Digits f d; is = subst (λ (t : List ℕ). NumberIs t n) f i },
+    )
+
 module _ (s : List ℕ) (c m : Cursor) (r : Ready s c) (f : Follows s c m) where
-  pub plus-number : (n : Number) → seesByte 45 (tokens s c) ≡ false → (kind (tokens s c) ≡ number (writtenOf n)) × Small n
+  pub plus-number : (n : Number) → seesByte 45 (tokens s c) ≡ false → (kind (tokens s c) ≡ number (writtenIn s n)) × Known s n
       → Numbers s c false n m
   plus-number n e k = record {
     sees = rw (e, k .0);
@@ -243,11 +253,11 @@ module _ (s : List ℕ) (c m : Cursor) (r : Ready s c) (f : Follows s c m) where
     rounded = f .rounded;
     low = let a = head-moves s c r (rw (k .0)) in omega (arith, f .at);
     ready = f .ready;
-    small = k .1;
+    known = k .1;
   }
 
   pub minus-number : (u : Cursor) → Follows s m u → (n : Number) → seesByte 45 (tokens s c) ≡ true
-      → (kind (tokens s m) ≡ number (writtenOf n)) × Small n → Numbers s c true n u
+      → (kind (tokens s m) ≡ number (writtenIn s n)) × Known s n → Numbers s c true n u
   minus-number u g n e k = record {
     sees = rw (e, f .rest, k .0);
     past = rw (f .rest, g .rest);
@@ -257,7 +267,7 @@ module _ (s : List ℕ) (c m : Cursor) (r : Ready s c) (f : Follows s c m) where
         let b = moved-low s m u (f .ready) g in
         omega (arith, f .at);
     ready = g .ready;
-    small = k .1;
+    known = k .1;
   }
 
   pub no-minus : seesByte 45 (tokens s c) ≡ true → plain (kind (tokens s m)) ≡ absent → seesNumber (tokens s c) ≡ absent
@@ -268,24 +278,24 @@ pub no-number : (s : List ℕ) (c : Cursor) → Ready s c → seesByte 45 (token
 no-number s c r e k = rw (e, k)
 
 module _ (s : List ℕ) (c m : Cursor) (b : Bool) (n : Number) (h : Numbers s c b n m) where
-  by-sign : (r : Refusal) (x : Bool) (v : Signed) → v ≡ sign x (writtenOf n)
+  by-sign : (r : Refusal) (x : Bool) (v : Signed) → v ≡ sign x (writtenIn s n)
       → (us : List Token) → past x (tokens s c) ≡ us
-      → taken r v (notes s c) (tokens s c) ≡ got (x, writtenOf n) (notes s c) us
+      → taken r v (notes s c) (tokens s c) ≡ got (x, writtenIn s n) (notes s c) us
   by-sign r false v e us q = rw (e, q)
   by-sign r true v e us q = rw (e, q)
 
-  whole-sign : (x : Bool) → n .point ≡ false → pointless (sign x (writtenOf n)) ≡ sign x (writtenOf n)
-  whole-sign false e = rw e
-  whole-sign true e = rw e
+  whole-sign : (x : Bool) → n .point ≡ false → pointless (sign x (writtenIn s n)) ≡ sign x (writtenIn s n)
+  whole-sign false e = rw (sym (h .known .is .point), e)
+  whole-sign true e = rw (sym (h .known .is .point), e)
 
-  whole-none : (x : Bool) → n .point ≡ true → pointless (sign x (writtenOf n)) ≡ absent
-  whole-none false e = rw e
-  whole-none true e = rw e
+  whole-none : (x : Bool) → n .point ≡ true → pointless (sign x (writtenIn s n)) ≡ absent
+  whole-none false e = rw (sym (h .known .is .point), e)
+  whole-none true e = rw (sym (h .known .is .point), e)
 
-  pub took-number : (r : Refusal) → Took 1 s c m (signed seesNumber r) (b, writtenOf n)
+  pub took-number : (r : Refusal) → Took 1 s c m (signed seesNumber r) (b, writtenIn s n)
   took-number r = record { is = by-sign r b _ (h .sees) _ (h .past) ∙ (rw (h .left, h .rounded)); low = h .low; ready = h .ready }
 
-  pub took-whole : (r : Refusal) → n .point ≡ false → Took 1 s c m (signed seesWhole r) (b, writtenOf n)
+  pub took-whole : (r : Refusal) → n .point ≡ false → Took 1 s c m (signed seesWhole r) (b, writtenIn s n)
   took-whole r e = record {
     is = by-sign r b _ (ap pointless (h .sees) ∙ whole-sign b e) _ (h .past) ∙ (rw (h .left, h .rounded));
     low = h .low;

@@ -13,7 +13,7 @@ use Rattle.text.specs.Bytes.{part}
 use Rattle.number.specs.Number.{Written, bits}
 use Rattle.token.specs.Token.{Token, tokensFrom, place, kind, rest}
 use Rattle.token.specs.Token as numbers
-use Rattle.token.specs.Means.{Lexes, Small, writtenOf, lexedOf, lastPlace}
+use Rattle.token.specs.Means.{Lexes, Known, writtenIn, lexedOf, lastPlace}
 use Rattle.token.specs.declared.Number.{Number}
 use Rattle.token.specs.declared.Lexed.{Lexed}
 use Rattle.ast.specs.declared.Span.{Span}
@@ -144,13 +144,13 @@ past false ts = rest ts
 past true ts = rest (rest ts)
 
 pub record Numbers (s : List ℕ) (c : Cursor) (b : Bool) (n : Number) (m : Cursor) : Type 0 where
-  pub sees : seesNumber (tokens s c) ≡ sign b (writtenOf n)
+  pub sees : seesNumber (tokens s c) ≡ sign b (writtenIn s n)
   pub past : past b (tokens s c) ≡ tokens s m
   pub left : m .left ≡ c .left
   pub rounded : m .rounded ≡ c .rounded
   pub low : c .at + 1 ≤ m .at
   pub ready : Ready s m
-  pub small : Small n
+  pub known : Known s n
 
 abbrev pub NumberMeans : List ℕ → Cursor → NumberRead → Type 0
 NumberMeans s c (number.Is b n m) = Numbers s c b n m
@@ -158,7 +158,7 @@ NumberMeans s c (number.Missing q) = (seesNumber (tokens s c) ≡ absent) × (pl
 
 -- the next token as a number
 abbrev pub NumberView : List ℕ → Cursor → NumberSeen → Type 0
-NumberView s c (seen.Is n) = (kind (tokens s c) ≡ numbers.number (writtenOf n)) × Small n
+NumberView s c (seen.Is n) = (kind (tokens s c) ≡ numbers.number (writtenIn s n)) × Known s n
 NumberView s c seen.Not = plain (kind (tokens s c)) ≡ absent
 
 abbrev pub FloatMeans : List ℕ → Cursor → Rule ℕ → FloatRead → Type 0

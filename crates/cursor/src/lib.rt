@@ -9,7 +9,6 @@ ghost use Rattle.text.specs.Words.{table};
 ghost use Rattle.token.specs.Token.{tokensFrom, isMark};
 ghost use Rattle.token.specs.Means.{kindOf, lastPlace};
 ghost use Rattle.number.specs.Number.{nearest};
-ghost use Rattle.token.specs.Means.{writtenOf};
 ghost use Rattle.grammar.specs.Rule.{seesByte, seesPair, seesBytes, seesName, isEnd, ends, theByte, bothBytes, eatByte, word, text as quotedText, choiceIn, weigh, behind, firstOf, leave};
 ghost use Rattle.grammar.specs.Values.{parseFloat, parseUint, truth};
 ghost use Rattle.cursor.specs.Means.{nothing, leftOf, leftIs, Ready, Begins, Took, Follows, Behind, tallied, passOf, NumberView, MarkMeans, WordMeans, StringMeans, NumberMeans, FloatMeans, UintMeans, TruthMeans, CaseMeans};
@@ -357,7 +356,7 @@ fn number_seen(text: &[u8], c: Cursor) -> NumberSeen
     match k {
         Tok::Num => {
             let at = place(c);
-            NumberSeen::Is(token::number_of(&text[at..]))
+            NumberSeen::Is(token::number_of(&text[at..], c.at))
         }
         Tok::Mark(_) => NumberSeen::Not,
         Tok::Name => NumberSeen::Not,
@@ -402,7 +401,7 @@ pub fn parse_float(text: &[u8], c: Cursor) -> FloatRead
     match number(text, c) {
         NumberRead::Missing(p) => FloatRead::Refused(Refusal::Malformed, p),
         NumberRead::Is(negative, n, m) => {
-            let x = number::decimal(negative, n.digits, n.places);
+            let x = token::float_of(text, negative, n);
             FloatRead::Is(x.value, count(m, x.rounded))
         }
     }

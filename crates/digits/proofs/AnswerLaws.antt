@@ -11,7 +11,7 @@ use borrow.Author.Tests.{le-leb}
 use Rattle.digits.specs.Numeral.{Sort, float, percentage, counted}
 use Rattle.digits.specs.Fewest.{wholeDigits, lastDigits, trimmed, spelled, numeral}
 use Rattle.digits.specs.Fewest.{isSome, fewest, leastPercent, each, form, writable}
-use Rattle.digits.specs.Answer.{numberOf, decimalOf, wholeOf}
+use Rattle.digits.specs.Answer.{wholeNumber, numberOf, decimalOf, wholeOf}
 use Rattle.digits.specs.declared.Decimal.{Decimal}
 use Rattle.digits.proofs.NumeralLaws.{same-whole, same-low, trim-same, whole-limit}
 use Rattle.digits.proofs.FewestLaws.{fewest-of}
@@ -20,18 +20,18 @@ use Rattle.digits.proofs.PercentLaws.{percent-of}
 -- the digits of n over 10 ^ p are those of the form
 pub record Spelt (k : Sort) (b n p : ℕ) : Type 0 where
   pub same : form k b ≡ spelled (n, p)
-  pub few : p ≤ 9
-  pub below : n / 10 ^ p < 10 ^ 10
+  pub few : p ≤ 40
+  pub below : n / 10 ^ p < 10 ^ 40
   pub writable : writable k b ≡ true
 
 -- ---- an answer, by whether one was found
 
 module _ (r : Decimal) {o : Option (ℕ × ℕ)} (e : numberOf r ≡ o) where
-  found-is : r .found ≡ true → o ≡ some (r .n, r .places)
-  found-is f = sym e ∙ ap (λ (x : Bool). cond x (some (r .n, r .places)) none) f
+  found-is : r .found ≡ true → o ≡ some (wholeNumber r, r .places)
+  found-is f = sym e ∙ ap (λ (x : Bool). cond x (some (wholeNumber r, r .places)) none) f
 
   missing-is : r .found ≡ false → o ≡ none
-  missing-is f = sym e ∙ ap (λ (x : Bool). cond x (some (r .n, r .places)) none) f
+  missing-is f = sym e ∙ ap (λ (x : Bool). cond x (some (wholeNumber r, r .places)) none) f
 
 same-pair : (d e : ℕ × ℕ) → some d ≡ some e → d ≡ e
 same-pair d e q = cc
@@ -41,21 +41,21 @@ never p q = absurd (let z : _≡_ {A = ℕ} 0 1 = cc in omega arith)
 
 -- ---- an f32
 
-float-spelt : (b m : ℕ) → fewest b ≡ some m → Spelt float b (trimmed 9 m .0) (trimmed 9 m .1)
+float-spelt : (b m : ℕ) → fewest b ≡ some m → Spelt float b (trimmed 40 m .0) (trimmed 40 m .1)
 unfolding form writable
 float-spelt b m q =
     let s = trim-same m in
     record {
       same = ap (λ (o : Option ℕ). each o numeral) q;
       few = same-low s;
-      below = subst (λ (x : ℕ). x < 10 ^ 10) (sym (same-whole s)) (whole-limit m (fewest-of b m q .below));
+      below = subst (λ (x : ℕ). x < 10 ^ 40) (sym (same-whole s)) (whole-limit m (fewest-of b m q .below));
       writable = ap isSome q;
     }
 
-pub float-found : (r : Decimal) (b : ℕ) → numberOf r ≡ decimalOf (fewest b) → r .found ≡ true → Spelt float b (r .n) (r .places)
+pub float-found : (r : Decimal) (b : ℕ) → numberOf r ≡ decimalOf (fewest b) → r .found ≡ true → Spelt float b (wholeNumber r) (r .places)
 float-found r b e f = go (fewest b) refl (found-is r e f)
   where
-    go : (o : Option ℕ) → fewest b ≡ o → decimalOf (fewest b) ≡ some (r .n, r .places) → Spelt float b (r .n) (r .places)
+    go : (o : Option ℕ) → fewest b ≡ o → decimalOf (fewest b) ≡ some (wholeNumber r, r .places) → Spelt float b (wholeNumber r) (r .places)
     go none q h = never (ap decimalOf q) h
     go (some m) q h = subst (λ (d : ℕ × ℕ). Spelt float b (d .0) (d .1)) (same-pair _ _ (sym (ap decimalOf q) ∙ h)) (float-spelt b m q)
 
@@ -69,24 +69,27 @@ float-missing r b e f = go (fewest b) refl (missing-is r e f)
 
 -- ---- a whole number
 
-whole-same : (n : ℕ) → (wholeDigits 9 n, []) ≡ spelled (n, 0)
+whole-same : (n : ℕ) → (wholeDigits 39 n, []) ≡ spelled (n, 0)
 unfolding lastDigits
-whole-same n = ap (λ (x : ℕ). (wholeDigits 9 x, [])) (sym (div-one n))
+whole-same n = ap (λ (x : ℕ). (wholeDigits 39 x, [])) (sym (div-one n))
 
 -- a percent
 percent-spelt : (b n : ℕ) → leastPercent b ≡ some n → Spelt percentage b n 0
 unfolding form writable
 percent-spelt b n q = record {
-  same = ap (λ (o : Option ℕ). each o (λ n. (wholeDigits 9 n, []))) q ∙ whole-same n;
+  same = ap (λ (o : Option ℕ). each o (λ n. (wholeDigits 39 n, []))) q ∙ whole-same n;
   few = lit≤ tt;
-  below = subst (λ (x : ℕ). x < 10 ^ 10) (sym (div-one n)) (percent-of b n q .below);
+  below = subst (λ (x : ℕ). x < 10 ^ 40) (sym (div-one n)) (percent-of b n q .below);
   writable = ap isSome q;
 }
 
-pub percent-found : (r : Decimal) (b : ℕ) → numberOf r ≡ wholeOf (leastPercent b) → r .found ≡ true → Spelt percentage b (r .n) (r .places)
+pub percent-found : (r : Decimal) (b : ℕ) → numberOf r ≡ wholeOf (leastPercent b)
+    → r .found ≡ true → Spelt percentage b (wholeNumber r) (r .places)
 percent-found r b e f = go (leastPercent b) refl (found-is r e f)
   where
-    go : (o : Option ℕ) → leastPercent b ≡ o → wholeOf (leastPercent b) ≡ some (r .n, r .places) → Spelt percentage b (r .n) (r .places)
+    go : (o : Option ℕ) → leastPercent b ≡ o
+        → wholeOf (leastPercent b) ≡ some (wholeNumber r, r .places)
+        → Spelt percentage b (wholeNumber r) (r .places)
     go none q h = never (ap wholeOf q) h
     go (some m) q h = subst (λ (d : ℕ × ℕ). Spelt percentage b (d .0) (d .1)) (same-pair _ _ (sym (ap wholeOf q) ∙ h)) (percent-spelt b m q)
 
@@ -104,6 +107,6 @@ unfolding form writable
 counted-spelt n h = record {
   same = whole-same n;
   few = lit≤ tt;
-  below = subst (λ (x : ℕ). x < 10 ^ 10) (sym (div-one n)) (lt-of-le-of-lt h (lit< tt));
+  below = subst (λ (x : ℕ). x < 10 ^ 40) (sym (div-one n)) (lt-of-le-of-lt h (lit< tt));
   writable = le-leb n 4294967295 h;
 }

@@ -1,4 +1,4 @@
--- The bits 0 are written 0; what is below 10 ^ -9 or above 10 ^ 10 is not written. Assumes nothing.
+-- The bits 0 are written 0; what is below 10 ^ -9 or above 10 ^ 40 is not written. Assumes nothing.
 use Prim.Native.Nat.{ℕ, _^_, _≤_, _<_, zero-le}
 use mathlib.Core.Logic.{⊎-elim}
 use mathlib.Core.Option.{none, some}
@@ -11,7 +11,7 @@ use lib.Ieee.{round, div, toBits}
 use Rattle.number.specs.Number.{percent, bits}
 use Rattle.digits.specs.Fewest.{trimmed, wholeDigits, lastDigits, count, limit, fewest, leastPercent}
 use Rattle.digits.specs.Answer.{decimalOf}
-use Rattle.digits.specs.Means.{bitsOf, percentBits, lowest, highest}
+use Rattle.digits.specs.Means.{bitsOf, percentBits, lowest, least, infinity}
 use Rattle.digits.proofs.NumeralLaws.{count-trim, long-above}
 use Rattle.digits.proofs.FewestLaws.{Shortest, shortest-is, none-fewest}
 use Rattle.digits.proofs.OrderLaws.{bits-mono}
@@ -19,15 +19,15 @@ use Rattle.digits.proofs.PercentLaws.{percent-mono, first-is, none-is}
 
 -- ---- numbers
 
-zero-bits : bitsOf 0 (10 ^ 9) ≡ 0
+zero-bits : bitsOf 0 (10 ^ 40) ≡ 0
 unfolding bitsOf bits round toBits
 zero-bits = refl
 
-one-bits : bitsOf 1 (10 ^ 9) ≡ lowest
+one-bits : bitsOf 1 (10 ^ 40) ≡ least
 unfolding bitsOf bits round toBits
 one-bits = refl
 
-most-bits : bitsOf (10 ^ 19) (10 ^ 9) ≡ highest
+most-bits : bitsOf (10 ^ 80) (10 ^ 40) ≡ infinity
 unfolding bitsOf bits round toBits
 most-bits = refl
 
@@ -35,7 +35,7 @@ one-digit : count 0 ≡ 1
 unfolding count trimmed wholeDigits lastDigits
 one-digit = refl
 
-no-places : trimmed 9 0 ≡ (0, 0)
+no-places : trimmed 40 0 ≡ (0, 0)
 unfolding trimmed
 no-places = refl
 
@@ -43,7 +43,7 @@ zero-shortest : Shortest 0 0
 zero-shortest = record {
   below = unfold limit in lit< tt;
   reads = zero-bits;
-  fewest = λ k h r. omega (arith, one-digit, count-trim k, long-above (trimmed 9 k .0) (trimmed 9 k .1));
+  fewest = λ k h r. omega (arith, one-digit, count-trim k, long-above (trimmed 40 k .0) (trimmed 40 k .1));
   smallest = λ k h r e. zero-le;
 }
 
@@ -54,21 +54,21 @@ pub zero-written : (b : ℕ) → b ≡ 0 → some (0, 0) ≡ decimalOf (fewest b
 zero-written b e = sym (ap decimalOf (zero-fewest b e) ∙ ap some no-places)
 
 -- the bits of what can be written: 0, or between the two
-bits-low : (k : ℕ) → 0 < k → lowest ≤ bitsOf k (10 ^ 9)
-bits-low k h = le-trans (le-of-eq (sym one-bits)) (bits-mono 1 (10 ^ 9) k (10 ^ 9) (lit< tt) (lit< tt) (mul-le-mul-right (10 ^ 9) h))
+bits-low : (k : ℕ) → 0 < k → least ≤ bitsOf k (10 ^ 40)
+bits-low k h = le-trans (le-of-eq (sym one-bits)) (bits-mono 1 (10 ^ 40) k (10 ^ 40) (lit< tt) (lit< tt) (mul-le-mul-right (10 ^ 40) h))
 
-bits-high : (k : ℕ) → k < limit → bitsOf k (10 ^ 9) ≤ highest
+bits-high : (k : ℕ) → k < limit → bitsOf k (10 ^ 40) ≤ infinity
 unfolding limit
 bits-high k h =
-    le-trans (bits-mono k (10 ^ 9) (10 ^ 19) (10 ^ 9) (lit< tt) (lit< tt) (mul-le-mul-right (10 ^ 9) (le-of-lt h))) (le-of-eq most-bits)
+    le-trans (bits-mono k (10 ^ 40) (10 ^ 80) (10 ^ 40) (lit< tt) (lit< tt) (mul-le-mul-right (10 ^ 40) (le-of-lt h))) (le-of-eq most-bits)
 
 module _ (b : ℕ) where
-  pub none-below : (b ≡ 0 → ⊥) → b < lowest → fewest b ≡ none
+  pub none-below : (b ≡ 0 → ⊥) → b < least → fewest b ≡ none
   none-below z h =
-      none-fewest b (λ k l r. ⊎-elim (λ (e : k ≡ 0). z (sym r ∙ ap (λ (x : ℕ). bitsOf x (10 ^ 9)) e ∙ zero-bits))
+      none-fewest b (λ k l r. ⊎-elim (λ (e : k ≡ 0). z (sym r ∙ ap (λ (x : ℕ). bitsOf x (10 ^ 40)) e ∙ zero-bits))
       (λ (g : 0 < k). lt-irrefl b (lt-of-lt-of-le h (le-trans (bits-low k g) (le-of-eq r)))) (eq-zero-or-pos k))
 
-  pub none-above : highest < b → fewest b ≡ none
+  pub none-above : infinity < b → fewest b ≡ none
   none-above h = none-fewest b (λ k l r. lt-irrefl b (lt-of-le-of-lt (le-trans (le-of-eq (sym r)) (bits-high k l)) h))
 
 -- ---- percents
@@ -77,7 +77,7 @@ smallest-percent : percentBits 1 ≡ 1008981770
 unfolding percentBits bits percent round div toBits
 smallest-percent = refl
 
-largest-percent : percentBits (10 ^ 10) ≡ 1287568416
+largest-percent : percentBits (10 ^ 40) ≡ 2139095040
 unfolding percentBits bits percent round div toBits
 largest-percent = refl
 
@@ -105,10 +105,10 @@ module _ (b : ℕ) where
       above : (b : ℕ) → (b ≡ 0 → ⊥) → 0 < b
       above b z = omega arith
 
-  pub no-percent-above : highest < b → leastPercent b ≡ none
+  pub no-percent-above : infinity < b → leastPercent b ≡ none
   no-percent-above h =
-      none-is {b = b} {r = 10 ^ 10} (record {
-        top = le-refl (10 ^ 10);
-        before = λ k l. lt-of-le-of-lt (le-trans (percent-mono k (10 ^ 10) (le-of-lt l)) (le-trans (le-of-eq largest-percent) (lit≤ tt))) h;
-        reached = λ s. absurd (lt-irrefl (10 ^ 10) s);
-      }) (λ s e. lt-irrefl (10 ^ 10) s)
+      none-is {b = b} {r = 10 ^ 40} (record {
+        top = le-refl (10 ^ 40);
+        before = λ k l. lt-of-le-of-lt (le-trans (percent-mono k (10 ^ 40) (le-of-lt l)) (le-trans (le-of-eq largest-percent) (lit≤ tt))) h;
+        reached = λ s. absurd (lt-irrefl (10 ^ 40) s);
+      }) (λ s e. lt-irrefl (10 ^ 40) s)

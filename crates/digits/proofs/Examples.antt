@@ -15,12 +15,14 @@ use Rattle.text.specs.Bytes.{bytes}
 use Rattle.number.specs.Number.{percent, bits}
 use Rattle.digits.specs.Numeral.{float, percentage}
 use Rattle.digits.specs.Fewest.{wholeDigits, lastDigits, trimmed, spelled, form, each, numeral}
-use Rattle.digits.specs.Means.{percentBits, lowest, highest, long, Halfway, FirstAt, Candidate, Leads}
+use Rattle.digits.specs.Means.{percentBits, lowest, highest, infinity, doublings, digitsOf}
+use Rattle.digits.specs.Means.{wholeOver, long, Halfway, Placed, FirstAt, Candidate, Leads}
 use Rattle.digits.specs.declared.Middle.{Middle}
 use Rattle.digits.proofs.NumeralLaws.{both, ten-pos, long-above, long-lt, long-le}
 use Rattle.digits.proofs.FewestLaws.{shortest-is}
-use Rattle.digits.proofs.MiddleLaws.{middle-low, middle-high, past-first}
-use Rattle.digits.proofs.SearchLaws.{first-le, first-reads, first-below, none-reads, best-trimmed, best-shortest}
+use Rattle.digits.proofs.MiddleLaws.{middle-low, middle-high, past-first, fair-of}
+use Rattle.digits.proofs.WholeLaws.{whole-leads, N-reads}
+use Rattle.digits.proofs.SearchLaws.{first-le, first-reads, first-below, none-reads, best-trimmed, best-shortest, leads-all}
 use Rattle.digits.proofs.PercentLaws.{small-first, first-is}
 use Rattle.digits.proofs.EndLaws.{zero-fewest, none-above}
 
@@ -28,32 +30,37 @@ use Rattle.digits.proofs.EndLaws.{zero-fewest, none-above}
 
 abbrev middle : ℕ → Middle
 middle b =
-    let k = (b - 1) / 8388608 - 1 in
-    let w = (b - 1) % 8388608 + 8388608 in
+    let k = doublings (b - 1) in
+    let w = digitsOf (b - 1) in
     cond (ltb k 150) (record { num = w * 2 + 1; shift = 150 - k; tie = w % 2 })
     (record { num = ((w * 2 + 1) * 2 ^ (k - 150)) % 2 ^ 64; shift = 0; tie = w % 2 })
 
 abbrev first : ℕ → ℕ → ℕ
 first b d = let m = middle b in (m .num * d + (1 * 2 ^ m .shift) % 2 ^ 64 - m .tie) / 2 ^ m .shift
 
-halfway : (b : ℕ) → lowest ≤ b → b ≤ highest + 1 → Halfway b (middle b)
+halfway : (b : ℕ) → lowest ≤ b → b ≤ highest + 1 → Halfway b (middle b) × Placed b (middle b)
 halfway b lo hi = go (ltb k 150) (ltb-true k 150) (ltb-false k 150)
   where
     k : ℕ
-    k = (b - 1) / 8388608 - 1
+    k = doublings (b - 1)
 
     w : ℕ
-    w = (b - 1) % 8388608 + 8388608
+    w = digitsOf (b - 1)
+
+    some : 0 < b
+    some = omega arith
 
     go : (x : Bool) → (x ≡ true → k < 150) → (x ≡ false → 150 ≤ k)
-        → Halfway b
-        (cond x (record { num = w * 2 + 1; shift = 150 - k; tie = w % 2 })
-        (record { num = ((w * 2 + 1) * 2 ^ (k - 150)) % 2 ^ 64; shift = 0; tie = w % 2 }))
-    go true f g = middle-low b lo hi (f refl)
-    go false f g = middle-high b lo hi (g refl)
+        →
+        let m : Middle = cond x (record { num = w * 2 + 1; shift = 150 - k; tie = w % 2 })
+        (record { num = ((w * 2 + 1) * 2 ^ (k - 150)) % 2 ^ 64; shift = 0; tie = w % 2 })
+        in
+        Halfway b m × Placed b m
+    go true f g = middle-low b some hi (f refl)
+    go false f g = middle-high b some hi (g refl)
 
 first-at : (b d : ℕ) → lowest ≤ b → b ≤ highest + 1 → 0 < d → d ≤ 10 ^ 9 → FirstAt b d (first b d)
-first-at b d lo hi D h = let m = halfway b lo hi in past-first (m .fair) D h b m
+first-at b d lo hi D h = let m = halfway b lo hi in past-first (fair-of lo (m .1)) D h b (m .0)
 
 -- ---- the test
 
@@ -76,8 +83,9 @@ later b n p c j =
 
 unfoldable isFewest : ℕ → ℕ → ℕ → Bool
 isFewest b n p =
-    leb lowest b
-    && (leb b highest && (ltb p 10 && (eqb (first b (10 ^ p)) n && (ltb n (first (b + 1) (10 ^ p)) && every (later b n p (long n p)) 10))))
+    leb (long n p) 10
+    && (leb lowest b
+    && (leb b highest && (ltb p 10 && (eqb (first b (10 ^ p)) n && (ltb n (first (b + 1) (10 ^ p)) && every (later b n p (long n p)) 10)))))
 
 -- one of the three
 data Later (b n p c j : ℕ) : Type 0 where
@@ -106,6 +114,7 @@ later-is b n p c j = go (leb e f) (leb-true e f) (ltb c l) (ltb-true c l)
         let z = both (leb c l) (leb (n * 10 ^ j) (f * 10 ^ p)) q in larger (leb-true c l (z .0)) (leb-true (n * 10 ^ j) (f * 10 ^ p) (z .1))
 
 record Passes (b n p : ℕ) : Type 0 where
+  short : long n p ≤ 10
   low : lowest ≤ b
   high : b ≤ highest
   few : p < 10
@@ -116,12 +125,14 @@ record Passes (b n p : ℕ) : Type 0 where
 passes : (b n p : ℕ) → isFewest b n p ≡ true → Passes b n p
 unfolding isFewest
 passes b n p e =
-    let a = both _ _ e in
+    let z = both _ _ e in
+    let a = both _ _ (z .1) in
     let c = both _ _ (a .1) in
     let d = both _ _ (c .1) in
     let f = both _ _ (d .1) in
     let g = both _ _ (f .1) in
     record {
+      short = leb-true (long n p) 10 (z .0);
       low = leb-true lowest b (a .0);
       high = leb-true b highest (c .0);
       few = ltb-true p 10 (d .0);
@@ -159,7 +170,10 @@ module _ {b n p : ℕ} (t : Passes b n p) where
   leads : Leads b 10 n p (long n p)
   leads = record {
     low = t .few;
-    is = record { reads = first-reads p mine (above p (t .few)) (t .inside); below = first-below p mine (t .high) };
+    is = record {
+      reads = first-reads p mine (above p (t .few)) (t .inside);
+      below = lt-of-lt-of-le (first-below p mine (t .high)) (lit≤ tt);
+    };
     size = refl;
     fewer = λ v j h c. fewer v j h c (t .best j h);
     smaller = λ v j h c e. smaller v j h c e (t .best j h);
@@ -169,7 +183,8 @@ module _ {b n p : ℕ} (t : Passes b n p) where
 tested : (b n p : ℕ) → isFewest b n p ≡ true → form float b ≡ spelled (n, p)
 unfolding form
 tested b n p e =
-    let l = leads (passes b n p e) in
+    let x = passes b n p e in
+    let l = leads-all (lit≤ tt) (x .short) (leads x) in
     ap (λ (o : Option ℕ). each o numeral) (shortest-is b _ (best-shortest l)) ∙ ap spelled (best-trimmed l)
 
 -- ---- 10,000,000: `9999999.5` has as many digits as `10000000`, reads to it by the tie, and is smaller
@@ -201,32 +216,45 @@ billionth : form float 0x3089_705f ≡ (bytes "0", bytes "000000001")
 unfolding isFewest every long wholeDigits lastDigits
 billionth = tested 0x3089_705f 1 9 refl
 
--- ---- 0, and what no number reads to: -0, an infinity, a NaN
+-- ---- 0, and what no number reads to: -0, a NaN
 
 zero-form : form float 0 ≡ (bytes "0", [])
 unfolding form trimmed wholeDigits lastDigits
 zero-form = ap (λ (o : Option ℕ). each o numeral) (zero-fewest 0 refl)
 
-nothing : (b : ℕ) → highest < b → form float b ≡ ([], [])
+nothing : (b : ℕ) → infinity < b → form float b ≡ ([], [])
 unfolding form
 nothing b h = ap (λ (o : Option ℕ). each o numeral) (none-above b h)
 
 minus-zero : form float 0x8000_0000 ≡ ([], [])
 minus-zero = nothing 0x8000_0000 (lit< tt)
 
-infinity : form float 0x7f80_0000 ≡ ([], [])
-infinity = nothing 0x7f80_0000 (lit< tt)
-
 not-a-number : form float 0x7fc0_0000 ≡ ([], [])
 not-a-number = nothing 0x7fc0_0000 (lit< tt)
+
+-- ---- above 10 ^ 10: the largest f32, and infinity
+
+large : (b : ℕ) → highest < b → b ≤ infinity → form float b ≡ spelled (wholeOver b, 0)
+unfolding form
+large b lo hi =
+    let l = whole-leads b lo hi (N-reads b lo hi) in
+    ap (λ (o : Option ℕ). each o numeral) (shortest-is b _ (best-shortest l)) ∙ ap spelled (best-trimmed l)
+
+largest : form float 0x7f7f_ffff ≡ (bytes "340282336497324057985868971510891282433", [])
+unfolding wholeDigits lastDigits
+largest = large 0x7f7f_ffff (lit< tt) (lit≤ tt)
+
+infinite : form float 0x7f80_0000 ≡ (bytes "340282356779733661637539395458142568448", [])
+unfolding wholeDigits lastDigits
+infinite = large 0x7f80_0000 (lit< tt) (lit≤ tt)
 
 -- ---- a percent
 
 percent-form : (b n : ℕ) → lowest ≤ b → b ≤ highest → first b 100 ≡ n
-    → n ≤ 16777216 → percentBits n ≡ b → form percentage b ≡ (wholeDigits 9 n, [])
+    → n ≤ 16777216 → percentBits n ≡ b → form percentage b ≡ (wholeDigits 39 n, [])
 unfolding form
 percent-form b n lo hi e h r =
-    ap (λ (o : Option ℕ). each o (λ n. (wholeDigits 9 n, [])))
+    ap (λ (o : Option ℕ). each o (λ n. (wholeDigits 39 n, [])))
     (first-is (small-first (subst (λ (x : ℕ). FirstAt b 100 x) e (first-at b 100 lo (le-trans hi (lit≤ tt)) (lit< tt) (lit≤ tt))) h)
     (lt-of-le-of-lt h (lit< tt)) r)
 

@@ -16,11 +16,11 @@ use Rattle.digits.specs.Numeral.{Numeral, written}
 use Rattle.digits.specs.Fewest.{leastBelow, isSome, then, numeral, count, reads, limit, smallest, fewestDigits, fewest}
 use Rattle.digits.specs.Means.{bitsOf}
 use Rattle.digits.proofs.LeastLaws.{Least, Nowhere, least-of, nowhere-of, least-is, nowhere-is, never, either}
-use Rattle.digits.proofs.NumeralLaws.{billionths, reads-is, count-below, numeral-fits, numeral-same, numeral-bits, same-order, both}
+use Rattle.digits.proofs.NumeralLaws.{parts, reads-is, count-below, numeral-fits, numeral-same, numeral-bits, same-order, both}
 
--- m billionths read to b
+-- m parts read to b
 abbrev pub Reads : ℕ → ℕ → Type 0
-Reads b m = bitsOf m (10 ^ 9) ≡ b
+Reads b m = bitsOf m (10 ^ 40) ≡ b
 
 pub record Shortest (b m : ℕ) : Type 0 where
   pub below : m < limit
@@ -36,10 +36,10 @@ test b c m = eqb (count m) c && reads b m
 test-true : (b c m : ℕ) → test b c m ≡ true → (count m ≡ c) × Reads b m
 test-true b c m h =
     let t = both (eqb (count m) c) (reads b m) h in
-    (eqb-true (count m) c (t .0), eqb-true (bitsOf m (10 ^ 9)) b (sym (reads-is b m) ∙ t .1))
+    (eqb-true (count m) c (t .0), eqb-true (bitsOf m (10 ^ 40)) b (sym (reads-is b m) ∙ t .1))
 
 test-is : (b c m : ℕ) → count m ≡ c → Reads b m → test b c m ≡ true
-test-is b c m e r = rw (eq-eqb (count m) c e, reads-is b m, eq-eqb (bitsOf m (10 ^ 9)) b r)
+test-is b c m e r = rw (eq-eqb (count m) c e, reads-is b m, eq-eqb (bitsOf m (10 ^ 40)) b r)
 
 -- a test that cannot pass fails
 fails : (x : Bool) → (x ≡ true → ⊥) → x ≡ false
@@ -73,7 +73,7 @@ abbrev tried : ℕ → ℕ → Bool
 tried b c = isSome (smallest b c)
 
 module _ (b : ℕ) where
-  shortest-by : (c m : ℕ) → Least (tried b) 20 c → smallest b c ≡ some m → Shortest b m
+  shortest-by : (c m : ℕ) → Least (tried b) 81 c → smallest b c ≡ some m → Shortest b m
   shortest-by c m f e =
       let l = small-of b c m e in
       let t = test-true b c m (l .passes) in
@@ -96,11 +96,11 @@ module _ (b : ℕ) where
 
   pub fewest-of : (m : ℕ) → fewest b ≡ some m → Shortest b m
   unfolding fewest fewestDigits
-  fewest-of m e = go (leastBelow (tried b) 20) refl e
+  fewest-of m e = go (leastBelow (tried b) 81) refl e
     where
-      go : (o : Option ℕ) → leastBelow (tried b) 20 ≡ o → then o (smallest b) ≡ some m → Shortest b m
+      go : (o : Option ℕ) → leastBelow (tried b) 81 ≡ o → then o (smallest b) ≡ some m → Shortest b m
       go none q e = absurd (let z : _≡_ {A = ℕ} 0 1 = cc in omega arith)
-      go (some c) q e = shortest-by c m (least-of (tried b) 20 c q) e
+      go (some c) q e = shortest-by c m (least-of (tried b) 81 c q) e
 
   pub shortest-is : (m : ℕ) → Shortest b m → fewest b ≡ some m
   unfolding fewest fewestDigits
@@ -117,9 +117,9 @@ module _ (b : ℕ) where
                 let t = test-true b (count m) j q in not-le-of-lt h (s .smallest j (lt-of-lt-of-le h (le-of-lt (s .below))) (t .1) (t .0)));
           })
 
-      digits : leastBelow (tried b) 20 ≡ some (count m)
+      digits : leastBelow (tried b) 81 ≡ some (count m)
       digits =
-          least-is (tried b) 20 (count m)
+          least-is (tried b) 81 (count m)
           (record {
             below = count-below m (s .below);
             passes = ap isSome found;
@@ -133,12 +133,12 @@ module _ (b : ℕ) where
 
   pub fewest-none : fewest b ≡ none → (k : ℕ) → k < limit → Reads b k → ⊥
   unfolding fewest fewestDigits
-  fewest-none e k h r = go (leastBelow (tried b) 20) refl e
+  fewest-none e k h r = go (leastBelow (tried b) 81) refl e
     where
-      go : (o : Option ℕ) → leastBelow (tried b) 20 ≡ o → then o (smallest b) ≡ none → ⊥
+      go : (o : Option ℕ) → leastBelow (tried b) 81 ≡ o → then o (smallest b) ≡ none → ⊥
       go none q e =
-          none-of b (count k) (is-none (smallest b (count k)) (nowhere-of (tried b) 20 q .fails (count k) (count-below k h))) k h r refl
-      go (some c) q e = never (tried b c) (least-of (tried b) 20 c q .passes) (ap isSome e)
+          none-of b (count k) (is-none (smallest b (count k)) (nowhere-of (tried b) 81 q .fails (count k) (count-below k h))) k h r refl
+      go (some c) q e = never (tried b c) (least-of (tried b) 81 c q .passes) (ap isSome e)
 
   pub none-fewest : ((k : ℕ) → k < limit → Reads b k → ⊥) → fewest b ≡ none
   none-fewest f = go (fewest b) refl
@@ -169,8 +169,8 @@ module _ (b m : ℕ) (e : fewest b ≡ some m) where
   pub fewest-ahead : (w : List ℕ × List ℕ) → Numeral w → bits (nearest false (written w)) ≡ b → Ahead (numeral m) w
   fewest-ahead w u r =
       let s = fewest-of b m e in
-      let k = billionths w u .0 in
-      let i = billionths w u .1 in
+      let k = parts w u .0 in
+      let i = parts w u .1 in
       let q : Reads b k = sym (i .bits) ∙ r in
       record {
         fewer = omega (arith, lengths m, s .fewest k (i .below) q, i .fewer);
@@ -183,5 +183,5 @@ pub fewest-some : (b : ℕ) (w : List ℕ × List ℕ) → Numeral w → bits (n
 fewest-some b w u r = go (fewest b) refl
   where
     go : (o : Option ℕ) → fewest b ≡ o → (m : ℕ) × (fewest b ≡ some m)
-    go none e = let i = billionths w u .1 in absurd (fewest-none b e (billionths w u .0) (i .below) (sym (i .bits) ∙ r))
+    go none e = let i = parts w u .1 in absurd (fewest-none b e (parts w u .0) (i .below) (sym (i .bits) ∙ r))
     go (some m) e = (m, e)

@@ -64,23 +64,27 @@ pub float-complete : (w : Written) (u : List ℕ × List ℕ) → Numeral u → 
 unfolding nearest
 float-complete w u h d p =
     let e : bits (nearest false (written u)) ≡ bits (nearest false w) = sym (ap
-    (λ (x : ℕ). bits (nearest false (record { digits = x; places = w .places; point = w .point; suffix = w .suffix }))) d
-    ∙ ap (λ (x : ℕ). bits (nearest false (record { digits = written u .digits; places = x; point = w .point; suffix = w .suffix }))) p)
+    (λ (x : ℕ). bits
+    (nearest false (record { digits = x; places = w .places; point = w .point; exponent = w .exponent; suffix = w .suffix })))
+    d
+    ∙ ap (λ (x : ℕ). bits
+    (nearest false (record { digits = written u .digits; places = x; point = w .point; exponent = w .exponent; suffix = w .suffix })))
+    p)
     in
     let s = fewest-some (bits (nearest false w)) u h e in
     float-fits (bits (nearest false w)) (s .0) (s .1)
 
 -- ---- a whole number
 
-whole-numeral : (n : ℕ) → n < 10 ^ 10 → Numeral (wholeDigits 9 n, [])
+whole-numeral : (n : ℕ) → n < 10 ^ 40 → Numeral (wholeDigits 39 n, [])
 unfolding all
-whole-numeral n h = record { whole = whole-digits 9 n h; part = refl; some = whole-some 9 n; few = whole-few 9 n 9 h; short = lit≤ tt }
+whole-numeral n h = record { whole = whole-digits 39 n h; part = refl; some = whole-some 39 n; few = whole-few 39 n 39 h; short = lit≤ tt }
 
-whole-written : (n : ℕ) → written (wholeDigits 9 n, []) .digits ≡ n
+whole-written : (n : ℕ) → written (wholeDigits 39 n, []) .digits ≡ n
 unfolding decimal
-whole-written n = whole-reads 9 n
+whole-written n = whole-reads 39 n
 
-no-point : (n : ℕ) → written (wholeDigits 9 n, []) .point ≡ false
+no-point : (n : ℕ) → written (wholeDigits 39 n, []) .point ≡ false
 unfolding pointed
 no-point n = refl
 
@@ -96,7 +100,7 @@ unfolding form
 percent-fits b n e =
     let l = percent-of b n e in
     subst (λ (u : List ℕ × List ℕ). Numeral u × Means percentage b (written u))
-    (sym (ap (λ (o : Option ℕ). each o (λ n. (wholeDigits 9 n, []))) e))
+    (sym (ap (λ (o : Option ℕ). each o (λ n. (wholeDigits 39 n, []))) e))
     (whole-numeral n (l .below), (no-point n, λ s. ap (λ (x : ℕ). bits (percent s x)) (whole-written n) ∙ percent-means b n (l .reads) s))
 
 percent-back : (b : ℕ) → Fits percentage b → isSome (leastPercent b) ≡ true
@@ -104,10 +108,10 @@ unfolding form
 percent-back b f = go (leastPercent b) refl
   where
     go : (o : Option ℕ) → leastPercent b ≡ o → isSome (leastPercent b) ≡ true
-    go none e = absurd (nowhere (subst Numeral (ap (λ (o : Option ℕ). each o (λ n. (wholeDigits 9 n, []))) e) (f .0)))
+    go none e = absurd (nowhere (subst Numeral (ap (λ (o : Option ℕ). each o (λ n. (wholeDigits 39 n, []))) e) (f .0)))
     go (some m) e = ap isSome e
 
-pub percent-complete : (n : ℕ) → n < 10 ^ 10 → Fits percentage (bits (percent false n))
+pub percent-complete : (n : ℕ) → n < 10 ^ 40 → Fits percentage (bits (percent false n))
 unfolding percentBits
 percent-complete n h = go (leastPercent (bits (percent false n))) refl
   where
@@ -124,7 +128,7 @@ percent-written w u h d p z = percent-complete (w .digits) (lt-of-le-of-lt (le-o
     whole-only [] e = unfold decimal in refl
     whole-only (b ∷ l) e = absurd (omega arith)
 
-    below : decimal 0 (u .0) < 10 ^ 10
+    below : decimal 0 (u .0) < 10 ^ 40
     below = lt-of-lt-of-le (whole-below (u .0) (h .whole)) (pow-le-pow-right {n = 10} (lit< tt) (h .few))
 
 -- ---- a u32
@@ -135,7 +139,7 @@ counted-fits n h = (
   whole-numeral n (lt-of-le-of-lt h (lit< tt)),
   (
     no-point n,
-    ap (λ (b : Bool). cond b none (some (written (wholeDigits 9 n, []) .digits)))
+    ap (λ (b : Bool). cond b none (some (written (wholeDigits 39 n, []) .digits)))
         (le-ltb 4294967295 _ (le-trans (le-of-eq (whole-written n)) h))
         ∙ ap some (whole-written n),
   ),
@@ -146,7 +150,7 @@ unfolding form whole
 counted-back n f = go (ltb 4294967295 d) refl (f .1 .1)
   where
     d : ℕ
-    d = written (wholeDigits 9 n, []) .digits
+    d = written (wholeDigits 39 n, []) .digits
 
     go : (b : Bool) → ltb 4294967295 d ≡ b → cond b none (some d) ≡ some n → n ≤ 4294967295
     go true e q = absurd (let z : _≡_ {A = ℕ} 0 1 = cc in omega arith)
@@ -186,7 +190,7 @@ writable-fits counted m e = counted-fits m (leb-true m 4294967295 e)
 -- ---- of all percents that can be written the least has the fewest digits
 
 pub percent-ahead : (b n : ℕ) → leastPercent b ≡ some n → (l : List ℕ) → Numeral (l, []) → bits (percent false (decimal 0 l)) ≡ b
-    → Ahead (wholeDigits 9 n, []) (l, [])
+    → Ahead (wholeDigits 39 n, []) (l, [])
 unfolding percentBits decimal
 percent-ahead b n e l u r =
     let h : n ≤ decimal 0 l = percent-of b n e .least (decimal 0 l) r in
@@ -198,19 +202,19 @@ percent-ahead b n e l u r =
 -- ---- no zero too many
 
 -- before the point only the number 0 begins with one
-pub no-zero-before : (n : ℕ) → n < 10 ^ 10 → (d : ℕ) (l : List ℕ) → wholeDigits 9 n ≡ 48 ∷ d ∷ l → ⊥
+pub no-zero-before : (n : ℕ) → n < 10 ^ 40 → (d : ℕ) (l : List ℕ) → wholeDigits 39 n ≡ 48 ∷ d ∷ l → ⊥
 no-zero-before n h d l e = no (digits-le n (length (d ∷ l)) (zero-lt-suc (length l)) below) (ap length e)
   where
     rest : all isDigit (d ∷ l) ≡ true
-    rest = unfold all in subst (λ (x : List ℕ). all isDigit x ≡ true) e (whole-digits 9 n h)
+    rest = unfold all in subst (λ (x : List ℕ). all isDigit x ≡ true) e (whole-digits 39 n h)
 
     value : decimal 0 (d ∷ l) ≡ n
-    value = unfold decimal in sym (ap (decimal 0) e) ∙ whole-reads 9 n
+    value = unfold decimal in sym (ap (decimal 0) e) ∙ whole-reads 39 n
 
     below : n < 10 ^ length (d ∷ l)
     below = subst (λ (x : ℕ). x < 10 ^ length (d ∷ l)) value (whole-below (d ∷ l) rest)
 
-    no : length (wholeDigits 9 n) ≤ length (d ∷ l) → length (wholeDigits 9 n) ≡ length (48 ∷ d ∷ l) → ⊥
+    no : length (wholeDigits 39 n) ≤ length (d ∷ l) → length (wholeDigits 39 n) ≡ length (48 ∷ d ∷ l) → ⊥
     no a b = omega arith
 
 -- and none ends the digits behind it
@@ -218,21 +222,21 @@ pub no-zero-behind : (m : ℕ) (l : List ℕ) → numeral m .1 ≡ l ++ 48 ∷ [
 no-zero-behind m l e = no (t .least (decimal a l) (length l) (suc (t .cut)) sums tenfold)
   where
     n : ℕ
-    n = trimmed 9 m .0
+    n = trimmed 40 m .0
 
     p : ℕ
-    p = trimmed 9 m .1
+    p = trimmed 40 m .1
 
     a : ℕ
     a = n / 10 ^ p
 
-    t : Trimmed 9 m (trimmed 9 m)
-    t = trim 9 m
+    t : Trimmed 40 m (trimmed 40 m)
+    t = trim 40 m
 
     long : p ≡ suc (length l)
     long = sym (last-length p n) ∙ ap length e ∙ length-snoc l 48
 
-    sums : length l + suc (t .cut) ≡ 9
+    sums : length l + suc (t .cut) ≡ 40
     sums = omega (arith, long, t .sums)
 
     value : n ≡ decimal a l * 10

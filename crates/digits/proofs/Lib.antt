@@ -7,9 +7,11 @@ pub mod OrderLaws
 pub mod MiddleLaws
 pub mod WidthLaws
 pub mod SearchLaws
+pub mod FractionLaws
+pub mod LengthyLaws
+pub mod WholeLaws
 pub mod PercentLaws
 pub mod EndLaws
 pub mod FormLaws
 pub mod AnswerLaws
-pub mod PutLaws
 pub mod Examples

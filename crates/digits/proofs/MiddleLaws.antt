@@ -1,6 +1,7 @@
 -- When the nearest f32 to a fraction is one f32 or a larger: past the middle between that f32 and the next smaller one, or at it where the
 -- tie goes up. Assumes nothing.
-use Prim.Native.Nat.{ℕ, suc, _+_, _-_, _*_, _/_, _%_, _^_, _≤_, _<_, suc-le-suc, compare, Ordering, Ordering·lt, Ordering·eq, Ordering·gt}
+use Prim.Native.Nat.{ℕ, zero, suc, zero-le, _+_, _-_, _*_, _/_, _%_, _^_, _≤_, _<_}
+use Prim.Native.Nat.{suc-le-suc, compare, Ordering, Ordering·lt, Ordering·eq, Ordering·gt}
 use mathlib.Core.Bool.{false}
 use mathlib.Core.Logic.{_⊎_, inl, inr, ⊎-elim, _↔_}
 use mathlib.Core.Path.{_≡_, refl, sym, ap, _∙_, subst}
@@ -8,15 +9,18 @@ use native.Mathlib.Nat.{one-mul, add-sub-of-le, sub-add-cancel, mod-eq-of-lt, mu
 use native.Mathlib.Nat.{le-of-suc-le-suc, le-of-mul-le-mul-right, lt-of-mul-lt-mul-right, mul-lt-mul-of-pos-right, div-lt-iff-lt-mul}
 use native.Mathlib.Nat.{le-trans, le-of-eq, le-of-lt, lt-of-lt-of-le, lt-of-le-of-lt, eq-or-lt-of-le, zero-add}
 use native.Mathlib.Nat.{mul-one, mul-comm, mul-assoc, mul-pos, mul-le-mul-right, div-add-mod', mod-lt, mod-one, div-one}
+use native.Mathlib.Nat.{le-refl, add-zero, add-mul, suc-mul, zero-mul, mul-le-mul-left, lt-irrefl, not-le-of-lt}
 use native.Mathlib.Omega.{arith}
 use lib.Dec.{lit<, lit≤}
 use lib.Pow.{pow-add, pow-pos, pow-mono, shl-lt}
+use lib.Ieee.{round, toBits}
 use lib.Ieee.Nearest.{closest}
 use Rattle.number.specs.Number.{bits}
 use Rattle.number.proofs.Closest.{Cmp, cmp, closest-below, closest-tie, closest-above}
 use Rattle.number.proofs.Round.{Scaled, Kept, bits-by}
-use Rattle.digits.specs.Means.{bitsOf, lowest, highest, Fair, Halfway, FirstAt}
+use Rattle.digits.specs.Means.{bitsOf, lowest, highest, doublings, digitsOf, Fair, Halfway, Placed, Spaced, FirstAt}
 use Rattle.digits.specs.declared.Middle.{Middle}
+use Rattle.digits.proofs.LeastLaws.{either}
 use Rattle.digits.proofs.OrderLaws.{bits-mono}
 
 by-certificate : (n d a b k : ℕ) → 0 < d → 0 < b → Scaled n d a b k → Kept k (a / b) → k ≤ 253 → bitsOf n d ≡ k * 2 ^ 23 + closest a b
@@ -35,14 +39,18 @@ exact-bits q k h l K =
     (subst (λ (x : ℕ). Kept k x) (sym (div-one q)) (h, l)) K
     ∙ ap (λ (x : ℕ). k * 2 ^ 23 + x) (whole-closest q)
 
--- also where q is 2 ^ 24
-pub unit-bits : (q k : ℕ) → q ≤ 2 ^ 24 → (k ≡ 0) ⊎ (2 ^ 23 ≤ q) → k ≤ 252 → bitsOf (q * 2 ^ k) (2 ^ 149) ≡ k * 2 ^ 23 + q
-unit-bits q k h l K = ⊎-elim top (λ (g : q < 2 ^ 24). exact-bits q k g l (more k K)) (eq-or-lt-of-le h)
-  where
-    more : (k : ℕ) → k ≤ 252 → k ≤ 253
-    more k h = omega arith
+-- the first number past all finite ones
+infinity-bits : bitsOf (2 ^ 24 * 2 ^ 253) (2 ^ 149) ≡ 253 * 2 ^ 23 + 2 ^ 24
+unfolding bitsOf bits round toBits
+infinity-bits = refl
 
-    high : (k : ℕ) → k ≤ 252 → k + 1 ≤ 253
+-- also where q is 2 ^ 24
+pub unit-bits : (q k : ℕ) → q ≤ 2 ^ 24 → (k ≡ 0) ⊎ (2 ^ 23 ≤ q) → k ≤ 253 → bitsOf (q * 2 ^ k) (2 ^ 149) ≡ k * 2 ^ 23 + q
+unit-bits q k h l K =
+    ⊎-elim (λ (e : q ≡ 2 ^ 24). ⊎-elim (λ (z : k ≡ 253). last z e) (λ (z : k < 253). top z e) (eq-or-lt-of-le K))
+    (λ (g : q < 2 ^ 24). exact-bits q k g l K) (eq-or-lt-of-le h)
+  where
+    high : (k : ℕ) → k < 253 → k + 1 ≤ 253
     high k h = omega arith
 
     shift : (k : ℕ) → 24 + k ≡ 23 + (k + 1)
@@ -51,11 +59,15 @@ unit-bits q k h l K = ⊎-elim top (λ (g : q < 2 ^ 24). exact-bits q k g l (mor
     twice : (k : ℕ) → (k + 1) * 2 ^ 23 + 2 ^ 23 ≡ k * 2 ^ 23 + 2 ^ 24
     twice k = omega arith
 
-    top : q ≡ 2 ^ 24 → bitsOf (q * 2 ^ k) (2 ^ 149) ≡ k * 2 ^ 23 + q
-    top e =
+    last : k ≡ 253 → q ≡ 2 ^ 24 → bitsOf (q * 2 ^ k) (2 ^ 149) ≡ k * 2 ^ 23 + q
+    last z e = ap (λ (x : ℕ). bitsOf (q * 2 ^ x) (2 ^ 149)) z ∙ ap (λ (x : ℕ). bitsOf (x * 2 ^ 253) (2 ^ 149)) e ∙ infinity-bits
+        ∙ sym (ap (λ (x : ℕ). x * 2 ^ 23 + q) z ∙ ap (λ (x : ℕ). 253 * 2 ^ 23 + x) e)
+
+    top : k < 253 → q ≡ 2 ^ 24 → bitsOf (q * 2 ^ k) (2 ^ 149) ≡ k * 2 ^ 23 + q
+    top z e =
         ap (λ (x : ℕ). bitsOf x (2 ^ 149))
         (ap (λ (x : ℕ). x * 2 ^ k) e ∙ sym (pow-add 2 24 k) ∙ ap (λ (x : ℕ). 2 ^ x) (shift k) ∙ pow-add 2 23 (k + 1))
-        ∙ exact-bits (2 ^ 23) (k + 1) (lit< tt) (inr (lit≤ tt)) (high k K)
+        ∙ exact-bits (2 ^ 23) (k + 1) (lit< tt) (inr (lit≤ tt)) (high k z)
         ∙ twice k ∙ ap (λ (x : ℕ). k * 2 ^ 23 + x) (sym e)
 
 -- ---- a fraction a / b of units: its whole part q and rest r beside w and a half
@@ -86,7 +98,7 @@ parity : (w : ℕ) → w % 2 ≤ 1
 parity w = omega arith
 
 -- the f32 with the bits k * 2 ^ 23 + w + 1, against n / d
-module _ (k w n d : ℕ) (h : w < 2 ^ 24) (l : (k ≡ 0) ⊎ (2 ^ 23 ≤ w)) (K : k ≤ 252) (D : 0 < d) where
+module _ (k w n d : ℕ) (h : w < 2 ^ 24) (l : (k ≡ 0) ⊎ (2 ^ 23 ≤ w)) (K : k ≤ 253) (D : 0 < d) where
   abbrev a : ℕ
   a = n * 2 ^ 149
 
@@ -124,10 +136,7 @@ module _ (k w n d : ℕ) (h : w < 2 ^ 24) (l : (k ≡ 0) ⊎ (2 ^ 23 ≤ w)) (K 
 
   -- between the two
   bits-between : a / b ≡ w → bitsOf n d ≡ k * 2 ^ 23 + closest a b
-  bits-between e = by-certificate n d a b k D b-pos refl (subst (λ (x : ℕ). Kept k x) (sym e) (h, l)) (more k K)
-    where
-      more : (k : ℕ) → k ≤ 252 → k ≤ 253
-      more k h = omega arith
+  bits-between e = by-certificate n d a b k D b-pos refl (subst (λ (x : ℕ). Kept k x) (sym e) (h, l)) K
 
   abbrev Past : Type 0
   Past = (2 * w + 1) * b < 2 * a + w % 2
@@ -196,7 +205,8 @@ module _ (u v x y p q : ℕ) (e : u * p ≡ x * q) (f : v * p ≡ y * q) (P : 0 
       one : (t : ℕ) → t ≡ 1 → x < y + t → u < v + t
       one t z l = let g = as-small (omega arith) in omega arith
 
-module _ (k w num shift : ℕ) (h : w < 2 ^ 24) (l : 2 ^ 23 ≤ w) (K : k ≤ 252) (e : num * 2 ^ 150 ≡ (2 * w + 1) * 2 ^ k * 2 ^ shift) where
+module _ (k w num shift : ℕ) (h : w < 2 ^ 24) (l : (k ≡ 0) ⊎ (2 ^ 23 ≤ w)) (K : k ≤ 253)
+    (e : num * 2 ^ 150 ≡ (2 * w + 1) * 2 ^ k * 2 ^ shift) where
   left : (d : ℕ) → num * d * 2 ^ 150 ≡ (2 * w + 1) * (d * 2 ^ k) * 2 ^ shift
   left d =
       mul-right-comm num d (2 ^ 150) ∙ ap (λ (x : ℕ). x * d) e ∙ mul-right-comm ((2 * w + 1) * 2 ^ k) (2 ^ shift) d
@@ -209,11 +219,11 @@ module _ (k w num shift : ℕ) (h : w < 2 ^ 24) (l : 2 ^ 23 ≤ w) (K : k ≤ 25
 
   pub reach-forth : (n d : ℕ) → 0 < d → k * 2 ^ 23 + (w + 1) ≤ bitsOf n d → num * d < n * 2 ^ shift + w % 2
   reach-forth n d D g =
-      in-order _ _ _ _ _ _ (left d) (right n) (pow-pos 150) (pow-pos shift) (w % 2) (parity w) (reaches k w n d h (inr l) K D .1 g)
+      in-order _ _ _ _ _ _ (left d) (right n) (pow-pos 150) (pow-pos shift) (w % 2) (parity w) (reaches k w n d h l K D .1 g)
 
   pub reach-back : (n d : ℕ) → 0 < d → num * d < n * 2 ^ shift + w % 2 → k * 2 ^ 23 + (w + 1) ≤ bitsOf n d
   reach-back n d D g =
-      reaches k w n d h (inr l) K D .0
+      reaches k w n d h l K D .0
       (in-order _ _ _ _ _ _ (sym (left d)) (sym (right n)) (pow-pos shift) (pow-pos 150) (w % 2) (parity w) g)
 
 -- ---- the first n past it: s is 2 ^ shift, z is num * d
@@ -231,48 +241,278 @@ first-past z s t n S T = (
 
 -- ---- as the code has it
 
-module _ (bits : ℕ) (lo : lowest ≤ bits) (hi : bits ≤ highest + 1) where
+-- the digits of the f32 with the bits b have 24 binary places, or fewer with no doubling
+pub digits-high : (b : ℕ) → digitsOf b < 2 ^ 24
+digits-high b = omega arith
+
+pub digits-low : (b : ℕ) → (doublings b ≡ 0) ⊎ (2 ^ 23 ≤ digitsOf b)
+digits-low b = ⊎-elim (λ (h : b < 8388608). inl (none h)) (λ (h : 8388608 ≤ b). inr (full h)) (go (compare b 8388608) (cmp b 8388608))
+  where
+    none : b < 8388608 → doublings b ≡ 0
+    none h = omega arith
+
+    full : 8388608 ≤ b → 2 ^ 23 ≤ digitsOf b
+    full h = omega arith
+
+    go : (o : Ordering) → Cmp o b 8388608 → (b < 8388608) ⊎ (8388608 ≤ b)
+    go Ordering·lt h = inl h
+    go Ordering·eq h = inr (le-of-eq (sym h))
+    go Ordering·gt h = inr (le-of-lt h)
+
+pub digits-sum : (b : ℕ) → doublings b * 2 ^ 23 + digitsOf b ≡ b
+digits-sum b = omega arith
+
+module _ (bits : ℕ) (lo : 0 < bits) (hi : bits ≤ highest + 1) where
   abbrev k : ℕ
-  k = (bits - 1) / 8388608 - 1
+  k = doublings (bits - 1)
 
   abbrev w : ℕ
-  w = (bits - 1) % 8388608 + 8388608
+  w = digitsOf (bits - 1)
 
-  halfway : (num shift : ℕ) → num < 2 ^ 34 → shift ≤ 54 → num * 2 ^ 150 ≡ (2 * w + 1) * 2 ^ k * 2 ^ shift
+  few-doublings : k ≤ 253
+  few-doublings = omega arith
+
+  halfway : (num shift : ℕ) → num * 2 ^ 150 ≡ (2 * w + 1) * 2 ^ k * 2 ^ shift
       → Halfway bits (record { num = num; shift = shift; tie = w % 2 })
-  halfway num shift a c e =
-      let h : w < 2 ^ 24 = omega arith in
-      let l : 2 ^ 23 ≤ w = omega arith in
-      let K : k ≤ 252 = omega arith in
+  halfway num shift e =
+      let s = digits-sum (bits - 1) in
       let is : bits ≡ k * 2 ^ 23 + (w + 1) = omega arith in
+      let h = digits-high (bits - 1) in
+      let l = digits-low (bits - 1) in
       record {
-        fair = record { num = a; shift = c; tie = parity w };
-        forth = λ n d D g. reach-forth k w num shift h l K e n d D (le-trans (le-of-eq (sym is)) g);
-        back = λ n d D g. le-trans (le-of-eq is) (reach-back k w num shift h l K e n d D g);
+        forth = λ n d D g. reach-forth k w num shift h l few-doublings e n d D (le-trans (le-of-eq (sym is)) g);
+        back = λ n d D g. le-trans (le-of-eq is) (reach-back k w num shift h l few-doublings e n d D g);
       }
 
   twice : w * 2 + 1 ≡ 2 * w + 1
   twice = omega arith
 
-  pub middle-low : k < 150 → Halfway bits (record { num = w * 2 + 1; shift = 150 - k; tie = w % 2 })
-  middle-low g =
-      halfway (w * 2 + 1) (150 - k) (omega arith) (omega arith)
-      (ap (λ (x : ℕ). x * 2 ^ 150) twice
+  low-is : k < 150 → (w * 2 + 1) * 2 ^ 150 ≡ (2 * w + 1) * 2 ^ k * 2 ^ (150 - k)
+  low-is g =
+      ap (λ (x : ℕ). x * 2 ^ 150) twice
       ∙ ap (λ (x : ℕ). (2 * w + 1) * x) (ap (λ (x : ℕ). 2 ^ x) (sym (add-sub-of-le (le-of-lt g))) ∙ pow-add 2 k (150 - k))
-      ∙ sym (mul-assoc (2 * w + 1) (2 ^ k) (2 ^ (150 - k))))
+      ∙ sym (mul-assoc (2 * w + 1) (2 ^ k) (2 ^ (150 - k)))
+
+  pub middle-low : k < 150
+      → let m : Middle = record { num = w * 2 + 1; shift = 150 - k; tie = w % 2 } in Halfway bits m × Placed bits m
+  middle-low g = (
+    halfway (w * 2 + 1) (150 - k) (low-is g),
+    record {
+      tie = parity w;
+      num = high (digits-high (bits - 1));
+      small = λ h. higher (digits-high (bits - 1));
+      shift = room k;
+      fair = λ h. omega arith;
+      is = low-is g;
+      reach = le-of-eq (sym (add-sub-of-le (le-of-lt g)));
+      tight = le-refl (150 - k);
+    },
+  )
+    where
+      high : w < 2 ^ 24 → w * 2 + 1 < 2 ^ 34
+      high h = omega arith
+
+      higher : w < 2 ^ 24 → w * 2 + 1 < 2 ^ 25
+      higher h = omega arith
+
+      room : (k : ℕ) → 150 - k ≤ 150
+      room k = omega arith
 
   -- nothing is lost
   small-shift : 150 ≤ k → (w * 2 + 1) * 2 ^ (k - 150) < 2 ^ 34
-  small-shift g = lt-of-lt-of-le (shl-lt {a = w * 2 + 1} 25 (k - 150) (omega arith)) (pow-mono {i = 25 + (k - 150)} {j = 34} (omega arith))
+  small-shift g =
+      lt-of-lt-of-le (shl-lt {a = w * 2 + 1} 25 (k - 150) (higher (digits-high (bits - 1))))
+      (pow-mono {i = 25 + (k - 150)} {j = 34} (omega arith))
+    where
+      higher : w < 2 ^ 24 → w * 2 + 1 < 2 ^ 25
+      higher h = omega arith
 
-  pub middle-high : 150 ≤ k → Halfway bits (record { num = ((w * 2 + 1) * 2 ^ (k - 150)) % 2 ^ 64; shift = 0; tie = w % 2 })
-  middle-high g =
-      subst (λ (x : ℕ). Halfway bits (record { num = x; shift = 0; tie = w % 2 }))
-      (sym (mod-eq-of-lt (lt-of-lt-of-le (small-shift g) (lit≤ tt))))
-      (halfway ((w * 2 + 1) * 2 ^ (k - 150)) 0 (small-shift g) (omega arith)
-      (mul-assoc (w * 2 + 1) (2 ^ (k - 150)) (2 ^ 150) ∙ ap (λ (x : ℕ). x * (2 ^ (k - 150) * 2 ^ 150)) twice
+  high-is : 150 ≤ k → (w * 2 + 1) * 2 ^ (k - 150) * 2 ^ 150 ≡ (2 * w + 1) * 2 ^ k * 2 ^ 0
+  high-is g =
+      mul-assoc (w * 2 + 1) (2 ^ (k - 150)) (2 ^ 150) ∙ ap (λ (x : ℕ). x * (2 ^ (k - 150) * 2 ^ 150)) twice
       ∙ ap (λ (x : ℕ). (2 * w + 1) * x) (sym (pow-add 2 (k - 150) 150) ∙ ap (λ (x : ℕ). 2 ^ x) (sub-add-cancel g))
-      ∙ sym (mul-one ((2 * w + 1) * 2 ^ k))))
+      ∙ sym (mul-one ((2 * w + 1) * 2 ^ k))
+
+  pub middle-high : 150 ≤ k
+      → let m : Middle = record { num = ((w * 2 + 1) * 2 ^ (k - 150)) % 2 ^ 64; shift = 0; tie = w % 2 } in Halfway bits m × Placed bits m
+  middle-high g =
+      subst (λ (x : ℕ). let m : Middle = record { num = x; shift = 0; tie = w % 2 } in Halfway bits m × Placed bits m)
+      (sym (mod-eq-of-lt (lt-of-lt-of-le (small-shift g) (lit≤ tt)))) (
+        halfway ((w * 2 + 1) * 2 ^ (k - 150)) 0 (high-is g),
+        record {
+          tie = parity w;
+          num = small-shift g;
+          small = λ h. absurd (omega arith);
+          shift = lit≤ tt;
+          fair = λ h. lit≤ tt;
+          is = high-is g;
+          reach = le-trans g (le-of-eq (sym (add-zero k)));
+          tight = zero-le;
+        },
+      )
+
+-- ---- two neighbours
+
+module _ {b : ℕ} {low high : Middle} (B : 0 < b) (x : Placed b low) (y : Placed (b + 1) high) where
+  -- in units of the lower one's digits, its middle is 2 w + 1 halves, and the upper one's 2 w + 3 or more
+  further : (2 * digitsOf (b - 1) + 3) * 2 ^ doublings (b - 1) ≤ (2 * digitsOf b + 1) * 2 ^ doublings b
+  further = ⊎-elim same next (eq-or-lt-of-le (step b B))
+    where
+      step : (b : ℕ) → 0 < b → doublings (b - 1) ≤ doublings b
+      step b h = omega arith
+
+      same : doublings (b - 1) ≡ doublings b → (2 * digitsOf (b - 1) + 3) * 2 ^ doublings (b - 1) ≤ (2 * digitsOf b + 1) * 2 ^ doublings b
+      same e =
+          le-of-eq (ap (λ (z : ℕ). z * 2 ^ doublings (b - 1)) (go b B e) ∙ ap (λ (z : ℕ). (2 * digitsOf b + 1) * 2 ^ z) e)
+        where
+          go : (b : ℕ) → 0 < b → doublings (b - 1) ≡ doublings b → 2 * digitsOf (b - 1) + 3 ≡ 2 * digitsOf b + 1
+          go b h e = omega arith
+
+      next : doublings (b - 1) < doublings b → (2 * digitsOf (b - 1) + 3) * 2 ^ doublings (b - 1) ≤ (2 * digitsOf b + 1) * 2 ^ doublings b
+      next l =
+          le-trans (mul-le-mul-right (2 ^ doublings (b - 1)) (go b B l))
+          (le-of-eq (mul-assoc (2 * digitsOf b + 1) 2 (2 ^ doublings (b - 1))
+          ∙ ap (λ (z : ℕ). (2 * digitsOf b + 1) * z) (sym (pow-add 2 1 (doublings (b - 1))) ∙ ap (λ (z : ℕ). 2 ^ z) (one b B l))))
+        where
+          go : (b : ℕ) → 0 < b → doublings (b - 1) < doublings b → 2 * digitsOf (b - 1) + 3 ≤ (2 * digitsOf b + 1) * 2
+          go b h l = omega arith
+
+          one : (b : ℕ) → 0 < b → doublings (b - 1) < doublings b → 1 + doublings (b - 1) ≡ doublings b
+          one b h l = omega arith
+
+  pub spaced : Spaced low high
+  spaced = record { apart = le-of-mul-le-mul-right (le-trans (le-of-eq lower) (le-trans more (le-of-eq (sym upper)))) (pow-pos 150) }
+    where
+      s : ℕ
+      s = 2 ^ low .shift
+
+      t : ℕ
+      t = 2 ^ high .shift
+
+      k : ℕ
+      k = 2 ^ doublings (b - 1)
+
+      w : ℕ
+      w = digitsOf (b - 1)
+
+      lower : (low .num + 2) * t * 2 ^ 150 ≡ ((2 * w + 1) * k * s + 2 * 2 ^ 150) * t
+      lower =
+          mul-right-comm (low .num + 2) t (2 ^ 150)
+          ∙ ap (λ (z : ℕ). z * t) (add-mul (low .num) 2 (2 ^ 150) ∙ ap (λ (z : ℕ). z + 2 * 2 ^ 150) (x .is))
+
+      same-bits : digitsOf (b + 1 - 1) ≡ digitsOf b
+      same-bits = ap digitsOf (go b)
+        where
+          go : (b : ℕ) → b + 1 - 1 ≡ b
+          go b = omega arith
+
+      same-power : doublings (b + 1 - 1) ≡ doublings b
+      same-power = ap doublings (go b)
+        where
+          go : (b : ℕ) → b + 1 - 1 ≡ b
+          go b = omega arith
+
+      upper : high .num * s * 2 ^ 150 ≡ (2 * digitsOf b + 1) * 2 ^ doublings b * t * s
+      upper =
+          mul-right-comm (high .num) s (2 ^ 150) ∙ ap (λ (z : ℕ). z * s) (y .is)
+          ∙ ap (λ (z : ℕ). (2 * z + 1) * 2 ^ doublings (b + 1 - 1) * t * s) same-bits
+          ∙ ap (λ (z : ℕ). (2 * digitsOf b + 1) * 2 ^ z * t * s) same-power
+
+      units : 2 ^ 150 ≤ k * s
+      units = le-trans (pow-mono (x .reach)) (le-of-eq (pow-add 2 (doublings (b - 1)) (low .shift)))
+
+      sum : (2 * w + 1) * k * s + 2 * 2 ^ 150 ≤ (2 * w + 3) * k * s
+      sum =
+          le-trans (plain ((2 * w + 1) * k * s) (2 * 2 ^ 150) (2 * (k * s)) (double (2 ^ 150) (k * s) units))
+          (le-of-eq (ap (λ (z : ℕ). (2 * w + 1) * k * s + z) (sym (mul-assoc 2 k s)) ∙ sym (add-mul ((2 * w + 1) * k) (2 * k) s)
+          ∙ ap (λ (z : ℕ). z * s) (sym (add-mul (2 * w + 1) 2 k) ∙ ap (λ (z : ℕ). z * k) (three w))))
+        where
+          plain : (a b c : ℕ) → b ≤ c → a + b ≤ a + c
+          plain a b c h = omega arith
+
+          double : (a b : ℕ) → a ≤ b → 2 * a ≤ 2 * b
+          double a b h = omega arith
+
+          three : (w : ℕ) → 2 * w + 1 + 2 ≡ 2 * w + 3
+          three w = omega arith
+
+      more : ((2 * w + 1) * k * s + 2 * 2 ^ 150) * t ≤ (2 * digitsOf b + 1) * 2 ^ doublings b * t * s
+      more =
+          le-trans (mul-le-mul-right t (le-trans sum (mul-le-mul-right s further)))
+          (le-of-eq (mul-right-comm ((2 * digitsOf b + 1) * 2 ^ doublings b) s t))
+
+-- ---- where no number over d lies between the two middles, d is small
+
+module _ {b d n m : ℕ} {low high : Middle} (D : 0 < d) (x : Halfway b low) (y : Halfway (b + 1) high) (q : Spaced low high)
+    (T : high .tie ≤ 1) (f : FirstAt b d n) (g : FirstAt (b + 1) d m) where
+  abbrev s : ℕ
+  s = 2 ^ low .shift
+
+  abbrev t : ℕ
+  t = 2 ^ high .shift
+
+  -- the number before n is not past the lower middle
+  near : (n : ℕ) → FirstAt b d n → n * s ≤ low .num * d + s
+  near zero f = le-trans (le-of-eq (zero-mul s)) zero-le
+  near (suc n) f =
+      ⊎-elim (λ (h : low .num * d < n * s + low .tie). absurd (lt-irrefl n (f .first n (x .back n d D h))))
+      (λ (h : n * s + low .tie ≤ low .num * d). under n h)
+      (less (low .num * d) (n * s + low .tie))
+    where
+      less : (a b : ℕ) → (a < b) ⊎ (b ≤ a)
+      less a b = ⊎-elim inr inl (either b a)
+
+      under : (n : ℕ) → n * s + low .tie ≤ low .num * d → suc n * s ≤ low .num * d + s
+      under n h = le-trans (le-of-eq (suc-mul n s)) (plain (n * s) (low .tie) (low .num * d) s h)
+        where
+          plain : (a t b s : ℕ) → a + t ≤ b → a + s ≤ b + s
+          plain a t b s h = omega arith
+
+  pub none-between : m ≤ n → 2 * d ≤ 2 ^ low .shift
+  none-between h = ⊎-elim (λ (l : 2 * d ≤ s). l) (λ (l : s < 2 * d). absurd (clash l)) (either (2 * d) s)
+    where
+      passed : high .num * d ≤ n * t
+      passed = plain (high .num * d) (n * t) (high .tie) T (y .forth n d D (g .reached n h))
+        where
+          plain : (a b c : ℕ) → c ≤ 1 → a < b + c → a ≤ b
+          plain a b c h l = omega arith
+
+      clash : s < 2 * d → ⊥
+      clash l =
+          not-le-of-lt
+          (lt-of-le-of-lt (mul-le-mul-right t (near n f))
+          (lt-of-lt-of-le (mul-lt-mul-of-pos-right (add (low .num * d) s (2 * d) l) (pow-pos (high .shift)))
+          (le-trans (le-of-eq regroup) (mul-le-mul-right d (q .apart)))))
+          (le-trans (le-of-eq (mul-right-comm (high .num) s d)) (le-trans (mul-le-mul-right s passed) (le-of-eq (mul-right-comm n t s))))
+        where
+          add : (a b c : ℕ) → b < c → a + b < a + c
+          add a b c h = omega arith
+
+          regroup : (low .num * d + 2 * d) * t ≡ (low .num + 2) * t * d
+          regroup = ap (λ (z : ℕ). z * t) (sym (add-mul (low .num) 2 d)) ∙ mul-right-comm (low .num + 2) d t
+
+-- ---- and where d is small, the first number is
+pub first-small : {b d n : ℕ} {low : Middle} → 0 < d → Halfway b low → d ≤ 5 * 2 ^ low .shift → FirstAt b d n → n ≤ 5 * low .num + 1
+first-small {b} {d} {n} {low} D x h f =
+    f .first (5 * low .num + 1)
+    (x .back (5 * low .num + 1) d D
+    (plain (low .num * d) _ (low .tie)
+    (lt-of-le-of-lt (mul-le-mul-left (low .num) h)
+    (lt-of-lt-of-le (more (low .num * (5 * 2 ^ low .shift)) (2 ^ low .shift) (pow-pos (low .shift)))
+    (le-of-eq same)))))
+  where
+    more : (a b : ℕ) → 0 < b → a < a + b
+    more a b h = omega arith
+
+    plain : (a b t : ℕ) → a < b → a < b + t
+    plain a b t h = omega arith
+
+    same : low .num * (5 * 2 ^ low .shift) + 2 ^ low .shift ≡ (5 * low .num + 1) * 2 ^ low .shift
+    same =
+        ap (λ (z : ℕ). z + 2 ^ low .shift)
+        (sym (mul-assoc (low .num) 5 (2 ^ low .shift)) ∙ ap (λ (z : ℕ). z * 2 ^ low .shift) (mul-comm (low .num) 5))
+        ∙ ap (λ (z : ℕ). 5 * low .num * 2 ^ low .shift + z) (sym (one-mul (2 ^ low .shift)))
+        ∙ sym (add-mul (5 * low .num) 1 (2 ^ low .shift))
 
 -- the first number past a middle, over d: what is added and taken away stays below 2 ^ 64
 pub record Room (m : Middle) (d : ℕ) : Type 0 where
@@ -288,6 +528,9 @@ room {m} f h = record {
   low = pow-pos (m .shift);
   high = pow-mono (f .shift);
 }
+
+pub fair-of : {b : ℕ} {m : Middle} → lowest ≤ b → Placed b m → Fair m
+fair-of h p = record { num = p .num; shift = p .fair h; tie = p .tie }
 
 pub past-first : {m : Middle} {d : ℕ} → Fair m → 0 < d → d ≤ 10 ^ 9 → (b : ℕ) → Halfway b m
     → FirstAt b d ((m .num * d + (1 * 2 ^ m .shift) % 2 ^ 64 - m .tie) / 2 ^ m .shift)

@@ -1,4 +1,4 @@
--- Written numbers as billionths: every number that can be written is one, with no more digits than it is written with. Assumes nothing.
+-- Written numbers as parts: every number that can be written is one, with no more digits than it is written with. Assumes nothing.
 use Prim.Native.Nat.{ℕ, zero, suc, _+_, _-_, _*_, _/_, _^_, _≤_, _<_}
 use mathlib.Core.Bool.{Bool, true, false, _&&_}
 use mathlib.Core.List.{List, [], _∷_}
@@ -59,46 +59,46 @@ whole-part a l h = let r = decimal-between a l h in div-eq-of-lt-le (10 ^ length
 pub whole-below : (l : List ℕ) → all isDigit l ≡ true → decimal 0 l < 10 ^ length l
 whole-below l h = subst (λ (x : ℕ). decimal 0 l < x) (one-mul (10 ^ length l)) (decimal-between 0 l h .1)
 
--- ---- n over 10 ^ p is m billionths
+-- ---- n over 10 ^ p is m parts
 
 pub record Same (n p m : ℕ) : Type 0 where
   pub rest : ℕ
-  pub sums : p + rest ≡ 9
+  pub sums : p + rest ≡ 40
   pub value : n * 10 ^ rest ≡ m
 
 pub ten-pos : (k : ℕ) → 0 < 10 ^ k
 ten-pos k = one-le-pow k 10 (lit< tt)
 
 module _ {n p m : ℕ} (s : Same n p m) where
-  split : 10 ^ p * 10 ^ s .rest ≡ 10 ^ 9
+  split : 10 ^ p * 10 ^ s .rest ≡ 10 ^ 40
   split = sym (pow-add 10 p (s .rest)) ∙ ap (λ (x : ℕ). 10 ^ x) (s .sums)
 
-  pub same-whole : n / 10 ^ p ≡ m / 10 ^ 9
+  pub same-whole : n / 10 ^ p ≡ m / 10 ^ 40
   same-whole =
       sym (mul-div-mul-right n (10 ^ p) (ten-pos (s .rest)))
       ∙ ap (λ (x : ℕ). x / (10 ^ p * 10 ^ s .rest)) (s .value)
       ∙ ap (λ (x : ℕ). m / x) split
 
-  pub same-bits : bitsOf n (10 ^ p) ≡ bitsOf m (10 ^ 9)
+  pub same-bits : bitsOf n (10 ^ p) ≡ bitsOf m (10 ^ 40)
   unfolding bitsOf
   same-bits =
-      ap bits (round-same binary32 false n (10 ^ p) m (10 ^ 9) (ten-pos p) (ten-pos 9)
+      ap bits (round-same binary32 false n (10 ^ p) m (10 ^ 40) (ten-pos p) (ten-pos 40)
       (ap (λ (x : ℕ). n * x) (sym split) ∙ mul-left-comm n (10 ^ p) (10 ^ s .rest) ∙ mul-comm (10 ^ p) (n * 10 ^ s .rest)
       ∙ ap (λ (x : ℕ). x * 10 ^ p) (s .value)))
 
-  pub same-below : n / 10 ^ p < 10 ^ 10 → m < limit
+  pub same-below : n / 10 ^ p < 10 ^ 40 → m < limit
   unfolding limit
-  same-below h = div-lt-iff-lt-mul {k = 10 ^ 9} {y = 10 ^ 10} (lit< tt) .0 (subst (λ (x : ℕ). x < 10 ^ 10) same-whole h)
+  same-below h = div-lt-iff-lt-mul {k = 10 ^ 40} {y = 10 ^ 40} (lit< tt) .0 (subst (λ (x : ℕ). x < 10 ^ 40) same-whole h)
 
-  pub same-low : p ≤ 9
+  pub same-low : p ≤ 40
   same-low = omega (arith, s .sums)
 
-pub trim-same : (m : ℕ) → Same (trimmed 9 m .0) (trimmed 9 m .1) m
-trim-same m = let t = trim 9 m in record { rest = t .cut; sums = t .sums; value = t .value }
+pub trim-same : (m : ℕ) → Same (trimmed 40 m .0) (trimmed 40 m .1) m
+trim-same m = let t = trim 40 m in record { rest = t .cut; sums = t .sums; value = t .value }
 
-pub whole-limit : (m : ℕ) → m < limit → m / 10 ^ 9 < 10 ^ 10
+pub whole-limit : (m : ℕ) → m < limit → m / 10 ^ 40 < 10 ^ 40
 unfolding limit
-whole-limit m h = div-lt-iff-lt-mul {k = 10 ^ 9} {y = 10 ^ 10} (lit< tt) .1 h
+whole-limit m h = div-lt-iff-lt-mul {k = 10 ^ 40} {y = 10 ^ 40} (lit< tt) .1 h
 
 -- ---- n over 10 ^ p, spelled
 
@@ -108,17 +108,17 @@ nearest-bits v = refl
 
 module _ (n p : ℕ) where
   pub spelled-digits : written (spelled (n, p)) .digits ≡ n
-  spelled-digits = ap (λ (x : ℕ). decimal x (lastDigits p n)) (whole-reads 9 (n / 10 ^ p)) ∙ last-reads p n
+  spelled-digits = ap (λ (x : ℕ). decimal x (lastDigits p n)) (whole-reads 39 (n / 10 ^ p)) ∙ last-reads p n
 
   pub spelled-places : written (spelled (n, p)) .places ≡ p
   spelled-places = last-length p n
 
-  pub spelled-numeral : p ≤ 9 → n / 10 ^ p < 10 ^ 10 → Numeral (spelled (n, p))
+  pub spelled-numeral : p ≤ 40 → n / 10 ^ p < 10 ^ 40 → Numeral (spelled (n, p))
   spelled-numeral h l = record {
-    whole = whole-digits 9 (n / 10 ^ p) l;
+    whole = whole-digits 39 (n / 10 ^ p) l;
     part = last-digits p n;
-    some = whole-some 9 (n / 10 ^ p);
-    few = whole-few 9 (n / 10 ^ p) 9 l;
+    some = whole-some 39 (n / 10 ^ p);
+    few = whole-few 39 (n / 10 ^ p) 39 l;
     short = le-trans (le-of-eq (last-length p n)) h;
   }
 
@@ -127,73 +127,73 @@ module _ (n p : ℕ) where
       nearest-bits (written (spelled (n, p))) ∙ ap (λ (x : ℕ). bitsOf x (10 ^ length (lastDigits p n))) spelled-digits
       ∙ ap (λ (x : ℕ). bitsOf n (10 ^ x)) spelled-places
 
--- ---- m billionths
+-- ---- m parts
 
 pub numeral-fits : (m : ℕ) → m < limit → Numeral (numeral m)
 numeral-fits m h =
     let s = trim-same m in
-    spelled-numeral (trimmed 9 m .0) (trimmed 9 m .1) (same-low s) (subst (λ (x : ℕ). x < 10 ^ 10) (sym (same-whole s)) (whole-limit m h))
+    spelled-numeral (trimmed 40 m .0) (trimmed 40 m .1) (same-low s) (subst (λ (x : ℕ). x < 10 ^ 40) (sym (same-whole s)) (whole-limit m h))
 
 pub numeral-same : (m : ℕ) → Same (written (numeral m) .digits) (written (numeral m) .places) m
 numeral-same m =
-    let n = trimmed 9 m .0 in
-    let p = trimmed 9 m .1 in
+    let n = trimmed 40 m .0 in
+    let p = trimmed 40 m .1 in
     subst (λ (x : ℕ). Same x (written (numeral m) .places) m) (sym (spelled-digits n p))
     (subst (λ (x : ℕ). Same n x m) (sym (spelled-places n p)) (trim-same m))
 
-pub numeral-bits : (m : ℕ) → bits (nearest false (written (numeral m))) ≡ bitsOf m (10 ^ 9)
-numeral-bits m = spelled-bits (trimmed 9 m .0) (trimmed 9 m .1) ∙ same-bits (trim-same m)
+pub numeral-bits : (m : ℕ) → bits (nearest false (written (numeral m))) ≡ bitsOf m (10 ^ 40)
+numeral-bits m = spelled-bits (trimmed 40 m .0) (trimmed 40 m .1) ∙ same-bits (trim-same m)
 
-pub reads-is : (b m : ℕ) → reads b m ≡ eqb (bitsOf m (10 ^ 9)) b
+pub reads-is : (b m : ℕ) → reads b m ≡ eqb (bitsOf m (10 ^ 40)) b
 unfolding reads
 reads-is b m = ap (λ (x : ℕ). eqb x b) (numeral-bits m)
 
-pub count-is : (m : ℕ) → count m ≡ length (wholeDigits 9 (m / 10 ^ 9)) + trimmed 9 m .1
+pub count-is : (m : ℕ) → count m ≡ length (wholeDigits 39 (m / 10 ^ 40)) + trimmed 40 m .1
 unfolding count
 count-is m =
-    ap (λ (x : ℕ). length (wholeDigits 9 x) + length (lastDigits (trimmed 9 m .1) (trimmed 9 m .0))) (same-whole (trim-same m))
-    ∙ ap (λ (x : ℕ). length (wholeDigits 9 (m / 10 ^ 9)) + x) (last-length (trimmed 9 m .1) (trimmed 9 m .0))
+    ap (λ (x : ℕ). length (wholeDigits 39 x) + length (lastDigits (trimmed 40 m .1) (trimmed 40 m .0))) (same-whole (trim-same m))
+    ∙ ap (λ (x : ℕ). length (wholeDigits 39 (m / 10 ^ 40)) + x) (last-length (trimmed 40 m .1) (trimmed 40 m .0))
 
-pub count-below : (m : ℕ) → m < limit → count m < 20
-count-below m h = omega (arith, count-is m, whole-few 9 (m / 10 ^ 9) 9 (whole-limit m h), trim-same m .sums)
+pub count-below : (m : ℕ) → m < limit → count m < 81
+count-below m h = omega (arith, count-is m, whole-few 39 (m / 10 ^ 40) 39 (whole-limit m h), trim-same m .sums)
 
 -- no more than n over 10 ^ p is written with
-pub count-le : {n p m : ℕ} → Same n p m → count m ≤ length (wholeDigits 9 (n / 10 ^ p)) + p
+pub count-le : {n p m : ℕ} → Same n p m → count m ≤ length (wholeDigits 39 (n / 10 ^ p)) + p
 count-le {n} {p} {m} s =
-    omega (arith, count-is m, ap (λ (x : ℕ). length (wholeDigits 9 x)) (same-whole s), trim 9 m .least n p (s .rest) (s .sums) (s .value))
+    omega (arith, count-is m, ap (λ (x : ℕ). length (wholeDigits 39 x)) (same-whole s), trim 40 m .least n p (s .rest) (s .sums) (s .value))
 
 -- ---- a number as anyone writes it
 
-pub record Billionths (w : List ℕ × List ℕ) (m : ℕ) : Type 0 where
+pub record Parts (w : List ℕ × List ℕ) (m : ℕ) : Type 0 where
   pub same : Same (written w .digits) (written w .places) m
   pub below : m < limit
   pub fewer : count m ≤ length (w .0) + length (w .1)
-  pub bits : bits (nearest false (written w)) ≡ bitsOf m (10 ^ 9)
+  pub bits : bits (nearest false (written w)) ≡ bitsOf m (10 ^ 40)
 
-pub digits-le : (x k : ℕ) → 0 < k → x < 10 ^ k → length (wholeDigits 9 x) ≤ k
+pub digits-le : (x k : ℕ) → 0 < k → x < 10 ^ k → length (wholeDigits 39 x) ≤ k
 digits-le x zero h l = absurd (omega arith)
-digits-le x (suc k) h l = whole-few 9 x k l
+digits-le x (suc k) h l = whole-few 39 x k l
 
-pub billionths : (w : List ℕ × List ℕ) → Numeral w → (m : ℕ) × Billionths w m
-billionths w u =
+pub parts : (w : List ℕ × List ℕ) → Numeral w → (m : ℕ) × Parts w m
+parts w u =
     let v = written w in
     let k = length (w .1) in
     let a = decimal 0 (w .0) in
     let e : v .digits / 10 ^ k ≡ a = whole-part a (w .1) (u .part) in
     let l : a < 10 ^ length (w .0) = whole-below (w .0) (u .whole) in
-    let s : Same (v .digits) k (v .digits * 10 ^ (9 - k)) = record { rest = 9 - k; sums = omega (arith, u .short); value = refl } in (
-      v .digits * 10 ^ (9 - k),
+    let s : Same (v .digits) k (v .digits * 10 ^ (40 - k)) = record { rest = 40 - k; sums = omega (arith, u .short); value = refl } in (
+      v .digits * 10 ^ (40 - k),
       record {
         same = s;
-        below = same-below s (subst (λ (x : ℕ). x < 10 ^ 10) (sym e) (lt-of-lt-of-le l (pow-le-pow-right {n = 10} (lit< tt) (u .few))));
-        fewer = omega (arith, count-le s, ap (λ (x : ℕ). length (wholeDigits 9 x)) e, digits-le a (length (w .0)) (u .some) l);
+        below = same-below s (subst (λ (x : ℕ). x < 10 ^ 40) (sym e) (lt-of-lt-of-le l (pow-le-pow-right {n = 10} (lit< tt) (u .few))));
+        fewer = omega (arith, count-le s, ap (λ (x : ℕ). length (wholeDigits 39 x)) e, digits-le a (length (w .0)) (u .some) l);
         bits = nearest-bits v ∙ same-bits s;
       },
     )
 
--- ---- the order of two numbers is that of their billionths
+-- ---- the order of two numbers is that of their parts
 
-crossed : {n p m : ℕ} (j : ℕ) → Same n p m → n * 10 ^ j * 10 ^ 9 ≡ m * (10 ^ p * 10 ^ j)
+crossed : {n p m : ℕ} (j : ℕ) → Same n p m → n * 10 ^ j * 10 ^ 40 ≡ m * (10 ^ p * 10 ^ j)
 crossed {n} {p} j s =
     ap (λ (x : ℕ). n * 10 ^ j * x) (sym (split s)) ∙ regroup n (10 ^ j) (10 ^ p) (10 ^ s .rest)
     ∙ ap (λ (x : ℕ). x * (10 ^ p * 10 ^ j)) (s .value)
@@ -202,31 +202,32 @@ crossed {n} {p} j s =
     regroup a b c d = simp (mul-assoc, mul-comm, mul-left-comm)
 
 module _ {n p m v j k : ℕ} (s : Same n p m) (t : Same v j k) where
-  across : v * 10 ^ p * 10 ^ 9 ≡ k * (10 ^ p * 10 ^ j)
+  across : v * 10 ^ p * 10 ^ 40 ≡ k * (10 ^ p * 10 ^ j)
   across = crossed p t ∙ ap (λ (x : ℕ). k * x) (mul-comm (10 ^ j) (10 ^ p))
 
   pub same-order : m ≤ k → n * 10 ^ j ≤ v * 10 ^ p
   same-order h =
       le-of-mul-le-mul-right
-      (le-trans (le-of-eq (crossed j s)) (le-trans (mul-le-mul-right (10 ^ p * 10 ^ j) h) (le-of-eq (sym across)))) (ten-pos 9)
+      (le-trans (le-of-eq (crossed j s)) (le-trans (mul-le-mul-right (10 ^ p * 10 ^ j) h) (le-of-eq (sym across)))) (ten-pos 40)
 
   pub order-same : n * 10 ^ j ≤ v * 10 ^ p → m ≤ k
   order-same h =
       le-of-mul-le-mul-right
-      (le-trans (le-of-eq (sym (crossed j s))) (le-trans (mul-le-mul-right (10 ^ 9) h) (le-of-eq across))) (mul-pos (ten-pos p) (ten-pos j))
+      (le-trans (le-of-eq (sym (crossed j s))) (le-trans (mul-le-mul-right (10 ^ 40) h) (le-of-eq across)))
+      (mul-pos (ten-pos p) (ten-pos j))
 
 -- ---- how many digits n over 10 ^ p is written with
 
 pub long-above : (n p : ℕ) → p < long n p
 unfolding long
-long-above n p = omega (arith, whole-some 9 (n / 10 ^ p))
+long-above n p = omega (arith, whole-some 39 (n / 10 ^ p))
 
 -- n has as many digits, and no more than enough
-pub long-lt : (n p : ℕ) → n / 10 ^ p < 10 ^ 10 → n < 10 ^ long n p
+pub long-lt : (n p : ℕ) → n / 10 ^ p < 10 ^ 40 → n < 10 ^ long n p
 unfolding long
 long-lt n p h =
-    let k = length (wholeDigits 9 (n / 10 ^ p)) in
-    subst (λ (x : ℕ). n < x) (sym (pow-add 10 k p)) (div-lt-iff-lt-mul (ten-pos p) .0 (whole-lt 9 (n / 10 ^ p) h))
+    let k = length (wholeDigits 39 (n / 10 ^ p)) in
+    subst (λ (x : ℕ). n < x) (sym (pow-add 10 k p)) (div-lt-iff-lt-mul (ten-pos p) .0 (whole-lt 39 (n / 10 ^ p) h))
 
 pub long-le : (n p c : ℕ) → p < c → n < 10 ^ c → long n p ≤ c
 unfolding long
@@ -235,18 +236,18 @@ long-le n p c h l =
     let x : n / 10 ^ p < 10 ^ suc (c - suc p) = div-lt-iff-lt-mul (ten-pos p) .1
     (subst (λ (x : ℕ). n < x) (ap (λ (x : ℕ). 10 ^ x) (sym e) ∙ pow-add 10 (suc (c - suc p)) p) l)
     in
-    omega (arith, whole-few 9 (n / 10 ^ p) (c - suc p) x)
+    omega (arith, whole-few 39 (n / 10 ^ p) (c - suc p) x)
 
 pub count-long : {n p m : ℕ} → Same n p m → count m ≤ long n p
 unfolding long
 count-long s = count-le s
 
-pub count-trim : (m : ℕ) → count m ≡ long (trimmed 9 m .0) (trimmed 9 m .1)
+pub count-trim : (m : ℕ) → count m ≡ long (trimmed 40 m .0) (trimmed 40 m .1)
 unfolding long count
 count-trim m =
-    ap (λ (x : ℕ). length (wholeDigits 9 (trimmed 9 m .0 / 10 ^ trimmed 9 m .1)) + x) (last-length (trimmed 9 m .1) (trimmed 9 m .0))
+    ap (λ (x : ℕ). length (wholeDigits 39 (trimmed 40 m .0 / 10 ^ trimmed 40 m .1)) + x) (last-length (trimmed 40 m .1) (trimmed 40 m .0))
 
 -- of one number with more and with fewer places
 pub long-same : {n p v j m : ℕ} → Same n p m → Same v j m → long n p + j ≡ long v j + p
 unfolding long
-long-same {n} {p} {v} {j} s t = let e = ap (λ (x : ℕ). length (wholeDigits 9 x)) (same-whole s ∙ sym (same-whole t)) in omega arith
+long-same {n} {p} {v} {j} s t = let e = ap (λ (x : ℕ). length (wholeDigits 39 x)) (same-whole s ∙ sym (same-whole t)) in omega arith

@@ -1,11 +1,13 @@
 -- 02 (f): "a number has no suffix and the fewest digits that read to it, the smallest in size of these". Assumes nothing.
--- A number without sign is so many billionths. The searches are never computed: proofs/FewestLaws.antt says what they find.
+-- A number without sign is so many of 10 ^ -40, here called parts. The searches are never computed: proofs/FewestLaws.antt says what they
+-- find.
 use Prim.Native.Nat.{ℕ, zero, suc, _+_, _/_, _%_, _^_}
 use mathlib.Core.Bool.{Bool, true, false, _&&_, cond}
 use mathlib.Core.List.{List, [], _∷_, _++_}
 use mathlib.Core.Option.{Option, none, some}
 use lib.Dec.{leb, ltb, eqb}
 use lib.ListN.{length}
+use Rattle.text.specs.Limits.{wholeLimit, placesLimit}
 use Rattle.number.specs.Number.{nearest, percent, bits}
 use Rattle.digits.specs.Numeral.{Sort, float, percentage, counted, written}
 
@@ -43,13 +45,13 @@ trimmed (suc p) n = cond {A = ℕ × ℕ} (eqb (n % 10) 0) (trimmed p (n / 10)) 
 
 -- n over 10 ^ p
 abbrev pub spelled : ℕ × ℕ → List ℕ × List ℕ
-spelled d = (wholeDigits 9 (d .0 / 10 ^ d .1), lastDigits (d .1) (d .0))
+spelled d = (wholeDigits 39 (d .0 / 10 ^ d .1), lastDigits (d .1) (d .0))
 
--- ---- m billionths
+-- ---- m parts
 
 -- written with no zero too many
 abbrev pub numeral : ℕ → List ℕ × List ℕ
-numeral m = spelled (trimmed 9 m)
+numeral m = spelled (trimmed placesLimit m)
 
 -- all digits count, a 0 before the point too
 unfoldable pub count : ℕ → ℕ
@@ -59,17 +61,17 @@ count m = length (numeral m .0) + length (numeral m .1)
 unfoldable pub reads : ℕ → ℕ → Bool
 reads b m = eqb (bits (nearest false (written (numeral m)))) b
 
--- 01: at most 10 digits before the point and 9 behind it
+-- 02 (n): at most 40 digits before the point and 40 behind it
 unfoldable pub limit : ℕ
-limit = 10 ^ 19
+limit = 10 ^ (wholeLimit + placesLimit)
 
 -- "the smallest in size of these": of the numbers of c digits that read to b
 unfoldable pub smallest : ℕ → ℕ → Option ℕ
 smallest b c = leastBelow (λ m. eqb (count m) c && reads b m) limit
 
--- "the fewest digits that read to it", at most 19
+-- "the fewest digits that read to it", at most 80
 unfoldable pub fewestDigits : ℕ → Option ℕ
-fewestDigits b = leastBelow (λ c. isSome (smallest b c)) 20
+fewestDigits b = leastBelow (λ c. isSome (smallest b c)) 81
 
 abbrev pub then : Option ℕ → (ℕ → Option ℕ) → Option ℕ
 then none f = none
@@ -80,7 +82,7 @@ fewest b = then (fewestDigits b) (smallest b)
 
 -- a percent is written as a whole number, so the fewest digits are those of the least
 unfoldable pub leastPercent : ℕ → Option ℕ
-leastPercent b = leastBelow (λ n. eqb (bits (percent false n)) b) (10 ^ 10)
+leastPercent b = leastBelow (λ n. eqb (bits (percent false n)) b) (10 ^ wholeLimit)
 
 -- ---- the digits before the point, and those behind it; none where nothing reads to the bits
 
@@ -90,8 +92,8 @@ each (some n) f = f n
 
 unfoldable pub form : Sort → ℕ → List ℕ × List ℕ
 form float b = each (fewest b) numeral
-form percentage b = each (leastPercent b) (λ n. (wholeDigits 9 n, []))
-form counted n = (wholeDigits 9 n, [])
+form percentage b = each (leastPercent b) (λ n. (wholeDigits 39 n, []))
+form counted n = (wholeDigits 39 n, [])
 
 -- whether a number reads to it: "34 exactly if no text .. reads to that tree", for one number
 unfoldable pub writable : Sort → ℕ → Bool

@@ -5,6 +5,7 @@ use mathlib.Core.List.{List, [], _∷_, _++_}
 use mathlib.Core.Option.{some}
 use mathlib.Core.Path.{_≡_}
 use lib.ListN.{length}
+use Rattle.text.specs.Limits.{wholeLimit, placesLimit}
 use Rattle.text.specs.Bytes.{decimal, isDigit}
 use Rattle.number.specs.Number.{Written, nearest, percent, whole, bits}
 
@@ -18,13 +19,13 @@ unfoldable pub all : (ℕ → Bool) → List ℕ → Bool
 all p [] = true
 all p (b ∷ bs) = p b && all p bs
 
--- 01: "A number is 1 or more digits, then possibly a point and 1 or more digits", at most 10 before the point and 9 after it
+-- 01: "A number is 1 or more digits, then possibly a point and 1 or more digits"; 02 (n): "up to 40 digits before and 40 after the point"
 pub record Numeral (w : List ℕ × List ℕ) : Type 0 where
   pub whole : all isDigit (w .0) ≡ true
   pub part : all isDigit (w .1) ≡ true
   pub some : 0 < length (w .0)
-  pub few : length (w .0) ≤ 10
-  pub short : length (w .1) ≤ 9
+  pub few : length (w .0) ≤ wholeLimit
+  pub short : length (w .1) ≤ placesLimit
 
 unfoldable pub pointed : List ℕ → Bool
 pointed [] = false
@@ -32,7 +33,13 @@ pointed (d ∷ ds) = true
 
 -- what such a number reads as
 abbrev pub written : List ℕ × List ℕ → Written
-written w = record { digits = decimal (decimal 0 (w .0)) (w .1); places = length (w .1); point = pointed (w .1); suffix = false }
+written w = record {
+  digits = decimal (decimal 0 (w .0)) (w .1);
+  places = length (w .1);
+  point = pointed (w .1);
+  exponent = false;
+  suffix = false;
+}
 
 -- its bytes: a point stands before the digits behind it
 unfoldable pub fraction : List ℕ → List ℕ

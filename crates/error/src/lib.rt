@@ -52,7 +52,7 @@ pub enum Refusal {
     OutputTooShort,
     // A 4,097th script, or totals with a figure above the limit.
     TooManyScripts,
-    // No text reads to the tree.
+    // No text without an exponent reads to the tree.
     Unwritable,
     // The script exceeds a text's limit or the buffer.
     ScriptTooLong,

@@ -120,7 +120,7 @@ module _ (list : ℕ) (t s out : List ℕ) where
         checks = c;
         tree = ns;
         decodes = d;
-        never = λ u ms k h same. no-text t s ns d .0 q u (subst (λ (x : Sense). ReadsTo u x) same (reads-to u ms k h));
+        never = λ u ms k h same b. no-text t s ns d .0 q u (subst (λ (x : Sense). ReadsTo u x) same (reads-to u ms k h)) b;
       }
 
   only-where : (p : ℕ) → writing list t s out .0 ≡ Refused Unwritable p → NoText list t s
@@ -144,6 +144,6 @@ module _ (list : ℕ) (t s out : List ℕ) where
     whenever = λ h. rw (
       h .checks,
       h .decodes,
-      no-text t s (h .tree) (h .decodes) .1 (λ u r. h .never u (r .tree) (r .notes .rounded) (parses-to r) (r .same)),
+      no-text t s (h .tree) (h .decodes) .1 (λ u r b. h .never u (r .tree) (r .notes .rounded) (parses-to r) (r .same) b),
     );
   }

@@ -10,6 +10,7 @@ use Rattle.text.specs.Limits.{textLimit}
 use Rattle.digits.specs.Fewest.{form}
 use Rattle.ast.specs.Tree.{KeyframeTime}
 use Rattle.sheet.specs.Sheet.{Forest, decode}
+use Rattle.rules.specs.Bare.{NoExponent}
 use Rattle.fresh.specs.Meaning.{Sense, sense}
 use Rattle.fresh.specs.Fresh.{script, hasText}
 use Rattle.fresh.specs.Reads.{ReadsTo}
@@ -30,9 +31,9 @@ module _ (t s : List ℕ) (ns : Forest) (e : decode (length t) s ≡ some ns) wh
   pub script-given : hasText form meant ≡ true → length (script form meant) ≤ textLimit → Given (script form meant) meant
   script-given h short = given short (script-reads form meant (decoded-nests t (length t) s ns e) h)
 
-  pub no-text : (hasText form meant ≡ false) ↔ ((u : List ℕ) → ReadsTo u meant → ⊥)
+  pub no-text : (hasText form meant ≡ false) ↔ ((u : List ℕ) → ReadsTo u meant → NoExponent u → ⊥)
   no-text =
       let exact = written-exactly meant (decoded-nests t (length t) s ns e) in (
-        λ h u r. true≢false (sym (exact .1 (u, r)) ∙ h),
-        λ f. false-of (hasText form meant) (λ h. let r = exact .0 h in f (r .0) (r .1)),
+        λ h u r b. true≢false (sym (exact .1 (u, (r, b))) ∙ h),
+        λ f. false-of (hasText form meant) (λ h. let r = exact .0 h in f (r .0) (r .1 .0) (r .1 .1)),
       )

@@ -13,6 +13,7 @@ use Rattle.validate.specs.Checking.{checking}
 use Rattle.error.specs.declared.Refusal.the-variants.{Unwritable}
 use Rattle.error.specs.declared.CheckAnswer.the-variants as check
 use Rattle.error.specs.declared.LineAnswer.the-variants.{Accepted, Refused}
+use Rattle.rules.specs.Bare.{NoExponent}
 use Rattle.fresh.specs.Meaning.{sense}
 use Rattle.back.specs.Back.{senseOf, writing}
 use Rattle.given_back.specs.Given.{Given}
@@ -33,7 +34,7 @@ pub record NoText (list : ℕ) (t s : List ℕ) : Type 0 where
   pub checks : checking list t s ≡ check.Accepted
   pub tree : Forest
   pub decodes : decode (length t) s ≡ some tree
-  pub never : (u : List ℕ) (ms : Nodes Key) (k : ℕ) → parse u ≡ Parsed.tree ms k → sense stored u ms ≡ senseOf t tree → ⊥
+  pub never : (u : List ℕ) (ms : Nodes Key) (k : ℕ) → parse u ≡ Parsed.tree ms k → sense stored u ms ≡ senseOf t tree → NoExponent u → ⊥
 
 -- "Refused: checking's numbers in checking's order, then 34 exactly if no text .. reads to that tree", whatever the buffer
 pub record Exactly34 (list : ℕ) (t s out : List ℕ) : Type 0 where

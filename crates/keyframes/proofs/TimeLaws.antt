@@ -3,19 +3,19 @@ use Prim.Native.Nat.{ℕ, _+_, _^_, _≤_}
 use mathlib.Core.Bool.{Bool, true, false, _&&_, cond}
 use mathlib.Core.List.{List}
 use mathlib.Core.Option.{none, some}
-use mathlib.Core.Path.{_≡_, refl, sym, ap, _∙_}
+use mathlib.Core.Path.{_≡_, refl, sym, ap, _∙_, subst}
 use native.Mathlib.Omega.{arith}
-use lib.Ieee.{Float, binary32, round}
-use Rattle.number.specs.Number.{nearest}
+use lib.Ieee.{Float}
+use Rattle.number.specs.Number.{Written, nearest}
 use Rattle.number.specs.Number as Number
 use Rattle.number.specs.Time.{storedTime}
-use Rattle.number.specs.Rounded.{fraction, rounded, timeRounded}
-use Rattle.number.proofs.Floats.{round-number, percent-number}
+use Rattle.number.specs.Rounded.{fraction, rounded, numberRounded, timeRounded}
+use Rattle.number.proofs.Floats.{nearest-number, percent-number}
 use Rattle.ast.specs.Tree.{EasingSpec}
 use Rattle.error.specs.declared.Refusal.{Refusal}
 use Rattle.error.specs.declared.Refusal.the-variants.{Missing, Malformed}
 use Rattle.token.specs.Token.{place}
-use Rattle.token.specs.Means.{writtenOf}
+use Rattle.token.specs.Means.{writtenIn}
 use Rattle.token.specs.declared.Number as numbers
 use Rattle.grammar.specs.Rule.{Out, got, refused, give, skip, _>>_, seesByte, seesNumber, seesName, absent, theByte, eatByte}
 use Rattle.grammar.specs.Values.{parseEasing}
@@ -33,31 +33,24 @@ no-sign s c r b e = stays s c r (percentSign b) false (rw e)
 pub a-sign : (s : List ℕ) (c m : Cursor) (b x : Bool) → b ≡ false → Took 0 s c m (eatByte 37) x → Took 0 s c m (percentSign b) x
 a-sign s c m b x e t = record { is = rw e (t .is); low = t .low; ready = t .ready }
 
-pub stores-percent : (b negative : Bool) (n : numbers.Number) (x : Float)
-    → b ≡ true → x ≡ Number.percent negative (n .digits)
-    → Stores (keyOf b negative (writtenOf n)) b x
-unfolding stored storedTime
-stores-percent b negative n x e h = rw (e, h) (record { is = refl; plain = percent-number negative (n .digits) })
+module _ (b negative : Bool) (w : Written) where
+  pub stores-percent : {x : Float} → b ≡ true → x ≡ Number.percent negative (w .digits) → Stores (keyOf b negative w) b x
+  unfolding stored storedTime
+  stores-percent e h = rw (e, h) (record { is = refl; plain = percent-number negative (w .digits) })
 
-pub stores-seconds : (b negative : Bool) (n : numbers.Number) (x : Float)
-    → b ≡ false
-    → x ≡ round binary32 negative (n .digits) (10 ^ n .places)
-    → Stores (keyOf b negative (writtenOf n)) b x
-unfolding stored storedTime nearest
-stores-seconds b negative n x e h = rw (e, h) (record { is = refl; plain = round-number negative (n .digits) (10 ^ n .places) })
+  pub stores-seconds : {x : Float} → b ≡ false → x ≡ nearest negative w → Stores (keyOf b negative w) b x
+  unfolding stored storedTime
+  stores-seconds e h = rw (e, h) (record { is = refl; plain = nearest-number negative w })
 
--- whether it was rounded
-pub rounds-percent : (b negative : Bool) (n : numbers.Number) {y : Bool} → b ≡ true
-    → y ≡ rounded (Number.percent negative (n .digits)) (fraction negative (n .digits) 100)
-    → y ≡ timeRounded (keyOf b negative (writtenOf n))
-unfolding timeRounded storedTime
-rounds-percent b negative n e h = rw e h
+  -- whether it was rounded
+  pub rounds-percent : {y : Bool} → b ≡ true → y ≡ rounded (Number.percent negative (w .digits)) (fraction negative (w .digits) 100)
+      → y ≡ timeRounded (keyOf b negative w)
+  unfolding timeRounded storedTime
+  rounds-percent e h = rw e h
 
-pub rounds-seconds : (b negative : Bool) (n : numbers.Number) {y : Bool} → b ≡ false
-    → y ≡ rounded (round binary32 negative (n .digits) (10 ^ n .places)) (fraction negative (n .digits) (10 ^ n .places))
-    → y ≡ timeRounded (keyOf b negative (writtenOf n))
-unfolding timeRounded storedTime nearest
-rounds-seconds b negative n e h = rw e h
+  pub rounds-seconds : {y : Bool} → b ≡ false → y ≡ numberRounded negative w → y ≡ timeRounded (keyOf b negative w)
+  unfolding timeRounded storedTime numberRounded
+  rounds-seconds e h = rw e h
 
 -- a `%` counts nothing
 abbrev countOf : {A : Type 0} → Out A → ℕ
@@ -84,20 +77,30 @@ no-time s c q e = rw (e .0, e .1)
 
 module _ (s : List ℕ) (c m u : Cursor) (negative : Bool) (n : numbers.Number) (v : Numbers s c negative n m) (p : Bool)
     (t : Took 0 s m u (percentSign (n .point)) p) where
+  as-written : Took 0 s m u (percentSign (writtenIn s n .point)) p
+  as-written = subst (λ (x : Bool). Took 0 s m u (percentSign x) p) (v .known .is .point) t
+
   pub percent-suffix : (p && n .suffix) ≡ true → run s c parseKeyframeTime ≡ refused Malformed (u .at)
   unfolding parseKeyframeTime
-  percent-suffix e = rw (took-number s c m negative n v Malformed .is, t .is, e, head-place s u (t .ready))
+  percent-suffix e =
+      rw (took-number s c m negative n v Malformed .is, as-written .is, sym (v .known .is .suffix), e, head-place s u (t .ready))
 
-  pub took-time : (p && n .suffix) ≡ false → Ready s c → {x : Float} → Stores (keyOf p negative (writtenOf n)) p x
-      → {y : Bool} → y ≡ timeRounded (keyOf p negative (writtenOf n)) → {w : Cursor} → w ≡ tallied y u
+  pub took-time : (p && n .suffix) ≡ false → Ready s c → {x : Float} → Stores (keyOf p negative (writtenIn s n)) p x
+      → {y : Bool} → y ≡ timeRounded (keyOf p negative (writtenIn s n)) → {w : Cursor} → w ≡ tallied y u
       → TookTime s c w parseKeyframeTime p x
   unfolding parseKeyframeTime keyed
   took-time e r h {y = y} q z =
       let far : c .at + 1 ≤ u .at = omega (arith, v .low, t .low) in
       record {
-        key = keyOf p negative (writtenOf n);
+        key = keyOf p negative (writtenIn s n);
         took = record {
-          is = rw (took-number s c m negative n v Malformed .is, t .is, e, z, sym q);
+          is = rw (
+            took-number s c m negative n v Malformed .is,
+            as-written .is,
+            subst (λ (x : Bool). (p && x) ≡ false) (v .known .is .suffix) e,
+            z,
+            sym q,
+          );
           low = rw z far;
           ready = rw z (counts s c u r (t .ready) (sign-counts s m u (n .point) p t ∙ v .rounded) far y);
         };

@@ -6,7 +6,7 @@ ghost use mathlib.Core.Bool.{_&&_};
 ghost use mathlib.Core.List.{List};
 ghost use Prim.Native.Nat.{ℕ, _+_, _<_, _^_};
 ghost use Rattle.number.specs.Rounded.{timeRounded};
-ghost use Rattle.token.specs.Means.{Small, writtenOf};
+ghost use Rattle.token.specs.Means.{Known, writtenIn};
 ghost use Rattle.encode.specs.Of.{PlainEntry};
 ghost use Rattle.grammar.specs.Grammar.{parseKeyframeTime, trackLoop, trackFrame, trackStep, parseKeyframes};
 ghost use Rattle.cursor.specs.Means.{Ready, Took};
@@ -93,15 +93,15 @@ fn all(a: bool, b: bool) -> bool
 }
 
 // The time that is stored for a key, and whether it was rounded.
-fn time_of(percent: bool, negative: bool, n: Number) -> Stored
-    requires { ⌜ Small n ⌝ }
-    ensures value { λ r. ⌜ Stores (keyOf percent negative (writtenOf n)) percent (r .value) ⌝ }
-    ensures rounded { λ r. ⌜ r .rounded ≡ timeRounded (keyOf percent negative (writtenOf n)) ⌝ }
+fn time_of(text: &[u8], percent: bool, negative: bool, n: Number) -> Stored
+    requires { ⌜ Known (now text) n ⌝ }
+    ensures value { λ r. ⌜ Stores (keyOf percent negative (writtenIn (now (text .entry)) n)) percent (r .value) ⌝ }
+    ensures rounded { λ r. ⌜ r .rounded ≡ timeRounded (keyOf percent negative (writtenIn (now (text .entry)) n)) ⌝ }
 {
     if percent {
-        return number::percent(negative, n.digits);
+        return token::percent_of(text, negative, n);
     }
-    number::decimal(negative, n.digits, n.places)
+    token::float_of(text, negative, n)
 }
 
 pub fn parse_keyframe_time(text: &[u8], c: Cursor) -> TimeRead
@@ -116,7 +116,7 @@ pub fn parse_keyframe_time(text: &[u8], c: Cursor) -> TimeRead
             if all(sign.taken, n.suffix) {
                 return TimeRead::Refused(Refusal::Malformed, cursor::place(next));
             }
-            let x = time_of(sign.taken, negative, n);
+            let x = time_of(text, sign.taken, negative, n);
             TimeRead::Is(sign.taken, x.value, cursor::count(next, x.rounded))
         }
     }

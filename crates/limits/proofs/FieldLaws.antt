@@ -20,7 +20,8 @@ use Rattle.sheet.proofs.Laws.{wordL, valueL, easingL, loopL, dampingL}
 use Rattle.grammar.specs.Rule.{Rule}
 use Rattle.grammar.specs.Fields.{Content, Entry, Fields, Table, pairs}
 use Rattle.grammar.specs.Fields.{parseFieldList, last, called, lastNumber, lastEasing, lastLoopMode, lastValue, lastDamping, lastRange}
-use Rattle.rules.proofs.RunLaws.{Runs}
+use Rattle.rules.proofs.RunLaws.{Carry, Runs}
+use Rattle.rules.proofs.ListLaws.{all-map}
 use Rattle.rules.proofs.FieldLaws as fields
 use Rattle.rules.proofs.FieldLaws.{On, on-map, on-is, default-in, last-in}
 
@@ -70,7 +71,16 @@ module _ (s : List ℕ) where
     pub paid : weight c + 3 * q ≤ 3 * m
 
   abbrev pub Row : String × Rule Content → Type 0
-  Row f = fields.Row s Held f
+  Row f = (q : ℕ) → q ≤ length s → Runs s (f .1) q (Held (bytes (f .0)) q)
+
+  abbrev Free : ℕ → Type 0
+  Free q = Unit {0}
+
+  free : (q m : ℕ) → Carry s q m → Free q → Free m
+  free q m c x = tt
+
+  all-rows : (t : Table) → All Row t → All (fields.Row s Free free Held) t
+  all-rows t rows = all-map Row (fields.Row s Free free Held) (λ f x q h b. x q h) t rows
 
   -- the fields fs, which were gs at q
   pub record Listed (gs : Fields) (q : ℕ) (fs : Fields) (m : ℕ) : Type 0 where
@@ -81,23 +91,25 @@ module _ (s : List ℕ) where
   start : (fs : Fields) (q : ℕ) → AllFair (length s) fs → Listed fs q fs q
   start fs q h = record { fair = h; low = omega arith; paid = omega arith }
 
-  later : (gs : Fields) (q : ℕ) (fs : Fields) (m n : ℕ) → m ≤ n → Listed gs q fs m → Listed gs q fs n
-  later gs q fs m n h i = record { fair = i .fair; low = omega (arith, i .low); paid = omega (arith, i .paid) }
+  later : (gs : Fields) (q : ℕ) (fs : Fields) (m n : ℕ) → m ≤ n → Carry s m n → Listed gs q fs m → Listed gs q fs n
+  later gs q fs m n h c i = record { fair = i .fair; low = omega (arith, i .low); paid = omega (arith, i .paid) }
 
   one-more : (gs : Fields) (q : ℕ) (fs : Fields) (e : Entry) (m n : ℕ)
-      → Listed gs q fs m → fields.Entered s Held m e n → Listed gs q (e ∷ fs) n
-  one-more gs q fs e m n i x = record {
+      → Listed gs q fs m → fields.Entered s Free free Held m e n → Carry s m n → Listed gs q (e ∷ fs) n
+  one-more gs q fs e m n i x c = record {
     fair = (x .held .fair, i .fair);
     low = omega (arith, i .low, x .low, x .held .paid);
     paid = omega (arith, i .paid, x .low, x .held .paid);
   }
 
   pub pairs-run : (t : Table) → All Row t → (q : ℕ) → q ≤ length s → Runs s (pairs t) q (Listed [] q)
-  pairs-run t rows q h = fields.pairs-run s Held (Listed [] q) (later [] q) (one-more [] q) t rows h (start [] q tt)
+  pairs-run t rows q h =
+      fields.pairs-run s Free free Held (Listed [] q) (λ fs m x. tt) (later [] q) (one-more [] q) t (all-rows t rows) h (start [] q tt)
 
   pub fields-run : (t : Table) → All Row t → (gs : Fields) (q : ℕ) → q ≤ length s → AllFair (length s) gs
       → Runs s (parseFieldList t gs) q (Listed gs q)
-  fields-run t rows gs q h f = fields.fields-run s Held (Listed gs q) (later gs q) (one-more gs q) t rows gs h (start gs q f)
+  fields-run t rows gs q h f =
+      fields.fields-run s Free free Held (Listed gs q) (λ fs m x. tt) (later gs q) (one-more gs q) t (all-rows t rows) gs h (start gs q f)
 
 -- ---- what a list says
 

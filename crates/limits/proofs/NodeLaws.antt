@@ -265,6 +265,8 @@ module _ (s : List ℕ) (short : length s ≤ textLimit) where
   block-runs zero q h = record {
     run = λ l. tests {Q = Blocked s short (innerL (length s) 0) q} (sees "{") {p = refuse TooManyNested} {r = refuse Missing}
         (λ e. refuses) (λ e. refuses) .run l;
+    keeps = λ l. tests {Q = Blocked s short (innerL (length s) 0) q} (sees "{") {p = refuse TooManyNested} {r = refuse Missing}
+        (λ e. refuses) (λ e. refuses) .keeps l;
   }
   block-runs (suc d) q h = record {
     run = λ l. weaken-in {Q = Blocked s short (innerL (length s) (suc d)) q}
@@ -276,6 +278,16 @@ module _ (s : List ℕ) (short : length s ≤ textLimit) where
           paid = rw (sized-length d (mapTimes stored ns)) (omega (arith, x .low, x .inner .paid, x .left .low));
           many = omega (arith, x .low, x .inner .many, x .left .low);
         }) .run
+        l;
+    keeps = λ l. weaken-in {Q = Blocked s short (innerL (length s) (suc d)) q}
+        (in-group (repeat (nodesStep (block d)) Nodes.none) (Several s short (innerL (length s) d) (block d) (block-runs d)) h 123 refl
+        (nodes-run s short (innerL (length s) d) (block d) (block-runs d)))
+        (λ ns m g x.
+        record {
+          ok = sized-ok d (mapTimes stored ns) (omega (arith, x .inner .count, x .left .low)) (x .inner .ok);
+          paid = rw (sized-length d (mapTimes stored ns)) (omega (arith, x .low, x .inner .paid, x .left .low));
+          many = omega (arith, x .low, x .inner .many, x .left .low);
+        }) .keeps
         l;
   }
 

@@ -150,7 +150,7 @@ module _ (s : List ℕ) (short : length s ≤ textLimit) where
   items-run q h =
       lists (Items q 0) (Items q 1)
       (λ xs m i. record { ok = i .ok; low = i .low; paid = omega (arith, i .paid) })
-      (λ xs m n l i. record { ok = i .ok; low = omega (arith, i .low); paid = omega (arith, i .paid) })
+      (λ xs m n l c i. record { ok = i .ok; low = omega (arith, i .low); paid = omega (arith, i .paid) })
       arrayItem
       (λ xs m g i. then (float-runs m g)
       (λ x n f y. gives f

@@ -7,7 +7,7 @@ use native.Mathlib.Omega.{arith}
 use lib.ListN.{length, length-append}
 use Rattle.number.specs.Number.{nearest, bits}
 use Rattle.number.specs.Rounded.{numberRounded}
-use Rattle.token.specs.Means.{writtenOf}
+use Rattle.token.specs.Means.{writtenIn}
 use Rattle.token.specs.declared.Number.{Number}
 use Rattle.ast.specs.Tree.{label, at}
 use Rattle.ast.specs.declared.Span.{Span}
@@ -68,14 +68,14 @@ module _ (s : List ℕ) (c m : Cursor) where
     no-value q e = rw (t .is, e .0, e .1)
 
     pub at-went : {b b₁ a : List ℕ} {out f q : ℕ} (g? : Bool) (k : Number) (e n : Cursor) (d y : Bool)
-        → Numbers s m g? k e → y ≡ numberRounded (turned i g?) (writtenOf k) → Took 0 s (tallied y e) n (eatByte 59) d
-        → Writes b out (word .write (bits (nearest (cond i (not g?) g?) (writtenOf k)))) b₁ f
+        → Numbers s m g? k e → y ≡ numberRounded (turned i g?) (writtenIn s k) → Took 0 s (tallied y e) n (eatByte 59) d
+        → Writes b out (word .write (bits (nearest (cond i (not g?) g?) (writtenIn s k)))) b₁ f
         → Writes b₁ f (flag .write p) a q
         → Went 1 s b a c n out q parseAt (leafBytes (length s))
     unfolding parseAt
     at-went g? k e n d y v j u w z =
         let r = took-number s m _ _ _ v Malformed in
-        let x = bits (nearest (cond i (not g?) g?) (writtenOf k)) in
+        let x = bits (nearest (cond i (not g?) g?) (writtenIn s k)) in
         record {
           value = at (record { value = x; relative = p });
           took = record { is = rw (t .is, r .is, sym j, u .is); low = omega (arith, t .low, r .low, u .low); ready = u .ready };

@@ -3,7 +3,6 @@
 ghost use mathlib.Core.Path.{_≡_};
 ghost use mathlib.Core.Bool.{Bool, not, cond};
 ghost use Rattle.number.specs.Number.{nearest};
-ghost use Rattle.token.specs.Means.{writtenOf};
 ghost use Rattle.grammar.specs.Grammar.{parseLabel, parseAt, parseDraw, drawFields};
 ghost use Rattle.cursor.specs.Means.{Ready};
 ghost use Rattle.arrays.specs.Means.{Room};
@@ -86,7 +85,7 @@ pub fn parse_at(text: &[u8], sheet: &mut [u8], c: Cursor, out: usize) -> NodeRea
     match cursor::number(text, m) {
         NumberRead::Missing(p) => NodeRead::Refused(Refusal::Malformed, p),
         NumberRead::Is(negative, n, e) => {
-            let x = number::decimal(turned(negative, sign.minus), n.digits, n.places);
+            let x = token::float_of(text, turned(negative, sign.minus), n);
             let end = cursor::eat(text, cursor::count(e, x.rounded), b';');
             let relative_at = encode::put_float(sheet, out, x.value);
             let q = encode::put_flag(sheet, relative_at, sign.relative);

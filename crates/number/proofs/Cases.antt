@@ -8,7 +8,7 @@ use Rattle.number.specs.Number.{Written, nearest, percent, whole, bits, 
 use Rattle.number.specs.Time.{near}
 
 abbrev written : ℕ → ℕ → Written
-written n p = record { digits = n; places = p; point = false; suffix = false }
+written n p = record { digits = n; places = p; point = false; exponent = false; suffix = false }
 
 -- P14, P3, and the largest digits
 tenth : bits (nearest false (written 1 1)) ≡ 0x3dcc_cccd

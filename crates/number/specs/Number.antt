@@ -5,12 +5,13 @@ use mathlib.Core.Option.{Option, none, some}
 use lib.Dec.{ltb}
 use lib.Ieee.{Float, binary32, round, div, toBits, ofBits}
 
--- 01: "a written number is a whole number over a power of ten", digits / 10 ^ places; `point` where one is written, `suffix` where an `s`
--- follows
+-- 01: "a written number is a whole number over a power of ten", digits / 10 ^ places, an exponent multiplied out; `point` where a point or
+-- an exponent is written, so that it is no whole number's form; `exponent` where one is; `suffix` where an `s` follows
 pub record Written : Type 0 where
   pub digits : ℕ
   pub places : ℕ
   pub point : Bool
+  pub exponent : Bool
   pub suffix : Bool
 
 -- 01: "the nearest f32, ties to even (IEEE 754), a negative one by its sign"

@@ -10,7 +10,7 @@ ghost use Rattle.number.specs.Number as Number;
 ghost use Rattle.number.specs.Number.{Written, bits, f32};
 ghost use Rattle.number.specs.Time.{near};
 ghost use Rattle.number.specs.Rounded.{fraction, rounded};
-ghost use Rattle.number.specs.Answer.{valueOf};
+ghost use Rattle.number.specs.Answer.{valueOf, Capped};
 
 // The powers of 10 that fit 30 binary digits.
 const POWERS: [u64; 10] = [
@@ -112,7 +112,7 @@ fn nearest_bits(n: u64, d: u64) -> Bits
     }
 }
 
-// The bits of what `decimal` gives. For our own crates: the reader refuses more than 9 places.
+// The bits of what `decimal` gives. For our own crates: the reader hands over at most 9 places.
 pub fn decimal_bits(negative: bool, digits: u64, places: usize) -> Bits
     requires { ⌜ places ≤ 9 ⌝ }
     ensures bits { λ r. ⌜ r .bits ≡ bits (Ieee.round binary32 negative digits (10 ^ places)) ⌝ }
@@ -131,7 +131,7 @@ pub fn decimal_bits(negative: bool, digits: u64, places: usize) -> Bits
 }
 
 // The f32 that is nearest to digits / 10^places, a tie to the even one, negative where `negative` says so; -0 has its
-// sign. For our own crates: the reader refuses more than 9 places.
+// sign. For our own crates: the reader hands over at most 9 places.
 pub fn decimal(negative: bool, digits: u64, places: usize) -> Stored
     requires { ⌜ places ≤ 9 ⌝ }
     ensures value { λ r. ⌜ r .value ≡ Ieee.round binary32 negative digits (10 ^ places) ⌝ }
@@ -164,15 +164,28 @@ pub fn bits_of(x: f32) -> u32
     f32::to_bits(x)
 }
 
-// A whole percent: n as an f32 with its sign, divided by 100.0. It is n / 100 exactly if the f32 nearest to n / 100 is, and
-// is the same.
-pub fn percent(negative: bool, n: u64) -> Stored
-    ensures value { λ r. ⌜ r .value ≡ Number.percent negative n ⌝ }
-    ensures rounded { λ r. ⌜ r .rounded ≡ rounded (Number.percent negative n) (fraction negative n 100) ⌝ }
+// The f32 whose bits without sign are these, negative where `negative` says so. For our own crates: the bits are those of a number.
+pub fn signed(negative: bool, b: Bits) -> Stored
+    requires { ⌜ b .bits < 2147483648 ⌝ }
+    ensures value { λ r. ⌜ ((n d : ℕ) → b .bits ≡ bits (Ieee.round binary32 false n d) → r .value ≡ Ieee.round binary32 negative n d) ⌝ }
+    ensures rounded { λ r. ⌜ r .rounded ≡ b .rounded ⌝ }
 {
-    let x = decimal(negative, n, 0);
+    let rounded = b.rounded;
+    if negative {
+        let value = f32_of_bits(b.bits + 2147483648);
+        return Stored { value, rounded };
+    }
+    let value = f32_of_bits(b.bits);
+    Stored { value, rounded }
+}
+
+// A whole percent, of n as an f32 with its sign and of the f32 nearest to n / 100: the first, divided by 100.0. It is n / 100 exactly if
+// the second is, and is the same.
+pub fn percent_from(x: Stored, once: Stored) -> Stored
+    ensures value { λ r. ⌜ ((s : Bool) (n : ℕ) → x .value ≡ Ieee.round binary32 s n 1 → r .value ≡ Number.percent s n) ⌝ }
+    ensures rounded { λ r. ⌜ ((s : Bool) (n : ℕ) → x .value ≡ Ieee.round binary32 s n 1 → once .value ≡ Ieee.round binary32 s n 100 → once .rounded ≡ rounded (Ieee.round binary32 s n 100) (fraction s n 100) → r .rounded ≡ rounded (Number.percent s n) (fraction s n 100)) ⌝ }
+{
     let value = x.value / 100.0;
-    let once = decimal(negative, n, 2);
     if once.rounded {
         return Stored {
             value,
@@ -181,6 +194,16 @@ pub fn percent(negative: bool, n: u64) -> Stored
     }
     let rounded = value != once.value;
     Stored { value, rounded }
+}
+
+// A whole percent.
+pub fn percent(negative: bool, n: u64) -> Stored
+    ensures value { λ r. ⌜ r .value ≡ Number.percent negative n ⌝ }
+    ensures rounded { λ r. ⌜ r .rounded ≡ rounded (Number.percent negative n) (fraction negative n 100) ⌝ }
+{
+    let x = decimal(negative, n, 0);
+    let once = decimal(negative, n, 2);
+    percent_from(x, once)
 }
 
 // Whether two times are duplicates: the size of their difference is below 2^-23. NaN, the difference of equal infinities,
@@ -199,9 +222,10 @@ pub enum Uint {
     Refused,
 }
 
-// The digits as a whole number. Every negative is refused, -0 too, and all above 4,294,967,295.
+// The digits as a whole number; of one above 4,294,967,295 another such number may stand for it. Every negative is refused, -0 too,
+// and all above 4,294,967,295.
 pub fn whole(negative: bool, digits: u64) -> Uint
-    ensures { λ r. ⌜ ((w : Written) → w .digits ≡ digits → valueOf r ≡ Number.whole negative w) ⌝ }
+    ensures { λ r. ⌜ ((w : Written) → Capped digits (w .digits) → valueOf r ≡ Number.whole negative w) ⌝ }
 {
     if negative {
         return Uint::Refused;

@@ -25,21 +25,21 @@ and-true a b e f = rw (e, f)
 
 numeral-is : (w : List ℕ × List ℕ) → numeral w ≡ true → Numeral w
 numeral-is w e =
-    let a = both (all isDigit (w .0) && all isDigit (w .1) && ltb 0 (length (w .0)) && leb (length (w .0)) 10) (leb (length (w .1)) 9) e in
-    let b = both (all isDigit (w .0) && all isDigit (w .1) && ltb 0 (length (w .0))) (leb (length (w .0)) 10) (a .0) in
+    let a = both (all isDigit (w .0) && all isDigit (w .1) && ltb 0 (length (w .0)) && leb (length (w .0)) 40) (leb (length (w .1)) 40) e in
+    let b = both (all isDigit (w .0) && all isDigit (w .1) && ltb 0 (length (w .0))) (leb (length (w .0)) 40) (a .0) in
     let c = both (all isDigit (w .0) && all isDigit (w .1)) (ltb 0 (length (w .0))) (b .0) in
     let d = both (all isDigit (w .0)) (all isDigit (w .1)) (c .0) in
     record {
       whole = d .0;
       part = d .1;
       some = ltb-true 0 (length (w .0)) (c .1);
-      few = leb-true (length (w .0)) 10 (b .1);
-      short = leb-true (length (w .1)) 9 (a .1);
+      few = leb-true (length (w .0)) 40 (b .1);
+      short = leb-true (length (w .1)) 40 (a .1);
     }
 
 is-numeral : (w : List ℕ × List ℕ) → Numeral w → numeral w ≡ true
 is-numeral w n =
-    rw (n .whole, n .part, lt-ltb 0 (length (w .0)) (n .some), le-leb (length (w .0)) 10 (n .few), le-leb (length (w .1)) 9 (n .short))
+    rw (n .whole, n .part, lt-ltb 0 (length (w .0)) (n .some), le-leb (length (w .0)) 40 (n .few), le-leb (length (w .1)) 40 (n .short))
 
 holds-is : (o : Option ℕ) (m : ℕ) → holds o m ≡ true → o ≡ some m
 holds-is none m e = absurd (never e)

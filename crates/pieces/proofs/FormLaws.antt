@@ -7,7 +7,7 @@ use mathlib.Core.Path.{_≡_, refl, sym, _∙_, subst}
 use native.Mathlib.Nat.{lt-of-lt-of-le, pow-le-pow-right}
 use native.Mathlib.Omega.{arith}
 use borrow.Author.Tests.{le-ltb, ltb-false}
-use lib.Dec.{ltb, lit<}
+use lib.Dec.{ltb, lit<, lit≤}
 use Rattle.text.specs.Bytes.{decimal}
 use Rattle.number.specs.Number.{Written, bits, nearest, whole}
 use Rattle.digits.specs.Numeral.{float, percentage, counted, Numeral, all, pointed, written}
@@ -27,25 +27,25 @@ unfolding form
 float-fits b m e = rw e (fewest-numeral b m e, fewest-reads b m e)
 
 -- a whole number's digits
-whole-numeral : (n : ℕ) → n < 10 ^ 10 → Numeral (wholeDigits 9 n, [])
+whole-numeral : (n : ℕ) → n < 10 ^ 40 → Numeral (wholeDigits 39 n, [])
 unfolding all
 whole-numeral n h = record {
-  whole = whole-digits 9 n h;
+  whole = whole-digits 39 n h;
   part = refl;
-  some = whole-some 9 n;
-  few = whole-few 9 n 9 h;
+  some = whole-some 39 n;
+  few = whole-few 39 n 39 h;
   short = omega arith;
 }
 
 pub percent-fits : (b n : ℕ) → leastPercent b ≡ some n → Fits form (aNumeral percentage b)
 unfolding form pointed decimal percentBits
 percent-fits b n e =
-    let l = percent-of b n e in rw e (whole-numeral n (l .below), (refl, rw (whole-reads 9 n) (l .reads)))
+    let l = percent-of b n e in rw e (whole-numeral n (l .below), (refl, rw (whole-reads 39 n) (l .reads)))
 
 pub counted-fits : (n : ℕ) → n < 2 ^ 32 → Fits form (aNumeral counted n)
 unfolding form pointed decimal whole
 counted-fits n h =
-    (whole-numeral n (omega arith), (refl, rw (whole-reads 9 n, le-ltb 4294967295 n (omega arith)) refl))
+    (whole-numeral n (lt-of-lt-of-le h (lit≤ tt)), (refl, rw (whole-reads 39 n, le-ltb 4294967295 n (omega arith)) refl))
 
 -- ---- they are found for whatever a number of a text reads to
 
@@ -62,14 +62,14 @@ unfolding pointed decimal
 no-part a [] e = refl
 no-part a (d ∷ ds) e = absurd (let z : _≡_ {A = ℕ} 0 1 = cc in omega arith)
 
-digits-below : (v : Written) → InText v → v .point ≡ false → v .digits < 10 ^ 10
+digits-below : (v : Written) → InText v → v .point ≡ false → v .digits < 10 ^ 40
 digits-below v i e =
     let w = i .form .0 in
     let is = i .digits ∙ no-part (decimal 0 w) (i .form .1) (sym (i .point) ∙ e) in
-    subst (λ (n : ℕ). n < 10 ^ 10) (sym is)
+    subst (λ (n : ℕ). n < 10 ^ 40) (sym is)
     (lt-of-lt-of-le (whole-below w (i .numeral .whole)) (pow-le-pow-right {n = 10} (lit< tt) (i .numeral .few)))
 
-some-percent : (n : ℕ) → n < 10 ^ 10 → Fits form (aNumeral percentage (percentBits n))
+some-percent : (n : ℕ) → n < 10 ^ 40 → Fits form (aNumeral percentage (percentBits n))
 some-percent n h = go (leastPercent (percentBits n)) refl
   where
     go : (o : Option ℕ) → leastPercent (percentBits n) ≡ o → Fits form (aNumeral percentage (percentBits n))

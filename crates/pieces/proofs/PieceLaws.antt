@@ -9,14 +9,15 @@ use lib.Dec.{eqb}
 use borrow.Author.Tests.{eqb-true, lt-leb, ne-eqb}
 use Rattle.digits.specs.Numeral.{Numeral, all, fraction, pointed, written}
 use Rattle.text.proofs.ByteLaws.{within-is}
-use lib.ListN.{length, getD, drop, length-append}
+use lib.ListN.{length, getD, take, drop, length-append}
+use Rattle.number.specs.Number.{Written}
 use lib.Seq.{take-append-seam, getD-append-seam, getD-append-add, drop-append-add}
 use Rattle.text.specs.Bytes.{bytes, run, part, among, oneOf, decimal, isDigit, isLetter, isName, isInside, isBlank}
 use Rattle.token.specs.Token.{name, number, quoted, mark, piece, lexeme}
-use Rattle.token.specs.Token.{numberAt, pointAt, pastFraction, suffixAt, pastSuffix, clings, placesOf}
+use Rattle.token.specs.Token.{numberAt, pointAt, pastFraction, suffixAt, pastSuffix, clings, placesOf, powerSize, pastPower}
 use Rattle.token.specs.Split.{awaits, nestMark}
 use Rattle.token.proofs.WholeLaws.{both, never}
-use Rattle.token.proofs.LexLaws.{name-is, quoted-is, Parts, number-fine, lex-is}
+use Rattle.token.proofs.LexLaws.{name-is, quoted-is, Parts, number-written, written-parts, size-is, lex-is}
 use Rattle.pieces.specs.Pieces.{Form, wordLike, knownMark, plainMark, spaced}
 
 -- ---- runs
@@ -125,17 +126,29 @@ digits-first (b ∷ d) t e h =
     let k = both (isDigit b) (all isDigit d) e in
     lex-is (b ∷ d ++ t) false true _ _ (digit-letter b (k .0)) (k .0) refl refl
 
+-- a number without an exponent, by its parts
+number-fine : {t : List ℕ} {w : ℕ} {x : Bool} {e : ℕ} {z : Bool} {n : ℕ} → Parts t w x e 0 z n → (v q : ℕ)
+    → clings t (not ((x || false) || z)) n ≡ false → w ≤ 40 → q ≡ placesOf x w e → q ≤ 40
+    → v ≡ decimal (decimal 0 (take w t)) (part t (suc w) q)
+    → numberAt t ≡ piece (number (record { digits = v; places = q; point = x; exponent = false; suffix = z })) n
+number-fine {n = n} p v q h a g b d =
+    number-written p q h a g b ∙ ap (λ (y : Written). piece (number y) n) (sym (written-parts p v q refl g d))
+
 whole-lexed : (d t : List ℕ) → all isDigit d ≡ true → 0 < length d
-    → length d ≤ 10 → Clear t
+    → length d ≤ 40 → Clear t
     → lexeme (d ++ t) ≡ piece (number (written (d, []))) (length d)
-unfolding pointAt pastFraction suffixAt pastSuffix clings placesOf pointed decimal
+unfolding pointAt pastFraction pastPower suffixAt pastSuffix clings placesOf pointed decimal
 whole-lexed d t e h g c =
     let point : pointAt (d ++ t) (length d) ≡ false = rw (at-seam d t) (rw (c .edge (λ x. eqb x 46) refl refl)) in
     let suffix : suffixAt (d ++ t) (length d) ≡ false = rw (at-seam d t) (c .edge (λ x. eqb x 115) refl refl) in
-    let parts : Parts (d ++ t) (length d) false (length d) false (length d) = record {
+    let power : powerSize (d ++ t) (length d) ≡ 0 = size-is (d ++ t) (length d) _ refl false
+    (rw (at-seam d t) (c .edge (λ x. eqb x 101 || eqb x 69) refl refl))
+    in
+    let parts : Parts (d ++ t) (length d) false (length d) 0 false (length d) = record {
       whole = sym (run-all isDigit d t e (c .edge isDigit refl refl));
       point = sym point;
       end = refl;
+      power = sym power;
       suffix = sym suffix;
       next = refl;
     }
@@ -146,10 +159,10 @@ whole-lexed d t e h g c =
 
 -- with a point and the digits b ∷ f behind it
 point-lexed : (d : List ℕ) (b : ℕ) (f t : List ℕ) → all isDigit d ≡ true
-    → all isDigit (b ∷ f) ≡ true → 0 < length d → length d ≤ 10
-    → length (b ∷ f) ≤ 9 → Clear t
+    → all isDigit (b ∷ f) ≡ true → 0 < length d → length d ≤ 40
+    → length (b ∷ f) ≤ 40 → Clear t
     → lexeme (d ++ (46 ∷ b ∷ (f ++ t))) ≡ piece (number (written (d, b ∷ f))) (length d + length (46 ∷ b ∷ f))
-unfolding pointAt pastFraction suffixAt pastSuffix clings placesOf pointed all
+unfolding pointAt pastFraction pastPower suffixAt pastSuffix clings placesOf pointed all
 point-lexed d b f t e i h g k c =
     let u = d ++ (46 ∷ b ∷ (f ++ t)) in
     let w = length d in
@@ -163,10 +176,13 @@ point-lexed d b f t e i h g k c =
     let point : pointAt u w ≡ true = rw (getD-append-seam d 46 (b ∷ (f ++ t)) 0, next) first in
     let suffix : suffixAt u (suc w + n) ≡ false = rw past (c .edge (λ x. eqb x 115) refl refl) in
     let end : suc w + n ≡ pastFraction true u w = rw (behind, run-all isDigit (b ∷ f) t i (c .edge isDigit refl refl)) in
-    let parts : Parts u w true (suc w + n) false (suc w + n) = record {
+    let power : powerSize u (suc w + n) ≡ 0 = size-is u (suc w + n) _ refl false (rw past (c .edge (λ x. eqb x 101 || eqb x 69) refl refl))
+    in
+    let parts : Parts u w true (suc w + n) 0 false (suc w + n) = record {
       whole = sym (run-all isDigit d (46 ∷ b ∷ (f ++ t)) e refl);
       point = sym point;
       end = end;
+      power = sym power;
       suffix = sym suffix;
       next = refl;
     }
@@ -184,7 +200,7 @@ unfolding fraction
 number-lexed w t h c = go (w .0) (w .1) (h .whole) (h .part) (h .some) (h .few) (h .short)
   where
     go : (d f : List ℕ) → all isDigit d ≡ true → all isDigit f ≡ true
-        → 0 < length d → length d ≤ 10 → length f ≤ 9
+        → 0 < length d → length d ≤ 40 → length f ≤ 40
         → lexeme (d ++ fraction f ++ t) ≡ piece (number (written (d, f))) (length (d ++ fraction f))
     go d [] e i h g k = rw append-nil (whole-lexed d t e h g c)
     go d (b ∷ f) e i h g k = rw (append-assoc d (46 ∷ b ∷ f) t, length-append d (46 ∷ b ∷ f)) (point-lexed d b f t e i h g k c)

@@ -2,7 +2,7 @@
 use Prim.Native.Nat.{ℕ, suc, _+_, _-_, _<_}
 use mathlib.Core.Bool.{Bool, true, false, _&&_, _||_, not, cond}
 use mathlib.Core.List.{List, [], _∷_}
-use mathlib.Core.Path.{_≡_, refl, sym}
+use mathlib.Core.Path.{_≡_, refl, sym, _∙_}
 use native.Mathlib.Omega.{arith}
 use lib.Dec.{eqb, ltb}
 use lib.ListN.{length, getD, take, drop}
@@ -15,6 +15,7 @@ use Rattle.text.proofs.ByteLaws.{run-le}
 use Rattle.number.specs.Number.{Written}
 use Rattle.error.specs.declared.Refusal.the-variants.{BadForm, TooManyDigits}
 use Rattle.token.specs.Token.{name, number, quoted, mark, Lexeme, bad, piece, lexeme, nameAt, clings}
+use Rattle.token.specs.Token.{Power, none, up, down, isPower}
 use Rattle.token.specs.Token.{placesOf, writtenBy, numberBy, numberAt, quotedAt, pointAt, pastFraction}
 use Rattle.pieces.specs.Pieces.{wordLike}
 use Rattle.pieces.specs.Fits.{InText}
@@ -69,11 +70,15 @@ fraction-pointed t w true h =
     let l = fraction-fine t w true .1 in
     some-digit (part t (suc w) (suc w + run isDigit (drop (suc w) t) - suc w)) (omega (arith, l, first-digit (drop (suc w) t) d))
 
--- what the text has for a name, a number or a string
+or-false : (x : Bool) → (x || false) ≡ x
+or-false true = refl
+or-false false = refl
+
+-- what the text has for a name, a number without an exponent or a string
 abbrev pub Fine : List ℕ → Lexeme → Type 0
 Fine t (bad r) = Unit {0}
 Fine t (piece (name w) n) = (wordLike w ≡ true) × (take (length w) t ≡ w)
-Fine t (piece (number w) n) = InText w
+Fine t (piece (number w) n) = w .exponent ≡ false → InText w
 Fine t (piece (quoted m) n) = all isInside (take m (drop 1 t)) ≡ true
 Fine t (piece (mark b) n) = Unit {0}
 
@@ -85,21 +90,18 @@ name-fine t h = go (eqb (getD t (run isName t) 0) 34)
     go true = tt
     go false = (word-run t h, rw (length-take-le (run isName t) t (run-le isName t)))
 
-number-by : (t : List ℕ) (w : ℕ) (x : Bool) (s : Bool) (n : ℕ) → w ≡ run isDigit t
+number-by : (t : List ℕ) (w : ℕ) (x : Bool) (y : Power) (s : Bool) (n : ℕ) → w ≡ run isDigit t
     → 0 < w → (x ≡ true → isDigit (getD t (suc w) 0) ≡ true)
-    → Fine t (numberBy t w x (pastFraction x t w) s n)
+    → Fine t (numberBy t w x (pastFraction x t w) y s n)
 unfolding numberBy writtenBy
-number-by t w x s n e z point = go (clings t (not (x || s)) n) (ltb 10 w) refl (ltb 9 (placesOf x w (pastFraction x t w))) refl
+number-by t w x y s n e z point =
+    go (clings t (not ((x || isPower y) || s)) n) (ltb 40 w) refl (ltb 40 (placesOf x w (pastFraction x t w))) refl
   where
-    v : Written
-    v = writtenBy t w x (pastFraction x t w) s
-
-    go : (a b : Bool) → ltb 10 w ≡ b → (c : Bool) → ltb 9 (placesOf x w (pastFraction x t w)) ≡ c
-        → Fine t (cond a (bad BadForm) (cond (b || c) (bad TooManyDigits) (piece (number v) n)))
-    go true b p c q = tt
-    go false true p c q = tt
-    go false false p true q = tt
-    go false false p false q =
+    bare : (y : Power) → ltb 40 w ≡ false → ltb 40 (placesOf x w (pastFraction x t w)) ≡ false → isPower y ≡ false
+        → InText (writtenBy t w x (pastFraction x t w) y s)
+    bare (up k) p q i = absurd (never (sym i))
+    bare (down k) p q i = absurd (never (sym i))
+    bare none p q i =
         let f = fraction-fine t w x in
         let l : length (take w t) ≡ w = length-take-le w t (omega (arith, run-le isDigit t)) in
         record {
@@ -108,18 +110,28 @@ number-by t w x s n e z point = go (clings t (not (x || s)) n) (ltb 10 w) refl (
             whole = rw e (run-passes isDigit t);
             part = f .0;
             some = omega (arith, l);
-            few = omega (arith, l, ltb-false 10 w p);
-            short = omega (arith, f .1, ltb-false 9 (placesOf x w (pastFraction x t w)) q);
+            few = omega (arith, l, ltb-false 40 w p);
+            short = omega (arith, f .1, ltb-false 40 (placesOf x w (pastFraction x t w)) q);
           };
           digits = refl;
           places = sym (f .1);
-          point = fraction-pointed t w x point;
+          point = or-false x ∙ fraction-pointed t w x point;
         }
+
+    v : Written
+    v = writtenBy t w x (pastFraction x t w) y s
+
+    go : (a b : Bool) → ltb 40 w ≡ b → (c : Bool) → ltb 40 (placesOf x w (pastFraction x t w)) ≡ c
+        → Fine t (cond a (bad BadForm) (cond (b || c) (bad TooManyDigits) (piece (number v) n)))
+    go true b p c q = tt
+    go false true p c q = tt
+    go false false p true q = tt
+    go false false p false q = λ i. bare y p q i
 
 number-fine : (t : List ℕ) → isDigit (getD t 0 0) ≡ true → Fine t (numberAt t)
 unfolding numberAt pointAt
 number-fine t h =
-    number-by t (run isDigit t) (pointAt t (run isDigit t)) _ _ refl (first-digit t h)
+    number-by t (run isDigit t) (pointAt t (run isDigit t)) _ _ _ refl (first-digit t h)
     (λ e. both (eqb (getD t (run isDigit t) 0) 46) (isDigit (getD t (suc (run isDigit t)) 0)) e .1)
 
 quoted-fine : (t : List ℕ) → Fine t (quotedAt t)

@@ -8,6 +8,7 @@ use mathlib.Core.Option.{Option, none, some}
 use lib.Dec.{eqb, leb, ltb}
 use lib.ListN.{length, drop}
 use Rattle.text.specs.Bytes.{among, isDigit, isLetter, isName, isInside}
+use Rattle.text.specs.Limits.{wholeLimit, placesLimit}
 use Rattle.text.specs.Words.{isOneOf}
 use Rattle.number.specs.Number.{Written, nearest, percent, whole, bits}
 use Rattle.digits.specs.Numeral.{Sort, float, percentage, counted, all, fraction, written}
@@ -85,12 +86,12 @@ nameLike w = wordLike w && not (isKeyword w)
 abbrev pub curveNames : List String
 curveNames = "cubic_bezier" ∷ "steps" ∷ "wiggle" ∷ "rough" ∷ "slowmo" ∷ []
 
--- 01: "1 or more digits", at most 10 before the point and 9 behind it
+-- 01: "1 or more digits"; 02 (n): at most 40 before the point and 40 behind it, and no exponent
 abbrev pub numeral : List ℕ × List ℕ → Bool
 numeral w =
     all isDigit (w .0) && all isDigit (w .1)
     && ltb 0 (length (w .0))
-    && leb (length (w .0)) 10 && leb (length (w .1)) 9
+    && leb (length (w .0)) wholeLimit && leb (length (w .1)) placesLimit
 
 abbrev pub holds : Option ℕ → ℕ → Bool
 holds none m = false

@@ -24,7 +24,9 @@ sameBool false b = not b
 
 abbrev pub sameWritten : Written → Written → Bool
 sameWritten v w =
-    eqb (v .digits) (w .digits) && (eqb (v .places) (w .places) && (sameBool (v .point) (w .point) && sameBool (v .suffix) (w .suffix)))
+    eqb (v .digits) (w .digits)
+    && (eqb (v .places) (w .places)
+    && (sameBool (v .point) (w .point) && (sameBool (v .exponent) (w .exponent) && sameBool (v .suffix) (w .suffix))))
 
 abbrev pub sameKind : Kind → Kind → Bool
 sameKind (name v) (name w) = same v w
@@ -66,13 +68,15 @@ written-is v w e =
     let a = both (eqb (v .digits) (w .digits)) _ e in
     let b = both (eqb (v .places) (w .places)) _ (a .1) in
     let c = both (sameBool (v .point) (w .point)) _ (b .1) in
+    let d = both (sameBool (v .exponent) (w .exponent)) _ (c .1) in
     by (eqb-true (v .digits) (w .digits) (a .0)) (eqb-true (v .places) (w .places) (b .0)) (bool-is (v .point) (w .point) (c .0))
-    (bool-is (v .suffix) (w .suffix) (c .1))
+    (bool-is (v .exponent) (w .exponent) (d .0)) (bool-is (v .suffix) (w .suffix) (d .1))
   where
-    by : v .digits ≡ w .digits → v .places ≡ w .places → v .point ≡ w .point → v .suffix ≡ w .suffix
-        → _≡_ {A = Written} (record { digits = v .digits; places = v .places; point = v .point; suffix = v .suffix })
-        (record { digits = w .digits; places = w .places; point = w .point; suffix = w .suffix })
-    by a b c d = rw (a, b, c, d)
+    by : v .digits ≡ w .digits → v .places ≡ w .places → v .point ≡ w .point → v .exponent ≡ w .exponent → v .suffix ≡ w .suffix
+        → _≡_ {A = Written}
+        (record { digits = v .digits; places = v .places; point = v .point; exponent = v .exponent; suffix = v .suffix })
+        (record { digits = w .digits; places = w .places; point = w .point; exponent = w .exponent; suffix = w .suffix })
+    by a b c d e = rw (a, b, c, d, e)
 
 kind-is : (k l : Kind) → sameKind k l ≡ true → k ≡ l
 kind-is (name v) (name w) e = ap name (same-eq v w e)
@@ -113,7 +117,13 @@ bool-self false = refl
 kind-self : (k : Kind) → sameKind k k ≡ true
 kind-self (name w) = same-refl w
 kind-self (number w) =
-    rw (eq-eqb (w .digits) (w .digits) refl, eq-eqb (w .places) (w .places) refl, bool-self (w .point), bool-self (w .suffix))
+    rw (
+      eq-eqb (w .digits) (w .digits) refl,
+      eq-eqb (w .places) (w .places) refl,
+      bool-self (w .point),
+      bool-self (w .exponent),
+      bool-self (w .suffix),
+    )
 kind-self (quoted n) = eq-eqb n n refl
 kind-self (mark b) = eq-eqb b b refl
 
@@ -187,6 +197,14 @@ table =
     "path p along \"M0 0\" duration: 1; label \"x\"; morph \"a\" => \"b\" duration: 1"
     ∷ yes "sequence { spring tween: 0 => 1; color d: \"red\" => \"blue\" duration: 1; keyframes a {0: 0, 1: 1} draw \"dd\" duration: 1 }"
     "sequence { spring a: 0 => 1; color c: \"red\" => \"blue\" duration: 1; keyframes k {0: 0, 1: 1} draw \"d\" duration: 1 }"
+    -- numbers with an exponent and of many digits stay
+    ∷ yes "tween a: 1e3 => 12345678901.5 duration: 2.5E-1s easing: linear; label \"e5\";"
+    "tween e5 : 1e3=>12345678901.5 duration:2.5E-1s easing: linear; label \"\";"
+    -- an exponent is multiplied out: the same number, written with other signs, zeros and letters, or with another exponent
+    ∷ yes "at 1e2"
+    "at 01e+02"
+    ∷ yes "at 1e2"
+    "at 10E1"
     -- a color's strings
     ∷ no "color c: \"red\" => \"blue\" duration: 1"
     "color c: \"red\" => \"azure\" duration: 1"
@@ -199,6 +217,17 @@ table =
     -- a number
     ∷ no "at 1"
     "at 1.0"
+    -- a number with an exponent and one without
+    ∷ no "at 1e2"
+    "at 100"
+    ∷ no "at 1e-1"
+    "at 0.1"
+    -- no blank stands in a number
+    ∷ no "at 1e2"
+    "at 1 e2"
+    -- the last of 40 digits
+    ∷ no "at 0.0123456789012345678901234567890123456789"
+    "at 0.0123456789012345678901234567890123456788"
     -- a keyword is no name
     ∷ no "spring a: 0 => 1"
     "spring loop: 0 => 1"
@@ -257,6 +286,8 @@ unfolding Rattle.text.specs.Bytes.same Rattle.text.specs.Bytes.oneOf Rattle.t
     Rattle.token.specs.Split.split Rattle.token.specs.Token.nameAt Rattle.token.specs.Token.pointAt Rattle.token.specs.Token.pastFraction
     Rattle.token.specs.Token.suffixAt Rattle.token.specs.Token.pastSuffix Rattle.token.specs.Token.clings
     Rattle.token.specs.Token.placesOf Rattle.token.specs.Token.writtenBy Rattle.token.specs.Token.writtenAt
+    Rattle.token.specs.Token.powerFrom Rattle.token.specs.Token.powerDigits Rattle.token.specs.Token.powerSize
+    Rattle.token.specs.Token.powerBy Rattle.token.specs.Token.powerAt Rattle.token.specs.Token.pastPower
     Rattle.token.specs.Token.numberBy Rattle.token.specs.Token.numberAt Rattle.token.specs.Token.quotedAt Rattle.token.specs.Token.lexeme
     Rattle.token.specs.Token.cut Rattle.token.specs.Token.tokensFrom Rattle.grammar.specs.Fields.rowOf
     Rattle.grammar.specs.Fields.fieldHead Rattle.grammar.specs.Fields.fieldValue Rattle.grammar.specs.Fields.entry

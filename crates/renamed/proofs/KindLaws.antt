@@ -4,17 +4,21 @@ use mathlib.Core.Bool.{Bool, true, false, _&&_, _||_, not, cond}
 use mathlib.Core.List.{List, [], _∷_}
 use mathlib.Core.Path.{_≡_, refl, sym, ap, _∙_}
 use native.Mathlib.Omega.{arith}
-use native.Mathlib.Nat.{add-zero}
+use native.Mathlib.Nat.{add-zero, min-le-left}
 use lib.Dec.{ltb, eqb}
-use lib.ListN.{getD, take, drop}
+use lib.ListN.{length, getD, take, drop, length-take}
 use lib.Seq.{take-nil, take-take, getD-take, getD-drop}
-use borrow.Author.Tests.{ltb-false}
+use borrow.Author.Tests.{ltb-true, ltb-false}
+use Rattle.text.specs.Limits.{wholeLimit, placesLimit, powerLimit}
 use Rattle.text.specs.Bytes.{run, part, among, isName, isLetter, isDigit, isInside}
 use Rattle.text.proofs.ByteLaws.{run-yes, run-no}
+use Rattle.number.specs.Number.{Written}
 use Rattle.error.specs.declared.Refusal.the-variants.{BadForm}
-use Rattle.token.specs.Token.{Kind, name, quoted, mark, Lexeme, bad, piece, lexeme, nameAt, pointAt, pastFraction, suffixAt}
-use Rattle.token.specs.Token.{pastSuffix, clings, placesOf, numberAt, quotedAt}
-use Rattle.token.proofs.LexLaws.{Parts, name-is, quoted-is, number-clings, number-long, number-fine, lex-is}
+use Rattle.token.specs.Token.{Kind, name, number, quoted, mark, Lexeme, bad, piece, lexeme, nameAt, pointAt, pastFraction, suffixAt}
+use Rattle.token.specs.Token.{pastSuffix, clings, placesOf, powerFrom, powerDigits, powerSize, powerBy, powerAt, pastPower}
+use Rattle.token.specs.Token.{writtenBy, writtenAt, numberAt, quotedAt}
+use Rattle.token.proofs.LexLaws.{Parts, name-is, quoted-is, number-clings, number-long, number-written, written-is, lex-is}
+use Rattle.token.proofs.LexLaws.{PowerIs, power-is, from-low, digits-are}
 use Rattle.token.proofs.WholeLaws.{both, neither, whole-of}
 use Rattle.renamed.specs.Bytewise.{sizeOf}
 use Rattle.renamed.proofs.StreamLaws.{never}
@@ -108,6 +112,11 @@ unfolding pastSuffix
 suffix-low true e = omega arith
 suffix-low false e = omega arith
 
+suffix-high : (z : Bool) (e : ℕ) → pastSuffix z e ≤ e + 1
+unfolding pastSuffix
+suffix-high true e = omega arith
+suffix-high false e = omega arith
+
 and-no : (b c : Bool) → c ≡ false → (b && c) ≡ false
 and-no true c e = e
 and-no false c e = refl
@@ -152,47 +161,143 @@ unfolding pastFraction placesOf
 places-in t w n true h = part-take (suc w) (suc w + run isDigit (drop (suc w) t) - suc w) n t (omega arith)
 places-in t w n false h = refl
 
-number-again : (t : List ℕ) → Again numberAt t (numberAt t)
-number-again t = go (run isDigit t) refl (pointAt t (run isDigit t)) refl
+-- ---- their exponents
+
+-- k bytes of a run, where as many are taken
+run-some : (p : ℕ → Bool) (k n : ℕ) (t : List ℕ) → k ≤ n → k ≤ run p t → k ≤ run p (take n t)
+unfolding run
+run-some p zero n t h g = omega arith
+run-some p (suc k) zero t h g = absurd (omega arith)
+run-some p (suc k) (suc n) [] h g = g
+run-some p (suc k) (suc n) (b ∷ t) h g = go (λ z. run-some p k n t (omega arith) z) (p b) refl
   where
-    go : (w : ℕ) → w ≡ run isDigit t → (x : Bool) → x ≡ pointAt t w → Again numberAt t (numberAt t)
-    go w k x l = by (clings t (not (x || z)) n) refl (ltb 10 w || ltb 9 (placesOf x w e)) refl
-      where
-        e : ℕ
-        e = pastFraction x t w
+    go : (k ≤ run p t → k ≤ run p (take n t)) → (x : Bool) → p b ≡ x → suc k ≤ run p (b ∷ take n t)
+    go ih true e = rw (run-yes p b (take n t) e) (omega (arith, ih (omega (arith, run-yes p b t e))))
+    go ih false e = absurd (omega (arith, run-no p b t e))
 
-        z : Bool
-        z = suffixAt t e
+digits-taken : (t : List ℕ) (m n : ℕ) → m + powerDigits t m ≤ n → powerDigits (take n t) m ≡ powerDigits t m
+digits-taken t m n h = go (ltb powerLimit (run isDigit (drop m t))) refl
+  where
+    cut : drop m (take n t) ≡ take (n - m) (drop m t)
+    cut = drop-take m n (n - m) t (omega arith)
 
-        n : ℕ
-        n = pastSuffix z e
+    -- where as many digits are taken as an exponent may have
+    most : (r : ℕ) → r ≡ run isDigit (drop m (take n t)) → powerLimit ≤ r
+        → (x : Bool) → ltb powerLimit r ≡ x → powerDigits (take n t) m ≡ powerLimit
+    most r e g true q = digits-are (take n t) m r e true q
+    most r e g false q = digits-are (take n t) m r e false q ∙ (let z = ltb-false powerLimit r q in omega arith)
 
-        low : e ≤ n
-        low = suffix-low z e
+    go : (x : Bool) → ltb powerLimit (run isDigit (drop m t)) ≡ x → powerDigits (take n t) m ≡ powerDigits t m
+    go true q =
+        let d = digits-are t m (run isDigit (drop m t)) refl true q in
+        let z = ltb-true powerLimit (run isDigit (drop m t)) q in
+        most _ refl (rw cut (run-some isDigit powerLimit (n - m) (drop m t) (omega arith) (omega arith))) _ refl ∙ sym d
+    go false q =
+        let d = digits-are t m (run isDigit (drop m t)) refl false q in
+        let r = run-take isDigit (n - m) (drop m t) (omega arith) in
+        digits-are (take n t) m (run isDigit (drop m t)) (sym (ap (run isDigit) cut ∙ r)) false q ∙ sym d
 
-        parts : Parts t w x e z n
-        parts = record { whole = k; point = l; end = refl; suffix = refl; next = refl }
+from-taken : (t : List ℕ) (e n : ℕ) → e + 2 ≤ n → powerFrom (take n t) e ≡ powerFrom t e
+unfolding powerFrom
+from-taken t e n h = rw (getD-take n t (suc e) 0 (omega arith))
 
-        alone : Parts (take n t) w x e z n
-        alone = record {
-          whole = k ∙ sym (run-take isDigit n t (omega (arith, low, fraction-low t w x)));
-          point = point-taken t w n x l low;
-          end = sym (fraction-taken t w n x low);
-          suffix = suffix-taken t e z refl;
-          next = refl;
-        }
+-- an `e` that stands last has no digits
+size-none : (t : List ℕ) (e n : ℕ) → n ≤ e + 1 → powerSize (take n t) e ≡ 0
+size-none t e n h = go (powerSize (take n t) e) refl
+  where
+    go : (k : ℕ) → k ≡ powerSize (take n t) e → k ≡ 0
+    go zero q = refl
+    go (suc k) q =
+        let p : PowerIs (take n t) e (suc k) = rw (sym q) at (power-is (take n t) e) in
+        absurd (omega (arith, p .two .high (omega arith), from-low (take n t) e, length-take n t, min-le-left n (length t)))
 
-        by : (a : Bool) → clings t (not (x || z)) n ≡ a → (b : Bool) → (ltb 10 w || ltb 9 (placesOf x w e)) ≡ b
-            → Again numberAt t (numberAt t)
-        by true p b q = rw (number-clings parts p) tt
-        by false p true q = rw (number-long parts false p q) tt
-        by false p false q =
-            let few = neither (ltb 10 w) (ltb 9 (placesOf x w e)) q in
-            let a = ltb-false 10 w (few .0) in
-            let b = ltb-false 9 (placesOf x w e) (few .1) in
-            rw (number-fine parts _ _ p a refl b refl)
-            (number-fine alone _ _ (no-more t (not (x || z)) n) a refl b
-            (rw (take-take w n t (omega (arith, low, fraction-low t w x)), places-in t w n x low)))
+size-some : (t : List ℕ) (e n k : ℕ) → suc k ≡ powerSize t e → powerFrom t e + suc k ≤ n → suc k ≡ powerSize (take n t) e
+unfolding powerSize
+size-some t e n k q h =
+    let p : PowerIs t e (suc k) = rw (sym q) at (power-is t e) in
+    let low = from-low t e in
+    let m = p .mark (omega arith) in
+    let d : suc k ≡ powerDigits t (powerFrom t e) = rw m at q in
+    rw (getD-take n t e 0 (omega arith), m, from-taken t e n (omega arith)) (d ∙ sym (digits-taken t (powerFrom t e) n (omega arith)))
+
+-- the same exponent, where the text taken ends behind it or behind the byte that follows it
+size-taken : (t : List ℕ) (e n k : ℕ) → k ≡ powerSize t e → pastPower t e k ≤ n → n ≤ pastPower t e k + 1 → k ≡ powerSize (take n t) e
+unfolding pastPower
+size-taken t e n zero q h g = sym (size-none t e n g)
+size-taken t e n (suc k) q h g = size-some t e n k q h
+
+-- where it ends, and what it says
+past-again : (t : List ℕ) (e n k : ℕ) → pastPower t e k ≤ n → pastPower (take n t) e k ≡ pastPower t e k
+unfolding pastPower
+past-again t e n zero h = refl
+past-again t e n (suc k) h = rw (from-taken t e n (omega (arith, from-low t e)))
+
+power-again : (t : List ℕ) (e n k : ℕ) → pastPower t e k ≤ n → powerBy (take n t) e k ≡ powerBy t e k
+unfolding pastPower powerBy
+power-again t e n zero h = refl
+power-again t e n (suc k) h =
+    let low = from-low t e in
+    rw (from-taken t e n (omega arith), getD-take n t (suc e) 0 (omega arith), part-take (powerFrom t e) (suc k) n t h)
+
+-- ---- a number by its parts
+
+past-low : (t : List ℕ) (e k : ℕ) → e ≤ pastPower t e k
+unfolding pastPower
+past-low t e zero = omega arith
+past-low t e (suc k) = omega (arith, from-low t e)
+
+module _ {t : List ℕ} {w : ℕ} {x : Bool} {e k : ℕ} {z : Bool} {n : ℕ} (p : Parts t w x e k z n) where
+  -- n lies behind each part, and behind the exponent by the `s` at most
+  behind : pastPower t e k ≤ n
+  behind = omega (arith, p .next, suffix-low z (pastPower t e k))
+
+  end-in : pastFraction x t w ≤ n
+  end-in = omega (arith, behind, p .end, past-low t e k)
+
+  whole-in : w ≤ n
+  whole-in = omega (arith, end-in, fraction-low t w x)
+
+  soon : n ≤ pastPower t e k + 1
+  soon = omega (arith, p .next, suffix-high z (pastPower t e k))
+
+  -- the same parts
+  alone : Parts (take n t) w x e k z n
+  alone = record {
+    whole = p .whole ∙ sym (run-take isDigit n t (omega (arith, p .whole, whole-in)));
+    point = point-taken t w n x (p .point) end-in;
+    end = p .end ∙ sym (fraction-taken t w n x end-in);
+    power = size-taken t e n k (p .power) behind soon;
+    suffix = rw (past-again t e n k behind, p .next) (suffix-taken t (pastPower t e k) z (p .suffix));
+    next = rw (past-again t e n k behind) (p .next);
+  }
+
+  same-power : powerAt (take n t) e ≡ powerAt t e
+  unfolding powerAt
+  same-power = rw (sym (alone .power), sym (p .power)) (power-again t e n k behind)
+
+  same-written : writtenAt (take n t) ≡ writtenAt t
+  unfolding writtenBy
+  same-written =
+      let f = rw (sym (p .end)) at (places-in t w n x end-in) in
+      rw (written-is alone, written-is p, same-power, take-take w n t whole-in, f)
+
+  cut-again : Again numberAt t (numberAt t)
+  cut-again = by (clings t (not ((x || ltb 0 k) || z)) n) refl (ltb wholeLimit w || ltb placesLimit (placesOf x w e)) refl
+    where
+      by : (a : Bool) → clings t (not ((x || ltb 0 k) || z)) n ≡ a
+          → (b : Bool) → (ltb wholeLimit w || ltb placesLimit (placesOf x w e)) ≡ b
+          → Again numberAt t (numberAt t)
+      by true h b g = rw (number-clings p h) tt
+      by false h true g = rw (number-long p false h g) tt
+      by false h false g =
+          let few = neither (ltb wholeLimit w) (ltb placesLimit (placesOf x w e)) g in
+          let a = ltb-false wholeLimit w (few .0) in
+          let b = ltb-false placesLimit (placesOf x w e) (few .1) in
+          let again = number-written alone _ (no-more t (not ((x || ltb 0 k) || z)) n) a refl b in
+          rw (number-written p _ h a refl b) (again ∙ ap (λ (v : Written). piece (number v) n) same-written)
+
+number-again : (t : List ℕ) → Again numberAt t (numberAt t)
+number-again t = cut-again (record { whole = refl; point = refl; end = refl; power = refl; suffix = refl; next = refl })
 
 -- ---- each token
 

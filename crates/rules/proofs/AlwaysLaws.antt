@@ -10,29 +10,31 @@ use lib.ListN.{length}
 use Rattle.text.specs.Bytes.{bytes}
 use Rattle.text.specs.Words.{words, under, default}
 use Rattle.codec.proofs.Laws.{All}
-use Rattle.token.specs.Token.{Token}
+use Rattle.token.specs.Token.{Token, tokensFrom}
+use Rattle.rules.specs.Bare.{bare}
 use Rattle.error.specs.declared.Refusal.{Refusal}
 use Rattle.error.specs.declared.Refusal.the-variants.{Missing}
 use Rattle.grammar.specs.Rule.{Rule, give, need, refuse, counted, if, _>>=_, _>>_, skip, theByte, bothBytes, eatByte, choice, insideByte}
 use Rattle.grammar.specs.Rule.{seesByte, seesPair, Next, more, done, repeat, list}
 use Rattle.grammar.specs.Fields.{Content, Entry, Fields, Table, pairs, parseFieldList}
 use Rattle.rules.proofs.RunLaws as run
-use Rattle.rules.proofs.RunLaws.{Runs, Onto}
+use Rattle.rules.proofs.RunLaws.{Runs, Carry, Onto}
 use Rattle.rules.proofs.TakeLaws as take
 use Rattle.rules.proofs.ListLaws as lists
 use Rattle.rules.proofs.FieldLaws as fields
 
--- P holds of each value that the rule p gives
+-- P holds of each value that the rule p gives where no number has an exponent
 pub record Always {A : Type 0} (s : List ℕ) (p : Rule A) (P : A → Type 0) : Type 0 where
-  pub runs : (q : ℕ) → q ≤ length s → Runs s p q (λ a m. P a)
+  pub runs : (q : ℕ) → q ≤ length s → bare (tokensFrom s q) ≡ true → Runs s p q (λ a m. P a)
 
 abbrev pub Next-of : {A : Type 0} → (A → Type 0) → Next A → Type 0
 Next-of P (more a) = P a
 Next-of P (done a) = P a
 
-onto : {A : Type 0} (P : A → Type 0) (n : Next A) (m : ℕ) → Next-of P n → Onto (λ a m. P a) (λ a m. P a) n m
-onto P (more a) m x = x
-onto P (done a) m x = x
+onto : {A : Type 0} (s : List ℕ) (P : A → Type 0) (n : Next A) (m : ℕ) → Next-of P n → bare (tokensFrom s m) ≡ true
+    → Onto (λ a m. P a × (bare (tokensFrom s m) ≡ true)) (λ a m. P a × (bare (tokensFrom s m) ≡ true)) n m
+onto s P (more a) m x e = (x, e)
+onto s P (done a) m x e = (x, e)
 
 pub each : {A : Type 0} (P : A → Type 0) (t : List (String × A)) (w : List ℕ) → All (λ f. P (f .1)) t
     → All (λ f. w ≡ bytes (f .0) → P (f .1)) t
@@ -42,28 +44,28 @@ module _ {s : List ℕ} where
   -- ---- one after the other
 
   pub gives : {A : Type 0} {P : A → Type 0} {a : A} → P a → Always s (give a) P
-  gives p = record { runs = λ q h. run.gives h p }
+  gives p = record { runs = λ q h b. run.gives h p }
 
   pub refuses : {A : Type 0} {P : A → Type 0} {r : Refusal} → Always s (refuse r) P
-  refuses = record { runs = λ q h. run.refuses }
+  refuses = record { runs = λ q h b. run.refuses }
 
   pub then : {A B : Type 0} {p : Rule A} {f : A → Rule B} {R : A → Type 0} {P : B → Type 0}
       → Always s p R → ((a : A) → R a → Always s (f a) P) → Always s (p >>= f) P
-  then x k = record { runs = λ q h. run.then (x .runs q h) (λ a m g r. k a r .runs m g) }
+  then x k = record { runs = λ q h b. run.then (run.carries (x .runs q h b)) (λ a m g r. k a (r .0) .runs m g (r .1 b)) }
 
   pub and : {A B : Type 0} {p : Rule A} {f : Rule B} {R : A → Type 0} {P : B → Type 0}
       → Always s p R → Always s f P → Always s (p >> f) P
-  and x y = record { runs = λ q h. run.and (x .runs q h) (λ m g a r. y .runs m g) }
+  and x y = record { runs = λ q h b. run.and (run.carries (x .runs q h b)) (λ m g a r. y .runs m g (r .1 b)) }
 
   pub tallies : {A : Type 0} {p : Rule A} {P : A → Type 0} (b : Bool) → Always s p P → Always s (counted b >> p) P
-  tallies b x = record { runs = λ q h. run.tallies b (x .runs q h) }
+  tallies c x = record { runs = λ q h b. run.tallies c (x .runs q h b) }
 
   pub weaken : {A : Type 0} {p : Rule A} {R P : A → Type 0} → Always s p R → ((a : A) → R a → P a) → Always s p P
-  weaken x k = record { runs = λ q h. run.weaken (x .runs q h) (λ a m r. k a r) }
+  weaken x k = record { runs = λ q h b. run.weaken (x .runs q h b) (λ a m r. k a r) }
 
   pub tests : {A : Type 0} {P : A → Type 0} (test : List Token → Bool) {p r : Rule A}
       → Always s p P → Always s r P → Always s (if test p r) P
-  tests test x y = record { runs = λ q h. run.tests test (λ e. x .runs q h) (λ e. y .runs q h) }
+  tests test x y = record { runs = λ q h b. run.tests test (λ e. x .runs q h b) (λ e. y .runs q h b) }
 
   pub conds : {A : Type 0} {P : A → Type 0} (b : Bool) {p r : Rule A}
       → (b ≡ true → Always s p P) → (b ≡ false → Always s r P) → Always s (cond b p r) P
@@ -71,12 +73,12 @@ module _ {s : List ℕ} where
   conds false x y = y refl
 
   pub needs : {A : Type 0} (r : Refusal) (o : Option A) → Always s (need r o) (λ a. o ≡ some a)
-  needs r o = record { runs = λ q h. run.weaken (run.needs r o h) (λ a m e. e .1) }
+  needs r o = record { runs = λ q h b. run.weaken (run.needs r o h) (λ a m e. e .1) }
 
   -- ---- tokens
 
   pub skips : Always s skip (λ u. Unit {0})
-  skips = record { runs = λ q h. run.weaken (take.passes h) (λ u m x. tt) }
+  skips = record { runs = λ q h b. run.weaken (take.passes h) (λ u m x. tt) }
 
   pub the-mark : (b : ℕ) → Always s (theByte b) (λ u. Unit {0})
   the-mark b = tests (seesByte b) skips (refuses {r = Missing})
@@ -89,23 +91,29 @@ module _ {s : List ℕ} where
 
   pub in-group : {A : Type 0} {p : Rule A} {P : A → Type 0} (b : ℕ) → eqb b 0 ≡ false → Always s p P → Always s (insideByte b p) P
   in-group {p = p} {P = P} b e x = record {
-    runs = λ q h. run.weaken (take.in-group p (λ i a m. P a) h b e (λ m g. x .runs m g)) (λ a m y. y .inner);
+    runs = λ q h c. run.weaken (take.in-group-on p (λ i a m. P a) h b e (λ m g y. x .runs m g (y c))) (λ a m y. y .inner);
   }
 
   pub a-choice : (r : Refusal) (ns : List String) → Always s (choice r ns) (λ k. k < length (words ns))
-  a-choice r ns = record { runs = λ q h. run.weaken (lists.a-choice h r (words ns)) (λ k m x. x .0) }
+  a-choice r ns = record { runs = λ q h b. run.weaken (lists.a-choice h r (words ns)) (λ k m x. x .0) }
 
   -- ---- repetition: P holds of what there is before and behind each step
 
   module _ {A : Type 0} (P : A → Type 0) where
     pub repeats : (step : A → Rule (Next A)) → ((a : A) → P a → Always s (step a) (Next-of P)) → {a : A} → P a → Always s (repeat step a) P
     repeats step k i = record {
-      runs = λ q h. run.repeats (λ a m. P a) (λ a m. P a) (λ a m x. x) step (λ a m g x. run.weaken (k a x .runs m g) (onto P)) h i;
+      runs = λ q h b. run.weaken
+          (run.repeats (λ a m. P a × (bare (tokensFrom s m) ≡ true)) (λ a m. P a × (bare (tokensFrom s m) ≡ true)) (λ a m x. x) step
+          (λ a m g x. run.weaken (run.carries (k a (x .0) .runs m g (x .1))) (λ n o y. onto s P n o (y .0) (y .1 (x .1)))) h (i, b))
+          (λ a m x. x .0);
     }
 
     pub items : (item : A → Rule A) → ((a : A) → P a → Always s (item a) P) → {a : A} → P a → Always s (list item a) P
     items item k i = record {
-      runs = λ q h. lists.lists (λ a m. P a) (λ a m. P a) (λ a m x. x) (λ a m n l x. x) item (λ a m g x. k a x .runs m g) h i;
+      runs = λ q h b. run.weaken
+          (lists.lists (λ a m. P a × (bare (tokensFrom s m) ≡ true)) (λ a m. P a × (bare (tokensFrom s m) ≡ true)) (λ a m x. x)
+          (λ a m n l c x. (x .0, c (x .1))) item
+          (λ a m g x. run.weaken (run.carries (k a (x .0) .runs m g (x .1))) (λ c o y. (y .0, y .1 (x .1)))) h (i, b)) (λ a m x. x .0);
     }
 
   -- ---- rules by their words
@@ -133,15 +141,25 @@ module _ (s : List ℕ) (F : Entry → Type 0) where
   Held w q c m = F (w, c)
 
   module _ (t : Table) (rows : All Row t) where
-    all-rows : All (fields.Row s Held) t
-    all-rows = lists.all-map Row (fields.Row s Held) (λ f x q h. x .runs q h) t rows
+    abbrev Good : ℕ → Type 0
+    Good q = bare (tokensFrom s q) ≡ true
+
+    abbrev onward : (q m : ℕ) → Carry s q m → Good q → Good m
+    onward q m c b = c b
+
+    all-rows : All (fields.Row s Good onward Held) t
+    all-rows = lists.all-map Row (fields.Row s Good onward Held) (λ f x q h b. x .runs q h b) t rows
 
     pub pairs-of : Always s (pairs t) (All F)
     pairs-of = record {
-      runs = λ q h. fields.pairs-run s Held (λ fs m. All F fs) (λ fs m n l x. x) (λ fs e m n i x. (x .held, i)) t all-rows h tt;
+      runs = λ q h b. run.weaken
+          (fields.pairs-run s Good onward Held (λ fs m. All F fs × Good m) (λ fs m x. x .1) (λ fs m n l c x. (x .0, c (x .1)))
+          (λ fs e m n i x c. ((x .held, i .0), c (i .1))) t all-rows h (tt, b)) (λ fs m x. x .0);
     }
 
     pub fields-of : (gs : Fields) → All F gs → Always s (parseFieldList t gs) (All F)
     fields-of gs i = record {
-      runs = λ q h. fields.fields-run s Held (λ fs m. All F fs) (λ fs m n l x. x) (λ fs e m n i x. (x .held, i)) t all-rows gs h i;
+      runs = λ q h b. run.weaken
+          (fields.fields-run s Good onward Held (λ fs m. All F fs × Good m) (λ fs m x. x .1) (λ fs m n l c x. (x .0, c (x .1)))
+          (λ fs e m n i x c. ((x .held, i .0), c (i .1))) t all-rows gs h (i, b)) (λ fs m x. x .0);
     }

@@ -18,7 +18,7 @@ use Rattle.grammar.specs.Rule.{Rule, more, done, give, seesWord}
 use Rattle.grammar.specs.Fields.{Content, Entry, Fields, Table, rowOf, fieldHead, fieldValue, entry, pairName, onePair}
 use Rattle.grammar.specs.Fields.{pairs, Item, halts, closes, passes, starts, itemOf, fieldName, oneField, byItem, fieldsStep}
 use Rattle.grammar.specs.Fields.{parseFieldList, last, called, lastNumber}
-use Rattle.rules.proofs.RunLaws.{Runs, gives, then, and, weaken, tests, needs, Onto, repeats}
+use Rattle.rules.proofs.RunLaws.{Carry, carries, Runs, gives, then, and, weaken, tests, needs, Onto, repeats}
 use Rattle.rules.proofs.TakeLaws.{a-word, the-mark, skips, skips-word}
 use Rattle.rules.proofs.ListLaws.{none≢some, lists}
 
@@ -61,9 +61,10 @@ not-passes e = let z : _≡_ {A = ℕ} 0 1 = cc in omega arith
 
 -- ---- tables: H holds of a field's name, the place behind its `:`, its content and the place behind that
 
-module _ (s : List ℕ) (H : List ℕ → ℕ → Content → ℕ → Type 0) where
+-- G holds of the places where a field may begin
+module _ (s : List ℕ) (G : ℕ → Type 0) (onward : (q m : ℕ) → Carry s q m → G q → G m) (H : List ℕ → ℕ → Content → ℕ → Type 0) where
   abbrev pub Row : String × Rule Content → Type 0
-  Row f = (q : ℕ) → q ≤ length s → Runs s (f .1) q (H (bytes (f .0)) q)
+  Row f = (q : ℕ) → q ≤ length s → G q → Runs s (f .1) q (H (bytes (f .0)) q)
 
   row-in : (t : Table) (w : List ℕ) (f : String × Rule Content) → All Row t → rowOf t w ≡ some f → (w ≡ bytes (f .0)) × Row f
   unfolding rowOf
@@ -98,10 +99,11 @@ module _ (s : List ℕ) (H : List ℕ → ℕ → Content → ℕ → Type 0) wh
     pub low : q + length (e .0) < colon
     pub held : H (e .0) colon (e .1) m
 
-  entry-runs : (p : Rule (List ℕ)) (t : Table) → Names p → All Row t → (q : ℕ) → q ≤ length s → Runs s (entry p t) q (Entered q)
+  entry-runs : (p : Rule (List ℕ)) (t : Table) → Names p → All Row t → (q : ℕ) → q ≤ length s → G q → Runs s (entry p t) q (Entered q)
   unfolding entry fieldHead fieldValue
-  entry-runs p t names rows q h =
-      then (head q h) (λ f m g x. then (x .1 m g) (λ c n i y. gives i (record { colon = m; low = x .0; held = y })))
+  entry-runs p t names rows q h b =
+      then (carries (head q h))
+      (λ f m g x. then (x .0 .1 m g (onward q m (x .1) b)) (λ c n i y. gives i (record { colon = m; low = x .0 .0; held = y })))
     where
       Head : ℕ → String × Rule Content → ℕ → Type 0
       Head q f m = (q + length (bytes (f .0)) < m) × Row f
@@ -115,27 +117,35 @@ module _ (s : List ℕ) (H : List ℕ → ℕ → Content → ℕ → Type 0) wh
 
   -- ---- lists: I holds of the fields so far and of the place behind them
 
-  module _ (I : Fields → ℕ → Type 0) (later : (fs : Fields) (m n : ℕ) → m ≤ n → I fs m → I fs n)
-      (onto : (fs : Fields) (e : Entry) (m n : ℕ) → I fs m → Entered m e n → I (e ∷ fs) n) (t : Table) (rows : All Row t) where
+  module _ (I : Fields → ℕ → Type 0) (good : (fs : Fields) (m : ℕ) → I fs m → G m)
+      (later : (fs : Fields) (m n : ℕ) → m ≤ n → Carry s m n → I fs m → I fs n)
+      (onto : (fs : Fields) (e : Entry) (m n : ℕ) → I fs m → Entered m e n → Carry s m n → I (e ∷ fs) n) (t : Table)
+      (rows : All Row t) where
     pub pairs-run : {q : ℕ} → q ≤ length s → I [] q → Runs s (pairs t) q I
     unfolding pairs onePair
     pairs-run h i =
-        lists I I (λ fs m x. x) (λ fs m n l x. later fs m n (omega arith) x) (onePair t)
-        (λ fs m g x. then (entry-runs pairName t pair-name rows m g) (λ e n f y. gives f (onto fs e m n x y))) h i
+        lists I I (λ fs m x. x) (λ fs m n l c x. later fs m n (omega arith) c x) (onePair t)
+        (λ fs m g x. then (carries (entry-runs pairName t pair-name rows m g (good fs m x)))
+        (λ e n f y. gives f (onto fs e m n x (y .0) (y .1))))
+        h i
 
     step-runs : (fs : Fields) (m : ℕ) → m ≤ length s → I fs m → Runs s (fieldsStep t fs) m (Onto I I)
     unfolding fieldsStep oneField
-    step-runs fs m g i = record { run = λ l. by (itemOf (kind (tokensFrom s m))) refl .run l }
+    step-runs fs m g i = record {
+      run = λ l. by (itemOf (kind (tokensFrom s m))) refl .run l;
+      keeps = λ l. by (itemOf (kind (tokensFrom s m))) refl .keeps l;
+    }
       where
         by : (x : Item) → itemOf (kind (tokensFrom s m)) ≡ x → Runs s (byItem x t fs) m (Onto I I)
         by halts e = gives g i
         by closes e =
-            and {f = give (done fs)} (skips g (goes (kind (tokensFrom s m)) closes e not-closes))
-            (λ n f u x. gives f (later fs m n (omega (arith, x .on)) i))
+            and {f = give (done fs)} (carries (skips g (goes (kind (tokensFrom s m)) closes e not-closes)))
+            (λ n f u x. gives f (later fs m n (omega (arith, x .0 .on)) (x .1) i))
         by passes e =
-            and {f = give (more fs)} (skips g (goes (kind (tokensFrom s m)) passes e not-passes))
-            (λ n f u x. gives f (later fs m n (omega (arith, x .on)) i))
-        by starts e = then (entry-runs fieldName t field-name rows m g) (λ e n f x. gives f (onto fs e m n i x))
+            and {f = give (more fs)} (carries (skips g (goes (kind (tokensFrom s m)) passes e not-passes)))
+            (λ n f u x. gives f (later fs m n (omega (arith, x .0 .on)) (x .1) i))
+        by starts e =
+            then (carries (entry-runs fieldName t field-name rows m g (good fs m i))) (λ e n f x. gives f (onto fs e m n i (x .0) (x .1)))
 
     pub fields-run : (gs : Fields) {q : ℕ} → q ≤ length s → I gs q → Runs s (parseFieldList t gs) q I
     unfolding parseFieldList

@@ -13,7 +13,7 @@ use Rattle.text.proofs.WordLaws.{same-eq}
 use Rattle.codec.proofs.Laws.{All}
 use Rattle.error.specs.declared.Refusal.{Refusal}
 use Rattle.grammar.specs.Rule.{Rule, give, _>>=_, need, choiceIn, goOn, ends, list, listStep}
-use Rattle.rules.proofs.RunLaws.{Runs, gives, then, weaken, tests, needs, Onto, repeats}
+use Rattle.rules.proofs.RunLaws.{Carry, carries, Runs, gives, then, weaken, tests, needs, Onto, repeats}
 use Rattle.rules.proofs.TakeLaws.{a-word, Eaten, eats}
 
 pub none≢some : {A B : Type 0} {a : A} → Prim.Path (Option A) none (some a) → B
@@ -31,17 +31,17 @@ x also y = (x, y)
 -- ---- items with a `,` between them: I holds before an item, J behind one
 
 module _ {A : Type 0} {s : List ℕ} (I J : A → ℕ → Type 0) (end : (a : A) (m : ℕ) → I a m → J a m)
-    (comma : (a : A) (m n : ℕ) → m < n → J a m → I a n) where
-  on-comma : (b : A) (m : ℕ) → J b m → (c : Bool) (n : ℕ) → n ≤ length s → Eaten m c n → Runs s (give (goOn c b)) n (Onto I J)
-  on-comma b m j true n h e = gives h (comma b m n e j)
-  on-comma b m j false n h e = gives h (subst (J b) (sym e) j)
+    (comma : (a : A) (m n : ℕ) → m < n → Carry s m n → J a m → I a n) where
+  on-comma : (b : A) (m : ℕ) → J b m → (c : Bool) (n : ℕ) → n ≤ length s → Eaten m c n × Carry s m n → Runs s (give (goOn c b)) n (Onto I J)
+  on-comma b m j true n h e = gives h (comma b m n (e .0) (e .1) j)
+  on-comma b m j false n h e = gives h (subst (J b) (sym (e .0)) j)
 
   pub lists : (item : A → Rule A) → ((a : A) (m : ℕ) → m ≤ length s → I a m → Runs s (item a) m J)
       → {a : A} {q : ℕ} → q ≤ length s → I a q → Runs s (list item a) q J
   lists item k h i =
       repeats I J end (listStep item)
       (λ a m g j. tests ends (λ e. gives g (end a m j))
-      (λ e. then (k a m g j) (λ b n f x. then (eats f 44 refl) (λ c o z y. on-comma b n x c o z y))))
+      (λ e. then (k a m g j) (λ b n f x. then (carries (eats f 44 refl)) (λ c o z y. on-comma b n x c o z y))))
       h i
 
 -- ---- a word among some

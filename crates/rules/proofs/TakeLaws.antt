@@ -1,8 +1,8 @@
 -- Rules that take tokens: how far each moves. Assumes nothing.
 use Prim.Native.Nat.{ℕ, zero, suc, _+_, _≤_, _<_}
-use mathlib.Core.Bool.{Bool, true, false, _&&_, cond}
+use mathlib.Core.Bool.{Bool, true, false, _&&_, not, cond}
 use mathlib.Core.List.{List, [], _∷_}
-use mathlib.Core.Option.{some}
+use mathlib.Core.Option.{Option, none, some}
 use mathlib.Core.Path.{_≡_, refl, sym, ap, _∙_, subst}
 use native.Mathlib.Omega.{arith}
 use lib.Dec.{eqb}
@@ -12,7 +12,7 @@ use Rattle.text.specs.Bytes.{isName, oneOf, among}
 use Rattle.text.proofs.WordLaws.{same-eq}
 use Rattle.number.specs.Number.{Written}
 use Rattle.token.specs.Token.{Kind, name, number, quoted, mark, Token, token, piece, lexeme, tokensFrom, place, kind, isMark, rest}
-use Rattle.token.specs.Names.{isKeyword, unless, wordOf}
+use Rattle.token.specs.Names.{isKeyword, unless, wordOf, nameOf, quoteOf}
 use Rattle.error.specs.declared.Refusal.{Refusal}
 use Rattle.grammar.specs.Rule.{
   Notes,
@@ -59,10 +59,52 @@ use Rattle.grammar.specs.Rule.{
   insideByte,
 }
 use Rattle.rules.proofs.PlaceLaws.{Stands, Front, over, next, front, name-first, name-last, number-first, number-last}
-use Rattle.rules.proofs.RunLaws.{Ends, Outcome, Runs, gives, refuses, then, and, weaken, tests}
+use Rattle.rules.specs.Bare.{bareKind, bare}
+use Rattle.token.proofs.WholeLaws.{both}
+use Rattle.rules.proofs.RunLaws.{Ends, Outcome, Keeps, Carry, carries, Runs, gives, refuses, then, and, weaken, tests}
 
 never : {A : Type 0} → (false ≡ true) → A
 never e = absurd (let z : _≡_ {A = ℕ} 0 1 = cc in omega arith)
+
+-- ---- exponents: what is left of tokens has none where they have none
+
+bare-tail : (k : Kind) (ts : List Token) → (bareKind k && bare ts) ≡ true → bare ts ≡ true
+bare-tail k ts e = both (bareKind k) (bare ts) e .1
+
+pub bare-rest : (ts : List Token) → bare ts ≡ true → bare (rest ts) ≡ true
+unfolding bare
+bare-rest [] e = e
+bare-rest (token p k ∷ ts) e = go (isMark k 0)
+  where
+    go : (b : Bool) → bare (cond b (token p k ∷ ts) ts) ≡ true
+    go true = e
+    go false = bare-tail k ts e
+
+bare-behind : (d : ℕ) (ts : List Token) → bare ts ≡ true → bare (behind d ts) ≡ true
+unfolding bare behind
+bare-behind d [] e = e
+bare-behind d (token p k ∷ ts) e = go (weigh k d) (λ x. bare-behind x ts (bare-tail k ts e))
+  where
+    go : (x : Pass) → ((y : ℕ) → bare (behind y ts) ≡ true) → bare (passed x (token p k ∷ ts) ts (behind (depth x) ts)) ≡ true
+    go halts f = e
+    go closes f = bare-tail k ts e
+    go (goes y) f = f y
+
+found-keeps : {A B : Type 0} (o : Option A) (f : A → B) (l : Notes) (ts : List Token) → Keeps (found o f l ts) (bare ts)
+found-keeps none f l ts = tt
+found-keeps (some a) f l ts = bare-rest ts
+
+taken-keeps : (r : Refusal) (v : Signed) (l : Notes) (ts : List Token) → Keeps (taken r v l ts) (bare ts)
+taken-keeps r absent l ts = tt
+taken-keeps r (plus w) l ts = bare-rest ts
+taken-keeps r (minus w) l ts = λ e. bare-rest (rest ts) (bare-rest ts e)
+
+leave-keeps : (l : Notes) (ts : List Token) → Keeps (leave l ts) (bare ts)
+leave-keeps l ts = go (ends ts)
+  where
+    go : (b : Bool) → Keeps (cond b (got (tt {0}) l (rest ts)) (got (tt {0}) (noted l (place ts)) (behind 0 ts))) (bare ts)
+    go true = bare-rest ts
+    go false = bare-behind 0 ts
 
 -- a rule by what stands next: the end, or a token
 by-front : {A : Type 0} (s : List ℕ) (q : ℕ) (p : List Token → Out A) (Q : A → ℕ → Type 0) → q ≤ length s
@@ -107,6 +149,7 @@ pub skips : {s : List ℕ} {q : ℕ} → q ≤ length s → isMark (kind (tokens
 skips {s = s} {q = q} h e = record {
   run = λ l. by-front s q (λ ts. skip l ts) (λ u m. Skipped s q m) h (λ b f. never (sym e ∙ (rw f)))
       (λ start k n x. let z = sym (rw (x .is)) ∙ e in past s q (tt {0}) l (λ u m. Skipped s q m) start k n x z (skipped x z));
+  keeps = λ l. bare-rest (tokensFrom s q);
 }
 
 -- any token, or the end, which stays
@@ -114,6 +157,7 @@ pub passes : {s : List ℕ} {q : ℕ} → q ≤ length s → Runs s skip q (λ u
 passes {s = s} {q = q} h = record {
   run = λ l. by-front s q (λ ts. skip l ts) (λ u m. q ≤ m) h (λ b f. record { at = q; is = sym f; high = h; post = omega arith })
       (λ start k n x. past s q (tt {0}) l (λ u m. q ≤ m) start k n x (no-end x) (omega (arith, x .low)));
+  keeps = λ l. bare-rest (tokensFrom s q);
 }
 
 pub skips-mark : {s : List ℕ} {q : ℕ} → q ≤ length s → (b : ℕ) → eqb b 0 ≡ false
@@ -126,6 +170,7 @@ pub skips-word : {s : List ℕ} {q : ℕ} → q ≤ length s → (v : List ℕ) 
 skips-word {s = s} {q = q} h v e = record {
   run = λ l. by-front s q (λ ts. skip l ts) (λ u m. q + length v ≤ m) h (λ b f. never (sym (rw f) ∙ e))
       (λ start k n x. go l start k n x (sym (rw (x .is)) ∙ e));
+  keeps = λ l. bare-rest (tokensFrom s q);
 }
   where
     go : (l : Notes) (start : ℕ) (k : Kind) (n : ℕ) → Stands s q start k n
@@ -222,7 +267,10 @@ next-name s m h w e = go (front s m h)
     go (next start k n x) = by start k n x (sym (ap kind (x .is)) ∙ e)
 
 pub a-word : {s : List ℕ} {q : ℕ} → q ≤ length s → Runs s word q (Word s q)
-a-word {s = s} {q = q} h = record { run = λ l. by-front s q (λ ts. word l ts) (Word s q) h (λ b f. tt) (λ start k n x. go l start k n x) }
+a-word {s = s} {q = q} h = record {
+  run = λ l. by-front s q (λ ts. word l ts) (Word s q) h (λ b f. tt) (λ start k n x. go l start k n x);
+  keeps = λ l. found-keeps (nameOf (kind (tokensFrom s q))) _ l (tokensFrom s q);
+}
   where
     by : (l : Notes) (start : ℕ) (w : List ℕ) (n : ℕ) → Stands s q start (name w) n
         → (b : Bool) → isKeyword w ≡ b
@@ -246,7 +294,10 @@ pub record Text (s : List ℕ) (q : ℕ) (x : ℕ × ℕ) (m : ℕ) : Type 0 whe
   pub lexed : lexeme (drop quote s) ≡ piece (quoted (x .1)) (x .1 + 2)
 
 pub a-text : {s : List ℕ} {q : ℕ} → q ≤ length s → Runs s text q (Text s q)
-a-text {s = s} {q = q} h = record { run = λ l. by-front s q (λ ts. text l ts) (Text s q) h (λ b f. tt) (λ start k n x. go l start k n x) }
+a-text {s = s} {q = q} h = record {
+  run = λ l. by-front s q (λ ts. text l ts) (Text s q) h (λ b f. tt) (λ start k n x. go l start k n x);
+  keeps = λ l. found-keeps (quoteOf (kind (tokensFrom s q))) _ l (tokensFrom s q);
+}
   where
     go : (l : Notes) (start : ℕ) (k : Kind) (n : ℕ) → Stands s q start k n
         → Outcome s (text l (token start k ∷ tokensFrom s (start + n))) (Text s q)
@@ -278,6 +329,24 @@ pub record Numbered (s : List ℕ) (q : ℕ) (w : Bool × Written) (m : ℕ) : T
   pub size : ℕ
   pub lexed : lexeme (drop start s) ≡ piece (number (w .1)) size
   pub plain : seesByte 45 (tokensFrom s q) ≡ false → w .0 ≡ false
+  pub free : bare (tokensFrom s q) ≡ true → w .1 .exponent ≡ false
+
+bare-number : (s : List ℕ) (q start : ℕ) (w : Written) (n : ℕ) → Stands s q start (number w) n
+    → bare (tokensFrom s q) ≡ true → w .exponent ≡ false
+unfolding bare
+bare-number s q start w n x e =
+    let z : bare (token start (number w) ∷ tokensFrom s (start + n)) ≡ true = rw (x .is) at e in
+    go (w .exponent) (both (not (w .exponent)) (bare (tokensFrom s (start + n))) z .0)
+  where
+    go : (b : Bool) → not b ≡ true → b ≡ false
+    go true f = never f
+    go false f = refl
+
+bare-mark : (s : List ℕ) (q start b n : ℕ) → Stands s q start (mark b) n → Carry s q (start + n)
+unfolding bare
+bare-mark s q start b n x e =
+    let z : bare (token start (mark b) ∷ tokensFrom s (start + n)) ≡ true = rw (x .is) at e in
+    bare-tail (mark b) (tokensFrom s (start + n)) z
 
 -- one without a point
 abbrev pub Counted : List ℕ → ℕ → Bool × Written → ℕ → Type 0
@@ -304,9 +373,9 @@ no-point s q r (minus w) l ts x = go (w .point) refl
 -- behind a `-`, which stands before i
 minus-number : (s : List ℕ) (q i : ℕ) (r : Refusal) (l : Notes) (ts : List Token)
     → q < i → i ≤ length s → rest ts ≡ tokensFrom s i
-    → seesByte 45 (tokensFrom s q) ≡ true
+    → seesByte 45 (tokensFrom s q) ≡ true → Carry s q i
     → Outcome s (taken r (negated (plain (kind (rest ts)))) l ts) (Numbered s q)
-minus-number s q i r l ts h g e seen =
+minus-number s q i r l ts h g e seen carry =
     subst (λ (us : List Token). Outcome s (taken r (negated (plain (kind us))) l ts) (Numbered s q)) (sym e) (go (front s i g))
   where
     by : (start : ℕ) (k : Kind) (n : ℕ) → Stands s i start k n → Outcome s (taken r (negated (plain k)) l ts) (Numbered s q)
@@ -321,6 +390,7 @@ minus-number s q i r l ts h g e seen =
         size = n;
         lexed = x .lexed;
         plain = λ f. never (sym f ∙ seen);
+        free = λ f. bare-number s i start w n x (carry f);
       };
     }
     by start (quoted w) n x = tt
@@ -333,6 +403,7 @@ minus-number s q i r l ts h g e seen =
 pub a-number : {s : List ℕ} {q : ℕ} → q ≤ length s → (r : Refusal) → Runs s (signed seesNumber r) q (Numbered s q)
 a-number {s = s} {q = q} h r = record {
   run = λ l. by-front s q (λ ts. taken r (seesNumber ts) l ts) (Numbered s q) h (λ b f. tt) (λ start k n x. go l start k n x);
+  keeps = λ l. taken-keeps r (seesNumber (tokensFrom s q)) l (tokensFrom s q);
 }
   where
     by : (l : Notes) (start b n : ℕ) → Stands s q start (mark b) n
@@ -340,6 +411,7 @@ a-number {s = s} {q = q} h r = record {
         → rest ts ≡ tokensFrom s (start + n)
         → Outcome s (taken r (cond c (negated (plain (kind (rest ts)))) absent) l ts) (Numbered s q)
     by l start b n x true e ts g = minus-number s q (start + n) r l ts (omega (arith, x .low, x .whole .some)) (x .high) g (rw (x .is) e)
+        (bare-mark s q start b n x)
     by l start b n x false e ts g = tt
 
     go : (l : Notes) (start : ℕ) (k : Kind) (n : ℕ) → Stands s q start k n
@@ -358,6 +430,7 @@ a-number {s = s} {q = q} h r = record {
           size = n;
           lexed = x .lexed;
           plain = λ e. refl;
+          free = bare-number s q start w n x;
         })
     go l start (quoted w) n x = tt
     go l start (mark b) n x =
@@ -366,6 +439,7 @@ a-number {s = s} {q = q} h r = record {
 pub a-whole : {s : List ℕ} {q : ℕ} → q ≤ length s → (r : Refusal) → Runs s (signed seesWhole r) q (Counted s q)
 a-whole {s = s} {q = q} h r = record {
   run = λ l. no-point s q r (seesNumber (tokensFrom s q)) l (tokensFrom s q) (a-number h r .run l);
+  keeps = λ l. taken-keeps r (pointless (seesNumber (tokensFrom s q))) l (tokensFrom s q);
 }
 
 -- ---- groups
@@ -446,7 +520,7 @@ not-end k e = go (isMark k 0) refl
     go false f = refl
 
 pub leaves : {s : List ℕ} {q : ℕ} → q ≤ length s → Runs s leave q (λ u m. Left s q m)
-leaves {s = s} {q = q} h = record { run = λ l. by l (ends (tokensFrom s q)) refl }
+leaves {s = s} {q = q} h = record { run = λ l. by l (ends (tokensFrom s q)) refl; keeps = λ l. leave-keeps l (tokensFrom s q) }
   where
     passes : (l : Notes) → Front s q → Outcome s (got (tt {0}) l (rest (tokensFrom s q))) (λ u m. Left s q m)
     passes l (over b e) = record { at = q; is = rw e; high = h; post = record { low = omega arith; on = λ f. never (sym f ∙ (rw e)) } }
@@ -472,8 +546,13 @@ pub record Inside {A : Type 0} (s : List ℕ) (R : ℕ → A → ℕ → Type 0)
   pub inner : R start a mid
   pub left : Left s mid m
 
+pub in-group-on : {A : Type 0} {s : List ℕ} {q : ℕ} (p : Rule A) (R : ℕ → A → ℕ → Type 0) → q ≤ length s → (b : ℕ) → eqb b 0 ≡ false
+    → ((m : ℕ) → m ≤ length s → Carry s q m → Runs s p m (R m)) → Runs s (insideByte b p) q (Inside s R q)
+in-group-on p R h b e k =
+    and (carries (the-mark h b e))
+    (λ m i u x. then (k m i (x .1))
+    (λ a n j y. and (leaves j) (λ o f v z. gives f (record { start = m; mid = n; low = x .0; inner = y; left = z }))))
+
 pub in-group : {A : Type 0} {s : List ℕ} {q : ℕ} (p : Rule A) (R : ℕ → A → ℕ → Type 0) → q ≤ length s → (b : ℕ) → eqb b 0 ≡ false
     → ((m : ℕ) → m ≤ length s → Runs s p m (R m)) → Runs s (insideByte b p) q (Inside s R q)
-in-group p R h b e k =
-    and (the-mark h b e)
-    (λ m i u x. then (k m i) (λ a n j y. and (leaves j) (λ o f v z. gives f (record { start = m; mid = n; low = x; inner = y; left = z }))))
+in-group p R h b e k = in-group-on p R h b e (λ m i c. k m i)

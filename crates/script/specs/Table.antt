@@ -92,6 +92,8 @@ unfolding Rattle.text.specs.Bytes.same Rattle.text.specs.Bytes.oneOf Rattle.t
     Rattle.token.specs.Split.splitFrom Rattle.token.specs.Split.split Rattle.token.specs.Token.nameAt Rattle.token.specs.Token.pointAt
     Rattle.token.specs.Token.pastFraction Rattle.token.specs.Token.suffixAt Rattle.token.specs.Token.pastSuffix
     Rattle.token.specs.Token.clings Rattle.token.specs.Token.placesOf Rattle.token.specs.Token.writtenBy Rattle.token.specs.Token.writtenAt
+    Rattle.token.specs.Token.powerFrom Rattle.token.specs.Token.powerDigits Rattle.token.specs.Token.powerSize
+    Rattle.token.specs.Token.powerBy Rattle.token.specs.Token.powerAt Rattle.token.specs.Token.pastPower
     Rattle.token.specs.Token.numberBy Rattle.token.specs.Token.numberAt Rattle.token.specs.Token.quotedAt Rattle.token.specs.Token.lexeme
     Rattle.token.specs.Token.cut Rattle.token.specs.Token.tokensFrom Rattle.sheet.specs.Opening.foreignFrom
     Rattle.sheet.specs.Opening.opening Rattle.sheet.specs.Records.allRecords Rattle.sheet.specs.Sheet.encode Rattle.sheet.specs.Sheet.decode

@@ -7,9 +7,11 @@ use mathlib.Core.Path.{_≡_}
 use lib.Dec.{leb}
 use lib.ListN.{length}
 use lib.Seq.{sets}
-use Rattle.text.specs.Limits.{textLimit}
+use Rattle.text.specs.Limits.{textLimit, wholeLimit, placesLimit}
 use Rattle.digits.specs.Numeral.{fraction}
 use Rattle.digits.specs.Fewest.{form, spelled}
+use Rattle.digits.specs.Answer.{wholeNumber}
+use Rattle.digits.specs.declared.Decimal.{Decimal}
 use Rattle.pieces.specs.Pieces.{Piece, spelt, fits}
 use Rattle.spelling.specs.declared.Pen.{Pen}
 
@@ -49,7 +51,18 @@ Puts x out c after d = pageOf after d ≡ put x (pageOf out c)
 -- n over 10 ^ p can be written
 abbrev pub Spellable : Option (ℕ × ℕ) → Type 0
 Spellable none = Unit {0}
-Spellable (some d) = (d .1 ≤ 9) × (d .0 / 10 ^ d .1 < 10 ^ 10)
+Spellable (some d) = (d .1 ≤ placesLimit) × (d .0 / 10 ^ d .1 < 10 ^ wholeLimit)
+
+-- its digits before the point are at most 40
+abbrev pub Below : Decimal → Type 0
+Below d = wholeNumber d / 10 ^ d .places < 10 ^ wholeLimit
+
+-- a whole number in several parts
+pub record Large (d : Decimal) : Type 0 where
+  pub some : 0 < d .middle + d .high
+  pub n : d .n < 10 ^ 18
+  pub middle : d .middle < 10 ^ 18
+  pub high : d .high < 10 ^ 4
 
 -- its digits and a blank
 abbrev pub putNumber : Option (ℕ × ℕ) → Page → Page

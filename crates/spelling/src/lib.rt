@@ -3,7 +3,7 @@
 ghost use mathlib.Core.Path.{_≡_};
 ghost use mathlib.Core.Bool.{true, cond, not, _&&_};
 ghost use mathlib.Core.List.{List, [], _∷_};
-ghost use Prim.Native.Nat.{ℕ, suc, _+_, _<_, _^_};
+ghost use Prim.Native.Nat.{ℕ, suc, _+_, _/_, _<_, _^_};
 ghost use lib.Dec.{leb};
 ghost use lib.ListN.{length};
 ghost use lib.Seq.{sets};
@@ -12,8 +12,8 @@ ghost use Rattle.text.specs.Words.{isOneOf};
 ghost use Rattle.digits.specs.Numeral.{float, percentage, counted, all, fraction};
 ghost use Rattle.digits.specs.Fewest.{wholeDigits, lastDigits};
 ghost use Rattle.pieces.specs.Pieces.{aWord, aName, aPlain, aString, aMark, aPair, aNumeral, wordLike, nameLike, curveNames, knownMark, plainMark};
-ghost use Rattle.spelling.specs.Spelling.{most, spoiled, putOn, pageOf, Puts, Spellable, putNumber};
-ghost use Rattle.digits.specs.Answer.{numberOf};
+ghost use Rattle.spelling.specs.Spelling.{most, spoiled, putOn, pageOf, Puts, Spellable, Below, Large, putNumber};
+ghost use Rattle.digits.specs.Answer.{wholeNumber, numberOf, Neat};
 use digits::Decimal;
 use text::Class;
 
@@ -237,9 +237,37 @@ fn put_fraction(pen: Pen, out: &mut [u8], places: usize, n: u64) -> Pen
     put_last(p, out, places, n)
 }
 
+// A whole number of up to 39 digits.
+fn put_large(pen: Pen, out: &mut [u8], d: Decimal) -> Pen
+    requires { ⌜ Large d ⌝ }
+    ensures { λ r. ⌜ pageOf (now (out .exit)) r ≡ putOn (wholeDigits 39 (wholeNumber d)) (pageOf (now (out .entry)) pen) ⌝ }
+{
+    if d.high == 0 {
+        let p = put_whole(pen, out, d.middle);
+        return put_last(p, out, 18, d.n);
+    }
+    let p = put_whole(pen, out, d.high);
+    let q = put_last(p, out, 18, d.middle);
+    put_last(q, out, 18, d.n)
+}
+
+// The digits before the point: with more than 9 places a zero.
+fn put_front(pen: Pen, out: &mut [u8], d: Decimal) -> Pen
+    requires { ⌜ Neat d × Below d ⌝ }
+    ensures { λ r. ⌜ pageOf (now (out .exit)) r ≡ putOn (wholeDigits 39 (wholeNumber d / 10 ^ d .places)) (pageOf (now (out .entry)) pen) ⌝ }
+{
+    if 9 < d.places {
+        return put_whole(pen, out, 0);
+    }
+    if (d.middle == 0) & (d.high == 0) {
+        return put_whole(pen, out, d.n / number::ten_to(d.places));
+    }
+    put_large(pen, out, d)
+}
+
 // A number as it is written, if there is one.
 fn put_decimal(pen: Pen, out: &mut [u8], d: Decimal) -> Pen
-    requires { ⌜ Spellable (numberOf d) ⌝ }
+    requires { ⌜ Spellable (numberOf d) × Neat d ⌝ }
     ensures { λ r. ⌜ pageOf (now (out .exit)) r ≡ putNumber (numberOf d) (pageOf (now (out .entry)) pen) ⌝ }
 {
     if !d.found {
@@ -248,10 +276,8 @@ fn put_decimal(pen: Pen, out: &mut [u8], d: Decimal) -> Pen
             fits: false,
         };
     }
-    let places = d.places;
-    let n = d.n;
-    let p = put_whole(pen, out, n / number::ten_to(places));
-    let q = put_fraction(p, out, places, n);
+    let p = put_front(pen, out, d);
+    let q = put_fraction(p, out, d.places, d.n);
     put_byte(q, out, b' ')
 }
 

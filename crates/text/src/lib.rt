@@ -11,6 +11,13 @@ ghost use Rattle.text.specs.Write.{Puts};
 // The bytes that a text may have.
 pub const TEXT_LIMIT: usize = 16384;
 
+// The digits that a number may have before its point, after it, and in its exponent.
+pub const WHOLE_LIMIT: u16 = 40;
+
+pub const PLACES_LIMIT: u16 = 40;
+
+pub const POWER_LIMIT: u16 = 2;
+
 // A class of bytes.
 pub enum Class {
     Blank,

@@ -1,20 +1,32 @@
 -- Laws of the token that a text begins with. Assumes nothing.
-use Prim.Native.Nat.{ℕ, suc, _+_, _-_, _≤_, _<_}
-use mathlib.Core.List.{List}
+use Prim.Native.Nat.{ℕ, zero, suc, _+_, _-_, _*_, _^_, _≤_, _<_}
+use native.Mathlib.Nat.{mul-one, add-zero}
+use mathlib.Core.List.{List, [], _∷_}
 use mathlib.Core.Bool.{Bool, true, false, _&&_, _||_, not, cond}
 use mathlib.Core.Path.{_≡_, refl, sym, _∙_}
 use native.Mathlib.Omega.{arith}
 use native.Mathlib.Numerals.{add-one}
 use lib.Dec.{ltb, eqb}
 use lib.ListN.{length, getD, take, drop, length-drop, List·getD-eq-default}
-use borrow.Author.Tests.{ltb-true, ltb-false, le-ltb, eqb-true}
-use Rattle.text.specs.Bytes.{run, part, among, decimal, isName, isDigit, isLetter, isInside}
-use Rattle.text.proofs.ByteLaws.{run-le}
+use borrow.Author.Tests.{ltb-true, ltb-false, lt-ltb, le-ltb, eqb-true}
+use Rattle.text.specs.Bytes.{run, part, oneOf, among, decimal, isName, isDigit, isLetter, isInside}
+use Rattle.text.proofs.ByteLaws.{run-le, tests, tests-are}
+use Rattle.limbs.proofs.NumberLaws.{ten-fits, ten-positive, digits-small, run-in-at}
 use Rattle.error.specs.declared.Refusal.the-variants.{BadForm}
 use Rattle.token.specs.Token.{name, number, quoted, mark, Lexeme, bad, piece, nameAt, quotedAt, pointAt}
+use Rattle.token.specs.Token.{none, up, down, powerFrom, powerDigits, powerSize, powerBy}
+use Rattle.token.specs.Token.{powerAt, pastPower, isPower, times, over, placesAt}
 use Rattle.token.specs.Token.{pastFraction, suffixAt, pastSuffix, clings, placesOf, writtenBy, numberBy, numberAt, writtenAt, lexeme}
 use Rattle.token.specs.Means.{excessOf, Digits, CutMeans}
 use Rattle.token.specs.declared.Cut.{Cut}
+
+or-false : (x : Bool) → (x || false) ≡ x
+or-false true = refl
+or-false false = refl
+
+both-false : (a b : Bool) → (a || b) ≡ false → (a ≡ false) × (b ≡ false)
+both-false true b h = absurd (let z : _≡_ {A = ℕ} 0 1 = cc in omega arith)
+both-false false b h = (refl, h)
 
 -- a byte that is not 0 stands inside
 pub inside : (t : List ℕ) (n b : ℕ) → getD t n 0 ≡ b → 0 < b → n < length t
@@ -89,11 +101,130 @@ unfolding pastFraction
 fraction-inside t w true p h = run-fits isDigit t (suc w) (point-inside t w (sym p))
 fraction-inside t w false p h = h
 
--- and soon, where few stand behind the point
-fraction-few : (t : List ℕ) (w : ℕ) (x : Bool) → placesOf x w (pastFraction x t w) ≤ 9 → pastFraction x t w ≤ w + 10
-unfolding pastFraction placesOf
-fraction-few t w true h = omega arith
-fraction-few t w false h = omega arith
+-- ---- exponents
+
+-- a byte that is one of two
+pub one-of-two : (b c d : ℕ) (x : Bool) → (eqb b c || eqb b d) ≡ x → oneOf (c ∷ d ∷ []) b ≡ x
+unfolding tests
+one-of-two b c d x e = sym (tests-are c (d ∷ []) b) ∙ e
+
+-- where the digits begin, b standing behind the `e`
+pub from-is : (t : List ℕ) (n b : ℕ) → b ≡ getD t (n + 1) 0 → (x : Bool)
+    → (eqb b 43 || eqb b 45) ≡ x → powerFrom t n ≡ cond x (n + 2) (n + 1)
+unfolding powerFrom
+from-is t n b e x h = rw (sym (add-one n), sym e, one-of-two b 43 45 x h)
+
+pub size-is : (t : List ℕ) (n b : ℕ) → b ≡ getD t n 0 → (x : Bool) → (eqb b 101 || eqb b 69) ≡ x
+    → powerSize t n ≡ cond x (powerDigits t (powerFrom t n)) 0
+unfolding powerSize
+size-is t n b e x h = rw (sym e, one-of-two b 101 69 x h)
+
+pub digits-are : (t : List ℕ) (m n : ℕ) → n ≡ run isDigit (drop m t) → (x : Bool) → ltb 2 n ≡ x → powerDigits t m ≡ cond x 2 n
+unfolding powerDigits
+digits-are t m n e x h = rw (sym e, h)
+
+pub from-low : (t : List ℕ) (n : ℕ) → (n + 1 ≤ powerFrom t n) × (powerFrom t n ≤ n + 2)
+unfolding powerFrom
+from-low t n = go (among "+-" (getD t (suc n) 0))
+  where
+    go : (x : Bool) → (n + 1 ≤ cond x (n + 2) (n + 1)) × (cond x (n + 2) (n + 1) ≤ n + 2)
+    go true = (omega arith, omega arith)
+    go false = (omega arith, omega arith)
+
+-- behind it
+pub past-none : (t : List ℕ) (n k : ℕ) → k ≡ 0 → pastPower t n k ≡ n
+unfolding pastPower
+past-none t n k e = rw e
+
+pub past-some : (t : List ℕ) (n k : ℕ) → 0 < k → pastPower t n k ≡ powerFrom t n + k
+unfolding pastPower
+past-some t n zero h = absurd (omega arith)
+past-some t n (suc k) h = refl
+
+-- one or two digits at m, or none
+pub record Two (t : List ℕ) (m k : ℕ) : Type 0 where
+  pub few : k ≤ 2
+  pub high : 0 < k → m + k ≤ length t
+  pub run : k ≤ run isDigit (drop m t)
+  pub digits : (i : ℕ) → i < k → isDigit (getD t (m + i) 0) ≡ true
+
+-- the first k of a run of digits
+first-digits : (t : List ℕ) (m k : ℕ) → k ≤ 2 → k ≤ run isDigit (drop m t) → Two t m k
+first-digits t m k h l = record {
+  few = h;
+  high = λ z. omega (arith, run-le isDigit (drop m t), length-drop m t);
+  run = l;
+  digits = λ i z. run-in-at isDigit t m i (omega arith);
+}
+
+two-is : (t : List ℕ) (m : ℕ) → Two t m (powerDigits t m)
+two-is t m = go (ltb 2 (run isDigit (drop m t))) refl
+  where
+    go : (x : Bool) → ltb 2 (run isDigit (drop m t)) ≡ x → Two t m (powerDigits t m)
+    go true e =
+        rw (digits-are t m (run isDigit (drop m t)) refl true e)
+        (first-digits t m 2 (omega arith) (omega (arith, ltb-true 2 (run isDigit (drop m t)) e)))
+    go false e =
+        rw (digits-are t m (run isDigit (drop m t)) refl false e)
+        (first-digits t m _ (omega (arith, ltb-false 2 (run isDigit (drop m t)) e)) (omega arith))
+
+-- an exponent at n with k digits, or none
+pub record PowerIs (t : List ℕ) (n k : ℕ) : Type 0 where
+  pub few : k ≤ 2
+  pub mark : 0 < k → among "eE" (getD t n 0) ≡ true
+  pub two : Two t (powerFrom t n) k
+
+pub power-is : (t : List ℕ) (n : ℕ) → PowerIs t n (powerSize t n)
+unfolding powerSize
+power-is t n = go (among "eE" (getD t n 0)) refl
+  where
+    go : (a : Bool) → among "eE" (getD t n 0) ≡ a → PowerIs t n (cond a (powerDigits t (powerFrom t n)) 0)
+    go true e = let z = two-is t (powerFrom t n) in record { few = z .few; mark = λ h. e; two = z }
+    go false e = record {
+      few = omega arith;
+      mark = λ h. absurd (omega arith);
+      two = record { few = omega arith; high = λ h. absurd (omega arith); run = omega arith; digits = λ i h. absurd (omega arith) };
+    }
+
+-- its number has two digits
+pub power-small : (t : List ℕ) (n k : ℕ) → k ≡ powerSize t n → decimal 0 (part t (powerFrom t n) k) < 100
+power-small t n k e =
+    let p : PowerIs t n k = rw (sym e) at (power-is t n) in
+    ten-fits _ (0 + k) 2 (digits-small (drop (powerFrom t n) t) k 0 0 (ten-positive 0) (p .two .run)) (omega (arith, p .few))
+
+pub power-high : (t : List ℕ) (n k : ℕ) → k ≡ powerSize t n → n ≤ length t → pastPower t n k ≤ length t
+unfolding pastPower
+power-high t n zero e h = h
+power-high t n (suc k) e h = let p = power-is t n in (rw (sym e) at p) .two .high (omega arith)
+
+-- whether there is one
+pub power-some : (t : List ℕ) (n k : ℕ) → k ≡ powerSize t n → isPower (powerAt t n) ≡ ltb 0 k
+unfolding powerAt powerBy
+power-some t n zero e = rw (sym e)
+power-some t n (suc k) e = rw (sym e) (go (eqb (getD t (suc n) 0) 45) ∙ sym (lt-ltb 0 (suc k) (omega arith)))
+  where
+    go : (b : Bool)
+        → isPower (cond b (down (decimal 0 (part t (powerFrom t n) (suc k)))) (up (decimal 0 (part t (powerFrom t n) (suc k))))) ≡ true
+    go true = refl
+    go false = refl
+
+-- none
+pub power-none : (t : List ℕ) (n : ℕ) → powerSize t n ≡ 0 → powerAt t n ≡ none
+unfolding powerAt powerBy
+power-none t n e = rw e
+
+-- multiplied out: up, or down, by its number
+pub power-up : (t : List ℕ) (n k d q : ℕ) → k ≡ powerSize t n → eqb (getD t (suc n) 0) 45 ≡ false
+    → let e = decimal 0 (part t (powerFrom t n) k) in (times (powerAt t n) d ≡ d * 10 ^ e) × (over (powerAt t n) q ≡ q + 0)
+unfolding powerAt powerBy decimal
+power-up t n zero d q e h = rw (sym e) (sym (mul-one d), sym (add-zero q))
+power-up t n (suc k) d q e h = rw (sym e, h) (refl, sym (add-zero q))
+
+pub power-down : (t : List ℕ) (n k d q : ℕ) → k ≡ powerSize t n → eqb (getD t (suc n) 0) 45 ≡ true
+    → let e = decimal 0 (part t (powerFrom t n) k) in (times (powerAt t n) d ≡ d * 10 ^ 0) × (over (powerAt t n) q ≡ q + e)
+unfolding powerAt powerBy decimal
+power-down t n zero d q e h = rw (sym e) (sym (mul-one d), sym (add-zero q))
+power-down t n (suc k) d q e h = rw (sym e, h) (sym (mul-one d), refl)
 
 pub clings-is : (t : List ℕ) (point s : Bool) (n : ℕ) (a b c d e : Bool)
     → isName (getD t n 0) ≡ a → point ≡ b → s ≡ c → eqb (getD t n 0) 46 ≡ d
@@ -102,70 +233,107 @@ pub clings-is : (t : List ℕ) (point s : Bool) (n : ℕ) (a b c d e : Bool)
 unfolding clings
 clings-is t point s n a b c d e h p q g k = rw (h, p, q, g, sym (add-one n), k)
 
--- a number by its parts: w digits, a point (x) and more digits up to e or not, an `s` (z) or not, up to n
-pub record Parts (t : List ℕ) (w : ℕ) (x : Bool) (e : ℕ) (z : Bool) (n : ℕ) : Type 0 where
+-- a number by its parts: w digits, a point (x) and more digits up to e or not, an exponent of k digits or not, an `s` (z) or not, up to n
+pub record Parts (t : List ℕ) (w : ℕ) (x : Bool) (e k : ℕ) (z : Bool) (n : ℕ) : Type 0 where
   pub whole : w ≡ run isDigit t
   pub point : x ≡ pointAt t w
   pub end : e ≡ pastFraction x t w
-  pub suffix : z ≡ suffixAt t e
-  pub next : n ≡ pastSuffix z e
+  pub power : k ≡ powerSize t e
+  pub suffix : z ≡ suffixAt t (pastPower t e k)
+  pub next : n ≡ pastSuffix z (pastPower t e k)
 
-module _ {t : List ℕ} {w : ℕ} {x : Bool} {e : ℕ} {z : Bool} {n : ℕ} (p : Parts t w x e z n) where
-  number-is : numberAt t ≡ numberBy t w x e z n
+module _ {t : List ℕ} {w : ℕ} {x : Bool} {e k : ℕ} {z : Bool} {n : ℕ} (p : Parts t w x e k z n) where
+  number-is : numberAt t ≡ numberBy t w x e (powerAt t e) z n
   unfolding numberAt
-  number-is = rw (sym (p .whole), sym (p .point), sym (p .end), sym (p .suffix), sym (p .next))
+  number-is = rw (sym (p .whole), sym (p .point), sym (p .end), sym (p .power), sym (p .suffix), sym (p .next))
 
-  pub number-clings : clings t (not (x || z)) n ≡ true → numberAt t ≡ bad BadForm
+  some : isPower (powerAt t e) ≡ ltb 0 k
+  some = power-some t e k (p .power)
+
+  pub number-clings : clings t (not ((x || ltb 0 k) || z)) n ≡ true → numberAt t ≡ bad BadForm
   unfolding numberBy
-  number-clings h = number-is ∙ (rw h)
+  number-clings h = number-is ∙ (rw (some, h))
 
-  pub number-long : (c : Bool) → clings t (not (x || z)) n ≡ c → (ltb 10 w || ltb 9 (placesOf x w e)) ≡ true → numberAt t ≡ bad (excessOf c)
+  pub number-long : (c : Bool) → clings t (not ((x || ltb 0 k) || z)) n ≡ c → (ltb 40 w || ltb 40 (placesOf x w e)) ≡ true
+      → numberAt t ≡ bad (excessOf c)
   unfolding numberBy
   number-long true h g = number-clings h
-  number-long false h g = number-is ∙ (rw (h, g))
-
-  pub number-fine : (v q : ℕ) → clings t (not (x || z)) n ≡ false → w ≤ 10
-      → q ≡ placesOf x w e → q ≤ 9
-      → v ≡ decimal (decimal 0 (take w t)) (part t (suc w) q)
-      → numberAt t ≡ piece (number (record { digits = v; places = q; point = x; suffix = z })) n
-  unfolding numberBy writtenBy
-  number-fine v q h a g b d = number-is ∙ (rw (h, sym g, le-ltb 10 w a, le-ltb 9 q b, sym d))
+  number-long false h g = number-is ∙ (rw (some, h, g))
 
   -- the same number, by the text alone
-  written-is : writtenAt t ≡ writtenBy t w x e z
+  pub written-is : writtenAt t ≡ writtenBy t w x e (powerAt t e) z
   unfolding writtenAt
-  written-is = rw (sym (p .whole), sym (p .point), sym (p .end), sym (p .suffix))
+  written-is = rw (sym (p .whole), sym (p .point), sym (p .end), sym (p .power), sym (p .suffix))
 
-  pub number-written : (q : ℕ) → clings t (not (x || z)) n ≡ false → w ≤ 10 → q ≡ placesOf x w e → q ≤ 9
+  places-is : placesAt t ≡ placesOf x w e
+  unfolding placesAt
+  places-is = rw (sym (p .whole), sym (p .point), sym (p .end))
+
+  pub number-written : (q : ℕ) → clings t (not ((x || ltb 0 k) || z)) n ≡ false → w ≤ 40 → q ≡ placesOf x w e → q ≤ 40
       → numberAt t ≡ piece (number (writtenAt t)) n
   unfolding numberBy
-  number-written q h a g b = number-is ∙ (rw (h, sym g, le-ltb 10 w a, le-ltb 9 q b, sym written-is))
+  number-written q h a g b = number-is ∙ (rw (some, h, sym g, le-ltb 40 w a, le-ltb 40 q b, sym written-is))
 
-  pub number-digits : (q : ℕ) → w ≤ 10 → q ≡ placesOf x w e → q ≤ 9 → Digits t
-  unfolding writtenBy
-  number-digits q a g b = record { whole = omega (arith, p .whole); places = rw (written-is, sym g) b }
+  pub number-digits : (q : ℕ) → w ≤ 40 → q ≡ placesOf x w e → q ≤ 40 → Digits t
+  number-digits q a g b = record { whole = omega (arith, p .whole); places = rw (places-is, sym g) b }
 
-  pub digits-few : (q : ℕ) → q ≡ placesOf x w e → Digits t → q ≤ 9
-  unfolding writtenBy
-  digits-few q g d = rw (written-is, sym g) at (d .places)
+  pub digits-few : (q : ℕ) → q ≡ placesOf x w e → Digits t → q ≤ 40
+  digits-few q g d = rw (places-is, sym g) at (d .places)
 
   -- the digits before the point, h, and those behind it make one number
   pub value-is : (h v q : ℕ) → h ≡ decimal 0 (part t 0 w) → v ≡ decimal h (part t (e - q) q) → q ≡ placesOf x w e
       → v ≡ decimal (decimal 0 (take w t)) (part t (suc w) q)
   value-is h v q a b g = b ∙ (rw (a, fraction-is t w e q x (p .end) g))
 
-  pub written-parts : (v q : ℕ) → q ≡ placesOf x w e → v ≡ decimal (decimal 0 (take w t)) (part t (suc w) q)
-      → record { digits = v; places = q; point = x; suffix = z } ≡ writtenAt t
+  -- with no exponent
+  pub written-parts : (v q : ℕ) → k ≡ 0 → q ≡ placesOf x w e → v ≡ decimal (decimal 0 (take w t)) (part t (suc w) q)
+      → record { digits = v; places = q; point = x; exponent = false; suffix = z } ≡ writtenAt t
   unfolding writtenBy
-  written-parts v q g d = sym (written-is ∙ (rw (sym g, sym d)))
+  written-parts v q f g d = sym (written-is ∙ (rw (power-none t e (sym (p .power) ∙ f), sym g, sym d, or-false x)))
 
--- the digit limits of 01 bound the place where they end
-pub digits-soon : (t : List ℕ) (w : ℕ) (x : Bool) → w ≡ run isDigit t → x ≡ pointAt t w → Digits t → pastFraction x t w ≤ 20
-digits-soon t w x a b d =
-    let e = pastFraction x t w in
-    let z = suffixAt t e in
-    let p : Parts t w x e z (pastSuffix z e) = record { whole = a; point = b; end = refl; suffix = refl; next = refl } in
-    omega (arith, fraction-few t w x (digits-few p _ refl d), d .whole)
+  -- what a long one says of itself
+  pub written-point : writtenAt t .point ≡ (x || ltb 0 k)
+  unfolding writtenBy
+  written-point = rw (written-is, some)
+
+  pub written-suffix : writtenAt t .suffix ≡ z
+  unfolding writtenBy
+  written-suffix = rw written-is
+
+  -- with neither it is its digits before the point
+  pub written-whole : x ≡ false → k ≡ 0 → writtenAt t .digits ≡ decimal 0 (take w t)
+  unfolding writtenBy placesOf decimal
+  written-whole f g = rw (written-is, power-none t e (sym (p .power) ∙ g), f)
+
+  pub written-plain : writtenAt t .point ≡ false → writtenAt t .digits ≡ decimal 0 (part t 0 w)
+  written-plain h =
+      let a = both-false x (ltb 0 k) (sym written-point ∙ h) in
+      written-whole (a .0) (let y = ltb-false 0 k (a .1) in omega arith)
+
+  -- multiplied out
+  pub written-up : eqb (getD t (suc e) 0) 45 ≡ false → (q : ℕ) → q ≡ placesOf x w e → (u : ℕ) → u ≡ decimal 0 (part t (powerFrom t e) k)
+      → (writtenAt t .digits ≡ decimal (decimal 0 (part t 0 w)) (part t (e - q) q) * 10 ^ u) × (writtenAt t .places ≡ q + 0)
+  unfolding writtenBy
+  written-up h q g u f =
+      let y = power-up t e k (decimal (decimal 0 (take w t)) (part t (suc w) q)) q (p .power) h in
+      rw (written-is, sym g, fraction-is t w e q x (p .end) g, f) y
+
+  pub written-down : eqb (getD t (suc e) 0) 45 ≡ true → (q : ℕ) → q ≡ placesOf x w e → (u : ℕ) → u ≡ decimal 0 (part t (powerFrom t e) k)
+      → (writtenAt t .digits ≡ decimal (decimal 0 (part t 0 w)) (part t (e - q) q) * 10 ^ 0) × (writtenAt t .places ≡ q + u)
+  unfolding writtenBy
+  written-down h q g u f =
+      let y = power-down t e k (decimal (decimal 0 (take w t)) (part t (suc w) q)) q (p .power) h in
+      rw (written-is, sym g, fraction-is t w e q x (p .end) g, f) y
+
+-- the digit limits bound the place where they end
+fraction-few : (t : List ℕ) (w : ℕ) (x : Bool) → placesOf x w (pastFraction x t w) ≤ 40 → pastFraction x t w ≤ w + 41
+unfolding pastFraction placesOf
+fraction-few t w true h = omega arith
+fraction-few t w false h = omega arith
+
+pub digits-soon : (t : List ℕ) (w : ℕ) (x : Bool) → w ≡ run isDigit t → x ≡ pointAt t w → Digits t → pastFraction x t w ≤ 81
+unfolding placesAt
+digits-soon t w x a b d = omega (arith, fraction-few t w x (rw (sym a, sym b) at (d .places)), d .whole)
 
 -- ---- the first byte decides
 

@@ -1,4 +1,3 @@
-pub mod NumberLaws
 pub mod LexLaws
 pub mod WholeLaws
 pub mod TokenLaws

@@ -1,8 +1,8 @@
 -- What holds of each token that a text begins with: its bytes stand in the text, none of them is foreign, and its kind has its size.
 -- Assumes nothing.
-use Prim.Native.Nat.{ℕ, suc, _+_, _-_, _^_, _≤_, _<_}
+use Prim.Native.Nat.{ℕ, zero, suc, _+_, _-_, _^_, _≤_, _<_}
 use mathlib.Core.List.{List, [], _∷_}
-use mathlib.Core.Bool.{Bool, true, false, _&&_, _||_, not}
+use mathlib.Core.Bool.{Bool, true, false, _&&_, _||_, not, cond}
 use mathlib.Core.Path.{_≡_, refl, sym, _∙_, subst}
 use native.Mathlib.Omega.{arith}
 use lib.Dec.{eqb, ltb}
@@ -13,10 +13,12 @@ use Rattle.text.specs.Bytes.{bytes, run, part, oneOf, within, isUpper, isLetter
 use Rattle.text.specs.Bytes.{isName, isInside, isBlank, isForeign, decimal, among}
 use Rattle.text.proofs.ByteLaws.{run-at, run-le, run-in, within-is}
 use Rattle.token.specs.Token.{Kind, name, number, quoted, mark, Lexeme, bad, piece, nameAt, pointAt}
+use Rattle.token.specs.Token.{powerFrom, powerSize, pastPower}
 use Rattle.token.specs.Token.{pastFraction, suffixAt, pastSuffix, clings, placesOf, numberAt, quotedAt, lexeme}
-use Rattle.token.proofs.NumberLaws.{run-in-at, digits-small, ten-fits, whole-small}
+use Rattle.limbs.proofs.NumberLaws.{run-in-at, digits-small, ten-fits, whole-small}
 use Rattle.token.proofs.LexLaws.{Parts, inside, run-fits, name-is, quoted-is, point-inside, suffix-inside}
-use Rattle.token.proofs.LexLaws.{fraction-run, fraction-is, number-clings, number-long, number-fine, lex-is}
+use Rattle.token.proofs.LexLaws.{fraction-run, fraction-is, number-clings, number-long, number-written, lex-is}
+use Rattle.token.proofs.LexLaws.{PowerIs, power-is, from-low, past-none, past-some}
 
 -- ---- classes of bytes with no foreign byte
 
@@ -78,10 +80,11 @@ name-clean b h =
 
 -- a byte of a name or a number
 abbrev pub isWordByte : ℕ → Bool
-isWordByte b = isName b || eqb b 46
+isWordByte b = isName b || among ".+-" b
 
 word-clean : (b : ℕ) → isWordByte b ≡ true → isForeign b ≡ false
-word-clean b h = either (isName b) (eqb b 46) (λ e. name-clean b e) (λ e. is-clean b 46 refl e) h
+unfolding every oneOf
+word-clean b h = either (isName b) (among ".+-" b) (λ e. name-clean b e) (λ e. set-clean (bytes ".+-") b refl e) h
 
 name-word : (b : ℕ) → isName b ≡ true → isWordByte b ≡ true
 name-word b h = rw h
@@ -113,7 +116,7 @@ upto P w r low here high j h = go (ltb j w) refl (eqb j w) refl
 -- what a kind of n bytes is: a mark is not the text's end
 abbrev pub Fits : Kind → ℕ → Type 0
 Fits (name w) n = length w ≡ n
-Fits (number w) n = (w .places ≤ 9) × (w .digits < 10 ^ 19)
+Fits (number w) n = Unit {0}
 Fits (quoted m) n = n ≡ m + 2
 Fits (mark b) n = eqb b 0 ≡ false
 
@@ -202,13 +205,24 @@ abbrev Word : List ℕ → ℕ → Type 0
 Word t j = isWordByte (getD t j 0) ≡ true
 
 module _ (t : List ℕ) (w : ℕ) (fits : w ≤ length t) (digits : (j : ℕ) → j < w → Word t j) where
+  -- what holds below m, and at r places from there on
+  along : (m r : ℕ) → ((j : ℕ) → j < m → Word t j) → ((i : ℕ) → i < r → Word t (m + i)) → (j : ℕ) → j < m + r → Word t j
+  along m r a b j h = go (ltb j m) refl
+    where
+      go : (x : Bool) → ltb j m ≡ x → Word t j
+      go true e = a j (ltb-true j m e)
+      go false e =
+          let l = ltb-false j m e in
+          let z : m + (j - m) ≡ j = omega arith in
+          rw z at (b (j - m) (omega arith))
+
   record Fraction (e : ℕ) : Type 0 where
     low : w ≤ e
     high : e ≤ length t
     words : (j : ℕ) → j < e → Word t j
 
   fraction-whole : (x : Bool) → pointAt t w ≡ x → Fraction (pastFraction x t w)
-  unfolding pastFraction pointAt
+  unfolding pastFraction pointAt oneOf
   fraction-whole false h = record { low = omega arith; high = fits; words = digits }
   fraction-whole true h = record {
     low = omega arith;
@@ -223,6 +237,43 @@ module _ (t : List ℕ) (w : ℕ) (fits : w ≤ length t) (digits : (j : ℕ) �
         refl)
         (λ i q. digit-word (getD t (suc w + i) 0) (run-in-at isDigit t (suc w) i q));
   }
+
+  sign-word : (b : ℕ) → among "+-" b ≡ true → isWordByte b ≡ true
+  unfolding every oneOf
+  sign-word b h = every-in isWordByte (bytes "+-") b refl h
+
+  mark-word : (b : ℕ) → among "eE" b ≡ true → isWordByte b ≡ true
+  unfolding every oneOf
+  mark-word b h = every-in isWordByte (bytes "eE") b refl h
+
+  before-digits : (e : ℕ) → Fraction e → among "eE" (getD t e 0) ≡ true → (j : ℕ) → j < powerFrom t e → Word t j
+  unfolding powerFrom
+  before-digits e f m = go (among "+-" (getD t (suc e) 0)) refl
+    where
+      one : (j : ℕ) → j < e + 1 → Word t j
+      one = along e 1 (f .words) (λ i g. let z : e + i ≡ e = omega arith in rw z (mark-word (getD t e 0) m))
+
+      go : (x : Bool) → among "+-" (getD t (suc e) 0) ≡ x → (j : ℕ) → j < cond x (e + 2) (e + 1) → Word t j
+      go false q j h = one j h
+      go true q j h =
+          along (e + 1) 1 one (λ i g. let z : e + 1 + i ≡ suc e = omega arith in rw z (sign-word (getD t (suc e) 0) q)) j (omega arith)
+
+  -- an exponent: its `e`, a sign or none, its digits
+  power-whole : (e : ℕ) → Fraction e → Fraction (pastPower t e (powerSize t e))
+  power-whole e f = go (powerSize t e) refl
+    where
+      go : (k : ℕ) → powerSize t e ≡ k → Fraction (pastPower t e k)
+      go zero q = rw (past-none t e 0 refl) f
+      go (suc k) q =
+          let p : PowerIs t e (suc k) = rw q at (power-is t e) in
+          let low = from-low t e in
+          rw (past-some t e (suc k) (omega arith))
+          (record {
+            low = omega (arith, f .low, low .0);
+            high = p .two .high (omega arith);
+            words = λ j h. along (powerFrom t e) (suc k) (before-digits e f (p .mark (omega arith)))
+                (λ i g. digit-word (getD t (powerFrom t e + i) 0) (p .two .digits i g)) j h;
+          })
 
   suffix-whole : (e : ℕ) → Fraction e → (z : Bool) → suffixAt t e ≡ z → Fraction (pastSuffix z e)
   unfolding pastSuffix suffixAt
@@ -240,7 +291,7 @@ pub digits-below : (t : List ℕ) (w e q : ℕ) (x : Bool) → e ≡ pastFractio
     → q ≡ placesOf x w e → w ≤ run isDigit t → w ≤ 10 → q ≤ 9
     → decimal (decimal 0 (take w t)) (part t (suc w) q) < 10 ^ 19
 digits-below t w e q x k l h g b =
-    let d = digits-small (drop (e - q) t) q 10 (decimal 0 (take w t)) (whole-small t w (decimal 0 (take w t)) refl h g)
+    let d = digits-small (drop (e - q) t) q 10 (decimal 0 (take w t)) (whole-small t w (decimal 0 (take w t)) 10 refl h g)
     (fraction-run t w e q x k l)
     in
     ten-fits _ _ 19 (rw (fraction-is t w e q x k l) at d) (omega arith)
@@ -249,38 +300,44 @@ number-whole : (t : List ℕ) → isDigit (getD t 0 0) ≡ true → 0 < length t
 number-whole t h z = go (run isDigit t) refl (pointAt t (run isDigit t)) refl
   where
     go : (w : ℕ) → w ≡ run isDigit t → (x : Bool) → x ≡ pointAt t w → WholeOf t (numberAt t)
-    go w k x l = by (clings t (not (x || suffixAt t e)) n) refl (ltb 10 w || ltb 9 (placesOf x w e)) refl
+    go w k x l = by (clings t (not ((x || ltb 0 m) || suffixAt t stop)) n) refl (ltb 40 w || ltb 40 (placesOf x w e)) refl
       where
         e : ℕ
         e = pastFraction x t w
 
+        m : ℕ
+        m = powerSize t e
+
+        stop : ℕ
+        stop = pastPower t e m
+
         n : ℕ
-        n = pastSuffix (suffixAt t e) e
+        n = pastSuffix (suffixAt t stop) stop
 
-        parts : Parts t w x e (suffixAt t e) n
-        parts = record { whole = k; point = l; end = refl; suffix = refl; next = refl }
+        parts : Parts t w x e m (suffixAt t stop) n
+        parts = record { whole = k; point = l; end = refl; power = refl; suffix = refl; next = refl }
 
-        by : (a : Bool) → clings t (not (x || suffixAt t e)) n ≡ a
-            → (b : Bool) → (ltb 10 w || ltb 9 (placesOf x w e)) ≡ b
+        by : (a : Bool) → clings t (not ((x || ltb 0 m) || suffixAt t stop)) n ≡ a
+            → (b : Bool) → (ltb 40 w || ltb 40 (placesOf x w e)) ≡ b
             → WholeOf t (numberAt t)
         by true p b q = rw (number-clings parts p) tt
         by false p true q = rw (number-long parts false p q) tt
         by false p false q =
-            let few = neither (ltb 10 w) (ltb 9 (placesOf x w e)) q in
-            let a = ltb-false 10 w (few .0) in
-            let b = ltb-false 9 (placesOf x w e) (few .1) in
-            let f = suffix-whole t w (omega (arith, run-le isDigit t)) (λ j g. digit-word (getD t j 0) (run-in isDigit t j (omega arith)))
-            e
-            (fraction-whole t w (omega (arith, run-le isDigit t)) (λ j g. digit-word (getD t j 0) (run-in isDigit t j (omega arith))) x
-            (sym l))
-            (suffixAt t e) refl
+            let few = neither (ltb 40 w) (ltb 40 (placesOf x w e)) q in
+            let a = ltb-false 40 w (few .0) in
+            let b = ltb-false 40 (placesOf x w e) (few .1) in
+            let low : w ≤ length t = omega (arith, run-le isDigit t) in
+            let digits : (j : ℕ) → j < w → Word t j = λ j g. digit-word (getD t j 0) (run-in isDigit t j (omega arith)) in
+            let f = suffix-whole t w low digits stop (power-whole t w low digits e (fraction-whole t w low digits x (sym l)))
+            (suffixAt t stop)
+            refl
             in
-            rw (number-fine parts _ _ p a refl b refl)
+            rw (number-written parts _ p a refl b)
             (record {
               some = omega (arith, f .low, run-at isDigit t 0 z h);
               high = f .high;
               clean = λ j q. word-clean (getD t j 0) (f .words j q);
-              fits = (b, digits-below t w e (placesOf x w e) x refl refl (omega arith) a b);
+              fits = tt;
               spelled = f .words;
             })
 

@@ -7,16 +7,19 @@ use mathlib.Core.Bool.{Bool, true, false, _&&_, not, cond}
 use mathlib.Core.Path.{_≡_}
 use lib.Dec.{ltb, eqb}
 use lib.ListN.{length, getD, take, drop, replicate}
-use Rattle.text.specs.Bytes.{run, isDigit}
+use Rattle.text.specs.Limits.{textLimit, wholeLimit, placesLimit}
+use Rattle.text.specs.Bytes.{run, part, decimal, isDigit}
 use Rattle.text.specs.Words.{words}
 use Rattle.number.specs.Number.{Written}
-use Rattle.token.specs.Token.{Kind, name, number, quoted, mark, Token, token, Lexeme, bad, piece, writtenAt}
+use Rattle.number.specs.Answer.{Capped}
+use Rattle.token.specs.Token.{Kind, name, number, quoted, mark, Token, token, Lexeme, bad, piece, writtenAt, placesAt}
 use Rattle.token.specs.Token.{tokensFrom, place, kind, isMark, rest}
 use Rattle.error.specs.declared.Refusal.{Refusal}
 use Rattle.error.specs.declared.Refusal.the-variants.{BadForm, TooManyDigits, TooManyOpen, ScratchTooShort}
 use Rattle.token.specs.Split.{Nest, unfit, awaits, closer, nestMark, Split, unlexed, tokens, splitFrom, split}
 use Rattle.token.specs.Names.{keywords}
 use Rattle.token.specs.declared.Number.{Number}
+use Rattle.token.specs.declared.Figures.{Figures}
 use Rattle.token.specs.declared.Tok.{Tok}
 use Rattle.token.specs.declared.Tok.the-variants as tok
 use Rattle.token.specs.declared.Cut.{Cut}
@@ -35,9 +38,6 @@ use Rattle.token.specs.declared.Fit.the-variants as fit
 
 -- ---- a token
 
-abbrev pub writtenOf : Number → Written
-writtenOf n = record { digits = n .digits; places = n .places; point = n .point; suffix = n .suffix }
-
 -- the kind that a token of n bytes is, t being the text from its start on
 abbrev pub kindOf : List ℕ → ℕ → Tok → Kind
 kindOf t n tok.Name = name (take n t)
@@ -51,15 +51,44 @@ kindOf t n (tok.Mark b) = mark b
 abbrev pub excessOf : Bool → Refusal
 excessOf clings = cond clings BadForm TooManyDigits
 
--- what the digit limits of 01 leave of the number that t begins with
+-- what the digit limits leave of the number that t begins with
 pub record Digits (t : List ℕ) : Type 0 where
-  pub whole : run isDigit t ≤ 10
-  pub places : writtenAt t .places ≤ 9
+  pub whole : run isDigit t ≤ wholeLimit
+  pub places : placesAt t ≤ placesLimit
 
--- and of the number that the code makes of it
-pub record Small (n : Number) : Type 0 where
-  pub places : n .places ≤ 9
-  pub digits : n .digits < 10 ^ 19
+-- what the code has of the number w; of a long one, the whole number alone
+pub record Reads (w : Written) (n : Number) : Type 0 where
+  pub point : n .point ≡ w .point
+  pub suffix : n .suffix ≡ w .suffix
+  pub few : n .places ≤ 9
+  pub digits : n .long ≡ false → n .digits ≡ w .digits
+  pub places : n .long ≡ false → n .places ≡ w .places
+  pub whole : n .point ≡ false → Capped (n .digits) (w .digits)
+
+abbrev pub NumberIs : List ℕ → Number → Type 0
+NumberIs t n = Reads (writtenAt t) n
+
+-- the number that stands in a text where the code says
+abbrev pub writtenIn : List ℕ → Number → Written
+writtenIn s n = writtenAt (drop (n .at) s)
+
+pub record Known (s : List ℕ) (n : Number) : Type 0 where
+  pub inside : n .at ≤ length s
+  pub short : length s ≤ textLimit
+  pub limits : Digits (drop (n .at) s)
+  pub is : NumberIs (drop (n .at) s) n
+
+-- the digits of the number that t begins with
+pub record FiguresAre (t : List ℕ) (d : Figures) : Type 0 where
+  pub w : d .w ≤ run isDigit t
+  pub q : d .q ≤ run isDigit (drop (d .from) t)
+  pub w-few : d .w ≤ wholeLimit
+  pub q-few : d .q ≤ placesLimit
+  pub up : d .up ≤ 99
+  pub down : d .down ≤ 99
+  pub digits : writtenAt t .digits ≡ decimal (decimal 0 (part t 0 (d .w))) (part t (d .from) (d .q)) * 10 ^ d .up
+  pub places : writtenAt t .places ≡ d .q + d .down
+  pub whole : writtenAt t .point ≡ false → writtenAt t .digits ≡ decimal 0 (part t 0 (d .w))
 
 -- what else is known of a token of n bytes that t begins with; of the end, a mark 0, nothing
 abbrev pub Stands : List ℕ → ℕ → Tok → Type 0

@@ -1,10 +1,11 @@
 -- 01, "Text rules": the token that a text begins with, and the tokens from a place on. Assumes nothing.
-use Prim.Native.Nat.{ℕ, zero, suc, _+_, _-_}
+use Prim.Native.Nat.{ℕ, zero, suc, _+_, _-_, _*_, _^_}
 use Prim.Native.Char.{code}
 use mathlib.Core.Bool.{Bool, true, false, _&&_, _||_, not, cond}
 use mathlib.Core.List.{List, [], _∷_}
 use lib.Dec.{ltb, eqb}
 use lib.ListN.{take, drop}
+use Rattle.text.specs.Limits.{wholeLimit, placesLimit, powerLimit}
 use Rattle.text.specs.Bytes.{at, run, part, among, decimal, isDigit, isLetter, isName, isBlank, isInside}
 use Rattle.number.specs.Number.{Written}
 use Rattle.error.specs.declared.Refusal.{Refusal}
@@ -58,30 +59,94 @@ clings t plain n = isName (at t n) || (plain && eqb (at t n) (code ".") && not (
 unfoldable pub placesOf : Bool → ℕ → ℕ → ℕ
 placesOf point w end = cond point (end - suc w) 0
 
--- the number of w digits, a point and more digits up to end or not, an `s` or not
-unfoldable pub writtenBy : List ℕ → ℕ → Bool → ℕ → Bool → Written
-writtenBy t w point end s = record {
-  digits = decimal (decimal 0 (take w t)) (part t (suc w) (placesOf point w end));
-  places = placesOf point w end;
-  point = point;
+-- ---- 02 (n): "after these an `e` or `E`, a sign or none, and one or two digits"
+
+-- none; or its number, to multiply by that power of ten, or to divide
+pub data Power : Type 0 where
+  none : Power
+  up : ℕ → Power
+  down : ℕ → Power
+
+-- where the digits of an exponent at n begin
+unfoldable pub powerFrom : List ℕ → ℕ → ℕ
+powerFrom t n = cond (among "+-" (at t (suc n))) (n + 2) (n + 1)
+
+-- how many of the digits at m are an exponent's
+unfoldable pub powerDigits : List ℕ → ℕ → ℕ
+powerDigits t m = let n = run isDigit (drop m t) in cond (ltb powerLimit n) powerLimit n
+
+-- how many digits an exponent at n has; where there is none, none. An `e` without digits, as a third digit, is then a following name
+-- character: "2 an exponent without digits or with three".
+unfoldable pub powerSize : List ℕ → ℕ → ℕ
+powerSize t n = cond (among "eE" (at t n)) (powerDigits t (powerFrom t n)) 0
+
+-- the exponent at n, its number having k digits
+unfoldable pub powerBy : List ℕ → ℕ → ℕ → Power
+powerBy t n zero = none
+powerBy t n (suc k) =
+    let e = decimal 0 (part t (powerFrom t n) (suc k)) in
+    cond (eqb (at t (suc n)) (code "-")) (down e) (up e)
+
+unfoldable pub powerAt : List ℕ → ℕ → Power
+powerAt t n = powerBy t n (powerSize t n)
+
+unfoldable pub pastPower : List ℕ → ℕ → ℕ → ℕ
+pastPower t n zero = n
+pastPower t n (suc k) = powerFrom t n + suc k
+
+abbrev pub isPower : Power → Bool
+isPower none = false
+isPower (up e) = true
+isPower (down e) = true
+
+-- "multiplied out": the digits d, and p of them behind the point
+abbrev pub times : Power → ℕ → ℕ
+times none d = d
+times (up e) d = d * 10 ^ e
+times (down e) d = d
+
+abbrev pub over : Power → ℕ → ℕ
+over none p = p
+over (up e) p = p
+over (down e) p = p + e
+
+-- ---- numbers
+
+-- the number of w digits, a point and more digits up to end or not, an exponent or not, an `s` or not
+unfoldable pub writtenBy : List ℕ → ℕ → Bool → ℕ → Power → Bool → Written
+writtenBy t w point end x s = record {
+  digits = times x (decimal (decimal 0 (take w t)) (part t (suc w) (placesOf point w end)));
+  places = over x (placesOf point w end);
+  point = point || isPower x;
+  exponent = isPower x;
   suffix = s;
 }
 
--- "More than 10 digits before or 9 after the point, leading zeros counted: refusal 3. Both: 2."
--- w digits, a point and more digits up to end or not, an `s` or not, up to n
-unfoldable pub numberBy : List ℕ → ℕ → Bool → ℕ → Bool → ℕ → Lexeme
-numberBy t w point end s n =
-    cond (clings t (not (point || s)) n) (bad BadForm)
-    (cond (ltb 10 w || ltb 9 (placesOf point w end)) (bad TooManyDigits) (piece (number (writtenBy t w point end s)) n))
+-- "More than 10 digits before or 9 after the point, leading zeros counted: refusal 3. Both: 2."; 02 (n): "up to 40 digits before and 40
+-- after the point"
+-- w digits, a point and more digits up to end or not, an exponent or not, an `s` or not, up to n
+unfoldable pub numberBy : List ℕ → ℕ → Bool → ℕ → Power → Bool → ℕ → Lexeme
+numberBy t w point end x s n =
+    cond (clings t (not ((point || isPower x) || s)) n) (bad BadForm)
+    (cond (ltb wholeLimit w || ltb placesLimit (placesOf point w end)) (bad TooManyDigits) (piece (number (writtenBy t w point end x s)) n))
 
--- "A number is 1 or more digits, then possibly a point and 1 or more digits, then possibly a single `s`."
+-- "A number is 1 or more digits, then possibly a point and 1 or more digits, then possibly a single `s`."; 02 (n): "after these" an
+-- exponent, "the suffix `s` last"
 unfoldable pub numberAt : List ℕ → Lexeme
 numberAt t =
     let w = run isDigit t in
     let point = pointAt t w in
     let end = pastFraction point t w in
-    let s = suffixAt t end in
-    numberBy t w point end s (pastSuffix s end)
+    let stop = pastPower t end (powerSize t end) in
+    let s = suffixAt t stop in
+    numberBy t w point end (powerAt t end) s (pastSuffix s stop)
+
+-- how many digits it has behind its point
+unfoldable pub placesAt : List ℕ → ℕ
+placesAt t =
+    let w = run isDigit t in
+    let point = pointAt t w in
+    placesOf point w (pastFraction point t w)
 
 -- the number that a text begins with, whatever follows it
 unfoldable pub writtenAt : List ℕ → Written
@@ -89,7 +154,7 @@ writtenAt t =
     let w = run isDigit t in
     let point = pointAt t w in
     let end = pastFraction point t w in
-    writtenBy t w point end (suffixAt t end)
+    writtenBy t w point end (powerAt t end) (suffixAt t (pastPower t end (powerSize t end)))
 
 -- "A string holds printable ASCII without `"` and `\`. Any other byte, no closing `"` or a name character right after it: 2, at its opening
 -- `"`."

@@ -5,24 +5,33 @@
 ghost use mathlib.Core.Path.{_≡_};
 ghost use mathlib.Core.Bool.{true, false, not, _||_};
 ghost use mathlib.Core.List.{List, [], _++_};
-ghost use Prim.Native.Nat.{ℕ, _-_, _^_, _≤_, _<_};
-ghost use lib.ListN.{length, drop, replicate};
+ghost use Prim.Native.Nat.{ℕ, _+_, _*_, _-_, _^_, _≤_, _<_};
+ghost use lib.ListN.{length, take, drop, replicate};
+ghost use Rattle.number.specs.Number.{nearest, percent};
+ghost use Rattle.number.specs.Answer.{Capped};
+ghost use Rattle.limbs.specs.Means.{Nearest};
+ghost use Rattle.number.specs.Rounded.{fraction, rounded, numberRounded};
 ghost use Rattle.text.specs.Limits.{textLimit};
 ghost use Rattle.text.specs.Bytes.{bytes, run, part, oneOf, among, decimal, isDigit};
-ghost use Rattle.token.specs.Token.{nameAt, pointAt, pastFraction, suffixAt, pastSuffix, clings, placesOf, numberAt, quotedAt, writtenAt, lexeme};
+ghost use Rattle.token.specs.Token.{nameAt, pointAt, pastFraction, suffixAt, pastSuffix, clings, placesOf, powerFrom, powerDigits, powerSize, pastPower, numberAt, quotedAt, writtenAt, lexeme};
 ghost use Rattle.token.specs.Split.{awaits, closer, closed, nestMark, nest, ended, split};
 ghost use Rattle.text.specs.Words.{isOneOf};
 ghost use Rattle.token.specs.Names.{isKeyword};
-ghost use Rattle.token.specs.Means.{writtenOf, kindOf, excessOf, Digits, Small, CutMeans, lexedOf, Lexes, held, afterOpener, DepthMeans, answerOf, wideAnswer, answerFrom, TurnMeans, splitOutcome, splitting, nestByte, quotedBy, isClosed, nestsFrom, Skips, FitMeans, pack, upTo4, upTo7, packedKeywords, longKeywords};
+ghost use Rattle.token.specs.Means.{kindOf, excessOf, Digits, NumberIs, FiguresAre, writtenIn, Known, CutMeans, lexedOf, Lexes, held, afterOpener, DepthMeans, answerOf, wideAnswer, answerFrom, TurnMeans, splitOutcome, splitting, nestByte, quotedBy, isClosed, nestsFrom, Skips, FitMeans, pack, upTo4, upTo7, packedKeywords, longKeywords};
 use error::Refusal;
+use number::Bits;
+use number::Stored;
 use text::Class;
 
-// A written number: digits / 10^places.
+// A written number at a place: digits / 10^places, unless it is long; `point` says that a point or an exponent is written. A long one is
+// made of the text where it is wanted, and has here its whole number up to 4,294,967,295, or one above that.
 pub struct Number {
     pub digits: u64,
     pub places: usize,
+    pub at: u16,
     pub point: bool,
     pub suffix: bool,
+    pub long: bool,
 }
 
 // What a token is. Mark 0 is the end.
@@ -93,6 +102,52 @@ fn past_fraction(t: &[u8], w: u16, point: bool) -> u16
         return text::run_end(t, w as usize + 1, Class::Digit) as u16;
     }
     w
+}
+
+// Where the digits of an exponent at n begin.
+fn power_from(t: &[u8], n: u16) -> u16
+    requires { ⌜ n ≤ textLimit ⌝ }
+    ensures { λ r. ⌜ r ≡ powerFrom (now (t .entry)) n ⌝ }
+{
+    let b = text::byte_at(t, n as usize + 1);
+    if (b == b'+') | (b == b'-') {
+        return n + 2;
+    }
+    n + 1
+}
+
+// How many digits of an exponent stand at m.
+fn power_digits(t: &[u8], m: u16) -> u16
+    ensures { λ r. ⌜ r ≡ powerDigits (now (t .entry)) m ⌝ }
+{
+    let n = text::run_end(t, m as usize, Class::Digit) - m as usize;
+    if (text::POWER_LIMIT as usize) < n {
+        return text::POWER_LIMIT;
+    }
+    n as u16
+}
+
+// How many digits an exponent at n has; 0 where there is none.
+fn power_size(t: &[u8], n: u16) -> u16
+    requires { ⌜ n ≤ textLimit ⌝ }
+    ensures { λ r. ⌜ r ≡ powerSize (now (t .entry)) n ⌝ }
+{
+    let b = text::byte_at(t, n as usize);
+    if (b == b'e') | (b == b'E') {
+        return power_digits(t, power_from(t, n));
+    }
+    0
+}
+
+// The place behind an exponent at n with so many digits.
+fn past_power(t: &[u8], n: u16, size: u16) -> u16
+    requires { ⌜ (n ≤ textLimit) × (size ≤ 2) ⌝ }
+    ensures { λ r. ⌜ r ≡ pastPower (now (t .entry)) n size ⌝ }
+{
+    if size == 0 {
+        return n;
+    }
+    power_from(t, n) + size
 }
 
 fn has_suffix(t: &[u8], end: u16) -> bool
@@ -175,11 +230,13 @@ fn number_at(t: &[u8]) -> Cut
     let w = text::run_end(t, 0, Class::Digit) as u16;
     let point = has_point(t, w);
     let end = past_fraction(t, w, point);
-    let suffix = has_suffix(t, end);
-    let n = past_suffix(t, suffix, end);
+    let power = power_size(t, end);
+    let stop = past_power(t, end, power);
+    let suffix = has_suffix(t, stop);
+    let n = past_suffix(t, suffix, stop);
     let places = places_of(point, w, end);
-    let many = (10 < w) | (9 < places);
-    let clings = clinging(t, point, suffix, n);
+    let many = (text::WHOLE_LIMIT < w) | (text::PLACES_LIMIT < places);
+    let clings = clinging(t, point | (0 < power), suffix, n);
     if many {
         return Cut::Bad(excess(clings));
     }
@@ -189,24 +246,203 @@ fn number_at(t: &[u8]) -> Cut
     Cut::Piece(Tok::Num, n)
 }
 
-// The number that a text begins with.
-pub fn number_of(t: &[u8]) -> Number
+// v and a digit behind it, unless v is above 4,294,967,295.
+fn grown(v: u64, d: u64) -> u64
+    requires { ⌜ d ≤ 9 ⌝ }
+    ensures { λ r. ⌜ (v ≤ 4294967295 → r ≡ v * 10 + d) × (4294967295 < v → r ≡ v) ⌝ }
+{
+    if v <= 4294967295 {
+        return v * 10 + d;
+    }
+    v
+}
+
+// The w digits that a text begins with, up to 4,294,967,295, or a number above that where they are more.
+fn capped(t: &[u8], w: u16) -> u64
+    requires { ⌜ w ≤ run isDigit (now t) ⌝ }
+    ensures { λ r. ⌜ Capped r (decimal 0 (take w (now (t .entry)))) ⌝ }
+{
+    let mut v: u64 = 0;
+    let mut i: u16 = 0;
+    while i < w {
+        v = grown(v, (t[i as usize] - b'0') as u64);
+        i += 1;
+    }
+    v
+}
+
+// A number's digits: w from its start on, q more from `from` on, over 10^q; and the exponent, up or down.
+struct Figures {
+    w: u16,
+    from: u16,
+    q: u16,
+    up: u16,
+    down: u16,
+}
+
+// The number of an exponent at n with so many digits.
+fn power_of(t: &[u8], n: u16, size: u16) -> u16
+    requires { ⌜ (n ≤ textLimit) × (size ≡ powerSize (now t) n) ⌝ }
+    ensures { λ r. ⌜ r ≡ decimal 0 (part (now (t .entry)) (powerFrom (now (t .entry)) n) size) ⌝ }
+{
+    if size == 0 {
+        return 0;
+    }
+    value(t, 0, power_from(t, n), size) as u16
+}
+
+fn figures_of(t: &[u8]) -> Figures
     requires { ⌜ Digits (now t) ⌝ }
-    ensures { λ r. ⌜ (writtenOf r ≡ writtenAt (now (t .entry))) × Small r ⌝ }
+    ensures { λ r. ⌜ FiguresAre (now (t .entry)) r ⌝ }
 {
     let w = text::run_end(t, 0, Class::Digit) as u16;
     let point = has_point(t, w);
     let end = past_fraction(t, w, point);
-    let suffix = has_suffix(t, end);
+    let power = power_size(t, end);
+    let q = places_of(point, w, end);
+    let from = end - q;
+    let e = power_of(t, end, power);
+    if text::byte_at(t, end as usize + 1) == b'-' {
+        return Figures {
+            w,
+            from,
+            q,
+            up: 0,
+            down: e,
+        };
+    }
+    Figures {
+        w,
+        from,
+        q,
+        up: e,
+        down: 0,
+    }
+}
+
+// A number that is no short one: multiplied out where the digits fit in 64 bits, or long.
+fn stretched(t: &[u8], at: u16, point: bool, suffix: bool) -> Number
+    requires { ⌜ Digits (now t) × (point ≡ writtenAt (now t) .point) × (suffix ≡ writtenAt (now t) .suffix) ⌝ }
+    ensures { λ r. ⌜ (r .at ≡ at) × NumberIs (now (t .entry)) r ⌝ }
+{
+    let d = figures_of(t);
+    let places = d.q + d.down;
+    if (d.up <= 9) & (d.w + d.q + d.up <= 19) & (places <= 9) {
+        let whole = value(t, 0, 0, d.w);
+        let digits = value(t, whole, d.from, d.q) * number::ten_to(d.up as usize);
+        return Number {
+            digits,
+            places: places as usize,
+            at,
+            point,
+            suffix,
+            long: false,
+        };
+    }
+    let least = capped(t, d.w);
+    Number {
+        digits: least,
+        places: 0,
+        at,
+        point,
+        suffix,
+        long: true,
+    }
+}
+
+// The number that a text begins with, which stands at `at`.
+pub fn number_of(t: &[u8], at: u16) -> Number
+    requires { ⌜ Digits (now t) ⌝ }
+    ensures { λ r. ⌜ (r .at ≡ at) × NumberIs (now (t .entry)) r ⌝ }
+{
+    let w = text::run_end(t, 0, Class::Digit) as u16;
+    let point = has_point(t, w);
+    let end = past_fraction(t, w, point);
+    let power = power_size(t, end);
+    let stop = past_power(t, end, power);
+    let suffix = has_suffix(t, stop);
     let places = places_of(point, w, end);
+    let exponent = 0 < power;
+    if (10 < w) | (9 < places) | exponent {
+        return stretched(t, at, point | exponent, suffix);
+    }
     let whole = value(t, 0, 0, w);
     let digits = value(t, whole, end - places, places);
     Number {
         digits,
         places: places as usize,
+        at,
         point,
         suffix,
+        long: false,
     }
+}
+
+// ---- the values of a number
+
+// The bits of the f32 nearest to the digits of the number that a text begins with, over 10^down, and whether it is another number.
+fn long_bits(t: &[u8], d: Figures, down: usize) -> Bits
+    requires { ⌜ FiguresAre (now t) d × (down ≤ 141) ⌝ }
+    ensures { λ r. ⌜ Nearest (writtenAt (now (t .entry)) .digits) (10 ^ down) r × (r .bits < 2147483648) ⌝ }
+{
+    limbs::decimal(
+        t,
+        d.w as usize,
+        d.from as usize,
+        d.q as usize,
+        d.up as usize,
+        down,
+    )
+}
+
+// The f32 nearest to the number that a text begins with, and whether it is another number.
+fn long_float(t: &[u8], negative: bool) -> Stored
+    requires { ⌜ Digits (now t) ⌝ }
+    ensures value { λ r. ⌜ r .value ≡ nearest negative (writtenAt (now (t .entry))) ⌝ }
+    ensures rounded { λ r. ⌜ r .rounded ≡ numberRounded negative (writtenAt (now (t .entry))) ⌝ }
+{
+    let d = figures_of(t);
+    let down = d.q as usize + d.down as usize;
+    let b = long_bits(t, d, down);
+    number::signed(negative, b)
+}
+
+// The percent of so many as a text begins with, and whether it is another number.
+fn long_percent(t: &[u8], negative: bool) -> Stored
+    requires { ⌜ Digits (now t) ⌝ }
+    ensures value { λ r. ⌜ r .value ≡ percent negative (writtenAt (now (t .entry)) .digits) ⌝ }
+    ensures rounded { λ r. ⌜ r .rounded ≡ rounded (percent negative (writtenAt (now (t .entry)) .digits)) (fraction negative (writtenAt (now (t .entry)) .digits) 100) ⌝ }
+{
+    let d = figures_of(t);
+    let a = long_bits(t, d, 0);
+    let b = long_bits(t, d, 2);
+    let x = number::signed(negative, a);
+    let once = number::signed(negative, b);
+    number::percent_from(x, once)
+}
+
+// The f32 nearest to a number of a text, and whether it is another number.
+pub fn float_of(text: &[u8], negative: bool, n: Number) -> Stored
+    requires { ⌜ Known (now text) n ⌝ }
+    ensures value { λ r. ⌜ r .value ≡ nearest negative (writtenIn (now (text .entry)) n) ⌝ }
+    ensures rounded { λ r. ⌜ r .rounded ≡ numberRounded negative (writtenIn (now (text .entry)) n) ⌝ }
+{
+    if n.long {
+        return long_float(&text[n.at as usize..], negative);
+    }
+    number::decimal(negative, n.digits, n.places)
+}
+
+// The percent of so many, and whether it is another number.
+pub fn percent_of(text: &[u8], negative: bool, n: Number) -> Stored
+    requires { ⌜ Known (now text) n ⌝ }
+    ensures value { λ r. ⌜ r .value ≡ percent negative (writtenIn (now (text .entry)) n .digits) ⌝ }
+    ensures rounded { λ r. ⌜ r .rounded ≡ rounded (percent negative (writtenIn (now (text .entry)) n .digits)) (fraction negative (writtenIn (now (text .entry)) n .digits) 100) ⌝ }
+{
+    if n.long {
+        return long_percent(&text[n.at as usize..], negative);
+    }
+    number::percent(negative, n.digits)
 }
 
 fn is_mark(b: u8) -> bool

@@ -363,10 +363,11 @@ module _ {form : Form} (complete : Complete form) (u : List ℕ) where
   pub at-fits : LeafFits parseAt
   unfolding parseAt leafBody
   at-fits = record {
-    runs = λ q h.
-        run.then (sign-runs q h) (λ v m g x.
+    runs = λ q h b.
+        run.then (run.carries (sign-runs q h)) (λ v m g s.
+        let x = s .0 in
         run.then (tokens.a-number g Malformed) (λ w n f y.
-        let number = rw (y .lexed) at (lexeme-fine (drop (y .start) u)) in
+        let number : InText (w .1) = (rw (y .lexed) at (lexeme-fine (drop (y .start) u))) (y .free (s .1 b)) in
         run.tallies (numberRounded (turned (v .1) (w .0)) (w .1))
         (run.and (tokens.eats f 59 refl) (λ o i c z.
         run.gives i (at-written (v .0) (v .1) (w .0) (w .1) number (λ e. (x .minus e, y .plain (x .next e))) ▸ semi)))));

@@ -228,11 +228,16 @@ module _ {form : Form} (complete : Complete form) (u : List ℕ) where
 
   block-fits : (d : ℕ) → Always u (block d) NodesFit
   unfolding block
-  block-fits zero = record { runs = λ q h. record { run = λ l. none-allowed .runs q h .run l } }
+  block-fits zero = record {
+    runs = λ q h b. record { run = λ l. none-allowed .runs q h b .run l; keeps = λ l. none-allowed .runs q h b .keeps l };
+  }
     where
       none-allowed : Always u (if (sees "{") (refuse TooManyNested) (refuse Missing)) NodesFit
       none-allowed = tests (sees "{") refuses refuses
-  block-fits (suc d) = record { runs = λ q h. record { run = λ l. in-braces (block-fits d) .runs q h .run l } }
+  block-fits (suc d) = record {
+    runs = λ q h b.
+        record { run = λ l. in-braces (block-fits d) .runs q h b .run l; keeps = λ l. in-braces (block-fits d) .runs q h b .keeps l };
+  }
     where
       in-braces : Always u (block d) NodesFit → Always u (inside "{" (repeat (nodesStep (block d)) Nodes.none)) NodesFit
       in-braces x = in-group 123 refl (nodes-fit (block d) x)

@@ -75,13 +75,13 @@ pub record NameIn (u : List ℕ) (x : ℕ × List ℕ) : Type 0 where
 
 module _ {u : List ℕ} where
   pub a-name : Always u word (NameIn u)
-  a-name = record { runs = λ q h. run.weaken (tokens.a-word h) (λ x m w. go x m w) }
+  a-name = record { runs = λ q h b. run.weaken (tokens.a-word h) (λ x m w. go x m w) }
     where
       go : {q : ℕ} (x : ℕ × List ℕ) (m : ℕ) → tokens.Word u q x m → NameIn u x
       go x m w = let y = rw (w .lexed) at (lexeme-fine (drop (x .0) u)) in record { bytes = y .1; word = y .0; plain = w .plain }
 
   a-string : Always u text (λ x. all isInside (part u (x .0) (x .1)) ≡ true)
-  a-string = record { runs = λ q h. run.weaken (tokens.a-text h) (λ x m w. go x m w) }
+  a-string = record { runs = λ q h b. run.weaken (tokens.a-text h) (λ x m w. go x m w) }
     where
       go : {q : ℕ} (x : ℕ × ℕ) (m : ℕ) → tokens.Text u q x m → all isInside (part u (x .0) (x .1)) ≡ true
       go x m w =
@@ -92,11 +92,14 @@ module _ {u : List ℕ} where
   -- ---- numbers
 
   pub a-number : Always u (signed seesNumber Malformed) (λ w. InText (w .1))
-  a-number = record { runs = λ q h. run.weaken (tokens.a-number h Malformed) (λ w m x. rw (x .lexed) at (lexeme-fine (drop (x .start) u))) }
+  a-number = record {
+    runs = λ q h b. run.weaken (tokens.a-number h Malformed) (λ w m x. (rw (x .lexed) at (lexeme-fine (drop (x .start) u))) (x .free b));
+  }
 
   a-whole : Always u (signed seesWhole Missing) (λ w. InText (w .1) × (w .1 .point ≡ false))
   a-whole = record {
-    runs = λ q h. run.weaken (tokens.a-whole h Missing) (λ w m x. (rw (x .0 .lexed) at (lexeme-fine (drop (x .0 .start) u)), x .1));
+    runs = λ q h b. run.weaken (tokens.a-whole h Missing)
+        (λ w m x. ((rw (x .0 .lexed) at (lexeme-fine (drop (x .0 .start) u))) (x .0 .free b), x .1));
   }
 
 -- a u32 has no sign

@@ -99,11 +99,11 @@ pub fn closer(opener: u8) -> u8 {
     }
 }
 
-/// 9 to 12 digits before the point and 8 to 11 after it, wherever a number
-/// may stand.
-fn digits(random: &mut Random) -> Vec<u8> {
-    let whole = random.pick(&[1, 9, 10, 10, 10, 11, 11, 12]);
-    let point = random.pick(&[0, 0, 8, 9, 9, 10, 10, 11]);
+/// 39 to 42 digits before the point and after it, and fewer, an exponent or
+/// none, wherever a number may stand.
+pub fn digits(random: &mut Random) -> Vec<u8> {
+    let whole = random.pick(&[1, 9, 10, 11, 19, 39, 40, 40, 40, 41, 41, 42]);
+    let point = random.pick(&[0, 0, 8, 9, 10, 19, 39, 40, 40, 41, 41, 42]);
     let mut number = String::new();
     for _ in 0..whole {
         number.push(random.pick(b"0009123458") as char);
@@ -113,6 +113,10 @@ fn digits(random: &mut Random) -> Vec<u8> {
     }
     for _ in 0..point {
         number.push(random.pick(b"0009123458") as char);
+    }
+    if random.chance(40) {
+        let digits = random.pick(&["", "0", "5", "05", "38", "45", "99", "005", "100"]);
+        number += &format!("{}{}{digits}", random.pick(&["e", "e", "E"]), random.pick(&["", "+", "-", "-"]));
     }
     let after = random.pick(&["", "", "", "s", "s", "x", "sx", ".", "..", ".x", "_", "\"m\"", "%"]);
     let sign = random.pick(&["", "", "-", "- ", "--"]);

@@ -21,6 +21,30 @@ pub fn number(random: &mut Random) -> String {
     text
 }
 
+/// A number of 02 (n) without its sign: long, with an exponent, among the very
+/// small ones, or near the step to infinity.
+pub fn long(random: &mut Random) -> String {
+    let mut text = match random.below(9) {
+        0 | 1 => format!("{}.{}", digits(random, 1, 40), digits(random, 1, 40)),
+        2 | 3 => format!("{}.{}{}", random.below(10), digits(random, 1, 3), power(random)),
+        4 => format!("{}{}", digits(random, 1, 40), power(random)),
+        5 => format!("{}.{}{}", digits(random, 1, 40), digits(random, 1, 40), power(random)),
+        6 => format!("{}e-{}", random.between(1, 999_999), random.between(38, 53)),
+        7 => digits(random, 11, 40),
+        _ => (u128::MAX - (1 << 103) + random.pick(&[0, 1, 1, 2])).to_string(),
+    };
+    if random.chance(12) {
+        text.push('s');
+    }
+    text
+}
+
+/// An exponent.
+fn power(random: &mut Random) -> String {
+    let digits = if random.chance(50) { random.below(10).to_string() } else { format!("{:02}", random.below(100)) };
+    format!("{}{}{digits}", random.pick(&["e", "E"]), random.pick(&["", "+", "-", "-"]))
+}
+
 fn digits(random: &mut Random, low: usize, high: usize) -> String {
     let count = random.between(low, high);
     (0..count).map(|_| (b'0' + random.below(10) as u8) as char).collect()

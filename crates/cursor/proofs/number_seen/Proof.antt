@@ -3,6 +3,7 @@ use Rattle.text.specs.Bytes.{at}
 use mathlib.Core.Path.{ap, sym}
 use Rattle.token.specs.Token.{number}
 use Rattle.token.proofs.TokenLaws.{rest-of}
+use Rattle.cursor.proofs.CursorLaws.{seen-known}
 use borrow.Author.Needs.{needs}
 use Rattle.cursor.proofs.number_seen.Statement.{statement}
 use Rattle.cursor.proofs.number_seen.Tie as tie
@@ -42,12 +43,14 @@ returns : tie.Need-returns
 returns c =
     let at-place = c .before .before in
     let at-enum-told = at-place .before in
-    let start = at-enum-told .before .before .before in (
-      rw (start .pre .head .kind, at-enum-told .enum-told .given .1)
-          (ap number
-          (sym (rw (rest-of (start .args .text .now) (at-place .place .result), at-place .place .ensures) at (c .number-of .ensures .0)))),
-      c .number-of .ensures .1,
-    )
+    let start = at-enum-told .before .before .before in
+    let s = start .args .text .now in
+    let r = c .number-of .ensures in
+    let i = rw (rest-of s (at-place .place .result), at-place .place .ensures) at (r .1) in
+    let k = seen-known s (start .args .c .at) _ (r .0) (start .pre .high) (start .pre .short)
+    (rw (at-enum-told .enum-told .given .1) at (start .pre .head .stands)) i
+    in
+    (rw (start .pre .head .kind, at-enum-told .enum-told .given .1) (k .0), k .1)
 
 returns-2 : tie.Need-returns-2
 returns-2 c = rw (c .before .before .before .pre .head .kind, c .enum-told2 .given .1)

@@ -2,11 +2,9 @@
 use Rattle.text.specs.Bytes.{at}
 use Rattle.error.specs.declared.Refusal.the-variants.{Malformed}
 use Rattle.cursor.proofs.CursorLaws.{counts, took-number}
-use Rattle.number.specs.Number.{nearest}
-use Rattle.number.specs.Rounded.{numberRounded}
 use native.Mathlib.Omega.{arith}
 use Rattle.grammar.specs.Values.{parseFloat}
-use Rattle.number.proofs.Floats.{round-number}
+use Rattle.number.proofs.Floats.{nearest-number}
 use mathlib.Core.Path.{_∙_}
 use borrow.Author.Needs.{needs}
 use Rattle.cursor.proofs.parse_float.Statement.{statement}
@@ -27,34 +25,34 @@ count-requires c κs =
     let n = rw (at-negative .negative .given .1) at (at-negative .before .before .number .ensures) in
     omega (arith, n .ready .few, n .ready .high, n .ready .short)
 
-decimal-requires : tie.Need-decimal-requires
-decimal-requires c κs = (rw (c .before .negative .given .1) at (c .before .before .before .number .ensures)) .small .places
+float-of-requires : tie.Need-float-of-requires
+float-of-requires c κs = (rw (c .before .negative .given .1) at (c .before .before .before .number .ensures)) .known
 
 returns : tie.Need-returns
 unfolding parseFloat
 returns c = let n = rw (c .before .p .given .1) at (c .before .before .before .number .ensures) in rw (n .0, n .1)
 
 returns-2 : tie.Need-returns-2
-unfolding parseFloat nearest numberRounded
+unfolding parseFloat
 returns-2 c =
-    let at-decimal = c .before in
-    let at-negative = at-decimal .before .before in
+    let at-float-of = c .before in
+    let at-negative = at-float-of .before .before in
     let at-number = at-negative .before .before in
     let start = at-number .before .before in
     let args = start .args in
     let n = rw (at-negative .negative .given .1) at (at-number .number .ensures) in
     let t = took-number (args .text .now) (args .c) _ _ _ n Malformed in
-    let x = at-decimal .decimal .ensures in (
+    let x = at-float-of .float-of .ensures in (
       record {
         is = rw (t .is, c .count .ensures, x .0, x .1);
         low = rw (c .count .ensures) (n .low);
         ready = rw (c .count .ensures)
-            (counts (args .text .now) (args .c) _ (start .pre) (n .ready) (n .rounded) (n .low) (at-decimal .decimal .result .rounded));
+            (counts (args .text .now) (args .c) _ (start .pre) (n .ready) (n .rounded) (n .low) (at-float-of .float-of .result .rounded));
       },
-      rw (x .0) (round-number _ _ _),
+      rw (x .0) (nearest-number _ _),
     )
 
 pub parse-float-spec : {M : Type 1} → statement M
 parse-float-spec =
     tie.close
-    (tie.spec number-requires enum-known-p enum-known-negative decimal-requires count-requires returns returns-2)
+    (tie.spec number-requires enum-known-p enum-known-negative float-of-requires count-requires returns returns-2)

@@ -1,8 +1,8 @@
 -- `cursor::parse_uint` meets its contract. Assumes nothing.
 use Rattle.text.specs.Bytes.{at}
 use mathlib.Core.Path.{refl, sym}
-use Rattle.token.specs.Means.{writtenOf}
 use Rattle.error.specs.declared.Refusal.the-variants.{Missing}
+use Rattle.token.specs.Means.{writtenIn}
 use Rattle.grammar.specs.Values.{parseUint}
 use Rattle.cursor.proofs.CursorLaws.{head-place, took-whole, whole-missing}
 use borrow.Author.Needs.{needs}
@@ -58,7 +58,10 @@ returns-3 c =
     let args = at-number .before .before .args in
     let n = rw (at-negative .negative .given .1) at (at-number .number .ensures) in
     let t = took-whole (args .text .now) (args .c) _ _ _ n Missing (at-if1 .if1 .left) in
-    let v = rw (c .before .v .given .1) at (at-whole .whole .ensures (writtenOf (at-negative .negative .given .0 .1 .0)) refl) in
+    let v = rw (c .before .v .given .1)
+    at (at-whole .whole .ensures (writtenIn (args .text .now) (at-negative .negative .given .0 .1 .0))
+    (n .known .is .whole (at-if1 .if1 .left)))
+    in
     record { is = rw (t .is, sym v); low = t .low; ready = t .ready }
 
 returns-4 : tie.Need-returns-4
@@ -71,7 +74,10 @@ returns-4 c =
     let args = at-number .before .before .args in
     let n = rw (at-negative .negative .given .1) at (at-number .number .ensures) in
     let t = took-whole (args .text .now) (args .c) _ _ _ n Missing (at-if1 .if1 .left) in
-    let v = rw (c .before .enum-told .given .1) at (at-whole .whole .ensures (writtenOf (at-negative .negative .given .0 .1 .0)) refl) in
+    let v = rw (c .before .enum-told .given .1)
+    at (at-whole .whole .ensures (writtenIn (args .text .now) (at-negative .negative .given .0 .1 .0))
+    (n .known .is .whole (at-if1 .if1 .left)))
+    in
     rw (t .is, sym v, n .ready .head .place, c .place2 .ensures)
 
 pub parse-uint-spec : {M : Type 1} → statement M

@@ -1,104 +1,64 @@
--- `digits::fewest` meets its contract: outside the range of what can be written nothing is found; inside it the search finds the best of
--- all places, or of those up to the best's digits. Assumes nothing.
-use Prim.Native.Nat.{_-_}
-use mathlib.Core.Logic.{⊎-elim, inl, inr}
-use mathlib.Core.Path.{sym, ap, _∙_}
-use native.Mathlib.Omega.{arith}
-use borrow.Author.Needs.{needs}
-use borrow.Author.Tests.{ltb-true, ltb-false}
-use Rattle.digits.specs.Answer.{decimalOf}
+-- `digits::fewest` meets its contract: by the range of the bits. Assumes nothing.
+use Prim.Native.Nat.{ℕ}
+use mathlib.Core.Option.{Option, some}
+use mathlib.Core.Path.{_≡_, sym, ap, _∙_}
+use Rattle.digits.specs.Answer.{numberOf, decimalOf}
+use Rattle.digits.specs.Means.{LeastWhole, wholeOver}
+use Rattle.digits.specs.declared.Decimal.{Decimal}
 use Rattle.digits.proofs.EndLaws.{zero-written, none-below, none-above}
-use Rattle.digits.proofs.WidthLaws.{ten-high}
-use Rattle.digits.proofs.SearchLaws.{Going, search-starts, search-ready, search-goes-on, search-ends}
+use Rattle.digits.proofs.WholeLaws.{whole-is}
+use borrow.Author.Needs.{needs}
 use Rattle.digits.proofs.fewest.Statement.{statement}
 use Rattle.digits.proofs.fewest.Tie as tie
 
-abbrev Inv-loop : tie.InvT-loop
-Inv-loop bits low high s₀ places₀ scale₀ s places scale = Going bits low high s places scale
-
-abbrev μ-loop : tie.MeasureT-loop
-μ-loop bits low high s₀ places₀ scale₀ s places scale = 10 - places
-
-whole-requires : tie.Need-whole-requires Inv-loop μ-loop
+whole-requires : tie.Need-whole-requires
 whole-requires c κs = search needs
 
-returns : tie.Need-returns Inv-loop μ-loop
-returns c = c .whole .ensures ∙ zero-written _ (c .before .if1 .taken)
+whole-answer : (b : ℕ) (r : Decimal) → LeastWhole b r → {o : Option (ℕ × ℕ)} → some (wholeOver b, 0) ≡ o → numberOf r ≡ o
+whole-answer b r l e = rw (l .found, l .is, l .places) e
 
-whole-requires-2 : tie.Need-whole-requires-2 Inv-loop μ-loop
+returns : tie.Need-returns
+returns c = (c .whole .ensures .0 ∙ zero-written _ (c .before .if1 .taken), c .whole .ensures .1)
+
+whole-requires-2 : tie.Need-whole-requires-2
 whole-requires-2 c κs = search needs
 
-returns-2 : tie.Need-returns-2 Inv-loop μ-loop
+returns-2 : tie.Need-returns-2
 returns-2 c =
     let at-if2 = c .before in
-    let at-if1 = at-if2 .before in
-    c .whole2 .ensures ∙ sym (ap decimalOf (none-below _ (at-if1 .if1 .left) (at-if2 .if2 .taken)))
+    (c .whole2 .ensures .0 ∙ sym (ap decimalOf (none-below _ (at-if2 .before .if1 .left) (at-if2 .if2 .taken))), c .whole2 .ensures .1)
 
-whole-requires-3 : tie.Need-whole-requires-3 Inv-loop μ-loop
+whole-requires-3 : tie.Need-whole-requires-3
 whole-requires-3 c κs = search needs
 
-returns-3 : tie.Need-returns-3 Inv-loop μ-loop
-returns-3 c = c .whole3 .ensures ∙ sym (ap decimalOf (none-above _ (c .before .if3 .taken)))
+returns-3 : tie.Need-returns-3
+returns-3 c = (c .whole3 .ensures .0 ∙ sym (ap decimalOf (none-above _ (c .before .if3 .taken))), c .whole3 .ensures .1)
 
-middle-below-requires : tie.Need-middle-below-requires Inv-loop μ-loop
-middle-below-requires c κs = omega arith
+fewest-small-requires : tie.Need-fewest-small-requires
+fewest-small-requires c κs = search needs
 
-add-middle-below : tie.Need-add-middle-below Inv-loop μ-loop
-add-middle-below c = omega arith
+returns-4 : tie.Need-returns-4
+returns-4 c = search needs
 
-middle-below-requires-2 : tie.Need-middle-below-requires-2 Inv-loop μ-loop
-middle-below-requires-2 c κs = omega arith
+least-whole-requires : tie.Need-least-whole-requires
+least-whole-requires c κs = search needs
 
-loop-holds : tie.Need-loop-holds Inv-loop μ-loop
-loop-holds c = search-starts (c .before .before .if3 .left) (c .before .middle-below .ensures) (c .middle-below2 .ensures)
-
-step-requires : tie.Need-step-requires Inv-loop μ-loop
-step-requires c κs =
-    let at-test = c .before .before in
-    search-ready (at-test .before .loop .inv) (at-test .loop-test .taken) (ltb-true _ _ (c .if4 .taken))
-
-mul-scale : tie.Need-mul-scale Inv-loop μ-loop
-mul-scale c =
-    let at-test = c .before .before .before in
-    omega (arith, ten-high (at-test .before .loop .inv .power) (omega (arith, at-test .loop-test .taken)))
-
-add-places : tie.Need-add-places Inv-loop μ-loop
-add-places c = omega arith
-
-loop-less : tie.Need-loop-less Inv-loop μ-loop
-loop-less c = omega arith
-
-loop-again : tie.Need-loop-again Inv-loop μ-loop
-loop-again c =
-    let at-test = c .before .before .before in
-    let g = at-test .before .loop .inv in
-    search-goes-on g (at-test .loop-test .taken) (c .step .ensures _ (g .inside) (g .halfway-low) (g .halfway-high) (g .searched))
-
-returns-4 : tie.Need-returns-4 Inv-loop μ-loop
-returns-4 c =
-    let at-test = c .before in
-    let g = at-test .before .loop .inv in
-    search-ends (g .searched) (g .few) (⊎-elim (λ w. inr (ltb-false _ _ (w .2 .left))) (λ w. inl (w .left)) (at-test .loop-test .came))
+returns-5 : tie.Need-returns-5
+returns-5 c =
+    let at-if4 = c .before in
+    (whole-answer _ _ (c .least-whole .ensures .0) (whole-is _ (at-if4 .if4 .left) (at-if4 .before .if3 .left)), c .least-whole .ensures .1)
 
 pub fewest-spec : {M : Type 1} → statement M
 fewest-spec =
     tie.close
     (tie.spec
-    Inv-loop
-    μ-loop
     whole-requires
     returns
     whole-requires-2
     returns-2
     whole-requires-3
     returns-3
-    middle-below-requires
-    add-middle-below
-    middle-below-requires-2
-    loop-holds
-    step-requires
-    mul-scale
-    add-places
-    loop-less
-    loop-again
-    returns-4)
+    fewest-small-requires
+    returns-4
+    least-whole-requires
+    returns-5)

@@ -1,13 +1,11 @@
 -- `digits::percent_of` meets its contract. Assumes nothing.
 use mathlib.Core.Path.{sym, ap, _∙_}
-use native.Mathlib.Nat.{le-trans}
 use native.Mathlib.Omega.{arith}
-use lib.Dec.{lit≤}
-use borrow.Author.Needs.{needs}
-use borrow.Author.Tests.{eqb-true, eqb-false}
 use Rattle.digits.specs.Answer.{wholeOf}
 use Rattle.digits.proofs.EndLaws.{zero-percent-written, no-percent-below, no-percent-above}
-use Rattle.digits.proofs.PercentLaws.{small-answer, percent-answer, percent-nothing, measured, not-nan}
+use Rattle.digits.proofs.MiddleLaws.{fair-of}
+use Rattle.digits.proofs.PercentLaws.{small-answer, percent-24, large-first}
+use borrow.Author.Needs.{needs}
 use Rattle.digits.proofs.percent_of.Statement.{statement}
 use Rattle.digits.proofs.percent_of.Tie as tie
 
@@ -15,7 +13,7 @@ whole-requires : tie.Need-whole-requires
 whole-requires c κs = search needs
 
 returns : tie.Need-returns
-returns c = c .whole .ensures ∙ sym (ap wholeOf (zero-percent-written _ (c .before .if1 .taken)))
+returns c = (c .whole .ensures .0 ∙ sym (ap wholeOf (zero-percent-written _ (c .before .if1 .taken))), c .whole .ensures .1)
 
 whole-requires-2 : tie.Need-whole-requires-2
 whole-requires-2 c κs = search needs
@@ -23,20 +21,25 @@ whole-requires-2 c κs = search needs
 returns-2 : tie.Need-returns-2
 returns-2 c =
     let at-if2 = c .before in
-    let at-if1 = at-if2 .before in
-    c .whole2 .ensures ∙ sym (ap wholeOf (no-percent-below _ (at-if1 .if1 .left) (at-if2 .if2 .taken)))
+    (c .whole2 .ensures .0 ∙ sym (ap wholeOf (no-percent-below _ (at-if2 .before .if1 .left) (at-if2 .if2 .taken))), c .whole2 .ensures .1)
 
 whole-requires-3 : tie.Need-whole-requires-3
 whole-requires-3 c κs = search needs
 
 returns-3 : tie.Need-returns-3
-returns-3 c = c .whole3 .ensures ∙ sym (ap wholeOf (no-percent-above _ (c .before .if3 .taken)))
+returns-3 c = (c .whole3 .ensures .0 ∙ sym (ap wholeOf (no-percent-above _ (c .before .if3 .taken))), c .whole3 .ensures .1)
+
+large-percent-requires : tie.Need-large-percent-requires
+large-percent-requires c κs = (c .before .if3 .left, omega (arith, percent-24, c .if4 .taken))
+
+returns-4 : tie.Need-returns-4
+returns-4 c = search needs
 
 middle-below-requires : tie.Need-middle-below-requires
 middle-below-requires c κs = search needs
 
 past-requires : tie.Need-past-requires
-past-requires c κs = search needs
+past-requires c κs = (fair-of (c .before .before .before .if2 .left) (c .middle-below .ensures .1), omega arith, omega arith)
 
 add-middle-below : tie.Need-add-middle-below
 add-middle-below c = search needs
@@ -45,51 +48,37 @@ middle-below-requires-2 : tie.Need-middle-below-requires-2
 middle-below-requires-2 c κs = search needs
 
 past-requires-2 : tie.Need-past-requires-2
-past-requires-2 c κs = search needs
+past-requires-2 c κs =
+    let c4 = c .before .before .before .before in
+    let at-if2 = c4 .before .before in
+    let low = at-if2 .if2 .left in
+    (fair-of (omega (arith, low)) (c .middle-below2 .ensures .1), omega arith, omega arith)
 
 whole-requires-4 : tie.Need-whole-requires-4
 whole-requires-4 c κs = search needs
 
-returns-4 : tie.Need-returns-4
-returns-4 c =
-    let at-past2 = c .before in
-    let at-if4 = at-past2 .before .before in
-    let at-past = at-if4 .before in
-    let at-middle-below = at-past .before in
-    c .whole4 .ensures
-    ∙ small-answer (at-past .past .ensures _ (at-middle-below .middle-below .ensures))
-    (at-past2 .past2 .ensures _ (at-past2 .before .middle-below2 .ensures)) (le-trans (at-if4 .if4 .taken) (lit≤ tt))
-
-least-percent-requires : tie.Need-least-percent-requires
-least-percent-requires c κs = search needs
-
-whole-requires-5 : tie.Need-whole-requires-5
-whole-requires-5 c κs = search needs
-
 returns-5 : tie.Need-returns-5
 returns-5 c =
-    let at-if5 = c .before in
-    c .whole5 .ensures ∙ percent-nothing (at-if5 .before .least-percent .ensures) (at-if5 .if5 .taken)
+    let at-past2 = c .before in
+    let at-middle-below2 = at-past2 .before in
+    let at-if5 = at-middle-below2 .before in
+    let at-past = at-if5 .before in
+    let at-middle-below = at-past .before in (
+      c .whole4 .ensures .0
+          ∙ small-answer (at-past .past .ensures _ (at-middle-below .middle-below .ensures .0))
+          (at-past2 .past2 .ensures _ (at-middle-below2 .middle-below2 .ensures .0))
+          (at-if5 .if5 .taken),
+      c .whole4 .ensures .1,
+    )
 
-percent-requires : tie.Need-percent-requires
-percent-requires c κs = search needs
-
-bits-of-requires : tie.Need-bits-of-requires
-bits-of-requires c κs = not-nan _ (c .percent .ensures .0)
-
-whole-requires-6 : tie.Need-whole-requires-6
-whole-requires-6 c κs = search needs
+large-percent-requires-2 : tie.Need-large-percent-requires-2
+large-percent-requires-2 c κs =
+    let at-past = c .before in
+    let at-if3 = at-past .before .before .before in
+    (at-if3 .if3 .left, large-first (at-past .past .ensures _ (at-past .before .middle-below .ensures .0)) (c .if5 .left))
 
 returns-6 : tie.Need-returns-6
-returns-6 c =
-    let at-bits = c .before in
-    let at-percent = at-bits .before in
-    let at-if5 = at-percent .before in
-    let at-least = at-if5 .before in
-    let r = measured _ (at-bits .bits-of .ensures) (at-percent .percent .ensures .0) in
-    let f = at-least .least-percent .ensures in
-    c .whole6 .ensures
-    ∙ percent-answer f (omega (arith, f .top, at-if5 .if5 .left)) _ (λ e. sym r ∙ eqb-true _ _ e) (λ e q. eqb-false _ _ e (r ∙ q))
+returns-6 c = search needs
 
 pub percent-of-spec : {M : Type 1} → statement M
 percent-of-spec =
@@ -101,17 +90,14 @@ percent-of-spec =
     returns-2
     whole-requires-3
     returns-3
+    large-percent-requires
+    returns-4
     middle-below-requires
     past-requires
     add-middle-below
     middle-below-requires-2
     past-requires-2
     whole-requires-4
-    returns-4
-    least-percent-requires
-    whole-requires-5
     returns-5
-    percent-requires
-    bits-of-requires
-    whole-requires-6
+    large-percent-requires-2
     returns-6)

@@ -10,7 +10,7 @@ past-requires c κs = let r = c .pre in (r .fair-low, scale-low r, scale-high r)
 returns : tie.Need-returns
 returns c =
     let at-past = c .before .before in
-    λ b h low high. step-longer (at-past .before .pre) (at-past .past .ensures b low) (c .if1 .taken)
+    λ b h low high apart. step-longer (at-past .before .pre) h (at-past .past .ensures b low) (c .if1 .taken)
 
 past-requires-2 : tie.Need-past-requires-2
 past-requires-2 c κs = let r = c .before .before .before .pre in (r .fair-high, scale-low r, scale-high r)
@@ -20,7 +20,8 @@ returns-2 c =
     let at-past2 = c .before in
     let at-past = at-past2 .before .before .before in
     let start = at-past .before in
-    λ b h low high. step-none (start .pre) (at-past .past .ensures b low) (at-past2 .past2 .ensures _ high) (c .if2 .taken)
+    λ b h low high apart. step-none (start .pre) (at-past .past .ensures b low) (at-past2 .past2 .ensures _ high) low high apart
+    (c .if2 .taken)
 
 width-of-requires : tie.Need-width-of-requires
 width-of-requires c κs =
@@ -36,7 +37,7 @@ returns-3 c =
     let at-if1 = at-past2 .before in
     let at-past = at-if1 .before .before in
     let start = at-past .before in
-    λ b h low high. step-taken (start .pre) (at-past .past .ensures b low) (at-past2 .past2 .ensures _ high) h (at-if1 .if1 .left)
+    λ b h low high apart. step-taken (start .pre) (at-past .past .ensures b low) (at-past2 .past2 .ensures _ high) h low (at-if1 .if1 .left)
     (at-if2 .if2 .left) (c .width-of .ensures)
 
 pub step-spec : {M : Type 1} → statement M

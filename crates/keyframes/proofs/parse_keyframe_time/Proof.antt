@@ -41,7 +41,7 @@ time-of-requires c κs =
     let c4 = c .before .before .before .before in
     let at-negative = c4 .before in
     let at-number = at-negative .before .before in
-    (rw (at-negative .negative .given .1) at (at-number .number .ensures)) .small
+    (rw (at-negative .negative .given .1) at (at-number .number .ensures)) .known
 
 count-requires : tie.Need-count-requires
 count-requires c κs = let r = c .before .before .before .before .percent-sign .ensures .ready in omega (arith, r .few, r .high, r .short)

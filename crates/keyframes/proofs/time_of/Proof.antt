@@ -4,27 +4,27 @@ use borrow.Author.Needs.{needs}
 use Rattle.keyframes.proofs.time_of.Statement.{statement}
 use Rattle.keyframes.proofs.time_of.Tie as tie
 
-percent-requires : tie.Need-percent-requires
-percent-requires c κs = search needs
+percent-of-requires : tie.Need-percent-of-requires
+percent-of-requires c κs = search needs
 
 returns : tie.Need-returns
 returns c =
-    let args = c .before .before .args in
+    let args = c .before .before .before .args in
     let e = c .before .if1 .taken in (
-      stores-percent (args .percent) (args .negative) (args .n) _ e (c .percent .ensures .0),
-      rounds-percent (args .percent) (args .negative) (args .n) e (c .percent .ensures .1),
+      stores-percent (args .percent) (args .negative) _ e (c .percent-of .ensures .0),
+      rounds-percent (args .percent) (args .negative) _ e (c .percent-of .ensures .1),
     )
 
-decimal-requires : tie.Need-decimal-requires
-decimal-requires c κs = search needs
+float-of-requires : tie.Need-float-of-requires
+float-of-requires c κs = search needs
 
 returns-2 : tie.Need-returns-2
 returns-2 c =
-    let args = c .before .before .args in
+    let args = c .before .before .before .args in
     let e = c .before .if1 .left in (
-      stores-seconds (args .percent) (args .negative) (args .n) _ e (c .decimal .ensures .0),
-      rounds-seconds (args .percent) (args .negative) (args .n) e (c .decimal .ensures .1),
+      stores-seconds (args .percent) (args .negative) _ e (c .float-of .ensures .0),
+      rounds-seconds (args .percent) (args .negative) _ e (c .float-of .ensures .1),
     )
 
 pub time-of-spec : {M : Type 1} → statement M
-time-of-spec = tie.close (tie.spec percent-requires returns decimal-requires returns-2)
+time-of-spec = tie.close (tie.spec percent-of-requires returns float-of-requires returns-2)

@@ -2,11 +2,10 @@
 use native.Mathlib.Omega.{arith}
 use Rattle.text.specs.Bytes.{at}
 use Rattle.nodes.proofs.NodeLaws.{at-went, no-value}
-use Rattle.number.specs.Number.{bits, nearest}
-use Rattle.number.specs.Rounded.{numberRounded}
+use Rattle.number.specs.Number.{bits}
 use Rattle.cursor.proofs.CursorLaws.{counts}
 use Rattle.encode.proofs.FieldLaws.{length-word}
-use Rattle.number.proofs.Floats.{round-number}
+use Rattle.number.proofs.Floats.{nearest-number}
 use borrow.Author.Needs.{needs}
 use Rattle.nodes.proofs.parse_at.Statement.{statement}
 use Rattle.nodes.proofs.parse_at.Tie as tie
@@ -26,11 +25,11 @@ enum-known-negative c = search needs
 turned-requires : tie.Need-turned-requires
 turned-requires c κs = search needs
 
-decimal-requires : tie.Need-decimal-requires
-decimal-requires c κs =
+float-of-requires : tie.Need-float-of-requires
+float-of-requires c κs =
     let at-negative = c .before .before in
     let at-number = at-negative .before .before in
-    (rw (at-negative .negative .given .1) at (at-number .number .ensures)) .small .places
+    (rw (at-negative .negative .given .1) at (at-number .number .ensures)) .known
 
 count-requires : tie.Need-count-requires
 count-requires c κs =
@@ -46,26 +45,26 @@ eat-requires c κs =
     let at-at-sign = at-number .before .before in
     let n = rw (at-negative .negative .given .1) at (at-number .number .ensures) in (
       rw (c .count .ensures)
-          (counts _ _ _ (at-at-sign .at-sign .ensures .ready) (n .ready) (n .rounded) (n .low) (c .before .decimal .result .rounded)),
+          (counts _ _ _ (at-at-sign .at-sign .ensures .ready) (n .ready) (n .rounded) (n .low) (c .before .float-of .result .rounded)),
       omega arith,
     )
 
 put-float-requires : tie.Need-put-float-requires
 put-float-requires c κs =
-    let at-decimal = c .before .before .before in
-    let c7 = at-decimal .before .before .before .before in
+    let at-float-of = c .before .before .before in
+    let c7 = at-float-of .before .before .before .before in
     let c11 = c7 .before .before .before .before in
     let start = c11 .before .before in
-    (omega (arith, start .pre .1 .low), rw (at-decimal .decimal .ensures .0) (round-number _ _ _))
+    (omega (arith, start .pre .1 .low), rw (at-float-of .float-of .ensures .0) (nearest-number _ _))
 
 put-flag-requires : tie.Need-put-flag-requires
 put-flag-requires c κs =
     let at-put-float = c .before .before .before in
-    let at-decimal = at-put-float .before .before .before .before in
-    let c11 = at-decimal .before .before .before .before in
+    let at-float-of = at-put-float .before .before .before .before in
+    let c11 = at-float-of .before .before .before .before in
     let c15 = c11 .before .before .before .before in
     let start = c15 .before .before in
-    omega (arith, start .pre .1 .low, at-put-float .put-float .ensures .place, length-word (bits (at-decimal .decimal .result .value)))
+    omega (arith, start .pre .1 .low, at-put-float .put-float .ensures .place, length-word (bits (at-float-of .float-of .result .value)))
 
 returns : tie.Need-returns
 returns c =
@@ -77,18 +76,17 @@ same-length : tie.Need-same-length
 same-length c = search needs
 
 returns-2 : tie.Need-returns-2
-unfolding nearest numberRounded
 returns-2 c =
     let at-put-flag = c .before .before .before in
     let at-put-float = at-put-flag .before .before .before .before in
     let at-eat = at-put-float .before .before in
     let at-count = at-eat .before in
-    let at-decimal = at-count .before in
-    let at-turned = at-decimal .before in
+    let at-float-of = at-count .before in
+    let at-turned = at-float-of .before in
     let at-negative = at-turned .before .before in
     let at-number = at-negative .before .before in
     let at-at-sign = at-number .before .before in
-    let x = rw (at-turned .turned .ensures) at (at-decimal .decimal .ensures) in
+    let x = rw (at-turned .turned .ensures) at (at-float-of .float-of .ensures) in
     at-went _ _ _ _ _
     (at-at-sign .at-sign .ensures)
     _ _ _ _ _ _
@@ -107,7 +105,7 @@ parse-at-spec =
     enum-known-p
     enum-known-negative
     turned-requires
-    decimal-requires
+    float-of-requires
     count-requires
     eat-requires
     put-float-requires

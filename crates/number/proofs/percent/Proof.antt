@@ -1,52 +1,7 @@
--- `number::percent` meets its contract: the literal is 100; the percent is n / 100 if the f32 nearest to n / 100 is, and equals it.
--- Assumes nothing.
+-- `number::percent` meets its contract. Assumes nothing.
 use borrow.Author.Needs.{needs}
-use mathlib.Core.Path.{_≡_, refl, sym, ap, _∙_, subst}
-use mathlib.Core.Bool.{Bool, true, false, not}
-use Prim.Native.Nat.{ℕ, zero, suc, _<_}
-use native.Mathlib.Omega.{arith}
-use lib.Dec.{T}
-use lib.Ieee.{Float, binary32, round, div, ofBits, ne}
-use Rattle.number.specs.Number.{percent}
-use Rattle.number.specs.Rounded.{fraction, rounded}
-use Rattle.number.proofs.Floats.{percent-fits}
-use Rattle.number.proofs.Hundredth.{percent-once}
-use Rattle.number.proofs.TwoRoundings.{meets, missed}
 use Rattle.number.proofs.percent.Statement.{statement}
 use Rattle.number.proofs.percent.Tie as tie
-
-hundred : ofBits binary32 0x42c8_0000 ≡ round binary32 false 100 1
-unfolding ofBits round
-hundred = refl
-
-divided : (s : Bool) (n : ℕ) (x : Float) → x ≡ round binary32 s n 1 → div binary32 x (ofBits binary32 0x42c8_0000) ≡ percent s n
-unfolding percent
-divided s n x e = ap (λ (y : Float). div binary32 y (ofBits binary32 0x42c8_0000)) e ∙ ap (div binary32 (round binary32 s n 1)) hundred
-
-is-true : (b : Bool) → T b → b ≡ true
-is-true true h = refl
-is-true false h = absurd h
-
-is-false : (b : Bool) → T (not b) → b ≡ false
-is-false true h = absurd h
-is-false false h = refl
-
--- where n / 100 is no f32, the percent is rounded
-judged-missed : (s : Bool) (n : ℕ) → T (rounded (round binary32 s n 100) (fraction s n 100))
-    → rounded (percent s n) (fraction s n 100) ≡ true
-judged-missed s zero h = ap (λ (x : Float). rounded x (fraction s 0 100)) (percent-once s 0 (omega arith)) ∙ is-true _ h
-judged-missed s (suc n) h = missed s (suc n) (omega arith) (percent s (suc n)) (percent-fits s (suc n)) h
-
-same-zeros : (s : Bool) → ne (round binary32 s 0 100) (round binary32 s 0 100) ≡ false
-unfolding round ne
-same-zeros true = refl
-same-zeros false = refl
-
--- where it is one, the percent is rounded if it is another
-judged-met : (s : Bool) (n : ℕ) → T (not (rounded (round binary32 s n 100) (fraction s n 100)))
-    → ne (percent s n) (round binary32 s n 100) ≡ rounded (percent s n) (fraction s n 100)
-judged-met s zero h = rw (percent-once s 0 (omega arith), same-zeros s) (sym (is-false _ h))
-judged-met s (suc n) h = sym (meets s (suc n) (omega arith) (percent s (suc n)) (round binary32 s (suc n) 100) h)
 
 decimal-requires : tie.Need-decimal-requires
 decimal-requires c κs = search needs
@@ -54,28 +9,19 @@ decimal-requires c κs = search needs
 decimal-requires-2 : tie.Need-decimal-requires-2
 decimal-requires-2 c κs = search needs
 
+percent-from-requires : tie.Need-percent-from-requires
+percent-from-requires c κs = search needs
+
 returns : tie.Need-returns
 returns c =
     let at-decimal2 = c .before in
-    let at-decimal = at-decimal2 .before .before in
-    let args = at-decimal .before .args in (
-      divided (args .negative) (args .n) _ (at-decimal .decimal .ensures .0),
-      sym (judged-missed (args .negative) (args .n) (subst T (sym (c .if1 .taken) ∙ at-decimal2 .decimal2 .ensures .1) tt)),
-    )
-
-returns-2 : tie.Need-returns-2
-returns-2 c =
-    let at-decimal2 = c .before .before in
-    let at-decimal = at-decimal2 .before .before in
+    let at-decimal = at-decimal2 .before in
     let args = at-decimal .before .args in
-    let s = args .negative in
-    let n = args .n in
-    let value = divided s n _ (at-decimal .decimal .ensures .0) in (
-      value,
-      ap (λ (x : Float). ne x (at-decimal2 .decimal2 .result .value)) value
-          ∙ ap (ne (percent s n)) (at-decimal2 .decimal2 .ensures .0)
-          ∙ judged-met s n (subst (λ (b : Bool). T (not b)) (sym (c .before .if1 .left) ∙ at-decimal2 .decimal2 .ensures .1) tt),
+    let x = at-decimal .decimal .ensures .0 in
+    let once = at-decimal2 .decimal2 .ensures in (
+      c .percent-from .ensures .0 (args .negative) (args .n) x,
+      c .percent-from .ensures .1 (args .negative) (args .n) x (once .0) (once .1),
     )
 
 pub percent-spec : {M : Type 1} → statement M
-percent-spec = tie.close (tie.spec decimal-requires decimal-requires-2 returns returns-2)
+percent-spec = tie.close (tie.spec decimal-requires decimal-requires-2 percent-from-requires returns)

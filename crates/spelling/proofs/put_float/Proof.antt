@@ -10,7 +10,7 @@ fewest-requires : tie.Need-fewest-requires
 fewest-requires c κs = search needs
 
 put-decimal-requires : tie.Need-put-decimal-requires
-put-decimal-requires c κs = subst Spellable (sym (c .fewest .ensures)) (float-spellable _)
+put-decimal-requires c κs = (subst Spellable (sym (c .fewest .ensures .0)) (float-spellable _), c .fewest .ensures .1)
 
 same-length : tie.Need-same-length
 same-length c = search needs
@@ -20,7 +20,7 @@ returns c =
     let at-put-decimal = c .before .before in
     let at-fewest = at-put-decimal .before in
     let args = at-fewest .before .before .before .args in
-    found-float (args .bits) (pageOf (args .out .now) (args .pen)) _ (at-fewest .fewest .ensures) (at-put-decimal .put-decimal .ensures)
+    found-float (args .bits) (pageOf (args .out .now) (args .pen)) _ (at-fewest .fewest .ensures .0) (at-put-decimal .put-decimal .ensures)
 
 pub put-float-spec : {M : Type 1} → statement M
 put-float-spec = tie.close (tie.spec fewest-requires put-decimal-requires same-length returns)

@@ -10,7 +10,7 @@ percent-of-requires : tie.Need-percent-of-requires
 percent-of-requires c κs = search needs
 
 put-decimal-requires : tie.Need-put-decimal-requires
-put-decimal-requires c κs = subst Spellable (sym (c .percent-of .ensures)) (percent-spellable _)
+put-decimal-requires c κs = (subst Spellable (sym (c .percent-of .ensures .0)) (percent-spellable _), c .percent-of .ensures .1)
 
 same-length : tie.Need-same-length
 same-length c = search needs
@@ -20,7 +20,7 @@ returns c =
     let at-put-decimal = c .before .before in
     let at-percent-of = at-put-decimal .before in
     let args = at-percent-of .before .before .before .args in
-    found-percent (args .bits) (pageOf (args .out .now) (args .pen)) _ (at-percent-of .percent-of .ensures)
+    found-percent (args .bits) (pageOf (args .out .now) (args .pen)) _ (at-percent-of .percent-of .ensures .0)
     (at-put-decimal .put-decimal .ensures)
 
 pub put-percent-spec : {M : Type 1} → statement M

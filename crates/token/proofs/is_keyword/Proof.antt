@@ -35,7 +35,8 @@ returns-2 : tie.Need-returns-2
 unfolding allBytes every sized
 returns-2 c =
     let at-known = c .before .before .before .before in
-    let w = at-known .before .args .word .now in
+    let start = at-known .before in
+    let w = start .args .word .now in
     c .is-keyword-upto-7 .ensures
     ∙ keyword-packed upTo7 w (rw (lt-ltb 4 (length w) (omega arith), lt-ltb (length w) 8 (omega arith))) refl
     (λ j l. omega (arith, at-known .shared-slice-known .given j)) _ (c .before .packed2 .ensures)

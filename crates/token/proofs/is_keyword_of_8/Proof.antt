@@ -41,7 +41,8 @@ returns-3 : tie.Need-returns-3
 returns-3 c =
     let at-if2 = c .before .before in
     let at-if1 = at-if2 .before .before .before in
-    let d = sym (at-if1 .before .is-word .ensures) ∙ at-if1 .if1 .left in
+    let at-is-word = at-if1 .before in
+    let d = sym (at-is-word .is-word .ensures) ∙ at-if1 .if1 .left in
     let e = sym (at-if2 .before .is-word2 .ensures) ∙ at-if2 .if2 .left in
     c .is-word3 .ensures ∙ find-last _ _ 2 ∙ ap isSome (sym (find-past _ _ _ 0 d ∙ find-past _ _ _ 1 e))
 

@@ -6,9 +6,10 @@ use native.Mathlib.Omega.{arith}
 use borrow.Author.Needs.{needs}
 use borrow.Author.Tests.{ltb-false}
 use Rattle.text.specs.Bytes.{isDigit}
-use Rattle.text.specs.Limits.{textLimit}
+use lib.ListN.{length}
 use Rattle.token.specs.Token.{pastFraction}
-use Rattle.token.proofs.LexLaws.{Parts, run-fits, fraction-inside, number-clings, number-long, number-written, number-digits}
+use Rattle.token.proofs.LexLaws.{Parts, run-fits, fraction-inside, power-is, power-high}
+use Rattle.token.proofs.LexLaws.{number-clings, number-long, number-written, number-digits}
 use Rattle.token.proofs.WholeLaws.{neither}
 use Rattle.token.proofs.number_at.Statement.{statement}
 use Rattle.token.proofs.number_at.Tie as tie
@@ -16,7 +17,9 @@ use Rattle.token.proofs.number_at.Tie as tie
 -- the number's parts, once each is known
 parts : (w : tie.After-clinging)
     →
-    let at-past-fraction = w .before .before .before .before in
+    let at-has-suffix = w .before .before .before in
+    let at-power-size = at-has-suffix .before .before in
+    let at-past-fraction = at-power-size .before in
     let at-has-point = at-past-fraction .before in
     let at-run-end = at-has-point .before in
     let start = at-run-end .before .before in
@@ -25,31 +28,36 @@ parts : (w : tie.After-clinging)
     (at-run-end .run-end .result)
     (at-has-point .has-point .result)
     (at-past-fraction .past-fraction .result)
-    (w .before .before .before .has-suffix .result)
+    (at-power-size .power-size .result)
+    (at-has-suffix .has-suffix .result)
     (w .before .before .past-suffix .result)
 parts w =
-    let at-past-fraction = w .before .before .before .before in
+    let at-has-suffix = w .before .before .before in
+    let at-power-size = at-has-suffix .before .before in
+    let at-past-fraction = at-power-size .before in
     let at-has-point = at-past-fraction .before in
     let at-run-end = at-has-point .before in
+    let stop = at-has-suffix .before .past-power .ensures in
     record {
       whole = at-run-end .run-end .ensures ∙ zero-add _;
       point = at-has-point .has-point .ensures;
       end = at-past-fraction .past-fraction .ensures;
-      suffix = w .before .before .before .has-suffix .ensures;
-      next = w .before .before .past-suffix .ensures;
+      power = at-power-size .power-size .ensures;
+      suffix = rw (sym stop) (at-has-suffix .has-suffix .ensures);
+      next = rw (sym stop) (w .before .before .past-suffix .ensures);
     }
 
 -- the digits end in the text
 ends : (w : tie.After-has-point)
     →
     let at-run-end = w .before in
-    pastFraction (w .has-point .result) (at-run-end .before .before .args .t .now) (at-run-end .run-end .result) ≤ textLimit
+    let t = at-run-end .before .before .args .t .now in
+    pastFraction (w .has-point .result) t (at-run-end .run-end .result) ≤ length t
 ends w =
     let at-run-end = w .before in
-    let start = at-run-end .before .before in
-    let t = start .args .t .now in
+    let t = at-run-end .before .before .args .t .now in
     let whole = run-fits isDigit t 0 (omega arith) in
-    omega (arith, start .pre, fraction-inside t (at-run-end .run-end .result) _ (w .has-point .ensures) (omega arith))
+    fraction-inside t (at-run-end .run-end .result) _ (w .has-point .ensures) (omega arith)
 
 run-end-requires : tie.Need-run-end-requires
 run-end-requires c κs = search needs
@@ -61,13 +69,32 @@ has-point-requires : tie.Need-has-point-requires
 has-point-requires c κs = search needs
 
 past-fraction-requires : tie.Need-past-fraction-requires
-past-fraction-requires c κs = (c .has-point .ensures, ends c)
+past-fraction-requires c κs = (c .has-point .ensures, omega (arith, ends c, c .before .before .before .pre))
+
+power-size-requires : tie.Need-power-size-requires
+power-size-requires c κs = omega (arith, c .past-fraction .ensures, ends (c .before), c .before .before .before .before .pre)
+
+past-power-requires : tie.Need-past-power-requires
+past-power-requires c κs =
+    let at-past-fraction = c .before in
+    let start = at-past-fraction .before .before .before .before in (
+      omega (arith, at-past-fraction .past-fraction .ensures, ends (at-past-fraction .before), start .pre),
+      omega (arith, c .power-size .ensures, power-is (start .args .t .now) (at-past-fraction .past-fraction .result) .few),
+    )
 
 has-suffix-requires : tie.Need-has-suffix-requires
 has-suffix-requires c κs = search needs
 
 past-suffix-requires : tie.Need-past-suffix-requires
-past-suffix-requires c κs = (c .has-suffix .ensures, omega (arith, c .before .past-fraction .ensures, ends (c .before .before)))
+past-suffix-requires c κs =
+    let at-past-power = c .before in
+    let at-power-size = at-past-power .before in
+    let at-past-fraction = at-power-size .before in
+    let start = at-past-fraction .before .before .before .before in
+    let stop = power-high (start .args .t .now) _ _ (at-power-size .power-size .ensures)
+    (omega (arith, at-past-fraction .past-fraction .ensures, ends (at-past-fraction .before)))
+    in
+    (c .has-suffix .ensures, omega (arith, at-past-power .past-power .ensures, stop, start .pre))
 
 places-of-requires : tie.Need-places-of-requires
 places-of-requires c κs = search needs
@@ -96,8 +123,8 @@ returns-3 c =
     let at-clinging = at-if1 .before in
     let places-of = at-clinging .before .places-of in
     let few = neither _ _ (at-if1 .if1 .left) in
-    let w = ltb-false 10 _ (few .0) in
-    let q = ltb-false 9 _ (few .1) in
+    let w = ltb-false 40 _ (few .0) in
+    let q = ltb-false 40 _ (few .1) in
     record {
       is = number-written (parts at-clinging) (places-of .result) (sym (at-clinging .clinging .ensures) ∙ c .if2 .left) w
           (places-of .ensures) q;
@@ -112,6 +139,8 @@ number-at-spec =
     cast-w
     has-point-requires
     past-fraction-requires
+    power-size-requires
+    past-power-requires
     has-suffix-requires
     past-suffix-requires
     places-of-requires

@@ -7,7 +7,7 @@ use lib.ListN.{drop, take, getD}
 use borrow.Author.Needs.{needs}
 use Rattle.text.proofs.ByteLaws.{within-is}
 use Rattle.text.specs.Bytes.{decimal, part, isDigit, at}
-use Rattle.token.proofs.NumberLaws.{digits-inside, run-in-at, decimal-at, decimal-nil, ten-more, ten-fits}
+use Rattle.limbs.proofs.NumberLaws.{digits-inside, run-in-at, decimal-at, decimal-nil, ten-more, ten-fits}
 use Rattle.token.proofs.value.Statement.{statement}
 use Rattle.token.proofs.value.Tie as tie
 

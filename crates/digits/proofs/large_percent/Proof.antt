@@ -1,0 +1,96 @@
+-- `digits::large_percent` meets its contract. Assumes nothing.
+use Prim.Native.Nat.{ℕ}
+use mathlib.Core.Option.{Option, some}
+use mathlib.Core.Path.{_≡_, sym, ap, _∙_}
+use Rattle.digits.specs.Answer.{numberOf, wholeOf}
+use Rattle.digits.specs.Means.{LeastWhole, wholeOver}
+use Rattle.digits.specs.declared.Decimal.{Decimal}
+use Rattle.digits.proofs.PercentLaws.{float-none, float-answer}
+use Rattle.digits.proofs.WholeLaws.{first-whole}
+use Rattle.digits.proofs.MiddleLaws.{fair-of}
+use native.Mathlib.Omega.{arith}
+use borrow.Author.Needs.{needs}
+use Rattle.digits.proofs.large_percent.Statement.{statement}
+use Rattle.digits.proofs.large_percent.Tie as tie
+
+least-float-requires : tie.Need-least-float-requires
+least-float-requires c κs = search needs
+
+hundredth-requires : tie.Need-hundredth-requires
+hundredth-requires c κs = search needs
+
+whole-requires : tie.Need-whole-requires
+whole-requires c κs = search needs
+
+whole-answer : (b : ℕ) (r : Decimal) → LeastWhole b r → {o : Option (ℕ × ℕ)} → some (wholeOver b, 0) ≡ o → numberOf r ≡ o
+whole-answer b r l e = rw (l .found, l .is, l .places) e
+
+returns : tie.Need-returns
+returns c =
+    let at-hundredth = c .before .before in
+    let at-least-float = at-hundredth .before in
+    let start = at-least-float .before in (
+      c .whole .ensures .0
+          ∙ sym (ap wholeOf
+          (float-none (at-least-float .least-float .ensures) (start .pre .1)
+          (λ e. c .before .if1 .taken (at-hundredth .hundredth .ensures ∙ e)))),
+      c .whole .ensures .1,
+    )
+
+middle-below-requires : tie.Need-middle-below-requires
+middle-below-requires c κs = search needs
+
+past-requires : tie.Need-past-requires
+past-requires c κs =
+    let f = c .before .before .before .before .least-float .ensures in
+    (fair-of (omega (arith, f .low)) (c .middle-below .ensures .1), omega arith, omega arith)
+
+whole-requires-2 : tie.Need-whole-requires-2
+whole-requires-2 c κs = search needs
+
+returns-2 : tie.Need-returns-2
+returns-2 c =
+    let at-past = c .before in
+    let at-middle-below = at-past .before in
+    let at-if1 = at-middle-below .before .before in
+    let at-hundredth = at-if1 .before in
+    let at-least-float = at-hundredth .before in
+    let start = at-least-float .before in (
+      c .whole2 .ensures .0
+          ∙ float-answer (at-least-float .least-float .ensures) (at-past .past .ensures _ (at-middle-below .middle-below .ensures .0))
+          (start .pre .1)
+          (sym (at-hundredth .hundredth .ensures) ∙ at-if1 .if1 .left),
+      c .whole2 .ensures .1,
+    )
+
+least-whole-requires : tie.Need-least-whole-requires
+least-whole-requires c κs = search needs
+
+returns-3 : tie.Need-returns-3
+returns-3 c =
+    let at-if2 = c .before in
+    let at-if1 = at-if2 .before in
+    let at-hundredth = at-if1 .before in
+    let at-least-float = at-hundredth .before in
+    let start = at-least-float .before in
+    let f = at-least-float .least-float .ensures in (
+      whole-answer _ _ (c .least-whole .ensures .0)
+          (float-answer f (first-whole _ (at-if2 .if2 .left) (f .high)) (start .pre .1)
+          (sym (at-hundredth .hundredth .ensures) ∙ at-if1 .if1 .left)),
+      c .least-whole .ensures .1,
+    )
+
+pub large-percent-spec : {M : Type 1} → statement M
+large-percent-spec =
+    tie.close
+    (tie.spec
+    least-float-requires
+    hundredth-requires
+    whole-requires
+    returns
+    middle-below-requires
+    past-requires
+    whole-requires-2
+    returns-2
+    least-whole-requires
+    returns-3)

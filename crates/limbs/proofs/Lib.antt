@@ -1,0 +1,4 @@
+pub mod DecimalLaws
+pub mod LimbLaws
+pub mod LongLaws
+pub mod NumberLaws

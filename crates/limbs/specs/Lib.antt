@@ -1,0 +1,2 @@
+pub mod Limbs
+pub mod Means

@@ -1,0 +1,41 @@
+-- `token::long_bits` meets its contract. Assumes nothing.
+use mathlib.Core.Path.{_≡_, sym, subst}
+use Prim.Native.Nat.{ℕ, _^_, _<_}
+use borrow.Author.Needs.{needs}
+use Rattle.number.specs.Number.{bits}
+use Rattle.number.specs.declared.Bits.{Bits}
+use Rattle.number.proofs.Round.{bits-room}
+use Rattle.limbs.specs.Means.{Nearest}
+use Rattle.token.proofs.long_bits.Statement.{statement}
+use Rattle.token.proofs.long_bits.Tie as tie
+
+roomy : (n d : ℕ) (r : Bits) → Nearest n d r → r .bits < 2147483648
+unfolding bits
+roomy n d r h = rw (h .bits) (bits-room n d)
+
+cast-decimal : tie.Need-cast-decimal
+cast-decimal c = search needs
+
+cast-decimal-2 : tie.Need-cast-decimal-2
+cast-decimal-2 c = search needs
+
+cast-decimal-3 : tie.Need-cast-decimal-3
+cast-decimal-3 c = search needs
+
+cast-decimal-4 : tie.Need-cast-decimal-4
+cast-decimal-4 c = search needs
+
+decimal-requires : tie.Need-decimal-requires
+decimal-requires c κs = search needs
+
+returns : tie.Need-returns
+returns c =
+    let c4 = c .before .before .before .before in
+    let start = c4 .before .before in
+    let h = c .decimal .ensures in
+    (subst (λ (z : ℕ). Nearest z (10 ^ start .args .down) (c .decimal .result)) (sym (start .pre .0 .digits)) h, roomy _ _ _ h)
+
+pub long-bits-spec : {M : Type 1} → statement M
+long-bits-spec =
+    tie.close
+    (tie.spec cast-decimal cast-decimal-2 cast-decimal-3 cast-decimal-4 decimal-requires returns)

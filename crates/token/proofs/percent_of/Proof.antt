@@ -1,0 +1,69 @@
+-- `token::percent_of` meets its contract. Assumes nothing.
+use mathlib.Core.Path.{_≡_, sym, ap, _∙_}
+use mathlib.Core.Bool.{Bool, false}
+use Prim.Native.Nat.{ℕ, _^_}
+use lib.Ieee.{Float, binary32, round}
+use Rattle.number.specs.Number.{Written, nearest, percent}
+use Rattle.number.specs.Rounded.{fraction, rounded, numberRounded}
+use Rattle.token.specs.Means.{Reads}
+use Rattle.token.specs.declared.Number as numbers
+use Rattle.token.proofs.TokenLaws.{rest-of}
+use borrow.Author.Needs.{needs}
+use Rattle.token.proofs.percent_of.Statement.{statement}
+use Rattle.token.proofs.percent_of.Tie as tie
+
+cast-long-percent : tie.Need-cast-long-percent
+cast-long-percent c = search needs
+
+sub-long-percent : tie.Need-sub-long-percent
+sub-long-percent c = search needs
+
+part-long-percent-start : tie.Need-part-long-percent-start
+part-long-percent-start c = search needs
+
+part-long-percent-end : tie.Need-part-long-percent-end
+part-long-percent-end c = search needs
+
+long-percent-requires : tie.Need-long-percent-requires
+long-percent-requires c κs =
+    let start = c .before .before .before .before in
+    rw (rest-of (start .args .text .now) (start .args .n .at)) (start .pre .limits)
+
+returns : tie.Need-returns
+returns c =
+    let c4 = c .before .before .before .before in
+    let start = c4 .before in
+    rw (rest-of (start .args .text .now) (start .args .n .at)) at (c .long-percent .ensures)
+
+percent-requires : tie.Need-percent-requires
+percent-requires c κs = search needs
+
+short-value : (s : Bool) (w : Written) (n : numbers.Number) (x : Float) → Reads w n → n .long ≡ false
+    → x ≡ percent s (n .digits) → x ≡ percent s (w .digits)
+short-value s w n x r e h = h ∙ ap (percent s) (r .digits e)
+
+short-rounded : (s : Bool) (w : Written) (n : numbers.Number) (y : Bool) → Reads w n → n .long ≡ false
+    → y ≡ rounded (percent s (n .digits)) (fraction s (n .digits) 100) → y ≡ rounded (percent s (w .digits)) (fraction s (w .digits) 100)
+short-rounded s w n y r e h = h ∙ ap (λ (z : ℕ). rounded (percent s z) (fraction s z 100)) (r .digits e)
+
+returns-2 : tie.Need-returns-2
+returns-2 c =
+    let start = c .before .before .before in
+    let s = start .args .negative in
+    let e = c .before .if1 .left in (
+      short-value s _ (start .args .n) _ (start .pre .is) e (c .percent .ensures .0),
+      short-rounded s _ (start .args .n) _ (start .pre .is) e (c .percent .ensures .1),
+    )
+
+pub percent-of-spec : {M : Type 1} → statement M
+percent-of-spec =
+    tie.close
+    (tie.spec
+    cast-long-percent
+    sub-long-percent
+    part-long-percent-start
+    part-long-percent-end
+    long-percent-requires
+    returns
+    percent-requires
+    returns-2)
