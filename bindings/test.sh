@@ -50,6 +50,8 @@ one rounded 'at 0.5; at 0.1; at 16777217' '2\n'
 one rounded 'at 1.25e2; at 1e-1; at 33333333333333333333333333333.3' '2\n'
 one color 'Tomato' 'FF6347FF\n'
 one color '#1234' '11223344\n'
+one color 'Tomato\n' 'FF6347FF\n'
+one color 'Tomato\n\n' 'refuse 25 at 0\n'
 one color 'transparent' 'refuse 25 at 0\n'
 one short 'at 0.5;' 'refuse 16 at 0\n'
 one back '' '\n'
@@ -73,4 +75,11 @@ draw 1 0 '-32767 -28656 -24544 -20432 -16320 -12208 -8096 -3984 128 4240 8352 12
 draw 3 129 '-511 -8703 -16895 -25087 -32255 -24063 -15871 -7679 511 8703 16895 25087 32255 24063 15871 7679'
 draw 4 256 'refuse 41 at 0'
 draw 2 256 'refuse 42 at 0'
-echo "C example: 4 passed, each in two ways, 4 fed, 2 counts of rounded numbers, 3 colours, a short scratch, 7 written back, 4 looked up, 3 listed, 2 planed and back, and 5 drawn"
+# Arguments that are no mode are told, with 2.
+for arguments in 'lines' 'lookup' 'back back' 'wave 0'; do
+    status=0
+    # shellcheck disable=SC2086
+    "$out/example" $arguments < /dev/null > "$out/got" 2> "$out/told" || status=$?
+    [ "$status" -eq 2 ] && [ ! -s "$out/got" ] && grep -q '^usage: ' "$out/told"
+done
+echo "C example: 4 passed, each in two ways, 4 fed, 2 counts of rounded numbers, 5 colours, a short scratch, 7 written back, 4 looked up, 3 listed, 2 planed and back, 5 drawn, and 4 that are no mode"

@@ -1,9 +1,9 @@
 /*
- * Reads a script from standard input, checks it, and prints its lines, then `accept N`; or `refuse R at P`. With the argument `page`
- * one call does it all; with `feed` the script is fed to empty totals, and what is printed is its answer, the count of its node records
+ * Reads a script from standard input, checks it, and prints its lines, then `accept N`; or `refuse R at P`, with the argument `calls` or
+ * none. With `page` one call does it all; with `feed` the script is fed to empty totals, and what is printed is its answer, the count of its node records
  * and the mean entries of its tracks; with `rounded` it prints how many numbers were rounded instead; with `back` a fresh script that
  * reads to the same tree; with `plane` the planed form of its sheet in hexadecimal, once it has come back to the sheet; with `color` the
- * input is one colour, and what is printed is its red, green, blue and alpha; with `lookup`, a chain's book and a name the input is a
+ * input is one colour, a line feed at its end apart, and what is printed is its red, green, blue and alpha; with `lookup`, a chain's book and a name the input is a
  * store's book, and what is printed is the body; with `order` it is a book, and what is printed are the ordinals of its items by their
  * calls; with `wave`, a kind and a phase the input is left aside, and what is printed is every sixteenth height; with `short` reading is
  * lent a word of scratch less than it needs, and refuses.
@@ -102,23 +102,42 @@ static void wave(uint32_t kind, uint32_t phase) {
     printf("\n");
 }
 
+/* Whether the arguments are a mode and what it takes. */
+static int known(int argc, char **argv) {
+    static const char *const plain[] = {"calls", "page", "feed", "rounded", "back", "plane", "color", "order", "short"};
+    if (argc == 1)
+        return 1;
+    if (argc == 4)
+        return strcmp(argv[1], "lookup") == 0 || strcmp(argv[1], "wave") == 0;
+    for (size_t i = 0; argc == 2 && i < sizeof plain / sizeof plain[0]; i++)
+        if (strcmp(argv[1], plain[i]) == 0)
+            return 1;
+    return 0;
+}
+
 int main(int argc, char **argv) {
+    if (!known(argc, argv)) {
+        fprintf(stderr, "usage: %s [calls | page | feed | rounded | back | plane | color | order | short | lookup CHAIN NAME | wave KIND PHASE]\n", argv[0]);
+        return 2;
+    }
     size_t length = fread(text, 1, sizeof text, stdin);
     if (ferror(stdin)) {
         perror("standard input");
         return 1;
     }
     if (argc > 1 && strcmp(argv[1], "color") == 0) {
+        if (length > 0 && text[length - 1] == '\n')
+            length--;
         uint64_t color = strip_color(text, length);
         if (!refused(color))
             printf("%08X\n", (unsigned)strip_value(color));
         return 0;
     }
-    if (argc > 3 && strcmp(argv[1], "lookup") == 0) {
+    if (argc == 4 && strcmp(argv[1], "lookup") == 0) {
         lookup(length, argv[2], argv[3]);
         return 0;
     }
-    if (argc > 3 && strcmp(argv[1], "wave") == 0) {
+    if (argc == 4 && strcmp(argv[1], "wave") == 0) {
         wave((uint32_t)strtoul(argv[2], NULL, 10), (uint32_t)strtoul(argv[3], NULL, 10));
         return 0;
     }

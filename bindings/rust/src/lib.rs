@@ -501,13 +501,21 @@ pub fn wave(kind: u32, phase: u32, heights: &mut [i16]) -> CheckAnswer {
     check_answer(unsafe { strip_wave(kind, phase, heights.as_mut_ptr(), heights.len()) })
 }
 
-/// The start in the text of the keyword of a record's node, from the line that [`line`] wrote for the record: the two bytes behind
-/// the kind. The head's line has none, and neither has what is no line.
+/// The start in the text of the keyword of a record's node, from the line that [`line`] wrote for the record, its line feed included: the
+/// two bytes behind the kind. The head's line has none, and neither has what is no line: another length than it says, a sum other than
+/// zero, or a byte that is no capital hexadecimal digit.
 pub fn start(line: &[u8]) -> Option<usize> {
-    match hexadecimal(line.get(..4)?)? {
-        0..=2 => None,
-        _ => hexadecimal(line.get(6..10)?),
+    let digits = line.strip_suffix(b"\n")?;
+    let mut sum: u8 = 0;
+    for pair in digits.chunks(2) {
+        sum = sum.wrapping_add(hexadecimal(pair)?);
     }
+    let word = |at: usize| Some(256 * usize::from(hexadecimal(digits.get(at..at + 2)?)?) + usize::from(hexadecimal(digits.get(at + 2..at + 4)?)?));
+    let length = word(0)?;
+    if length < 3 || digits.len() != 2 * length + 6 || sum != 0 {
+        return None;
+    }
+    word(6)
 }
 
 /// The line and the column of a place in a text, both from 1 on; the column counts bytes.
@@ -518,9 +526,13 @@ pub fn line_and_column(text: &[u8], place: usize) -> (usize, usize) {
     (line, column)
 }
 
-/// The number that some hexadecimal digits spell.
-fn hexadecimal(digits: &[u8]) -> Option<usize> {
-    usize::from_str_radix(std::str::from_utf8(digits).ok()?, 16).ok()
+/// The byte that two capital hexadecimal digits spell.
+fn hexadecimal(digits: &[u8]) -> Option<u8> {
+    let worth = |digit: &u8| b"0123456789ABCDEF".iter().position(|each| each == digit);
+    match digits {
+        [high, low] => Some((16 * worth(high)? + worth(low)?) as u8),
+        _ => None,
+    }
 }
 
 fn check_answer(answer: u64) -> CheckAnswer {
