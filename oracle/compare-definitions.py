@@ -19,32 +19,26 @@ use Prim.Native.String.{String}
 use mathlib.Core.Bool.{Bool, true, false, cond}
 use mathlib.Core.List.{List, [], _∷_}
 use mathlib.Core.Path.{_≡_, refl}
-use lib.Dec.{ltb}
 use lib.ListN.{replicate}
 use Rattle.text.specs.Bytes.{bytes, same}
 use Rattle.parser.specs.Reading.{reading}
 use Rattle.validate.specs.Checking.{checking}
 use Rattle.error.specs.Answer.{checkValues}
-use Rattle.script.specs.Table.{hexBytes, readValues}
+use Rattle.script.specs.Table.{hexBytes, sheetValues, checkRead}
 
 pub data Case : Type 0 where
-  reads : String → List ℕ → String → List ℕ → Case
+  gives : String → String → List ℕ → Case
+  refuses : String → List ℕ → Case
   checks : String → String → List ℕ → Case
 
-abbrev sheetOf : List ℕ → List ℕ
-sheetOf [] = []
-sheetOf (r ∷ bs) = bs
+abbrev read : String → List ℕ
+read t = sheetValues (reading (hexBytes (bytes t)) (replicate 64 0) (replicate 4096 0))
 
--- reading's values, and checking's of the sheet that it gave
+-- the sheet that reading gives, and checking's values of it; reading's refusal; checking's values of a sheet
 abbrev agrees : Case → Bool
-agrees (reads t r s v) =
-    let x = readValues (reading (hexBytes (bytes t)) (replicate 64 0) (replicate 4096 0)) in
-    elim (same x (elim (ltb 0 (first r)) [ true ↦ r | false ↦ 0 ∷ hexBytes (bytes s) ])) [ true ↦ same (elim (ltb 0 (first r)) [ true ↦ [] | false ↦ checkValues (checking (hexBytes (bytes t)) (sheetOf x)) ]) v | false ↦ false ]
-  where
-    first : List ℕ → ℕ
-    first [] = 0
-    first (n ∷ ns) = n
-agrees (checks t s v) = same (checkValues (checking (hexBytes (bytes t)) (hexBytes (bytes s)))) v
+agrees (gives t s v) = cond (same (read t) (0 ∷ hexBytes (bytes s))) (same (checkRead (hexBytes (bytes t)) (read t)) v) false
+agrees (refuses t r) = same (read t) r
+agrees (checks t s v) = same (checkValues (checking 1 (hexBytes (bytes t)) (hexBytes (bytes s)))) v
 
 abbrev wrong : ℕ → List Case → List ℕ
 wrong i [] = []
@@ -53,11 +47,11 @@ wrong i (c ∷ cs) = elim (agrees c) [ true ↦ wrong (suc i) cs | false ↦ i �
 """
 
 
-def values(verdict):
+def values(verdict, more=""):
     if verdict == "accept":
         return "(0 ∷ [])"
     m = re.fullmatch(r"refuse (\d+) at (\d+)", verdict)
-    return f"({m.group(1)} ∷ {m.group(2)} ∷ [])"
+    return f"({m.group(1)} ∷ {m.group(2)} ∷ {more}[])"
 
 
 def read_cases(longest):
@@ -67,9 +61,9 @@ def read_cases(longest):
             continue
         if answer.startswith("accept"):
             sheet = answer.split(" ")[2]
-            yield ("read", n, f'reads "{text}" (0 ∷ []) "{sheet}" {values(rest[0])}')
+            yield ("read", n, f'gives "{text}" "{sheet}" {values(rest[0])}')
         else:
-            yield ("read", n, f'reads "{text}" {values(answer)} "" []')
+            yield ("read", n, f'refuses "{text}" {values(answer, "0 ∷ ")}')
 
 
 def check_cases(longest):
@@ -117,6 +111,7 @@ def main():
     open(f"{WORK}/crates/compare/specs/Lib.antt", "w").write("pub mod Compare\n")
     open(f"{WORK}/crates/compare/src/lib.rt", "w").write("// Answers of the Rust.\n")
     bad = []
+    print(f"{len(cases)} cases, {PART} at a time; the crates below `script` are proved first if they are not, in minutes", flush=True)
     for k in range(0, len(cases), PART):
         found = run(cases[k : k + PART])
         bad += found

@@ -8,6 +8,12 @@
  * No pointer is NULL, not even where its length is 0. What is written to overlaps nothing else that is lent. A length is in
  * elements. Nothing is allocated.
  *
+ * The floating-point mode is C's default: rounding to nearest, and no denormal taken or stored as zero (on x86-64 neither DAZ nor FTZ is
+ * set in MXCSR). In another mode answers may differ: rounding upward, `1%` is stored as 3C23D70B, and not as 3C23D70A.
+ *
+ * The most stack that was seen for a call, in bytes: strip_order 128,600, strip_lookup 62,904, strip_check, strip_print, strip_feed and
+ * strip_write 38,208, of any script, strip_read 18,808, the others 3,256.
+ *
  * Each function answers with one number: the refusal's, 0 for accepted, times 2^56, plus a value.
  */
 #ifndef STRIP_H
@@ -151,8 +157,9 @@ uint64_t strip_unplane(const uint8_t *text, size_t text_length, const uint8_t *p
 
 /*
  * Reads and checks a text, and writes at the front of a page what the program prints for it: a line for each record, then
- * `accept N`; or `refuse R at P`; `list` is checking's, and the program's is STRIP_RUST_COLORS. Accepted: strip_value is the length of what is written; past it the page is as it was, and scratch
- * and sheet are as strip_read leaves them. A page of fewer than STRIP_PAGE_BYTES is refused with 32 at 0, and nothing is touched.
+ * `accept N`; or `refuse R at P`; `list` is checking's, and the program's is STRIP_RUST_COLORS. Accepted: strip_value is the length of
+ * what is written; past it the page is as it was, and scratch and sheet are as strip_read leaves them. A page of fewer than
+ * STRIP_PAGE_BYTES is refused with 32 at 0, and nothing is touched.
  */
 uint64_t strip_print(const uint8_t *text, size_t text_length, uint16_t *scratch, size_t scratch_length, uint8_t *sheet,
                      size_t sheet_length, uint8_t *page, size_t page_length, uint32_t list);

@@ -5,6 +5,10 @@
 //! library that is proved: each answer and every byte that is written equals a definition. They allocate nothing, and what they write to
 //! is lent.
 //!
+//! The floating-point mode is the default one, as it is in every thread of Rust unless it is changed: rounding to nearest, and no denormal
+//! taken or stored as zero. The most stack that was seen for a call is 128,600 bytes for [`order`], 62,904 for [`lookup`], 38,208 for
+//! [`check`], [`print()`], [`feed`] and [`write()`], 18,808 for [`read`], and 3,256 for the others.
+//!
 //! ```
 //! use strip::{CheckAnswer, LineAnswer, ReadAnswer, Refusal};
 //!
@@ -181,7 +185,7 @@ pub enum CheckAnswer {
     },
 }
 
-/// What [`line`], [`print`], [`write`], [`plane`] and [`unplane`] answer.
+/// What [`line()`], [`print()`], [`write()`], [`plane`] and [`unplane`] answer.
 #[derive(Clone, Copy, Debug, PartialEq, Eq)]
 pub enum LineAnswer {
     /// The output's first `length` bytes are the line, its LF included, the planed form or the sheet; the page's all that is printed; or
@@ -190,7 +194,7 @@ pub enum LineAnswer {
         /// The length in bytes.
         length: usize,
     },
-    /// Nothing is written: the output or the page is as it was, and the buffer of [`write`] is all zero.
+    /// Nothing is written: the output or the page is as it was, and the buffer of [`write()`] is all zero.
     Refused {
         /// Why.
         refusal: Refusal,
@@ -501,7 +505,7 @@ pub fn wave(kind: u32, phase: u32, heights: &mut [i16]) -> CheckAnswer {
     check_answer(unsafe { strip_wave(kind, phase, heights.as_mut_ptr(), heights.len()) })
 }
 
-/// The start in the text of the keyword of a record's node, from the line that [`line`] wrote for the record, its line feed included: the
+/// The start in the text of the keyword of a record's node, from the line that [`line()`] wrote for the record, its line feed included: the
 /// two bytes behind the kind. The head's line has none, and neither has what is no line: another length than it says, a sum other than
 /// zero, or a byte that is no capital hexadecimal digit.
 pub fn start(line: &[u8]) -> Option<usize> {

@@ -323,6 +323,19 @@ fn planing_refuses_the_text_then_20_or_40_then_a_short_output() {
 type Operation = fn(&[u8], &[u8], &mut [u8]) -> LineAnswer;
 
 #[test]
+fn a_start_is_told_by_a_whole_line_alone() {
+    let line = b"00090C0008000F00060000CE\n";
+    assert_eq!(strip::start(line), Some(8));
+    for end in 0..line.len() {
+        assert_eq!(strip::start(&line[..end]), None, "{end} bytes");
+    }
+    let others = ["0008xx0008", "0008xx0008\n", "00090C0008000F00060000CF\n", "00090c0008000F00060000CE\n", "00080C0008000F00060000CF\n", "00020001FD\n", "000000\n", "+0090C0008000F00060000CE\n"];
+    for other in others {
+        assert_eq!(strip::start(other.as_bytes()), None, "{other:?}");
+    }
+}
+
+#[test]
 fn slices_may_be_empty() {
     assert_eq!(sheet_of(b""), (vec![0, 0], 0));
     assert_eq!(read(b"", &mut [], &mut []), refused(Refusal::ScratchTooShort, 0));
