@@ -1,5 +1,7 @@
 // Numbers of up to 80 digits, times or over a power of ten: the nearest f32, by long division.
 // A whole number is some limbs of 32 bits, the lowest first: as many as its digits want, of 20.
+// The functions are for our own crates: `muladd` requires a carry of at most its factor, `decimal` digits of a text and a power that
+// 02 (n) allows.
 ghost use mathlib.Core.Path.{_≡_};
 ghost use mathlib.Core.Bool.{true, false};
 ghost use Prim.Native.Nat.{ℕ, _+_, _-_, _*_, _^_, _<_, _≤_};

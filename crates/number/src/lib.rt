@@ -26,7 +26,7 @@ const POWERS: [u64; 10] = [
     1000000000,
 ];
 
-// 10 to the power of `places`.
+// 10 to the power of `places`. For our own crates: at most 9.
 pub fn ten_to(places: usize) -> u64
     requires { ⌜ places ≤ 9 ⌝ }
     ensures { λ r. ⌜ r ≡ 10 ^ places ⌝ }

@@ -69,6 +69,10 @@ refusal-number r p = omega arith
 pub refusal-place : (r : Refusal) (p : ℕ) → p < 2 ^ 32 → valueIn (packedRefusal r p) ≡ p
 refusal-place r p h = omega arith
 
+-- "On a refusal the count is 0"
+pub refusal-rounded : (r : Refusal) (p : ℕ) → roundedIn (packedRefusal r p) ≡ 0
+refusal-rounded r p = omega arith
+
 -- of what is accepted the number is 0
 pub sheet-number : (n k j : ℕ) → numberIn (packedSheet n k j) ≡ 0
 sheet-number n k j = omega arith

@@ -1,4 +1,5 @@
-// Bytes and numbers carried from a sheet to a planed one or back.
+// Bytes and numbers carried from a sheet to a planed one or back. For our own crates: what is carried stands in the bytes that are lent, and
+// has room in the output.
 ghost use mathlib.Core.Path.{_≡_};
 ghost use Prim.Native.Nat.{_+_, _*_, _≤_, _<_};
 ghost use lib.ListN.{length};

@@ -47,8 +47,8 @@ whenChecked t sheet n out check.Accepted = lines t sheet n (suc n) 0 out
 whenChecked t sheet n out (check.Refused r p) = refusal r p
 
 abbrev pub whenRead : ℕ → List ℕ → List ℕ → ReadAnswer × List ℕ × List ℕ → List ℕ
-whenRead list t out (read.Accepted length n k, scratch, sheet) =
-    whenChecked t (take length sheet) n out (checking list t (take length sheet))
+whenRead list t out (read.Accepted m n k, scratch, sheet) =
+    whenChecked t (take m sheet) n out (checking list t (take m sheet))
 whenRead list t out (read.Refused r p, scratch, sheet) = refusal r p
 
 -- reading, checking under a list of colours, then lining record by record, with the buffers that are lent

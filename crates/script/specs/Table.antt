@@ -1,4 +1,4 @@
--- 01, "Shelf tests": the entries P1 to P14, and the lemma that covers them. Assumes nothing.
+-- 01, "Shelf tests": the entries P1 to P14, rows of 02's own, and the lemma that covers them. Assumes nothing.
 use Prim.Native.Nat.{ℕ, _+_, _*_, _-_}
 use Prim.Native.String.{String}
 use mathlib.Core.Bool.{Bool, true, false, _&&_, cond}
@@ -13,11 +13,12 @@ use Rattle.error.specs.Answer.{readValues, checkValues}
 use Rattle.error.specs.declared.ReadAnswer.{ReadAnswer}
 use Rattle.error.specs.declared.ReadAnswer.the-variants.{Accepted, Refused}
 
--- for a script: what the program prints; the sheet that reading gives; reading's refusal and its place; checking's values for reading's
--- sheet; and checking's values for a sheet that is given
+-- for a script: what the program prints; the sheet that reading gives; its counts of node records and of rounded numbers; reading's refusal
+-- and its place; checking's values for reading's sheet; and checking's values for a sheet that is given
 pub data Case : Type 0 where
   prints : String → String → Case
   gives : String → String → Case
+  counts : String → ℕ → ℕ → Case
   refuses : String → ℕ → ℕ → Case
   checks : String → List ℕ → Case
   checksSheet : String → String → List ℕ → Case
@@ -36,9 +37,17 @@ abbrev pub sheetValues : ReadAnswer × List ℕ × List ℕ → List ℕ
 sheetValues (Accepted n c k, scratch, sheet) = 0 ∷ take n sheet
 sheetValues (Refused r p, scratch, sheet) = readValues (Refused r p)
 
+-- the two counts that reading gives; of a refusal none
+abbrev pub countValues : ReadAnswer → List ℕ
+countValues (Accepted n c k) = c ∷ k ∷ []
+countValues (Refused r p) = []
+
 -- reading with the program's buffers
+abbrev pub readOf : String → ReadAnswer × List ℕ × List ℕ
+readOf s = reading (bytes s) (replicate scratchWords 0) (replicate sheetBytes 0)
+
 abbrev pub read : String → List ℕ
-read s = sheetValues (reading (bytes s) (replicate scratchWords 0) (replicate sheetBytes 0))
+read s = sheetValues (readOf s)
 
 -- checking what reading gave, under the first list; of a refusal nothing
 abbrev pub checkRead : List ℕ → List ℕ → List ℕ
@@ -49,6 +58,7 @@ checkRead t (r ∷ bs) = cond (ltb r 1) (checkValues (checking 1 t bs)) []
 unfoldable pub holds : Case → Bool
 holds (prints s o) = same (output (bytes s)) (bytes o)
 holds (gives s h) = same (read s) (0 ∷ hexBytes (bytes h))
+holds (counts s c k) = same (countValues (readOf s .0)) (c ∷ k ∷ [])
 holds (refuses s r p) = same (read s) (r ∷ p ∷ 0 ∷ [])
 holds (checks s v) = same (checkRead (bytes s) (read s)) v
 holds (checksSheet s h v) = same (checkValues (checking 1 (bytes s) (hexBytes (bytes h)))) v
@@ -80,14 +90,30 @@ table =
     -- P13, P14
     ∷ checksSheet "p" "0001020000000000010002017F800000000000000000017F80000000000000000000" (0 ∷ [])
     ∷ gives "at 0.1" "00010E00003DCCCCCD00"
+    -- 02 (a): a start other than 0
+    ∷ gives "at 1; at 2" "00020E00003F800000000E00064000000000"
+    -- 02 (d): a written number that another f32 stands for counts, also where a later field overrides it; a whole percent by its hundredth;
+    -- a whole number never
+    ∷ counts "at 1; at 2" 2 0
+    ∷ counts "at 0.1" 1 1
+    ∷ counts "tween p: 0 => 1 duration: 0.1 duration: 1" 1 1
+    ∷ counts "keyframes p {1677721500%: 0}" 1 0
+    ∷ counts "keyframes p {1677721400%: 0}" 1 1
+    ∷ counts "tween p: 0 => 1 duration: 1 round: 16777217" 1 0
+    -- 02 (n)
+    ∷ gives "at 1.25e2s" "00010E000042FA000000"
+    ∷ counts "at 1e2; at 1e-1" 2 1
+    ∷ refuses "at 1e005" 2 3
     ∷ []
 
 pub lemma : T (every table)
 unfolding Rattle.text.specs.Bytes.same Rattle.text.specs.Bytes.oneOf Rattle.text.specs.Bytes.lowered Rattle.text.specs.Bytes.run
     Rattle.text.specs.Bytes.decimal Rattle.text.specs.Words.find Rattle.text.specs.Words.under Rattle.text.specs.Words.entries
     Rattle.text.specs.Words.shorter Rattle.number.specs.Number.nearest Rattle.number.specs.Number.percent Rattle.number.specs.Number.whole
-    Rattle.number.specs.Number.bits Rattle.number.specs.Number.f32 Rattle.number.specs.Time.storedTime Rattle.number.specs.Time.near
-    Rattle.number.specs.Time.anyNear Rattle.number.specs.Time.duplicates Rattle.token.specs.Means.held Rattle.token.specs.Means.splitting
+    Rattle.number.specs.Number.bits Rattle.number.specs.Number.f32 Rattle.number.specs.Rounded.rounded
+    Rattle.number.specs.Rounded.numberRounded Rattle.number.specs.Rounded.timeRounded Rattle.number.specs.Time.storedTime
+    Rattle.number.specs.Time.near Rattle.number.specs.Time.anyNear Rattle.number.specs.Time.duplicates Rattle.token.specs.Means.held
+    Rattle.token.specs.Means.splitting
     Rattle.token.specs.Names.isKeyword Rattle.token.specs.Split.closed Rattle.token.specs.Split.nestMark Rattle.token.specs.Split.step
     Rattle.token.specs.Split.splitFrom Rattle.token.specs.Split.split Rattle.token.specs.Token.nameAt Rattle.token.specs.Token.pointAt
     Rattle.token.specs.Token.pastFraction Rattle.token.specs.Token.suffixAt Rattle.token.specs.Token.pastSuffix

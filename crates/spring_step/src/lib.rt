@@ -1,4 +1,5 @@
 // parser.rs, parse_spring: the fields of a spring, one step for each.
+// The functions are for our own crates: each requires a cursor that stands in the text.
 ghost use Prim.Native.Nat.{_≤_};
 ghost use Rattle.cursor.specs.Means.{Ready};
 ghost use Rattle.spring_step.specs.Means.{PastMeans, SpringStepMeans, SpringListMeans};

@@ -34,7 +34,7 @@ pub fn over_limit(words: &[u32]) -> bool
     false
 }
 
-// The sum of the words from one to another.
+// The sum of the words from one to another. For our own crates: both are words that are lent, of the 60.
 pub fn sum(words: &[u32], from: usize, to: usize) -> u64
     requires { ⌜ to ≤ length (now words) ⌝ }
     requires { ⌜ to ≤ 60 ⌝ }
@@ -49,7 +49,7 @@ pub fn sum(words: &[u32], from: usize, to: usize) -> u64
     s
 }
 
-// Adds a number to a word.
+// Adds a number to a word. For our own crates: it is one that is lent, and the sum is below 2^32.
 pub fn add(words: &mut [u32], i: usize, n: u32)
     requires { ⌜ i < length (now words) ⌝ }
     requires { ⌜ getD (now words) i 0 + n < 4294967296 ⌝ }

@@ -33,7 +33,7 @@ use Rattle.packed.specs.Packed.{packedRead, packedCheck, packedLine, packedFed,
 use Rattle.packed.specs.Packed.{valueIn, lengthIn, recordsIn, roundedIn, scriptNumberIn}
 use Rattle.packed.proofs.PackedLaws.{BodyParts, store-body, chain-body, order-number, order-items}
 use Rattle.packed.proofs.PackedLaws.{script-number, script-refusal, script-place}
-use Rattle.packed.proofs.PackedLaws.{refusal-number, refusal-place, sheet-number, sheet-length}
+use Rattle.packed.proofs.PackedLaws.{refusal-number, refusal-place, refusal-rounded, sheet-number, sheet-length}
 use Rattle.packed.proofs.PackedLaws.{sheet-records, sheet-rounded, line-number, line-length}
 use Rattle.error.specs.declared.Refusal.the-variants.{TooManyScripts}
 use Rattle.totals.specs.Totals.{added}
@@ -49,7 +49,7 @@ use Rattle.unpack.proofs.Within.{ScriptWithin, write-within, convert-wi
 -- w has the parts of an answer
 abbrev pub ReadParts : ReadAnswer → ℕ → Type 0
 ReadParts (read.Accepted n k j) w = (numberIn w ≡ 0) × (lengthIn w ≡ n) × (recordsIn w ≡ k) × (roundedIn w ≡ j)
-ReadParts (read.Refused r p) w = (numberIn w ≡ numberOf r) × (valueIn w ≡ p)
+ReadParts (read.Refused r p) w = (numberIn w ≡ numberOf r) × (valueIn w ≡ p) × (roundedIn w ≡ 0)
 
 read-back : (a : ReadAnswer) → ReadWithin a → ReadParts a (packedRead a)
 read-back (read.Accepted n k j) h = (
@@ -58,7 +58,7 @@ read-back (read.Accepted n k j) h = (
   sheet-records n k j (omega (arith, h .1)),
   sheet-rounded n k j (omega (arith, h .2)),
 )
-read-back (read.Refused r p) h = (refusal-number r p, refusal-place r p (omega arith))
+read-back (read.Refused r p) h = (refusal-number r p, refusal-place r p (omega arith), refusal-rounded r p)
 
 pub read-parts : (t scratch sheet : List ℕ) → ReadParts (reading t scratch sheet .0) (packedRead (reading t scratch sheet .0))
 read-parts t scratch sheet = read-back (reading t scratch sheet .0) (read-within t scratch sheet)
