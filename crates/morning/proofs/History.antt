@@ -1,5 +1,5 @@
--- The totals after at most 4,096 feeds, and the means over totals. Assumes nothing.
-use Prim.Native.Nat.{ℕ, zero, suc, _+_, _*_, _/_, _≤_, _<_}
+-- The totals after at most 4,096 feeds. Assumes nothing.
+use Prim.Native.Nat.{ℕ, suc, _+_, _*_, _≤_, _<_}
 use mathlib.Core.Bool.{Bool, true, false, _||_, cond}
 use mathlib.Core.List.{List, [], _∷_, _++_, append-nil}
 use mathlib.Core.Logic.{_⊎_, inl, inr}
@@ -13,11 +13,8 @@ use borrow.Author.Tests.{le-ltb, le-leb, lt-leb}
 use Rattle.decode.proofs.ReadLaws.{le-or-lt}
 use Rattle.error.specs.declared.Refusal.the-variants.{TooManyScripts}
 use Rattle.totals.specs.Totals.{scriptLimit, figureLimit, emptyTotals, sumOf, itself, over, scripts, added}
-use Rattle.totals.specs.Mean.{gcd, fraction, nodeRecords, mean, meanOf, Lowest}
-use Rattle.error.specs.declared.MeanAnswer.{MeanAnswer}
-use Rattle.error.specs.declared.MeanAnswer.the-variants.{Fraction}
+use Rattle.totals.specs.Mean.{nodeRecords}
 use Rattle.totals.proofs.TotalsLaws.{length-added, word-added}
-use Rattle.totals.proofs.MeanLaws.{lowest-terms}
 use Rattle.feed.specs.Feed.{Fed, readOf, judgement, figure, full, feeding}
 use Rattle.error.specs.declared.FeedAnswer.{FeedAnswer}
 use Rattle.error.specs.declared.FeedAnswer.the-variants.{Counted, Refused}
@@ -40,7 +37,7 @@ sum-most f m h (x ∷ xs) = more m (f x) (sumOf f xs) (length xs * m) (length xs
     more : (m a b p n : ℕ) → a ≤ m → b ≤ p → p ≡ n * m → a + b ≤ suc n * m
     more m a b p n h k e = rw (suc-mul n m, sym e) (omega arith)
 
-not-over : (ws : List ℕ) → ((i : ℕ) → i < length ws → getD ws i 0 ≤ figureLimit) → over ws ≡ false
+pub not-over : (ws : List ℕ) → ((i : ℕ) → i < length ws → getD ws i 0 ≤ figureLimit) → over ws ≡ false
 unfolding over
 not-over [] h = refl
 not-over (w ∷ ws) h = rw (le-ltb figureLimit w (h 0 (omega arith))) (not-over ws (λ i l. h (suc i) (omega arith)))
@@ -143,10 +140,3 @@ morning xs h = record {
   where
     s : So xs (after emptyTotals xs)
     s = so-after [] emptyTotals xs empty (omega arith)
-
--- ---- means
-
--- a mean of a over b, where there is a script or a track, is the exact quotient in lowest terms
-pub mean-exact : (a b : ℕ) → 0 < b → (n : ℕ) × (d : ℕ) × (fraction a b ≡ Fraction n d) × Lowest a b n d
-mean-exact a zero h = absurd (omega arith)
-mean-exact a (suc b) h = (a / gcd a (suc b), suc b / gcd a (suc b), refl, lowest-terms a (suc b) h)

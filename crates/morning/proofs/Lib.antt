@@ -1,3 +1,4 @@
 pub mod FigureLaws
 pub mod History
+pub mod MeanLaws
 pub mod ScratchLaws

@@ -3,6 +3,7 @@
 use Prim.Native.Nat.{ℕ, _+_, _≤_, _<_}
 use mathlib.Core.Bool.{cond}
 use mathlib.Core.List.{List, [], _∷_, _++_}
+use mathlib.Core.Logic.{_↔_}
 use mathlib.Core.Path.{_≡_}
 use lib.Dec.{eqb}
 use lib.ListN.{length, getD}
@@ -11,10 +12,14 @@ use Rattle.error.specs.declared.ReadAnswer.{ReadAnswer}
 use Rattle.error.specs.declared.ReadAnswer.the-variants as read
 use Rattle.error.specs.declared.CheckAnswer.{CheckAnswer}
 use Rattle.error.specs.declared.CheckAnswer.the-variants as check
+use Rattle.error.specs.declared.MeanAnswer.{MeanAnswer}
+use Rattle.error.specs.declared.MeanAnswer.the-variants.{Fraction, Nothing}
+use Rattle.ast.specs.Tree as tree
+use Rattle.ast.specs.Tree.{KeyframeTime, Leaf, single, holding}
 use Rattle.sheet.specs.Sheet.{Node}
 use Rattle.sheet.specs.Records.{kindOf, entriesOf}
 use Rattle.totals.specs.Totals.{scriptLimit, figureLimit, emptyTotals, sumOf}
-use Rattle.totals.specs.Mean.{nodeRecords}
+use Rattle.totals.specs.Mean.{nodeRecords, mean, Lowest}
 use Rattle.feed.specs.Feed.{Fed, readOf, judgement, numberIn, nodes, feeding}
 use Rattle.error.specs.declared.FeedAnswer.the-variants.{Counted, Refused}
 
@@ -52,6 +57,32 @@ ifAccepted (check.Refused r p) c = 0
 abbrev pub acceptCount : Fed → ℕ
 acceptCount x = ifAccepted (judgement x) (recordsRead (readOf x))
 
+-- 1 for an accepted script
+abbrev pub acceptedCount : Fed → ℕ
+acceptedCount x = ifAccepted (judgement x) 1
+
+-- 1 for a track, a `keyframes` node
+abbrev pub leafTracks : Leaf KeyframeTime → ℕ
+leafTracks (tree.tween x) = 0
+leafTracks (tree.spring x) = 0
+leafTracks (tree.keyframes x) = 1
+leafTracks (tree.path x) = 0
+leafTracks (tree.morph x) = 0
+leafTracks (tree.draw x) = 0
+leafTracks (tree.color x) = 0
+leafTracks (tree.waveform x) = 0
+leafTracks (tree.preset x) = 0
+leafTracks (tree.label x) = 0
+leafTracks (tree.at x) = 0
+
+abbrev pub tracksOf : Node → ℕ
+tracksOf (single p l) = leafTracks l
+tracksOf (holding p b ns) = 0
+
+-- the tracks in a script, if it is accepted
+abbrev pub trackCount : Fed → ℕ
+trackCount x = sumOf tracksOf (nodes x)
+
 -- ---- the promise
 
 -- every figure of the totals ws is its count over the scripts xs
@@ -73,3 +104,13 @@ pub record Morning (xs : List Fed) : Type 0 where
       → feeding (after emptyTotals xs) x ≡ (Counted (judgement x), after emptyTotals (xs ++ x ∷ []), readOf x .1, readOf x .2)
   pub last : length xs ≡ scriptLimit → (x : Fed)
       → feeding (after emptyTotals xs) x ≡ (Refused TooManyScripts 0, after emptyTotals xs, x .scratch, x .sheet)
+
+-- "each as an exact fraction in lowest terms, or `none` where there was no such script or track": the answer for a over b
+pub record MeanIs (a b : ℕ) (answer : MeanAnswer) : Type 0 where
+  pub none : (answer ≡ Nothing) ↔ (b ≡ 0)
+  pub lowest : 0 < b → (n : ℕ) × (d : ℕ) × (answer ≡ Fraction n d) × Lowest a b n d
+
+-- "the mean node records per accepted script and mean entries per track", after the feeds xs
+pub record Means (xs : List Fed) : Type 0 where
+  pub records : MeanIs (sumOf acceptCount xs) (sumOf acceptedCount xs) (mean (after emptyTotals xs) 0)
+  pub entries : (which : ℕ) → 0 < which → MeanIs (sumOf entryCount xs) (sumOf trackCount xs) (mean (after emptyTotals xs) which)
