@@ -1,22 +1,19 @@
 -- The check byte tells one byte changed, and never two swapped. Assumes nothing.
-use Prim.Native.Nat.{ℕ, zero, suc, _+_, _%_, _<_}
-use mathlib.Core.Bool.{Bool, true, false, cond}
+use Prim.Native.Nat.{ℕ, zero, suc, _+_, _/_, _%_, _<_}
 use mathlib.Core.List.{List, [], _∷_, _++_}
 use mathlib.Core.Logic.{_≢_}
-use mathlib.Core.Option.{Option, none, some}
-use mathlib.Core.Path.{_≡_, refl, ap}
+use mathlib.Core.Path.{_≡_, refl}
 use native.Mathlib.Omega.{arith}
-use lib.Dec.{ltb}
-use lib.ListN.{length, getD, set, take, drop, getElem?, length-set}
+use lib.ListN.{length, getD, set, take, drop, length-set}
 use lib.Seq.{take-append-seam}
-use Rattle.error.specs.declared.Refusal.{Refusal}
-use Rattle.error.specs.declared.Refusal.the-variants.{OutputTooShort}
-use Rattle.error.specs.declared.LineAnswer.{LineAnswer}
-use Rattle.error.specs.declared.LineAnswer.the-variants.{Accepted, Refused}
-use Rattle.sheet.specs.Records.{allRecords}
-use Rattle.sheet.specs.Opening.{Opened, opened, shut, opening}
-use Rattle.line.specs.Line.{total, covered, checkByte, spelled, line}
-use Rattle.line.specs.Lining.{ofRecord, ofOpened, lining}
+use Rattle.error.specs.declared.LineAnswer.the-variants.{Accepted}
+use Rattle.codec.proofs.Laws.{All}
+use Rattle.line.specs.Line.{hex, total, covered, checkByte, spelled, line}
+use Rattle.line.specs.Lining.{lining}
+use Rattle.line.specs.ReadBack.{Spells, Lined}
+use Rattle.line.proofs.LineLaws.{given}
+use Rattle.line.proofs.ByteLaws.{Byte, all-append, all-at, Recorded, recorded}
+use Rattle.line.proofs.BackLaws.{hex-back}
 
 total-append : (a b : List ℕ) → total (a ++ b) ≡ total a + total b
 unfolding total
@@ -60,34 +57,47 @@ two-swapped bs i j h g =
       at-set bs i j h g,
     )
 
--- ---- what lining gives
+-- ---- the line of a record
 
--- the first n bytes of the output are a record's line
-pub record Lined (n : ℕ) (after : List ℕ) : Type 0 where
-  pub bytes : List ℕ
-  pub is : take n after ≡ line bytes
+spelled-bytes : (r : List ℕ) → Recorded r → All Byte (spelled r)
+unfolding checkByte
+spelled-bytes r h = (omega arith, (omega arith, all-append r (checkByte r ∷ []) (h .bytes) (omega arith, tt)))
 
-pub lined : (t s : List ℕ) (i : ℕ) (out : List ℕ) {n : ℕ} {after : List ℕ} → lining t s i out ≡ (Accepted n, after) → Lined n after
-unfolding lining
-lined t s i out {n} {after} e = opens (opening t s) e
+spells : (r : List ℕ) → Recorded r → Spells r (hex (spelled r))
+spells r h = record {
+  high = length r / 256 % 256;
+  low = length r % 256;
+  check = checkByte r;
+  back = hex-back (spelled r) bytes;
+  long = let l = h .short in omega arith;
+  small = all-at (spelled r) bytes;
+  tells = record {
+    zero = zero-sum r;
+    changed = λ i b l k n. one-changed (spelled r) i b l (all-at (spelled r) bytes i) k n (zero-sum r);
+    swapped = λ i j l k. rw (two-swapped (spelled r) i j l k) (zero-sum r);
+  };
+}
   where
-    no : {r : Refusal} {p : ℕ} → Prim.Path (LineAnswer × List ℕ) (Refused r p, out) (Accepted n, after) → Lined n after
-    no q = let z : _≡_ {A = ℕ} 0 1 = cc (ap (λ (a : LineAnswer × List ℕ). a .0) q) in absurd (omega arith)
+    bytes : All Byte (spelled r)
+    bytes = spelled-bytes r h
 
-    room : (r : List ℕ) (b : Bool)
-        → cond {A = LineAnswer × List ℕ} b (Refused OutputTooShort i, out) (Accepted (length (line r)), line r ++ drop (length (line r)) out)
-        ≡ (Accepted n, after)
-        → Lined n after
-    room r true q = no q
-    room r false q =
-        let h : Accepted (length (line r)) ≡ Accepted n = ap (λ (a : LineAnswer × List ℕ). a .0) q in
-        let k : length (line r) ≡ n = cc in
-        record { bytes = r; is = rw (← k, ← ap (λ (a : LineAnswer × List ℕ). a .1) q) (take-append-seam (line r) (drop (length (line r)) out)) }
+-- ---- what lining accepts
 
-    record-of : (o : Option (List ℕ)) → ofRecord i out o ≡ (Accepted n, after) → Lined n after
-    record-of none q = no q
-    record-of (some r) q = room r (ltb (length out) (length (line r))) q
+at-front : {n : ℕ} (l rest after : List ℕ) → n ≡ length l → after ≡ l ++ rest → take n after ≡ l
+at-front l rest after e f = rw (e, f) (take-append-seam l rest)
 
-    opens : (o : Opened) → ofOpened (length t) i out o ≡ (Accepted n, after) → Lined n after
-    opens (shut r p) q = no q
-    opens (opened ns) q = record-of (getElem? (allRecords (length t) ns) i) q
+-- "the sum tells any one of these bytes changed and never two swapped", of the line that is given
+pub lined : (t s : List ℕ) (i : ℕ) (out : List ℕ) {n : ℕ} {after : List ℕ} → lining t s i out ≡ (Accepted n, after) → Lined t s i n after
+unfolding line
+lined t s i out {n} {after} e =
+    let g = given t s i out e in
+    let r = g .bytes in
+    record {
+      tree = g .tree;
+      decodes = g .decodes;
+      bytes = r;
+      found = g .found;
+      digits = hex (spelled r);
+      is = at-front (line r) (drop n out) after (g .long) (g .is);
+      spells = spells r (recorded (length t) s (g .tree) (g .decodes) i (g .found));
+    }

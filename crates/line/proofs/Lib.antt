@@ -1,2 +1,4 @@
 pub mod LineLaws
+pub mod ByteLaws
+pub mod BackLaws
 pub mod CheckLaws

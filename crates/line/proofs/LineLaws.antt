@@ -18,6 +18,7 @@ use Rattle.error.specs.declared.LineAnswer.{LineAnswer}
 use Rattle.error.specs.declared.LineAnswer.the-variants.{Accepted, Refused}
 use Rattle.text.specs.Write.{Puts}
 use Rattle.codec.specs.Codec.{big}
+use Rattle.sheet.specs.Sheet.{Forest, decode}
 use Rattle.sheet.specs.Records.{allRecords}
 use Rattle.sheet.specs.Opening.{Opened, opened, shut, opening}
 use Rattle.records.specs.declared.RecordAt.{RecordAt}
@@ -121,31 +122,52 @@ module _ (t s : List ℕ) (i : ℕ) (out : List ℕ) where
   unfolding lining
   found e l = let o = the-tree t s e in rw (o .opens, ← l .is (o .nodes) (o .decodes))
 
--- a line that is given fits the output
-pub given-fits : (t s : List ℕ) (i : ℕ) (out : List ℕ) {n : ℕ} {after : List ℕ} → lining t s i out ≡ (Accepted n, after) → n ≤ length after
-unfolding lining
-given-fits t s i out {n} {after} e = opens (opening t s) e
-  where
-    no : {r : Refusal} {p : ℕ} → Prim.Path (LineAnswer × List ℕ) (Refused r p, out) (Accepted n, after) → n ≤ length after
-    no q = let z : _≡_ {A = ℕ} 0 1 = cc (ap (λ (a : LineAnswer × List ℕ). a .0) q) in absurd (omega arith)
+-- ---- what lining accepts
 
-    room : (l : List ℕ) (b : Bool)
-        → cond {A = LineAnswer × List ℕ} b (Refused OutputTooShort i, out) (Accepted (length l), l ++ drop (length l) out)
-        ≡ (Accepted n, after)
-        → n ≤ length after
-    room l true q = no q
-    room l false q =
-        let h : Accepted (length l) ≡ Accepted n = ap (λ (a : LineAnswer × List ℕ). a .0) q in
-        let k : length l ≡ n = cc in
-        omega (arith, k, ap (λ (a : LineAnswer × List ℕ). length (a .1)) q, length-append l (drop (length l) out))
+-- the record with the ordinal, and the output afterwards: its line, then what stood there
+pub record Given (t s : List ℕ) (i : ℕ) (out : List ℕ) (n : ℕ) (after : List ℕ) : Type 0 where
+  pub tree : Forest
+  pub decodes : decode (length t) s ≡ some tree
+  pub bytes : List ℕ
+  pub found : getElem? (allRecords (length t) tree) i ≡ some bytes
+  pub long : n ≡ length (line bytes)
+  pub is : after ≡ line bytes ++ drop n out
 
-    record-of : (o : Option (List ℕ)) → ofRecord i out o ≡ (Accepted n, after) → n ≤ length after
-    record-of none q = no q
-    record-of (some r) q = room (line r) (ltb (length out) (length (line r))) q
+module _ (t s : List ℕ) (i : ℕ) (out : List ℕ) {n : ℕ} {after : List ℕ} where
+  no : {A : Type 0} {r : Refusal} {p : ℕ} → Prim.Path (LineAnswer × List ℕ) (Refused r p, out) (Accepted n, after) → A
+  no q = let z : _≡_ {A = ℕ} 0 1 = cc (ap (λ (a : LineAnswer × List ℕ). a .0) q) in absurd (omega arith)
 
-    opens : (o : Opened) → ofOpened (length t) i out o ≡ (Accepted n, after) → n ≤ length after
-    opens (shut r p) q = no q
-    opens (opened ns) q = record-of (getElem? (allRecords (length t) ns) i) q
+  room : (l : List ℕ) (b : Bool)
+      → cond {A = LineAnswer × List ℕ} b (Refused OutputTooShort i, out) (Accepted (length l), l ++ drop (length l) out)
+      ≡ (Accepted n, after)
+      → (n ≡ length l) × (after ≡ l ++ drop n out)
+  room l true q = no q
+  room l false q =
+      let h : Accepted (length l) ≡ Accepted n = ap (λ (a : LineAnswer × List ℕ). a .0) q in
+      let k : length l ≡ n = cc in
+      (sym k, rw (← k) (sym (ap (λ (a : LineAnswer × List ℕ). a .1) q)))
+
+  record-of : (tree : Forest) → decode (length t) s ≡ some tree → (o : Option (List ℕ)) → getElem? (allRecords (length t) tree) i ≡ o
+      → ofRecord i out o ≡ (Accepted n, after) → Given t s i out n after
+  record-of tree d none f q = no q
+  record-of tree d (some r) f q =
+      let w = room (line r) (ltb (length out) (length (line r))) q in
+      record { tree = tree; decodes = d; bytes = r; found = f; long = w .0; is = w .1 }
+
+  pub given : lining t s i out ≡ (Accepted n, after) → Given t s i out n after
+  unfolding lining
+  given e = opens (opening t s) refl e
+    where
+      opens : (o : Opened) → opening t s ≡ o → ofOpened (length t) i out o ≡ (Accepted n, after) → Given t s i out n after
+      opens (shut r p) o q = no q
+      opens (opened ns) o q =
+          let f = the-tree t s (ap answerOf (sym o)) in
+          let q = ap (ofOpened (length t) i out) (sym (f .opens)) ∙ e in
+          record-of (f .nodes) (f .decodes) (getElem? (allRecords (length t) (f .nodes)) i) refl q
+
+  -- it fits the output
+  pub given-fits : lining t s i out ≡ (Accepted n, after) → n ≤ length after
+  given-fits e = let g = given e in omega (arith, g .long, ap length (g .is), length-append (line (g .bytes)) (drop n out))
 
 -- ---- what equals lining has its values
 
