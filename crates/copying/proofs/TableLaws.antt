@@ -13,7 +13,7 @@ use Rattle.text.specs.Bytes.{part}
 use Rattle.text.specs.Words.{words, entries, table}
 use Rattle.decode.proofs.ReadLaws.{le-or-lt}
 use Rattle.digits.proofs.NumeralLaws.{both}
-use Rattle.pieces.specs.Pieces.{Piece, aWord, aName, wordLike}
+use Rattle.pieces.specs.Pieces.{Piece, aWord, wordLike}
 use Rattle.fresh.specs.Fresh.{wordAt, choose}
 use Rattle.copying.specs.Words.{allWords}
 
@@ -83,17 +83,6 @@ unfolding wordAt
 choice-is [] k h = absurd (omega arith)
 choice-is (n ∷ ns) zero h = refl
 choice-is (n ∷ ns) (suc k) h = choice-is ns k (omega arith)
-
--- past the last there is none
-none-at : (ns : List String) (k : ℕ) → length ns ≤ k → wordAt ns k ≡ aName []
-unfolding wordAt
-none-at [] k h = refl
-none-at (n ∷ ns) zero h = absurd (omega arith)
-none-at (n ∷ ns) (suc k) h = none-at ns k (omega arith)
-
-pub no-choice : (ns : List String) (k : ℕ) → length ns ≤ k → (ps : List Piece) → choose ns k ps ≡ aName [] ∷ ps
-unfolding choose
-no-choice ns k h ps = ap (λ (x : Piece). x ∷ ps) (none-at ns k h)
 
 -- the word that is chosen
 pub chosen-word : (ns : List String) (names : List ℕ) (k : ℕ) {w : List ℕ} → words ns ≡ table names → k < length (table names)
