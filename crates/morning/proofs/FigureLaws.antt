@@ -22,7 +22,7 @@ use Rattle.sheet.specs.Records.{recordOf, recordsOf, nodesOf, allRecords, kindO
 use Rattle.sheet.proofs.Flat.{concat, records-are}
 use Rattle.parser.specs.Reading.{reading}
 use Rattle.validate.specs.Checking.{isList, checking}
-use Rattle.validate.proofs.ListLaws.{unlisted as checking-unlisted}
+use Rattle.validate.proofs.ListLaws.{unlisted-opened as checking-unlisted}
 use Rattle.script.proofs.OutputLaws.{Held, held}
 use Rattle.totals.specs.Totals.{sumOf, itself, addedFrom, added, inWord}
 use Rattle.error.proofs.NumberLaws.{numbered}

@@ -1,12 +1,15 @@
 -- What checking is under each list of colours. Assumes nothing.
-use Prim.Native.Nat.{ℕ}
+use Prim.Native.Nat.{ℕ, _≤_}
 use mathlib.Core.Bool.{true, false}
 use mathlib.Core.List.{List}
+use mathlib.Core.Option.{none}
 use mathlib.Core.Path.{_≡_, refl, sym, _∙_, ap}
 use native.Mathlib.Omega.{arith}
 use lib.ListN.{length}
+use borrow.Author.Tests.{le-ltb}
+use Rattle.text.specs.Limits.{textLimit}
 use Rattle.sheet.specs.Sheet.{Forest}
-use Rattle.sheet.specs.Opening.{opened, opening}
+use Rattle.sheet.specs.Opening.{opened, foreignFrom, opening}
 use Rattle.opening.specs.Means.{answerOf as openingOf, earlier, textAnswer, bytesAnswer}
 use Rattle.opening.specs.declared.Opening.{Opening}
 use Rattle.opening.specs.declared.Opening.the-variants.{Open, Shut}
@@ -44,9 +47,14 @@ module _ (t s : List ℕ) where
       go Open e = refl
       go (Shut r p) e = absurd (let z : _≡_ {A = ℕ} 0 1 = cc in omega arith)
 
-  -- "36 for a list other than the two, after 1 and 2"
-  pub unlisted : (list : ℕ) → isList list ≡ false → {ns : Forest} → opening t s ≡ opened ns → checking list t s ≡ Refused UnknownList 0
-  unlisted list n e = sym (shut-refused list t s (first-shut list t s (text-open e) unknown refl refl))
+  -- "36 for a list other than the two, after 1 and 2": whatever the sheet is, so before 20
+  pub unlisted : (list : ℕ) → isList list ≡ false → length t ≤ textLimit → foreignFrom 0 t ≡ none → checking list t s ≡ Refused UnknownList 0
+  unfolding checking openingUnder
+  unlisted list n h f = rw (le-ltb textLimit (length t) h, f, n)
+
+  -- the same of a text with which some bytes are a sheet
+  pub unlisted-opened : (list : ℕ) → isList list ≡ false → {ns : Forest} → opening t s ≡ opened ns → checking list t s ≡ Refused UnknownList 0
+  unlisted-opened list n e = sym (shut-refused list t s (first-shut list t s (text-open e) unknown refl refl))
     where
       unknown : Shut UnknownList 0 ≡ listAnswer list
       unknown = rw n
