@@ -1,5 +1,6 @@
 #!/bin/sh
-# Builds the library and tests both of its bindings. Needs rt, cargo and a C compiler; no packages.
+# Builds the library, tests both of its bindings and runs the examples of docs/LANGUAGE.md. Needs rt, cargo, a C compiler and Python 3; no
+# packages.
 set -eu
 # cargo's own folder, where the search path leaves it out
 PATH=$PATH:${CARGO_HOME:-${HOME:-/root}/.cargo}/bin
@@ -82,4 +83,5 @@ for arguments in 'lines' 'lookup' 'back back' 'wave 0'; do
     "$out/example" $arguments < /dev/null > "$out/got" 2> "$out/told" || status=$?
     [ "$status" -eq 2 ] && [ ! -s "$out/got" ] && grep -q '^usage: ' "$out/told"
 done
+python3 tools/language.py "$out/example"
 echo "C example: 4 passed, each in two ways, 4 fed, 2 counts of rounded numbers, 5 colours, a short scratch, 7 written back, 4 looked up, 3 listed, 2 planed and back, 5 drawn, and 4 that are no mode"
