@@ -1,10 +1,10 @@
 #!/bin/sh
 # The tests: the names that the documents cite, the layout of every file, then every crate proved from nothing, every must-fail
 # edit refused and every program's output compared, and the bindings on the archive that was proved. Its last line is rt ci's own,
-# 'N passed, M failed'. Three checks at a time, unless RT_JOBS says otherwise.
+# 'N passed, M failed'. Four checks at a time, unless RT_JOBS says otherwise.
 set -eu
 cd "$(dirname "$0")"
-RT_JOBS=${RT_JOBS:-3}
+RT_JOBS=${RT_JOBS:-4}
 export RT_JOBS
 python3 tools/names.py
 rt fmt --check
