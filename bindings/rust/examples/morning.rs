@@ -2,64 +2,53 @@
 //! like is this example's own. A line on standard error tells how far it is.
 //!
 //!     cargo run --release --example morning -- scripts/*.strip
-use std::process::ExitCode;
-use strip::{CheckAnswer, FeedAnswer, Mean, MeanAnswer, Refusal, Totals, KINDS, RUST_COLORS, SCRATCH_WORDS, SHEET_BYTES, TEXT_BYTES};
+use std::error::Error;
+use std::fs::File;
+use std::io::{self, Read};
+use strip::{KINDS, Mean, RUST_COLORS, Refusal, Refused, TEXT_BYTES, Totals, Workspace};
 
-fn main() -> ExitCode {
+fn main() -> Result<(), Box<dyn Error>> {
     let names: Vec<String> = std::env::args().skip(1).collect();
-    let (mut scratch, mut sheet) = ([0; SCRATCH_WORDS], vec![0; SHEET_BYTES]);
-    let mut totals = Totals::default();
+    let (mut workspace, mut totals) = (Workspace::new(), Totals::new());
     for (number, name) in names.iter().enumerate() {
         eprint!("\r{} of {}", number + 1, names.len());
-        let text = match script(name) {
-            Ok(text) => text,
-            Err(error) => {
-                eprintln!("\n{name}: {error}");
-                return ExitCode::FAILURE;
-            }
-        };
-        match strip::feed(&mut totals, &text, &mut scratch, &mut sheet, RUST_COLORS) {
-            FeedAnswer::Counted(CheckAnswer::Accepted) => {}
-            FeedAnswer::Counted(CheckAnswer::Refused { refusal, place }) => {
-                eprintln!("\n{name}: refuse {} at {place}", refusal.number());
-            }
-            FeedAnswer::Refused { .. } => {
-                eprintln!("\n{name}: the sheet is full");
+        let text = script(name).map_err(|error| format!("{name}: {error}"))?;
+        match workspace.feed(&mut totals, &text, RUST_COLORS) {
+            Ok(Ok(())) => {}
+            Ok(Err(refused)) => eprintln!("\n{name}: {refused}"),
+            Err(full) => {
+                eprintln!("\n{name}: {full}");
                 break;
             }
         }
     }
     eprintln!();
-    print_page(&totals);
-    ExitCode::SUCCESS
+    print_page(&totals)?;
+    Ok(())
 }
 
 /// A file's bytes, of a long one no more than show that it is too long.
-fn script(name: &str) -> std::io::Result<Vec<u8>> {
-    use std::io::Read;
+fn script(name: &str) -> io::Result<Vec<u8>> {
     let mut text = Vec::new();
-    std::fs::File::open(name)?.take(TEXT_BYTES as u64 + 1).read_to_end(&mut text)?;
+    File::open(name)?.take(TEXT_BYTES as u64 + 1).read_to_end(&mut text)?;
     Ok(text)
 }
 
-fn print_page(totals: &Totals) {
+fn print_page(totals: &Totals) -> Result<(), Refused> {
     println!("{:>10} scripts", totals.scripts());
     println!("{:>10} accepted", totals.accepted());
-    for &refusal in Refusal::ALL.iter().filter(|&&r| totals.refused(r) > 0) {
-        println!("{:>10} refused under {}, {}", totals.refused(refusal), refusal.number(), refusal.name());
+    for &refusal in Refusal::ALL.iter().filter(|&&refusal| totals.refused(refusal) > 0) {
+        println!("{:>10} refused with {}: {refusal}", totals.refused(refusal), refusal.number());
     }
     for (kind, name) in KINDS.iter().enumerate() {
         println!("{:>10} {name}", totals.records(kind));
     }
     println!("{:>10} keyframe entries", totals.entries());
-    println!("{:>10} records a script", fraction(strip::mean(totals, Mean::RecordsAScript)));
-    println!("{:>10} entries a track", fraction(strip::mean(totals, Mean::EntriesATrack)));
+    println!("{:>10} records a script", mean(totals, Mean::RecordsPerScript)?);
+    println!("{:>10} entries a track", mean(totals, Mean::EntriesPerTrack)?);
+    Ok(())
 }
 
-fn fraction(answer: MeanAnswer) -> String {
-    match answer {
-        MeanAnswer::Fraction { numerator, denominator } => format!("{numerator}/{denominator}"),
-        MeanAnswer::Nothing => "none".to_string(),
-        MeanAnswer::Refused { refusal, .. } => format!("refuse {}", refusal.number()),
-    }
+fn mean(totals: &Totals, which: Mean) -> Result<String, Refused> {
+    Ok(strip::mean(totals, which)?.map_or("none".to_string(), |fraction| fraction.to_string()))
 }

@@ -1,34 +1,18 @@
 //! The stored cases of the operations, whose answers are the Rust's or a model's of the rules (oracle/README.md).
+mod cases;
+
+use cases::{bytes, stored, text_and_sheet};
 use std::fmt::Write;
-use std::path::Path;
-use strip::{check, color, convert, feed, line, mean, read, write, CheckAnswer, FeedAnswer, LineAnswer, Mean, MeanAnswer, ReadAnswer, Refusal, Totals};
-use strip::{lookup, order, plane, unplane, wave, Book, LookupAnswer, OrderAnswer};
-use strip::{RUST_COLORS, SCRATCH_WORDS, SCRIPT_LIMIT, SHEET_BYTES, TEXT_BYTES};
+use strip::{Book, Found, Fraction, Mean, Refused, Totals, Verdict};
+use strip::{ENTRIES_WORD, KIND_WORD, RUST_COLORS, SCRATCH_WORDS, SCRIPT_LIMIT, SHEET_BYTES, TEXT_BYTES, TOTALS_WORDS};
+use strip::{check, color, convert, feed, line, lookup, mean, order, plane, read, unplane, wave, write};
 
-/// The stored cases of a kind, and their answers, which stand behind the line `== KIND`.
-fn stored(kind: &str) -> (String, String) {
-    let folder = Path::new(env!("CARGO_MANIFEST_DIR")).join("../../crates/cases");
-    let file = |part: &str| std::fs::read_to_string(folder.join(part)).unwrap();
-    let all = file("stdout");
-    let answers = all.lines().skip_while(|line| line.strip_prefix("== ") != Some(kind)).skip(1);
-    let answers: Vec<&str> = answers.take_while(|line| !line.starts_with("== ")).collect();
-    assert!(!answers.is_empty());
-    (file(&format!("data/{kind}/cases")), answers.join("\n"))
+fn refusal_line(refused: Refused) -> String {
+    format!("{}\n", refusal_words(refused))
 }
 
-fn bytes(hex: &str) -> Vec<u8> {
-    let digit = |b: u8| (b as char).to_digit(16).unwrap() as u8;
-    hex.as_bytes().chunks(2).map(|pair| digit(pair[0]) << 4 | digit(pair[1])).collect()
-}
-
-fn refusal_line(refusal: Refusal, place: usize) -> String {
-    format!("refuse {} at {place}\n", refusal.number())
-}
-
-/// The text and the sheet of a line.
-fn text_and_sheet(case: &str) -> (Vec<u8>, Vec<u8>) {
-    let (text, sheet) = case.split_once('\t').unwrap();
-    (bytes(text), bytes(sheet))
+fn refusal_words(refused: Refused) -> String {
+    format!("refuse {} at {}", refused.refusal.number(), refused.place)
 }
 
 /// Compares line by line, so that a difference is short to print.
@@ -39,11 +23,8 @@ fn compare(ours: &str, stored: &str) {
     assert_eq!(ours.lines().count(), stored.lines().count());
 }
 
-fn check_line(answer: CheckAnswer) -> String {
-    match answer {
-        CheckAnswer::Accepted => "accept\n".to_string(),
-        CheckAnswer::Refused { refusal, place } => refusal_line(refusal, place),
-    }
+fn check_line(verdict: Verdict) -> String {
+    verdict.map_or_else(refusal_line, |()| "accept\n".to_string())
 }
 
 /// Each text of a kind is read, and its sheet checked.
@@ -54,12 +35,13 @@ fn read_and_checked(kind: &str) {
     for case in cases.lines() {
         let text = bytes(case);
         match read(&text, &mut scratch, &mut sheet) {
-            ReadAnswer::Refused { refusal, place } => ours += &refusal_line(refusal, place),
-            ReadAnswer::Accepted { length, records, .. } => {
-                write!(ours, "accept {records} ").unwrap();
-                sheet[..length].iter().for_each(|b| write!(ours, "{b:02X}").unwrap());
+            Err(refused) => ours += &refusal_line(refused),
+            Ok(answer) => {
+                let sheet = &sheet[..answer.length];
+                write!(ours, "accept {} ", answer.records).unwrap();
+                sheet.iter().for_each(|b| write!(ours, "{b:02X}").unwrap());
                 ours += "\t";
-                ours += &check_line(check(&text, &sheet[..length], RUST_COLORS));
+                ours += &check_line(check(&text, sheet, RUST_COLORS));
             }
         }
     }
@@ -97,7 +79,7 @@ fn colours() {
         if list.is_empty() {
             let answer = color(&bytes(rest));
             answer.unwrap_or_default().iter().for_each(|byte| write!(ours, "{byte} ").unwrap());
-            ours += &answer.map_or_else(|refusal| refusal_line(refusal, 0), |_| "accept\n".to_string());
+            ours += &check_line(answer.map(|_| ()));
         } else {
             let (text, sheet) = text_and_sheet(rest);
             ours += &check_line(check(&text, &sheet, u32::from_str_radix(list, 16).unwrap()));
@@ -129,9 +111,9 @@ fn lining() {
         for ordinal in 0.. {
             let mut output = [0; 101];
             match line(&text, &sheet, ordinal, &mut output) {
-                LineAnswer::Accepted { length } => ours += std::str::from_utf8(&output[..length]).unwrap(),
-                LineAnswer::Refused { refusal, place } => {
-                    ours += &refusal_line(refusal, place);
+                Ok(length) => ours += std::str::from_utf8(&output[..length]).unwrap(),
+                Err(refused) => {
+                    ours += &refusal_line(refused);
                     break;
                 }
             }
@@ -149,11 +131,11 @@ fn writing() {
         let mut out = vec![7; room];
         let mut used = 0;
         match write(&text, &sheet, &mut out, RUST_COLORS) {
-            LineAnswer::Accepted { length } => {
+            Ok(length) => {
                 used = length;
                 write!(ours, "accept {length} {}", std::str::from_utf8(&out[..length]).unwrap()).unwrap();
             }
-            LineAnswer::Refused { refusal, place } => write!(ours, "refuse {} at {place}", refusal.number()).unwrap(),
+            Err(refused) => ours += &refusal_words(refused),
         }
         ours += if out[used..].iter().all(|&b| b == 0) { "\tzero\n" } else { "\tnot zero\n" };
     }
@@ -180,8 +162,8 @@ fn books() {
         }
         let mut out = vec![7; usize::from(fields[2][0]) << 8 | usize::from(fields[2][1])];
         match order(&fields[1], &mut out) {
-            OrderAnswer::Listed { items } => write!(ours, "list {items} ").unwrap(),
-            OrderAnswer::Refused { refusal, place } => write!(ours, "refuse {} at {place} ", refusal.number()).unwrap(),
+            Ok(items) => write!(ours, "list {items} ").unwrap(),
+            Err(refused) => write!(ours, "{} ", refusal_words(refused)).unwrap(),
         }
         out.iter().for_each(|b| write!(ours, "{b:02X}").unwrap());
         ours += "\n";
@@ -190,11 +172,11 @@ fn books() {
 }
 
 /// The book that a body is lent from, where it starts there, its size and its bytes.
-fn lookup_line(store: &[u8], chain: &[u8], answer: LookupAnswer) -> String {
+fn lookup_line(store: &[u8], chain: &[u8], answer: Result<Found, Refused>) -> String {
     match answer {
-        LookupAnswer::Refused { refusal, place } => refusal_line(refusal, place),
-        LookupAnswer::Found { book, body } => {
-            let (name, text) = if book == Book::InStore { ("store", store) } else { ("chain", chain) };
+        Err(refused) => refusal_line(refused),
+        Ok(Found { book, body }) => {
+            let (name, text) = if book == Book::Store { ("store", store) } else { ("chain", chain) };
             let start = body.as_ptr() as usize - text.as_ptr() as usize;
             let hex: String = body.iter().map(|b| format!("{b:02X}")).collect();
             format!("{name} {start} {} {hex}\n", body.len())
@@ -229,47 +211,46 @@ fn feeding() {
                 continue;
             }
             _ => {
-                ours += &mean_line(mean(&totals, Mean::RecordsAScript));
-                ours += &mean_line(mean(&totals, Mean::EntriesATrack));
+                ours += &mean_line(mean(&totals, Mean::RecordsPerScript));
+                ours += &mean_line(mean(&totals, Mean::EntriesPerTrack));
                 continue;
             }
         };
         ours += &match feed(&mut totals, rest, &mut vec![0; words], &mut vec![0; room], RUST_COLORS) {
-            FeedAnswer::Counted(answer) => check_line(answer),
-            FeedAnswer::Refused { refusal, place } => format!("unfed {}", refusal_line(refusal, place)),
+            Ok(verdict) => check_line(verdict),
+            Err(refused) => format!("unfed {}", refusal_line(refused)),
         };
     }
     compare(&ours, &answers);
 }
 
-fn mean_line(answer: MeanAnswer) -> String {
+fn mean_line(answer: Result<Option<Fraction>, Refused>) -> String {
     match answer {
-        MeanAnswer::Fraction { numerator, denominator } => format!("{numerator}/{denominator}\n"),
-        MeanAnswer::Nothing => "none\n".to_string(),
-        MeanAnswer::Refused { refusal, place } => refusal_line(refusal, place),
+        Ok(Some(fraction)) => format!("{fraction}\n"),
+        Ok(None) => "none\n".to_string(),
+        Err(refused) => refusal_line(refused),
     }
 }
 
 /// What a script adds to totals, by reading, checking and the lines of its records: of a line the record's kind, and behind a track's
 /// start and target its count of entries.
-fn counted(words: &mut [u32; 60], text: &[u8], scratch: &mut [u16], sheet: &mut [u8]) {
-    let (length, records) = match read(text, scratch, sheet) {
-        ReadAnswer::Accepted { length, records, .. } => (length, records),
-        ReadAnswer::Refused { refusal, .. } => return words[usize::from(refusal.number())] += 1,
+fn counted(words: &mut [u32; TOTALS_WORDS], text: &[u8], scratch: &mut [u16], sheet: &mut [u8]) {
+    let answer = match read(text, scratch, sheet) {
+        Ok(answer) => answer,
+        Err(refused) => return words[usize::from(refused.refusal.number())] += 1,
     };
-    if let CheckAnswer::Refused { refusal, .. } = check(text, &sheet[..length], RUST_COLORS) {
-        return words[usize::from(refusal.number())] += 1;
+    let sheet = &sheet[..answer.length];
+    if let Err(refused) = check(text, sheet, RUST_COLORS) {
+        return words[usize::from(refused.refusal.number())] += 1;
     }
     words[0] += 1;
     let mut output = vec![0; 131_077];
-    for ordinal in 1..=records as u32 {
-        let LineAnswer::Accepted { length } = line(text, &sheet[..length], ordinal, &mut output) else {
-            panic!("a record without a line");
-        };
+    for ordinal in 1..=answer.records as u32 {
+        let length = line(text, sheet, ordinal, &mut output).expect("a record's line");
         let record = bytes(std::str::from_utf8(&output[4..length - 3]).unwrap());
-        words[44 + usize::from(record[0])] += 1;
+        words[KIND_WORD + usize::from(record[0])] += 1;
         if record[0] == 2 {
-            words[59] += u32::from(record[7]) << 8 | u32::from(record[8]);
+            words[ENTRIES_WORD] += u32::from(record[7]) << 8 | u32::from(record[8]);
         }
     }
 }
@@ -280,7 +261,7 @@ fn totals_are_the_counts_of_each_script() {
     let copies: u64 = std::env::var("STRIP_COPIES").map_or(2, |n| n.parse().unwrap());
     let texts: Vec<Vec<u8>> = stored("script").0.lines().map(bytes).collect();
     let (mut scratch, mut sheet) = (vec![0; SCRATCH_WORDS], vec![0; SHEET_BYTES]);
-    let (mut totals, mut words) = (Totals::default(), [0; 60]);
+    let (mut totals, mut words) = (Totals::default(), [0; TOTALS_WORDS]);
     let mut seed = 1u64;
     let mut random = |below: usize| {
         seed = seed.wrapping_mul(6_364_136_223_846_793_005).wrapping_add(1_442_695_040_888_963_407);
@@ -301,14 +282,14 @@ fn totals_are_the_counts_of_each_script() {
             }
             if totals.scripts() == u64::from(SCRIPT_LIMIT) {
                 assert_eq!(totals.0, words);
-                (totals, words) = (Totals::default(), [0; 60]);
+                (totals, words) = (Totals::default(), [0; TOTALS_WORDS]);
             }
             counted(&mut words, &text, &mut scratch, &mut sheet);
-            assert!(matches!(feed(&mut totals, &text, &mut scratch, &mut sheet, RUST_COLORS), FeedAnswer::Counted(_)));
+            assert!(feed(&mut totals, &text, &mut scratch, &mut sheet, RUST_COLORS).is_ok());
         }
     }
     assert_eq!(totals.0, words);
-    assert!(words[0] > 0 && words[59] > 0);
+    assert!(words[0] > 0 && words[ENTRIES_WORD] > 0);
 }
 
 /// Each line is a sheet that is planed, or planed bytes that are turned back, into an output in which something stands.
@@ -321,8 +302,8 @@ fn planing() {
         let mut out = vec![7; usize::from(fields[3][0]) << 8 | usize::from(fields[3][1])];
         let answer = if fields[0] == [0] { plane(&fields[1], &fields[2], &mut out) } else { unplane(&fields[1], &fields[2], &mut out) };
         match answer {
-            LineAnswer::Accepted { length } => write!(ours, "accept {length} ").unwrap(),
-            LineAnswer::Refused { refusal, place } => write!(ours, "refuse {} at {place} ", refusal.number()).unwrap(),
+            Ok(length) => write!(ours, "accept {length} ").unwrap(),
+            Err(refused) => write!(ours, "{} ", refusal_words(refused)).unwrap(),
         }
         out.iter().for_each(|b| write!(ours, "{b:02X}").unwrap());
         ours += "\n";
@@ -338,10 +319,8 @@ fn drawing() {
     for case in cases.lines() {
         let fields: Vec<u32> = case.split('\t').map(|field| u32::from_str_radix(field, 16).unwrap()).collect();
         let mut heights = vec![0x0707; fields[2] as usize];
-        match wave(fields[0], fields[1], &mut heights) {
-            CheckAnswer::Accepted => ours += "accept\t",
-            CheckAnswer::Refused { refusal, place } => write!(ours, "refuse {} at {place}\t", refusal.number()).unwrap(),
-        }
+        ours += check_line(wave(fields[0], fields[1], &mut heights)).trim_end();
+        ours += "\t";
         heights.iter().for_each(|height| write!(ours, "{height:04X}").unwrap());
         ours += "\n";
     }

@@ -1,0 +1,26 @@
+//! The stored cases (crates/cases).
+#![allow(dead_code)]
+use std::path::Path;
+
+/// The stored cases of a kind, and their answers, which stand behind the line `== KIND`.
+pub fn stored(kind: &str) -> (String, String) {
+    let folder = Path::new(env!("CARGO_MANIFEST_DIR")).join("../../crates/cases");
+    let file = |part: &str| std::fs::read_to_string(folder.join(part)).unwrap();
+    let all = file("stdout");
+    let answers = all.lines().skip_while(|line| line.strip_prefix("== ") != Some(kind)).skip(1);
+    let answers: Vec<&str> = answers.take_while(|line| !line.starts_with("== ")).collect();
+    assert!(!answers.is_empty());
+    (file(&format!("data/{kind}/cases")), answers.join("\n"))
+}
+
+/// The bytes of hexadecimal digits.
+pub fn bytes(hex: &str) -> Vec<u8> {
+    let digit = |b: u8| (b as char).to_digit(16).unwrap() as u8;
+    hex.as_bytes().chunks(2).map(|pair| digit(pair[0]) << 4 | digit(pair[1])).collect()
+}
+
+/// The text and the sheet of a line.
+pub fn text_and_sheet(case: &str) -> (Vec<u8>, Vec<u8>) {
+    let (text, sheet) = case.split_once('\t').unwrap();
+    (bytes(text), bytes(sheet))
+}
