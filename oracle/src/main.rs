@@ -38,6 +38,7 @@ fn main() {
     match words[..] {
         ["read"] => each_line(|line| read::line(line, read::Rules::All)),
         ["read", "--rust-only"] => each_line(|line| read::line(line, read::Rules::RustOnly)),
+        ["read", "--dump"] => each_line(read::dump_line),
         ["tree"] => each_line(read::tree_line),
         ["check"] => each_line(check::line),
         ["records"] => each_line(check::records_line),
@@ -51,7 +52,7 @@ fn main() {
 }
 
 fn usage() -> ! {
-    eprintln!("usage: oracle read [--rust-only] | check | records | tree | compare-syn PLAIN-ORACLE");
+    eprintln!("usage: oracle read [--rust-only | --dump] | check | records | tree | compare-syn PLAIN-ORACLE");
     eprintln!("     | gen SEED COUNT [grammar|damage|limits|words|short|rare|long] | gen-short | gen-sheets SEED COUNT");
     std::process::exit(2)
 }

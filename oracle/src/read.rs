@@ -6,7 +6,7 @@ use crate::error::{self, Kind};
 use crate::parser::AnimatoInput;
 use crate::sheet::Sheet;
 use crate::{check, hex, places, sheet, text_rules};
-use proc_macro2::TokenStream;
+use proc_macro2::{Span, TokenStream};
 
 /// Which of the documents' own refusals are added to the Rust's.
 #[derive(Clone, Copy, PartialEq, Eq)]
@@ -56,17 +56,38 @@ pub fn tree_line(line: &str) -> String {
 }
 
 fn answered(line: &str, rules: Rules, encode: impl Fn(&[u8], &Tree) -> Sheet) -> String {
+    shown(line, rules, |text, tree| {
+        let sheet = encode(text, tree);
+        let verdict = verdict(check::validated(&tree.nodes));
+        let bytes = if sheet.wrong { "-".to_string() } else { hex::write(&sheet.bytes) };
+        assert!(!sheet.wrong || rules == Rules::RustOnly, "no place in {line}");
+        format!("accept {} {bytes}\t{verdict}", sheet.records)
+    })
+}
+
+/// Answers a script with its tree as `{:?}` prints the nodes, without their
+/// spans, or with its refusal.
+pub fn dump_line(line: &str) -> String {
+    shown(line, Rules::All, |_, tree| without_spans(&format!("{:?}", tree.nodes)))
+}
+
+/// No string holds a quote or a backslash, so every second part between quotes
+/// is a string. parser.rs gives each node the span of the call site.
+fn without_spans(tree: &str) -> String {
+    let span = format!(", span: {:?}", Span::call_site());
+    let parts = tree.split('"').enumerate();
+    let parts: Vec<String> =
+        parts.map(|(i, part)| if i % 2 == 0 { part.replace(&span, "") } else { part.to_string() }).collect();
+    parts.join("\"")
+}
+
+/// What `show` makes of a script's text and tree, or its refusal.
+fn shown(line: &str, rules: Rules, show: impl Fn(&[u8], &Tree) -> String) -> String {
     let Some(text) = hex::read(line) else {
         return "not hexadecimal".to_string();
     };
     match read(&text, rules) {
-        Ok(tree) => {
-            let sheet = encode(&text, &tree);
-            let verdict = verdict(check::validated(&tree.nodes));
-            let bytes = if sheet.wrong { "-".to_string() } else { hex::write(&sheet.bytes) };
-            assert!(!sheet.wrong || rules == Rules::RustOnly, "no place in {line}");
-            format!("accept {} {bytes}\t{verdict}", sheet.records)
-        }
+        Ok(tree) => show(&text, &tree),
         Err(Failure::Refused(refusal)) => refusal.to_string(),
         Err(Failure::NoPlace(number)) => format!("refuse {number}"),
         Err(Failure::NotLexed) => "not lexed".to_string(),

@@ -4,7 +4,8 @@
 //! name up in books of named scripts, listing a book's items by their calls, and drawing a waveform as heights. The functions call a
 //! library that is proved: each answer and every byte that is written equals a definition.
 //!
-//! A [`Workspace`] owns the buffers, and its [`Sheet`]s own their bytes. The functions beside it, [`read`] to [`wave`], write to slices
+//! A [`Workspace`] owns the buffers, and its [`Sheet`]s own their bytes; [`tree`] has a sheet's tree, owned, which code generation starts
+//! from. The functions beside it, [`read`] to [`wave`], write to slices
 //! that are lent, and allocate nothing. A refusal is the error [`Refused`], with its number, its cause and a place.
 //!
 //! ```
@@ -51,6 +52,7 @@ mod raw;
 mod reading;
 mod refusal;
 mod totals;
+pub mod tree;
 mod workspace;
 mod writing;
 

@@ -1,4 +1,5 @@
 //! A workspace that owns the buffers of reading, and the sheets that it gives.
+use crate::tree::Tree;
 use crate::{PAGE_BYTES, Refused, SCRATCH_WORDS, SHEET_BYTES, TEXT_BYTES, Totals, Verdict};
 
 /// The buffers that reading, printing and feeding are lent, long enough for every text, to be used again for each script.
@@ -222,6 +223,19 @@ impl<'t> Sheet<'t> {
         let mut planed = vec![0; self.bytes.len()];
         crate::plane(self.text, &self.bytes, &mut planed)?;
         Ok(planed)
+    }
+
+    /// Its tree.
+    ///
+    /// ```
+    /// use strip::tree::{AtSpec, MotionNode};
+    ///
+    /// let tree = strip::Workspace::new().read(b"at +0.5")?.tree()?;
+    /// assert_eq!(tree.nodes(), [MotionNode::At(AtSpec { value: 0.5, relative: true })]);
+    /// # Ok::<(), strip::Refused>(())
+    /// ```
+    pub fn tree(&self) -> Result<Tree, Refused> {
+        Tree::decode(self.text, &self.bytes)
     }
 }
 

@@ -1,7 +1,7 @@
 //! The stored cases of the operations, whose answers are the Rust's or a model's of the rules (oracle/README.md).
 mod cases;
 
-use cases::{bytes, stored, text_and_sheet};
+use cases::{Random, bytes, stored, text_and_sheet};
 use std::fmt::Write;
 use strip::{Book, Found, Fraction, Mean, Refused, Totals, Verdict};
 use strip::{ENTRIES_WORD, KIND_WORD, RUST_COLORS, SCRATCH_WORDS, SCRIPT_LIMIT, SHEET_BYTES, TEXT_BYTES, TOTALS_WORDS};
@@ -262,20 +262,16 @@ fn totals_are_the_counts_of_each_script() {
     let texts: Vec<Vec<u8>> = stored("script").0.lines().map(bytes).collect();
     let (mut scratch, mut sheet) = (vec![0; SCRATCH_WORDS], vec![0; SHEET_BYTES]);
     let (mut totals, mut words) = (Totals::default(), [0; TOTALS_WORDS]);
-    let mut seed = 1u64;
-    let mut random = |below: usize| {
-        seed = seed.wrapping_mul(6_364_136_223_846_793_005).wrapping_add(1_442_695_040_888_963_407);
-        (seed >> 33) as usize % below
-    };
+    let mut random = Random::new();
     for text in &texts {
         for copy in 0..=copies {
             let mut text = text.clone();
             if copy > 0 && !text.is_empty() {
                 // a byte of another script, or one less, or a part of another script behind it
-                let other = &texts[random(texts.len())];
-                let at = random(text.len());
-                match random(3) {
-                    0 if !other.is_empty() => text[at] = other[random(other.len())],
+                let other = &texts[random.below(texts.len())];
+                let at = random.below(text.len());
+                match random.below(3) {
+                    0 if !other.is_empty() => text[at] = other[random.below(other.len())],
                     1 => drop(text.remove(at)),
                     _ => text.extend_from_slice(&other[..other.len().min(TEXT_BYTES - text.len().min(TEXT_BYTES))]),
                 }

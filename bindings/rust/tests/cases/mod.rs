@@ -19,8 +19,29 @@ pub fn bytes(hex: &str) -> Vec<u8> {
     hex.as_bytes().chunks(2).map(|pair| digit(pair[0]) << 4 | digit(pair[1])).collect()
 }
 
+/// Bytes as hexadecimal digits, in capitals.
+pub fn hexadecimal(bytes: &[u8]) -> String {
+    let digit = |worth: u8| char::from_digit(worth.into(), 16).unwrap().to_ascii_uppercase();
+    bytes.iter().flat_map(|byte| [digit(byte >> 4), digit(byte & 15)]).collect()
+}
+
 /// The text and the sheet of a line.
 pub fn text_and_sheet(case: &str) -> (Vec<u8>, Vec<u8>) {
     let (text, sheet) = case.split_once('\t').unwrap();
     (bytes(text), bytes(sheet))
+}
+
+/// Numbers that look random, the same in each run.
+pub struct Random(u64);
+
+impl Random {
+    pub fn new() -> Random {
+        Random(1)
+    }
+
+    /// A number below another.
+    pub fn below(&mut self, limit: usize) -> usize {
+        self.0 = self.0.wrapping_mul(6_364_136_223_846_793_005).wrapping_add(1_442_695_040_888_963_407);
+        (self.0 >> 33) as usize % limit
+    }
 }

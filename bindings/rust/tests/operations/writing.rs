@@ -54,7 +54,10 @@ fn a_script_is_written_back() {
         (" at 0.500s", "at 0.5 ;"),
         ("at--1;at+ 0", "at + 1 ; at + 0 ;"),
         ("at 10000000; at 16777216", "at 9999999.5 ; at 16777216 ;"),
-        ("keyframes p{loop:once,0%:[ ];0.5:[1,]Easing::Linear}", "keyframes p { 0 % : [ ] , 0.5 : [ 1 ] Easing :: Linear , loop : once } ;"),
+        (
+            "keyframes p{loop:once,0%:[ ];0.5:[1,]Easing::Linear}",
+            "keyframes p { 0 % : [ ] , 0.5 : [ 1 ] Easing :: Linear , loop : once } ;",
+        ),
         ("sequence{label \"a b\";preset fade_in(duration:1)}", "sequence { label \"a b\" ; preset fade_in , duration : 1 ; } ;"),
         ("tween p:0=>1 reverse:false,delay:1,duration:1", "tween p : 0 => 1 duration : 1 delay : 1 ;"),
         ("stagger pattern: random(max: 0.1, min: -0) {}", "stagger pattern : random ( min : - 0 ) { } ;"),
@@ -145,8 +148,16 @@ fn a_start_is_told_by_a_whole_line_alone() {
     for end in 0..line.len() {
         assert_eq!(strip::start(&line[..end]), None, "{end} bytes");
     }
-    let others = ["0008xx0008", "0008xx0008\n", "00090C0008000F00060000CF\n", "00090c0008000F00060000CE\n", "00080C0008000F00060000CF\n", "00020001FD\n", "000000\n", "+0090C0008000F00060000CE\n"];
-    for other in others {
+    for other in [
+        "0008xx0008",
+        "0008xx0008\n",
+        "00090C0008000F00060000CF\n",
+        "00090c0008000F00060000CE\n",
+        "00080C0008000F00060000CF\n",
+        "00020001FD\n",
+        "000000\n",
+        "+0090C0008000F00060000CE\n",
+    ] {
         assert_eq!(strip::start(other.as_bytes()), None, "{other:?}");
     }
 }
