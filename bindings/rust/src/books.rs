@@ -34,9 +34,8 @@ pub struct Found<'a> {
 /// ```
 pub fn lookup<'a>(store: &'a [u8], chain: &'a [u8], name: &[u8]) -> Result<Found<'a>, Refused> {
     // SAFETY: the three slices are whole.
-    let answer = accepted(unsafe {
-        raw::strip_lookup(store.as_ptr(), store.len(), chain.as_ptr(), chain.len(), name.as_ptr(), name.len())
-    })?;
+    let answer =
+        accepted(unsafe { raw::strip_lookup(store.as_ptr(), store.len(), chain.as_ptr(), chain.len(), name.as_ptr(), name.len()) })?;
     let (book, text) = if bits(answer, 48, 8) == 0 { (Book::Store, store) } else { (Book::Chain, chain) };
     let (start, length) = (bits(answer, 24, 24), bits(answer, 0, 24));
     Ok(Found { book, body: &text[start..start + length] })

@@ -42,6 +42,7 @@ pub const TRIANGLE: u32 = 3;
 pub const WAVE_HEIGHTS: usize = 256;
 
 /// The keywords of nodes, by the numbers of their kinds.
+#[rustfmt::skip]
 pub const KINDS: [&str; 15] = [
     "tween", "spring", "keyframes", "sequence", "parallel", "group", "stagger", "path", "morph", "draw", "color", "waveform", "preset",
     "label", "at",

@@ -37,9 +37,7 @@ pub fn line(text: &[u8], sheet: &[u8], ordinal: u32, output: &mut [u8]) -> Resul
 /// ```
 pub fn write(text: &[u8], sheet: &[u8], out: &mut [u8], list: u32) -> Result<usize, Refused> {
     // SAFETY: the three slices are whole, and the buffer overlaps neither of the others.
-    accepted_value(unsafe {
-        raw::strip_write(text.as_ptr(), text.len(), sheet.as_ptr(), sheet.len(), out.as_mut_ptr(), out.len(), list)
-    })
+    accepted_value(unsafe { raw::strip_write(text.as_ptr(), text.len(), sheet.as_ptr(), sheet.len(), out.as_mut_ptr(), out.len(), list) })
 }
 
 /// Writes the planed form of a sheet, as long as the sheet, and gives its length: the numbers of its frames, each time and each value
@@ -58,9 +56,7 @@ pub fn write(text: &[u8], sheet: &[u8], out: &mut [u8], list: u32) -> Result<usi
 /// ```
 pub fn plane(text: &[u8], sheet: &[u8], out: &mut [u8]) -> Result<usize, Refused> {
     // SAFETY: the three slices are whole, and the output overlaps neither of the others.
-    accepted_value(unsafe {
-        raw::strip_plane(text.as_ptr(), text.len(), sheet.as_ptr(), sheet.len(), out.as_mut_ptr(), out.len())
-    })
+    accepted_value(unsafe { raw::strip_plane(text.as_ptr(), text.len(), sheet.as_ptr(), sheet.len(), out.as_mut_ptr(), out.len()) })
 }
 
 /// Writes the sheet that [`plane`] gives some bytes for, and gives its length. Past it the output is as it was, and on a refusal all of
@@ -78,9 +74,7 @@ pub fn plane(text: &[u8], sheet: &[u8], out: &mut [u8]) -> Result<usize, Refused
 /// ```
 pub fn unplane(text: &[u8], planed: &[u8], out: &mut [u8]) -> Result<usize, Refused> {
     // SAFETY: the three slices are whole, and the output overlaps neither of the others.
-    accepted_value(unsafe {
-        raw::strip_unplane(text.as_ptr(), text.len(), planed.as_ptr(), planed.len(), out.as_mut_ptr(), out.len())
-    })
+    accepted_value(unsafe { raw::strip_unplane(text.as_ptr(), text.len(), planed.as_ptr(), planed.len(), out.as_mut_ptr(), out.len()) })
 }
 
 /// Reads and checks a text, writes at the front of a page what the program prints for it, and gives its length: a line for each record,

@@ -35,7 +35,13 @@ fn kind_in_rust(parameter: &str) -> (String, String) {
         "size_t" => "usize",
         other => panic!("{other} in the header"),
     };
-    let mark = if !pointer { "" } else if constant { "*const " } else { "*mut " };
+    let mark = if !pointer {
+        ""
+    } else if constant {
+        "*const "
+    } else {
+        "*mut "
+    };
     (format!("{mark}{kind}"), words[1].to_string())
 }
 

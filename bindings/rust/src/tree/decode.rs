@@ -164,10 +164,7 @@ impl Reader<'_> {
             2 => MotionNode::Keyframes(self.keyframes()?),
             3 => MotionNode::Sequence(self.nodes(depth + 1)?),
             4 => MotionNode::Parallel(self.nodes(depth + 1)?),
-            5 => MotionNode::Group {
-                mode: self.case(&[GroupMode::Sequence, GroupMode::Parallel])?,
-                nodes: self.nodes(depth + 1)?,
-            },
+            5 => MotionNode::Group { mode: self.case(&[GroupMode::Sequence, GroupMode::Parallel])?, nodes: self.nodes(depth + 1)? },
             6 => MotionNode::Stagger(StaggerSpec {
                 pattern: self.optional(Self::pattern)?,
                 delay: self.optional(Self::float)?,
@@ -222,11 +219,7 @@ impl Reader<'_> {
     }
 
     fn keyframes(&mut self) -> Option<KeyframeSpec> {
-        Some(KeyframeSpec {
-            target: self.text()?,
-            frames: self.several(Self::frame)?,
-            loop_mode: self.optional(Self::loop_mode)?,
-        })
+        Some(KeyframeSpec { target: self.text()?, frames: self.several(Self::frame)?, loop_mode: self.optional(Self::loop_mode)? })
     }
 
     fn path(&mut self) -> Option<PathSpec> {
@@ -281,11 +274,7 @@ impl Reader<'_> {
     }
 
     fn preset(&mut self) -> Option<PresetCall> {
-        Some(PresetCall {
-            name: self.text()?,
-            duration: self.optional(Self::float)?,
-            easing: self.optional(Self::easing)?,
-        })
+        Some(PresetCall { name: self.text()?, duration: self.optional(Self::float)?, easing: self.optional(Self::easing)? })
     }
 }
 

@@ -20,7 +20,7 @@ fn a_script_is_read_checked_and_lined() {
 
 /// How many numbers of a text that reading accepts are rounded.
 fn rounded_in(text: &str) -> usize {
-    let Ok(Read { rounded, .. }) = read(text.as_bytes(), &mut vec![0; SCRATCH_WORDS], &mut vec![0; SHEET_BYTES]) else {
+    let Ok(Read { rounded, .. }) = read(text.as_bytes(), &mut [0; SCRATCH_WORDS], &mut vec![0; SHEET_BYTES]) else {
         panic!("{text:?} is refused");
     };
     rounded
@@ -79,7 +79,7 @@ fn a_colour_has_four_bytes() {
 #[test]
 fn noise_is_refused_and_converted() {
     let text = b"sequence { waveform noise frequency: 1 }";
-    let answer = read(text, &mut vec![0; SCRATCH_WORDS], &mut vec![0; SHEET_BYTES]);
+    let answer = read(text, &mut [0; SCRATCH_WORDS], &mut vec![0; SHEET_BYTES]);
     assert_eq!(answer, Err(refused(Refusal::NoiseWritten, 26)));
     // the sheet of that text from before, with a second node behind it whose start is 4
     let mut sheet = vec![0, 2, 3, 0, 0, 0, 1, 11, 0, 11, 4, 1, 0x3F, 0x80, 0, 0, 0, 0, 0, 0, 0, 0, 14, 0, 4, 0, 0, 0, 4, 0];
@@ -141,7 +141,7 @@ fn the_longest_values_come_back() {
     // the longest place of a refusal of reading
     let mut open = vec![b' '; TEXT_BYTES];
     open[0] = b'(';
-    assert_eq!(read(&open, &mut vec![0; SCRATCH_WORDS], &mut vec![0; SHEET_BYTES]), Err(refused(Refusal::Unbalanced, TEXT_BYTES)));
+    assert_eq!(read(&open, &mut [0; SCRATCH_WORDS], &mut vec![0; SHEET_BYTES]), Err(refused(Refusal::Unbalanced, TEXT_BYTES)));
     // the greatest ordinal
     let answer = line(b"", &[0, 0], u32::MAX, &mut [0; 64]);
     assert_eq!(answer, Err(refused(Refusal::NoSuchRecord, u32::MAX as usize)));
