@@ -1,5 +1,6 @@
-//! Trees beside those of the Rust, on generated scripts. Not part of the gate: STRIP_ORACLE names the program that oracle/build.sh
-//! builds, STRIP_GENERATED says how many scripts (100,000 if unset), STRIP_SEED where they begin (1 if unset).
+//! Trees beside those of the Rust, on generated scripts, and their types. Not part of the gate: STRIP_ORACLE names the program that
+//! oracle/build.sh builds, STRIP_GENERATED says how many scripts (100,000 if unset), STRIP_SEED where they begin (1 if unset),
+//! ORACLE_SOURCES the folder of the Rust sources (that of oracle/build.sh if unset).
 //! oracle/README.md has the command.
 mod cases;
 
@@ -67,6 +68,24 @@ fn compared(seed: u64, count: u64, kind: &str) -> u64 {
     }
     assert_eq!(answers.next(), None);
     accepted
+}
+
+/// What a file of types declares: its lines without comments, attributes, imports and spans.
+fn declared(path: PathBuf) -> Vec<String> {
+    let text = fs::read_to_string(&path).unwrap_or_else(|error| panic!("{}: {error}", path.display()));
+    let left_out = ["//", "#[", "use ", "pub span: Span,"];
+    let lines = text.lines().filter(|line| !left_out.iter().any(|front| line.trim_start().starts_with(front)));
+    lines.filter(|line| !line.trim().is_empty()).map(String::from).collect()
+}
+
+#[test]
+#[ignore = "needs the Rust sources"]
+fn types_are_those_of_the_rust() {
+    let here = Path::new(env!("CARGO_MANIFEST_DIR"));
+    let sources = std::env::var_os("ORACLE_SOURCES").map_or(here.join("../../../shared/docs/src"), PathBuf::from);
+    let ours = ["nodes.rs", "values.rs"].map(|file| declared(here.join("src/tree").join(file))).concat();
+    assert_eq!(ours, declared(sources.join("crates/animato-macro/src/ast.rs")));
+    println!("{} lines of declarations", ours.len());
 }
 
 #[test]

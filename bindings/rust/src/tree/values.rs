@@ -63,7 +63,7 @@ pub enum LoopSpec {
     Forever,
     /// `ping_pong`
     PingPong,
-    /// There and back so many times: a sheet may hold it, and reading gives none.
+    /// `ping_pong(n)`
     PingPongTimes(u32),
 }
 
