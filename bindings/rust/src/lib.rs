@@ -4,9 +4,9 @@
 //! name up in books of named scripts, listing a book's items by their calls, and drawing a waveform as heights. The functions call a
 //! library that is proved: each answer and every byte that is written equals a definition.
 //!
-//! A [`Workspace`] owns the buffers, and its [`Sheet`]s own their bytes; [`tree`] has a sheet's tree, owned, which code generation starts
-//! from. The functions beside it, [`read`] to [`wave`], write to slices
-//! that are lent, and allocate nothing. A refusal is the error [`Refused`], with its number, its cause and a place.
+//! A [`Workspace`] owns the buffers, and its [`Sheet`]s own their bytes. The functions beside it, [`read`] to [`wave`], write to slices
+//! that are lent, and allocate nothing. A refusal is the error [`Refused`], with its number, its cause and a place. [`tree`] has a sheet's
+//! tree, owned, which code generation starts from; its code is this crate's own, tested and not proved.
 //!
 //! ```
 //! use strip::{RUST_COLORS, Refusal, Workspace};

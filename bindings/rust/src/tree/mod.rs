@@ -1,6 +1,7 @@
 //! The tree of a script, owned, under the names of animato-macro's ast.rs: what code generation starts from. It is made from a text and
 //! its sheet. The types are those of ast.rs without their spans; where a node and its names stand in the text is kept beside the nodes,
-//! by record ([`Tree::places`]).
+//! by record ([`Tree::places`]). The library says whether bytes are a sheet; decoding and encoding are this module's own code, which is
+//! tested and not proved.
 //!
 //! ```
 //! use strip::tree::{EasingSpec, MotionNode, ValueExpr};
