@@ -11,7 +11,7 @@ mod error {
 
 use std::hint::black_box;
 use std::time::Instant;
-use strip::ReadAnswer;
+use strip::{Read, Refused};
 
 /// What the program of 01 lends.
 struct Lent {
@@ -20,7 +20,7 @@ struct Lent {
 }
 
 impl Lent {
-    fn read(&mut self, text: &str) -> ReadAnswer {
+    fn read(&mut self, text: &str) -> Result<Read, Refused> {
         strip::read(text.as_bytes(), &mut self.scratch, &mut self.sheet)
     }
 }
@@ -74,8 +74,8 @@ fn report(lent: &mut Lent, empty: f64, script: &Script) {
     let Script(name, _) = script;
     let text = script.of(10_240);
     assert!(rust_reads(&text), "{name}");
-    if let ReadAnswer::Refused { refusal, .. } = lent.read(&text) {
-        return println!("{name}: reading refuses it with {}", refusal.number());
+    if let Err(refused) = lent.read(&text) {
+        return println!("{name}: reading refuses it with {}", refused.refusal.number());
     }
     let rust = least(|| rust_reads(black_box(&text)));
     let mut time = |size: usize| {

@@ -14,7 +14,7 @@ mod error {
 use parser::AnimatoInput;
 use std::hint::black_box;
 use std::time::Instant;
-use strip::{CheckAnswer, LineAnswer, ReadAnswer};
+use strip::Read;
 
 /// What the program of 01 lends.
 struct Lent {
@@ -105,15 +105,15 @@ fn row(lent: &mut Lent, name: &str, text: &str) {
     let rust = rust_reads(text);
     let read = reading(lent, text);
     let (length, input) = match (answer, rust) {
-        (ReadAnswer::Accepted { length, .. }, Ok(input)) => (length, input),
-        (ReadAnswer::Refused { refusal, .. }, Err(_)) => {
-            let refused = format!("refused, {}", refusal.number());
+        (Ok(Read { length, .. }), Ok(input)) => (length, input),
+        (Err(refused), Err(_)) => {
+            let refused = format!("refused, {}", refused.refusal.number());
             return println!("| {name} | {} | {refused} | {} | | | | {} | {:.2} |", text.len(), columns(read), speeds(text.len(), read), read.ratio());
         }
         _ => panic!("{name}: reading and the Rust differ"),
     };
     let sheet = lent.sheet[..length].to_vec();
-    let accepted = strip::check(text.as_bytes(), &sheet, strip::RUST_COLORS) == CheckAnswer::Accepted;
+    let accepted = strip::check(text.as_bytes(), &sheet, strip::RUST_COLORS).is_ok();
     assert_eq!(accepted, validate::validate_nodes(&input.nodes).is_ok(), "{name}");
     let check = checking(text, &sheet, &input);
     let both = read.and(check);
@@ -129,17 +129,14 @@ fn row(lent: &mut Lent, name: &str, text: &str) {
 
 /// All lines of a script, for which there is no Rust.
 fn line_row(lent: &mut Lent, name: &str, text: &str) {
-    let ReadAnswer::Accepted { length, records, .. } = strip::read(text.as_bytes(), &mut lent.scratch, &mut lent.sheet) else {
+    let Ok(Read { length, records, .. }) = strip::read(text.as_bytes(), &mut lent.scratch, &mut lent.sheet) else {
         panic!("{name}: refused");
     };
     let Lent { sheet, output, .. } = lent;
     let mut all = || {
         let mut bytes = 0;
         for ordinal in 0..=records as u32 {
-            match strip::line(text.as_bytes(), &sheet[..length], ordinal, output) {
-                LineAnswer::Accepted { length } => bytes += length,
-                LineAnswer::Refused { .. } => panic!("{name}: no line"),
-            }
+            bytes += strip::line(text.as_bytes(), &sheet[..length], ordinal, output).unwrap_or_else(|refused| panic!("{name}: {refused}"));
         }
         bytes
     };
@@ -151,10 +148,7 @@ fn line_row(lent: &mut Lent, name: &str, text: &str) {
 /// What is printed for a script, on a page: reading, checking and all lines in one call.
 fn print_row(lent: &mut Lent, page: &mut [u8], name: &str, text: &str) {
     let Lent { scratch, sheet, .. } = lent;
-    let mut all = || match strip::print(text.as_bytes(), scratch, sheet, page, strip::RUST_COLORS) {
-        LineAnswer::Accepted { length } => length,
-        LineAnswer::Refused { .. } => panic!("{name}: nothing printed"),
-    };
+    let mut all = || strip::print(text.as_bytes(), scratch, sheet, page, strip::RUST_COLORS).unwrap_or_else(|refused| panic!("{name}: {refused}"));
     let bytes = all();
     let least = times(all, || ()).ours;
     println!("| {name} | {} | {bytes} | {:.1} | {:.2} |", text.len(), least / 1000.0, least / text.len() as f64);
