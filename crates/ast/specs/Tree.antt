@@ -5,11 +5,16 @@ use mathlib.Core.Bool.{Bool}
 use mathlib.Core.List.{List, [], _∷_, _++_}
 use mathlib.Core.Option.{Option, some}
 use lib.ListN.{length}
+use Rattle.text.specs.Bytes.{part}
 
 -- where a name or a string stands in the text, quotes left off
 pub record Span : Type 0 where
   pub start : ℕ
   pub size : ℕ
+
+-- its bytes
+abbrev pub spanBytes : List ℕ → Span → List ℕ
+spanBytes t x = part t (x .start) (x .size)
 
 pub data ValueExpr : Type 0 where
   scalar : ℕ → ValueExpr
@@ -116,6 +121,10 @@ pub record ColorSpec : Type 0 where
   pub duration : ℕ
   pub space : ℕ
   pub easing : Option EasingSpec
+
+-- WaveformKind's last case, which 02 (h) retires
+abbrev pub noise : ℕ
+noise = 4
 
 pub record WaveformSpec : Type 0 where
   pub kind : ℕ

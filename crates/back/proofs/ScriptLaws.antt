@@ -304,7 +304,3 @@ module _ (list : ℕ) (t s out : List ℕ) where
   open-answer e h g f =
       let o = the-tree e in
       f (senseOf t (o .nodes)) (g .is 16 (o .nodes) (head (length t) s (o .nodes) (o .decodes) h) .puts) ∙ of-tree e (o .decodes)
-
--- what equals the operation has its values
-pub with-values : {x y : LineAnswer × List ℕ} → x ≡ y → (x ≡ y) × (lineValues (x .0) ≡ lineValues (y .0))
-with-values e = (e, ap (λ (p : LineAnswer × List ℕ). lineValues (p .0)) e)

@@ -90,10 +90,6 @@ records-more (box p k ns rest) x = let e = records-more rest x in omega arith
 
 -- ---- a node
 
--- what was read so far leaves room for a node, behind the front of its record
-pub reached-room : {s : List ℕ} {c : Cursor} {out : ℕ} → Ready s c → Reached s c out → Room s (out + 3)
-reached-room r h = record { short = h .short; low = omega (arith, h .low, h .short, r .high) }
-
 pub headed-room : {s : List ℕ} {c : Cursor} {out : ℕ} → Ready s c → Headed s c out → Room s out
 headed-room r h = record { short = h .short; low = omega (arith, h .low, h .short, r .high) }
 

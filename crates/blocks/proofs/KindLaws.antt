@@ -21,6 +21,7 @@ use Rattle.grammar.specs.Grammar.{waveformFields, atSign, turned, openingStep}
 use Rattle.grammar.specs.Grammar.{leaves, parseTween, parseSpring, parseKeyframes, parsePath, parseMorph, parseDraw, parseColor}
 use Rattle.grammar.specs.Grammar.{parseWaveform, parsePresetCall, parseLabel, parseAt}
 use Rattle.grammar.specs.Grammar.{block, containers, parseSequence, parseParallel, parseGroup, parseStagger}
+use Rattle.grammar.specs.Grammar.{modeNames}
 use Rattle.heads.proofs.NameLaws.{none≢some}
 use Rattle.heads.proofs.RowLaws.{by-row}
 use Rattle.nodes.specs.Means.{leafKind}
@@ -187,7 +188,7 @@ parallel-kind = always refl
 
 group-kind : ContainerOf 5 parseGroup
 unfolding parseGroup
-group-kind = behind (choice Malformed ("sequence" ∷ "parallel" ∷ [])) (λ mode. always refl)
+group-kind = behind (choice Malformed modeNames) (λ mode. always refl)
 
 stagger-kind : ContainerOf 6 parseStagger
 unfolding parseStagger

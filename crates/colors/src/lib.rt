@@ -6,6 +6,7 @@ ghost use lib.ListN.{length};
 ghost use Rattle.text.specs.Bytes.{part};
 ghost use Rattle.text.specs.Words.{under};
 ghost use Rattle.presets.specs.Colors.{isColor};
+ghost use Rattle.error.specs.Answer.{colorValues};
 ghost use Rattle.colors.specs.Css.{cssColors, cssNames, namesOf, digit, pair, written, hexBytes, hexColor, colorOf, namedColor, colorBytes, coloring};
 ghost use Rattle.colors.specs.Means.{rgbaOf, inTable};
 use error::CheckAnswer;
@@ -405,6 +406,7 @@ fn put_four(out: &mut [u8], a: u8, b: u8, c: u8, d: u8)
 // The red, green, blue and alpha of a string; four zero bytes for one that is no colour.
 pub fn color(string: &[u8], out: &mut [u8; 4]) -> CheckAnswer
     ensures { λ r. ⌜ (r, now (out .exit)) ≡ coloring (now (string .entry)) ⌝ }
+    ensures values { λ r. ⌜ colorValues (r, now (out .exit)) ≡ colorValues (coloring (now (string .entry))) ⌝ }
 {
     match color_bytes(string) {
         Rgba::Is {

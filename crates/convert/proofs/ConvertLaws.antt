@@ -28,7 +28,8 @@ use Rattle.sheet.proofs.Flat.{concat, inside, sheet-flat}
 use Rattle.opening.specs.declared.Opening.the-variants.{Open, Shut}
 use Rattle.opening.specs.Means.{answerOf}
 use Rattle.opening.proofs.OpenLaws.{the-tree, the-refusal}
-use Rattle.convert.specs.Convert.{waveformKind, triangle, noise, waveAt, holdsNoise}
+use Rattle.convert.specs.Convert.{waveformKind, triangle, waveAt, holdsNoise}
+use Rattle.ast.specs.Tree.{noise}
 use Rattle.convert.specs.Convert.{convertedRecord, convertedSheet, convertOpened, converting}
 use Rattle.convert.specs.Triangled.{triangledKind, triangledLeaf, triangled}
 use Rattle.convert.specs.Means.{Converts, IsSheet}
@@ -351,6 +352,3 @@ module _ (t s : List ℕ) where
   is-converted e h =
       let o = the-tree t s e in
       ap (λ (l : List ℕ). (Accepted, l)) (h (o .nodes) (o .decodes)) ∙ sym (leaves t s (o .nodes) (o .opens))
-
-pub with-values : {x y : CheckAnswer × List ℕ} → x ≡ y → (x ≡ y) × (checkValues (x .0) ≡ checkValues (y .0))
-with-values e = (e, ap (λ (p : CheckAnswer × List ℕ). checkValues (p .0)) e)

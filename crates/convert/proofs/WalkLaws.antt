@@ -18,7 +18,8 @@ use Rattle.sheet.specs.Records.{recordOf, nodesOf, allRecords}
 use Rattle.sheet.proofs.Flat.{concat, records-are}
 use Rattle.decode.specs.Reads.{Reads, same}
 use Rattle.records.proofs.PlaceLaws.{Behind, behind-head, behind-next, behind-last, first, this-one}
-use Rattle.convert.specs.Convert.{waveformKind, triangle, noise, waveAt, holdsNoise, convertedRecord, convertedSheet}
+use Rattle.ast.specs.Tree.{noise}
+use Rattle.convert.specs.Convert.{waveformKind, triangle, waveAt, holdsNoise, convertedRecord, convertedSheet}
 use Rattle.convert.specs.Means.{IsSheet, PassesRecord, Converts}
 
 -- ---- a record at a place

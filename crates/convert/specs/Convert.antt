@@ -5,6 +5,7 @@ use mathlib.Core.List.{List}
 use lib.Dec.{eqb}
 use lib.ListN.{length, getD, set}
 use Rattle.codec.specs.Codec.{eachOut}
+use Rattle.ast.specs.Tree.{noise}
 use Rattle.sheet.specs.Sheet.{Forest}
 use Rattle.sheet.specs.Records.{allRecords}
 use Rattle.sheet.specs.Opening.{Opened, opened, shut, opening}
@@ -18,9 +19,6 @@ waveformKind = 11
 -- 01: "An enum: a byte, its case's position", in `WaveformKind`
 abbrev pub triangle : ℕ
 triangle = 3
-
-abbrev pub noise : ℕ
-noise = 4
 
 -- where a waveform's record has that byte: behind its kind and, 02 (a), two bytes of its start
 abbrev pub waveAt : ℕ

@@ -21,7 +21,8 @@ use Rattle.ast.specs.Tree.{
   leaf,
   box,
 }
-use Rattle.convert.specs.Convert.{triangle, noise}
+use Rattle.ast.specs.Tree.{noise}
+use Rattle.convert.specs.Convert.{triangle}
 
 -- triangle for noise, any other kind as it is
 abbrev pub triangledKind : ℕ → ℕ

@@ -18,7 +18,7 @@ use Rattle.ast.specs.View.{spanView}
 use Rattle.ast.specs.declared.Span as spans
 use Rattle.sheet.specs.Sheet.{spanForm}
 use Rattle.pieces.specs.Pieces.{Piece, aWord, aNumeral}
-use Rattle.fresh.specs.Meaning.{bytesOf}
+use Rattle.ast.specs.Tree.{spanBytes}
 use Rattle.fresh.specs.Fresh.{Writer, mark, negative, minusIf, sizeOf, signedBy, f32, field}
 use Rattle.spelling.specs.Spelling.{Page, put, run}
 use Rattle.copying.specs.Copies.{Written, Copies}
@@ -63,7 +63,7 @@ read-put w {p = p} r x =
 -- a name or a string
 pub span-put : (x : List ℕ → Piece) (t : List ℕ) (n : ℕ) {s : List ℕ} {at m : ℕ} {v : spans.Span} {w : List ℕ} {p q : Page}
     → Reads (spanForm n) spanView s at v m → w ≡ part t (v .start) (v .size) → q ≡ put (x w) p
-    → Copies (spanForm n) (λ y ps. x (bytesOf t y) ∷ ps) s at p q m
+    → Copies (spanForm n) (λ y ps. x (spanBytes t y) ∷ ps) s at p q m
 unfolding run
 span-put x t n {p = p} r h g = record {
   reads = seen r (λ a e. same-page (λ ps.
@@ -71,11 +71,6 @@ span-put x t n {p = p} r h g = record {
 }
 
 -- ---- the pieces of one writer and those of another
-
--- a value that was seen, and what was put for it
-pub seen-put : {A X : Type 0} {c : Form A} {f : A → X} {s : List ℕ} {at m : ℕ} {v : X} (w : A → Writer) (p q : Page)
-    → Reads c f s at v m → ((a : A) → f a ≡ v → (ps : List Piece) → run (w a ps) p ≡ run ps q) → Copies c w s at p q m
-seen-put w p q r k = record { reads = seen r (λ a e. same-page (k a e)) }
 
 -- the same pieces by another name
 pub renamed : {A : Type 0} {c : Form A} {s : List ℕ} {at m : ℕ} {p q : Page} {v w : A → Writer}

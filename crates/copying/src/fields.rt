@@ -11,6 +11,7 @@ ghost use Rattle.codec.specs.Codec.{_▹_, below, opt};
 ghost use Rattle.sheet.specs.Sheet.{word, flag, valueForm, dampingForm};
 ghost use Rattle.pieces.specs.Pieces.{aWord, wordLike};
 ghost use Rattle.fresh.specs.Fresh as fresh;
+ghost use Rattle.grammar.specs.Grammar.{spaceNames, spaceDefault};
 ghost use Rattle.copying.specs.Copies.{Puts, CopiesTo};
 ghost use Rattle.copying.specs.Words.{Literal, allWords};
 use crate::values::Copied;
@@ -237,7 +238,7 @@ pub fn copy_reverse(s: &[u8], at: usize, pen: Pen, out: &mut [u8]) -> Copied
 
 // `space`, whose absence reads to the first.
 pub fn copy_space(s: &[u8], at: usize, pen: Pen, out: &mut [u8]) -> Copied
-    ensures { λ r. ⌜ CopiesTo (below 3) (λ k. fresh.field "space" (fresh.choose fresh.spaceNames) (fresh.unlessIs 0 k)) (now (s .entry)) at (now (out .entry)) pen (now (out .exit)) r ⌝ }
+    ensures { λ r. ⌜ CopiesTo (below 3) (λ k. fresh.field "space" (fresh.choose spaceNames) (fresh.unlessIs spaceDefault k)) (now (s .entry)) at (now (out .entry)) pen (now (out .exit)) r ⌝ }
 {
     let x = take_byte(s, at, 3);
     if x.v == 0 {

@@ -5,7 +5,7 @@ ghost use Rattle.codec.specs.Codec.{each, many};
 ghost use Rattle.ast.specs.Tree.{array};
 ghost use Rattle.sheet.specs.Sheet.{word, spanForm, valueForm};
 ghost use Rattle.pieces.specs.Pieces.{aName, aString};
-ghost use Rattle.fresh.specs.Meaning.{bytesOf};
+ghost use Rattle.ast.specs.Tree.{spanBytes};
 ghost use Rattle.fresh.specs.Fresh as fresh;
 ghost use Rattle.copying.specs.Copies.{Puts, CopiesTo};
 use decode::fields::take_byte;
@@ -119,7 +119,7 @@ pub fn put_truth(pen: Pen, out: &mut [u8], v: bool) -> Pen
 
 // A name of the tree.
 pub fn copy_name(text: &[u8], s: &[u8], at: usize, pen: Pen, out: &mut [u8]) -> Copied
-    ensures { λ r. ⌜ CopiesTo (spanForm (length (now (text .entry)))) (λ x ps. aName (bytesOf (now (text .entry)) x) ∷ ps) (now (s .entry)) at (now (out .entry)) pen (now (out .exit)) r ⌝ }
+    ensures { λ r. ⌜ CopiesTo (spanForm (length (now (text .entry)))) (λ x ps. aName (spanBytes (now (text .entry)) x) ∷ ps) (now (s .entry)) at (now (out .entry)) pen (now (out .exit)) r ⌝ }
 {
     let x = take_span(s, at, text.len());
     let span = x.v;
@@ -131,7 +131,7 @@ pub fn copy_name(text: &[u8], s: &[u8], at: usize, pen: Pen, out: &mut [u8]) -> 
 
 // A string of the tree.
 pub fn copy_string(text: &[u8], s: &[u8], at: usize, pen: Pen, out: &mut [u8]) -> Copied
-    ensures { λ r. ⌜ CopiesTo (spanForm (length (now (text .entry)))) (λ x ps. aString (bytesOf (now (text .entry)) x) ∷ ps) (now (s .entry)) at (now (out .entry)) pen (now (out .exit)) r ⌝ }
+    ensures { λ r. ⌜ CopiesTo (spanForm (length (now (text .entry)))) (λ x ps. aString (spanBytes (now (text .entry)) x) ∷ ps) (now (s .entry)) at (now (out .entry)) pen (now (out .exit)) r ⌝ }
 {
     let x = take_span(s, at, text.len());
     let span = x.v;

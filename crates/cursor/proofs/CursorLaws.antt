@@ -90,9 +90,6 @@ head-low s c r = r .head .some
 -- ---- m stands behind the head of c
 
 module _ (s : List ℕ) (c m : Cursor) (r : Ready s c) (f : Follows s c m) where
-  same-notes : notes s c ≡ notes s m
-  same-notes = rw (f .left, f .rounded)
-
   -- a rule that takes the head
   pub took : {A : Type 0} (p : Rule A) (x : A) → isMark (kind (tokens s c)) 0 ≡ false
       → run s c p ≡ got x (notes s c) (rest (tokens s c))

@@ -19,8 +19,10 @@ use Rattle.ast.specs.declared.Span as spans
 use Rattle.ast.specs.Tree.{StaggerPatternSpec}
 use Rattle.sheet.specs.Sheet.{word, flag, spanForm, patternForm}
 use Rattle.copying.proofs.CopyLaws.{put-before}
-use Rattle.fresh.specs.Meaning.{named, bytesOf}
-use Rattle.fresh.specs.Fresh.{Writer, Pair, spell, mark, u32, easing, pairs, morePairs, unless, choose, originNames, pattern, opening}
+use Rattle.ast.specs.Tree.{spanBytes}
+use Rattle.fresh.specs.Meaning.{named}
+use Rattle.fresh.specs.Fresh.{Writer, Pair, spell, mark, u32, easing, pairs, morePairs, unless, choose, pattern, opening}
+use Rattle.grammar.specs.Grammar.{originNames}
 use Rattle.spelling.specs.Spelling.{Page, run}
 use Rattle.copying.specs.Copies.{Written, Copies}
 use Rattle.curves.specs.Pairs.{commaUnless, pairsBy, delayBy, PairPut}
@@ -132,7 +134,7 @@ grid-pairs c r o a b d e f = record {
 -- the name of an easing, with `Easing::` or not
 pub named-read : (t : List ℕ) (n : ℕ) {s : List ℕ} {at m k : ℕ} {v : Bool} {x : spans.Span} {w : List ℕ} {p q : Page}
     → Reads flag same s at v m → Reads (spanForm n) spanView s m x k → w ≡ part t (x .start) (x .size) → Written (easing (named v w)) p q
-    → Copies (flag ▹ spanForm n) (λ y. easing (named (y .0) (bytesOf t (y .1)))) s at p q k
+    → Copies (flag ▹ spanForm n) (λ y. easing (named (y .0) (spanBytes t (y .1)))) s at p q k
 named-read t n {v = v} {p = p} r u h y = record {
   reads = seen (r & u) (λ a e. same-page (λ ps.
       ap (λ (z : Bool × spans.Span). run (easing (named (z .0) (part t (z .1 .start) (z .1 .size))) ps) p) e

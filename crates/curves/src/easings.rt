@@ -9,7 +9,8 @@ ghost use Rattle.codec.specs.Codec.{_▹_};
 ghost use Rattle.sheet.specs.Sheet as Sheet;
 ghost use Rattle.sheet.specs.Sheet.{word, flag, spanForm, easingForm, loopForm};
 ghost use Rattle.pieces.specs.Pieces.{aWord, wordLike};
-ghost use Rattle.fresh.specs.Meaning.{bytesOf, named, cubicBezier, rough, slowMo, easingSense};
+ghost use Rattle.ast.specs.Tree.{spanBytes};
+ghost use Rattle.fresh.specs.Meaning.{named, cubicBezier, rough, slowMo, easingSense};
 ghost use Rattle.fresh.specs.Fresh as fresh;
 ghost use Rattle.spelling.specs.Spelling.{pageOf};
 ghost use Rattle.copying.specs.Copies.{Puts, CopiesTo};
@@ -44,7 +45,7 @@ fn put_named(pen: Pen, out: &mut [u8], variant: bool, name: &[u8]) -> Pen
 }
 
 fn copy_named(text: &[u8], s: &[u8], at: usize, pen: Pen, out: &mut [u8]) -> Copied
-    ensures { λ r. ⌜ CopiesTo (flag ▹ spanForm (length (now (text .entry)))) (λ x. fresh.easing (named (x .0) (bytesOf (now (text .entry)) (x .1)))) (now (s .entry)) at (now (out .entry)) pen (now (out .exit)) r ⌝ }
+    ensures { λ r. ⌜ CopiesTo (flag ▹ spanForm (length (now (text .entry)))) (λ x. fresh.easing (named (x .0) (spanBytes (now (text .entry)) (x .1)))) (now (s .entry)) at (now (out .entry)) pen (now (out .exit)) r ⌝ }
 {
     let variant = take_flag(s, at);
     let x = take_span(s, variant.next, text.len());

@@ -6,6 +6,7 @@ ghost use Rattle.codec.specs.Codec.{_▹_, below, opt};
 ghost use Rattle.ast.specs.Tree.{grid, random};
 ghost use Rattle.sheet.specs.Sheet.{word, patternForm};
 ghost use Rattle.fresh.specs.Fresh as fresh;
+ghost use Rattle.grammar.specs.Grammar.{originNames, originDefault};
 ghost use Rattle.spelling.specs.Spelling.{pageOf};
 ghost use Rattle.copying.specs.Copies.{CopiesTo};
 ghost use Rattle.curves.specs.Pairs.{PairPut, delayBy};
@@ -29,7 +30,7 @@ const ORIGINS: [u8; 73] =
 // `origin`, whose absence reads to `center`.
 fn put_origin(pen: Pen, out: &mut [u8], origin: u8) -> Pen
     requires { ⌜ origin < 9 ⌝ }
-    ensures { λ r. ⌜ PairPut false (eqb origin 4) ("origin", fresh.choose fresh.originNames origin) (pageOf (now (out .entry)) pen) (pageOf (now (out .exit)) r) ⌝ }
+    ensures { λ r. ⌜ PairPut false (eqb origin originDefault) ("origin", fresh.choose originNames origin) (pageOf (now (out .entry)) pen) (pageOf (now (out .exit)) r) ⌝ }
 {
     if origin == 4 {
         return pen;

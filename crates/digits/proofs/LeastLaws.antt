@@ -73,11 +73,3 @@ nowhere-is p n g = go (leastBelow p n) (search-found p n)
     go : (o : Option ℕ) → Found p n o → o ≡ none
     go none f = refl
     go (some j) f = never (p j) (f .passes) (g .fails j (f .below))
-
--- where one passes, one is found that is no larger
-pub some-least : (p : ℕ → Bool) (n j : ℕ) → j < n → p j ≡ true → (k : ℕ) × (leastBelow p n ≡ some k) × (k ≤ j)
-some-least p n j h e = go (leastBelow p n) refl (search-found p n)
-  where
-    go : (o : Option ℕ) → leastBelow p n ≡ o → Found p n o → (k : ℕ) × (leastBelow p n ≡ some k) × (k ≤ j)
-    go none q f = never (p j) e (f .fails j h)
-    go (some k) q f = (k, q, ⊎-elim (λ (l : k ≤ j). l) (λ (l : j < k). never (p j) e (f .before j l)) (either k j))

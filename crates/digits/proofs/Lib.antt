@@ -13,5 +13,4 @@ pub mod WholeLaws
 pub mod PercentLaws
 pub mod EndLaws
 pub mod FormLaws
-pub mod AnswerLaws
 pub mod Examples

@@ -94,9 +94,3 @@ unfoldable pub form : Sort → ℕ → List ℕ × List ℕ
 form float b = each (fewest b) numeral
 form percentage b = each (leastPercent b) (λ n. (wholeDigits 39 n, []))
 form counted n = (wholeDigits 39 n, [])
-
--- whether a number reads to it: "34 exactly if no text .. reads to that tree", for one number
-unfoldable pub writable : Sort → ℕ → Bool
-writable float b = isSome (fewest b)
-writable percentage b = isSome (leastPercent b)
-writable counted n = leb n 4294967295

@@ -41,21 +41,12 @@ written w = record {
   suffix = false;
 }
 
--- its bytes: a point stands before the digits behind it
+-- a point stands before the digits behind it
 unfoldable pub fraction : List ℕ → List ℕ
 fraction [] = []
 fraction (d ∷ ds) = 46 ∷ d ∷ ds
-
-abbrev pub bytesOf : List ℕ × List ℕ → List ℕ
-bytesOf w = w .0 ++ fraction (w .1)
 
 -- the bits with a sign
 abbrev pub withSign : Bool → ℕ → ℕ
 withSign true m = m + 2147483648
 withSign false m = m
-
--- w reads to m, a u32 or the bits of an f32
-abbrev pub Means : Sort → ℕ → Written → Type 0
-Means float m w = (s : Bool) → bits (nearest s w) ≡ withSign s m
-Means percentage m w = (w .point ≡ false) × ((s : Bool) → bits (percent s (w .digits)) ≡ withSign s m)
-Means counted m w = (w .point ≡ false) × (whole false w ≡ some m)

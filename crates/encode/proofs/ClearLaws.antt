@@ -33,10 +33,6 @@ zeros-all l i = go (leb (length l) i) refl
         let n : length zs ≡ length l - i = length-replicate (length l - i) 0 in
         sets-eq zs l i (omega arith) ∙ (rw (drop-of-length-le l {i = i + length zs} (omega arith), append-nil))
 
--- from its start on
-pub clear-all : (l : List ℕ) → take 0 l ++ replicate (length l - 0) 0 ≡ replicate (length l) 0
-clear-all l = rw sub-zero
-
 -- ---- bytes from the start on, and zeros behind them, whatever the sheet held before
 
 module _ {out after bs : List ℕ} {end : ℕ} (w : Writes out 0 bs after end) (h : length bs ≤ length out) where

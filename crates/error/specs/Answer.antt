@@ -8,6 +8,10 @@ use Rattle.error.specs.declared.CheckAnswer.{CheckAnswer}
 use Rattle.error.specs.declared.CheckAnswer.the-variants as check
 use Rattle.error.specs.declared.LineAnswer.{LineAnswer}
 use Rattle.error.specs.declared.LineAnswer.the-variants as line
+use Rattle.error.specs.declared.FeedAnswer.{FeedAnswer}
+use Rattle.error.specs.declared.FeedAnswer.the-variants as feed
+use Rattle.error.specs.declared.MeanAnswer.{MeanAnswer}
+use Rattle.error.specs.declared.MeanAnswer.the-variants as mean
 use Rattle.error.specs.declared.LookupAnswer.{LookupAnswer}
 use Rattle.error.specs.declared.LookupAnswer.the-variants as lookup
 use Rattle.error.specs.declared.OrderAnswer.{OrderAnswer}
@@ -27,6 +31,22 @@ checkValues (check.Refused refusal place) = numberOf refusal ∷ place ∷ []
 abbrev pub lineValues : LineAnswer → List ℕ
 lineValues (line.Accepted length) = 0 ∷ length ∷ []
 lineValues (line.Refused refusal place) = numberOf refusal ∷ place ∷ []
+
+-- 02 (b), feeding: what the script was judged
+abbrev pub feedValues : FeedAnswer → List ℕ
+feedValues (feed.Counted answer) = 0 ∷ checkValues answer
+feedValues (feed.Refused refusal place) = numberOf refusal ∷ place ∷ []
+
+-- 02 (b), a mean: its numerator and its denominator; nothing for `none`
+abbrev pub meanValues : MeanAnswer → List ℕ
+meanValues (mean.Fraction numerator denominator) = 0 ∷ numerator ∷ denominator ∷ []
+meanValues mean.Nothing = 0 ∷ []
+meanValues (mean.Refused refusal place) = numberOf refusal ∷ place ∷ []
+
+-- 02 (g), a colour: its bytes
+abbrev pub colorValues : CheckAnswer × List ℕ → List ℕ
+colorValues (check.Accepted, bytes) = 0 ∷ bytes
+colorValues (check.Refused refusal place, bytes) = numberOf refusal ∷ place ∷ []
 
 -- 02 (i), a lookup: the book, 0 for the store's and 1 for the chain's; the body's start and its size
 abbrev pub lookupValues : LookupAnswer → List ℕ

@@ -1,5 +1,6 @@
 // Feeding a script to a morning sheet: it is read and checked, and counted in the totals that are lent.
 ghost use mathlib.Core.Path.{_≡_};
+ghost use Rattle.error.specs.Answer.{feedValues};
 ghost use Rattle.totals.specs.Totals.{added};
 ghost use Rattle.error.specs.declared.CheckAnswer.the-variants as check;
 ghost use Rattle.sheet.specs.Sheet.{decode};
@@ -68,6 +69,7 @@ pub fn feed(
     list: u32,
 ) -> FeedAnswer
     ensures { λ r. ⌜ (r, now (totals .exit), now (scratch .exit), now (sheet .exit)) ≡ feeding (now (totals .entry)) (fed list (now (text .entry)) (now (scratch .entry)) (now (sheet .entry))) ⌝ }
+    ensures values { λ r. ⌜ feedValues r ≡ feedValues (feeding (now (totals .entry)) (fed list (now (text .entry)) (now (scratch .entry)) (now (sheet .entry))) .0) ⌝ }
 {
     if full(totals) {
         return FeedAnswer::Refused {

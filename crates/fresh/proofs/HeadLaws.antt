@@ -21,7 +21,8 @@ use Rattle.grammar.specs.Grammar.{parseStaggerPattern, Opening, openingFields, 
 use Rattle.pieces.specs.Pieces.{Piece, aName, Form, ahead, laid}
 use Rattle.fresh.specs.Meaning.{optionSense, leafSense, PresetSense, preset}
 use Rattle.fresh.specs.Fresh.{mark, spell, field, f32, u32, pairs, unless, choose}
-use Rattle.fresh.specs.Fresh.{wordAt, modeNames, originNames, pattern, opening}
+use Rattle.fresh.specs.Fresh.{wordAt, pattern, opening}
+use Rattle.grammar.specs.Grammar.{modeNames, originNames}
 use Rattle.fresh.specs.Fresh.{easing as easingPieces}
 use Rattle.fresh.proofs.ReadLaws.{Reads, Loops, IsMore, IsDone, gives, then, first, and, yes-if, no-if, the-mark}
 use Rattle.fresh.proofs.ReadLaws.{skips-mark, eats-mark, eats-none, in-group, a-word, needs, loops, ends-at, again}

@@ -22,7 +22,9 @@ use Rattle.pieces.specs.Pieces.{Piece, Form}
 use Rattle.fresh.specs.Meaning.{optionSense, leafSense, SpringSense, PathSense, MorphSense}
 use Rattle.fresh.specs.Meaning.{ColorSense, spring, path, morph, color, waveform}
 use Rattle.fresh.specs.Fresh.{f32, u32, truth, value, offset, choose, wordAt}
-use Rattle.fresh.specs.Fresh.{presetNames, integratorNames, spaceNames, waveNames, unlessIs, leafBody}
+use Rattle.fresh.specs.Fresh.{waveNames, unlessIs, leafBody}
+use Rattle.grammar.specs.Grammar.{presetNames, integratorNames, spaceNames}
+use Rattle.grammar.specs.Grammar.{waveformNames}
 use Rattle.fresh.specs.Fresh.{loopMode as loopPieces}
 use Rattle.fresh.proofs.ReadLaws.{Reads, gives, then, and, the-mark, two-marks, needs, loops}
 use Rattle.fresh.proofs.ValueLaws.{quiet-mark, quiet-field, reads-value, reads-ident, reads-string, a-float, a-count, a-truth}
@@ -244,7 +246,7 @@ module _ {form : Form} {s : List ℕ} where
   reads-kind : (k : ℕ) (us : List Piece) → Reads form s 1 waveformKind (wordAt waveNames k ∷ us) us (λ j. j ≡ k)
   unfolding waveformKind unlessNoise same isKeyword find
   reads-kind k us =
-      then {d = 0} (reads-word Malformed ("sine" ∷ "sawtooth" ∷ "square" ∷ "triangle" ∷ "noise" ∷ []) waveNames 0 k us
+      then {d = 0} (reads-word Malformed waveformNames waveNames 0 k us
       (refl, refl, (refl, refl, (refl, refl, (refl, refl, tt)))))
       (λ j h. let e = h .0 in let l = h .1 in rw (ne-eqb j 4 (λ f. omega arith)) (gives (omega arith)))
 

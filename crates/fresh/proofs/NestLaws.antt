@@ -22,8 +22,10 @@ use Rattle.pieces.specs.Pieces.{Piece, aWord, aMark}
 use Rattle.pieces.specs.Fits.{nestOf, Nests}
 use Rattle.fresh.specs.Fresh.{Pair, morePairs, pairs, unless, Writer, negative, minusIf, signedBy, f32, u32}
 use Rattle.fresh.specs.Fresh.{moreFloats, floats, value, truth, easing, loopMode, field, onlyTrue, atValue, leafWord}
-use Rattle.fresh.specs.Fresh.{leafBody, boxWord, boxBody, pieces, mark, spell, wordAt, choose, presetNames}
-use Rattle.fresh.specs.Fresh.{integratorNames, spaceNames, waveNames, modeNames, originNames, unlessIs, offset, damping}
+use Rattle.fresh.specs.Fresh.{leafBody, boxWord, boxBody, pieces, mark, spell, wordAt, choose}
+use Rattle.grammar.specs.Grammar.{presetNames}
+use Rattle.fresh.specs.Fresh.{waveNames, unlessIs, offset, damping}
+use Rattle.grammar.specs.Grammar.{integratorNames, spaceNames, modeNames, originNames}
 use Rattle.fresh.specs.Fresh.{time, frameEasing, frame, trackLoop, moreFrames, track, commaIf, pattern, opening}
 use Rattle.fresh.specs.Reads.{Deep}
 

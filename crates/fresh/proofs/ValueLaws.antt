@@ -28,7 +28,8 @@ use Rattle.pieces.specs.Pieces.{Piece, aWord, aName, aPlain, aString, aMark}
 use Rattle.pieces.specs.Pieces.{Form, ahead, laid, curveNames}
 use Rattle.pieces.specs.Fits.{Means}
 use Rattle.pieces.proofs.SignLaws.{nearest-signed}
-use Rattle.fresh.specs.Meaning.{bytesOf, EasingSense, named, cubicBezier, steps, wiggle, rough, slowMo, easingSense}
+use Rattle.ast.specs.Tree.{spanBytes}
+use Rattle.fresh.specs.Meaning.{EasingSense, named, cubicBezier, steps, wiggle, rough, slowMo, easingSense}
 use Rattle.fresh.specs.Fresh.{pairs, unless, spell, mark, two, negative, minusIf, sizeOf, signedBy}
 use Rattle.fresh.specs.Fresh.{field, Writer, f32, u32, floats, moreFloats, value, easing, loopMode}
 use Rattle.fresh.specs.Fresh.{truth as truthPieces}
@@ -196,11 +197,11 @@ module _ {form : Form} {s : List ℕ} where
 
   -- ---- names and strings as their places
 
-  pub reads-ident : (w : List ℕ) (us : List Piece) → Reads form s 1 ident (aName w ∷ us) us (λ x. bytesOf s x ≡ w)
+  pub reads-ident : (w : List ℕ) (us : List Piece) → Reads form s 1 ident (aName w ∷ us) us (λ x. spanBytes s x ≡ w)
   unfolding ident
   reads-ident w us = then (a-name w us) (λ x h. gives (rw (h .0) (h .1)))
 
-  pub reads-string : (w : List ℕ) (us : List Piece) → Reads form s 1 string (aString w ∷ us) us (λ x. bytesOf s x ≡ w)
+  pub reads-string : (w : List ℕ) (us : List Piece) → Reads form s 1 string (aString w ∷ us) us (λ x. spanBytes s x ≡ w)
   unfolding string
   reads-string w us = then (a-text w us) (λ x h. gives (h .1))
 

@@ -7,12 +7,15 @@ use mathlib.Core.Bool.{Bool, true, false, cond}
 use mathlib.Core.List.{List, [], _∷_}
 use mathlib.Core.Option.{Option, none, some}
 use lib.Dec.{leb, eqb}
+use lib.ListN.{take}
 use Rattle.digits.specs.Numeral.{Sort, counted, float, percentage}
 use Rattle.text.specs.Bytes.{bytes}
 use Rattle.ast.specs.Tree.{ValueExpr, scalar, array, LoopSpec, once, times, forever, pingPong, pingPongTimes}
-use Rattle.ast.specs.Tree.{KeyframeTime, percent, seconds, DampingMode, criticallyDamped, overdamped, underdamped}
+use Rattle.ast.specs.Tree.{noise, KeyframeTime, percent, seconds, DampingMode, criticallyDamped, overdamped, underdamped}
 use Rattle.ast.specs.Tree.{StaggerPatternSpec, grid, random, centerOut, edgesIn, Container, sequence, parallel, group, stagger}
-use Rattle.grammar.specs.Values.{f32Of}
+use Rattle.grammar.specs.Values.{strengthDefault, pointsDefault, ratioDefault, powerDefault}
+use Rattle.grammar.specs.Grammar.{presetNames, integratorNames, spaceNames, modeNames, originNames, waveformNames}
+use Rattle.grammar.specs.Grammar.{originDefault, seedDefault, minDefault, maxDefault, samplesDefault, spaceDefault}
 use Rattle.pieces.specs.Pieces.{Piece, aWord, aName, aPlain, aNumeral, aString, aMark, aPair, Form, joined, allFit}
 use Rattle.fresh.specs.Meaning.{EasingSense, named, cubicBezier, steps, wiggle, rough, slowMo, FrameSense}
 use Rattle.fresh.specs.Meaning.{LeafSense, tween, spring, keyframes, path, morph, draw, color, waveform, preset, label, at}
@@ -93,7 +96,7 @@ unless false a as′ = a ∷ as′
 
 -- ---- easings and loop modes
 
--- "`Easing::` kept". What absence reads to is, bit for bit, 0.5, 8, 0.7 and 2.
+-- "`Easing::` kept". What absence reads to is the grammar's default, bit for bit.
 unfoldable pub easing : EasingSense → Writer
 easing (named true x) ps = spell "Easing" ∷ two ":" ":" ∷ aName x ∷ ps
 easing (named false x) ps = aPlain x ∷ ps
@@ -104,10 +107,10 @@ easing (steps n) ps = spell "steps" ∷ mark "(" ∷ u32 n (mark ")" ∷ ps)
 easing (wiggle n) ps = spell "wiggle" ∷ mark "(" ∷ u32 n (mark ")" ∷ ps)
 easing (rough a n) ps =
     spell "rough" ∷ mark "("
-    ∷ pairs (unless (eqb a (f32Of 1 2)) ("strength", f32 a) (unless (eqb n 8) ("points", u32 n) [])) (mark ")" ∷ ps)
+    ∷ pairs (unless (eqb a strengthDefault) ("strength", f32 a) (unless (eqb n pointsDefault) ("points", u32 n) [])) (mark ")" ∷ ps)
 easing (slowMo a b) ps =
     spell "slowmo" ∷ mark "("
-    ∷ pairs (unless (eqb a (f32Of 7 10)) ("linear_ratio", f32 a) (unless (eqb b (f32Of 2 1)) ("power", f32 b) [])) (mark ")" ∷ ps)
+    ∷ pairs (unless (eqb a ratioDefault) ("linear_ratio", f32 a) (unless (eqb b powerDefault) ("power", f32 b) [])) (mark ")" ∷ ps)
 
 unfoldable pub loopMode : LoopSpec → Writer
 loopMode once ps = spell "once" ∷ ps
@@ -141,24 +144,9 @@ wordAt (n ∷ ns) (suc k) = wordAt ns k
 unfoldable pub choose : List String → ℕ → Writer
 choose names k ps = wordAt names k ∷ ps
 
-abbrev pub presetNames : List String
-presetNames = "gentle" ∷ "wobbly" ∷ "stiff" ∷ "slow" ∷ "snappy" ∷ []
-
-abbrev pub integratorNames : List String
-integratorNames = "semi_implicit_euler" ∷ "rk4" ∷ []
-
-abbrev pub spaceNames : List String
-spaceNames = "linear" ∷ "lab" ∷ "oklch" ∷ []
-
 -- 02 (h): reading refuses `noise`, so that no text has it
 abbrev pub waveNames : List String
-waveNames = "sine" ∷ "sawtooth" ∷ "square" ∷ "triangle" ∷ []
-
-abbrev pub modeNames : List String
-modeNames = "sequence" ∷ "parallel" ∷ []
-
-abbrev pub originNames : List String
-originNames = "top_left" ∷ "top_right" ∷ "bottom_left" ∷ "bottom_right" ∷ "center" ∷ "top" ∷ "bottom" ∷ "left" ∷ "right" ∷ []
+waveNames = take noise waveformNames
 
 unfoldable pub offset : ℕ × ℕ → Writer
 offset r ps = f32 (r .0) (two "." "." ∷ f32 (r .1) ps)
@@ -246,12 +234,12 @@ leafBody (path d) ps =
     (field "offset" offset (d .offset) (field "loop" loopMode (d .loopMode) (mark ";" ∷ ps)))))
 leafBody (morph d) ps =
     aString (d .from) ∷ two "=" ">" ∷ aString (d .to)
-    ∷ field "samples" u32 (unlessIs 32 (d .samples)) (field "duration" f32 (some (d .duration))
+    ∷ field "samples" u32 (unlessIs samplesDefault (d .samples)) (field "duration" f32 (some (d .duration))
     (field "easing" easing (d .easing) (mark ";" ∷ ps)))
 leafBody (draw d) ps = aString (d .svg) ∷ field "duration" f32 (some (d .duration)) (field "easing" easing (d .easing) (mark ";" ∷ ps))
 leafBody (color d) ps =
     aName (d .target) ∷ mark ":" ∷ aString (d .from) ∷ two "=" ">" ∷ aString (d .to)
-    ∷ field "duration" f32 (some (d .duration)) (field "space" (choose spaceNames) (unlessIs 0 (d .space))
+    ∷ field "duration" f32 (some (d .duration)) (field "space" (choose spaceNames) (unlessIs spaceDefault (d .space))
     (field "easing" easing (d .easing) (mark ";" ∷ ps)))
 leafBody (waveform d) ps =
     wordAt waveNames (d .kind)
@@ -272,15 +260,15 @@ boxWord parallel = "parallel"
 boxWord (group m) = "group"
 boxWord (stagger p d) = "stagger"
 
--- what absence reads to is, bit for bit, `center`, 0, 0.0 and 0.1
+-- what absence reads to is the grammar's default, bit for bit
 unfoldable pub pattern : StaggerPatternSpec → Writer
 pattern (grid c r o) ps =
     spell "grid" ∷ mark "("
-    ∷ pairs (("cols", u32 c) ∷ ("rows", u32 r) ∷ unless (eqb o 4) ("origin", choose originNames o) []) (mark ")" ∷ ps)
+    ∷ pairs (("cols", u32 c) ∷ ("rows", u32 r) ∷ unless (eqb o originDefault) ("origin", choose originNames o) []) (mark ")" ∷ ps)
 pattern (random n a b) ps =
     spell "random" ∷ mark "("
-    ∷ pairs (unless (eqb n 0) ("seed", u32 n)
-    (unless (eqb a (f32Of 0 1)) ("min", f32 a) (unless (eqb b (f32Of 1 10)) ("max", f32 b) []))) (mark ")" ∷ ps)
+    ∷ pairs (unless (eqb n seedDefault) ("seed", u32 n)
+    (unless (eqb a minDefault) ("min", f32 a) (unless (eqb b maxDefault) ("max", f32 b) []))) (mark ")" ∷ ps)
 pattern centerOut ps = spell "center_out" ∷ ps
 pattern edgesIn ps = spell "edges_in" ∷ ps
 

@@ -4,13 +4,8 @@ use Prim.Native.Nat.{ℕ}
 use mathlib.Core.Bool.{Bool}
 use mathlib.Core.List.{List, [], _∷_}
 use mathlib.Core.Option.{Option, none, some}
-use Rattle.text.specs.Bytes.{part}
-use Rattle.ast.specs.Tree.{Span, ValueExpr, EasingSpec, LoopSpec, DampingMode, KeyframeTime}
+use Rattle.ast.specs.Tree.{spanBytes, ValueExpr, EasingSpec, LoopSpec, DampingMode, KeyframeTime}
 use Rattle.ast.specs.Tree.{KeyframeEntry, Leaf, WaveformSpec, AtSpec, Container, Nodes}
-
--- the bytes of a name or a string
-abbrev pub bytesOf : List ℕ → Span → List ℕ
-bytesOf t x = part t (x .start) (x .size)
 
 pub data EasingSense : Type 0 where
   named : Bool → List ℕ → EasingSense
@@ -111,7 +106,7 @@ pub data Sense : Type 0 where
 -- ---- the sense of a tree, t being the text that its spans lie in; f gives its times, `stored` for the grammar's tree
 
 abbrev pub easingSense : List ℕ → EasingSpec → EasingSense
-easingSense t (EasingSpec.named v x) = named v (bytesOf t x)
+easingSense t (EasingSpec.named v x) = named v (spanBytes t x)
 easingSense t (EasingSpec.cubicBezier a b c d) = cubicBezier a b c d
 easingSense t (EasingSpec.steps n) = steps n
 easingSense t (EasingSpec.wiggle n) = wiggle n
@@ -129,7 +124,7 @@ module _ {K : Type 0} (f : K → KeyframeTime) (t : List ℕ) where
 
   abbrev pub leafSense : Leaf K → LeafSense
   leafSense (Leaf.tween d) = tween (record {
-    target = bytesOf t (d .target);
+    target = spanBytes t (d .target);
     from = d .from;
     to = d .to;
     duration = d .duration;
@@ -142,7 +137,7 @@ module _ {K : Type 0} (f : K → KeyframeTime) (t : List ℕ) where
     reverse = d .reverse;
   })
   leafSense (Leaf.spring d) = spring (record {
-    target = bytesOf t (d .target);
+    target = spanBytes t (d .target);
     from = d .from;
     to = d .to;
     preset = d .preset;
@@ -155,13 +150,13 @@ module _ {K : Type 0} (f : K → KeyframeTime) (t : List ℕ) where
     dampingMode = d .dampingMode;
   })
   leafSense (Leaf.keyframes d) = keyframes (record {
-    target = bytesOf t (d .target);
+    target = spanBytes t (d .target);
     frames = framesSense (d .frames);
     loopMode = d .loopMode;
   })
   leafSense (Leaf.path d) = path (record {
-    target = bytesOf t (d .target);
-    svg = bytesOf t (d .svg);
+    target = spanBytes t (d .target);
+    svg = spanBytes t (d .svg);
     duration = d .duration;
     easing = optionSense t (d .easing);
     autoRotate = d .autoRotate;
@@ -169,24 +164,24 @@ module _ {K : Type 0} (f : K → KeyframeTime) (t : List ℕ) where
     loopMode = d .loopMode;
   })
   leafSense (Leaf.morph d) = morph (record {
-    from = bytesOf t (d .from);
-    to = bytesOf t (d .to);
+    from = spanBytes t (d .from);
+    to = spanBytes t (d .to);
     samples = d .samples;
     duration = d .duration;
     easing = optionSense t (d .easing);
   })
-  leafSense (Leaf.draw d) = draw (record { svg = bytesOf t (d .svg); duration = d .duration; easing = optionSense t (d .easing) })
+  leafSense (Leaf.draw d) = draw (record { svg = spanBytes t (d .svg); duration = d .duration; easing = optionSense t (d .easing) })
   leafSense (Leaf.color d) = color (record {
-    target = bytesOf t (d .target);
-    from = bytesOf t (d .from);
-    to = bytesOf t (d .to);
+    target = spanBytes t (d .target);
+    from = spanBytes t (d .from);
+    to = spanBytes t (d .to);
     duration = d .duration;
     space = d .space;
     easing = optionSense t (d .easing);
   })
   leafSense (Leaf.waveform d) = waveform d
-  leafSense (Leaf.preset d) = preset (record { name = bytesOf t (d .name); duration = d .duration; easing = optionSense t (d .easing) })
-  leafSense (Leaf.label x) = label (bytesOf t x)
+  leafSense (Leaf.preset d) = preset (record { name = spanBytes t (d .name); duration = d .duration; easing = optionSense t (d .easing) })
+  leafSense (Leaf.label x) = label (spanBytes t x)
   leafSense (Leaf.at d) = at d
 
   abbrev pub sense : Nodes K → Sense

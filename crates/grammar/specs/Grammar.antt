@@ -12,6 +12,7 @@ use Rattle.number.specs.Number.{Written, nearest, bits}
 use Rattle.number.specs.Rounded.{numberRounded, timeRounded}
 use Rattle.number.specs.Time.{Key, storedTime}
 use Rattle.ast.specs.Tree.{
+  noise,
   DampingMode,
   criticallyDamped,
   overdamped,
@@ -82,15 +83,21 @@ parseTween = do
 
 -- ---- spring
 
+abbrev pub presetNames : List String
+presetNames = "gentle" ∷ "wobbly" ∷ "stiff" ∷ "slow" ∷ "snappy" ∷ []
+
 -- parse_spring_preset, behind its name
 unfoldable pub parseSpringPreset : Rule ℕ
-parseSpringPreset = choice UnknownSpringPreset ("gentle" ∷ "wobbly" ∷ "stiff" ∷ "slow" ∷ "snappy" ∷ [])
+parseSpringPreset = choice UnknownSpringPreset presetNames
 
 unfoldable pub springPreset : Rule Content
 springPreset = parseSpringPreset >>= λ k. give (aNumber k)
 
+abbrev pub integratorNames : List String
+integratorNames = "semi_implicit_euler" ∷ "rk4" ∷ []
+
 unfoldable pub integrator : Rule Content
-integrator = choice Malformed ("semi_implicit_euler" ∷ "rk4" ∷ []) >>= λ k. give (aNumber k)
+integrator = choice Malformed integratorNames >>= λ k. give (aNumber k)
 
 unfoldable pub criticalDamping : Rule Content
 criticalDamping = parseFloatInParens >>= λ s. give (aDamping (criticallyDamped s))
@@ -198,19 +205,27 @@ parseSequence = give sequence
 unfoldable pub parseParallel : Rule Container
 parseParallel = give parallel
 
+abbrev pub modeNames : List String
+modeNames = "sequence" ∷ "parallel" ∷ []
+
 -- parse_group
 unfoldable pub parseGroup : Rule Container
 parseGroup = do
-  mode ← choice Malformed ("sequence" ∷ "parallel" ∷ [])
+  mode ← choice Malformed modeNames
   give (group mode)
 
 -- ---- stagger
 
+abbrev pub originNames : List String
+originNames = "top_left" ∷ "top_right" ∷ "bottom_left" ∷ "bottom_right" ∷ "center" ∷ "top" ∷ "bottom" ∷ "left" ∷ "right" ∷ []
+
+-- where it is absent: `center`
+abbrev pub originDefault : ℕ
+originDefault = 4
+
 -- parse_grid_origin
 unfoldable pub parseGridOrigin : Rule ℕ
-parseGridOrigin =
-    choice Malformed (
-    "top_left" ∷ "top_right" ∷ "bottom_left" ∷ "bottom_right" ∷ "center" ∷ "top" ∷ "bottom" ∷ "left" ∷ "right" ∷ [])
+parseGridOrigin = choice Malformed originNames
 
 unfoldable pub origin : Rule Content
 origin = parseGridOrigin >>= λ k. give (aNumber k)
@@ -224,16 +239,27 @@ gridPattern = inside "(" (do
   fs ← pairs gridFields
   cols ← need StaggerGridIncomplete (lastNumber "cols" fs)
   rows ← need StaggerGridIncomplete (lastNumber "rows" fs)
-  give (grid cols rows (default (lastNumber "origin" fs) 4)))
+  give (grid cols rows (default (lastNumber "origin" fs) originDefault)))
 
 unfoldable pub randomFields : Table
 randomFields = ("seed", count) ∷ ("min", number) ∷ ("max", number) ∷ []
+
+-- where they are absent
+abbrev pub seedDefault : ℕ
+seedDefault = 0
+
+abbrev pub minDefault : ℕ
+minDefault = f32Of 0 1
+
+abbrev pub maxDefault : ℕ
+maxDefault = f32Of 1 10
 
 -- `random(..)`
 unfoldable pub randomPattern : Rule StaggerPatternSpec
 randomPattern = do
   fs ← inside "(" (pairs randomFields)
-  give (random (default (lastNumber "seed" fs) 0) (default (lastNumber "min" fs) (f32Of 0 1)) (default (lastNumber "max" fs) (f32Of 1 10)))
+  give (random (default (lastNumber "seed" fs) seedDefault) (default (lastNumber "min" fs) minDefault)
+      (default (lastNumber "max" fs) maxDefault))
 
 unfoldable pub patterns : List (String × Rule StaggerPatternSpec)
 patterns = ("grid", gridPattern) ∷ ("random", randomPattern) ∷ ("center_out", give centerOut) ∷ ("edges_in", give edgesIn) ∷ []
@@ -305,6 +331,10 @@ parsePath = do
     loopMode = lastLoopMode fs;
   }))
 
+-- where it is absent
+abbrev pub samplesDefault : ℕ
+samplesDefault = 32
+
 unfoldable pub morphFields : Table
 morphFields = ("samples", count) ∷ ("duration", number) ∷ ("easing", easing) ∷ []
 
@@ -319,7 +349,7 @@ parseMorph = do
   give (Leaf.morph (record {
     from = from;
     to = to;
-    samples = default (lastNumber "samples" fs) 32;
+    samples = default (lastNumber "samples" fs) samplesDefault;
     duration = duration;
     easing = lastEasing fs;
   }))
@@ -338,8 +368,15 @@ parseDraw = do
 
 -- ---- color
 
+abbrev pub spaceNames : List String
+spaceNames = "linear" ∷ "lab" ∷ "oklch" ∷ []
+
+-- where it is absent: `linear`
+abbrev pub spaceDefault : ℕ
+spaceDefault = 0
+
 unfoldable pub space : Rule Content
-space = choice Malformed ("linear" ∷ "lab" ∷ "oklch" ∷ []) >>= λ k. give (aNumber k)
+space = choice Malformed spaceNames >>= λ k. give (aNumber k)
 
 unfoldable pub colorFields : Table
 colorFields = ("duration", number) ∷ ("space", space) ∷ ("easing", easing) ∷ []
@@ -359,7 +396,7 @@ parseColor = do
     from = from;
     to = to;
     duration = duration;
-    space = default (lastNumber "space" fs) 0;
+    space = default (lastNumber "space" fs) spaceDefault;
     easing = lastEasing fs;
   }))
 
@@ -367,11 +404,14 @@ parseColor = do
 
 -- 02 (h): "Reading refuses `noise` as a waveform kind", "15 in reading, raised where 8 would be for a bad kind"
 unfoldable pub unlessNoise : ℕ → Rule ℕ
-unlessNoise k = cond (eqb k 4) (refuse NoiseWritten) (give k)
+unlessNoise k = cond (eqb k noise) (refuse NoiseWritten) (give k)
+
+abbrev pub waveformNames : List String
+waveformNames = "sine" ∷ "sawtooth" ∷ "square" ∷ "triangle" ∷ "noise" ∷ []
 
 -- a kind of the Rust's, but for the last
 unfoldable pub waveformKind : Rule ℕ
-waveformKind = choice Malformed ("sine" ∷ "sawtooth" ∷ "square" ∷ "triangle" ∷ "noise" ∷ []) >>= unlessNoise
+waveformKind = choice Malformed waveformNames >>= unlessNoise
 
 unfoldable pub waveformFields : Table
 waveformFields =

@@ -144,20 +144,34 @@ bezierCurve = inside "(" fourFloats
 unfoldable pub roughFields : Table
 roughFields = ("strength", number) ∷ ("points", count) ∷ []
 
+-- where they are absent: 0.5 and 8
+abbrev pub strengthDefault : ℕ
+strengthDefault = f32Of 1 2
+
+abbrev pub pointsDefault : ℕ
+pointsDefault = 8
+
 -- `rough(strength: s, points: n)`
 unfoldable pub roughCurve : Rule EasingSpec
 roughCurve = do
   fs ← inside "(" (pairs roughFields)
-  give (rough (default (lastNumber "strength" fs) (f32Of 1 2)) (default (lastNumber "points" fs) 8))
+  give (rough (default (lastNumber "strength" fs) strengthDefault) (default (lastNumber "points" fs) pointsDefault))
 
 unfoldable pub slowMoFields : Table
 slowMoFields = ("linear_ratio", number) ∷ ("power", number) ∷ []
+
+-- where they are absent: 0.7 and 2
+abbrev pub ratioDefault : ℕ
+ratioDefault = f32Of 7 10
+
+abbrev pub powerDefault : ℕ
+powerDefault = f32Of 2 1
 
 -- `slowmo(linear_ratio: r, power: p)`
 unfoldable pub slowMoCurve : Rule EasingSpec
 slowMoCurve = do
   fs ← inside "(" (pairs slowMoFields)
-  give (slowMo (default (lastNumber "linear_ratio" fs) (f32Of 7 10)) (default (lastNumber "power" fs) (f32Of 2 1)))
+  give (slowMo (default (lastNumber "linear_ratio" fs) ratioDefault) (default (lastNumber "power" fs) powerDefault))
 
 -- `steps(n)`
 unfoldable pub stepsCurve : Rule EasingSpec

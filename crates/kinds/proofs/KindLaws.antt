@@ -12,6 +12,7 @@ use Rattle.error.specs.declared.Refusal.the-variants.{Missing, Malformed, Noise
 use Rattle.grammar.specs.Rule.{Rule, refused, text, word, theByte, bothBytes, choice}
 use Rattle.grammar.specs.Values.{ident, string}
 use Rattle.grammar.specs.Grammar.{parseDraw, parseMorph, parseColor, parsePath, unlessNoise, waveformKind, parseWaveform}
+use Rattle.grammar.specs.Grammar.{waveformNames}
 use Rattle.cursor.specs.Means.{run, Took, spelled}
 use Rattle.cursor.specs.declared.Cursor.{Cursor}
 use Rattle.values.proofs.EasingLaws.{spelled-length}
@@ -137,7 +138,7 @@ module _ (s : List ℕ) (c : Cursor) where
 
 -- the Rust's kinds
 abbrev anyKind : Rule ℕ
-anyKind = choice Malformed ("sine" ∷ "sawtooth" ∷ "square" ∷ "triangle" ∷ "noise" ∷ [])
+anyKind = choice Malformed waveformNames
 
 module _ (s : List ℕ) (c : Cursor) where
   pub no-waveform : (r : Refusal) (q : ℕ) → run s c anyKind ≡ refused r q → run s c parseWaveform ≡ refused r q

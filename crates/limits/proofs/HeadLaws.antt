@@ -20,6 +20,7 @@ use Rattle.grammar.specs.Rule.{Rule, give, need, _>>=_, _>>_, eat, sees, goOn}
 use Rattle.grammar.specs.Fields.{lastNumber, pairs}
 use Rattle.grammar.specs.Values.{f32Of}
 use Rattle.grammar.specs.Grammar.{
+use Rattle.grammar.specs.Grammar.{modeNames, originNames}
   parseSequence,
   parseParallel,
   parseGroup,
@@ -109,7 +110,7 @@ module _ (s : List ℕ) (short : length s ≤ textLimit) where
   pub group-runs : HeadRule 5 parseGroup
   unfolding parseGroup
   group-runs q h =
-      then (a-choice h Malformed (words ("sequence" ∷ "parallel" ∷ [])))
+      then (a-choice h Malformed (words modeNames))
       (λ k m g x. gives g (record { ok = x .0; paid = omega (arith, x .1); on = omega (arith, x .1) }))
 
   -- ---- stagger
@@ -124,7 +125,7 @@ module _ (s : List ℕ) (short : length s ≤ textLimit) where
       count-row s short "cols" (omega arith) refl
       also count-row s short "rows" (omega arith) refl
       also case-row s short "origin" Malformed
-      ("top_left" ∷ "top_right" ∷ "bottom_left" ∷ "bottom_right" ∷ "center" ∷ "top" ∷ "bottom" ∷ "left" ∷ "right" ∷ []) (omega arith)
+      originNames (omega arith)
       (omega arith)
       also tt
 

@@ -32,6 +32,7 @@ use Rattle.grammar.specs.Grammar.{integrator, criticalDamping, overDamping, und
 use Rattle.grammar.specs.Grammar.{morphFields, parseMorph, drawFields, parseDraw, space, colorFields, parseColor}
 use Rattle.grammar.specs.Grammar.{unlessNoise, waveformKind, waveformFields, parseWaveform, parsePresetCall, parseLabel}
 use Rattle.grammar.specs.Grammar.{atSign, turned, parseAt}
+use Rattle.grammar.specs.Grammar.{presetNames, integratorNames, spaceNames, waveformNames}
 use Rattle.rules.proofs.RunLaws.{Runs, gives, refuses, then, and, tallies, weaken, tests, conds, needs}
 use Rattle.rules.proofs.TakeLaws.{the-mark, two-marks, skips-mark, Eaten, eats, eaten, Number, a-number, in-group}
 use Rattle.rules.proofs.ListLaws.{_also_, a-choice}
@@ -146,13 +147,13 @@ module _ (s : List ℕ) (short : length s ≤ textLimit) {inner : Form Forest} (
   spring-rows : All (Row s) springFields
   unfolding springFields springPreset parseSpringPreset integrator criticalDamping overDamping underDamping limit same
   spring-rows =
-      case-row s short "preset" UnknownSpringPreset ("gentle" ∷ "wobbly" ∷ "stiff" ∷ "slow" ∷ "snappy" ∷ []) (omega arith) (omega arith)
+      case-row s short "preset" UnknownSpringPreset presetNames (omega arith) (omega arith)
       also number-row s short "stiffness" (omega arith) refl
       also number-row s short "damping" (omega arith) refl
       also number-row s short "mass" (omega arith) refl
       also value-row s short "velocity" (omega arith)
       also number-row s short "epsilon" (omega arith) refl
-      also case-row s short "integrator" Malformed ("semi_implicit_euler" ∷ "rk4" ∷ []) (omega arith) (omega arith)
+      also case-row s short "integrator" Malformed integratorNames (omega arith) (omega arith)
       also (λ q h. then (float-in-parens s short q h)
       (λ x m g y. gives g (damping-held (bytes "critically_damped") q m (criticallyDamped x) (omega arith) (y .0) (y .1))))
       also (λ q h. then (two-in-parens s short q h)
@@ -337,7 +338,7 @@ module _ (s : List ℕ) (short : length s ≤ textLimit) {inner : Form Forest} (
   unfolding colorFields space limit same
   color-rows =
       number-row s short "duration" (omega arith) refl
-      also case-row s short "space" Malformed ("linear" ∷ "lab" ∷ "oklch" ∷ []) (omega arith) (omega arith)
+      also case-row s short "space" Malformed spaceNames (omega arith) (omega arith)
       also easing-row s short "easing" (omega arith)
       also tt
 
@@ -399,7 +400,7 @@ module _ (s : List ℕ) (short : length s ≤ textLimit) {inner : Form Forest} (
   waveform-kind : {q : ℕ} → q ≤ length s → Runs s waveformKind q (λ k m. (k < 5) × (q < m))
   unfolding waveformKind unlessNoise
   waveform-kind h =
-      then (a-choice h Malformed (words ("sine" ∷ "sawtooth" ∷ "square" ∷ "triangle" ∷ "noise" ∷ [])))
+      then (a-choice h Malformed (words waveformNames))
       (λ k m g x. conds (eqb k 4) (λ e. refuses) (λ e. gives g x))
 
   pub waveform-runs : LeafRule 8 parseWaveform

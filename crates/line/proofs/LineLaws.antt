@@ -164,12 +164,3 @@ module _ (t s : List ℕ) (i : ℕ) (out : List ℕ) {n : ℕ} {after : List ℕ
           let f = the-tree t s (ap answerOf (sym o)) in
           let q = ap (ofOpened (length t) i out) (sym (f .opens)) ∙ e in
           record-of (f .nodes) (f .decodes) (getElem? (allRecords (length t) (f .nodes)) i) refl q
-
-  -- it fits the output
-  pub given-fits : lining t s i out ≡ (Accepted n, after) → n ≤ length after
-  given-fits e = let g = given e in omega (arith, g .long, ap length (g .is), length-append (line (g .bytes)) (drop n out))
-
--- ---- what equals lining has its values
-
-pub with-values : {x y : LineAnswer × List ℕ} → x ≡ y → (x ≡ y) × (lineValues (x .0) ≡ lineValues (y .0))
-with-values e = (e, ap (λ (p : LineAnswer × List ℕ). lineValues (p .0)) e)

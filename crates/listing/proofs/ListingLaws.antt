@@ -70,7 +70,3 @@ listing-wrong t out e = rw e
 pub listing-held : (t out : List ℕ) {x : OrderAnswer × List ℕ} → x ≡ listingOf t out (book t) → x ≡ listing t out
 unfolding listing
 listing-held t out e = e
-
-pub valued : {r : OrderAnswer} {a : List ℕ} {x : OrderAnswer × List ℕ} → Prim.Path (OrderAnswer × List ℕ) (r, a) x
-    → Prim.Path (OrderAnswer × List ℕ) (r, a) x × (orderValues r ≡ orderValues (x .0))
-valued e = (e, ap (λ (p : OrderAnswer × List ℕ). orderValues (p .0)) e)

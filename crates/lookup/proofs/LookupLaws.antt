@@ -73,6 +73,3 @@ answers s c w {a} {b} e f = (λ i. join (e i) (f i)) ∙ joined s c w
 
 pub looked-wrong : (s w : List ℕ) {r : Refusal} {p : ℕ} → book s ≡ wrong r p → place.Refused r p ≡ looked w (book s)
 looked-wrong s w e = rw e
-
-pub valued : {a b : LookupAnswer} → a ≡ b → (a ≡ b) × (lookupValues a ≡ lookupValues b)
-valued e = (e, ap lookupValues e)

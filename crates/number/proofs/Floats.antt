@@ -12,10 +12,6 @@ use Rattle.number.specs.Number.{Written, nearest, percent, bits, f32}
 use Rattle.number.specs.Time.{Key, storedTime}
 
 -- ---- there and back
-pub bits-f32 : (n : ℕ) → n < 2 ^ 32 → T (not (isNan (f32 n))) → bits (f32 n) ≡ n
-unfolding bits f32
-bits-f32 n h t = toBits-ofBits binary32 n h t
-
 pub f32-bits : (x : Float) → T (fits binary32 x) → f32 (bits x) ≡ x
 unfolding bits f32
 f32-bits x h = ofBits-toBits binary32 x h
@@ -85,14 +81,6 @@ percent-fits s n = div-fits binary32 (round binary32 s n 1) (round binary32 fals
 
 -- ---- a keyframe's time
 module _ (t : Key) where
-  pub stored-number : T (not (isNan (storedTime t)))
-  unfolding storedTime
-  stored-number = go (t .percent)
-    where
-      go : (b : Bool) → T (not (isNan (cond b (percent (t .negative) (t .written .digits)) (nearest (t .negative) (t .written)))))
-      go true = percent-number (t .negative) (t .written .digits)
-      go false = nearest-number (t .negative) (t .written)
-
   pub stored-fits : T (fits binary32 (storedTime t))
   unfolding storedTime
   stored-fits = go (t .percent)

@@ -192,6 +192,3 @@ module _ (t s b : List ℕ) where
           (ap (λ (v : ReadAnswer × List ℕ). outcome (v .0) (replicate (length s) 0) (v .1)) q ∙ tree-settled t s b a y i m)
 
 -- ---- what equals reading has its values
-
-pub with-values : {x y : ReadAnswer × List ℕ × List ℕ} → x ≡ y → (x ≡ y) × (readValues (x .0) ≡ readValues (y .0))
-with-values e = (e, ap (λ (p : ReadAnswer × List ℕ × List ℕ). readValues (p .0)) e)

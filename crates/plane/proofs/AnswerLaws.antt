@@ -27,10 +27,6 @@ use Rattle.plane.proofs.PlaningLaws.{Plain, refuses}
 abbrev Result : Type 0
 Result = LineAnswer × List ℕ
 
--- an answer, and its number and values
-pub with-values : {r : LineAnswer} {out : List ℕ} {x : Result} → (r, out) ≡ x → ((r, out) ≡ x) × (lineValues r ≡ lineValues (x .0))
-with-values e = (e, ap (λ (y : Result). lineValues (y .0)) e)
-
 -- ---- the text
 
 open≢shut : {B : Type 0} {r : Refusal} {p : ℕ} → Open ≡ Shut r p → B

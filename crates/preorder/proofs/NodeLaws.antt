@@ -18,7 +18,8 @@ use Rattle.records.proofs.RecordLaws.{Makes, made, after, counts, width-blank, 
 use Rattle.places.specs.Stands.{Stands, ContainerKind}
 use Rattle.places.proofs.StandLaws.{Opened, plain, boxed, front}
 use Rattle.pieces.specs.Pieces.{Piece}
-use Rattle.fresh.specs.Fresh.{Writer, spell, mark, wordAt, modeNames, boxWord, boxBody, pieces}
+use Rattle.fresh.specs.Fresh.{Writer, spell, mark, wordAt, boxWord, boxBody, pieces}
+use Rattle.grammar.specs.Grammar.{modeNames}
 use Rattle.fresh.specs.Fresh as fresh
 use Rattle.spelling.specs.Spelling.{Page, put, run}
 use Rattle.copying.specs.Copies.{Written, Copies}

@@ -1,5 +1,6 @@
 // What the program prints, on a page that is lent: the lines of all records, then `accept N`; or `refuse R at P`.
 ghost use mathlib.Core.Path.{_≡_};
+ghost use Rattle.error.specs.Answer.{lineValues};
 ghost use Rattle.text.specs.Write.{Puts};
 ghost use Rattle.script.specs.Output.{decimalOut, accept, refusal, printing};
 ghost use Rattle.print.specs.Means.{Lines};
@@ -103,6 +104,7 @@ pub fn print(
     list: u32,
 ) -> LineAnswer
     ensures { λ r. ⌜ (r, now (scratch .exit), now (sheet .exit), now (page .exit)) ≡ printing list (now (text .entry)) (now (scratch .entry)) (now (sheet .entry)) (now (page .entry)) ⌝ }
+    ensures values { λ r. ⌜ lineValues r ≡ lineValues (printing list (now (text .entry)) (now (scratch .entry)) (now (sheet .entry)) (now (page .entry)) .0) ⌝ }
 {
     if page.len() < PAGE_BYTES {
         return LineAnswer::Refused {

@@ -34,6 +34,7 @@ use Rattle.grammar.specs.Grammar.{openingFields, openingField, openingStep, par
 use Rattle.grammar.specs.Grammar.{morphFields, parseMorph, drawFields, parseDraw, space, colorFields, parseColor, unlessNoise, waveformKind}
 use Rattle.grammar.specs.Grammar.{waveformFields, parseWaveform, parsePresetCall, parseLabel, atSign, turned, parseAt, underDamping}
 use Rattle.grammar.specs.Grammar.{parseSequence, parseParallel, leaves, containers}
+use Rattle.grammar.specs.Grammar.{presetNames, integratorNames, modeNames, originNames, spaceNames, waveformNames}
 use Rattle.codec.proofs.Laws.{All}
 use Rattle.rules.proofs.ListLaws.{_also_}
 use Rattle.renamed.specs.Words.{nameAt, quoteAt, freeIn}
@@ -166,14 +167,14 @@ module _ (x : Scripts) where
   spring-rows : Rows x (ContentAlike x) springFields
   unfolding springFields springPreset parseSpringPreset integrator criticalDamping overDamping underDamping
   spring-rows =
-      same-then (a-choice UnknownSpringPreset (words ("gentle" ∷ "wobbly" ∷ "stiff" ∷ "slow" ∷ "snappy" ∷ [])))
+      same-then (a-choice UnknownSpringPreset (words presetNames))
       (λ k. gives tt (λ h. number-content k))
       also number-row x
       also number-row x
       also number-row x
       also value-row x
       also number-row x
-      also same-then (a-choice Malformed (words ("semi_implicit_euler" ∷ "rk4" ∷ []))) (λ k. gives tt (λ h. number-content k))
+      also same-then (a-choice Malformed (words integratorNames)) (λ k. gives tt (λ h. number-content k))
       also same-then (float-in-parens x) (λ s. gives tt (λ h. content x _ refl))
       also same-then (two-in-parens x) (λ p. gives tt (λ h. content x _ refl))
       also same-then (two-in-parens x) (λ p. gives tt (λ h. content x _ refl))
@@ -293,14 +294,14 @@ module _ (x : Scripts) where
 
   pub group-alike : {H : Type 0} → Alikes x H parseGroup parseGroup _≡_
   unfolding parseGroup
-  group-alike = same-then (a-choice Malformed (words ("sequence" ∷ "parallel" ∷ []))) (λ m. gives tt (λ h. refl))
+  group-alike = same-then (a-choice Malformed (words modeNames)) (λ m. gives tt (λ h. refl))
 
   origin-row : {H : Type 0} → Alikes x H origin origin (ContentAlike x)
   unfolding origin parseGridOrigin
   origin-row =
       same-then
       (a-choice Malformed
-      (words ("top_left" ∷ "top_right" ∷ "bottom_left" ∷ "bottom_right" ∷ "center" ∷ "top" ∷ "bottom" ∷ "left" ∷ "right" ∷ [])))
+      (words originNames))
       (λ k. gives tt (λ h. number-content k))
 
   grid-alike : {H : Type 0} → Alikes x H gridPattern gridPattern _≡_
@@ -418,7 +419,7 @@ module _ (x : Scripts) where
 
   space-row : {H : Type 0} → Alikes x H space space (ContentAlike x)
   unfolding space
-  space-row = same-then (a-choice Malformed (words ("linear" ∷ "lab" ∷ "oklch" ∷ []))) (λ k. gives tt (λ h. number-content k))
+  space-row = same-then (a-choice Malformed (words spaceNames)) (λ k. gives tt (λ h. number-content k))
 
   color-alike : {H : Type 0} → LeafRule H parseColor
   unfolding parseColor colorFields freeIn validateLeaf validateColor
@@ -439,7 +440,7 @@ module _ (x : Scripts) where
   kind-alike : {H : Type 0} → Alikes x H waveformKind waveformKind _≡_
   unfolding waveformKind unlessNoise
   kind-alike =
-      same-then (a-choice Malformed (words ("sine" ∷ "sawtooth" ∷ "square" ∷ "triangle" ∷ "noise" ∷ [])))
+      same-then (a-choice Malformed (words waveformNames))
       (λ k. conds (eqb k 4) (eqb k 4) (λ h. refl) refuses (gives tt (λ h. refl)))
 
   waveform-alike : {H : Type 0} → LeafRule H parseWaveform

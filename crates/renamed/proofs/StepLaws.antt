@@ -364,12 +364,6 @@ nameIn (number w) = []
 nameIn (quoted n) = []
 nameIn (mark b) = []
 
-abbrev sizeIn : Kind → ℕ
-sizeIn (name w) = 0
-sizeIn (number w) = 0
-sizeIn (quoted n) = n
-sizeIn (mark b) = 0
-
 one-place : (y p : ℕ) → oneOf (p ∷ []) y ≡ true → y ≡ p
 unfolding oneOf
 one-place y p e = go (eqb y p) refl e

@@ -29,5 +29,10 @@ abbrev pub unlessForeign : Option ℕ → Opened → Opened
 unlessForeign none o = o
 unlessForeign (some i) o = shut BadForm i
 
+-- 1: the text is too long; 2: a byte that no script holds
+abbrev pub afterText : List ℕ → Opened → Opened
+afterText t o = cond (ltb textLimit (length t)) (shut TextTooLong 0) (unlessForeign (foreignFrom 0 t) o)
+
+-- then 20: the sheet
 unfoldable pub opening : List ℕ → List ℕ → Opened
-opening t bs = cond (ltb textLimit (length t)) (shut TextTooLong 0) (unlessForeign (foreignFrom 0 t) (decoded (decode (length t) bs)))
+opening t bs = afterText t (decoded (decode (length t) bs))

@@ -67,15 +67,6 @@ pub find-past : (w n : List ℕ) (ns : List (List ℕ)) (i : ℕ) → same w n �
 unfolding find
 find-past w n ns i h = rw (h, find)
 
--- two words that agree on each entry are found at the same place
-find-alike : (v w n : List ℕ) (ns : List (List ℕ)) (i : ℕ) → same v n ≡ same w n
-    → find ns (suc i) v ≡ find ns (suc i) w → find (n ∷ ns) i v ≡ find (n ∷ ns) i w
-find-alike v w n ns i e q = go (same w n) refl
-  where
-    go : (t : Bool) → same w n ≡ t → find (n ∷ ns) i v ≡ find (n ∷ ns) i w
-    go true h = find-here v n ns i (e ∙ h) ∙ sym (find-here w n ns i h)
-    go false h = find-past v n ns i (e ∙ h) ∙ q ∙ sym (find-past w n ns i h)
-
 shorter-cons : (k : ℕ) (n : List ℕ) (ns : List (List ℕ)) → shorter k (n ∷ ns) ≡ true → (length n < k) × (shorter k ns ≡ true)
 unfolding shorter
 shorter-cons k n ns h = go (ltb (length n) k) refl h

@@ -3,6 +3,7 @@
 ghost use Prim.Native.Nat.{_+_, _-_, _≤_, _<_};
 ghost use mathlib.Core.Path.{_≡_};
 ghost use lib.ListN.{length, getD, take, drop};
+ghost use Rattle.error.specs.Answer.{meanValues};
 ghost use Rattle.totals.specs.Totals.{sumOf, itself, over, added, inWord};
 ghost use Rattle.totals.specs.Mean.{gcd, fraction, mean as Mean·mean};
 use error::MeanAnswer;
@@ -89,6 +90,7 @@ fn quotient(a: u32, b: u32) -> MeanAnswer
 // The mean of the node records of an accepted script, for 0; or of the entries of a track, for another number.
 pub fn mean(totals: &[u32; 60], which: u32) -> MeanAnswer
     ensures { λ r. ⌜ r ≡ Mean·mean (now (totals .entry)) which ⌝ }
+    ensures values { λ r. ⌜ meanValues r ≡ meanValues (Mean·mean (now (totals .entry)) which) ⌝ }
 {
     if over_limit(totals) {
         return MeanAnswer::Refused {

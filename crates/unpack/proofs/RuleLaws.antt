@@ -33,6 +33,7 @@ use Rattle.grammar.specs.Grammar.{morphFields, parseMorph, drawFields, parseDra
 use Rattle.grammar.specs.Grammar.{waveformFields, parseWaveform, parsePresetCall, parseLabel, atSign, turned, parseAt, leaves}
 use Rattle.grammar.specs.Grammar.{containers, orContainer, beginning, nodeBy, parseNode}
 use Rattle.grammar.specs.Grammar.{oneNode, nodesStep, block, animatoInput, underDamping}
+use Rattle.grammar.specs.Grammar.{presetNames, integratorNames, modeNames, originNames, spaceNames, waveformNames}
 use Rattle.rules.proofs.ListLaws.{_also_}
 use Rattle.unpack.proofs.StepLaws.{Stays, Found, Rows, gives, refuses, then, and, grouped, conds, tests}
 use Rattle.unpack.proofs.StepLaws.{needs, skips, the-mark, two-marks, eats, a-word, a-text, a-choice}
@@ -244,13 +245,13 @@ module _ (n : ℕ) where
   spring-rows : Rows n springFields
   unfolding springFields springPreset parseSpringPreset integrator criticalDamping overDamping underDamping
   spring-rows =
-      then (a-choice UnknownSpringPreset (words ("gentle" ∷ "wobbly" ∷ "stiff" ∷ "slow" ∷ "snappy" ∷ []))) (λ k. gives)
+      then (a-choice UnknownSpringPreset (words presetNames)) (λ k. gives)
       also number-row
       also number-row
       also number-row
       also value-row
       also number-row
-      also then (a-choice Malformed (words ("semi_implicit_euler" ∷ "rk4" ∷ []))) (λ k. gives)
+      also then (a-choice Malformed (words integratorNames)) (λ k. gives)
       also then float-in-parens (λ x. gives)
       also then two-in-parens (λ p. gives)
       also then two-in-parens (λ p. gives)
@@ -291,13 +292,13 @@ module _ (n : ℕ) where
 
   group-stays : Stays n parseGroup
   unfolding parseGroup
-  group-stays = then (a-choice Malformed (words ("sequence" ∷ "parallel" ∷ []))) (λ m. gives)
+  group-stays = then (a-choice Malformed (words modeNames)) (λ m. gives)
 
   origin-row : Stays n origin
   unfolding origin parseGridOrigin
   origin-row =
       then (a-choice Malformed
-      (words ("top_left" ∷ "top_right" ∷ "bottom_left" ∷ "bottom_right" ∷ "center" ∷ "top" ∷ "bottom" ∷ "left" ∷ "right" ∷ [])))
+      (words originNames))
       (λ k. gives)
 
   grid-stays : Stays n gridPattern
@@ -370,7 +371,7 @@ module _ (n : ℕ) where
 
   space-row : Stays n space
   unfolding space
-  space-row = then (a-choice Malformed (words ("linear" ∷ "lab" ∷ "oklch" ∷ []))) (λ k. gives)
+  space-row = then (a-choice Malformed (words spaceNames)) (λ k. gives)
 
   color-stays : Stays n parseColor
   unfolding parseColor colorFields
@@ -382,7 +383,7 @@ module _ (n : ℕ) where
   waveform-stays : Stays n parseWaveform
   unfolding parseWaveform waveformKind unlessNoise waveformFields
   waveform-stays =
-      then (then (a-choice Malformed (words ("sine" ∷ "sawtooth" ∷ "square" ∷ "triangle" ∷ "noise" ∷ [])))
+      then (then (a-choice Malformed (words waveformNames))
       (λ k. conds (eqb k 4) refuses gives))
       (λ k.
       then (fields-stay waveformFields

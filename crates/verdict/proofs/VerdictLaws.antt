@@ -1,7 +1,7 @@
--- Demand 3 of the two answers, by cases of reading's. Assumes nothing.
+-- Demand 3 of the two answers, and their values, by cases of reading's. Assumes nothing.
 use Prim.Native.Nat.{ℕ}
 use mathlib.Core.List.{List}
-use mathlib.Core.Path.{_≡_, sym}
+use mathlib.Core.Path.{_≡_, ap, sym, _∙_}
 use native.Mathlib.Omega.{arith}
 use lib.ListN.{length, take}
 use Rattle.error.specs.declared.Refusal.{Refusal}
@@ -11,7 +11,7 @@ use Rattle.parser.specs.Means.{outcome}
 use Rattle.parser.specs.Reading.{reading}
 use Rattle.validate.specs.Checking.{checking}
 use Rattle.script.proofs.Closed.{claim}
-use Rattle.verdict.specs.Verdict.{Claims}
+use Rattle.verdict.specs.Verdict.{Claims, bothAnswers, verdictValues}
 use Rattle.verdict.specs.declared.Verdict.the-variants.{Unread, Checked}
 
 module _ (list : ℕ) (t scratch sheet words s : List ℕ) where
@@ -26,3 +26,12 @@ module _ (list : ℕ) (t scratch sheet words s : List ℕ) where
       → Claims list t (length scratch) (length sheet) s (Checked n c k v)
   checked n c k v e f known =
       claim list known t scratch sheet (read.Accepted n c k, words, s) v e (λ m d j q. let z : n ≡ m = cc in rw (sym z) f)
+
+  pub unread-values : (r : Refusal) (p : ℕ) → outcome (read.Refused r p) words s ≡ reading t scratch sheet
+      → verdictValues (Unread r p) ≡ verdictValues (bothAnswers list t (reading t scratch sheet))
+  unread-values r p e = ap (λ x. verdictValues (bothAnswers list t x)) e
+
+  pub checked-values : (n c k : ℕ) (v : CheckAnswer) → outcome (read.Accepted n c k) words s ≡ reading t scratch sheet
+      → v ≡ checking list t (take n s)
+      → verdictValues (Checked n c k v) ≡ verdictValues (bothAnswers list t (reading t scratch sheet))
+  checked-values n c k v e f = ap (λ a. verdictValues (Checked n c k a)) f ∙ ap (λ x. verdictValues (bothAnswers list t x)) e

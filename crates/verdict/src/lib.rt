@@ -3,7 +3,7 @@ ghost use mathlib.Core.Path.{_≡_};
 ghost use lib.ListN.{length};
 ghost use Rattle.parser.specs.Means.{outcome};
 ghost use Rattle.parser.specs.Reading.{reading};
-ghost use Rattle.verdict.specs.Verdict.{readOf, Answered, Claims};
+ghost use Rattle.verdict.specs.Verdict.{readOf, bothAnswers, verdictValues, Answered, Claims};
 use error::CheckAnswer;
 use error::ReadAnswer;
 use error::Refusal;
@@ -29,6 +29,7 @@ pub fn read_and_check(text: &[u8], scratch: &mut [u16], sheet: &mut [u8], list: 
     ensures { λ r. ⌜ outcome (readOf r) (now (scratch .exit)) (now (sheet .exit)) ≡ reading (now (text .entry)) (now (scratch .entry)) (now (sheet .entry)) ⌝ }
     ensures { λ r. ⌜ Answered list (now (text .entry)) (now (sheet .exit)) r ⌝ }
     ensures { λ r. ⌜ Claims list (now (text .entry)) (length (now (scratch .entry))) (length (now (sheet .entry))) (now (sheet .exit)) r ⌝ }
+    ensures values { λ r. ⌜ verdictValues r ≡ verdictValues (bothAnswers list (now (text .entry)) (reading (now (text .entry)) (now (scratch .entry)) (now (sheet .entry)))) ⌝ }
 {
     match parser::read(text, scratch, sheet) {
         ReadAnswer::Refused { refusal, place } => Verdict::Unread { refusal, place },

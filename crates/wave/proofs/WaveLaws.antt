@@ -168,9 +168,6 @@ pub accepts : (kind phase : ℕ) (old hs : List ℤ) → kind < 4 → phase < 25
 accepts kind phase old hs g h l same =
     ap (λ (x : List ℤ). (answer.Accepted, x)) same ∙ sym (is-drawn kind phase old g h l)
 
-pub with-values : {x y : CheckAnswer × List ℤ} → x ≡ y → (x ≡ y) × (checkValues (x .0) ≡ checkValues (y .0))
-with-values e = (e, ap (λ (p : CheckAnswer × List ℤ). checkValues (p .0)) e)
-
 -- an entry of the table that was lent
 pub entry : (t : List ℕ) (p : ℕ) → t ≡ table → getD t (16 * p) 0 ≡ sineAt p
 unfolding sineAt

@@ -25,7 +25,7 @@ use Rattle.pieces.specs.Fits.{Fits, Complete}
 use Rattle.fresh.specs.Meaning.{easingSense, optionSense}
 use Rattle.fresh.specs.Fresh as pieces
 use Rattle.fresh.specs.Fresh.{Writer, Pair, morePairs, pairs, unless, field, unlessIs, wordAt, choose, f32, u32}
-use Rattle.fresh.specs.Fresh.{presetNames, integratorNames, originNames, spaceNames}
+use Rattle.grammar.specs.Grammar.{presetNames, integratorNames, originNames, spaceNames}
 use Rattle.rules.proofs.ListLaws.{none≢some, _also_}
 use Rattle.rules.proofs.FieldLaws.{On, on-is, last-in, number-in}
 use Rattle.rules.proofs.AlwaysLaws.{Always, gives, refuses, then, and, tests, skips, the-mark, two-marks, in-group, a-choice}

@@ -34,7 +34,9 @@ use Rattle.pieces.proofs.TextLaws.{lexeme-fine}
 use Rattle.fresh.specs.Meaning.{EasingSense, optionSense, leafSense}
 use Rattle.fresh.specs.Fresh as pieces
 use Rattle.fresh.specs.Fresh.{f32, u32, field, onlyTrue, unlessIs, choose, commaIf, atValue, leafBody}
-use Rattle.fresh.specs.Fresh.{presetNames, integratorNames, spaceNames, waveNames}
+use Rattle.fresh.specs.Fresh.{waveNames}
+use Rattle.grammar.specs.Grammar.{presetNames, integratorNames, spaceNames}
+use Rattle.grammar.specs.Grammar.{waveformNames}
 use Rattle.rules.proofs.RunLaws as run
 use Rattle.rules.proofs.TakeLaws as tokens
 use Rattle.rules.proofs.ListLaws.{_also_}
@@ -302,7 +304,7 @@ module _ {form : Form} (complete : Complete form) (u : List ℕ) where
   waveform-kind : Always u waveformKind (λ k. k < length (words waveNames))
   unfolding waveformKind unlessNoise
   waveform-kind =
-      then (a-choice Malformed ("sine" ∷ "sawtooth" ∷ "square" ∷ "triangle" ∷ "noise" ∷ []))
+      then (a-choice Malformed waveformNames)
       (λ k l. conds (eqb k 4) (λ e. refuses) (λ e. gives (let n = eqb-false k 4 e in omega arith)))
 
   pub waveform-fits : LeafFits parseWaveform

@@ -24,7 +24,8 @@ use Rattle.pieces.specs.Fits.{Fits, Complete}
 use Rattle.fresh.specs.Meaning.{LeafSense, tween, spring, keyframes, path, morph, draw}
 use Rattle.fresh.specs.Meaning.{color, waveform, preset, label, at, leafSense, sense}
 use Rattle.fresh.specs.Fresh as fresh
-use Rattle.fresh.specs.Fresh.{f32, u32, choose, modeNames, originNames, leafWord, leafBody, boxWord, boxBody, pieces}
+use Rattle.fresh.specs.Fresh.{f32, u32, choose, leafWord, leafBody, boxWord, boxBody, pieces}
+use Rattle.grammar.specs.Grammar.{modeNames, originNames}
 use Rattle.rules.proofs.ListLaws.{_also_, under-row}
 use Rattle.rules.proofs.FieldLaws.{On}
 use Rattle.rules.proofs.AlwaysLaws.{Always, Next-of, gives, refuses, then, and, tests, needs, skips, the-mark, eats, in-group, a-choice}

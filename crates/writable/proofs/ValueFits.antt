@@ -25,7 +25,7 @@ use Rattle.pieces.specs.Pieces.{Piece, aName, aString, aMark, aNumeral, Form, w
 use Rattle.pieces.specs.Fits.{Fits, AllFit, InText, Complete}
 use Rattle.pieces.proofs.SignLaws.{nearest-signed, nearest-plain}
 use Rattle.pieces.proofs.TextLaws.{lexeme-fine}
-use Rattle.fresh.specs.Meaning.{bytesOf}
+use Rattle.ast.specs.Tree.{spanBytes}
 use Rattle.fresh.specs.Fresh.{Writer, negative, minusIf, sizeOf, signedBy, f32, u32, moreFloats, floats, value, loopMode}
 use Rattle.fresh.specs.Fresh.{truth as truthPieces}
 use Rattle.rules.proofs.RunLaws as run
@@ -109,11 +109,11 @@ plain-whole true w n e = none≢some e
 plain-whole false w n e = e
 
 module _ {form : Form} {u : List ℕ} where
-  pub ident-fits : Always u ident (λ x. Fit form (λ us. aName (bytesOf u x) ∷ us))
+  pub ident-fits : Always u ident (λ x. Fit form (λ us. aName (spanBytes u x) ∷ us))
   unfolding ident
   ident-fits = then a-name (λ w x. gives (fit-one (rw (x .bytes) (x .word, x .plain))))
 
-  pub string-fits : Always u string (λ x. Fit form (λ us. aString (bytesOf u x) ∷ us))
+  pub string-fits : Always u string (λ x. Fit form (λ us. aString (spanBytes u x) ∷ us))
   unfolding string
   string-fits = then a-string (λ s x. gives (fit-one x))
 

@@ -1,7 +1,9 @@
 -- `back::write` meets its contract. Assumes nothing.
+use Rattle.error.specs.Answer.{lineValues}
+use Rattle.error.proofs.AnswerLaws.{with-values}
 use mathlib.Core.Path.{_∙_, sym}
 use Rattle.spelling.specs.Spelling.{pageOf}
-use Rattle.back.proofs.ScriptLaws.{shut-answer, open-answer, with-values}
+use Rattle.back.proofs.ScriptLaws.{shut-answer, open-answer}
 use borrow.Author.Needs.{needs}
 use Rattle.back.proofs.write.Statement.{statement}
 use Rattle.back.proofs.write.Tie as tie
@@ -39,7 +41,7 @@ returns c =
     let at-refused = c .before .before in
     let at-refusal = at-refused .before .before .before in
     let at-check = at-refusal .before .before in
-    with-values (at-refused .refused .ensures ∙ shut-answer _ _ _ _ (sym (at-refusal .refusal .given .1) ∙ at-check .check .ensures .0))
+    with-values lineValues (at-refused .refused .ensures ∙ shut-answer _ _ _ _ (sym (at-refusal .refusal .given .1) ∙ at-check .check .ensures .0))
 
 same-length-2 : tie.Need-same-length-2
 same-length-2 c = search needs
@@ -52,7 +54,7 @@ returns-2 c =
     let at-take-field = at-copy-nodes .before .before .before in
     let at-enum-told = at-take-field .before in
     let at-check = at-enum-told .before .before in
-    with-values (open-answer _ _ _ _ (sym (at-enum-told .enum-told .given .1) ∙ at-check .check .ensures .0)
+    with-values lineValues (open-answer _ _ _ _ (sym (at-enum-told .enum-told .given .1) ∙ at-check .check .ensures .0)
     (at-take-field .take-field .ensures .reads) (at-copy-nodes .copy-nodes .ensures)
     (λ x w. at-finish .finish .ensures _ x (sym (at-copy-nodes .copy-nodes .kept .1 .1 .1 .1 .1 .0)) w))
 

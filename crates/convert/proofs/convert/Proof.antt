@@ -1,7 +1,9 @@
 -- `convert::convert` meets its contract: what is shut is refused so, and an open sheet is converted. Assumes nothing.
+use Rattle.error.specs.Answer.{checkValues}
+use Rattle.error.proofs.AnswerLaws.{with-values}
 use mathlib.Core.Path.{sym, _∙_}
 use borrow.Author.Needs.{needs}
-use Rattle.convert.proofs.ConvertLaws.{is-refused, is-sheet, is-converted, with-values}
+use Rattle.convert.proofs.ConvertLaws.{is-refused, is-sheet, is-converted}
 use Rattle.convert.proofs.convert.Statement.{statement}
 use Rattle.convert.proofs.convert.Tie as tie
 
@@ -17,7 +19,7 @@ same-length c = search needs
 returns : tie.Need-returns
 returns c =
     let at-refusal = c .before in
-    with-values (is-refused _ _ (sym (at-refusal .refusal .given .1) ∙ at-refusal .before .before .open-sheet .ensures))
+    with-values checkValues (is-refused _ _ (sym (at-refusal .refusal .given .1) ∙ at-refusal .before .before .open-sheet .ensures))
 
 enum-told : tie.Need-enum-told
 enum-told c = search needs
@@ -35,7 +37,7 @@ returns-2 c =
     let at-convert-records = c .before .before in
     let told = at-convert-records .before .before in
     let at-open-sheet = told .before .before in
-    with-values (is-converted _ _ (sym (told .enum-told .given .1) ∙ at-open-sheet .open-sheet .ensures)
+    with-values checkValues (is-converted _ _ (sym (told .enum-told .given .1) ∙ at-open-sheet .open-sheet .ensures)
     (at-convert-records .convert-records .ensures))
 
 pub convert-spec : {M : Type 1} → statement M

@@ -1,4 +1,6 @@
 -- `feed::feed` meets its contract: by cases of what reading and checking answered. Assumes nothing.
+use Rattle.error.specs.Answer.{feedValues}
+use Rattle.error.proofs.AnswerLaws.{with-values}
 use Rattle.text.specs.Bytes.{at}
 use mathlib.Core.Path.{sym, _∙_}
 use Rattle.feed.proofs.FeedLaws.{words-of, accepted-room, accepted-words, feed-full}
@@ -11,7 +13,7 @@ full-requires : tie.Need-full-requires
 full-requires c κs = search needs
 
 returns : tie.Need-returns
-returns c = feed-full _ _ _ _ _ (sym (c .before .full .ensures) ∙ c .if1 .taken)
+returns c = with-values feedValues (feed-full _ _ _ _ _ (sym (c .before .full .ensures) ∙ c .if1 .taken))
 
 read-and-check-requires : tie.Need-read-and-check-requires
 read-and-check-requires c κs = search needs
@@ -83,11 +85,11 @@ returns-2 c =
     let at-read-and-check = c7 .before .before in
     let at-if1 = at-read-and-check .before .before .before in
     let at-full = at-if1 .before in
-    feed-unread _ _ _ _ _
+    with-values feedValues (feed-unread _ _ _ _ _
     (sym (at-full .full .ensures) ∙ at-if1 .if1 .left)
     (rw (at-refusal .refusal .given .1) at (at-read-and-check .read-and-check .ensures .0))
     (c .count-refused .ensures .0)
-    (c .count-refused .ensures .1)
+    (c .count-refused .ensures .1))
 
 same-length-3 : tie.Need-same-length-3
 same-length-3 c = search needs
@@ -103,12 +105,12 @@ returns-3 c =
     let at-read-and-check = c10 .before .before in
     let at-if1 = at-read-and-check .before .before .before in
     let at-full = at-if1 .before in
-    feed-refused _ _ _ _ _
+    with-values feedValues (feed-refused _ _ _ _ _
     (sym (at-full .full .ensures) ∙ at-if1 .if1 .left)
     (rw (at-length .length .given .1) at (at-read-and-check .read-and-check .ensures .0))
     (rw (at-length .length .given .1, at-answer .answer .given .1) at (at-read-and-check .read-and-check .ensures .1 .0))
     (c .count-refused2 .ensures .0)
-    (c .count-refused2 .ensures .1)
+    (c .count-refused2 .ensures .1))
 
 same-length-5 : tie.Need-same-length-5
 same-length-5 c = search needs
@@ -125,12 +127,12 @@ returns-4 c =
     let at-read-and-check = c13 .before .before in
     let at-if1 = at-read-and-check .before .before .before in
     let at-full = at-if1 .before in
-    feed-accepted _ _ _ _ _
+    with-values feedValues (feed-accepted _ _ _ _ _
     (sym (at-full .full .ensures) ∙ at-if1 .if1 .left)
     (rw (at-length .length .given .1) at (at-read-and-check .read-and-check .ensures .0))
     (rw (at-length .length .given .1, at-enum-told .enum-told .given .1) at (at-read-and-check .read-and-check .ensures .1 .0))
     (at-add .add .ensures)
-    (rw (c .before .part .ensures) at (c .count-records .ensures))
+    (rw (c .before .part .ensures) at (c .count-records .ensures)))
 
 pub feed-spec : {M : Type 1} → statement M
 feed-spec =

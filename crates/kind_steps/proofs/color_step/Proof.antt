@@ -10,6 +10,7 @@ use Rattle.error.specs.declared.Refusal.the-variants.{Malformed}
 use Rattle.grammar.specs.Rule.{choice}
 use Rattle.grammar.specs.Fields.{aNumber}
 use Rattle.grammar.specs.Grammar.{colorFields, space}
+use Rattle.grammar.specs.Grammar.{spaceNames}
 use borrow.Author.Needs.{needs}
 use Rattle.kind_steps.proofs.color_step.Statement.{statement}
 use Rattle.kind_steps.proofs.color_step.Tie as tie
@@ -71,7 +72,7 @@ unfolding colorFields entries space
 returns-3 c =
     let at-choice = c .before .before .before in
     let at-match = at-choice .before .before in
-    step-refused 1 "space" (λ l. at-match .match .keys2) (choice Malformed ("linear" ∷ "lab" ∷ "oklch" ∷ [])) aNumber refl
+    step-refused 1 "space" (λ l. at-match .match .keys2) (choice Malformed spaceNames) aNumber refl
     (rw (c .before .r2 .given .1) at (at-choice .choice .ensures))
 
 returns-4 : tie.Need-returns-4
@@ -79,7 +80,7 @@ unfolding colorFields same entries space
 returns-4 c =
     let at-choice = c .before .before .before in
     let at-match = at-choice .before .before in
-    a-case 1 "space" (λ l. at-match .match .keys2) (choice Malformed ("linear" ∷ "lab" ∷ "oklch" ∷ [])) 1 _ refl refl refl
+    a-case 1 "space" (λ l. at-match .match .keys2) (choice Malformed spaceNames) 1 _ refl refl refl
     (rw (c .before .i .given .1) at (at-choice .choice .ensures))
 
 returns-5 : tie.Need-returns-5

@@ -1,7 +1,9 @@
 -- `line::line` meets its contract: each way out is a case of the definition. Assumes nothing.
+use Rattle.error.specs.Answer.{lineValues}
+use Rattle.error.proofs.AnswerLaws.{with-values}
 use mathlib.Core.Path.{_∙_, sym}
 use borrow.Author.Needs.{needs}
-use Rattle.line.proofs.LineLaws.{found, refused, with-values}
+use Rattle.line.proofs.LineLaws.{found, refused}
 use Rattle.line.proofs.line.Statement.{statement}
 use Rattle.line.proofs.line.Tie as tie
 
@@ -12,7 +14,7 @@ enum-known-refusal : tie.Need-enum-known-refusal
 enum-known-refusal c = search needs
 
 returns : tie.Need-returns
-returns c = with-values (sym (refused _ _ _ _ (sym (c .before .refusal .given .1) ∙ c .before .before .before .open-sheet .ensures)))
+returns c = with-values lineValues (sym (refused _ _ _ _ (sym (c .before .refusal .given .1) ∙ c .before .before .before .open-sheet .ensures)))
 
 enum-told : tie.Need-enum-told
 enum-told c = search needs
@@ -44,7 +46,7 @@ returns-2 c =
     let at-open-sheet = told .before .before in
     let o = sym (told .enum-told .given .1) ∙ at-open-sheet .open-sheet .ensures in
     let l = rw (at-start .start .given .1) at (at-record .record-at .ensures) in
-    with-values ((rw (at-part .part .ensures) at (c .before .before .place-line .ensures)) ∙ sym (found _ _ _ _ o l))
+    with-values lineValues ((rw (at-part .part .ensures) at (c .before .before .place-line .ensures)) ∙ sym (found _ _ _ _ o l))
 
 returns-3 : tie.Need-returns-3
 returns-3 c =
@@ -52,7 +54,7 @@ returns-3 c =
     let at-open-sheet = told .before .before in
     let o = sym (told .enum-told .given .1) ∙ at-open-sheet .open-sheet .ensures in
     let l = rw (c .enum-told2 .given .1) at (c .before .before .record-at .ensures) in
-    with-values (sym (found _ _ _ _ o l))
+    with-values lineValues (sym (found _ _ _ _ o l))
 
 pub line-spec : {M : Type 1} → statement M
 line-spec =

@@ -1,8 +1,10 @@
 -- `listing::list` meets its contract. Assumes nothing.
+use Rattle.error.specs.Answer.{orderValues}
+use Rattle.error.proofs.AnswerLaws.{with-values}
 use Prim.Native.Nat.{ℕ}
 use lib.ListN.{length-replicate}
 use Rattle.text.specs.Bytes.{at}
-use Rattle.listing.proofs.ListingLaws.{listing-wrong, listing-held, valued}
+use Rattle.listing.proofs.ListingLaws.{listing-wrong, listing-held}
 use borrow.Author.Needs.{needs}
 use Rattle.listing.proofs.list.Statement.{statement}
 use Rattle.listing.proofs.list.Tie as tie
@@ -32,7 +34,7 @@ returns : tie.Need-returns
 returns c =
     let at-read = c .before .before .before .before in
     let args = at-read .before .before .before .before .args in
-    valued (listing-wrong (args .text .now) (args .out .now) (rw (c .before .refusal .given .1) at (at-read .read .ensures)))
+    with-values orderValues (listing-wrong (args .text .now) (args .out .now) (rw (c .before .refusal .given .1) at (at-read .read .ensures)))
 
 same-length : tie.Need-same-length
 same-length c = search needs
@@ -43,7 +45,7 @@ returns-2 c =
     let c6 = at-list-items .before .before .before .before in
     let c10 = c6 .before .before .before .before in
     let args = c10 .before .before .before .args in
-    valued (listing-held (args .text .now) (args .out .now) (at-list-items .list-items .ensures))
+    with-values orderValues (listing-held (args .text .now) (args .out .now) (at-list-items .list-items .ensures))
 
 pub list-spec : {M : Type 1} → statement M
 list-spec =

@@ -1,7 +1,9 @@
 -- `lookup::find` meets its contract. Assumes nothing.
+use Rattle.error.specs.Answer.{lookupValues}
+use Rattle.error.proofs.AnswerLaws.{and-values}
 use Rattle.text.specs.Bytes.{at}
 use mathlib.Core.Path.{refl}
-use Rattle.lookup.proofs.LookupLaws.{answers, valued}
+use Rattle.lookup.proofs.LookupLaws.{answers}
 use borrow.Author.Needs.{needs}
 use Rattle.lookup.proofs.find.Statement.{statement}
 use Rattle.lookup.proofs.find.Tie as tie
@@ -46,7 +48,7 @@ returns : tie.Need-returns
 returns c =
     let at-look-in = c .before .before .before in
     let args = at-look-in .before .before .before .before .args in
-    valued (answers (args .store .now) (args .chain .now) (args .name .now)
+    and-values lookupValues (answers (args .store .now) (args .chain .now) (args .name .now)
     (rw (c .before .refusal .given .1) at (at-look-in .look-in .ensures)) refl)
 
 returns-2 : tie.Need-returns-2
@@ -55,7 +57,7 @@ returns-2 c =
     let at-start = at-look-in2 .before .before in
     let at-look-in = at-start .before .before in
     let args = at-look-in .before .before .before .before .args in
-    valued (answers (args .store .now) (args .chain .now) (args .name .now)
+    and-values lookupValues (answers (args .store .now) (args .chain .now) (args .name .now)
     (rw (at-start .start .given .1) at (at-look-in .look-in .ensures))
     (rw (c .before .refusal2 .given .1) at (at-look-in2 .look-in2 .ensures)))
 
@@ -65,7 +67,7 @@ returns-3 c =
     let at-start = at-look-in2 .before .before in
     let at-look-in = at-start .before .before in
     let args = at-look-in .before .before .before .before .args in
-    valued (answers (args .store .now) (args .chain .now) (args .name .now)
+    and-values lookupValues (answers (args .store .now) (args .chain .now) (args .name .now)
     (rw (at-start .start .given .1) at (at-look-in .look-in .ensures)) (rw (c .enum-told .given .1) at (at-look-in2 .look-in2 .ensures)))
 
 returns-4 : tie.Need-returns-4
@@ -74,7 +76,7 @@ returns-4 c =
     let at-start = at-look-in2 .before .before in
     let at-look-in = at-start .before .before in
     let args = at-look-in .before .before .before .before .args in
-    valued (answers (args .store .now) (args .chain .now) (args .name .now)
+    and-values lookupValues (answers (args .store .now) (args .chain .now) (args .name .now)
     (rw (at-start .start .given .1) at (at-look-in .look-in .ensures)) (rw (c .enum-told2 .given .1) at (at-look-in2 .look-in2 .ensures)))
 
 returns-5 : tie.Need-returns-5
@@ -83,7 +85,7 @@ returns-5 c =
     let at-enum-told3 = at-look-in3 .before in
     let at-look-in = at-enum-told3 .before .before in
     let args = at-look-in .before .before .before .before .args in
-    valued (answers (args .store .now) (args .chain .now) (args .name .now)
+    and-values lookupValues (answers (args .store .now) (args .chain .now) (args .name .now)
     (rw (at-enum-told3 .enum-told3 .given .1) at (at-look-in .look-in .ensures))
     (rw (c .before .refusal3 .given .1) at (at-look-in3 .look-in3 .ensures)))
 
@@ -93,7 +95,7 @@ returns-6 c =
     let at-enum-told3 = at-look-in3 .before in
     let at-look-in = at-enum-told3 .before .before in
     let args = at-look-in .before .before .before .before .args in
-    valued (answers (args .store .now) (args .chain .now) (args .name .now)
+    and-values lookupValues (answers (args .store .now) (args .chain .now) (args .name .now)
     (rw (at-enum-told3 .enum-told3 .given .1) at (at-look-in .look-in .ensures))
     (rw (c .before .start2 .given .1) at (at-look-in3 .look-in3 .ensures)))
 
@@ -103,7 +105,7 @@ returns-7 c =
     let at-enum-told3 = at-look-in3 .before in
     let at-look-in = at-enum-told3 .before .before in
     let args = at-look-in .before .before .before .before .args in
-    valued (answers (args .store .now) (args .chain .now) (args .name .now)
+    and-values lookupValues (answers (args .store .now) (args .chain .now) (args .name .now)
     (rw (at-enum-told3 .enum-told3 .given .1) at (at-look-in .look-in .ensures))
     (rw (c .enum-told4 .given .1) at (at-look-in3 .look-in3 .ensures)))
 

@@ -1,6 +1,8 @@
 -- `parser::read` meets its contract. Assumes nothing.
+use Rattle.error.specs.Answer.{readValues}
+use Rattle.error.proofs.AnswerLaws.{with-values}
 use Rattle.parser.proofs.ReadLaws.{read-refused, read-tree, split-accepted, split-refused}
-use Rattle.parser.proofs.ReadLaws.{split-zero, too-few, too-long, with-values}
+use Rattle.parser.proofs.ReadLaws.{split-zero, too-few, too-long}
 use mathlib.Core.Path.{sym}
 use borrow.Author.Needs.{needs}
 use Rattle.parser.proofs.read.Statement.{statement}
@@ -9,13 +11,13 @@ use Rattle.parser.proofs.read.Tie as tie
 returns : tie.Need-returns
 returns c =
     let start = c .before .before .before .before in
-    with-values (sym (too-long (start .args .text .now) (start .args .scratch .now) (start .args .sheet .now) (c .if1 .taken)))
+    with-values readValues (sym (too-long (start .args .text .now) (start .args .scratch .now) (start .args .sheet .now) (c .if1 .taken)))
 
 returns-2 : tie.Need-returns-2
 returns-2 c =
     let at-if1 = c .before in
     let start = at-if1 .before .before .before .before in
-    with-values
+    with-values readValues
     (sym (too-few (start .args .text .now) (start .args .scratch .now) (start .args .sheet .now) (at-if1 .if1 .left) (c .if2 .taken)))
 
 parse-input-requires : tie.Need-parse-input-requires
@@ -58,7 +60,7 @@ returns-3 c =
     let e = split-refused (args .text .now) (args .scratch .now) (judge .last .1 .0) (judge .result) (at-if2 .if2 .left) (judge .ensures) _
     _ (at-refusal .refusal .given .1)
     in
-    with-values
+    with-values readValues
     (read-refused
     (args .text .now)
     (args .scratch .now)
@@ -95,7 +97,7 @@ returns-4 c =
     let e = split-accepted (args .text .now) (args .scratch .now) (judge .last .1 .0) (judge .result) (at-if2 .if2 .left) (judge .ensures)
     (at-enum-told .enum-told .given .1)
     in
-    with-values
+    with-values readValues
     (read-tree
     (args .text .now)
     (args .scratch .now)

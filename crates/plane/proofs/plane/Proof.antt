@@ -1,7 +1,9 @@
 -- `plane::plane` meets its contract: the text's refusals, then 20, then what `carry` answers. Assumes nothing.
+use Rattle.error.specs.Answer.{lineValues}
+use Rattle.error.proofs.AnswerLaws.{with-values}
 use Rattle.plane.proofs.StartLaws.{carries-wide}
 use mathlib.Core.Path.{sym, _∙_}
-use Rattle.plane.proofs.AnswerLaws.{with-values, plane-shut, plane-none, plane-some}
+use Rattle.plane.proofs.AnswerLaws.{plane-shut, plane-none, plane-some}
 use borrow.Author.Needs.{needs}
 use Rattle.plane.proofs.plane.Statement.{statement}
 use Rattle.plane.proofs.plane.Tie as tie
@@ -16,7 +18,7 @@ returns : tie.Need-returns
 returns c =
     let at-open-text = c .before .before .before in
     let args = at-open-text .before .before .before .before .args in
-    with-values (plane-shut (args .text .now) (args .sheet .now) (args .out .now)
+    with-values lineValues (plane-shut (args .text .now) (args .sheet .now) (args .out .now)
     (sym (c .before .refusal .given .1) ∙ at-open-text .open-text .ensures))
 
 enum-told : tie.Need-enum-told
@@ -48,7 +50,7 @@ returns-2 c =
     let at-open-text = at-enum-told .before .before in
     let args = at-open-text .before .before .before .before .args in
     let m = rw (at-rest .rest .given .1) at (at-sheet-shape .sheet-shape .ensures) in
-    with-values (at-carry .carry .ensures (carries-wide _ _ (m .0) _ _ (m .1) (m .2) (m .3))
+    with-values lineValues (at-carry .carry .ensures (carries-wide _ _ (m .0) _ _ (m .1) (m .2) (m .3))
     ∙ plane-some (args .text .now) (args .sheet .now) (args .out .now) (m .0)
     (sym (at-enum-told .enum-told .given .1) ∙ at-open-text .open-text .ensures) (m .1))
 
@@ -58,7 +60,7 @@ returns-3 c =
     let at-enum-told = at-sheet-shape .before in
     let at-open-text = at-enum-told .before .before in
     let args = at-open-text .before .before .before .before .args in
-    with-values (plane-none (args .text .now) (args .sheet .now) (args .out .now)
+    with-values lineValues (plane-none (args .text .now) (args .sheet .now) (args .out .now)
     (sym (at-enum-told .enum-told .given .1) ∙ at-open-text .open-text .ensures)
     (rw (c .enum-told2 .given .1) at (at-sheet-shape .sheet-shape .ensures)))
 

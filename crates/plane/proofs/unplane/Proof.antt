@@ -1,7 +1,9 @@
 -- `plane::unplane` meets its contract: the text's refusals, then 40, then what `carry` answers. Assumes nothing.
+use Rattle.error.specs.Answer.{lineValues}
+use Rattle.error.proofs.AnswerLaws.{with-values}
 use Rattle.plane.proofs.StartLaws.{carries-narrow}
 use mathlib.Core.Path.{sym, _∙_}
-use Rattle.plane.proofs.AnswerLaws.{with-values, unplane-shut, unplane-none, unplane-some}
+use Rattle.plane.proofs.AnswerLaws.{unplane-shut, unplane-none, unplane-some}
 use borrow.Author.Needs.{needs}
 use Rattle.plane.proofs.unplane.Statement.{statement}
 use Rattle.plane.proofs.unplane.Tie as tie
@@ -16,7 +18,7 @@ returns : tie.Need-returns
 returns c =
     let at-open-text = c .before .before .before in
     let args = at-open-text .before .before .before .before .args in
-    with-values (unplane-shut (args .text .now) (args .planed .now) (args .out .now)
+    with-values lineValues (unplane-shut (args .text .now) (args .planed .now) (args .out .now)
     (sym (c .before .refusal .given .1) ∙ at-open-text .open-text .ensures))
 
 enum-told : tie.Need-enum-told
@@ -48,7 +50,7 @@ returns-2 c =
     let at-open-text = at-enum-told .before .before in
     let args = at-open-text .before .before .before .before .args in
     let m = rw (at-rest .rest .given .1) at (at-planed-shape .planed-shape .ensures) in
-    with-values (at-carry .carry .ensures (carries-narrow _ _ (m .0) _ _ (m .1) (m .2) (m .3))
+    with-values lineValues (at-carry .carry .ensures (carries-narrow _ _ (m .0) _ _ (m .1) (m .2) (m .3))
     ∙ unplane-some (args .text .now) (args .planed .now) (args .out .now) (m .0)
     (sym (at-enum-told .enum-told .given .1) ∙ at-open-text .open-text .ensures) (m .1))
 
@@ -58,7 +60,7 @@ returns-3 c =
     let at-enum-told = at-planed-shape .before in
     let at-open-text = at-enum-told .before .before in
     let args = at-open-text .before .before .before .before .args in
-    with-values (unplane-none (args .text .now) (args .planed .now) (args .out .now)
+    with-values lineValues (unplane-none (args .text .now) (args .planed .now) (args .out .now)
     (sym (at-enum-told .enum-told .given .1) ∙ at-open-text .open-text .ensures)
     (rw (c .enum-told2 .given .1) at (at-planed-shape .planed-shape .ensures)))
 

@@ -6,7 +6,8 @@ use native.Mathlib.Omega.{arith}
 use Rattle.text.specs.Words.{entries}
 use Rattle.digits.specs.Numeral.{all}
 use Rattle.pieces.specs.Pieces.{wordLike}
-use Rattle.fresh.specs.Fresh.{spell, choose, wordAt, modeNames}
+use Rattle.fresh.specs.Fresh.{spell, choose, wordAt}
+use Rattle.grammar.specs.Grammar.{modeNames}
 use Rattle.copying.specs.Words.{allWords}
 use Rattle.copying.proofs.CopyLaws.{read-put, in-front}
 use Rattle.preorder.proofs.NodeLaws.{six, sequence-told, parallel-told, group-told, stagger-told}

@@ -1,4 +1,6 @@
 -- `print::print` meets its contract. Assumes nothing.
+use Rattle.error.specs.Answer.{lineValues}
+use Rattle.error.proofs.AnswerLaws.{with-values}
 use Rattle.print.proofs.PrintLaws.{page-short, page-unread, page-refused, page-lined}
 use native.Mathlib.Omega.{arith}
 use borrow.Author.Needs.{needs}
@@ -6,7 +8,7 @@ use Rattle.print.proofs.print.Statement.{statement}
 use Rattle.print.proofs.print.Tie as tie
 
 returns : tie.Need-returns
-returns c = page-short _ _ _ _ _ (omega arith)
+returns c = with-values lineValues (page-short _ _ _ _ _ (omega arith))
 
 read-and-check-requires : tie.Need-read-and-check-requires
 read-and-check-requires c κs = search needs
@@ -51,9 +53,9 @@ returns-2 c =
     let c9 = at-refusal .before .before .before .before in
     let at-read-and-check = c9 .before .before in
     let at-if1 = at-read-and-check .before .before .before in
-    page-unread _ _ _ _ _ (omega (arith, at-if1 .if1 .left))
+    with-values lineValues (page-unread _ _ _ _ _ (omega (arith, at-if1 .if1 .left))
     (rw (at-refusal .refusal .given .1) at (at-read-and-check .read-and-check .ensures .0))
-    (at-put-refusal .put-refusal .ensures)
+    (at-put-refusal .put-refusal .ensures))
 
 same-length-4 : tie.Need-same-length-4
 same-length-4 c = search needs
@@ -72,10 +74,10 @@ returns-3 c =
     let c12 = at-length .before .before .before .before in
     let at-read-and-check = c12 .before .before in
     let at-if1 = at-read-and-check .before .before .before in
-    page-refused _ _ _ _ _ (omega (arith, at-if1 .if1 .left))
+    with-values lineValues (page-refused _ _ _ _ _ (omega (arith, at-if1 .if1 .left))
     (rw (at-length .length .given .1) at (at-read-and-check .read-and-check .ensures .0))
     (rw (at-length .length .given .1, at-answer .answer .given .1) at (at-read-and-check .read-and-check .ensures .1 .0))
-    (at-put-refusal2 .put-refusal2 .ensures)
+    (at-put-refusal2 .put-refusal2 .ensures))
 
 same-length-7 : tie.Need-same-length-7
 same-length-7 c = search needs
@@ -95,10 +97,10 @@ returns-4 c =
     let c13 = at-length .before .before .before .before in
     let at-read-and-check = c13 .before .before in
     let at-if1 = at-read-and-check .before .before .before in
-    page-lined _ _ _ _ _ (omega (arith, at-if1 .if1 .left))
+    with-values lineValues (page-lined _ _ _ _ _ (omega (arith, at-if1 .if1 .left))
     (rw (at-length .length .given .1) at (at-read-and-check .read-and-check .ensures .0))
     (rw (at-length .length .given .1, at-enum-told .enum-told .given .1) at (at-read-and-check .read-and-check .ensures .1 .0))
-    (rw (at-part .part .ensures) at (at-put-lines .put-lines .ensures))
+    (rw (at-part .part .ensures) at (at-put-lines .put-lines .ensures)))
 
 pub print-spec : {M : Type 1} → statement M
 print-spec =

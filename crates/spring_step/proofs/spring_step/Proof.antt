@@ -10,6 +10,7 @@ use Rattle.error.specs.declared.Refusal.the-variants.{Malformed, UnknownSpringP
 use Rattle.grammar.specs.Rule.{choice}
 use Rattle.grammar.specs.Fields.{aNumber}
 use Rattle.grammar.specs.Grammar.{springFields, springPreset, parseSpringPreset, integrator}
+use Rattle.grammar.specs.Grammar.{presetNames, integratorNames}
 use borrow.Author.Needs.{needs}
 use Rattle.spring_step.proofs.spring_step.Statement.{statement}
 use Rattle.spring_step.proofs.spring_step.Tie as tie
@@ -107,7 +108,7 @@ returns c =
     let at-match = at-choice .before .before in
     step-refused 0 "preset"
     (λ l. at-match .match .keys1)
-    (choice UnknownSpringPreset ("gentle" ∷ "wobbly" ∷ "stiff" ∷ "slow" ∷ "snappy" ∷ []))
+    (choice UnknownSpringPreset presetNames)
     aNumber refl
     (rw (c .before .r .given .1) at (at-choice .choice .ensures))
 
@@ -116,7 +117,7 @@ unfolding springFields same entries springPreset parseSpringPreset
 returns-2 c =
     let at-choice = c .before .before .before in
     let at-match = at-choice .before .before in
-    a-case 0 "preset" (λ l. at-match .match .keys1) (choice UnknownSpringPreset ("gentle" ∷ "wobbly" ∷ "stiff" ∷ "slow" ∷ "snappy" ∷ [])) 0
+    a-case 0 "preset" (λ l. at-match .match .keys1) (choice UnknownSpringPreset presetNames) 0
     _ refl refl refl (rw (c .before .i .given .1) at (at-choice .choice .ensures))
 
 returns-3 : tie.Need-returns-3
@@ -200,7 +201,7 @@ unfolding springFields entries integrator
 returns-13 c =
     let at-choice2 = c .before .before .before in
     let at-match = at-choice2 .before .before in
-    step-refused 6 "integrator" (λ l. at-match .match .keys7) (choice Malformed ("semi_implicit_euler" ∷ "rk4" ∷ [])) aNumber refl
+    step-refused 6 "integrator" (λ l. at-match .match .keys7) (choice Malformed integratorNames) aNumber refl
     (rw (c .before .r7 .given .1) at (at-choice2 .choice2 .ensures))
 
 returns-14 : tie.Need-returns-14
@@ -208,7 +209,7 @@ unfolding springFields same entries integrator
 returns-14 c =
     let at-choice2 = c .before .before .before in
     let at-match = at-choice2 .before .before in
-    a-case 6 "integrator" (λ l. at-match .match .keys7) (choice Malformed ("semi_implicit_euler" ∷ "rk4" ∷ [])) 6 _ refl refl refl
+    a-case 6 "integrator" (λ l. at-match .match .keys7) (choice Malformed integratorNames) 6 _ refl refl refl
     (rw (c .before .i2 .given .1) at (at-choice2 .choice2 .ensures))
 
 returns-15 : tie.Need-returns-15

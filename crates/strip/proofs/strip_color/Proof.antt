@@ -10,7 +10,7 @@ pack-color-requires : tie.Need-pack-color-requires
 pack-color-requires c κs = search needs
 
 returns : tie.Need-returns
-returns c = rw (c .pack-color .ensures, ← c .before .before .color .ensures)
+returns c = rw (c .pack-color .ensures, ← c .before .before .color .ensures .0)
 
 pub strip-color-spec : {M : Type 1} → statement M
 strip-color-spec = tie.close (tie.spec color-requires pack-color-requires returns)

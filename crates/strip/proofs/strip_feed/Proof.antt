@@ -19,7 +19,7 @@ returns : tie.Need-returns
 returns c =
     let c4 = c .before .before .before .before in
     let at-feed = c4 .before in
-    rw (c .pack-fed .ensures, ← at-feed .feed .ensures)
+    rw (c .pack-fed .ensures, ← at-feed .feed .ensures .0)
 
 pub strip-feed-spec : {M : Type 1} → statement M
 strip-feed-spec =

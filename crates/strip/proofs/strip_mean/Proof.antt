@@ -13,7 +13,7 @@ pack-mean-requires : tie.Need-pack-mean-requires
 pack-mean-requires c κs = search needs
 
 returns : tie.Need-returns
-returns c = c .pack-mean .ensures ∙ ap (λ (a : MeanAnswer). meanOutcome a (c .before .before .before .args .out .now)) (c .before .before .mean .ensures)
+returns c = c .pack-mean .ensures ∙ ap (λ (a : MeanAnswer). meanOutcome a (c .before .before .before .args .out .now)) (c .before .before .mean .ensures .0)
 
 pub strip-mean-spec : {M : Type 1} → statement M
 strip-mean-spec = tie.close (tie.spec mean-requires pack-mean-requires returns)

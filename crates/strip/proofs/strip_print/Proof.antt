@@ -22,7 +22,7 @@ returns : tie.Need-returns
 returns c =
     let c4 = c .before .before .before .before in
     let at-print = c4 .before .before .before in
-    rw (c .pack-line .ensures, ← at-print .print .ensures)
+    rw (c .pack-line .ensures, ← at-print .print .ensures .0)
 
 pub strip-print-spec : {M : Type 1} → statement M
 strip-print-spec =

@@ -1,4 +1,6 @@
 -- `totals::mean` meets its contract. Assumes nothing.
+use Rattle.error.specs.Answer.{meanValues}
+use Rattle.error.proofs.AnswerLaws.{and-values}
 use mathlib.Core.Path.{sym, _∙_}
 use native.Mathlib.Omega.{arith}
 use borrow.Author.Needs.{needs}
@@ -10,7 +12,7 @@ over-limit-requires : tie.Need-over-limit-requires
 over-limit-requires c κs = search needs
 
 returns : tie.Need-returns
-returns c = mean-over _ _ (sym (c .before .over-limit .ensures) ∙ c .if1 .taken)
+returns c = and-values meanValues (mean-over _ _ (sym (c .before .over-limit .ensures) ∙ c .if1 .taken))
 
 sum-requires : tie.Need-sum-requires
 sum-requires c κs = search needs
@@ -33,8 +35,8 @@ returns-2 c =
     let at-if2 = at-sum .before .before in
     let at-if1 = at-if2 .before in
     let at-over-limit = at-if1 .before in
-    mean-records _ _ (sym (at-over-limit .over-limit .ensures) ∙ at-if1 .if1 .left) (at-if2 .if2 .taken)
-    (rw (at-sum .sum .ensures) at (c .quotient .ensures))
+    and-values meanValues (mean-records _ _ (sym (at-over-limit .over-limit .ensures) ∙ at-if1 .if1 .left) (at-if2 .if2 .taken)
+    (rw (at-sum .sum .ensures) at (c .quotient .ensures)))
 
 element-copy-out-quotient-2 : tie.Need-element-copy-out-quotient-2
 element-copy-out-quotient-2 c = search needs
@@ -50,7 +52,8 @@ returns-3 c =
     let at-if2 = c .before .before .before in
     let at-if1 = at-if2 .before in
     let at-over-limit = at-if1 .before in
-    mean-entries _ _ (sym (at-over-limit .over-limit .ensures) ∙ at-if1 .if1 .left) (at-if2 .if2 .left) (c .quotient2 .ensures)
+    and-values meanValues (mean-entries _ _ (sym (at-over-limit .over-limit .ensures) ∙ at-if1 .if1 .left) (at-if2 .if2 .left)
+    (c .quotient2 .ensures))
 
 pub mean-spec : {M : Type 1} → statement M
 mean-spec =

@@ -1,5 +1,5 @@
 -- `verdict::read_and_check` meets its contract. Assumes nothing.
-use Rattle.verdict.proofs.VerdictLaws.{unread, checked}
+use Rattle.verdict.proofs.VerdictLaws.{unread, checked, unread-values, checked-values}
 use borrow.Author.Needs.{needs}
 use Rattle.verdict.proofs.read_and_check.Statement.{statement}
 use Rattle.verdict.proofs.read_and_check.Tie as tie
@@ -32,8 +32,10 @@ returns c =
     let call = c5 .before .before in
     let c11 = call .before .before .before .before in
     let start = c11 .before .before in
+    let args = start .args in
     let e = rw (at-refusal .refusal .given .1) at (call .read .ensures .0) in
-    (e, (tt, unread (start .args .list) (start .args .text .now) (start .args .scratch .now) (start .args .sheet .now) _ _ _ _ e))
+    (e, (tt, (unread (args .list) (args .text .now) (args .scratch .now) (args .sheet .now) _ _ _ _ e,
+    unread-values (args .list) (args .text .now) (args .scratch .now) (args .sheet .now) _ _ _ _ e)))
 
 same-length-3 : tie.Need-same-length-3
 same-length-3 c = search needs
@@ -48,9 +50,11 @@ returns-2 c =
     let call = c8 .before .before in
     let c14 = call .before .before .before .before in
     let start = c14 .before .before in
+    let args = start .args in
     let e = rw (at-length .length .given .1) at (call .read .ensures .0) in
     let v = rw (c .before .part .ensures) at (c .check .ensures .0) in
-    (e, (v, checked (start .args .list) (start .args .text .now) (start .args .scratch .now) (start .args .sheet .now) _ _ _ _ _ _ e v))
+    (e, (v, (checked (args .list) (args .text .now) (args .scratch .now) (args .sheet .now) _ _ _ _ _ _ e v,
+    checked-values (args .list) (args .text .now) (args .scratch .now) (args .sheet .now) _ _ _ _ _ _ e v)))
 
 pub read-and-check-spec : {M : Type 1} → statement M
 read-and-check-spec =

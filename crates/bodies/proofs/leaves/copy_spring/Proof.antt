@@ -7,7 +7,8 @@ use Rattle.digits.specs.Numeral.{all}
 use Rattle.ast.specs.Tree as Tree
 use Rattle.sheet.specs.Sheet.{toSpring, ofSpring}
 use Rattle.pieces.specs.Pieces.{wordLike}
-use Rattle.fresh.specs.Fresh.{mark, two, presetNames, integratorNames, leafBody}
+use Rattle.fresh.specs.Fresh.{mark, two, leafBody}
+use Rattle.grammar.specs.Grammar.{presetNames, integratorNames}
 use Rattle.copying.specs.Words.{allWords}
 use Rattle.copying.proofs.CopyLaws.{renamed, behind, _then_, made}
 use Rattle.bodies.specs.Body.{body}

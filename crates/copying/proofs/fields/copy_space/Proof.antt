@@ -1,7 +1,7 @@
 -- `copying::fields::copy_space` meets its contract. Assumes nothing.
 use borrow.Author.Tests.{eq-eqb, ne-eqb}
 use Rattle.text.specs.Words.{entries}
-use Rattle.fresh.specs.Fresh.{spaceNames}
+use Rattle.grammar.specs.Grammar.{spaceNames}
 use Rattle.copying.specs.Words.{allWords}
 use mathlib.Core.Path.{refl}
 use native.Mathlib.Omega.{arith}

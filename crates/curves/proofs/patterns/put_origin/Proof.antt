@@ -6,7 +6,8 @@ use borrow.Author.Tests.{eq-eqb, ne-eqb}
 use Rattle.text.specs.Words.{entries}
 use Rattle.digits.specs.Numeral.{all}
 use Rattle.pieces.specs.Pieces.{wordLike}
-use Rattle.fresh.specs.Fresh.{choose, originNames}
+use Rattle.fresh.specs.Fresh.{choose}
+use Rattle.grammar.specs.Grammar.{originNames}
 use Rattle.copying.specs.Words.{allWords}
 use Rattle.curves.proofs.PairLaws.{omitted, not-omitted}
 use borrow.Author.Needs.{needs}
