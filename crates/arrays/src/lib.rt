@@ -1,8 +1,5 @@
 // parser.rs, parse_value: a number or an array of numbers, written into the sheet as it is read.
 // The functions are for our own crates: each requires a cursor that stands in a text of at most 16,384 bytes, and a place below 2^31.
-ghost use mathlib.Core.Path.{_≡_};
-ghost use Prim.Native.Nat.{_≤_, _<_, _^_};
-ghost use lib.ListN.{length};
 ghost use Rattle.cursor.specs.Means.{Ready};
 ghost use Rattle.arrays.specs.Means.{Wide, Wider, ItemsMeans, ArrayMeans, HeldMeans, ValueMeans};
 use ast::ValueExpr;

@@ -1,6 +1,6 @@
 -- ast.rs: the types of the tree, under its names, spans for diagnostics left out. Assumes nothing.
 -- An f32 is its bit pattern. An enum whose cases hold nothing is the position of the case. A name or a string is its place in the text.
-use Prim.Native.Nat.{ℕ, zero, suc, _+_}
+use Prim.Native.Nat.{ℕ, suc, _+_}
 use mathlib.Core.Bool.{Bool}
 use mathlib.Core.List.{List, [], _∷_, _++_}
 use mathlib.Core.Option.{Option, some}

@@ -1,7 +1,6 @@
 -- How the code holds a tree's values: floats for bit patterns, counts for arrays and frames. Assumes nothing.
 use Prim.Native.Nat.{ℕ}
 use mathlib.Core.Bool.{Bool, true, false}
-use mathlib.Core.List.{List}
 use mathlib.Core.Option.{Option, none, some}
 use lib.Ieee.{Float}
 use lib.ListN.{length}

@@ -22,7 +22,6 @@ use Rattle.spelling.specs.Spelling.{Page, spoiled, full, page, most, putOn, put
 use Rattle.spelling.specs.declared.Pen.{Pen}
 use Rattle.spelling.proofs.PageLaws.{put-both}
 use Rattle.copying.specs.Copies.{Written}
-use Rattle.error.specs.Answer.{lineValues}
 use Rattle.error.specs.declared.Refusal.the-variants.{Unwritable, ScriptTooLong}
 use Rattle.error.specs.declared.CheckAnswer.the-variants as check
 use Rattle.error.specs.declared.LineAnswer.{LineAnswer}

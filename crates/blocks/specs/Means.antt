@@ -15,8 +15,8 @@ use Rattle.ast.specs.Tree.{Leaf, Container, sequence, parallel, group, stagger,
 use Rattle.ast.specs.Tree.{width, records, mapLeaf, mapTimes}
 use Rattle.sheet.specs.Sheet.{Node, word, patternForm, nodeForm, forest, inner}
 use Rattle.encode.specs.Writes.{Writes}
-use Rattle.grammar.specs.Rule.{Rule, refused, give, _>>=_, the, Next, more, done, repeat}
-use Rattle.grammar.specs.Grammar.{stored, leaves, containers, aLeaf, aContainer, unknown, beginning, nodeBy, parseNode, nodesStep, block}
+use Rattle.grammar.specs.Rule.{Rule, refused, give, _>>=_, the, more, done, repeat}
+use Rattle.grammar.specs.Grammar.{stored, leaves, containers, aLeaf, aContainer, unknown, beginning, nodeBy, nodesStep, block}
 use Rattle.cursor.specs.Means.{Ready, run, Took}
 use Rattle.cursor.specs.declared.Cursor.{Cursor}
 use Rattle.arrays.specs.Means.{Went}

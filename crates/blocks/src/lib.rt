@@ -1,8 +1,7 @@
 // parser.rs: a node of any kind, and nodes up to a group's end, written into the sheet as they are read.
 // The functions are for our own crates: each requires a cursor that stands in a text of at most 16,384 bytes, and a place that what was read so far can have reached.
-ghost use mathlib.Core.List.{List};
 ghost use mathlib.Core.Path.{_≡_};
-ghost use Prim.Native.Nat.{ℕ, _+_, _<_};
+ghost use Prim.Native.Nat.{_+_, _<_};
 ghost use Rattle.grammar.specs.Grammar.{parseSequence, parseParallel, parseGroup, parseStagger, parseNode, block};
 ghost use Rattle.cursor.specs.Means.{Ready, spelled};
 ghost use Rattle.arrays.specs.Means.{Room};

@@ -26,7 +26,6 @@ use copying::fields::copy_space;
 use copying::fields::put_choice;
 use copying::fields::put_field;
 use copying::values::Copied;
-use copying::values::copy_f32;
 use copying::values::copy_name;
 use copying::values::copy_string;
 use copying::values::copy_value;

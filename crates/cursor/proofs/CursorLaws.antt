@@ -2,18 +2,16 @@
 use Prim.Native.Nat.{ℕ, zero, suc, _+_, _-_, _≤_, _<_}
 use mathlib.Core.Bool.{Bool, true, false, not, cond, _&&_}
 use mathlib.Core.List.{List, [], _∷_}
-use mathlib.Core.Option.{Option, none, some}
+use mathlib.Core.Option.{none, some}
 use mathlib.Core.Path.{_≡_, refl, sym, ap, _∙_, subst}
 use mathlib.Core.Logic.{_⊎_, inl, inr, ⊎-elim}
 use native.Mathlib.Numerals.{add-one}
 use native.Mathlib.Omega.{arith}
 use borrow.Author.Tests.{eqb-true, ne-eqb, eq-eqb}
-use lib.Dec.{T, eqb}
-use lib.ListN.{length, take, drop}
-use lib.Ieee.{isNan}
+use lib.Dec.{eqb}
+use lib.ListN.{length, drop}
 use Rattle.text.specs.Bytes.{bytes, part, among}
 use Rattle.text.specs.Words.{isSome}
-use Rattle.number.specs.Number.{Written, whole, bits}
 use Rattle.token.specs.Token.{Kind, name, number, quoted, mark, Token, token, tokensFrom, place, kind, isMark, rest, writtenAt}
 use Rattle.token.specs.Means.{Lexes, Digits, NumberIs, Known, kindOf, writtenIn, lastPlace}
 use Rattle.text.specs.Limits.{textLimit}
@@ -23,9 +21,9 @@ use Rattle.token.specs.declared.Number.{Number}
 use Rattle.token.specs.declared.Tok.the-variants.{Name, Quoted}
 use Rattle.token.specs.Names.{isKeyword, unless, wordOf, nameOf, quoteOf}
 use Rattle.grammar.specs.Values.{truth}
-use Rattle.grammar.specs.Rule.{isWord, seesBytes, word, text, Rule, Out, got, refused, seesByte, seesPair, theByte, bothBytes}
-use Rattle.grammar.specs.Rule.{eatByte, skip, _>>_, Signed, absent, plus, minus, plain, negated, pointless, seesNumber, seesWhole}
-use Rattle.grammar.specs.Rule.{taken, signed, Pass, halts, closes, goes, closing, depth, weigh, behind, ends, isEnd, firstOf, leave}
+use Rattle.grammar.specs.Rule.{isWord, seesBytes, word, text, Rule, got, refused, seesByte, seesPair, theByte, bothBytes}
+use Rattle.grammar.specs.Rule.{eatByte, Signed, absent, plain, pointless, seesNumber, seesWhole}
+use Rattle.grammar.specs.Rule.{taken, signed, Pass, halts, closes, goes, closing, depth, weigh, behind, ends, firstOf, leave}
 use Rattle.error.specs.declared.Refusal.{Refusal}
 use Rattle.error.specs.declared.Refusal.the-variants.{Missing}
 use Rattle.cursor.specs.Means.{nothing, leftOf, headOf, Ready, notes, tokens, run, Took}

@@ -1,15 +1,14 @@
 // A cursor by value over the tokens of a text, and the steps of syn's ParseStream that take one token or a few.
 // The functions are for our own crates: each requires a cursor that stands in the text.
 ghost use mathlib.Core.Path.{_≡_};
-ghost use mathlib.Core.List.{List, [], _∷_};
+ghost use mathlib.Core.List.{List};
 ghost use Prim.Native.Nat.{ℕ, _-_, _≤_, _<_};
 ghost use lib.ListN.{length};
 ghost use Rattle.text.specs.Limits.{textLimit};
 ghost use Rattle.text.specs.Words.{table};
 ghost use Rattle.token.specs.Token.{tokensFrom, isMark};
 ghost use Rattle.token.specs.Means.{kindOf, lastPlace};
-ghost use Rattle.number.specs.Number.{nearest};
-ghost use Rattle.grammar.specs.Rule.{seesByte, seesPair, seesBytes, seesName, isEnd, ends, theByte, bothBytes, eatByte, word, text as quotedText, choiceIn, weigh, behind, firstOf, leave};
+ghost use Rattle.grammar.specs.Rule.{seesByte, seesBytes, seesName, isEnd, ends, theByte, bothBytes, eatByte, word, choiceIn, weigh, firstOf, leave};
 ghost use Rattle.grammar.specs.Values.{parseFloat, parseUint, truth};
 ghost use Rattle.cursor.specs.Means.{nothing, leftOf, leftIs, Ready, Begins, Took, Follows, Behind, tallied, passOf, NumberView, MarkMeans, WordMeans, StringMeans, NumberMeans, FloatMeans, UintMeans, TruthMeans, CaseMeans};
 use ast::Span;

@@ -1,26 +1,23 @@
 -- Of all percents that read to the same the form has the fewest digits, and of a number no zero too many.
 use Prim.Native.Nat.{ℕ, suc, _+_, _*_, _/_, _^_, _≤_, _<_}
-use mathlib.Core.Bool.{Bool, true, false, cond}
+use mathlib.Core.Bool.{true, false}
 use mathlib.Core.List.{List, [], _∷_, _++_}
-use mathlib.Core.Option.{Option, none, some}
-use mathlib.Core.Path.{_≡_, refl, sym, ap, _∙_, subst}
-use native.Mathlib.Nat.{le-refl, le-trans, le-of-eq, lt-of-lt-of-le, lt-of-le-of-lt, pow-le-pow-right, add-comm, add-zero}
+use mathlib.Core.Option.{some}
+use mathlib.Core.Path.{_≡_, sym, ap, _∙_, subst}
+use native.Mathlib.Nat.{le-refl, le-trans, le-of-eq, lt-of-le-of-lt, add-zero}
 use native.Mathlib.Nat.{add-le-add, mul-assoc, mul-le-mul-right, pow-succ', zero-lt-suc}
 use native.Mathlib.Omega.{arith}
-use lib.Dec.{ltb, lit<, lit≤}
 use lib.ListN.{length}
-use borrow.Author.Tests.{le-ltb, ltb-false, leb-true, le-leb}
 use Rattle.text.specs.Bytes.{decimal, isDigit}
-use Rattle.number.specs.Number.{Written, nearest, percent, whole, bits}
-use Rattle.number.proofs.Round.{sign-bit, bits-room}
-use Rattle.digits.specs.Numeral.{Sort, float, percentage, counted, all, Numeral, pointed, written, withSign, Means}
-use Rattle.digits.specs.Fewest.{wholeDigits, trimmed, numeral, isSome, fewest, leastPercent, each, form, writable}
+use Rattle.number.specs.Number.{percent, bits}
+use Rattle.digits.specs.Numeral.{all, Numeral, written}
+use Rattle.digits.specs.Fewest.{wholeDigits, trimmed, numeral, leastPercent}
 use Rattle.digits.specs.Means.{percentBits}
 use Rattle.digits.proofs.DigitLaws.{decimal-snoc, length-snoc, last-length, last-reads}
-use Rattle.digits.proofs.DigitLaws.{whole-reads, whole-digits, whole-some, whole-few, Trimmed, trim}
+use Rattle.digits.proofs.DigitLaws.{whole-reads, whole-digits, Trimmed, trim}
 use Rattle.digits.proofs.NumeralLaws.{whole-below, digits-le}
-use Rattle.digits.proofs.FewestLaws.{Ahead, fewest-numeral, fewest-reads, fewest-some}
-use Rattle.digits.proofs.PercentLaws.{percent-of, no-percent, percent-signs}
+use Rattle.digits.proofs.FewestLaws.{Ahead}
+use Rattle.digits.proofs.PercentLaws.{percent-of}
 
 whole-written : (n : ℕ) → written (wholeDigits 39 n, []) .digits ≡ n
 unfolding decimal

@@ -1,13 +1,13 @@
 -- A number as it is written, without its sign and a suffix: the digits before its point, and those behind it. Assumes nothing.
 use Prim.Native.Nat.{ℕ, _+_, _≤_, _<_}
 use mathlib.Core.Bool.{Bool, true, false, _&&_}
-use mathlib.Core.List.{List, [], _∷_, _++_}
+use mathlib.Core.List.{List, [], _∷_}
 use mathlib.Core.Option.{some}
 use mathlib.Core.Path.{_≡_}
 use lib.ListN.{length}
 use Rattle.text.specs.Limits.{wholeLimit, placesLimit}
 use Rattle.text.specs.Bytes.{decimal, isDigit}
-use Rattle.number.specs.Number.{Written, nearest, percent, whole, bits}
+use Rattle.number.specs.Number.{Written, whole}
 
 -- what a number is to the reader: an f32, a percent, a u32
 pub data Sort : Type 0 where

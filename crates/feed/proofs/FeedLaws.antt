@@ -1,5 +1,5 @@
 -- Laws of feeding: what records add to the totals, and the operation by cases of the answers. Assumes nothing.
-use Prim.Native.Nat.{ℕ, zero, suc, _+_, _≤_, _<_}
+use Prim.Native.Nat.{ℕ, suc, _+_, _≤_, _<_}
 use mathlib.Core.Bool.{Bool, true, false, _||_, cond}
 use mathlib.Core.List.{List, [], _∷_, _++_, map}
 use mathlib.Core.Option.{Option, none, some}
@@ -7,7 +7,7 @@ use mathlib.Core.Logic.{_⊎_, inl, inr}
 use mathlib.Core.Path.{_≡_, refl, sym, ap, _∙_, subst}
 use native.Mathlib.Omega.{arith}
 use lib.Dec.{eqb, leb, ltb}
-use lib.ListN.{length, getD, take, drop, length-append, length-drop, List·getD-eq-default}
+use lib.ListN.{length, getD, take, length-append, length-drop, List·getD-eq-default}
 use borrow.Author.Tests.{ltb-false, eq-eqb}
 use Rattle.error.specs.Refusal.{numberOf}
 use Rattle.error.specs.declared.Refusal.{Refusal}
@@ -18,7 +18,7 @@ use Rattle.error.specs.declared.CheckAnswer.{CheckAnswer}
 use Rattle.error.specs.declared.CheckAnswer.the-variants as check
 use Rattle.codec.specs.Codec.{big, opt, eachOut}
 use Rattle.ast.specs.Tree as tree
-use Rattle.ast.specs.Tree.{KeyframeTime, KeyframeEntry, Leaf, Container, single, holding}
+use Rattle.ast.specs.Tree.{KeyframeTime, KeyframeEntry, single, holding}
 use Rattle.sheet.specs.Sheet.{Node, Forest, spanForm, valueForm, easingForm, loopForm, timeForm, entryForm, sheet, whole, decode}
 use Rattle.sheet.specs.Records.{recordOf, nodesOf, kindOf, entriesOf}
 use Rattle.sheet.proofs.Flat.{concat}
@@ -32,9 +32,9 @@ use Rattle.validate.specs.Checking.{checking}
 use Rattle.totals.specs.Totals.{firstKindWord, entriesWord, figureLimit, sumOf, over, scripts, added, inWord}
 use Rattle.error.proofs.NumberLaws.{numbered}
 use Rattle.totals.proofs.TotalsLaws.{length-added, word-added, added-same, added-twice, added-none, within}
-use Rattle.script.proofs.OutputLaws.{Held, held}
-use Rattle.feed.specs.Feed.{Fed, fed, readOf, whenRead, judgement, numberIn, nodesIn}
-use Rattle.feed.specs.Feed.{sheetNodes, ifAccepted, nodes, nodeFigure, full, feeding}
+use Rattle.script.proofs.OutputLaws.{held}
+use Rattle.feed.specs.Feed.{fed, readOf, whenRead, judgement, numberIn, nodesIn}
+use Rattle.feed.specs.Feed.{sheetNodes, ifAccepted, nodes, full, feeding}
 use Rattle.feed.specs.Means.{Words, IsSheet, nodesAdd, judgedAdd}
 use Rattle.error.specs.declared.FeedAnswer.{FeedAnswer}
 use Rattle.error.specs.declared.FeedAnswer.the-variants.{Counted, Refused}

@@ -11,15 +11,15 @@ use lib.ListN.{length, take, drop, getElem?}
 use Rattle.text.specs.Bytes.{bytes, same, oneOf, part}
 use Rattle.text.specs.Words.{find}
 use Rattle.text.proofs.WordLaws.{find-here, find-past, same-eq}
-use Rattle.token.specs.Token.{Kind, name, number, quoted, mark, Token, kind, isMark, rest}
+use Rattle.token.specs.Token.{Kind, name, number, quoted, mark, kind, isMark}
 use Rattle.token.specs.Names.{wordOf}
 use Rattle.token.specs.Means.{kindOf}
 use Rattle.token.specs.declared.Tok.{Tok}
 use Rattle.token.specs.declared.Tok.the-variants.{Name, Num, Quoted, Mark}
 use Rattle.error.specs.declared.Refusal.{Refusal}
 use Rattle.error.specs.declared.Refusal.the-variants.{Missing}
-use Rattle.grammar.specs.Rule.{isWord, seesBytes, word, Notes, Out, got, refused, after, Rule, Next}
-use Rattle.grammar.specs.Rule.{more, done, next, iterate, listStep, eat, goOn, give, _>>=_, ends}
+use Rattle.grammar.specs.Rule.{isWord, seesBytes, word, Out, got, refused, after, Rule, Next}
+use Rattle.grammar.specs.Rule.{more, next, iterate, listStep, eat, goOn, give, _>>=_, ends}
 use Rattle.grammar.specs.Fields.{Item, halts, closes, passes, starts, itemOf, Table, Fields, Entry, Content, rowOf}
 use Rattle.grammar.specs.Fields.{fieldHead, fieldValue, fieldName, pairName, entry, oneField, fieldsStep, onePair}
 use Rattle.cursor.specs.Means.{Ready, notes, tokens, run, Took, Follows, WordMeans, spelled}
@@ -29,7 +29,7 @@ use Rattle.cursor.specs.declared.WordRead.the-variants as words
 use Rattle.ast.specs.declared.Span.{Span}
 use Rattle.fields.specs.declared.NextField.{NextField}
 use Rattle.fields.specs.declared.NextField.the-variants as found
-use Rattle.cursor.proofs.CursorLaws.{took, head-moves, moved-low}
+use Rattle.cursor.proofs.CursorLaws.{took, head-moves}
 use Rattle.fields.specs.Means.{NameMeans, HeadMeans, StartMeans, FieldMeans, PairMeans}
 use Rattle.fields.specs.Means.{names, headBehind, RowAt, Gives, FieldAt, PairAt}
 

@@ -1,15 +1,14 @@
 -- A list that is read in a loop: what the loop has so far, and what it gives. Assumes nothing.
-use Prim.Native.Nat.{ℕ, suc, _+_, _≤_, _<_}
-use Prim.Native.String.{String}
-use mathlib.Core.Bool.{Bool, true, false}
-use mathlib.Core.List.{List, [], _∷_}
-use mathlib.Core.Path.{_≡_, refl, sym, ap, _∙_}
+use Prim.Native.Nat.{ℕ, suc, _≤_, _<_}
+use mathlib.Core.Bool.{true, false}
+use mathlib.Core.List.{List, _∷_}
+use mathlib.Core.Path.{_≡_}
 use native.Mathlib.Omega.{arith}
 use lib.ListN.{length}
 use Rattle.text.specs.Bytes.{bytes}
 use Rattle.error.specs.declared.Refusal.{Refusal}
-use Rattle.grammar.specs.Rule.{Out, got, refused, Rule, Next, iterate, repeat, listStep, eatByte}
-use Rattle.grammar.specs.Fields.{Table, Fields, Content, fieldValue, fieldsStep, onePair, pairs, parseFieldList}
+use Rattle.grammar.specs.Rule.{Out, got, refused, Rule, Next, repeat, listStep, eatByte}
+use Rattle.grammar.specs.Fields.{Table, Fields, Content, fieldValue, fieldsStep, onePair}
 use Rattle.cursor.specs.Means.{Ready, notes, tokens, run, Took}
 use Rattle.cursor.specs.declared.Cursor.{Cursor}
 use Rattle.fields.specs.Means.{Gives, FieldAt, PairAt}

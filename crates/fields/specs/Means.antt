@@ -1,21 +1,18 @@
 -- What the next field of a list is, in terms of the grammar's rules. Contracts cite these. Assumes nothing.
-use Prim.Native.Nat.{ℕ, suc, _+_, _≤_, _<_}
+use Prim.Native.Nat.{ℕ, _+_, _≤_, _<_}
 use Prim.Native.String.{String}
 use mathlib.Core.List.{List, [], _∷_}
-use mathlib.Core.Option.{Option, none, some}
+use mathlib.Core.Option.{some}
 use mathlib.Core.Path.{_≡_}
 use lib.ListN.{length, getElem?}
 use Rattle.text.specs.Bytes.{bytes}
-use Rattle.text.specs.Words.{words}
-use Rattle.token.specs.Token.{Token}
 use Rattle.ast.specs.declared.Span.{Span}
-use Rattle.error.specs.declared.Refusal.{Refusal}
 use Rattle.error.specs.declared.Refusal.the-variants as cause
-use Rattle.grammar.specs.Rule.{Notes, Out, got, refused, after, Rule, Next, next}
-use Rattle.grammar.specs.Rule.{iterate, listStep, eat, goOn, give, _>>=_, _>>_, the, need}
+use Rattle.grammar.specs.Rule.{Out, got, refused, after, Rule, Next, next}
+use Rattle.grammar.specs.Rule.{iterate, listStep, eat, goOn, _>>=_, _>>_, the, need}
 use Rattle.grammar.specs.Fields as fields
-use Rattle.grammar.specs.Fields.{Table, Fields, Entry, Content, rowOf, fieldHead, fieldValue}
-use Rattle.grammar.specs.Fields.{fieldName, pairName, fieldsStep, onePair, parseFieldList, pairs}
+use Rattle.grammar.specs.Fields.{Table, Fields, Content, rowOf, fieldHead, fieldValue}
+use Rattle.grammar.specs.Fields.{fieldsStep, onePair}
 use Rattle.cursor.specs.Means.{Ready, notes, tokens, run, Took, spelled}
 use Rattle.cursor.specs.declared.Cursor.{Cursor}
 use Rattle.cursor.specs.declared.WordRead.{WordRead}

@@ -5,7 +5,7 @@ ghost use mathlib.Core.List.{List};
 ghost use Prim.Native.Nat.{ℕ};
 ghost use Rattle.token.specs.Means.{kindOf};
 ghost use Rattle.text.specs.Words.{table};
-ghost use Rattle.grammar.specs.Fields.{itemOf, pairName, fieldName, Table};
+ghost use Rattle.grammar.specs.Fields.{itemOf, fieldName, Table};
 ghost use Rattle.cursor.specs.Means.{Ready};
 ghost use Rattle.fields.specs.Means.{itemIs, NameMeans, names, HeadMeans, StartMeans, FieldMeans, PairMeans};
 use ast::Span;

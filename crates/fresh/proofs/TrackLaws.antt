@@ -23,7 +23,7 @@ use Rattle.pieces.specs.Fits.{AllFit}
 use Rattle.pieces.proofs.SignLaws.{nearest-signed, percent-signed}
 use Rattle.fresh.specs.Meaning.{EasingSense, named, cubicBezier, steps, wiggle, rough, slowMo}
 use Rattle.fresh.specs.Meaning.{optionSense, FrameSense, TrackSense, framesSense, leafSense, keyframes}
-use Rattle.fresh.specs.Fresh.{mark, negative, minusIf, signedBy, f32, value, easing, loopMode}
+use Rattle.fresh.specs.Fresh.{mark, negative, minusIf, signedBy, f32, value, easing}
 use Rattle.fresh.specs.Fresh.{time, frameEasing, frame, trackLoop, moreFrames, track, leafBody}
 use Rattle.fresh.proofs.ReadLaws.{Reads, Loops, IsMore, IsDone, gives, then, first, and, tallies, yes-if}
 use Rattle.fresh.proofs.ReadLaws.{no-if, yes-fit, less, weaken-loops, the-mark, skips-mark}

@@ -8,12 +8,11 @@ use mathlib.Core.Option.{Option, none, some}
 use lib.Dec.{eqb}
 use Rattle.text.specs.Words.{default}
 use Rattle.text.specs.Words as words
-use Rattle.number.specs.Number.{Written, nearest, bits}
+use Rattle.number.specs.Number.{nearest, bits}
 use Rattle.number.specs.Rounded.{numberRounded, timeRounded}
 use Rattle.number.specs.Time.{Key, storedTime}
 use Rattle.ast.specs.Tree.{
   noise,
-  DampingMode,
   criticallyDamped,
   overdamped,
   underdamped,
@@ -42,7 +41,7 @@ use Rattle.ast.specs.Tree.{
 }
 use Rattle.grammar.specs.Fields.{Content, aNumber, aDamping, aRange, Table, pairs, parseFieldList}
 use Rattle.grammar.specs.Fields.{lastNumber, lastTruth, lastEasing, lastLoopMode, lastValue, lastDamping, lastRange, ever}
-use Rattle.grammar.specs.Values.{ident, string, parseFloat, parseUint, parseFloatInParens, parseTwoFloatsInParens}
+use Rattle.grammar.specs.Values.{ident, string, parseFloat, parseFloatInParens, parseTwoFloatsInParens}
 use Rattle.grammar.specs.Values.{parseValue, f32Of, parseEasing, parseLoopMode, number, count, flag, value, easing, loopMode}
 use Rattle.grammar.specs.Rule.{Rule, _>>=_, _>>_, give, refuse, need, if, sees, seesWord, seesName, seesNumber, ends}
 use Rattle.grammar.specs.Rule.{skip, the, both, eat, word, choice, signed, counted, inside, repeat, Next, more, done, goOn}

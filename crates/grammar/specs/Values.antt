@@ -1,14 +1,13 @@
 -- parser.rs, "Numeric helpers" and "Value / Easing / Loop primitives", callees first. Assumes nothing.
 use Prim.Native.Nat.{ℕ}
 use Prim.Native.String.{String}
-use mathlib.Core.Bool.{Bool, true, false, _&&_, cond}
+use mathlib.Core.Bool.{Bool, true, false, _&&_}
 use mathlib.Core.List.{List, [], _∷_, _++_}
-use mathlib.Core.Option.{Option, none, some}
 use lib.ListN.{length}
 use lib.Ieee.{binary32, round}
 use Rattle.text.specs.Bytes.{bytes, same}
 use Rattle.text.specs.Words.{under, default}
-use Rattle.number.specs.Number.{Written, nearest, whole, bits}
+use Rattle.number.specs.Number.{nearest, whole, bits}
 use Rattle.number.specs.Rounded.{numberRounded}
 use Rattle.ast.specs.Tree.{
   Span,
@@ -31,8 +30,8 @@ use Rattle.ast.specs.Tree.{
 }
 use Rattle.grammar.specs.Fields.{Content, aNumber, aTruth, anEasing, aLoopMode, aValue, Table, pairs, lastNumber}
 use Rattle.grammar.specs.Rule.{Rule, _>>=_, _>>_, give, refuse, need, if, sees, seesTwo, seesWord, seesNumber}
-use Rattle.grammar.specs.Rule.{seesWhole, skip, the, both, word, text, choice, signed, counted, inside, list}
-use Rattle.error.specs.declared.Refusal.the-variants.{Missing, Malformed, UnknownKeyword}
+use Rattle.grammar.specs.Rule.{seesWhole, skip, the, both, word, text, signed, counted, inside, list}
+use Rattle.error.specs.declared.Refusal.the-variants.{Missing, Malformed}
 
 -- a name as its place
 unfoldable pub ident : Rule Span

@@ -1,7 +1,6 @@
 // parser.rs: what stands between a container's keyword and its block. `sequence` and `parallel` have nothing there.
 // The functions are for our own crates: each requires a cursor that stands in the text.
 ghost use mathlib.Core.Path.{_≡_};
-ghost use Prim.Native.Nat.{ℕ};
 ghost use Rattle.text.specs.Words.{default};
 ghost use Rattle.encode.specs.Of.{optWordOf, optCaseOf};
 ghost use Rattle.grammar.specs.Grammar.{gridFields, gridPattern, randomFields, randomPattern, parseStaggerPattern};

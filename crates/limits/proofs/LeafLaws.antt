@@ -1,5 +1,5 @@
 -- Each rule for a node that holds no others gives one that fits the sheet, and whose record the text pays for. Assumes nothing.
-use Prim.Native.Nat.{ℕ, _+_, _-_, _*_, _≤_, _<_}
+use Prim.Native.Nat.{ℕ, _+_, _*_, _≤_, _<_}
 use mathlib.Core.Bool.{Bool, true, false, cond}
 use mathlib.Core.List.{List, [], _∷_}
 use mathlib.Core.Option.{Option, none, some}
@@ -22,7 +22,7 @@ use Rattle.number.specs.Time.{Key}
 use Rattle.ast.specs.Tree.{Span, ValueExpr, DampingMode, criticallyDamped, overdamped, underdamped, TweenSpec, SpringSpec}
 use Rattle.ast.specs.Tree.{PathSpec, MorphSpec, DrawSpec, ColorSpec, WaveformSpec, PresetCall, Leaf, single, mapLeaf}
 use Rattle.sheet.specs.Sheet.{Forest, word, valueForm, nodeForm, tweenForm, springForm, waveformForm, presetForm}
-use Rattle.sheet.proofs.Laws.{flagL, dampingL, tweenL, pathL, morphL, drawL, colorL, startL, nodeL}
+use Rattle.sheet.proofs.Laws.{flagL, dampingL, pathL, morphL, drawL, colorL, startL, nodeL}
 use Rattle.error.specs.declared.Refusal.the-variants.{MissingDuration, Malformed, UnknownSpringPreset}
 use Rattle.grammar.specs.Rule.{Rule, _>>_, give, if, sees, skip, inside}
 use Rattle.grammar.specs.Fields.{Fields, aDamping, pairs, parseFieldList, lastNumber}

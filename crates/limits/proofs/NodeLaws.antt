@@ -1,7 +1,7 @@
 -- Nodes and blocks, by the number of containers that may still nest. Assumes nothing.
-use Prim.Native.Nat.{ℕ, zero, suc, _+_, _-_, _*_, _≤_, _<_}
+use Prim.Native.Nat.{ℕ, zero, suc, _+_, _*_, _≤_, _<_}
 use Prim.Native.String.{String}
-use mathlib.Core.List.{List, [], _++_}
+use mathlib.Core.List.{List, []}
 use mathlib.Core.Option.{Option, none, some}
 use mathlib.Core.Path.{_≡_, refl, ap, _∙_}
 use native.Mathlib.Omega.{arith}
@@ -11,14 +11,14 @@ use Rattle.text.specs.Limits.{textLimit}
 use Rattle.text.specs.Bytes.{bytes}
 use Rattle.text.specs.Words.{under}
 use Rattle.number.specs.Time.{Key}
-use Rattle.codec.specs.Codec.{Form, big, opt}
+use Rattle.codec.specs.Codec.{Form, big}
 use Rattle.codec.proofs.Laws.{All, Law}
 use Rattle.encode.proofs.FieldLaws.{small, length-big}
 use Rattle.ast.specs.Tree as tree
 use Rattle.ast.specs.Tree.{Leaf, Container, KeyframeTime, Nodes, leaf, box, MotionNode, single, holding, push, append}
 use Rattle.ast.specs.Tree.{width, records, mapLeaf, mapTimes}
 use Rattle.sheet.specs.Sheet as sheets
-use Rattle.sheet.specs.Sheet.{Forest, Node, word, nodeForm, forest}
+use Rattle.sheet.specs.Sheet.{Forest, Node, nodeForm, forest}
 use Rattle.sheet.proofs.Laws.{startL, nodeL, OkNodes, innerL}
 use Rattle.error.specs.declared.Refusal.the-variants.{Missing, TooManyNested}
 use Rattle.grammar.specs.Rule.{Rule, give, refuse, ends, sees, repeat, more}

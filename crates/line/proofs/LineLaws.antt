@@ -11,7 +11,6 @@ use lib.Dec.{ltb, leb}
 use lib.ListN.{length, getD, drop, getElem?, drop-of-length-le, length-append}
 use lib.Seq.{sets, sets-eq, drop-cons, take-all}
 use borrow.Author.Tests.{leb-true, leb-false, le-leb, lt-leb, le-ltb, lt-ltb}
-use Rattle.error.specs.Answer.{lineValues}
 use Rattle.error.specs.declared.Refusal.{Refusal}
 use Rattle.error.specs.declared.Refusal.the-variants.{OutputTooShort}
 use Rattle.error.specs.declared.LineAnswer.{LineAnswer}
@@ -25,7 +24,7 @@ use Rattle.records.specs.declared.RecordAt.{RecordAt}
 use Rattle.records.specs.Record.{bytesAt, Located}
 use Rattle.opening.specs.declared.Opening.the-variants.{Open, Shut}
 use Rattle.opening.specs.Means.{answerOf}
-use Rattle.opening.proofs.OpenLaws.{Tree, the-tree, the-refusal}
+use Rattle.opening.proofs.OpenLaws.{the-tree, the-refusal}
 use Rattle.line.specs.Line.{digit, hex, total, covered, checkByte, spelled, line}
 use Rattle.line.specs.Lining.{placed, ofRecord, ofOpened, lining}
 

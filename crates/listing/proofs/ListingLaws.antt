@@ -19,7 +19,6 @@ use Rattle.calls.specs.Calls.{calls}
 use Rattle.calls.specs.Means.{Filled}
 use Rattle.book.proofs.HeldLaws.{few-items}
 use Rattle.listing.specs.Listing.{put, listingOf, listing}
-use Rattle.error.specs.Answer.{orderValues}
 use Rattle.error.specs.declared.OrderAnswer.{OrderAnswer}
 use Rattle.error.specs.declared.OrderAnswer.the-variants as answer
 

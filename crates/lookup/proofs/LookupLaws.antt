@@ -2,7 +2,7 @@
 use Prim.Native.Nat.{ℕ, _+_, _*_, _<_}
 use mathlib.Core.List.{List, [], _∷_}
 use mathlib.Core.Option.{Option, none, some}
-use mathlib.Core.Path.{_≡_, refl, ap, _∙_}
+use mathlib.Core.Path.{_≡_, refl, _∙_}
 use native.Mathlib.Omega.{arith}
 use lib.ListN.{length, getD, getElem?}
 use Rattle.text.specs.Words.{find}
@@ -11,7 +11,6 @@ use Rattle.error.specs.declared.Refusal.the-variants.{NoSuchItem}
 use Rattle.book.specs.Book.{Item, Book, held, wrong, names, book}
 use Rattle.book.specs.Means.{Held}
 use Rattle.book.proofs.HeldLaws.{found-low}
-use Rattle.error.specs.Answer.{lookupValues}
 use Rattle.lookup.specs.Lookup.{named, found, inBooks, lookingUp}
 use Rattle.lookup.specs.Means.{placed, looked}
 use Rattle.lookup.specs.declared.Place.{Place}

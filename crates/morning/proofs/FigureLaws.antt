@@ -1,8 +1,7 @@
 -- What one script adds to each word. Assumes nothing.
-use Prim.Native.Nat.{ℕ, zero, suc, _+_, _*_, _≤_, _<_}
-use mathlib.Core.Bool.{Bool, true, false, cond}
-use mathlib.Core.List.{List, [], _∷_, _++_, map}
-use mathlib.Core.Option.{some}
+use Prim.Native.Nat.{ℕ, zero, suc, _+_, _≤_, _<_}
+use mathlib.Core.Bool.{Bool, true, false}
+use mathlib.Core.List.{List, [], _∷_}
 use mathlib.Core.Logic.{_⊎_, inl, inr}
 use mathlib.Core.Path.{_≡_, refl, sym, ap, _∙_}
 use native.Mathlib.Nat.{le-of-suc-le-suc}
@@ -23,7 +22,7 @@ use Rattle.sheet.proofs.Flat.{concat, records-are}
 use Rattle.parser.specs.Reading.{reading}
 use Rattle.validate.specs.Checking.{isList, checking}
 use Rattle.validate.proofs.ListLaws.{unlisted-opened as checking-unlisted}
-use Rattle.script.proofs.OutputLaws.{Held, held}
+use Rattle.script.proofs.OutputLaws.{held}
 use Rattle.totals.specs.Totals.{sumOf, itself, addedFrom, added, inWord}
 use Rattle.error.proofs.NumberLaws.{numbered}
 use Rattle.feed.specs.Feed.{Fed, readOf, whenRead, judgement, numberIn, nodesIn, sheetNodes, nodes, nodeFigure, figure}

@@ -1,24 +1,23 @@
 -- The totals after at most 4,096 feeds. Assumes nothing.
 use Prim.Native.Nat.{ℕ, suc, _+_, _*_, _≤_, _<_}
-use mathlib.Core.Bool.{Bool, true, false, _||_, cond}
+use mathlib.Core.Bool.{true, false}
 use mathlib.Core.List.{List, [], _∷_, _++_, append-nil}
 use mathlib.Core.Logic.{_⊎_, inl, inr}
-use mathlib.Core.Path.{_≡_, refl, sym, ap, _∙_, subst}
+use mathlib.Core.Path.{_≡_, refl, sym, ap, _∙_}
 use native.Mathlib.Nat.{suc-mul}
 use native.Mathlib.Omega.{arith}
-use lib.Dec.{ltb, leb}
-use lib.ListN.{length, getD, take, drop, length-append, length-replicate, getD-replicate, List·getD-eq-default}
+use lib.ListN.{length, getD, length-append, length-replicate, getD-replicate, List·getD-eq-default}
 use lib.Seq.{append-snoc}
-use borrow.Author.Tests.{le-ltb, le-leb, lt-leb}
+use borrow.Author.Tests.{le-ltb, lt-leb}
 use Rattle.decode.proofs.ReadLaws.{le-or-lt}
 use Rattle.error.specs.declared.Refusal.the-variants.{TooManyScripts}
-use Rattle.totals.specs.Totals.{scriptLimit, figureLimit, emptyTotals, sumOf, itself, over, scripts, added}
+use Rattle.totals.specs.Totals.{scriptLimit, figureLimit, emptyTotals, sumOf, over, scripts, added}
 use Rattle.totals.specs.Mean.{nodeRecords}
 use Rattle.totals.proofs.TotalsLaws.{length-added, word-added}
 use Rattle.feed.specs.Feed.{Fed, readOf, judgement, figure, full, feeding}
 use Rattle.error.specs.declared.FeedAnswer.{FeedAnswer}
 use Rattle.error.specs.declared.FeedAnswer.the-variants.{Counted, Refused}
-use Rattle.morning.specs.Morning.{after, under, kindCount, entryCount, acceptCount, Figures, Morning}
+use Rattle.morning.specs.Morning.{after, under, kindCount, entryCount, acceptCount, Morning}
 use Rattle.morning.proofs.FigureLaws.{sum-same, figure-number, figure-kind, figure-entries, figure-small, sum-added}
 use Rattle.morning.proofs.FigureLaws.{figure-in-numbers, figure-in-kinds, nodes-are}
 

@@ -1,10 +1,10 @@
 -- A leaf is taken, and its fields are written. Assumes nothing.
-use Prim.Native.Nat.{ℕ, _+_, _*_, _-_, _≤_}
+use Prim.Native.Nat.{ℕ}
 use mathlib.Core.Bool.{Bool, true, false, not, cond}
-use mathlib.Core.List.{List, [], _∷_, _++_}
-use mathlib.Core.Path.{_≡_, refl, sym, _∙_}
+use mathlib.Core.List.{List}
+use mathlib.Core.Path.{_≡_, sym}
 use native.Mathlib.Omega.{arith}
-use lib.ListN.{length, length-append}
+use lib.ListN.{length}
 use Rattle.number.specs.Number.{nearest, bits}
 use Rattle.number.specs.Rounded.{numberRounded}
 use Rattle.token.specs.Means.{writtenIn}
@@ -16,12 +16,11 @@ use Rattle.encode.specs.Of.{spanOf}
 use Rattle.encode.specs.Writes.{Writes}
 use Rattle.encode.proofs.OverLaws.{writes-then}
 use Rattle.encode.proofs.FieldLaws.{length-word, length-span}
-use Rattle.error.specs.declared.Refusal.{Refusal}
 use Rattle.error.specs.declared.Refusal.the-variants.{Missing, Malformed}
-use Rattle.grammar.specs.Rule.{Rule, refused, text, theByte, eatByte, signed, seesNumber, absent}
+use Rattle.grammar.specs.Rule.{refused, text, theByte, eatByte, seesNumber, absent}
 use Rattle.grammar.specs.Values.{string}
 use Rattle.grammar.specs.Grammar.{parseLabel, atSign, turned, parseAt}
-use Rattle.cursor.specs.Means.{Ready, run, tokens, Took, tallied, Numbers}
+use Rattle.cursor.specs.Means.{run, tokens, Took, tallied, Numbers}
 use Rattle.cursor.specs.declared.Cursor.{Cursor}
 use Rattle.cursor.proofs.CursorLaws.{took-number}
 use Rattle.arrays.specs.Means.{Went}

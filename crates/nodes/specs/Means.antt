@@ -1,6 +1,6 @@
 -- What a leaf's function answers: the leaf is taken, and its fields are written. Contracts cite these. Assumes nothing.
 use Prim.Native.Nat.{ℕ}
-use mathlib.Core.Bool.{Bool, true, false, cond}
+use mathlib.Core.Bool.{Bool}
 use mathlib.Core.List.{List}
 use mathlib.Core.Path.{_≡_}
 use lib.ListN.{length}
@@ -8,7 +8,7 @@ use Rattle.number.specs.Time.{Key}
 use Rattle.ast.specs.Tree.{Leaf, tween, spring, keyframes, path, morph, draw, color, waveform, preset, label, at, KeyframeTime, mapLeaf}
 use Rattle.sheet.specs.Sheet.{tweenForm, springForm, keyframesForm, pathForm, morphForm, drawForm, colorForm, waveformForm, presetForm}
 use Rattle.sheet.specs.Sheet.{spanForm, atForm}
-use Rattle.grammar.specs.Rule.{Rule, refused, give, eat}
+use Rattle.grammar.specs.Rule.{Rule, refused}
 use Rattle.grammar.specs.Grammar.{stored, atSign}
 use Rattle.cursor.specs.Means.{run, Took}
 use Rattle.cursor.specs.declared.Cursor.{Cursor}

@@ -1,13 +1,11 @@
 // parser.rs: the nodes that hold no others and no values of several numbers. Each is read behind its keyword, and its fields are written at `out`.
 // The functions are for our own crates: each requires a cursor that stands in a text of at most 16,384 bytes, and a place below 2^30.
 ghost use mathlib.Core.Path.{_≡_};
-ghost use mathlib.Core.Bool.{Bool, not, cond};
-ghost use Rattle.number.specs.Number.{nearest};
-ghost use Rattle.grammar.specs.Grammar.{parseLabel, parseAt, parseDraw, drawFields};
+ghost use mathlib.Core.Bool.{not, cond};
+ghost use Rattle.grammar.specs.Grammar.{parseLabel, parseAt};
 ghost use Rattle.cursor.specs.Means.{Ready};
 ghost use Rattle.arrays.specs.Means.{Room};
 ghost use Rattle.nodes.specs.Means.{LeafMeans, SignMeans};
-use ast::Span;
 use cursor::Cursor;
 use cursor::MarkRead;
 use cursor::NumberRead;

@@ -6,7 +6,7 @@ use lib.Dec.{T, ltb}
 use lib.IntN.{pos}
 use lib.Ieee.{Float, nan, inf, fin, binary32, size, odd, units, round, div, unlike, up, down, isNan, fits}
 use lib.Ieee.Fits.{round-is, round-fits, div-fits}
-use lib.Ieee.Bits.{ofBits-toBits, toBits-ofBits, toBits-lt, ofBits-fits, nanBits-is, nanBits-above}
+use lib.Ieee.Bits.{ofBits-toBits, toBits-lt, ofBits-fits, nanBits-is, nanBits-above}
 use lib.Ieee.Nearest.{closest}
 use Rattle.number.specs.Number.{Written, nearest, percent, bits, f32}
 use Rattle.number.specs.Time.{Key, storedTime}

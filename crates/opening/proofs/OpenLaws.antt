@@ -14,7 +14,7 @@ use Rattle.text.specs.Limits.{textLimit}
 use Rattle.text.specs.Bytes.{isForeign}
 use Rattle.text.specs.Words.{isSome}
 use Rattle.error.specs.declared.Refusal.{Refusal}
-use Rattle.error.specs.declared.Refusal.the-variants.{TextTooLong, BadForm, NotASheet}
+use Rattle.error.specs.declared.Refusal.the-variants.{TextTooLong, NotASheet}
 use Rattle.sheet.specs.Sheet.{Forest, decode}
 use Rattle.sheet.specs.Opening.{foreignFrom, Opened, opened, shut, decoded, unlessForeign, opening}
 use Rattle.opening.specs.Means.{answerOf, earlier, foreignAnswer, textAnswer, bytesAnswer}

@@ -1,5 +1,5 @@
 -- Laws of reading: its parts, and the whole in its order. Assumes nothing.
-use Prim.Native.Nat.{ℕ, _+_, _-_, _≤_, _<_}
+use Prim.Native.Nat.{ℕ, _-_, _≤_, _<_}
 use mathlib.Core.Bool.{Bool, true, false}
 use mathlib.Core.List.{List, [], _++_}
 use mathlib.Core.Option.{none, some}
@@ -9,7 +9,6 @@ use native.Mathlib.Nat.{zero-add, sub-zero}
 use borrow.Author.Tests.{lt-ltb, le-ltb, ltb-false, eqb-true}
 use lib.Dec.{ltb, eqb}
 use lib.ListN.{length, take, replicate}
-use Rattle.error.specs.Answer.{readValues}
 use Rattle.text.specs.Limits.{textLimit}
 use Rattle.codec.specs.Codec.{big}
 use Rattle.token.specs.Split.{awaits, Split, unlexed, tokens, split}

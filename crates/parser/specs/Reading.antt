@@ -10,7 +10,7 @@ use Rattle.token.specs.Split.{Split, unlexed, tokens, split}
 use Rattle.number.specs.Time.{Key}
 use Rattle.ast.specs.Tree.{Nodes, mapTimes, records}
 use Rattle.sheet.specs.Sheet.{encode}
-use Rattle.grammar.specs.Rule.{Notes, Out, got, refused}
+use Rattle.grammar.specs.Rule.{Out, got, refused}
 use Rattle.grammar.specs.Grammar.{stored, animatoInput}
 use Rattle.error.specs.declared.Refusal.{Refusal}
 use Rattle.error.specs.declared.Refusal.the-variants.{TextTooLong, ScratchTooShort, Leftover, SheetTooShort}

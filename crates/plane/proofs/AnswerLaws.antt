@@ -15,7 +15,6 @@ use Rattle.opening.specs.Means.{textAnswer, foreignAnswer}
 use Rattle.opening.specs.declared.Opening.{Opening}
 use Rattle.opening.specs.declared.Opening.the-variants.{Open, Shut}
 use Rattle.planed.specs.Planes.{planed, unplaned}
-use Rattle.error.specs.Answer.{lineValues}
 use Rattle.error.specs.declared.Refusal.{Refusal}
 use Rattle.error.specs.declared.Refusal.the-variants.{TextTooLong, NotASheet, NotPlaned, OutputTooShort}
 use Rattle.error.specs.declared.LineAnswer.{LineAnswer}

@@ -2,7 +2,7 @@
 use Prim.Native.Nat.{ℕ, zero, suc, _+_, _*_, _-_, _/_, _%_, _≤_, _<_}
 use mathlib.Core.Bool.{Bool, true, false, cond}
 use mathlib.Core.List.{List, [], _∷_, _++_}
-use mathlib.Core.Option.{Option, none, some}
+use mathlib.Core.Option.{none}
 use mathlib.Core.Path.{_≡_, refl, sym, ap, _∙_}
 use native.Mathlib.Omega.{arith}
 use native.Mathlib.Numerals.{add-one}
@@ -21,7 +21,6 @@ use Rattle.error.specs.declared.LineAnswer.the-variants as lined
 use Rattle.text.specs.Bytes.{part}
 use Rattle.text.specs.Write.{Puts}
 use Rattle.text.proofs.WriteLaws.{puts-then}
-use Rattle.sheet.specs.Sheet.{Forest, decode}
 use Rattle.sheet.specs.Records.{allRecords}
 use Rattle.sheet.proofs.Flat.{concat}
 use Rattle.records.proofs.PlaceLaws.{Stands, no-more}
@@ -32,7 +31,7 @@ use Rattle.validate.specs.Checking.{checking}
 use Rattle.script.specs.Output.{decimalOut, accept, refusal, whenChecked, whenRead, printed}
 use Rattle.script.specs.Output.{output, paged, printing, lineBytes, sheetBytes, pageBytes}
 use Rattle.script.specs.Means.{linesOf}
-use Rattle.script.proofs.OutputLaws.{Held, held, lines-held, printed-small}
+use Rattle.script.proofs.OutputLaws.{held, lines-held, printed-small}
 use Rattle.print.specs.Means.{Lines}
 
 -- ---- words and numbers

@@ -2,12 +2,12 @@
 use Prim.Native.Nat.{ℕ, zero, suc, _+_, _*_, _-_, _/_, _%_, _≤_}
 use mathlib.Core.Bool.{Bool, true, false, cond}
 use mathlib.Core.List.{List, [], _∷_, _++_}
-use mathlib.Core.Option.{Option, none, some}
+use mathlib.Core.Option.{some}
 use mathlib.Core.Path.{_≡_, refl, sym, ap, _∙_}
 use native.Mathlib.Omega.{arith}
 use lib.Dec.{ltb}
 use lib.ListN.{length, take, drop, getElem?, replicate, length-append, length-drop}
-use lib.Seq.{drop-drop, take-append-seam, take-at}
+use lib.Seq.{take-append-seam, take-at}
 use borrow.Author.Tests.{ltb-false}
 use Rattle.text.specs.Limits.{textLimit}
 use Rattle.text.specs.Bytes.{bytes}
@@ -20,11 +20,9 @@ use Rattle.error.specs.declared.CheckAnswer.{CheckAnswer}
 use Rattle.error.specs.declared.CheckAnswer.the-variants as check
 use Rattle.error.specs.declared.LineAnswer.{LineAnswer}
 use Rattle.error.specs.declared.LineAnswer.the-variants as lined
-use Rattle.number.specs.Time.{Key}
-use Rattle.codec.specs.Codec.{big}
-use Rattle.ast.specs.Tree.{Nodes, leaf, box, single, holding, width, records, mapTimes}
-use Rattle.sheet.specs.Sheet.{Forest, encode, decode}
-use Rattle.sheet.specs.Records.{recordOf, recordsOf, allRecords}
+use Rattle.ast.specs.Tree.{Nodes, leaf, box, records, mapTimes}
+use Rattle.sheet.specs.Sheet.{Forest, decode}
+use Rattle.sheet.specs.Records.{recordsOf, allRecords}
 use Rattle.sheet.specs.Opening.{opened, opening}
 use Rattle.sheet.proofs.Laws.{decodes}
 use Rattle.sheet.proofs.Flat.{concat, sheet-flat}

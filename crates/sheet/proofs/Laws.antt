@@ -1,5 +1,5 @@
 -- The forms of the sheet are lawful: decoding undoes encoding, and only what encoding gives is decoded. Assumes nothing.
-use Prim.Native.Nat.{ℕ, zero, suc, _+_, _<_, _≤_}
+use Prim.Native.Nat.{ℕ, zero, suc, _<_, _≤_}
 use mathlib.Core.Bool.{Bool, true, false, cond}
 use mathlib.Core.List.{List, [], _∷_, _++_, append-nil}
 use mathlib.Core.Option.{Option, none, some, Option·some-injective}
@@ -9,11 +9,10 @@ use native.Mathlib.Omega.{arith}
 use borrow.Author.Tests.{eqb-true, le-ltb, ltb-false}
 use lib.Dec.{ltb, eqb}
 use lib.ListN.{length}
-use Rattle.codec.specs.Codec.{Form, empty, below, _▹_, via, big, sized, Case, FieldsAt}
-use Rattle.codec.proofs.Laws.{Lawful, Law, Small, makeAt, EachCase, emptyL, neverL, belowL, bigL, _&_, suchL, manyL, optL}
+use Rattle.codec.specs.Codec.{Form, empty, below, _▹_, sized}
+use Rattle.codec.proofs.Laws.{Lawful, Law, Small, makeAt, emptyL, neverL, belowL, bigL, _&_, suchL, manyL, optL}
 use Rattle.codec.proofs.Laws.{structL, enumL, same-lawful, via-lawful, both-lawful, sized-lawful, empty-lawful, below-lawful}
 use Rattle.ast.specs.Tree.{
-  Span,
   ValueExpr,
   scalar,
   array,
@@ -60,7 +59,6 @@ use Rattle.ast.specs.Tree.{
   Nodes,
   leaf,
   box,
-  MotionNode,
   single,
   holding,
   push,

@@ -2,7 +2,7 @@
 -- 02 (k) takes the numbers of frames out of a sheet, so a frame's time and scalar value have w bytes each (`..Of w`): 4 in a sheet, 0 where
 -- they are taken out.
 use Prim.Native.Nat.{ℕ, zero, suc, _+_}
-use mathlib.Core.Bool.{Bool, true, false, cond}
+use mathlib.Core.Bool.{Bool, cond}
 use mathlib.Core.List.{List, [], _∷_}
 use mathlib.Core.Option.{Option, none, some}
 use lib.Dec.{leb, ltb, eqb}
@@ -49,7 +49,6 @@ use Rattle.ast.specs.Tree.{
   WaveformSpec,
   PresetCall,
   AtSpec,
-  Leaf,
   tween,
   spring,
   keyframes,

@@ -1,17 +1,17 @@
 -- What the grammar's proofs stand on: the tokens of a text that is split are those that a reader comes to, its bytes are none of the
 -- foreign ones, and tokens lie in the text. Assumes nothing.
-use Prim.Native.Nat.{ℕ, zero, suc, _+_, _-_, _^_, _≤_, _<_}
+use Prim.Native.Nat.{ℕ, zero, suc, _-_, _<_}
 use mathlib.Core.List.{List, [], _∷_}
 use mathlib.Core.Bool.{Bool, true, false, cond}
 use mathlib.Core.Path.{_≡_, refl, sym, ap, _∙_, subst}
 use native.Mathlib.Omega.{arith}
-use lib.ListN.{length, getD, drop, length-drop}
+use lib.ListN.{length, getD}
 use Rattle.text.specs.Bytes.{isBlank, isForeign}
-use Rattle.token.specs.Token.{Kind, name, number, quoted, mark, Token, token, Lexeme, bad}
-use Rattle.token.specs.Token.{piece, lexeme, cutBy, further, cut, tokensFrom, isMark, rest}
+use Rattle.token.specs.Token.{Token, token, Lexeme, bad}
+use Rattle.token.specs.Token.{piece, lexeme, cutBy, further, cut, tokensFrom}
 use Rattle.token.specs.Split.{Nest, unfit, awaits, nest, blank, nested, lexed, step, Split}
 use Rattle.token.specs.Split.{unlexed, tokens, before, stepped, more, awaited, splitFrom, split}
-use Rattle.token.proofs.WholeLaws.{Whole, whole-of, blank-clean}
+use Rattle.token.proofs.WholeLaws.{whole-of, blank-clean}
 
 abbrev split-tokens : Split → List Token
 split-tokens (unlexed r p) = []

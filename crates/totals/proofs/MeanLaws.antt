@@ -1,6 +1,6 @@
 -- Euclid's algorithm, and fractions in lowest terms. Assumes nothing.
 use Prim.Native.Nat.{ℕ, zero, suc, _+_, _*_, _/_, _%_, _≤_, _<_, _∣_}
-use mathlib.Core.Bool.{Bool, true, false, cond}
+use mathlib.Core.Bool.{Bool, true, false}
 use mathlib.Core.Path.{_≡_, refl, sym, ap, _∙_}
 use native.Mathlib.Nat.{mod-lt, mul-one, mul-comm, mul-assoc, dvd-refl, dvd-zero, dvd-mod-iff, mul-dvd-mul-left}
 use native.Mathlib.Nat.{mul-div-cancel', pos-of-dvd-of-pos, dvd-of-mul-dvd-mul-left, eq-one-of-dvd-one}

@@ -2,10 +2,10 @@
 -- 60 words: word 0 counts the accepted scripts, word r from 1 to 43 those refused under r, word 44 + k the node records of kind k from 0 to
 -- 14, word 59 the keyframe entries.
 use Prim.Native.Nat.{ℕ, suc, _+_}
-use mathlib.Core.Bool.{Bool, true, false, _||_, cond}
+use mathlib.Core.Bool.{Bool, false, _||_, cond}
 use mathlib.Core.List.{List, [], _∷_}
 use lib.Dec.{eqb, ltb}
-use lib.ListN.{getD, take, drop, replicate}
+use lib.ListN.{take, replicate}
 
 abbrev pub acceptedWord : ℕ
 acceptedWord = 0

@@ -1,5 +1,5 @@
 -- The four bytes of a colour are below 256, so that none is cut in a packed answer. Assumes nothing.
-use Prim.Native.Nat.{ℕ, zero, suc, _+_, _-_, _^_, _<_}
+use Prim.Native.Nat.{ℕ, zero, suc, _+_, _-_, _<_}
 use Prim.Native.String.{String}
 use mathlib.Core.Bool.{Bool, true, false, _&&_, cond}
 use mathlib.Core.List.{List, [], _∷_}
@@ -13,7 +13,7 @@ use Rattle.text.specs.Bytes.{at, bytes, isDigit, lowered, same, within}
 use Rattle.text.specs.Words.{under}
 use Rattle.token.proofs.WholeLaws.{both}
 use Rattle.presets.specs.Colors.{isHexColor}
-use Rattle.colors.specs.Css.{cssColors, digit, doubled, hexBytes, paired, withAlpha, hexColor, threeBytes, colorOf}
+use Rattle.colors.specs.Css.{cssColors, digit, hexBytes, paired, withAlpha, hexColor, threeBytes, colorOf}
 use Rattle.colors.specs.Css.{namedColor, colorBytes, answered, coloring}
 use Rattle.error.specs.Refusal.{numberOf}
 use Rattle.error.specs.declared.Refusal.the-variants.{InvalidColor}

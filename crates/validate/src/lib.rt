@@ -3,7 +3,7 @@
 ghost use mathlib.Core.Path.{_≡_};
 ghost use Rattle.error.specs.Answer.{checkValues};
 ghost use Rattle.opening.specs.Means.{answerOf, earlier};
-ghost use Rattle.validate.specs.Checking.{isList, openingUnder, checking};
+ghost use Rattle.validate.specs.Checking.{openingUnder, checking};
 ghost use Rattle.validate.specs.Means.{listAnswer};
 
 mod faults;

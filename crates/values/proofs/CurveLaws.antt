@@ -1,6 +1,6 @@
 -- The fields of `rough` and `slowmo`, one more at a time. Assumes nothing.
 use Prim.Native.Nat.{ℕ}
-use mathlib.Core.List.{List, [], _∷_}
+use mathlib.Core.List.{[]}
 use mathlib.Core.Path.{_≡_, refl}
 use lib.Ieee.{Float, binary32, round, toBits, ofBits, isNan}
 use Rattle.text.specs.Bytes.{bytes, same}
@@ -12,7 +12,7 @@ use Rattle.text.specs.Words.{default}
 use Rattle.grammar.specs.Values.{f32Of}
 use Rattle.ast.specs.declared.OptU32.the-variants as optWord
 use Rattle.encode.specs.Of.{Plain, PlainOptFloat, optFloatOf, optWordOf}
-use Rattle.grammar.specs.Fields.{Fields, aNumber, last}
+use Rattle.grammar.specs.Fields.{aNumber, last}
 use Rattle.values.specs.Means.{Holds, RoughHeld, SlowMoHeld, floatOr, wordOr}
 use Rattle.values.specs.declared.SlowMoFields.{SlowMoFields}
 use Rattle.values.specs.declared.RoughFields.{RoughFields}

@@ -2,24 +2,22 @@
 use Prim.Native.Nat.{ℕ, _+_, _≤_}
 use mathlib.Core.Bool.{Bool, true, false, _&&_, cond}
 use mathlib.Core.List.{List}
-use mathlib.Core.Option.{Option, none, some}
+use mathlib.Core.Option.{none, some}
 use mathlib.Core.Logic.{_⊎_, inl, inr}
-use mathlib.Core.Path.{_≡_, refl, sym, ap, _∙_}
+use mathlib.Core.Path.{_≡_, refl, sym}
 use native.Mathlib.Omega.{arith}
-use lib.ListN.{length, take, drop, length-drop}
+use lib.ListN.{length, drop, length-drop}
 use lib.Seq.{length-take-le}
-use Rattle.text.specs.Bytes.{bytes, same, part}
+use Rattle.text.specs.Bytes.{bytes, same}
 use Rattle.text.specs.Words.{under}
-use Rattle.token.specs.Token.{Token}
-use Rattle.error.specs.declared.Refusal.{Refusal}
 use Rattle.error.specs.declared.Refusal.the-variants.{Missing}
 use Rattle.ast.specs.Tree.{EasingSpec, LoopSpec, named}
 use Rattle.ast.specs.declared.Span.{Span}
-use Rattle.encode.specs.Of.{spanOf, easingOf}
-use Rattle.grammar.specs.Rule.{Notes, Out, got, refused, Rule, skip, refuse, _>>_, seesPair, bothBytes, word}
+use Rattle.encode.specs.Of.{spanOf}
+use Rattle.grammar.specs.Rule.{got, refused, Rule, skip, refuse, _>>_, seesPair, bothBytes, word}
 use Rattle.grammar.specs.Rule.{seesByte}
 use Rattle.grammar.specs.Values.{loopModes, parseLoopMode, parseEasing, ident, namedEasing, variantEasing, curves, curveOr}
-use Rattle.cursor.specs.Means.{Ready, notes, tokens, run, Took, spelled}
+use Rattle.cursor.specs.Means.{notes, tokens, run, Took, spelled}
 use Rattle.cursor.specs.declared.Cursor.{Cursor}
 use Rattle.cursor.proofs.CursorLaws.{fewer}
 use Rattle.values.specs.Means.{EasingMeans, NamedMeans, LoopMeans, ModeMeans}

@@ -1,8 +1,7 @@
 // parser.rs, "Value / Easing / Loop primitives" and the numbers in parentheses.
 // The functions are for our own crates: each requires a cursor that stands in the text.
 ghost use mathlib.Core.Path.{_≡_};
-ghost use mathlib.Core.List.{[]};
-ghost use Prim.Native.Nat.{ℕ, _+_, _≤_};
+ghost use Prim.Native.Nat.{_+_, _≤_};
 ghost use Rattle.grammar.specs.Values.{parseFloatInParens, parseUintInParens, commaFloat, twoFloats, parseTwoFloatsInParens, commaFloats, fourFloats, bezierCurve, roughFields, slowMoFields, roughCurve, slowMoCurve, stepsCurve, wiggleCurve, namedEasing, curveOr, parseEasing, timesMode, pingPongMode, parseLoopMode};
 ghost use Rattle.fields.specs.Means as fields;
 ghost use Rattle.cursor.specs.Means.{Ready, FloatMeans, UintMeans, spelled};

@@ -15,7 +15,6 @@ use mir.ValLaws.{toZ-pos, toZ-ofZ}
 use Rattle.error.specs.declared.Refusal.the-variants as cause
 use Rattle.error.specs.declared.CheckAnswer.{CheckAnswer}
 use Rattle.error.specs.declared.CheckAnswer.the-variants as answer
-use Rattle.error.specs.Answer.{checkValues}
 use Rattle.wave.specs.Table.{table}
 use Rattle.wave.specs.Wave.{sineAt, triangleAt, quarterOf, folded, mirrored, sawtooth, square, height, filled, shifted, drawing}
 use Rattle.wave.proofs.TableLaws.{at-most, long}

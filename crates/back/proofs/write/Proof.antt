@@ -7,7 +7,6 @@ use Rattle.back.proofs.ScriptLaws.{shut-answer, open-answer}
 use borrow.Author.Needs.{needs}
 use Rattle.back.proofs.write.Statement.{statement}
 use Rattle.back.proofs.write.Tie as tie
-use Rattle.back.proofs.write.Reads as reads
 
 check-requires : tie.Need-check-requires
 check-requires c κs = search needs

@@ -1,7 +1,5 @@
 -- `cursor::number_seen` meets its contract. Assumes nothing.
 use Rattle.text.specs.Bytes.{at}
-use mathlib.Core.Path.{ap, sym}
-use Rattle.token.specs.Token.{number}
 use Rattle.token.proofs.TokenLaws.{rest-of}
 use Rattle.cursor.proofs.CursorLaws.{seen-known}
 use borrow.Author.Needs.{needs}

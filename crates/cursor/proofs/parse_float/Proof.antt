@@ -5,7 +5,6 @@ use Rattle.cursor.proofs.CursorLaws.{counts, took-number}
 use native.Mathlib.Omega.{arith}
 use Rattle.grammar.specs.Values.{parseFloat}
 use Rattle.number.proofs.Floats.{nearest-number}
-use mathlib.Core.Path.{_∙_}
 use borrow.Author.Needs.{needs}
 use Rattle.cursor.proofs.parse_float.Statement.{statement}
 use Rattle.cursor.proofs.parse_float.Tie as tie

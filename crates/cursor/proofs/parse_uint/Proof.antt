@@ -1,6 +1,6 @@
 -- `cursor::parse_uint` meets its contract. Assumes nothing.
 use Rattle.text.specs.Bytes.{at}
-use mathlib.Core.Path.{refl, sym}
+use mathlib.Core.Path.{sym}
 use Rattle.error.specs.declared.Refusal.the-variants.{Missing}
 use Rattle.token.specs.Means.{writtenIn}
 use Rattle.grammar.specs.Values.{parseUint}

@@ -12,10 +12,10 @@ use native.Mathlib.Omega.{arith}
 use Rattle.fields.specs.Means.{itemIs}
 use Rattle.token.specs.Means.{kindOf}
 use lib.ListN.{length}
-use Rattle.grammar.specs.Rule.{list, text, the}
+use Rattle.grammar.specs.Rule.{text}
 use Rattle.cursor.proofs.CursorLaws.{moved-low}
 use borrow.Author.Needs.{needs}
-use Rattle.token.specs.Token.{Kind, kind}
+use Rattle.token.specs.Token.{kind}
 use Rattle.fields.proofs.parse_field_list.Statement.{statement}
 use Rattle.fields.proofs.parse_field_list.Tie as tie
 

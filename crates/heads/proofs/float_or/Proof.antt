@@ -3,8 +3,6 @@ use mathlib.Core.Path.{refl}
 use borrow.Author.Needs.{needs}
 use Rattle.heads.proofs.float_or.Statement.{statement}
 use Rattle.heads.proofs.float_or.Tie as tie
-use Rattle.heads.proofs.float_or.Reads as reads
-use Rattle.heads.proofs.float_or.Lts as lts
 
 enum-told : tie.Need-enum-told
 enum-told c = search needs

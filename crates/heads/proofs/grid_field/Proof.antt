@@ -8,10 +8,6 @@ use Rattle.values.proofs.RowLaws.{no-count, took-count}
 use borrow.Author.Needs.{needs}
 use Rattle.heads.proofs.grid_field.Statement.{statement}
 use Rattle.heads.proofs.grid_field.Tie as tie
-use Rattle.heads.proofs.grid_field.Reads as reads
-use Rattle.heads.proofs.grid_field.Lts as lts
-use Rattle.cursor.proofs.parse_uint.Reads as parse-uint-reads
-use Rattle.heads.proofs.parse_grid_origin.Reads as parse-grid-origin-reads
 
 parse-grid-origin-requires : tie.Need-parse-grid-origin-requires
 parse-grid-origin-requires c κs = search needs

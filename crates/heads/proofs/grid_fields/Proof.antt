@@ -10,11 +10,6 @@ use borrow.Author.Tests.{not-false, not-true}
 use lib.Dec.{lit<}
 use Rattle.heads.proofs.grid_fields.Statement.{statement}
 use Rattle.heads.proofs.grid_fields.Tie as tie
-use Rattle.heads.proofs.grid_fields.Reads as reads
-use Rattle.heads.proofs.grid_fields.Lts as lts
-use Rattle.cursor.proofs.eat.Reads as eat-reads
-use Rattle.heads.proofs.grid_field.Reads as grid-field-reads
-use Rattle.heads.proofs.next_grid.Reads as next-grid-reads
 
 abbrev Inv-loop : tie.InvT-loop
 Inv-loop text m₀ f₀ m f = Kept GridHeld gridFields text m₀ m f

@@ -4,11 +4,6 @@ use Rattle.values.proofs.ValueLaws.{inside-any, inside-missing, inside-refused}
 use borrow.Author.Needs.{needs}
 use Rattle.heads.proofs.grid_pattern.Statement.{statement}
 use Rattle.heads.proofs.grid_pattern.Tie as tie
-use Rattle.heads.proofs.grid_pattern.Reads as reads
-use Rattle.heads.proofs.grid_pattern.Lts as lts
-use Rattle.cursor.proofs.leave_group.Reads as leave-group-reads
-use Rattle.cursor.proofs.mark.Reads as mark-reads
-use Rattle.heads.proofs.grid_inside.Reads as grid-inside-reads
 
 mark-requires : tie.Need-mark-requires
 mark-requires c κs = search needs

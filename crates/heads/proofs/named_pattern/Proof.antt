@@ -10,10 +10,6 @@ use Rattle.cursor.proofs.CursorLaws.{stays}
 use borrow.Author.Needs.{needs}
 use Rattle.heads.proofs.named_pattern.Statement.{statement}
 use Rattle.heads.proofs.named_pattern.Tie as tie
-use Rattle.heads.proofs.named_pattern.Reads as reads
-use Rattle.heads.proofs.named_pattern.Lts as lts
-use Rattle.heads.proofs.grid_pattern.Reads as grid-pattern-reads
-use Rattle.heads.proofs.random_pattern.Reads as random-pattern-reads
 
 grid-pattern-requires : tie.Need-grid-pattern-requires
 grid-pattern-requires c κs = search needs

@@ -4,9 +4,6 @@ use mathlib.Core.Path.{refl}
 use borrow.Author.Needs.{needs}
 use Rattle.heads.proofs.next_grid.Statement.{statement}
 use Rattle.heads.proofs.next_grid.Tie as tie
-use Rattle.heads.proofs.next_grid.Reads as reads
-use Rattle.heads.proofs.next_grid.Lts as lts
-use Rattle.fields.proofs.next_pair.Reads as next-pair-reads
 
 slice-aggregate-next-pair : tie.Need-slice-aggregate-next-pair
 slice-aggregate-next-pair c = search needs

@@ -4,9 +4,6 @@ use mathlib.Core.Path.{refl}
 use borrow.Author.Needs.{needs}
 use Rattle.heads.proofs.next_random.Statement.{statement}
 use Rattle.heads.proofs.next_random.Tie as tie
-use Rattle.heads.proofs.next_random.Reads as reads
-use Rattle.heads.proofs.next_random.Lts as lts
-use Rattle.fields.proofs.next_pair.Reads as next-pair-reads
 
 slice-aggregate-next-pair : tie.Need-slice-aggregate-next-pair
 slice-aggregate-next-pair c = search needs

@@ -7,10 +7,6 @@ use Rattle.error.specs.declared.Refusal.the-variants.{UnknownKeyword}
 use borrow.Author.Needs.{needs}
 use Rattle.heads.proofs.opening_field.Statement.{statement}
 use Rattle.heads.proofs.opening_field.Tie as tie
-use Rattle.heads.proofs.opening_field.Reads as reads
-use Rattle.heads.proofs.opening_field.Lts as lts
-use Rattle.cursor.proofs.choice.Reads as choice-reads
-use Rattle.heads.proofs.opening_value.Reads as opening-value-reads
 
 slice-aggregate-choice : tie.Need-slice-aggregate-choice
 slice-aggregate-choice c = search needs

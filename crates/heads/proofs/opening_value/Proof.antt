@@ -10,11 +10,6 @@ use Rattle.grammar.specs.Values.{parseFloat}
 use borrow.Author.Needs.{needs}
 use Rattle.heads.proofs.opening_value.Statement.{statement}
 use Rattle.heads.proofs.opening_value.Tie as tie
-use Rattle.heads.proofs.opening_value.Reads as reads
-use Rattle.heads.proofs.opening_value.Lts as lts
-use Rattle.cursor.proofs.mark.Reads as mark-reads
-use Rattle.cursor.proofs.parse_float.Reads as parse-float-reads
-use Rattle.heads.proofs.parse_stagger_pattern.Reads as parse-stagger-pattern-reads
 
 mark-requires : tie.Need-mark-requires
 mark-requires c κs = search needs

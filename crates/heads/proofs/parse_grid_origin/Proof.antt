@@ -6,9 +6,6 @@ use Rattle.error.specs.declared.Refusal.the-variants.{Malformed}
 use borrow.Author.Needs.{needs}
 use Rattle.heads.proofs.parse_grid_origin.Statement.{statement}
 use Rattle.heads.proofs.parse_grid_origin.Tie as tie
-use Rattle.heads.proofs.parse_grid_origin.Reads as reads
-use Rattle.heads.proofs.parse_grid_origin.Lts as lts
-use Rattle.cursor.proofs.choice.Reads as choice-reads
 
 slice-aggregate-choice : tie.Need-slice-aggregate-choice
 slice-aggregate-choice c = search needs

@@ -6,9 +6,6 @@ use Rattle.error.specs.declared.Refusal.the-variants.{Malformed}
 use borrow.Author.Needs.{needs}
 use Rattle.heads.proofs.parse_group.Statement.{statement}
 use Rattle.heads.proofs.parse_group.Tie as tie
-use Rattle.heads.proofs.parse_group.Reads as reads
-use Rattle.heads.proofs.parse_group.Lts as lts
-use Rattle.cursor.proofs.choice.Reads as choice-reads
 
 slice-aggregate-choice : tie.Need-slice-aggregate-choice
 slice-aggregate-choice c = search needs

@@ -9,11 +9,6 @@ use mathlib.Core.Path.{sym, _∙_}
 use lib.Dec.{lit<}
 use Rattle.heads.proofs.parse_stagger.Statement.{statement}
 use Rattle.heads.proofs.parse_stagger.Tie as tie
-use Rattle.heads.proofs.parse_stagger.Reads as reads
-use Rattle.heads.proofs.parse_stagger.Lts as lts
-use Rattle.cursor.proofs.eat.Reads as eat-reads
-use Rattle.cursor.proofs.sees.Reads as sees-reads
-use Rattle.heads.proofs.opening_field.Reads as opening-field-reads
 
 abbrev Inv-loop : tie.InvT-loop
 Inv-loop text m₀ f₀ m f = Opened text m₀ m (openingOf f) × PlainOpening f

@@ -6,10 +6,6 @@ use Rattle.error.specs.declared.Refusal.the-variants.{Malformed}
 use borrow.Author.Needs.{needs}
 use Rattle.heads.proofs.parse_stagger_pattern.Statement.{statement}
 use Rattle.heads.proofs.parse_stagger_pattern.Tie as tie
-use Rattle.heads.proofs.parse_stagger_pattern.Reads as reads
-use Rattle.heads.proofs.parse_stagger_pattern.Lts as lts
-use Rattle.cursor.proofs.choice.Reads as choice-reads
-use Rattle.heads.proofs.named_pattern.Reads as named-pattern-reads
 
 slice-aggregate-choice : tie.Need-slice-aggregate-choice
 slice-aggregate-choice c = search needs

@@ -9,10 +9,6 @@ use Rattle.grammar.specs.Grammar.{randomFields}
 use borrow.Author.Needs.{needs}
 use Rattle.heads.proofs.random_field.Statement.{statement}
 use Rattle.heads.proofs.random_field.Tie as tie
-use Rattle.heads.proofs.random_field.Reads as reads
-use Rattle.heads.proofs.random_field.Lts as lts
-use Rattle.cursor.proofs.parse_float.Reads as parse-float-reads
-use Rattle.cursor.proofs.parse_uint.Reads as parse-uint-reads
 
 parse-uint-requires : tie.Need-parse-uint-requires
 parse-uint-requires c κs = search needs

@@ -10,11 +10,6 @@ use Rattle.grammar.specs.Grammar.{randomFields}
 use lib.Dec.{lit<}
 use Rattle.heads.proofs.random_fields.Statement.{statement}
 use Rattle.heads.proofs.random_fields.Tie as tie
-use Rattle.heads.proofs.random_fields.Reads as reads
-use Rattle.heads.proofs.random_fields.Lts as lts
-use Rattle.cursor.proofs.eat.Reads as eat-reads
-use Rattle.heads.proofs.next_random.Reads as next-random-reads
-use Rattle.heads.proofs.random_field.Reads as random-field-reads
 
 abbrev Inv-loop : tie.InvT-loop
 Inv-loop text m₀ f₀ m f = Kept RandomHeld randomFields text m₀ m f

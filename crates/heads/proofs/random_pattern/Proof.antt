@@ -6,13 +6,6 @@ use Rattle.grammar.specs.Grammar.{randomFields}
 use borrow.Author.Needs.{needs}
 use Rattle.heads.proofs.random_pattern.Statement.{statement}
 use Rattle.heads.proofs.random_pattern.Tie as tie
-use Rattle.heads.proofs.random_pattern.Reads as reads
-use Rattle.heads.proofs.random_pattern.Lts as lts
-use Rattle.cursor.proofs.leave_group.Reads as leave-group-reads
-use Rattle.cursor.proofs.mark.Reads as mark-reads
-use Rattle.heads.proofs.float_or.Reads as float-or-reads
-use Rattle.heads.proofs.random_fields.Reads as random-fields-reads
-use Rattle.heads.proofs.word_or.Reads as word-or-reads
 
 mark-requires : tie.Need-mark-requires
 mark-requires c κs = search needs

@@ -2,7 +2,6 @@
 use Rattle.cells.proofs.StepLaws.{no-float, a-float, no-easing, an-easing, step-refused, a-case, last-row}
 use Rattle.heads.proofs.NameLaws.{choice-below}
 use mathlib.Core.Path.{refl}
-use mathlib.Core.List.{[], _∷_}
 use native.Mathlib.Omega.{arith}
 use Rattle.text.specs.Bytes.{same}
 use Rattle.text.specs.Words.{entries}

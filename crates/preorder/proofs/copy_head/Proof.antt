@@ -14,7 +14,6 @@ use Rattle.preorder.proofs.NodeLaws.{six, sequence-told, parallel-told,
 use borrow.Author.Needs.{needs}
 use Rattle.preorder.proofs.copy_head.Statement.{statement}
 use Rattle.preorder.proofs.copy_head.Tie as tie
-use Rattle.preorder.proofs.copy_head.Reads as reads
 
 slice-aggregate-put-word : tie.Need-slice-aggregate-put-word
 slice-aggregate-put-word c = search needs

@@ -2,7 +2,6 @@
 use Rattle.cells.proofs.StepLaws.{no-float, a-float, step-refused, a-case, no-value, a-value, past}
 use Rattle.heads.proofs.NameLaws.{choice-below}
 use mathlib.Core.Path.{refl}
-use mathlib.Core.List.{[], _∷_}
 use native.Mathlib.Omega.{arith}
 use Rattle.text.specs.Bytes.{same}
 use Rattle.text.specs.Words.{entries}

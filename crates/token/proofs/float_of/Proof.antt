@@ -1,9 +1,9 @@
 -- `token::float_of` meets its contract. Assumes nothing.
-use mathlib.Core.Path.{_≡_, sym, ap, _∙_}
+use mathlib.Core.Path.{_≡_, _∙_}
 use mathlib.Core.Bool.{Bool, false}
-use Prim.Native.Nat.{ℕ, _^_}
+use Prim.Native.Nat.{_^_}
 use lib.Ieee.{Float, binary32, round}
-use Rattle.number.specs.Number.{Written, nearest, percent}
+use Rattle.number.specs.Number.{Written, nearest}
 use Rattle.number.specs.Rounded.{fraction, rounded, numberRounded}
 use Rattle.token.specs.Means.{Reads}
 use Rattle.token.specs.declared.Number as numbers

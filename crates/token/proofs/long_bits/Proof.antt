@@ -1,5 +1,5 @@
 -- `token::long_bits` meets its contract. Assumes nothing.
-use mathlib.Core.Path.{_≡_, sym, subst}
+use mathlib.Core.Path.{sym, subst}
 use Prim.Native.Nat.{ℕ, _^_, _<_}
 use borrow.Author.Needs.{needs}
 use Rattle.number.specs.Number.{bits}

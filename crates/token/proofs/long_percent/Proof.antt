@@ -1,5 +1,5 @@
 -- `token::long_percent` meets its contract. Assumes nothing.
-use mathlib.Core.Path.{_≡_, _∙_}
+use mathlib.Core.Path.{_∙_}
 use borrow.Author.Needs.{needs}
 use Rattle.token.proofs.long_percent.Statement.{statement}
 use Rattle.token.proofs.long_percent.Tie as tie

@@ -1,10 +1,10 @@
 -- `token::percent_of` meets its contract. Assumes nothing.
-use mathlib.Core.Path.{_≡_, sym, ap, _∙_}
+use mathlib.Core.Path.{_≡_, ap, _∙_}
 use mathlib.Core.Bool.{Bool, false}
-use Prim.Native.Nat.{ℕ, _^_}
-use lib.Ieee.{Float, binary32, round}
-use Rattle.number.specs.Number.{Written, nearest, percent}
-use Rattle.number.specs.Rounded.{fraction, rounded, numberRounded}
+use Prim.Native.Nat.{ℕ}
+use lib.Ieee.{Float}
+use Rattle.number.specs.Number.{Written, percent}
+use Rattle.number.specs.Rounded.{fraction, rounded}
 use Rattle.token.specs.Means.{Reads}
 use Rattle.token.specs.declared.Number as numbers
 use Rattle.token.proofs.TokenLaws.{rest-of}

@@ -1,12 +1,10 @@
 -- `token::power_of` meets its contract. Assumes nothing.
-use mathlib.Core.Path.{_≡_, sym, ap, _∙_}
+use mathlib.Core.Path.{_≡_, sym}
 use mathlib.Core.List.{List}
-use Prim.Native.Nat.{ℕ, _≤_, _<_}
+use Prim.Native.Nat.{ℕ}
 use native.Mathlib.Omega.{arith}
-use lib.ListN.{drop}
-use Rattle.text.specs.Bytes.{decimal, part, run, isDigit}
 use Rattle.limbs.proofs.NumberLaws.{ten-positive, decimal-nil}
-use Rattle.token.specs.Token.{powerFrom, powerSize}
+use Rattle.token.specs.Token.{powerSize}
 use Rattle.token.proofs.LexLaws.{PowerIs, power-is, power-small}
 use borrow.Author.Needs.{needs}
 use Rattle.token.proofs.power_of.Statement.{statement}

@@ -2,7 +2,6 @@
 use Prim.Native.Nat.{_+_, _*_, _-_, _≤_, _<_}
 use mathlib.Core.Path.{_≡_}
 use native.Mathlib.Omega.{arith}
-use lib.ListN.{length}
 use borrow.Author.Needs.{needs}
 use Rattle.totals.specs.Totals.{sumOf, itself}
 use Rattle.totals.proofs.TotalsLaws.{between, sum-next, sum-end}

@@ -4,7 +4,6 @@ use Rattle.text.specs.Bytes.{at}
 use borrow.Author.Tests.{not-false}
 use Rattle.values.proofs.EasingLaws.{pair-missing, plain-name, tested, variant-refused, variant-took}
 use mathlib.Core.Path.{_∙_}
-use Rattle.grammar.specs.Values.{namedEasing}
 use borrow.Author.Tests.{not-true}
 use Rattle.cursor.proofs.CursorLaws.{stays}
 use borrow.Author.Needs.{needs}

@@ -33,9 +33,16 @@ returns c =
     let c11 = call .before .before .before .before in
     let start = c11 .before .before in
     let args = start .args in
-    let e = rw (at-refusal .refusal .given .1) at (call .read .ensures .0) in
-    (e, (tt, (unread (args .list) (args .text .now) (args .scratch .now) (args .sheet .now) _ _ _ _ e,
-    unread-values (args .list) (args .text .now) (args .scratch .now) (args .sheet .now) _ _ _ _ e)))
+    let e = rw (at-refusal .refusal .given .1) at (call .read .ensures .0) in (
+      e,
+      (
+        tt,
+        (
+          unread (args .list) (args .text .now) (args .scratch .now) (args .sheet .now) _ _ _ _ e,
+          unread-values (args .list) (args .text .now) (args .scratch .now) (args .sheet .now) _ _ _ _ e,
+        ),
+      ),
+    )
 
 same-length-3 : tie.Need-same-length-3
 same-length-3 c = search needs
@@ -52,9 +59,16 @@ returns-2 c =
     let start = c14 .before .before in
     let args = start .args in
     let e = rw (at-length .length .given .1) at (call .read .ensures .0) in
-    let v = rw (c .before .part .ensures) at (c .check .ensures .0) in
-    (e, (v, (checked (args .list) (args .text .now) (args .scratch .now) (args .sheet .now) _ _ _ _ _ _ e v,
-    checked-values (args .list) (args .text .now) (args .scratch .now) (args .sheet .now) _ _ _ _ _ _ e v)))
+    let v = rw (c .before .part .ensures) at (c .check .ensures .0) in (
+      e,
+      (
+        v,
+        (
+          checked (args .list) (args .text .now) (args .scratch .now) (args .sheet .now) _ _ _ _ _ _ e v,
+          checked-values (args .list) (args .text .now) (args .scratch .now) (args .sheet .now) _ _ _ _ _ _ e v,
+        ),
+      ),
+    )
 
 pub read-and-check-spec : {M : Type 1} → statement M
 read-and-check-spec =

@@ -6,7 +6,6 @@ use Rattle.pieces.specs.Pieces.{aName, aPlain, wordLike}
 use Rattle.fresh.specs.Fresh.{spell, easing}
 use Rattle.fresh.specs.Fresh as fresh
 use Rattle.copying.proofs.CopyLaws.{one-piece, _and_, called}
-use Rattle.curves.proofs.PairLaws.{two}
 use borrow.Author.Needs.{needs}
 use Rattle.curves.proofs.easings.put_named.Statement.{statement}
 use Rattle.curves.proofs.easings.put_named.Tie as tie
