@@ -1,4 +1,4 @@
--- The elements of an array, read and written one at a time. Assumes nothing.
+-- The elements of an array, read and written one at a time.
 use Prim.Native.Nat.{ℕ, _+_, _*_, _-_, _≤_, _<_}
 use mathlib.Core.Bool.{Bool, true, false, cond}
 use mathlib.Core.List.{List, [], _∷_, _++_}

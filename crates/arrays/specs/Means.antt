@@ -1,4 +1,4 @@
--- What the answers of functions that write into the sheet mean. Contracts cite these. Assumes nothing.
+-- What the answers of functions that write into the sheet mean. Contracts cite these.
 use Prim.Native.Nat.{ℕ, _+_, _*_, _-_, _^_, _≤_, _<_}
 use mathlib.Core.List.{List}
 use mathlib.Core.Path.{_≡_}

@@ -1,4 +1,4 @@
--- ast.rs: the types of the tree, under its names, spans for diagnostics left out. Assumes nothing.
+-- ast.rs: the types of the tree, under its names, spans for diagnostics left out.
 -- An f32 is its bit pattern. An enum whose cases hold nothing is the position of the case. A name or a string is its place in the text.
 use Prim.Native.Nat.{ℕ, suc, _+_}
 use mathlib.Core.Bool.{Bool}

@@ -1,4 +1,4 @@
--- How the code holds a tree's values: floats for bit patterns, counts for arrays and frames. Assumes nothing.
+-- How the code holds a tree's values: floats for bit patterns, counts for arrays and frames.
 use Prim.Native.Nat.{ℕ}
 use mathlib.Core.Bool.{Bool, true, false}
 use mathlib.Core.Option.{Option, none, some}

@@ -1,4 +1,4 @@
--- The bytes of a script on a page, and what is answered of it. Assumes nothing.
+-- The bytes of a script on a page, and what is answered of it.
 use Prim.Native.Nat.{ℕ, zero, suc, _+_, _-_, _≤_, _<_}
 use mathlib.Core.Bool.{Bool, true, false, _&&_, cond, true≢false}
 use mathlib.Core.List.{List, [], _∷_, _++_, append-nil, append-assoc}

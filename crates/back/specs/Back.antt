@@ -1,4 +1,4 @@
--- 02 (f), "Give me the script back": a fresh script from a text and its sheet, into a lent buffer. Assumes nothing.
+-- 02 (f), "Give me the script back": a fresh script from a text and its sheet, into a lent buffer.
 use Prim.Native.Nat.{ℕ, _-_}
 use mathlib.Core.Bool.{_||_, cond}
 use mathlib.Core.List.{List, _++_}

@@ -1,4 +1,4 @@
--- The beginning of a node: its keyword, and what stands behind it. Assumes nothing.
+-- The beginning of a node: its keyword, and what stands behind it.
 use Prim.Native.Nat.{ℕ, _<_}
 use Prim.Native.String.{String}
 use mathlib.Core.List.{List}

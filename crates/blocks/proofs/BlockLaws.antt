@@ -1,4 +1,4 @@
--- Nodes in blocks: a node from its beginning and its block, and nodes one after the other. Assumes nothing.
+-- Nodes in blocks: a node from its beginning and its block, and nodes one after the other.
 use Prim.Native.Nat.{ℕ, zero, suc, _+_, _*_, _-_, _≤_, _<_}
 use Prim.Native.String.{String}
 use mathlib.Core.Bool.{true, false}

@@ -1,4 +1,4 @@
--- What stands before a container's block is taken, and written up to the count. Assumes nothing.
+-- What stands before a container's block is taken, and written up to the count.
 use Prim.Native.Nat.{ℕ, _≤_}
 use mathlib.Core.List.{List, [], _∷_, _++_, append-assoc}
 use mathlib.Core.Option.{Option, none, some}

@@ -1,4 +1,4 @@
--- Each rule of the tables gives what is of its kind. Assumes nothing.
+-- Each rule of the tables gives what is of its kind.
 use Prim.Native.Nat.{ℕ, zero, suc, _<_}
 use Prim.Native.String.{String}
 use mathlib.Core.List.{List, [], _∷_}

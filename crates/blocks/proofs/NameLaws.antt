@@ -1,4 +1,4 @@
--- What a keyword begins, by its place in the tables: it is looked up among the leaves and then among the containers. Assumes nothing.
+-- What a keyword begins, by its place in the tables: it is looked up among the leaves and then among the containers.
 use Prim.Native.Nat.{ℕ}
 use mathlib.Core.List.{List}
 use mathlib.Core.Option.{none, some}

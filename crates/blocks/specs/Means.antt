@@ -1,5 +1,4 @@
 -- What the answers for nodes mean: what the grammar's rules take, and the bytes written, in the sheet's own form. Contracts cite these.
--- Assumes nothing.
 use Prim.Native.Nat.{ℕ, _+_, _*_, _-_, _≤_, _<_}
 use Prim.Native.String.{String}
 use mathlib.Core.Bool.{cond}

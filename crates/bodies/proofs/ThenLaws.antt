@@ -1,4 +1,4 @@
--- One form behind another, where what is written for the second hangs on the first. Assumes nothing.
+-- One form behind another, where what is written for the second hangs on the first.
 use Prim.Native.Nat.{ℕ, suc, _-_, _≤_, _<_}
 use mathlib.Core.Bool.{Bool, true, false, true≢false}
 use mathlib.Core.List.{List, [], _∷_}

@@ -1,4 +1,4 @@
--- What stands behind a leaf's word, by the tree of a sheet: words of contracts, which a reader need not believe. Assumes nothing.
+-- What stands behind a leaf's word, by the tree of a sheet: words of contracts, which a reader need not believe.
 use Prim.Native.Nat.{ℕ}
 use mathlib.Core.Bool.{Bool}
 use mathlib.Core.List.{List, [], _∷_}

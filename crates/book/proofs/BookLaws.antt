@@ -1,4 +1,4 @@
--- A book's items one after the other, and the refusals in their order. Assumes nothing.
+-- A book's items one after the other, and the refusals in their order.
 use Prim.Native.Nat.{ℕ, zero, suc, _+_, _*_, _-_, _≤_, _<_}
 use mathlib.Core.Bool.{Bool, true, false, cond}
 use mathlib.Core.List.{List, [], _∷_, _++_, append-nil, append-assoc}

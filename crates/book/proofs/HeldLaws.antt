@@ -1,4 +1,4 @@
--- A book that is held, and the names in its table. Assumes nothing.
+-- A book that is held, and the names in its table.
 use Prim.Native.Nat.{ℕ, suc, _+_, _≤_, _<_}
 use mathlib.Core.List.{List, [], _∷_}
 use mathlib.Core.Option.{some}

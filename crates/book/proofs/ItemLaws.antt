@@ -1,4 +1,4 @@
--- A body and an item, from the answers of their parts. Assumes nothing.
+-- A body and an item, from the answers of their parts.
 use Prim.Native.Nat.{ℕ, suc, _+_, _≤_}
 use mathlib.Core.List.{List}
 use mathlib.Core.Path.{_≡_, refl}

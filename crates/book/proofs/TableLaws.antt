@@ -1,4 +1,4 @@
--- The table of items, and names in it. Assumes nothing.
+-- The table of items, and names in it.
 use Prim.Native.Nat.{ℕ, zero, suc, _+_, _*_, _-_, _≤_, _<_}
 use mathlib.Core.Bool.{Bool, true, false, _||_}
 use mathlib.Core.List.{List, [], _∷_, _++_}

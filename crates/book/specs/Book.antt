@@ -1,4 +1,4 @@
--- 02 (i): a book of named scripts: "a text of `name = { ... }` items under 01's text rules, the braces holding nodes". Assumes nothing.
+-- 02 (i): a book of named scripts: "a text of `name = { ... }` items under 01's text rules, the braces holding nodes".
 use Prim.Native.Nat.{ℕ, suc}
 use mathlib.Core.Bool.{Bool, false, _||_, cond}
 use mathlib.Core.List.{List, [], _∷_, _++_, map}

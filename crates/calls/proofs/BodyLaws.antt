@@ -1,4 +1,4 @@
--- The sheet of a body, record by record. Assumes nothing.
+-- The sheet of a body, record by record.
 use Prim.Native.Nat.{ℕ, _+_, _≤_, _<_}
 use mathlib.Core.List.{List, [], _∷_}
 use mathlib.Core.Logic.{⊎-elim}

@@ -1,4 +1,4 @@
--- The calls of a book, item by item. Assumes nothing.
+-- The calls of a book, item by item.
 use Prim.Native.Nat.{ℕ, _+_, _≤_, _<_}
 use mathlib.Core.List.{List}
 use mathlib.Core.Option.{some}

@@ -1,4 +1,4 @@
--- Calls as bytes: what marks do to them. Assumes nothing.
+-- Calls as bytes: what marks do to them.
 use Prim.Native.Nat.{ℕ, _+_, _*_, _≤_, _<_}
 use mathlib.Core.Bool.{Bool, true, false, _&&_, _||_, not}
 use mathlib.Core.List.{List, [], _∷_, _++_}

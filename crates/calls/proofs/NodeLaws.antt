@@ -1,4 +1,4 @@
--- The presets of a tree, node by node. Assumes nothing.
+-- The presets of a tree, node by node.
 use Prim.Native.Nat.{ℕ, zero, suc, _+_}
 use mathlib.Core.List.{List, [], _∷_, _++_, map, append-assoc}
 use mathlib.Core.Option.{some}

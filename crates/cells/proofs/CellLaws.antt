@@ -1,4 +1,4 @@
--- An entry onto fields: the cell of its row takes its value, and the others stay. Assumes nothing.
+-- An entry onto fields: the cell of its row takes its value, and the others stay.
 use Prim.Native.Nat.{ℕ, zero, suc, _≤_}
 use mathlib.Core.Bool.{Bool, true, false, not, _&&_}
 use mathlib.Core.List.{List, [], _∷_}

@@ -1,4 +1,4 @@
--- A step and the loop of any kind. Assumes nothing.
+-- A step and the loop of any kind.
 use Prim.Native.Nat.{ℕ, zero, suc, _*_, _-_, _≤_, _<_}
 use Prim.Native.String.{String}
 use mathlib.Core.Bool.{Bool, true, false, _||_}

@@ -1,4 +1,4 @@
--- What is kept of a node's fields, whatever its kind: one cell for each field of its struct. Contracts cite these. Assumes nothing.
+-- What is kept of a node's fields, whatever its kind: one cell for each field of its struct. Contracts cite these.
 use Prim.Native.Nat.{ℕ, _*_, _-_, _≤_}
 use Prim.Native.String.{String}
 use mathlib.Core.Bool.{Bool}

@@ -1,5 +1,4 @@
 -- A form is lawful for the values that pass `ok`: what it writes it reads back, and whatever it reads it would have written.
--- Assumes nothing.
 use Prim.Native.Nat.{ℕ, zero, suc, _+_, _*_, _/_, _%_, _<_}
 use mathlib.Core.Bool.{Bool, true, false, cond}
 use mathlib.Core.List.{List, [], _∷_, _++_, append-assoc}

@@ -1,4 +1,4 @@
--- Forms of bytes: how a value is written, and how it is read back. Assumes nothing.
+-- Forms of bytes: how a value is written, and how it is read back.
 use Prim.Native.Nat.{ℕ, zero, suc, _+_, _*_, _/_, _%_}
 use mathlib.Core.Bool.{Bool, cond}
 use mathlib.Core.List.{List, [], _∷_, _++_}

@@ -1,5 +1,4 @@
 -- Laws of colours: what each way out of the code shows, and that the four bytes are given exactly for the standard's colours.
--- Assumes nothing.
 use Prim.Native.Nat.{ℕ, _≤_, _<_}
 use mathlib.Core.Bool.{Bool, true, false, _||_, cond}
 use mathlib.Core.List.{List, [], _∷_}

@@ -1,4 +1,4 @@
--- Laws of hexadecimal digits and of the bytes that they write. Assumes nothing.
+-- Laws of hexadecimal digits and of the bytes that they write.
 use Prim.Native.Nat.{ℕ, zero, suc, _+_, _*_, _-_, _≤_, _<_}
 use mathlib.Core.Bool.{Bool, true, false, cond}
 use mathlib.Core.List.{List, [], _∷_, _++_, append-nil}

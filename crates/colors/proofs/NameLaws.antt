@@ -1,4 +1,4 @@
--- Laws of names: a table of rows, and that the names of a word's length decide. Assumes nothing.
+-- Laws of names: a table of rows, and that the names of a word's length decide.
 use Prim.Native.Nat.{ℕ, zero, suc, _+_, _≤_, _<_}
 use Prim.Native.String.{String}
 use mathlib.Core.Bool.{Bool, true, false, _&&_}

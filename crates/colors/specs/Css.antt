@@ -1,4 +1,4 @@
--- 02 (g): "the named colours of W3C CSS Color Module Level 4", the two lists, and the four bytes of one lent string. Assumes nothing.
+-- 02 (g): "the named colours of W3C CSS Color Module Level 4", the two lists, and the four bytes of one lent string.
 use Prim.Native.Nat.{ℕ, _+_, _*_, _-_, _/_, _%_}
 use Prim.Native.Char.{code}
 use Prim.Native.String.{String}

@@ -1,4 +1,4 @@
--- What the code's enum and tables stand for. Contracts cite these. Assumes nothing.
+-- What the code's enum and tables stand for. Contracts cite these.
 use Prim.Native.Nat.{ℕ, zero, suc, _+_}
 use mathlib.Core.Bool.{true, false}
 use mathlib.Core.List.{List, [], _∷_}

@@ -1,4 +1,4 @@
--- Laws of the converter, 02 (h), for every text and every lent sheet. Assumes nothing.
+-- Laws of the converter, 02 (h), for every text and every lent sheet.
 use Prim.Native.Nat.{ℕ, zero, suc, _<_}
 use mathlib.Core.Bool.{Bool, true, false, _&&_, cond}
 use mathlib.Core.List.{List, [], _∷_, _++_, map, map-append}

@@ -1,4 +1,4 @@
--- The walk of the converter: a record is changed, and those behind it are as they were. Assumes nothing.
+-- The walk of the converter: a record is changed, and those behind it are as they were.
 use Prim.Native.Nat.{ℕ, _+_, _≤_, _<_}
 use mathlib.Core.Bool.{Bool, true, false, cond}
 use mathlib.Core.List.{List, [], _∷_, _++_, map, append-assoc, append-nil}

@@ -1,4 +1,4 @@
--- 02 (h), "Noise goes": the converter. Assumes nothing.
+-- 02 (h), "Noise goes": the converter.
 use Prim.Native.Nat.{ℕ}
 use mathlib.Core.Bool.{Bool, _&&_, cond}
 use mathlib.Core.List.{List}

@@ -1,4 +1,4 @@
--- What the parts of the converter do. Contracts cite this, and no reader needs to believe it. Assumes nothing.
+-- What the parts of the converter do. Contracts cite this, and no reader needs to believe it.
 use Prim.Native.Nat.{ℕ}
 use mathlib.Core.List.{List}
 use mathlib.Core.Option.{some}

@@ -1,4 +1,4 @@
--- 02 (h): "the tree with triangle". Assumes nothing.
+-- 02 (h): "the tree with triangle".
 use Prim.Native.Nat.{ℕ}
 use mathlib.Core.Bool.{cond}
 use lib.Dec.{eqb}

@@ -1,4 +1,4 @@
--- The law on checking a converted sheet: it is open, and its tree is the one with triangle. Assumes nothing.
+-- The law on checking a converted sheet: it is open, and its tree is the one with triangle.
 use mathlib.Core.Path.{_∙_, ap}
 use Rattle.validate.specs.Checking.{verdict, checking}
 use Rattle.validate.proofs.CheckLaws.{known}

@@ -1,4 +1,4 @@
--- 02 (h), the law on checking a converted sheet. Assumes nothing.
+-- 02 (h), the law on checking a converted sheet.
 use Prim.Native.Nat.{ℕ}
 use mathlib.Core.Bool.{true}
 use mathlib.Core.List.{List}

@@ -1,4 +1,4 @@
--- Values copied one after the other. Assumes nothing.
+-- Values copied one after the other.
 use Prim.Native.Nat.{ℕ, suc, _+_, _-_, _≤_, _<_}
 use Prim.Native.String.{String}
 use native.Mathlib.Omega.{arith}

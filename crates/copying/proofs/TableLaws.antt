@@ -1,4 +1,4 @@
--- The words of a table, one after the other. Assumes nothing.
+-- The words of a table, one after the other.
 use Prim.Native.Nat.{ℕ, zero, suc, _+_, _≤_, _<_}
 use Prim.Native.String.{String}
 use mathlib.Core.Bool.{true}

@@ -1,4 +1,4 @@
--- A value of the sheet, read at a place and written as a fresh script has it: what contracts speak of. Assumes nothing.
+-- A value of the sheet, read at a place and written as a fresh script has it: what contracts speak of.
 use Prim.Native.Nat.{ℕ}
 use mathlib.Core.List.{List}
 use mathlib.Core.Path.{_≡_}

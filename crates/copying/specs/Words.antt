@@ -1,4 +1,4 @@
--- Words of the grammar in a table: what contracts speak of. Assumes nothing.
+-- Words of the grammar in a table: what contracts speak of.
 use Prim.Native.Nat.{ℕ}
 use Prim.Native.String.{String}
 use mathlib.Core.Bool.{Bool, true, _&&_}

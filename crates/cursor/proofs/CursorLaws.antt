@@ -1,4 +1,4 @@
--- Laws of a cursor, and of the grammar's rules at one. Assumes nothing.
+-- Laws of a cursor, and of the grammar's rules at one.
 use Prim.Native.Nat.{ℕ, zero, suc, _+_, _-_, _≤_, _<_}
 use mathlib.Core.Bool.{Bool, true, false, not, cond, _&&_}
 use mathlib.Core.List.{List, [], _∷_}

@@ -1,5 +1,4 @@
 -- What a cursor is, and what the answers of the functions over it mean, in terms of the grammar's rules. Contracts cite these.
--- Assumes nothing.
 use Prim.Native.Nat.{ℕ, suc, _+_, _≤_}
 use mathlib.Core.Bool.{Bool, true, false, not, cond}
 use mathlib.Core.List.{List}

@@ -1,4 +1,4 @@
--- Fields in parentheses, put one by one. Assumes nothing.
+-- Fields in parentheses, put one by one.
 use Prim.Native.Nat.{ℕ}
 use Prim.Native.String.{String}
 use mathlib.Core.Bool.{Bool, true, false, _&&_, true≢false}

@@ -1,4 +1,4 @@
--- Fields in parentheses, put one by one: what contracts speak of. Assumes nothing.
+-- Fields in parentheses, put one by one: what contracts speak of.
 use mathlib.Core.Bool.{Bool, true, false, _&&_}
 use mathlib.Core.List.{List, _∷_}
 use mathlib.Core.Option.{Option, none, some}

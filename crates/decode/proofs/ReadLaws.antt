@@ -1,4 +1,4 @@
--- One law for each combinator of forms: what reading its parts gives is what reading it gives. Assumes nothing.
+-- One law for each combinator of forms: what reading its parts gives is what reading it gives.
 use Prim.Native.Nat.{ℕ, zero, suc, _+_, _*_, _-_, _/_, _^_, _≤_, _<_}
 use mathlib.Core.Bool.{Bool, true, false, cond}
 use mathlib.Core.List.{List, [], _∷_}

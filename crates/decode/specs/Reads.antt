@@ -1,4 +1,4 @@
--- What reading a form at a place of some bytes gives. Assumes nothing.
+-- What reading a form at a place of some bytes gives.
 use Prim.Native.Nat.{ℕ, _≤_, _<_}
 use mathlib.Core.List.{List}
 use mathlib.Core.Option.{none, some}

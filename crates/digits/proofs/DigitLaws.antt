@@ -1,4 +1,4 @@
--- The digits of a number, what they read as, and how many there are. Assumes nothing.
+-- The digits of a number, what they read as, and how many there are.
 use Prim.Native.Nat.{ℕ, zero, suc, _+_, _-_, _*_, _/_, _%_, _^_, _≤_, _<_}
 use mathlib.Core.Bool.{Bool, true, false, _&&_, cond}
 use mathlib.Core.List.{List, [], _∷_, _++_}

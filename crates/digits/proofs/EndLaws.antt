@@ -1,4 +1,4 @@
--- The bits 0 are written 0; what is below 10 ^ -9 or above 10 ^ 40 is not written. Assumes nothing.
+-- The bits 0 are written 0; what is below 10 ^ -9 or above 10 ^ 40 is not written.
 use Prim.Native.Nat.{ℕ, _^_, _≤_, _<_, zero-le}
 use mathlib.Core.Logic.{⊎-elim}
 use mathlib.Core.Option.{none, some}

@@ -1,4 +1,4 @@
--- Numbers as they are written, computed: one test decides whether n over 10 ^ p is what `fewest` finds. Assumes nothing.
+-- Numbers as they are written, computed: one test decides whether n over 10 ^ p is what `fewest` finds.
 use Prim.Native.Nat.{ℕ, zero, suc, _+_, _-_, _*_, _/_, _%_, _^_, _≤_, _<_}
 use mathlib.Core.Bool.{Bool, true, false, _&&_, _||_, cond}
 use mathlib.Core.List.{[]}

@@ -1,5 +1,4 @@
 -- What `fewest` finds: a number that reads to the f32, with the fewest digits, and the smallest of these, if any reads to it.
--- Assumes nothing.
 use Prim.Native.Nat.{ℕ, _+_, _*_, _^_, _≤_, _<_}
 use mathlib.Core.Bool.{Bool, true, false, _&&_}
 use mathlib.Core.List.{List}

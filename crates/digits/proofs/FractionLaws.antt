@@ -1,5 +1,5 @@
 -- A middle times a power of ten, as a whole number and a fraction of 160 binary digits: the first whole number past it, and that it is
--- small as long as no number lies between two middles. Assumes nothing.
+-- small as long as no number lies between two middles.
 use Prim.Native.Nat.{ℕ, _+_, _-_, _*_, _^_, _≤_, _<_}
 use mathlib.Core.Bool.{Bool, true, false, cond}
 use mathlib.Core.List.{List}

@@ -1,4 +1,4 @@
--- `leastBelow p n`, the least number below n that passes the test p. Assumes nothing.
+-- `leastBelow p n`, the least number below n that passes the test p.
 use Prim.Native.Nat.{ℕ, zero, suc, _<_, _≤_}
 use mathlib.Core.Bool.{Bool, true, false}
 use mathlib.Core.Option.{Option, none, some}

@@ -1,4 +1,4 @@
--- When the search from 10 places on is asked. Assumes nothing.
+-- When the search from 10 places on is asked.
 use Prim.Native.Nat.{ℕ, zero-le, _+_, _-_, _*_, _^_, _≤_, _<_}
 use mathlib.Core.Logic.{⊎-elim}
 use mathlib.Core.Path.{_≡_, refl, sym, ap, _∙_}

@@ -1,5 +1,5 @@
 -- When the nearest f32 to a fraction is one f32 or a larger: past the middle between that f32 and the next smaller one, or at it where the
--- tie goes up. Assumes nothing.
+-- tie goes up.
 use Prim.Native.Nat.{ℕ, zero, suc, zero-le, _+_, _-_, _*_, _/_, _%_, _^_, _≤_, _<_}
 use Prim.Native.Nat.{suc-le-suc, compare, Ordering, Ordering·lt, Ordering·eq, Ordering·gt}
 use mathlib.Core.Bool.{false}

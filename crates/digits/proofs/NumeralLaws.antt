@@ -1,4 +1,4 @@
--- Written numbers as parts: every number that can be written is one, with no more digits than it is written with. Assumes nothing.
+-- Written numbers as parts: every number that can be written is one, with no more digits than it is written with.
 use Prim.Native.Nat.{ℕ, zero, suc, _+_, _-_, _*_, _/_, _^_, _≤_, _<_}
 use mathlib.Core.Bool.{Bool, true, false, _&&_}
 use mathlib.Core.List.{List, [], _∷_}

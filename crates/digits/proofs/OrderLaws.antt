@@ -1,4 +1,4 @@
--- The bits of the nearest f32 rise with the fraction. Assumes nothing.
+-- The bits of the nearest f32 rise with the fraction.
 use Prim.Native.Nat.{ℕ, _+_, _-_, _*_, _/_, _^_, _≤_, _<_, zero-le}
 use mathlib.Core.Bool.{Bool, true, false, cond, true≢false}
 use mathlib.Core.Logic.{⊎-elim}

@@ -1,4 +1,4 @@
--- A percent's f32 rises with the percent, and its sign is the topmost bit; what `leastPercent` finds. Assumes nothing.
+-- A percent's f32 rises with the percent, and its sign is the topmost bit; what `leastPercent` finds.
 use Prim.Native.Nat.{ℕ, zero, suc, _+_, _*_, _/_, _-_, _^_, _≤_, _<_}
 use mathlib.Core.Bool.{Bool, true, false, not, cond, true≢false}
 use mathlib.Core.Logic.{⊎-elim, inl, inr}

@@ -1,4 +1,4 @@
--- The search over the places behind the point finds the number with the fewest digits, and the smallest of these. Assumes nothing.
+-- The search over the places behind the point finds the number with the fewest digits, and the smallest of these.
 -- Of the numbers with p places that read to an f32 the least has the fewest digits; with more places it is no larger.
 use Prim.Native.Nat.{ℕ, zero, suc, suc-le-suc, _+_, _-_, _*_, _/_, _^_, _≤_, _<_}
 use mathlib.Core.Bool.{Bool, true, false}

@@ -1,5 +1,4 @@
 -- The least whole number that reads to an f32 above 10 ^ 10: the middle below it is an even whole number, and more places are more digits.
--- Assumes nothing.
 use Prim.Native.Nat.{ℕ, zero, suc, _+_, _-_, _*_, _/_, _%_, _^_, _≤_, _<_}
 use mathlib.Core.Logic.{_⊎_, inl, inr, ⊎-elim}
 use mathlib.Core.Option.{some}

@@ -1,4 +1,4 @@
--- How many digits a number has, counted up from one more than its places. Assumes nothing.
+-- How many digits a number has, counted up from one more than its places.
 use Prim.Native.Nat.{ℕ, _+_, _*_, _^_, _≤_, _<_}
 use mathlib.Core.Path.{_≡_, sym, ap, _∙_}
 use native.Mathlib.Nat.{le-trans, le-of-eq, lt-of-le-of-lt, lt-of-not-le, not-le-of-lt, pow-le-pow-right, pow-suc}

@@ -1,4 +1,4 @@
--- 02 (f): "a number has no suffix and the fewest digits that read to it, the smallest in size of these". Assumes nothing.
+-- 02 (f): "a number has no suffix and the fewest digits that read to it, the smallest in size of these".
 -- A number without sign is so many of 10 ^ -40, here called parts. The searches are never computed: proofs/FewestLaws.antt says what they
 -- find.
 use Prim.Native.Nat.{ℕ, zero, suc, _+_, _/_, _%_, _^_}

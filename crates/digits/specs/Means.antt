@@ -1,4 +1,4 @@
--- What private functions ensure: words of contracts, which a reader need not believe. Assumes nothing.
+-- What private functions ensure: words of contracts, which a reader need not believe.
 use Prim.Native.Nat.{ℕ, _+_, _-_, _*_, _/_, _%_, _^_, _<_, _≤_}
 use mathlib.Core.Bool.{true, false, cond}
 use mathlib.Core.List.{List}

@@ -1,4 +1,4 @@
--- A number as it is written, without its sign and a suffix: the digits before its point, and those behind it. Assumes nothing.
+-- A number as it is written, without its sign and a suffix: the digits before its point, and those behind it.
 use Prim.Native.Nat.{ℕ, _+_, _≤_, _<_}
 use mathlib.Core.Bool.{Bool, true, false, _&&_}
 use mathlib.Core.List.{List, [], _∷_}

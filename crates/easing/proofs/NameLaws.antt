@@ -1,4 +1,4 @@
--- Laws of snake case, a byte of a name at a time, and of lookups among the names. Assumes nothing.
+-- Laws of snake case, a byte of a name at a time, and of lookups among the names.
 use Prim.Native.Nat.{ℕ, _+_, _≤_, _<_}
 use mathlib.Core.Bool.{Bool, true, false, not}
 use mathlib.Core.List.{List, [], _∷_, _++_}

@@ -1,4 +1,4 @@
--- easing.rs: the names of easings, and parser.rs's to_snake_case. Assumes nothing.
+-- easing.rs: the names of easings, and parser.rs's to_snake_case.
 use Prim.Native.Nat.{ℕ}
 use Prim.Native.String.{String}
 use mathlib.Core.Bool.{Bool, cond}

@@ -1,4 +1,4 @@
--- Laws of a sheet that is zeroed from a place on. Assumes nothing.
+-- Laws of a sheet that is zeroed from a place on.
 use Prim.Native.Nat.{ℕ, _+_, _-_, _≤_}
 use mathlib.Core.Bool.{Bool, true, false}
 use mathlib.Core.List.{List, [], _∷_, _++_, append-nil}

@@ -1,4 +1,4 @@
--- The bytes of each case of an enum, by computing, and how long they are at most. Assumes nothing.
+-- The bytes of each case of an enum, by computing, and how long they are at most.
 use Prim.Native.Nat.{ℕ, suc, _≤_}
 use mathlib.Core.Bool.{Bool}
 use mathlib.Core.List.{[], _∷_, _++_}

@@ -1,4 +1,4 @@
--- Laws of the fields' widths: a number in k bytes, over any k; the lengths of the small forms. Assumes nothing.
+-- Laws of the fields' widths: a number in k bytes, over any k; the lengths of the small forms.
 use Prim.Native.Nat.{ℕ, zero, suc, _+_, _-_, _*_, _/_, _%_, _^_, _<_}
 use mathlib.Core.Bool.{Bool}
 use mathlib.Core.List.{List, [], _∷_, _++_, append-nil, append-assoc}

@@ -1,4 +1,4 @@
--- Laws of bytes that are written over a list. Assumes nothing.
+-- Laws of bytes that are written over a list.
 use Prim.Native.Nat.{ℕ, suc, _+_, _≤_}
 use mathlib.Core.List.{List, [], _∷_, _++_}
 use mathlib.Core.Path.{_≡_, refl, sym, ap, _∙_}

@@ -1,4 +1,4 @@
--- The tree's value of what the code holds, each float as its bits; and that no float in it is a NaN. Assumes nothing.
+-- The tree's value of what the code holds, each float as its bits; and that no float in it is a NaN.
 use Prim.Native.Nat.{ℕ}
 use mathlib.Core.Bool.{Bool, true, false, not}
 use mathlib.Core.Option.{Option, none, some}

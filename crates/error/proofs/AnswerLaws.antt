@@ -1,4 +1,4 @@
--- An answer that is the one defined has its number and values. Assumes nothing.
+-- An answer that is the one defined has its number and values.
 use Prim.Native.Nat.{ℕ}
 use mathlib.Core.List.{List}
 use mathlib.Core.Path.{_≡_, ap}

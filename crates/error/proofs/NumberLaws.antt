@@ -1,4 +1,4 @@
--- The number of a refusal is that of a word that counts scripts. Assumes nothing.
+-- The number of a refusal is that of a word that counts scripts.
 use Prim.Native.Nat.{ℕ, _≤_}
 use native.Mathlib.Omega.{arith}
 use Rattle.error.specs.Refusal.{numberOf}

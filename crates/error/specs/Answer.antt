@@ -1,4 +1,4 @@
--- The number and the values of each answer: 0 and what is given, or a refusal's number and its place. Assumes nothing.
+-- The number and the values of each answer: 0 and what is given, or a refusal's number and its place.
 use Prim.Native.Nat.{ℕ}
 use mathlib.Core.List.{List, [], _∷_}
 use Rattle.error.specs.Refusal.{numberOf}

@@ -1,4 +1,4 @@
--- 01, "Refusals": the number of each cause in the table. Assumes nothing.
+-- 01, "Refusals": the number of each cause in the table.
 use Prim.Native.Nat.{ℕ}
 use Rattle.error.specs.declared.Refusal.{Refusal}
 use Rattle.error.specs.declared.Refusal.the-variants as cause

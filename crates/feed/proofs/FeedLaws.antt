@@ -1,4 +1,4 @@
--- Laws of feeding: what records add to the totals, and the operation by cases of the answers. Assumes nothing.
+-- Laws of feeding: what records add to the totals, and the operation by cases of the answers.
 use Prim.Native.Nat.{ℕ, suc, _+_, _≤_, _<_}
 use mathlib.Core.Bool.{Bool, true, false, _||_, cond}
 use mathlib.Core.List.{List, [], _∷_, _++_, map}

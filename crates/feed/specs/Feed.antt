@@ -1,4 +1,4 @@
--- 02 (b), "A morning sheet over the whole chain": feeding. Assumes nothing.
+-- 02 (b), "A morning sheet over the whole chain": feeding.
 use Prim.Native.Nat.{ℕ, _+_}
 use mathlib.Core.Bool.{Bool, _||_, cond}
 use mathlib.Core.List.{List, []}

@@ -1,4 +1,4 @@
--- Laws of lists of fields, whatever their table. Assumes nothing.
+-- Laws of lists of fields, whatever their table.
 use Prim.Native.Nat.{ℕ, zero, suc, _+_, _≤_, _<_, _-_}
 use Prim.Native.String.{String}
 use mathlib.Core.Bool.{Bool, true, false}

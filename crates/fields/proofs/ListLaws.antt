@@ -1,4 +1,4 @@
--- A list that is read in a loop: what the loop has so far, and what it gives. Assumes nothing.
+-- A list that is read in a loop: what the loop has so far, and what it gives.
 use Prim.Native.Nat.{ℕ, suc, _≤_, _<_}
 use mathlib.Core.Bool.{true, false}
 use mathlib.Core.List.{List, _∷_}

@@ -1,4 +1,4 @@
--- What the next field of a list is, in terms of the grammar's rules. Contracts cite these. Assumes nothing.
+-- What the next field of a list is, in terms of the grammar's rules. Contracts cite these.
 use Prim.Native.Nat.{ℕ, _+_, _≤_, _<_}
 use Prim.Native.String.{String}
 use mathlib.Core.List.{List, [], _∷_}

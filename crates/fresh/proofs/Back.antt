@@ -1,4 +1,4 @@
--- 02 (f): "Reading the fresh script must give the same tree". Assumes nothing.
+-- 02 (f): "Reading the fresh script must give the same tree".
 use Prim.Native.Nat.{ℕ}
 use mathlib.Core.Bool.{true}
 use mathlib.Core.List.{[]}

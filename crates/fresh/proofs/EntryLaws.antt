@@ -1,4 +1,4 @@
--- A field and its value, as they are written, are read; and what a list of fields says. Assumes nothing.
+-- A field and its value, as they are written, are read; and what a list of fields says.
 use Prim.Native.Nat.{ℕ}
 use Prim.Native.String.{String}
 use mathlib.Core.Bool.{Bool, true, false, _||_, cond}

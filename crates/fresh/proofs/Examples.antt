@@ -1,4 +1,4 @@
--- Fresh scripts as 02 has them, computed with a `form` that knows a few numbers. Assumes nothing.
+-- Fresh scripts as 02 has them, computed with a `form` that knows a few numbers.
 use Prim.Native.Nat.{ℕ}
 use mathlib.Core.Bool.{Bool, true, false, cond}
 use mathlib.Core.List.{[], _∷_}

@@ -1,4 +1,4 @@
--- Lists of fields, as they are written, are read. Assumes nothing.
+-- Lists of fields, as they are written, are read.
 use Prim.Native.Nat.{ℕ, zero, suc, _+_, _<_}
 use Prim.Native.String.{String}
 use mathlib.Core.Bool.{true, false}

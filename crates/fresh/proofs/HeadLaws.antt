@@ -1,4 +1,4 @@
--- Presets, and what stands before a container's block, as they are written, are read. Assumes nothing.
+-- Presets, and what stands before a container's block, as they are written, are read.
 use Prim.Native.Nat.{ℕ}
 use Prim.Native.String.{String}
 use mathlib.Core.Bool.{Bool, true, false}

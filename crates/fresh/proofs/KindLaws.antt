@@ -1,4 +1,4 @@
--- The leaves spring, path, morph, color and waveform, as they are written, are read. Assumes nothing.
+-- The leaves spring, path, morph, color and waveform, as they are written, are read.
 use Prim.Native.Nat.{ℕ}
 use mathlib.Core.List.{List, [], _∷_}
 use mathlib.Core.Option.{Option, some}

@@ -1,4 +1,4 @@
--- Leaves, as they are written, are read. Assumes nothing.
+-- Leaves, as they are written, are read.
 use Prim.Native.Nat.{ℕ}
 use mathlib.Core.Bool.{Bool, true, false, _||_}
 use mathlib.Core.List.{List, [], _∷_}

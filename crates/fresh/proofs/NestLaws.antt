@@ -1,4 +1,4 @@
--- The delimiters of a fresh script are in pairs, and not too deep. Assumes nothing.
+-- The delimiters of a fresh script are in pairs, and not too deep.
 use Prim.Native.Nat.{ℕ, zero, suc, _+_, _≤_, _<_}
 use Prim.Native.String.{String}
 use mathlib.Core.Bool.{Bool, true, false}

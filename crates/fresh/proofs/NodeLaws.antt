@@ -1,4 +1,4 @@
--- Nodes, as they are written, are read. Assumes nothing.
+-- Nodes, as they are written, are read.
 use Prim.Native.Nat.{ℕ, zero, suc}
 use Prim.Native.String.{String}
 use mathlib.Core.Bool.{true, false}

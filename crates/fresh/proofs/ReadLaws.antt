@@ -1,4 +1,4 @@
--- Rules over the tokens of pieces: a rule takes the pieces up to some that follow, and gives a value with a property. Assumes nothing.
+-- Rules over the tokens of pieces: a rule takes the pieces up to some that follow, and gives a value with a property.
 -- s is the text of the pieces.
 use Prim.Native.Nat.{ℕ, zero, suc, _+_, _≤_, _<_}
 use mathlib.Core.Bool.{Bool, true, false}

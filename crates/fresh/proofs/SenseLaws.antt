@@ -1,4 +1,4 @@
--- A tree with its times stored has the same sense. Assumes nothing.
+-- A tree with its times stored has the same sense.
 use Prim.Native.Nat.{ℕ}
 use mathlib.Core.List.{List, [], _∷_}
 use mathlib.Core.Path.{_≡_, refl}

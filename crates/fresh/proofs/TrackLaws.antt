@@ -1,4 +1,4 @@
--- Tracks of frames, as they are written, are read. Assumes nothing.
+-- Tracks of frames, as they are written, are read.
 use Prim.Native.Nat.{ℕ}
 use mathlib.Core.Bool.{Bool, true, false, cond}
 use mathlib.Core.List.{List, [], _∷_, _++_, append-assoc}

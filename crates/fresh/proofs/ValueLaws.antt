@@ -1,4 +1,4 @@
--- Numbers, values, easings and loop modes, as they are written, are read. Assumes nothing.
+-- Numbers, values, easings and loop modes, as they are written, are read.
 use Prim.Native.Nat.{ℕ, suc, _-_}
 use Prim.Native.String.{String}
 use mathlib.Core.Bool.{Bool, true, false, _&&_}

@@ -1,4 +1,4 @@
--- 02 (f): the pieces of a fresh script for a tree. Assumes nothing.
+-- 02 (f): the pieces of a fresh script for a tree.
 -- Each writer puts its pieces in front of those that follow. Fields stand "in ast.rs order where the grammar leaves it free".
 use Prim.Native.Nat.{ℕ, zero, suc, _-_}
 use Prim.Native.Char.{Char, code}

@@ -1,5 +1,5 @@
 -- 02 (f): "the same tree: equal values bit for bit, equal names and strings, though starts may differ". The sense of a tree is the tree
--- without starts, with the bytes of its names and strings: two trees are the same if their senses are equal. Assumes nothing.
+-- without starts, with the bytes of its names and strings: two trees are the same if their senses are equal.
 use Prim.Native.Nat.{ℕ}
 use mathlib.Core.Bool.{Bool}
 use mathlib.Core.List.{List, [], _∷_}

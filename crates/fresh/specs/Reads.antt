@@ -1,4 +1,4 @@
--- 02 (f): "no text under 01's rules, its length limit set aside, reads to that tree": when a text reads to one. Assumes nothing.
+-- 02 (f): "no text under 01's rules, its length limit set aside, reads to that tree": when a text reads to one.
 use Prim.Native.Nat.{ℕ, zero, suc}
 use mathlib.Core.List.{List}
 use mathlib.Core.Option.{none}

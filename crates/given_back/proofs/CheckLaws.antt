@@ -1,4 +1,4 @@
--- Checking never refuses with 34. Assumes nothing.
+-- Checking never refuses with 34.
 use Prim.Native.Nat.{ℕ, suc, _+_}
 use Prim.Native.String.{String}
 use mathlib.Core.Bool.{Bool, true, false, _&&_, not, cond, true≢false}

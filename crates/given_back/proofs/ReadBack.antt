@@ -1,4 +1,4 @@
--- 02 (f), the two laws on writing. Assumes nothing.
+-- 02 (f), the two laws on writing.
 use Prim.Native.Nat.{ℕ, _-_, _≤_}
 use mathlib.Core.Bool.{Bool, true, false, _||_, cond}
 use mathlib.Core.List.{List, _++_}

@@ -1,4 +1,4 @@
--- A text that reads to a tree: reading accepts it, if it is short enough, and gives that tree. Assumes nothing.
+-- A text that reads to a tree: reading accepts it, if it is short enough, and gives that tree.
 use Prim.Native.Nat.{ℕ, _≤_}
 use mathlib.Core.List.{List}
 use mathlib.Core.Path.{_≡_, refl, _∙_}

@@ -1,4 +1,4 @@
--- The fresh script of a sheet's tree reads to that tree, and no text does where there is none. Assumes nothing.
+-- The fresh script of a sheet's tree reads to that tree, and no text does where there is none.
 use Prim.Native.Nat.{ℕ, _≤_}
 use mathlib.Core.Bool.{Bool, true, false, true≢false}
 use mathlib.Core.List.{List}

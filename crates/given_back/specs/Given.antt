@@ -1,4 +1,4 @@
--- What reading gives for a text, whatever scratch and sheet are lent. Assumes nothing.
+-- What reading gives for a text, whatever scratch and sheet are lent.
 use Prim.Native.Nat.{ℕ, _-_, _≤_}
 use mathlib.Core.List.{List, _++_}
 use mathlib.Core.Option.{some}

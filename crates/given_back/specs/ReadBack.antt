@@ -1,4 +1,4 @@
--- 02 (f), the two laws on writing: reading the fresh script gives the same tree, and 34 is exact. Assumes nothing.
+-- 02 (f), the two laws on writing: reading the fresh script gives the same tree, and 34 is exact.
 use Prim.Native.Nat.{ℕ}
 use mathlib.Core.List.{List}
 use mathlib.Core.Option.{some}

@@ -1,4 +1,4 @@
--- parser.rs, "Field-list helper": lists of fields, and what such a list says. Assumes nothing.
+-- parser.rs, "Field-list helper": lists of fields, and what such a list says.
 use Prim.Native.Nat.{ℕ}
 use Prim.Native.Char.{code}
 use Prim.Native.String.{String}

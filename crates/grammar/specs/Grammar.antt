@@ -1,5 +1,5 @@
 -- parser.rs: a rule for each function that parses a node, under its name. A rule stands behind what it uses, else in parser.rs's order
--- (docs/PORT.md). Assumes nothing.
+-- (docs/PORT.md).
 use Prim.Native.Nat.{ℕ, zero, suc}
 use Prim.Native.String.{String}
 use mathlib.Core.Bool.{Bool, true, false, _&&_, _||_, not, cond}

@@ -1,4 +1,4 @@
--- What the grammar's rules are made of: the steps of syn's ParseStream. Assumes nothing.
+-- What the grammar's rules are made of: the steps of syn's ParseStream.
 -- A rule gets what is noted so far and the tokens from the cursor on. It gives a value, with both as they are then, or a refusal and its
 -- place.
 use Prim.Native.Nat.{ℕ, zero, suc}

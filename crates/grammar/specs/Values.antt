@@ -1,4 +1,4 @@
--- parser.rs, "Numeric helpers" and "Value / Easing / Loop primitives", callees first. Assumes nothing.
+-- parser.rs, "Numeric helpers" and "Value / Easing / Loop primitives", callees first.
 use Prim.Native.Nat.{ℕ}
 use Prim.Native.String.{String}
 use mathlib.Core.Bool.{Bool, true, false, _&&_}

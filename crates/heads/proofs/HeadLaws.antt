@@ -1,4 +1,4 @@
--- Laws of the fields of `grid` and `random`, and of patterns. Assumes nothing.
+-- Laws of the fields of `grid` and `random`, and of patterns.
 use Prim.Native.Nat.{ℕ}
 use Prim.Native.String.{String}
 use mathlib.Core.List.{List, []}

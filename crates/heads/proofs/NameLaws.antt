@@ -1,4 +1,4 @@
--- Laws of a word that is looked up: its place in a list of names, and what a list has under it. Assumes nothing.
+-- Laws of a word that is looked up: its place in a list of names, and what a list has under it.
 use Prim.Native.Nat.{ℕ, suc, _+_, _<_}
 use Prim.Native.String.{String}
 use mathlib.Core.Bool.{Bool, true, false}

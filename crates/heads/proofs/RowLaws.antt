@@ -1,4 +1,4 @@
--- Laws of rows: what holds of the row at a place, and of fields that are read in a loop. Assumes nothing.
+-- Laws of rows: what holds of the row at a place, and of fields that are read in a loop.
 use Prim.Native.Nat.{ℕ, zero, suc, _+_, _<_}
 use Prim.Native.String.{String}
 use mathlib.Core.Bool.{true, false}

@@ -1,4 +1,4 @@
--- Laws of the fields before the block of `stagger`, read in a loop. Assumes nothing.
+-- Laws of the fields before the block of `stagger`, read in a loop.
 use Prim.Native.Nat.{ℕ, suc, _≤_, _<_}
 use Prim.Native.String.{String}
 use mathlib.Core.Bool.{true, false}

@@ -1,4 +1,4 @@
--- A frame's entry, read and written. Assumes nothing.
+-- A frame's entry, read and written.
 use Prim.Native.Nat.{ℕ, _+_, _*_, _-_, _≤_}
 use mathlib.Core.Bool.{Bool, true, false}
 use mathlib.Core.List.{List, [], _∷_, _++_, append-nil, append-assoc}

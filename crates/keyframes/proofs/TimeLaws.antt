@@ -1,4 +1,4 @@
--- A key's time, and an easing. Assumes nothing.
+-- A key's time, and an easing.
 use Prim.Native.Nat.{ℕ, _+_, _≤_}
 use mathlib.Core.Bool.{Bool, true, false, _&&_, cond}
 use mathlib.Core.List.{List}

@@ -1,4 +1,4 @@
--- The items of a track. Assumes nothing.
+-- The items of a track.
 use Prim.Native.Nat.{ℕ, _+_, _*_, _-_, _≤_}
 use mathlib.Core.Bool.{Bool, true, false}
 use mathlib.Core.List.{List, [], _∷_, _++_, append-nil}

@@ -1,4 +1,4 @@
--- What the functions of a track answer. Contracts cite these. Assumes nothing.
+-- What the functions of a track answer. Contracts cite these.
 use Prim.Native.Nat.{ℕ, _+_, _*_, _-_, _^_, _≤_, _<_}
 use mathlib.Core.Bool.{Bool, true, false, cond}
 use mathlib.Core.List.{List, [], _++_}

@@ -1,4 +1,4 @@
--- `start..end` is read. Assumes nothing.
+-- `start..end` is read.
 use Prim.Native.Nat.{ℕ}
 use mathlib.Core.List.{List}
 use mathlib.Core.Path.{_≡_}

@@ -1,4 +1,4 @@
--- What the fields of draw, morph, color and path keep. Contracts cite these. Assumes nothing.
+-- What the fields of draw, morph, color and path keep. Contracts cite these.
 use Prim.Native.Nat.{ℕ}
 use mathlib.Core.List.{List, [], _∷_}
 use mathlib.Core.Path.{_≡_}

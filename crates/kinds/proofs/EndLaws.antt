@@ -1,4 +1,4 @@
--- The end of a node: its fields are taken, and its record is written. Assumes nothing.
+-- The end of a node: its fields are taken, and its record is written.
 use Prim.Native.Nat.{ℕ, _+_, _≤_}
 use mathlib.Core.List.{List, []}
 use mathlib.Core.Path.{_≡_, sym}

@@ -1,4 +1,4 @@
--- A node is what stands before its end, and its end. Assumes nothing.
+-- A node is what stands before its end, and its end.
 use Prim.Native.Nat.{ℕ, _+_, _≤_}
 use mathlib.Core.List.{List, [], _∷_}
 use mathlib.Core.Path.{_≡_}

@@ -1,4 +1,4 @@
--- The fields of preset, in parentheses and behind a `,`. Assumes nothing.
+-- The fields of preset, in parentheses and behind a `,`.
 use Prim.Native.Nat.{ℕ, _+_, _≤_}
 use mathlib.Core.Bool.{true, false}
 use mathlib.Core.List.{List, []}

@@ -1,4 +1,4 @@
--- The nodes that hold a name or strings, and fields: what stands behind these, and what is written. Contracts cite these. Assumes nothing.
+-- The nodes that hold a name or strings, and fields: what stands behind these, and what is written. Contracts cite these.
 use Prim.Native.Nat.{ℕ, _+_, _*_, _-_, _≤_}
 use mathlib.Core.List.{List, []}
 use mathlib.Core.Path.{_≡_}

@@ -1,4 +1,4 @@
--- The row of the grammar's table at a place. Assumes nothing.
+-- The row of the grammar's table at a place.
 use Prim.Native.Nat.{ℕ, zero, suc, _≤_}
 use Prim.Native.String.{String}
 use mathlib.Core.List.{List, [], _∷_}

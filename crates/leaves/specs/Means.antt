@@ -1,4 +1,4 @@
--- What the answer for a leaf means: it is the row's of the grammar's table. Contracts cite this. Assumes nothing.
+-- What the answer for a leaf means: it is the row's of the grammar's table. Contracts cite this.
 use Prim.Native.Nat.{ℕ}
 use Prim.Native.String.{String}
 use mathlib.Core.List.{List}

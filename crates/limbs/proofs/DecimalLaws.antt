@@ -1,4 +1,4 @@
--- Powers of ten among limbs: bounds of reading and scaling. Assumes nothing.
+-- Powers of ten among limbs: bounds of reading and scaling.
 use mathlib.Core.Path.{_≡_, sym, ap, _∙_}
 use mathlib.Core.List.{List, [], _∷_}
 use Prim.Native.Nat.{ℕ, zero, suc, _+_, _-_, _*_, _^_, _≤_, _<_}

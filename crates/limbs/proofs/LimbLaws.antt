@@ -1,4 +1,4 @@
--- Laws of limbs: one limb of a product, of a difference, and the order. Assumes nothing.
+-- Laws of limbs: one limb of a product, of a difference, and the order.
 use mathlib.Core.Path.{_≡_, refl, sym, ap, _∙_, subst}
 use mathlib.Core.List.{List}
 use Prim.Native.Nat.{ℕ, zero, suc, _+_, _-_, _*_, _/_, _%_, _^_, _≤_, _<_}

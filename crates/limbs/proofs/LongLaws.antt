@@ -1,4 +1,4 @@
--- Long division, a binary digit at a time, as the certificate of `number`'s rounding. Assumes nothing.
+-- Long division, a binary digit at a time, as the certificate of `number`'s rounding.
 use mathlib.Core.Path.{_≡_, refl, sym, ap, _∙_, subst}
 use mathlib.Core.Logic.{_⊎_, inl, inr}
 use Prim.Native.Nat.{ℕ, zero, suc, _+_, _-_, _*_, _/_, _%_, _^_, _≤_, _<_}

@@ -1,4 +1,4 @@
--- Laws of digits read as one number. Assumes nothing.
+-- Laws of digits read as one number.
 use Prim.Native.Nat.{ℕ, zero, suc, _+_, _-_, _*_, _^_, _≤_, _<_}
 use mathlib.Core.List.{List, [], _∷_}
 use mathlib.Core.Bool.{Bool, true, false}

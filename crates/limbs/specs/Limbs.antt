@@ -1,4 +1,4 @@
--- A whole number as a list of limbs of 32 bits, the lowest first. Assumes nothing.
+-- A whole number as a list of limbs of 32 bits, the lowest first.
 use mathlib.Core.List.{List}
 use Prim.Native.Nat.{ℕ, zero, suc, _+_, _*_, _^_}
 use lib.ListN.{getD, length}

@@ -1,4 +1,4 @@
--- What the functions ensure: words of contracts, which a reader need not believe. Assumes nothing.
+-- What the functions ensure: words of contracts, which a reader need not believe.
 use mathlib.Core.Path.{_≡_}
 use mathlib.Core.Logic.{_⊎_}
 use mathlib.Core.Bool.{Bool, false}

@@ -1,4 +1,4 @@
--- Easings, loop modes, and the rules for what a field holds. Assumes nothing.
+-- Easings, loop modes, and the rules for what a field holds.
 use Prim.Native.Nat.{ℕ, _+_, _*_, _≤_, _<_}
 use Prim.Native.String.{String}
 use mathlib.Core.Bool.{_&&_}

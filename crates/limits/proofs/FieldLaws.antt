@@ -1,4 +1,4 @@
--- Lists of fields: what their contents are, and what text they take. Assumes nothing.
+-- Lists of fields: what their contents are, and what text they take.
 use Prim.Native.Nat.{ℕ, _+_, _-_, _*_, _≤_, _<_}
 use Prim.Native.String.{String}
 use mathlib.Core.Bool.{Bool, true, false, cond}

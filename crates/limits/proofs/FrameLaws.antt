@@ -1,4 +1,4 @@
--- A track of keyframes fits the sheet, and the text pays for its frames. Assumes nothing.
+-- A track of keyframes fits the sheet, and the text pays for its frames.
 use Prim.Native.Nat.{ℕ, _+_, _*_, _≤_, _<_}
 use mathlib.Core.Bool.{Bool, true, false, _&&_, cond}
 use mathlib.Core.List.{List, [], _∷_, _++_}

@@ -1,4 +1,4 @@
--- What stands between a container's keyword and its block fits the sheet. Assumes nothing.
+-- What stands between a container's keyword and its block fits the sheet.
 use Prim.Native.Nat.{ℕ, _+_, _*_, _≤_, _<_}
 use mathlib.Core.Bool.{Bool, true, false}
 use mathlib.Core.List.{List, [], _++_}

@@ -1,4 +1,4 @@
--- Each rule for a node that holds no others gives one that fits the sheet, and whose record the text pays for. Assumes nothing.
+-- Each rule for a node that holds no others gives one that fits the sheet, and whose record the text pays for.
 use Prim.Native.Nat.{ℕ, _+_, _*_, _≤_, _<_}
 use mathlib.Core.Bool.{Bool, true, false, cond}
 use mathlib.Core.List.{List, [], _∷_}

@@ -1,4 +1,4 @@
--- What the grammar's tree of a text is to the sheet, for every text that has one: what demand 3 needs of reading. Assumes nothing.
+-- What the grammar's tree of a text is to the sheet, for every text that has one: what demand 3 needs of reading.
 use Prim.Native.Nat.{ℕ, suc, _*_, _≤_, _<_}
 use mathlib.Core.Bool.{false}
 use mathlib.Core.List.{List, [], _∷_}

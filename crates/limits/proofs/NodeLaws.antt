@@ -1,4 +1,4 @@
--- Nodes and blocks, by the number of containers that may still nest. Assumes nothing.
+-- Nodes and blocks, by the number of containers that may still nest.
 use Prim.Native.Nat.{ℕ, zero, suc, _+_, _*_, _≤_, _<_}
 use Prim.Native.String.{String}
 use mathlib.Core.List.{List, []}

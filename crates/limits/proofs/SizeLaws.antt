@@ -1,4 +1,4 @@
--- How many bytes the forms of the sheet write at most. Assumes nothing.
+-- How many bytes the forms of the sheet write at most.
 use Prim.Native.Nat.{ℕ, suc, _+_, _≤_}
 use mathlib.Core.Bool.{Bool}
 use mathlib.Core.List.{List, _++_}

@@ -1,4 +1,4 @@
--- Names, strings, numbers and values: they fit the sheet, and what text each takes. Assumes nothing.
+-- Names, strings, numbers and values: they fit the sheet, and what text each takes.
 use Prim.Native.Nat.{ℕ, _+_, _*_, _≤_, _<_}
 use mathlib.Core.Bool.{Bool, true, false, cond}
 use mathlib.Core.List.{List, [], _∷_, _++_}

@@ -1,4 +1,4 @@
--- The digits of some bytes, read back, are those bytes. Assumes nothing.
+-- The digits of some bytes, read back, are those bytes.
 use Prim.Native.Nat.{ℕ, zero, suc, _+_, _*_, _/_, _%_, _≤_, _<_}
 use mathlib.Core.Bool.{Bool, true, false}
 use mathlib.Core.List.{List, [], _∷_}

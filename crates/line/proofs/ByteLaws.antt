@@ -1,4 +1,4 @@
--- A sheet and each of its records are bytes: what reads a sheet tests each byte that it takes. Assumes nothing.
+-- A sheet and each of its records are bytes: what reads a sheet tests each byte that it takes.
 use Prim.Native.Nat.{ℕ, zero, suc, _+_, _*_, _/_, _%_, _≤_, _<_}
 use mathlib.Core.Bool.{Bool, true, false, cond}
 use mathlib.Core.List.{List, [], _∷_, _++_, append-nil}

@@ -1,4 +1,4 @@
--- The check byte tells one byte changed, and never two swapped. Assumes nothing.
+-- The check byte tells one byte changed, and never two swapped.
 use Prim.Native.Nat.{ℕ, zero, suc, _+_, _/_, _%_, _<_}
 use mathlib.Core.List.{List, [], _∷_, _++_}
 use mathlib.Core.Logic.{_≢_}

@@ -1,4 +1,4 @@
--- Laws of a line: its length, its check byte, and where it is written. Assumes nothing.
+-- Laws of a line: its length, its check byte, and where it is written.
 use Prim.Native.Nat.{ℕ, _+_, _*_, _-_, _/_, _%_, _≤_, _<_}
 use mathlib.Core.Bool.{Bool, true, false, cond}
 use mathlib.Core.List.{List, [], _∷_, _++_, append-assoc}

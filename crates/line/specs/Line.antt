@@ -1,4 +1,4 @@
--- 01: "A line is hexadecimal, capitals, then LF: the record's length in 2 bytes, the record, a check byte." Assumes nothing.
+-- 01: "A line is hexadecimal, capitals, then LF: the record's length in 2 bytes, the record, a check byte."
 use Prim.Native.Nat.{ℕ, _+_, _-_, _/_, _%_}
 use mathlib.Core.Bool.{cond}
 use mathlib.Core.List.{List, [], _∷_, _++_}

@@ -1,4 +1,4 @@
--- 01, "Lining": the operation, with its output. Assumes nothing.
+-- 01, "Lining": the operation, with its output.
 use Prim.Native.Nat.{ℕ}
 use mathlib.Core.Bool.{cond}
 use mathlib.Core.List.{List, _++_}

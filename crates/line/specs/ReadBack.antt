@@ -1,4 +1,4 @@
--- 02 (c), over the printed line: its digits are read back. Assumes nothing.
+-- 02 (c), over the printed line: its digits are read back.
 use Prim.Native.Nat.{ℕ, suc, _+_, _*_, _%_, _<_}
 use mathlib.Core.Bool.{true, false}
 use mathlib.Core.List.{List, [], _∷_, _++_}

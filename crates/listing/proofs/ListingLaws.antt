@@ -1,4 +1,4 @@
--- The listing of a book that was read. Assumes nothing.
+-- The listing of a book that was read.
 use Prim.Native.Nat.{ℕ, suc, _+_, _≤_, _<_}
 use mathlib.Core.Bool.{Bool, true, false}
 use mathlib.Core.List.{List, _++_}

@@ -1,4 +1,4 @@
--- 02 (i): "39 exactly if a ring of calls exists", and what an accepted listing is: statements on the definitions. Assumes nothing.
+-- 02 (i): "39 exactly if a ring of calls exists", and what an accepted listing is: statements on the definitions.
 use Prim.Native.Nat.{ℕ}
 use mathlib.Core.Bool.{Bool, true, false, cond}
 use mathlib.Core.List.{List, _++_}

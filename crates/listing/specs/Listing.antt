@@ -1,4 +1,4 @@
--- 02 (i): the listing of a book's items by their calls: the answer, and the output afterwards. Assumes nothing.
+-- 02 (i): the listing of a book's items by their calls: the answer, and the output afterwards.
 use Prim.Native.Nat.{ℕ}
 use mathlib.Core.Bool.{cond}
 use mathlib.Core.List.{List, _++_}

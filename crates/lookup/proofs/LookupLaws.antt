@@ -1,4 +1,4 @@
--- Lookups, from what each of the two books has. Assumes nothing.
+-- Lookups, from what each of the two books has.
 use Prim.Native.Nat.{ℕ, _+_, _*_, _<_}
 use mathlib.Core.List.{List, [], _∷_}
 use mathlib.Core.Option.{Option, none, some}

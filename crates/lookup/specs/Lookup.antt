@@ -1,4 +1,4 @@
--- 02 (i): a name looked up in two books. Assumes nothing.
+-- 02 (i): a name looked up in two books.
 use Prim.Native.Nat.{ℕ, _-_}
 use mathlib.Core.List.{List, []}
 use mathlib.Core.Option.{Option, none, some}

@@ -1,4 +1,4 @@
--- What one script adds to each word. Assumes nothing.
+-- What one script adds to each word.
 use Prim.Native.Nat.{ℕ, zero, suc, _+_, _≤_, _<_}
 use mathlib.Core.Bool.{Bool, true, false}
 use mathlib.Core.List.{List, [], _∷_}

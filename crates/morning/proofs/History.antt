@@ -1,4 +1,4 @@
--- The totals after at most 4,096 feeds. Assumes nothing.
+-- The totals after at most 4,096 feeds.
 use Prim.Native.Nat.{ℕ, suc, _+_, _*_, _≤_, _<_}
 use mathlib.Core.Bool.{true, false}
 use mathlib.Core.List.{List, [], _∷_, _++_, append-nil}

@@ -1,4 +1,4 @@
--- The means after at most 4,096 feeds: fractions of counts over what was fed. Assumes nothing.
+-- The means after at most 4,096 feeds: fractions of counts over what was fed.
 use Prim.Native.Nat.{ℕ, zero, suc, _/_, _≤_, _<_}
 use mathlib.Core.Bool.{cond}
 use mathlib.Core.List.{List}

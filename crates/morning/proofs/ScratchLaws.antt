@@ -1,4 +1,4 @@
--- 02 (j), of feeding: all scratches of 64 words or more give the same answer, totals and sheet. Assumes nothing.
+-- 02 (j), of feeding: all scratches of 64 words or more give the same answer, totals and sheet.
 use Prim.Native.Nat.{ℕ, _≤_}
 use mathlib.Core.Bool.{Bool, true, false, cond}
 use mathlib.Core.List.{List}

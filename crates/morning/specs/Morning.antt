@@ -1,5 +1,5 @@
 -- 02 (b): "From empty totals on, every figure equals its count defined from the scripts and buffers fed and not from the stored sums, and
--- the kinds add up to all those node records". Assumes nothing.
+-- the kinds add up to all those node records".
 use Prim.Native.Nat.{ℕ, _+_, _≤_, _<_}
 use mathlib.Core.Bool.{cond}
 use mathlib.Core.List.{List, [], _∷_, _++_}

@@ -1,4 +1,4 @@
--- A leaf is taken, and its fields are written. Assumes nothing.
+-- A leaf is taken, and its fields are written.
 use Prim.Native.Nat.{ℕ}
 use mathlib.Core.Bool.{Bool, true, false, not, cond}
 use mathlib.Core.List.{List}

@@ -1,4 +1,4 @@
--- What a leaf's function answers: the leaf is taken, and its fields are written. Contracts cite these. Assumes nothing.
+-- What a leaf's function answers: the leaf is taken, and its fields are written. Contracts cite these.
 use Prim.Native.Nat.{ℕ}
 use mathlib.Core.Bool.{Bool}
 use mathlib.Core.List.{List}

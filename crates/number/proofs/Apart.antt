@@ -1,5 +1,5 @@
 -- Two fractions ±n / d and ±m / c, each of size at most 2 ^ k, and the f32s nearest to them: how far apart these are, by how far apart
--- those are. Assumes nothing.
+-- those are.
 use mathlib.Core.Path.{_≡_, sym, ap, _∙_}
 use mathlib.Core.Logic.{_⊎_, inl, inr, ⊎-elim}
 use Prim.Native.Nat.{ℕ, _+_, _-_, _*_, _/_, _^_, _≤_, _<_, zero-le}

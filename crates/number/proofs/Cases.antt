@@ -1,4 +1,4 @@
--- Worked cases of the definitions, with the shelf tests' numbers. Assumes nothing.
+-- Worked cases of the definitions, with the shelf tests' numbers.
 use mathlib.Core.Path.{_≡_, refl}
 use mathlib.Core.Bool.{true, false}
 use mathlib.Core.Option.{none, some}

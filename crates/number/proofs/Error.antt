@@ -1,4 +1,4 @@
--- How far the nearest f32 is from its fraction. `grid num den` is its size in units of 2 ^ -149, a whole number. Assumes nothing.
+-- How far the nearest f32 is from its fraction. `grid num den` is its size in units of 2 ^ -149, a whole number.
 use mathlib.Core.Path.{_≡_, sym, ap, _∙_, subst}
 use mathlib.Core.Logic.{⊎-elim}
 use Prim.Native.Nat.{ℕ, zero, suc, _+_, _-_, _*_, _/_, _%_, _^_, _≤_, _<_, compare, Ordering, Ordering·lt, Ordering·eq, Ordering·gt}

@@ -1,4 +1,4 @@
--- When the nearest f32 to a fraction is the fraction: where its division left nothing. Assumes nothing.
+-- When the nearest f32 to a fraction is the fraction: where its division left nothing.
 use mathlib.Core.Path.{_≡_, refl, sym, ap, _∙_, subst}
 use Prim.Native.Nat.{ℕ, _+_, _-_, _*_, _/_, _%_, _^_, _≤_, _<_}
 use native.Mathlib.Nat.{mul-comm, mul-assoc, mul-right-comm, mul-pos, eq-of-mul-eq-mul-right}

@@ -1,4 +1,4 @@
--- Bit patterns there and back, and that no number is stored as a NaN. Assumes nothing.
+-- Bit patterns there and back, and that no number is stored as a NaN.
 use mathlib.Core.Path.{_≡_, refl, sym, ap, _∙_, subst}
 use Prim.Native.Nat.{ℕ, zero, suc, _-_, _*_, _/_, _%_, _^_, _<_}
 use mathlib.Core.Bool.{Bool, true, false, not, cond}

@@ -1,5 +1,4 @@
 -- How far two signed fractions lie apart, as a whole number over their common denominator, and the f32 difference of two floats by it.
--- Assumes nothing.
 use mathlib.Core.Path.{_≡_, refl, sym, ap, _∙_, subst}
 use Prim.Native.Nat.{ℕ, zero, suc, _+_, _-_, _*_, _/_, _^_, _≤_, _<_}
 use native.Mathlib.Nat.{le-of-eq, mul-comm, mul-assoc, mul-right-comm, mul-le-mul-right, add-mul, mul-sub, mul-pos}

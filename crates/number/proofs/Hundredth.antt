@@ -1,4 +1,4 @@
--- A whole percent up to 2 ^ 24 is rounded once. Assumes nothing.
+-- A whole percent up to 2 ^ 24 is rounded once.
 use mathlib.Core.Path.{_≡_, refl, ap, _∙_}
 use Prim.Native.Nat.{ℕ, _*_, _≤_}
 use native.Mathlib.Nat.{mul-comm, mul-assoc, mul-pos}

@@ -1,6 +1,6 @@
 -- What rounds to an f32, by a certificate: a whole number of doublings k, and a fraction a / b that is num / den scaled by 2 ^ (149 - k),
 -- whose whole part has 24 binary digits, or fewer where k = 0.
--- Then the bits of the nearest f32 are k * 2 ^ 23 + the nearest whole number to a / b. Assumes nothing.
+-- Then the bits of the nearest f32 are k * 2 ^ 23 + the nearest whole number to a / b.
 use mathlib.Core.Path.{_≡_, refl, sym, ap, _∙_, subst}
 use mathlib.Core.Logic.{_⊎_, inl, inr, ⊎-elim}
 use Prim.Native.Nat.{ℕ, zero, suc, _+_, _-_, _*_, _/_, _%_, _^_, _≤_, _<_, compare}

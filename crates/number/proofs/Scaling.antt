@@ -1,5 +1,4 @@
 -- A fraction n / d scaled by powers of two, found from the leading zeros of n and d, so that its whole part has 24 binary digits.
--- Assumes nothing.
 use mathlib.Core.Path.{_≡_, sym, ap, _∙_, subst}
 use mathlib.Core.Logic.{inr}
 use mathlib.Core.Bool.{Bool, false, not}

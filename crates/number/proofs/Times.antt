@@ -1,4 +1,4 @@
--- Demand 3's numeric laws, of one written time and of two. Assumes nothing.
+-- Demand 3's numeric laws, of one written time and of two.
 use mathlib.Core.Path.{_≡_, refl, sym, ap, _∙_, subst}
 use mathlib.Core.Logic.{_⊎_, inl, inr}
 use mathlib.Core.Bool.{Bool, true, false, cond}

@@ -1,4 +1,4 @@
--- Demand 3's numeric laws, of a list of written times. Assumes nothing.
+-- Demand 3's numeric laws, of a list of written times.
 use mathlib.Core.Path.{_≡_, refl, sym, ap, _∙_, subst}
 use mathlib.Core.Logic.{_⊎_, ⊎-elim}
 use mathlib.Core.Bool.{Bool, true, false, _||_}

@@ -1,4 +1,4 @@
--- What is rounded twice on its way to n / 100: it is n / 100 exactly if n / 100 is an f32, and it equals that. Assumes nothing.
+-- What is rounded twice on its way to n / 100: it is n / 100 exactly if n / 100 is an f32, and it equals that.
 use mathlib.Core.Path.{_≡_, refl, sym, ap, _∙_, subst}
 use Prim.Native.Nat.{ℕ, zero, suc, _+_, _-_, _*_, _%_, _^_, _≤_, _<_, suc-le-suc}
 use native.Mathlib.Nat.{lt-irrefl, lt-of-not-le, not-le-of-lt, mul-one, mul-assoc}

@@ -1,4 +1,4 @@
--- What the code's answers stand for. Assumes nothing.
+-- What the code's answers stand for.
 use Prim.Native.Nat.{ℕ, _<_}
 use mathlib.Core.Logic.{_⊎_}
 use mathlib.Core.Path.{_≡_}

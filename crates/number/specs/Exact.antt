@@ -1,4 +1,4 @@
--- Exact numbers, ±num / den, and how far apart two are. Assumes nothing.
+-- Exact numbers, ±num / den, and how far apart two are.
 -- 01: "Sizes and differences are judged exactly, over whole numbers": both sides of a comparison are multiplied out.
 use Prim.Native.Nat.{ℕ, _+_, _*_, _-_}
 use mathlib.Core.Bool.{Bool, Bool·beq, cond}

@@ -1,4 +1,4 @@
--- Written numbers, and the f32 that each is stored as. Assumes nothing.
+-- Written numbers, and the f32 that each is stored as.
 use Prim.Native.Nat.{ℕ, _^_}
 use mathlib.Core.Bool.{Bool, false, _||_, cond}
 use mathlib.Core.Option.{Option, none, some}

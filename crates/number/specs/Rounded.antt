@@ -1,4 +1,4 @@
--- 02 (d): when a number was rounded. Assumes nothing.
+-- 02 (d): when a number was rounded.
 use Prim.Native.Nat.{ℕ, _^_}
 use mathlib.Core.Bool.{Bool, true, not}
 use mathlib.Core.Option.{Option, none, some}

@@ -1,4 +1,4 @@
--- A keyframe's time: as written, as stored, and when two are duplicates. Assumes nothing.
+-- A keyframe's time: as written, as stored, and when two are duplicates.
 use Prim.Native.Nat.{ℕ, _+_, _*_, _^_, _≤_, _<_}
 use mathlib.Core.Bool.{Bool, true, false, _||_, cond}
 use mathlib.Core.List.{List, [], _∷_, _++_}

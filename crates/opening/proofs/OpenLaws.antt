@@ -1,4 +1,4 @@
--- The first foreign byte, and the first refusal. Assumes nothing.
+-- The first foreign byte, and the first refusal.
 use Prim.Native.Nat.{ℕ, suc, _+_, _≤_, _<_}
 use mathlib.Core.Bool.{Bool, true, false, _||_, cond}
 use mathlib.Core.List.{List}

@@ -1,4 +1,4 @@
--- What the code's answers stand for. Assumes nothing.
+-- What the code's answers stand for.
 use Prim.Native.Nat.{ℕ}
 use mathlib.Core.Bool.{cond}
 use mathlib.Core.List.{List}

@@ -1,4 +1,4 @@
--- Tests on the numbers below n: each passes, the first that passes, how many pass. Assumes nothing.
+-- Tests on the numbers below n: each passes, the first that passes, how many pass.
 use Prim.Native.Nat.{ℕ, zero, suc, _≤_, _<_}
 use mathlib.Core.Bool.{Bool, true, false, _&&_, _||_}
 use mathlib.Core.Logic.{⊎-elim}

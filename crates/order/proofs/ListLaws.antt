@@ -1,4 +1,4 @@
--- What the loops keep, in terms of the definitions. Assumes nothing.
+-- What the loops keep, in terms of the definitions.
 use Prim.Native.Nat.{ℕ, suc, _+_, _*_, _-_, _≤_, _<_}
 use mathlib.Core.Bool.{Bool, true, false, not}
 use mathlib.Core.List.{List, [], _∷_, _++_}

@@ -1,5 +1,5 @@
 -- 02 (i): the listing has each item once, behind all it calls, each time the first that is free; and there is none exactly if a chain of
--- calls comes round to its start. Over any calls among n items. Assumes nothing.
+-- calls comes round to its start. Over any calls among n items.
 use Prim.Native.Nat.{ℕ, zero, suc, _+_, _≤_, _<_}
 use mathlib.Core.Bool.{Bool, true, false, _&&_, _||_, not}
 use mathlib.Core.List.{List, [], _∷_, _++_}

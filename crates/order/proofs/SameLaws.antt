@@ -1,4 +1,4 @@
--- The listing depends on the calls among the items alone. Assumes nothing.
+-- The listing depends on the calls among the items alone.
 use Prim.Native.Nat.{ℕ, zero, suc, _<_}
 use mathlib.Core.Bool.{Bool, _||_, not}
 use mathlib.Core.List.{List, [], _∷_, _++_}

@@ -1,4 +1,4 @@
--- 02 (i): the items of a book in an order in which each stands after all it calls, and rings of calls. Assumes nothing.
+-- 02 (i): the items of a book in an order in which each stands after all it calls, and rings of calls.
 -- An item is its ordinal, from 0; `calls i j` says whether item i calls item j.
 use Prim.Native.Nat.{ℕ, zero, suc, _<_}
 use mathlib.Core.Bool.{Bool, true, false, _&&_, _||_, not}

@@ -1,4 +1,4 @@
--- A packed answer is below 2^64, and its parts come back where they are below 2^32, 2^24 and 2^16. Assumes nothing.
+-- A packed answer is below 2^64, and its parts come back where they are below 2^32, 2^24 and 2^16.
 use Prim.Native.Nat.{ℕ, _^_, _<_}
 use mathlib.Core.List.{List, [], _∷_}
 use mathlib.Core.Path.{_≡_, refl}

@@ -1,4 +1,4 @@
--- An answer as one number, for C and Rust. Assumes nothing.
+-- An answer as one number, for C and Rust.
 -- "Each answers one u64: the refusal's number, 0 for accepted, times 2^56, plus a value below 2^32 that is the place of a refusal (the
 -- ordinal in lining), 0 for checking's accept, or lining's line length; reading's accept has its sheet length plus its count of node
 -- records times 2^24" plus that of the rounded numbers times 2^40 (the request for the library; 02 (d)).

@@ -1,4 +1,4 @@
--- Laws of reading: its parts, and the whole in its order. Assumes nothing.
+-- Laws of reading: its parts, and the whole in its order.
 use Prim.Native.Nat.{ℕ, _-_, _≤_, _<_}
 use mathlib.Core.Bool.{Bool, true, false}
 use mathlib.Core.List.{List, [], _++_}

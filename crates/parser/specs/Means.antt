@@ -1,4 +1,4 @@
--- What the parts of reading answer. Contracts cite these. Assumes nothing.
+-- What the parts of reading answer. Contracts cite these.
 use Prim.Native.Nat.{ℕ, suc, _-_}
 use mathlib.Core.Bool.{Bool, true, false, cond}
 use mathlib.Core.List.{List, _++_}

@@ -1,4 +1,4 @@
--- 01, "Reading": the operation, with its buffers. Assumes nothing.
+-- 01, "Reading": the operation, with its buffers.
 use Prim.Native.Nat.{ℕ, suc, _-_}
 use mathlib.Core.Bool.{cond}
 use mathlib.Core.List.{List, [], _++_}

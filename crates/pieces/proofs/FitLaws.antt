@@ -1,4 +1,4 @@
--- The tests `fits` and `allFit` decide `Fits` and `AllFit`. Assumes nothing.
+-- The tests `fits` and `allFit` decide `Fits` and `AllFit`.
 use Prim.Native.Nat.{ℕ}
 use mathlib.Core.Bool.{Bool, true, false, _&&_, not}
 use mathlib.Core.List.{List, [], _∷_}

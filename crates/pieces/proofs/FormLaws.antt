@@ -1,4 +1,4 @@
--- The fewest digits, `form`, write whatever a number of a text reads to. Assumes nothing.
+-- The fewest digits, `form`, write whatever a number of a text reads to.
 use Prim.Native.Nat.{ℕ, _^_, _<_}
 use mathlib.Core.Bool.{Bool, true, false, cond}
 use mathlib.Core.List.{List, [], _∷_}

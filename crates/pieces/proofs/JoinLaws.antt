@@ -1,4 +1,4 @@
--- Pieces one blank apart split into themselves. Assumes nothing.
+-- Pieces one blank apart split into themselves.
 use Prim.Native.Nat.{ℕ, suc, _+_, _-_, _≤_, _<_}
 use mathlib.Core.Bool.{true, false}
 use mathlib.Core.List.{List, [], _∷_, _++_, append-assoc}

@@ -1,4 +1,4 @@
--- The token that a text begins with, where the text begins with a piece and the end or a blank follows. Assumes nothing.
+-- The token that a text begins with, where the text begins with a piece and the end or a blank follows.
 use Prim.Native.Nat.{ℕ, suc, _+_, _-_, _≤_, _<_}
 use mathlib.Core.Bool.{Bool, true, false, _||_, not}
 use mathlib.Core.List.{List, [], _∷_, _++_, append-assoc, append-nil}

@@ -1,4 +1,4 @@
--- A sign is the topmost bit of what a number is stored as. Assumes nothing.
+-- A sign is the topmost bit of what a number is stored as.
 use Prim.Native.Nat.{ℕ, zero, suc, _+_, _-_, _*_, _^_, _/_, _%_, _<_, compare}
 use mathlib.Core.Bool.{Bool, true, false, cond}
 use mathlib.Core.Path.{_≡_, refl, _∙_}

@@ -1,4 +1,4 @@
--- The names, numbers and strings that a text has fit. Assumes nothing.
+-- The names, numbers and strings that a text has fit.
 use Prim.Native.Nat.{ℕ, suc, _+_, _-_, _<_}
 use mathlib.Core.Bool.{Bool, true, false, _&&_, _||_, not, cond}
 use mathlib.Core.List.{List, [], _∷_}

@@ -1,5 +1,5 @@
 -- What the laws on pieces speak of: `Fits` and `AllFit` say what the tests `fits` and `allFit` decide (proofs/FitLaws), `Nests` that the
--- delimiters are in pairs, `Complete` what is asked of `form`. No definition of 02 (f) rests on this file. Assumes nothing.
+-- delimiters are in pairs, `Complete` what is asked of `form`. No definition of 02 (f) rests on this file.
 use Prim.Native.Nat.{ℕ}
 use mathlib.Core.Bool.{true, false}
 use mathlib.Core.List.{List, [], _∷_}

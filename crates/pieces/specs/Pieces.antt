@@ -1,4 +1,4 @@
--- 02 (f): the pieces of a fresh script, its text, and when a text can have each of them. Assumes nothing.
+-- 02 (f): the pieces of a fresh script, its text, and when a text can have each of them.
 -- `form` writes a number that has no sign.
 use Prim.Native.Nat.{ℕ, suc, _+_, _-_}
 use Prim.Native.String.{String}

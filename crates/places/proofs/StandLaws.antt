@@ -1,4 +1,4 @@
--- A node that stands at a place: its record, then the nodes in it; and the first of some nodes. Assumes nothing.
+-- A node that stands at a place: its record, then the nodes in it; and the first of some nodes.
 use Prim.Native.Nat.{ℕ, zero, suc, _≤_, _<_}
 use mathlib.Core.List.{List, [], append-nil}
 use mathlib.Core.Logic.{⊎-elim}

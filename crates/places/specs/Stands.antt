@@ -1,4 +1,4 @@
--- What stands at a place of some bytes, and the kinds of records. Contracts cite these. Assumes nothing.
+-- What stands at a place of some bytes, and the kinds of records. Contracts cite these.
 use Prim.Native.Nat.{ℕ, _≤_, _<_}
 use mathlib.Core.List.{List}
 use mathlib.Core.Logic.{_⊎_}

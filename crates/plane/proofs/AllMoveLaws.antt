@@ -1,4 +1,4 @@
--- All records of a sheet, carried, and the bytes behind the last number: the output is what was to be written. Assumes nothing.
+-- All records of a sheet, carried, and the bytes behind the last number: the output is what was to be written.
 use Prim.Native.Nat.{ℕ, zero, suc, _+_, _*_, _-_, _≤_, _<_}
 use mathlib.Core.List.{List, [], _∷_, _++_, append-assoc}
 use mathlib.Core.Logic.{_⊎_, inl, inr, ⊎-elim}

@@ -1,4 +1,4 @@
--- What the two operations answer, from what their parts tell. Assumes nothing.
+-- What the two operations answer, from what their parts tell.
 use Prim.Native.Nat.{ℕ, _≤_, _<_}
 use mathlib.Core.Bool.{Bool, true, false, cond}
 use mathlib.Core.List.{List, _++_}

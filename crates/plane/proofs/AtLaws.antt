@@ -1,4 +1,4 @@
--- A walk that carries: what stands where it stands, bytes that are passed, a frame that is carried. Assumes nothing.
+-- A walk that carries: what stands where it stands, bytes that are passed, a frame that is carried.
 use Prim.Native.Nat.{ℕ, suc, _+_, _*_, _≤_, _<_}
 use mathlib.Core.Bool.{Bool, true}
 use mathlib.Core.List.{List, _++_}

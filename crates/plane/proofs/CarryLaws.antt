@@ -1,5 +1,4 @@
 -- One step of carrying, in either direction: what is right so far stays right, and the bytes and the number carried are right too.
--- Assumes nothing.
 use Prim.Native.Nat.{ℕ, zero, suc, _+_, _*_, _<_}
 use mathlib.Core.Bool.{Bool}
 use mathlib.Core.List.{List, _∷_, _++_, map, map-append}

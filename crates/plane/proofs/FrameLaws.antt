@@ -1,4 +1,4 @@
--- Frames: what reading the parts of one gives, and a walk over many that counts their numbers. Assumes nothing.
+-- Frames: what reading the parts of one gives, and a walk over many that counts their numbers.
 use Prim.Native.Nat.{ℕ, zero, suc, _+_, _-_, _%_, _^_, _≤_, _<_}
 use mathlib.Core.Bool.{Bool, cond}
 use mathlib.Core.List.{List, _∷_, _++_}

@@ -1,4 +1,4 @@
--- The numbers of a frame, carried. Assumes nothing.
+-- The numbers of a frame, carried.
 use Prim.Native.Nat.{ℕ, _+_, _*_, _<_}
 use mathlib.Core.Bool.{true, false}
 use mathlib.Core.List.{List, [], _∷_, _++_}

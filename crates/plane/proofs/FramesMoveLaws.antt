@@ -1,4 +1,4 @@
--- Frames and tracks, carried one after the other. Assumes nothing.
+-- Frames and tracks, carried one after the other.
 use Prim.Native.Nat.{ℕ, suc, _+_, _-_, _≤_, _<_}
 use mathlib.Core.Bool.{Bool}
 use mathlib.Core.List.{List, [], _∷_, _++_, append-assoc}

@@ -1,4 +1,4 @@
--- A sheet and its planed form, side by side: where the same bytes and the same numbers stand in both. Assumes nothing.
+-- A sheet and its planed form, side by side: where the same bytes and the same numbers stand in both.
 use Prim.Native.Nat.{ℕ, zero, suc, _+_, _*_, _/_, _%_, _<_}
 use mathlib.Core.List.{List, [], _∷_, _++_, append-assoc}
 use mathlib.Core.Path.{_≡_, refl, sym, _∙_, ap}

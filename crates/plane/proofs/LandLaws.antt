@@ -1,4 +1,4 @@
--- Where a reader lands: behind what is written there. Assumes nothing.
+-- Where a reader lands: behind what is written there.
 use Prim.Native.Nat.{ℕ, _+_, _*_, _≤_}
 use mathlib.Core.List.{List, [], _++_}
 use mathlib.Core.Option.{Option, none, some, Option·some-injective}

@@ -1,4 +1,4 @@
--- Bytes set to what they shall be. Assumes nothing.
+-- Bytes set to what they shall be.
 use Prim.Native.Nat.{ℕ, zero, suc, _+_, _*_, _≤_, _<_}
 use mathlib.Core.List.{List, [], _∷_}
 use mathlib.Core.Logic.{_⊎_, inl, inr, ⊎-elim}

@@ -1,4 +1,4 @@
--- Records and nodes whose frames' numbers have w bytes each: what is read, and how many numbers it has. Assumes nothing.
+-- Records and nodes whose frames' numbers have w bytes each: what is read, and how many numbers it has.
 use Prim.Native.Nat.{ℕ, zero, suc, _+_, _-_, _^_, _≤_, _<_}
 use mathlib.Core.List.{List, [], _∷_, _++_}
 use mathlib.Core.Option.{Option, none, some}

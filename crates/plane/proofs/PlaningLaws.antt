@@ -1,4 +1,4 @@
--- Laws of planing and its inverse, 02 (k), for every text, input and output. Assumes nothing.
+-- Laws of planing and its inverse, 02 (k), for every text, input and output.
 use Prim.Native.Nat.{ℕ, _≤_}
 use mathlib.Core.Bool.{Bool, true, false, cond}
 use mathlib.Core.List.{List, _++_}

@@ -1,4 +1,4 @@
--- Records, carried one after the other: a track's frames, and what is the same in both forms. Assumes nothing.
+-- Records, carried one after the other: a track's frames, and what is the same in both forms.
 use Prim.Native.Nat.{ℕ, zero, suc, _+_, _≤_, _<_}
 use mathlib.Core.List.{List, [], _∷_, _++_, append-assoc}
 use mathlib.Core.Option.{Option, none, some}

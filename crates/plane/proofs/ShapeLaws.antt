@@ -1,4 +1,4 @@
--- Whether bytes are a sheet, or a planed one, by one walk over them. Assumes nothing.
+-- Whether bytes are a sheet, or a planed one, by one walk over them.
 use Prim.Native.Nat.{ℕ, suc, _+_, _*_, _-_, _≤_, _<_}
 use mathlib.Core.Bool.{Bool, cond}
 use mathlib.Core.List.{List, [], _∷_, _++_, append-nil}

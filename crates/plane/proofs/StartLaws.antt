@@ -1,4 +1,4 @@
--- Where a walk that carries begins: a sheet and its planed form, behind their heads. Assumes nothing.
+-- Where a walk that carries begins: a sheet and its planed form, behind their heads.
 use Prim.Native.Nat.{ℕ, _+_, _*_, _-_, _≤_, _<_}
 use mathlib.Core.List.{List, [], _∷_, _++_, append-assoc, append-nil, map}
 use mathlib.Core.Option.{some}

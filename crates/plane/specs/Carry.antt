@@ -1,5 +1,5 @@
 -- A sheet and its planed form side by side, and what is carried from one to the other. Contracts cite this, and no reader needs to
--- believe it. Assumes nothing.
+-- believe it.
 use Prim.Native.Nat.{ℕ, _+_, _*_, _≤_, _<_}
 use mathlib.Core.Bool.{Bool}
 use mathlib.Core.Option.{some}

@@ -1,4 +1,4 @@
--- What the parts of planing do. Contracts cite this, and no reader needs to believe it. Assumes nothing.
+-- What the parts of planing do. Contracts cite this, and no reader needs to believe it.
 use Prim.Native.Nat.{ℕ, _+_, _*_, _%_, _^_, _<_}
 use mathlib.Core.Bool.{Bool, true, false}
 use mathlib.Core.List.{List}

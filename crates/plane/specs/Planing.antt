@@ -1,4 +1,4 @@
--- 02 (k), "Planes before storage": planing and its inverse, with their output. Assumes nothing.
+-- 02 (k), "Planes before storage": planing and its inverse, with their output.
 use Prim.Native.Nat.{ℕ}
 use mathlib.Core.Bool.{cond}
 use mathlib.Core.List.{List, _++_}

@@ -1,4 +1,4 @@
--- One computed example, made by the model of document 02. Assumes nothing.
+-- One computed example, made by the model of document 02.
 use Prim.Native.Nat.{ℕ}
 use mathlib.Core.List.{List, [], _∷_}
 use mathlib.Core.Option.{Option, none, some}

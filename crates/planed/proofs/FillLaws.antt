@@ -1,4 +1,4 @@
--- Other numbers in the places of a tree's: which numbers it then has, and that the first ones put back give the tree. Assumes nothing.
+-- Other numbers in the places of a tree's: which numbers it then has, and that the first ones put back give the tree.
 use Prim.Native.Nat.{ℕ, zero, suc, _+_}
 use mathlib.Core.List.{List, [], _∷_, _++_, append-assoc}
 use mathlib.Core.Path.{_≡_, refl, sym, _∙_, ap}

@@ -1,4 +1,4 @@
--- A sheet without tracks is its own planed form. Assumes nothing.
+-- A sheet without tracks is its own planed form.
 use Prim.Native.Nat.{ℕ, zero, suc}
 use mathlib.Core.List.{List, [], _∷_, _++_, append-nil}
 use mathlib.Core.Path.{_≡_, refl, sym, _∙_, ap}

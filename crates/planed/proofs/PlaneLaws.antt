@@ -1,4 +1,4 @@
--- The planed form is lawful for the trees that a sheet's form is lawful for. Assumes nothing.
+-- The planed form is lawful for the trees that a sheet's form is lawful for.
 use Prim.Native.Nat.{ℕ, zero, suc, _+_, _*_, _/_, _%_, _<_, _≤_}
 use mathlib.Core.List.{List, [], _∷_}
 use mathlib.Core.Option.{some}

@@ -1,5 +1,5 @@
 -- A planed sheet is another form of the same trees: reading undoes writing, only what writing gives is read, and it is as long as the
--- sheet. Assumes nothing.
+-- sheet.
 use Prim.Native.Nat.{ℕ, zero, suc, _≤_}
 use mathlib.Core.Bool.{Bool, true, false, cond}
 use mathlib.Core.List.{List, [], _∷_, _++_, append-assoc, append-nil}

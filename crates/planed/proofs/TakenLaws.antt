@@ -1,5 +1,5 @@
 -- The bytes that stay do not depend on the numbers, nor does it whether a tree is within the limits. And a sheet is four bytes a number
--- longer than what stays. Assumes nothing.
+-- longer than what stays.
 use Prim.Native.Nat.{ℕ, zero, suc, _+_, _*_, _≤_}
 use mathlib.Core.List.{List, [], _∷_, _++_}
 use mathlib.Core.Path.{_≡_, refl, _∙_, ap, subst⁻¹}

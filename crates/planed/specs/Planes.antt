@@ -1,4 +1,4 @@
--- 02 (k), "Planes before storage": the numbers of a sheet's frames, the planed form of its tree. Assumes nothing.
+-- 02 (k), "Planes before storage": the numbers of a sheet's frames, the planed form of its tree.
 use Prim.Native.Nat.{ℕ, zero, suc, _+_, _*_, _/_, _%_}
 use mathlib.Core.Bool.{cond}
 use mathlib.Core.List.{List, [], _∷_, _++_}

@@ -1,4 +1,4 @@
--- Records and nodes written one after the other. Assumes nothing.
+-- Records and nodes written one after the other.
 use Prim.Native.Nat.{ℕ, suc, _+_, _-_, _≤_, _<_}
 use mathlib.Core.List.{List, _∷_}
 use mathlib.Core.Option.{Option, none, some, Option·some-injective}

@@ -1,4 +1,4 @@
--- Records and nodes that were written: words of contracts, which a reader need not believe. Assumes nothing.
+-- Records and nodes that were written: words of contracts, which a reader need not believe.
 use Prim.Native.Nat.{ℕ, _-_, _≤_}
 use mathlib.Core.List.{List, _∷_}
 use mathlib.Core.Path.{_≡_}

@@ -1,4 +1,4 @@
--- Laws of colours: what each way out of the code shows. Assumes nothing.
+-- Laws of colours: what each way out of the code shows.
 use Prim.Native.Nat.{ℕ, _+_}
 use mathlib.Core.Bool.{true, false}
 use mathlib.Core.List.{List}

@@ -1,4 +1,4 @@
--- presets.rs: the names of colours; validate.rs: which strings are colours. Assumes nothing.
+-- presets.rs: the names of colours; validate.rs: which strings are colours.
 use Prim.Native.Nat.{ℕ}
 use Prim.Native.String.{String}
 use mathlib.Core.Bool.{Bool, _&&_, _||_, cond}

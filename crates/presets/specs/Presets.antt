@@ -1,4 +1,4 @@
--- presets.rs: the names of presets. Assumes nothing.
+-- presets.rs: the names of presets.
 use Prim.Native.Nat.{ℕ}
 use Prim.Native.String.{String}
 use mathlib.Core.Bool.{Bool}

@@ -1,4 +1,4 @@
--- Laws of what is printed: words and numbers, lines, the page. Assumes nothing.
+-- Laws of what is printed: words and numbers, lines, the page.
 use Prim.Native.Nat.{ℕ, zero, suc, _+_, _*_, _-_, _/_, _%_, _≤_, _<_}
 use mathlib.Core.Bool.{Bool, true, false, cond}
 use mathlib.Core.List.{List, [], _∷_, _++_}

@@ -1,4 +1,4 @@
--- Laws of counting the tokens from a cursor on. Assumes nothing.
+-- Laws of counting the tokens from a cursor on.
 use Prim.Native.Nat.{ℕ, zero, suc, _+_, _≤_, _<_}
 use mathlib.Core.Bool.{Bool, true, false, not, cond}
 use mathlib.Core.List.{List, [], _∷_}

@@ -1,5 +1,4 @@
 -- What a token reader owns: the text and the cursor together, and what they own had twice; and what a new one is. The walks cite these.
--- Assumes nothing.
 use Prim.Native.Nat.{ℕ}
 use mathlib.Core.Path.{_≡_, sym, ap, _∙_, subst, subst⁻¹}
 use mathlib.Core.List.{List, [], _∷_}

@@ -1,4 +1,4 @@
--- What a token reader reads and counts. Assumes nothing.
+-- What a token reader reads and counts.
 use Prim.Native.Nat.{ℕ, suc}
 use mathlib.Core.Bool.{Bool, false, cond}
 use mathlib.Core.List.{List, [], _∷_}

@@ -1,4 +1,4 @@
--- Where the records of a sheet stand. Assumes nothing.
+-- Where the records of a sheet stand.
 use Prim.Native.Nat.{ℕ, zero, suc, _+_, _-_, _≤_, _<_}
 use mathlib.Core.List.{List, [], _∷_, _++_, map}
 use mathlib.Core.Option.{Option, none, some, Option·some-injective}

@@ -1,4 +1,4 @@
--- Reading a node is reading its record and then the nodes in it. Assumes nothing.
+-- Reading a node is reading its record and then the nodes in it.
 use Prim.Native.Nat.{ℕ, zero, suc, _≤_, _<_}
 use mathlib.Core.List.{List, [], _∷_, _++_}
 use mathlib.Core.Option.{Option, none, some}

@@ -1,4 +1,4 @@
--- Walks over nodes: a node, nodes beside each other, and the whole sheet. Assumes nothing.
+-- Walks over nodes: a node, nodes beside each other, and the whole sheet.
 use Prim.Native.Nat.{ℕ, zero, suc, _+_, _-_, _≤_, _<_}
 use mathlib.Core.Bool.{Bool, false, cond}
 use mathlib.Core.List.{List}

@@ -1,4 +1,4 @@
--- A node's record alone, and what is found at an ordinal. Assumes nothing.
+-- A node's record alone, and what is found at an ordinal.
 use Prim.Native.Nat.{ℕ, zero, suc, _+_, _≤_}
 use mathlib.Core.List.{List}
 use mathlib.Core.Option.{Option, none, some}

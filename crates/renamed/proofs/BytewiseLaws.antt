@@ -1,4 +1,4 @@
--- Scripts whose tokens agree by their bytes are `Renamed`: the law asks for no more than 02 (m)'s sentence. Assumes nothing.
+-- Scripts whose tokens agree by their bytes are `Renamed`: the law asks for no more than 02 (m)'s sentence.
 use Prim.Native.Nat.{ℕ, zero, suc, _+_, _≤_}
 use mathlib.Core.Bool.{Bool, true, false, cond}
 use mathlib.Core.List.{List, [], _∷_}

@@ -1,4 +1,4 @@
--- Scripts that agree but for what 02 (m) frees, and scripts that do not, computed. Assumes nothing.
+-- Scripts that agree but for what 02 (m) frees, and scripts that do not, computed.
 use Prim.Native.Nat.{ℕ}
 use Prim.Native.String.{String}
 use mathlib.Core.Bool.{Bool, true, false, _&&_, not}

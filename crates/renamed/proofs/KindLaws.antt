@@ -1,4 +1,4 @@
--- A token's bytes, cut alone, are that token again: tokens of equal bytes have equal kinds. Assumes nothing.
+-- A token's bytes, cut alone, are that token again: tokens of equal bytes have equal kinds.
 use Prim.Native.Nat.{ℕ, zero, suc, _+_, _-_, _≤_, _<_}
 use mathlib.Core.Bool.{Bool, true, false, _&&_, _||_, not, cond}
 use mathlib.Core.List.{List, [], _∷_}

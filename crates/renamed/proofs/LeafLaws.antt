@@ -1,4 +1,4 @@
--- Leaves and heads of containers at two lists of tokens that agree: checking says the same of them. Assumes nothing.
+-- Leaves and heads of containers at two lists of tokens that agree: checking says the same of them.
 use Prim.Native.Nat.{ℕ, suc, _+_, _-_}
 use Prim.Native.String.{String}
 use mathlib.Core.Bool.{Bool, true, false, _&&_, _||_}

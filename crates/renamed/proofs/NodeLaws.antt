@@ -1,4 +1,4 @@
--- Nodes at two lists of tokens that agree: checking says the same of them. Assumes nothing.
+-- Nodes at two lists of tokens that agree: checking says the same of them.
 use Prim.Native.Nat.{ℕ, zero, suc, _+_, _≤_}
 use Prim.Native.String.{String}
 use mathlib.Core.Bool.{Bool, true, false, cond}

@@ -1,4 +1,4 @@
--- 02 (m): renaming cannot change a verdict. Assumes nothing.
+-- 02 (m): renaming cannot change a verdict.
 use Prim.Native.Nat.{ℕ, suc}
 use mathlib.Core.Bool.{true}
 use mathlib.Core.List.{List}

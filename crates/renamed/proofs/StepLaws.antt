@@ -1,4 +1,4 @@
--- Rules at two lists of tokens that agree: the steps of the grammar. Assumes nothing.
+-- Rules at two lists of tokens that agree: the steps of the grammar.
 use Prim.Native.Nat.{ℕ, zero, suc, _+_, _-_, _≤_, _<_}
 use Prim.Native.String.{String}
 use mathlib.Core.Bool.{Bool, true, false, _||_, cond}

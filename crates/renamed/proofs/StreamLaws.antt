@@ -1,4 +1,4 @@
--- Two lists of tokens that agree but for free names and strings: what rules see of them. Assumes nothing.
+-- Two lists of tokens that agree but for free names and strings: what rules see of them.
 use Prim.Native.Nat.{ℕ, suc, _+_, _≤_, _<_}
 use mathlib.Core.Bool.{Bool, true, false, _||_, cond}
 use mathlib.Core.List.{List, [], _∷_}

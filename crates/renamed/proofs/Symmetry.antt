@@ -1,4 +1,4 @@
--- 02 (m): of two scripts that agree either may be the first. Assumes nothing.
+-- 02 (m): of two scripts that agree either may be the first.
 use Prim.Native.Nat.{ℕ}
 use mathlib.Core.Bool.{Bool, true, false, _||_}
 use mathlib.Core.List.{List, [], _∷_, map}

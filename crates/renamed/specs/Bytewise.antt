@@ -1,4 +1,4 @@
--- 02 (m) by the tokens' bytes, as its sentence has it. Assumes nothing.
+-- 02 (m) by the tokens' bytes, as its sentence has it.
 use Prim.Native.Nat.{ℕ}
 use mathlib.Core.Bool.{Bool, true}
 use mathlib.Core.List.{List, [], _∷_}

@@ -1,4 +1,4 @@
--- 02 (m), "Renaming can't change a verdict". Assumes nothing.
+-- 02 (m), "Renaming can't change a verdict".
 use Prim.Native.Nat.{ℕ}
 use mathlib.Core.Bool.{true}
 use mathlib.Core.List.{List, []}

@@ -1,4 +1,4 @@
--- Rules of whose values something holds, at whatever place of a text. Assumes nothing.
+-- Rules of whose values something holds, at whatever place of a text.
 use Prim.Native.Nat.{ℕ, _≤_, _<_}
 use Prim.Native.String.{String}
 use mathlib.Core.Bool.{Bool, true, false, cond}

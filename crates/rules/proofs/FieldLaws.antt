@@ -1,4 +1,4 @@
--- Lists of fields: what holds of a list as its fields are read, and of what it says. Assumes nothing.
+-- Lists of fields: what holds of a list as its fields are read, and of what it says.
 use Prim.Native.Nat.{ℕ, _+_, _≤_, _<_}
 use Prim.Native.String.{String}
 use mathlib.Core.Bool.{Bool, true, false, cond}

@@ -1,4 +1,4 @@
--- Lists of items, words and rows. Assumes nothing.
+-- Lists of items, words and rows.
 use Prim.Native.Nat.{ℕ, suc, _+_, _≤_, _<_}
 use Prim.Native.String.{String}
 use mathlib.Core.Bool.{Bool, true, false}

@@ -1,4 +1,4 @@
--- Rules at a place of a text: what holds of the value that one gives, and of the place it comes to. Assumes nothing.
+-- Rules at a place of a text: what holds of the value that one gives, and of the place it comes to.
 use Prim.Native.Nat.{ℕ, zero, suc, _≤_}
 use mathlib.Core.Bool.{Bool, true, false, cond}
 use mathlib.Core.List.{List}

@@ -1,4 +1,4 @@
--- Rules that take tokens: how far each moves. Assumes nothing.
+-- Rules that take tokens: how far each moves.
 use Prim.Native.Nat.{ℕ, zero, suc, _+_, _≤_, _<_}
 use mathlib.Core.Bool.{Bool, true, false, _&&_, not, cond}
 use mathlib.Core.List.{List, [], _∷_}

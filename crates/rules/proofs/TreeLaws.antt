@@ -1,4 +1,4 @@
--- Lists of nodes, one after another. Assumes nothing.
+-- Lists of nodes, one after another.
 use mathlib.Core.Path.{_≡_, refl, ap}
 use Rattle.ast.specs.Tree.{Nodes, leaf, box, append}
 

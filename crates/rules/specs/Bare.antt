@@ -1,4 +1,4 @@
--- 02 (n): tokens of which no number has an exponent. Assumes nothing.
+-- 02 (n): tokens of which no number has an exponent.
 use mathlib.Core.Bool.{Bool, true, _&&_, not}
 use mathlib.Core.List.{List, [], _∷_}
 use mathlib.Core.Path.{_≡_}

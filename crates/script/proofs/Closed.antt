@@ -1,4 +1,4 @@
--- Demand 3, closed: the three laws of the grammar are those of `limits`. Assumes nothing.
+-- Demand 3, closed: the three laws of the grammar are those of `limits`.
 use Rattle.limits.proofs.Limits.{parses-clean, parses-fits, parses-small}
 use Rattle.script.specs.Claim.{Demand3}
 use Rattle.script.proofs.Whole.{Claimed}

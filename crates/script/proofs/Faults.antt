@@ -1,4 +1,4 @@
--- From the first fault of a tree to the faults of its tracks. Assumes nothing.
+-- From the first fault of a tree to the faults of its tracks.
 use Prim.Native.Nat.{ℕ, zero, suc, _+_, _<_}
 use Prim.Native.String.{String}
 use mathlib.Core.Bool.{Bool, true, false, _||_, cond}

@@ -1,4 +1,4 @@
--- What is printed by the records of a sheet, and how long it is at most. Assumes nothing.
+-- What is printed by the records of a sheet, and how long it is at most.
 use Prim.Native.Nat.{ℕ, zero, suc, _+_, _*_, _-_, _/_, _%_, _≤_}
 use mathlib.Core.Bool.{Bool, true, false, cond}
 use mathlib.Core.List.{List, [], _∷_, _++_}

@@ -1,4 +1,4 @@
--- Demand 3's first sentence: reading accepts exactly where none of its refusals is due, and what the sheet then holds. Assumes nothing.
+-- Demand 3's first sentence: reading accepts exactly where none of its refusals is due, and what the sheet then holds.
 use Prim.Native.Nat.{ℕ, _-_, _≤_}
 use mathlib.Core.Bool.{Bool, true, false, cond}
 use mathlib.Core.List.{List, [], _++_}

@@ -1,5 +1,5 @@
 -- 02 (j): "Reading must give the same answers, places and sheets from a scratch of 64 words": all scratches of 64 words or more give the
--- same, and so printing does too. Assumes nothing.
+-- same, and so printing does too.
 use Prim.Native.Nat.{ℕ, _≤_}
 use mathlib.Core.Bool.{Bool, true, false, cond}
 use mathlib.Core.List.{List}

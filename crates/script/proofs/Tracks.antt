@@ -1,4 +1,4 @@
--- Demand 3's facts on keyframe times, for every track of a tree. Assumes nothing.
+-- Demand 3's facts on keyframe times, for every track of a tree.
 use Prim.Native.Nat.{ℕ, zero, suc}
 use mathlib.Core.Bool.{Bool, true, false, cond}
 use mathlib.Core.List.{List, [], _∷_, map, map-append}

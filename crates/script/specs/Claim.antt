@@ -1,4 +1,4 @@
--- Demand 3, one claim over both calls. Assumes nothing.
+-- Demand 3, one claim over both calls.
 use Prim.Native.Nat.{ℕ, suc, _≤_}
 use mathlib.Core.Bool.{true}
 use mathlib.Core.List.{List, [], _∷_}

@@ -1,4 +1,4 @@
--- What is printed, by the records of a sheet. Contracts cite this, and no reader needs to believe it. Assumes nothing.
+-- What is printed, by the records of a sheet. Contracts cite this, and no reader needs to believe it.
 use Prim.Native.Nat.{ℕ, suc}
 use mathlib.Core.Bool.{true, false}
 use mathlib.Core.List.{List, [], _∷_, _++_}

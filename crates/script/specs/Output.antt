@@ -1,4 +1,4 @@
--- 01: what the program prints for its input. Assumes nothing.
+-- 01: what the program prints for its input.
 use Prim.Native.Nat.{ℕ, zero, suc, _+_, _/_, _%_}
 use mathlib.Core.Bool.{true, false, cond}
 use mathlib.Core.List.{List, [], _∷_, _++_}

@@ -1,4 +1,4 @@
--- 01, "Shelf tests": the entries P1 to P14, rows of 02's own, and the lemma that covers them. Assumes nothing.
+-- 01, "Shelf tests": the entries P1 to P14, rows of 02's own, and the lemma that covers them.
 use Prim.Native.Nat.{ℕ, _+_, _*_, _-_}
 use Prim.Native.String.{String}
 use mathlib.Core.Bool.{Bool, true, _&&_, cond}

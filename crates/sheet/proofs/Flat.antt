@@ -1,4 +1,4 @@
--- A sheet is its records one after the other, whatever the width of its frames' numbers. Assumes nothing.
+-- A sheet is its records one after the other, whatever the width of its frames' numbers.
 use Prim.Native.Nat.{ℕ, zero, suc}
 use mathlib.Core.List.{List, [], _∷_, _++_, append-assoc, map, map-append}
 use mathlib.Core.Path.{_≡_, refl, sym, _∙_, ap}

@@ -1,4 +1,4 @@
--- The forms of the sheet are lawful: decoding undoes encoding, and only what encoding gives is decoded. Assumes nothing.
+-- The forms of the sheet are lawful: decoding undoes encoding, and only what encoding gives is decoded.
 use Prim.Native.Nat.{ℕ, zero, suc, _<_, _≤_}
 use mathlib.Core.Bool.{Bool, true, false, cond}
 use mathlib.Core.List.{List, [], _∷_, _++_, append-nil}

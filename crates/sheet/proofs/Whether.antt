@@ -1,4 +1,4 @@
--- What it means that bytes are a sheet: some tree within the limits encodes to them, and they are at most 65,535. Assumes nothing.
+-- What it means that bytes are a sheet: some tree within the limits encodes to them, and they are at most 65,535.
 use Prim.Native.Nat.{ℕ, _≤_}
 use mathlib.Core.Bool.{true}
 use mathlib.Core.List.{List}

@@ -1,4 +1,4 @@
--- 01, "Order": what checking and lining refuse first, 1, 2 and 20. Assumes nothing.
+-- 01, "Order": what checking and lining refuse first, 1, 2 and 20.
 use Prim.Native.Nat.{ℕ, suc}
 use mathlib.Core.Bool.{true, false, cond}
 use mathlib.Core.List.{List, [], _∷_}

@@ -1,4 +1,4 @@
--- The records of a sheet, one by one. Assumes nothing.
+-- The records of a sheet, one by one.
 use Prim.Native.Nat.{ℕ}
 use mathlib.Core.List.{List, [], _∷_, _++_}
 use mathlib.Core.Option.{none}

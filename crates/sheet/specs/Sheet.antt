@@ -1,4 +1,4 @@
--- 01, "The sheet": each type of ast.rs as a form of bytes. n is the text's length. Assumes nothing.
+-- 01, "The sheet": each type of ast.rs as a form of bytes. n is the text's length.
 -- 02 (k) takes the numbers of frames out of a sheet, so a frame's time and scalar value have w bytes each (`..Of w`): 4 in a sheet, 0 where
 -- they are taken out.
 use Prim.Native.Nat.{ℕ, zero, suc, _+_}

@@ -1,4 +1,4 @@
--- Numbers put as their form has them. Assumes nothing.
+-- Numbers put as their form has them.
 use Prim.Native.Nat.{ℕ, zero, suc, _+_, _*_, _/_, _%_, _^_, _≤_, _<_}
 use mathlib.Core.Bool.{true, false}
 use mathlib.Core.List.{List, [], _∷_, _++_, append-nil, append-assoc}

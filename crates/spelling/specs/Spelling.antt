@@ -1,4 +1,4 @@
--- How far a fresh script is written: what the contracts of its writers speak of. No definition of 02 (f) rests on it. Assumes nothing.
+-- How far a fresh script is written: what the contracts of its writers speak of. No definition of 02 (f) rests on it.
 use Prim.Native.Nat.{ℕ, suc, _+_, _/_, _^_, _≤_, _<_}
 use mathlib.Core.Bool.{cond}
 use mathlib.Core.List.{List, [], _∷_, _++_}

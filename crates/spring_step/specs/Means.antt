@@ -1,4 +1,4 @@
--- What a spring's fields keep. Contracts cite these. Assumes nothing.
+-- What a spring's fields keep. Contracts cite these.
 use Prim.Native.Nat.{ℕ, _*_, _-_, _≤_}
 use mathlib.Core.List.{List, [], _∷_}
 use mathlib.Core.Path.{_≡_}

@@ -1,4 +1,4 @@
--- Laws of sets of bytes, runs and parts. Assumes nothing.
+-- Laws of sets of bytes, runs and parts.
 use Prim.Native.Nat.{ℕ, zero, suc, _+_, _-_, _≤_, _<_}
 use mathlib.Core.List.{List, [], _∷_}
 use mathlib.Core.Bool.{Bool, true, false, _&&_, _||_, not}

@@ -1,4 +1,4 @@
--- Either case of a test, with its equation: what a proof by cases takes as an argument. Assumes nothing.
+-- Either case of a test, with its equation: what a proof by cases takes as an argument.
 use mathlib.Core.Bool.{Bool, true, false}
 use mathlib.Core.Path.{_≡_, refl}
 

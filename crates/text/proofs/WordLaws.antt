@@ -1,4 +1,4 @@
--- Laws of words, of lookups in lists of them, and of tables. Assumes nothing.
+-- Laws of words, of lookups in lists of them, and of tables.
 use Prim.Native.Nat.{ℕ, zero, suc, _+_, _≤_, _<_}
 use mathlib.Core.List.{List, [], _∷_}
 use mathlib.Core.Bool.{Bool, true, false, _&&_}

@@ -1,4 +1,4 @@
--- Laws of bytes that are written as far as there is room. Assumes nothing.
+-- Laws of bytes that are written as far as there is room.
 use Prim.Native.Nat.{ℕ, suc, _+_, _-_, _≤_, _<_, min}
 use mathlib.Core.List.{List, [], _∷_, _++_}
 use mathlib.Core.Bool.{Bool, true, false}

@@ -1,4 +1,4 @@
--- Texts as lists of bytes: literals, classes of bytes, runs and parts. Assumes nothing.
+-- Texts as lists of bytes: literals, classes of bytes, runs and parts.
 use Prim.Native.Nat.{ℕ, suc, _+_, _*_, _-_}
 use Prim.Native.Char.{code}
 use Prim.Native.String.{String}

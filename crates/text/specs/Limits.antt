@@ -1,4 +1,4 @@
--- 01, "Text rules": the limits of a text and of a number in it. Assumes nothing.
+-- 01, "Text rules": the limits of a text and of a number in it.
 use Prim.Native.Nat.{ℕ}
 
 -- "At most 16,384 bytes"

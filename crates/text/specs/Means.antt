@@ -1,4 +1,4 @@
--- What the enums of the code stand for. Contracts cite these. Assumes nothing.
+-- What the enums of the code stand for. Contracts cite these.
 use Prim.Native.Nat.{ℕ}
 use mathlib.Core.Bool.{Bool}
 use mathlib.Core.Option.{Option, none, some}

@@ -1,4 +1,4 @@
--- Lists of words, lookups in them, and the table that code has for one. Assumes nothing.
+-- Lists of words, lookups in them, and the table that code has for one.
 use Prim.Native.Nat.{ℕ, zero, suc}
 use Prim.Native.String.{String}
 use mathlib.Core.Bool.{Bool, true, false, _&&_}

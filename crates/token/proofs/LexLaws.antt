@@ -1,4 +1,4 @@
--- Laws of the token that a text begins with. Assumes nothing.
+-- Laws of the token that a text begins with.
 use Prim.Native.Nat.{ℕ, zero, suc, _+_, _-_, _*_, _^_, _≤_, _<_}
 use native.Mathlib.Nat.{mul-one, add-zero}
 use mathlib.Core.List.{List, [], _∷_}

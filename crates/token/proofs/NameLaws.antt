@@ -1,4 +1,4 @@
--- Laws of lookups among the keywords: only the words of some lengths count, and short ones are found by their numbers. Assumes nothing.
+-- Laws of lookups among the keywords: only the words of some lengths count, and short ones are found by their numbers.
 use Prim.Native.Nat.{ℕ, zero, suc, _+_, _*_, _^_, _≤_, _<_}
 use mathlib.Core.Bool.{Bool, true, false, _&&_, _||_, cond}
 use mathlib.Core.List.{List, [], _∷_}

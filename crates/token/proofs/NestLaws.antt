@@ -1,5 +1,5 @@
 -- The delimiters alone: where each token of a text can be cut and the delimiters fit, the text is split (`nests-splits`). The place of the
--- last token, which tells that each can be cut, is the same wherever a reader stands (`last-rest`). Assumes nothing.
+-- last token, which tells that each can be cut, is the same wherever a reader stands (`last-rest`).
 use Prim.Native.Nat.{ℕ, zero, suc, _+_, _-_, _≤_, _<_}
 use mathlib.Core.List.{List, [], _∷_, _++_}
 use mathlib.Core.Bool.{Bool, true, false, not, cond}

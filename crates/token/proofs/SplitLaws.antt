@@ -1,4 +1,4 @@
--- Laws of the pass over a whole text, and of the closers that the scratch holds. Assumes nothing.
+-- Laws of the pass over a whole text, and of the closers that the scratch holds.
 use Prim.Native.Nat.{ℕ, zero, suc, _+_, _-_, _≤_, _<_}
 use mathlib.Core.List.{List, [], _∷_, _++_, append-nil}
 use mathlib.Core.Bool.{Bool, true, false, cond}

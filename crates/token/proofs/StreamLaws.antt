@@ -1,5 +1,5 @@
 -- What the grammar's proofs stand on: the tokens of a text that is split are those that a reader comes to, its bytes are none of the
--- foreign ones, and tokens lie in the text. Assumes nothing.
+-- foreign ones, and tokens lie in the text.
 use Prim.Native.Nat.{ℕ, zero, suc, _-_, _<_}
 use mathlib.Core.List.{List, [], _∷_}
 use mathlib.Core.Bool.{Bool, true, false, cond}

@@ -1,4 +1,4 @@
--- Laws of the tokens from a place on. Assumes nothing.
+-- Laws of the tokens from a place on.
 use Prim.Native.Nat.{ℕ, zero, suc, _+_, _-_, _≤_, _<_}
 use mathlib.Core.List.{List, [], _∷_}
 use mathlib.Core.Bool.{Bool, true, false}

@@ -1,5 +1,4 @@
 -- What holds of each token that a text begins with: its bytes stand in the text, none of them is foreign, and its kind has its size.
--- Assumes nothing.
 use Prim.Native.Nat.{ℕ, zero, suc, _+_, _-_, _^_, _≤_, _<_}
 use mathlib.Core.List.{List, [], _∷_}
 use mathlib.Core.Bool.{Bool, true, false, _&&_, _||_, not, cond}

@@ -1,4 +1,4 @@
--- What the answers of the code mean. Contracts cite these. Assumes nothing.
+-- What the answers of the code mean. Contracts cite these.
 use Prim.Native.Nat.{ℕ, zero, suc, _+_, _-_, _*_, _^_, _≤_, _<_}
 use mathlib.Core.List.{List, [], _∷_, _++_}
 use Prim.Native.Char.{code}

@@ -1,4 +1,4 @@
--- 01: the words that are no names. Assumes nothing.
+-- 01: the words that are no names.
 use Prim.Native.Nat.{ℕ}
 use Prim.Native.String.{String}
 use mathlib.Core.Bool.{Bool, true, false}

@@ -1,4 +1,4 @@
--- 01, "Text rules" and "Limits": a whole text is cut into tokens, or refused with 2 to 5. Assumes nothing.
+-- 01, "Text rules" and "Limits": a whole text is cut into tokens, or refused with 2 to 5.
 use Prim.Native.Nat.{ℕ, zero, suc, _+_, _-_}
 use Prim.Native.Char.{code}
 use mathlib.Core.Bool.{cond}

@@ -1,4 +1,4 @@
--- 01, "Text rules": the token that a text begins with, and the tokens from a place on. Assumes nothing.
+-- 01, "Text rules": the token that a text begins with, and the tokens from a place on.
 use Prim.Native.Nat.{ℕ, zero, suc, _+_, _-_, _*_, _^_}
 use Prim.Native.Char.{code}
 use mathlib.Core.Bool.{Bool, true, false, _&&_, _||_, not, cond}

@@ -1,4 +1,4 @@
--- What token_split gives. Assumes nothing.
+-- What token_split gives.
 use Prim.Native.Nat.{ℕ}
 use mathlib.Core.Bool.{cond}
 use mathlib.Core.List.{List}

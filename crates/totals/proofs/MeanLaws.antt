@@ -1,4 +1,4 @@
--- Euclid's algorithm, and fractions in lowest terms. Assumes nothing.
+-- Euclid's algorithm, and fractions in lowest terms.
 use Prim.Native.Nat.{ℕ, zero, suc, _+_, _*_, _/_, _%_, _≤_, _<_, _∣_}
 use mathlib.Core.Bool.{Bool, true, false}
 use mathlib.Core.Path.{_≡_, refl, sym, ap, _∙_}

@@ -1,4 +1,4 @@
--- Words with numbers added, sums, and the limit of a figure. Assumes nothing.
+-- Words with numbers added, sums, and the limit of a figure.
 use Prim.Native.Nat.{ℕ, zero, suc, _+_, _*_, _-_, _≤_, _<_}
 use mathlib.Core.Bool.{Bool, true, false, _||_}
 use mathlib.Core.List.{List, [], _∷_}

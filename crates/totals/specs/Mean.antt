@@ -1,5 +1,5 @@
 -- 02 (b): "the mean node records per accepted script and mean entries per track, each as an exact fraction in lowest terms, or `none` where
--- there was no such script or track". Assumes nothing.
+-- there was no such script or track".
 use Prim.Native.Nat.{ℕ, zero, suc, _*_, _/_, _%_, _∣_}
 use mathlib.Core.Bool.{true, false, cond}
 use mathlib.Core.List.{List}

@@ -1,4 +1,4 @@
--- 02 (b), "A morning sheet over the whole chain": the totals. Assumes nothing.
+-- 02 (b), "A morning sheet over the whole chain": the totals.
 -- 60 words: word 0 counts the accepted scripts, word r from 1 to 43 those refused under r, word 44 + k the node records of kind k from 0 to
 -- 14, word 59 the keyframe entries.
 use Prim.Native.Nat.{ℕ, suc, _+_}

@@ -1,4 +1,4 @@
--- A tween is read and written. Assumes nothing.
+-- A tween is read and written.
 use Prim.Native.Nat.{ℕ, _≤_}
 use mathlib.Core.List.{List, []}
 use mathlib.Core.Path.{_≡_, sym, subst, _∙_}

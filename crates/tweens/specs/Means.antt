@@ -1,4 +1,4 @@
--- What tween and spring begin with, their fields, and what is written. Contracts cite these. Assumes nothing.
+-- What tween and spring begin with, their fields, and what is written. Contracts cite these.
 use Prim.Native.Nat.{ℕ, _+_, _*_, _-_, _≤_}
 use mathlib.Core.List.{List, _++_}
 use mathlib.Core.Option.{Option}

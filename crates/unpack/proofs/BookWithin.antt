@@ -1,5 +1,4 @@
 -- 02 (i): the items of a book lie in its text, so that starts, sizes, counts and places that a lookup and a listing answer with are small.
--- Assumes nothing.
 use Prim.Native.Nat.{ℕ, zero, suc, _≤_}
 use mathlib.Core.Bool.{Bool, true, false, cond}
 use mathlib.Core.List.{List, [], _∷_, _++_}

@@ -1,4 +1,4 @@
--- The four bytes of a colour are below 256, so that none is cut in a packed answer. Assumes nothing.
+-- The four bytes of a colour are below 256, so that none is cut in a packed answer.
 use Prim.Native.Nat.{ℕ, zero, suc, _+_, _-_, _<_}
 use Prim.Native.String.{String}
 use mathlib.Core.Bool.{Bool, true, false, _&&_, cond}

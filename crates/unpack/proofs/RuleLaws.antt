@@ -1,4 +1,4 @@
--- Each rule of the grammar refuses at the place of a token, and counts onto what was counted. Assumes nothing.
+-- Each rule of the grammar refuses at the place of a token, and counts onto what was counted.
 use Prim.Native.Nat.{ℕ, zero, suc}
 use Prim.Native.String.{String}
 use mathlib.Core.Bool.{Bool, true, false, _&&_}

@@ -1,4 +1,4 @@
--- The ordinals and the records of a sheet, and the places at which checking and lining refuse, are at most 65,535. Assumes nothing.
+-- The ordinals and the records of a sheet, and the places at which checking and lining refuse, are at most 65,535.
 use Prim.Native.Nat.{ℕ, zero, suc, _+_, _≤_, _<_}
 use Prim.Native.String.{String}
 use mathlib.Core.Bool.{Bool, true, false, cond}

@@ -1,5 +1,5 @@
 -- Rules refuse at the place of a token, count a number at most for each token, and count it onto what was counted before: the steps of the
--- grammar. Assumes nothing.
+-- grammar.
 use Prim.Native.Nat.{ℕ, zero, suc, _+_, _≤_}
 use Prim.Native.String.{String}
 use mathlib.Core.Bool.{Bool, true, false, cond}

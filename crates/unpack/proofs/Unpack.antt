@@ -1,4 +1,4 @@
--- The parts of a packed answer are those of the operation's answer, for every text, sheet and output. Assumes nothing.
+-- The parts of a packed answer are those of the operation's answer, for every text, sheet and output.
 use Prim.Native.Nat.{ℕ, _^_, _<_}
 use mathlib.Core.Bool.{Bool, true, false, cond}
 use mathlib.Core.List.{List}

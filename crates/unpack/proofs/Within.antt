@@ -1,4 +1,4 @@
--- The places, lengths and counts that the operations answer with are small. Assumes nothing.
+-- The places, lengths and counts that the operations answer with are small.
 use Prim.Native.Nat.{ℕ, zero, suc, _+_, _-_, _≤_}
 use mathlib.Core.Bool.{Bool, true, false, _||_, cond}
 use mathlib.Core.List.{List, [], _∷_, _++_}

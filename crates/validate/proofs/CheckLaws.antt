@@ -1,4 +1,4 @@
--- From a text, a list and a sheet's head to the verdict. Assumes nothing.
+-- From a text, a list and a sheet's head to the verdict.
 use Prim.Native.Nat.{ℕ, _≤_, _<_}
 use mathlib.Core.Bool.{Bool, true, false, cond}
 use mathlib.Core.List.{List}

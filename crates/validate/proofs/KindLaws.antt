@@ -1,4 +1,4 @@
--- A record of each kind: its kind, its start, then its fields. Assumes nothing.
+-- A record of each kind: its kind, its start, then its fields.
 use Prim.Native.Nat.{ℕ, _≤_, _<_}
 use mathlib.Core.List.{List}
 use mathlib.Core.Option.{Option, none}

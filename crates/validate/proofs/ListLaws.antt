@@ -1,4 +1,4 @@
--- What checking is under each list of colours. Assumes nothing.
+-- What checking is under each list of colours.
 use Prim.Native.Nat.{ℕ, _≤_}
 use mathlib.Core.Bool.{true, false}
 use mathlib.Core.List.{List}

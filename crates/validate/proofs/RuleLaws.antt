@@ -1,4 +1,4 @@
--- Rules in order: one more rule is one more test of the list. Assumes nothing.
+-- Rules in order: one more rule is one more test of the list.
 use mathlib.Core.Bool.{Bool, true, false}
 use mathlib.Core.List.{List, [], _∷_, _++_}
 use mathlib.Core.Option.{Option, none, some}

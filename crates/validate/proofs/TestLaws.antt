@@ -1,4 +1,4 @@
--- The tests, over what the code holds: each agrees with its definition through the view. Assumes nothing.
+-- The tests, over what the code holds: each agrees with its definition through the view.
 use Prim.Native.Nat.{ℕ}
 use mathlib.Core.Bool.{Bool, true, false, not, _&&_, _||_}
 use mathlib.Core.List.{List}

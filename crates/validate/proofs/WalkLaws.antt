@@ -1,4 +1,4 @@
--- The walk over nodes to the first refusal, under a list of colours. Assumes nothing.
+-- The walk over nodes to the first refusal, under a list of colours.
 use Prim.Native.Nat.{ℕ, suc, _+_, _-_, _≤_, _<_}
 use mathlib.Core.List.{List}
 use mathlib.Core.Option.{Option, none, some, Option·some-injective}

@@ -1,4 +1,4 @@
--- 01, "Checking", and 02 (g), its list of colours: the operation. Assumes nothing.
+-- 01, "Checking", and 02 (g), its list of colours: the operation.
 use Prim.Native.Nat.{ℕ}
 use mathlib.Core.Bool.{Bool, cond, _||_}
 use mathlib.Core.List.{List}

@@ -1,4 +1,4 @@
--- What the answers of the code mean. Contracts cite these. Assumes nothing.
+-- What the answers of the code mean. Contracts cite these.
 use Prim.Native.Nat.{ℕ, _≤_}
 use mathlib.Core.Bool.{cond}
 use mathlib.Core.List.{List, []}

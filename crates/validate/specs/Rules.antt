@@ -1,4 +1,4 @@
--- validate.rs: for each of its functions the list of its tests, in its order, each with its kind of refusal. Assumes nothing.
+-- validate.rs: for each of its functions the list of its tests, in its order, each with its kind of refusal.
 -- t is the text, and `names` the names of colours.
 use Prim.Native.Nat.{ℕ, suc, _+_}
 use Prim.Native.String.{String}

@@ -1,4 +1,4 @@
--- The fields of `rough` and `slowmo`, one more at a time. Assumes nothing.
+-- The fields of `rough` and `slowmo`, one more at a time.
 use Prim.Native.Nat.{ℕ}
 use mathlib.Core.List.{[]}
 use mathlib.Core.Path.{_≡_, refl}

@@ -1,4 +1,4 @@
--- A word in an easing's place: a name, a name behind `Easing::`, or a curve. Assumes nothing.
+-- A word in an easing's place: a name, a name behind `Easing::`, or a curve.
 use Prim.Native.Nat.{ℕ, _+_, _≤_}
 use mathlib.Core.Bool.{Bool, true, false, _&&_, cond}
 use mathlib.Core.List.{List}

@@ -1,4 +1,4 @@
--- The rows of a table: which one stands at a place, and what taking its value says. Assumes nothing.
+-- The rows of a table: which one stands at a place, and what taking its value says.
 use Prim.Native.Nat.{ℕ, zero, suc, _+_, _<_}
 use Prim.Native.String.{String}
 use mathlib.Core.List.{List, [], _∷_}

@@ -1,4 +1,4 @@
--- Laws of rules one after the other, at cursors. Assumes nothing.
+-- Laws of rules one after the other, at cursors.
 use Prim.Native.Nat.{ℕ}
 use mathlib.Core.List.{List}
 use mathlib.Core.Path.{_≡_}

@@ -1,4 +1,4 @@
--- Demand 3 of the two answers, and their values, by cases of reading's. Assumes nothing.
+-- Demand 3 of the two answers, and their values, by cases of reading's.
 use Prim.Native.Nat.{ℕ}
 use mathlib.Core.List.{List}
 use mathlib.Core.Path.{_≡_, ap, sym, _∙_}

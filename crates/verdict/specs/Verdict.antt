@@ -1,4 +1,4 @@
--- What the two calls answered, and what demand 3 says of it. Assumes nothing.
+-- What the two calls answered, and what demand 3 says of it.
 use Prim.Native.Nat.{ℕ}
 use mathlib.Core.Bool.{true}
 use mathlib.Core.List.{List, _++_}

@@ -1,4 +1,4 @@
--- A test of every entry of a list and its place: if it passes, it holds at each place. Assumes nothing.
+-- A test of every entry of a list and its place: if it passes, it holds at each place.
 use Prim.Native.Nat.{ℕ, zero, suc, _+_, _<_}
 use mathlib.Core.Bool.{Bool, true, false}
 use mathlib.Core.List.{List, [], _∷_}

@@ -1,5 +1,5 @@
 -- 02 (l): what holds of the heights, and of those that are drawn. They stay within the peak; the phase rotates them; half a period on the
--- sine and the triangle change their sign, and their first half is its own mirror image. Assumes nothing.
+-- sine and the triangle change their sign, and their first half is its own mirror image.
 use mathlib.Core.Path.{_≡_, refl, sym, _∙_, ap, subst}
 use mathlib.Core.Bool.{cond}
 use mathlib.Core.List.{List}

@@ -1,4 +1,4 @@
--- The rules of the quarter-wave table: one computed test over all its entries, and what it tells of each. Assumes nothing.
+-- The rules of the quarter-wave table: one computed test over all its entries, and what it tells of each.
 use mathlib.Core.Path.{_≡_, refl, subst}
 use native.Mathlib.Omega.{arith}
 use mathlib.Core.Bool.{Bool}

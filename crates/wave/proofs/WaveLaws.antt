@@ -1,4 +1,4 @@
--- The heights by cases, their bounds, and the filling of a list. Assumes nothing.
+-- The heights by cases, their bounds, and the filling of a list.
 use mathlib.Core.Path.{_≡_, refl, sym, _∙_, ap, subst}
 use mathlib.Core.Bool.{Bool, true, false, not, cond}
 use mathlib.Core.List.{List}

@@ -1,4 +1,4 @@
--- 02 (l), "Show the wave on the bench screen": the heights of one period, and drawing. Assumes nothing.
+-- 02 (l), "Show the wave on the bench screen": the heights of one period, and drawing.
 use Prim.Native.Nat.{ℕ, zero, suc, _+_, _*_, _-_, _/_, _%_}
 use mathlib.Core.Bool.{cond}
 use mathlib.Core.List.{List}

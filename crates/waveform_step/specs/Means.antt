@@ -1,4 +1,4 @@
--- What a waveform's fields keep. Contracts cite these. Assumes nothing.
+-- What a waveform's fields keep. Contracts cite these.
 use Prim.Native.Nat.{ℕ}
 use mathlib.Core.List.{List, [], _∷_}
 use mathlib.Core.Path.{_≡_}

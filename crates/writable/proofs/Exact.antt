@@ -1,4 +1,4 @@
--- 02 (f): "34 exactly if no text under 01's rules, its length limit set aside, reads to that tree". Assumes nothing.
+-- 02 (f): "34 exactly if no text under 01's rules, its length limit set aside, reads to that tree".
 use Prim.Native.Nat.{ℕ, suc, _+_}
 use mathlib.Core.Bool.{true}
 use mathlib.Core.List.{List, [], _∷_}

@@ -1,4 +1,4 @@
--- What a list of fields says can be written; and easings. Assumes nothing.
+-- What a list of fields says can be written; and easings.
 use Prim.Native.Nat.{ℕ, zero, suc, _<_}
 use Prim.Native.String.{String}
 use mathlib.Core.Bool.{Bool, true, false, cond, _&&_}

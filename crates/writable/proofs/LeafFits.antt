@@ -1,4 +1,4 @@
--- The leaves that a rule reads can be written, but for tracks. Assumes nothing.
+-- The leaves that a rule reads can be written, but for tracks.
 use Prim.Native.Nat.{ℕ, _≤_, _<_}
 use Prim.Native.String.{String}
 use mathlib.Core.Bool.{Bool, true, false, cond}

@@ -1,4 +1,4 @@
--- A tree that a sheet holds has at most 16 containers around each other. Assumes nothing.
+-- A tree that a sheet holds has at most 16 containers around each other.
 use Prim.Native.Nat.{ℕ, zero, suc}
 use mathlib.Core.List.{List}
 use mathlib.Core.Option.{some}

@@ -1,4 +1,4 @@
--- The nodes that the grammar reads can be written. Assumes nothing.
+-- The nodes that the grammar reads can be written.
 use Prim.Native.Nat.{ℕ, zero, suc}
 use mathlib.Core.Bool.{Bool, true, false}
 use mathlib.Core.List.{List, []}

@@ -1,4 +1,4 @@
--- The tracks that a rule reads can be written. Assumes nothing.
+-- The tracks that a rule reads can be written.
 use Prim.Native.Nat.{ℕ}
 use mathlib.Core.Bool.{Bool, true, false, _&&_}
 use mathlib.Core.List.{List, [], _∷_, _++_}

@@ -1,4 +1,4 @@
--- What a rule reads can be written: names, strings, numbers, values and loop modes. Assumes nothing.
+-- What a rule reads can be written: names, strings, numbers, values and loop modes.
 -- u is any text. `form` writes every number that a text can have.
 use Prim.Native.Nat.{ℕ, _+_, _-_, _<_}
 use mathlib.Core.Bool.{Bool, true, false}

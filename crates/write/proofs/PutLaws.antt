@@ -1,4 +1,4 @@
--- The most bytes of what a record holds. Assumes nothing.
+-- The most bytes of what a record holds.
 use Prim.Native.Nat.{ℕ, _≤_}
 use mathlib.Core.Option.{Option}
 use mathlib.Core.Bool.{Bool}

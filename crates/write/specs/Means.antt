@@ -1,4 +1,4 @@
--- The records of nodes without values of several numbers. Contracts cite these. Assumes nothing.
+-- The records of nodes without values of several numbers. Contracts cite these.
 use Prim.Native.Nat.{ℕ, _+_, _≤_}
 use mathlib.Core.List.{List}
 use Rattle.number.specs.Number.{bits}

@@ -1,4 +1,4 @@
--- `arrays::array_items` meets its contract. Assumes nothing.
+-- `arrays::array_items` meets its contract.
 use Rattle.arrays.proofs.ArrayLaws.{few, items-last, items-more, items-moves}
 use borrow.Author.Tests.{not-false, not-true}
 use lib.Dec.{lit<}

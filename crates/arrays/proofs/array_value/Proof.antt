@@ -1,4 +1,4 @@
--- `arrays::array_value` meets its contract. Assumes nothing.
+-- `arrays::array_value` meets its contract.
 use native.Mathlib.Omega.{arith}
 use Rattle.arrays.proofs.ArrayLaws.{array-refused, array-went}
 use Rattle.text.specs.Bytes.{at}

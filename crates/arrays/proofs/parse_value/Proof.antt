@@ -1,4 +1,4 @@
--- `arrays::parse_value` meets its contract: what is held is written. Assumes nothing.
+-- `arrays::parse_value` meets its contract: what is held is written.
 use native.Mathlib.Omega.{arith}
 use borrow.Author.Needs.{needs}
 use Rattle.arrays.proofs.ArrayLaws.{array-written, scalar-written}

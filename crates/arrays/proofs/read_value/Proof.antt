@@ -1,4 +1,4 @@
--- `arrays::read_value` meets its contract: behind a `[` an array, else a scalar. Assumes nothing.
+-- `arrays::read_value` meets its contract: behind a `[` an array, else a scalar.
 use borrow.Author.Needs.{needs}
 use Rattle.arrays.proofs.ArrayLaws.{array-held, mark-unseen, scalar-held, scalar-refused, value-refused}
 use Rattle.arrays.proofs.read_value.Statement.{statement}

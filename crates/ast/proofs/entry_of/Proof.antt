@@ -1,4 +1,4 @@
--- `ast::entry_of` meets its contract: one case a value. Assumes nothing.
+-- `ast::entry_of` meets its contract: one case a value.
 use borrow.Author.Needs.{needs}
 use Rattle.number.specs.Number.{f32}
 use Rattle.ast.proofs.entry_of.Statement.{statement}

@@ -1,4 +1,4 @@
--- `back::finish` meets its contract: each way out is a case of the definition. Assumes nothing.
+-- `back::finish` meets its contract: each way out is a case of the definition.
 use Rattle.fresh.specs.Reads.{start}
 use mathlib.Core.Path.{_∙_}
 use native.Mathlib.Omega.{arith}

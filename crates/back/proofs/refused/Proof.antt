@@ -1,4 +1,4 @@
--- `back::refused` meets its contract: the buffer is zeroed. Assumes nothing.
+-- `back::refused` meets its contract: the buffer is zeroed.
 use native.Mathlib.Nat.{sub-zero}
 use borrow.Author.Needs.{needs}
 use Rattle.back.proofs.refused.Statement.{statement}

@@ -1,4 +1,4 @@
--- `back::write` meets its contract. Assumes nothing.
+-- `back::write` meets its contract.
 use Rattle.error.specs.Answer.{lineValues}
 use Rattle.error.proofs.AnswerLaws.{with-values}
 use mathlib.Core.Path.{_∙_, sym}

@@ -1,5 +1,5 @@
 -- A node, the containers and a list of nodes, which call each other, meet their contracts: bytes left in the text fall from a node to the
--- nodes in it. Assumes nothing.
+-- nodes in it.
 use Prim.Native.Nat.{ℕ, _+_, _-_, _*_, _<_}
 use native.Mathlib.Omega.{arith}
 use mathlib.Core.Path.{sym, _∙_}

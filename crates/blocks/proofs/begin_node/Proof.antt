@@ -1,4 +1,4 @@
--- `blocks::begin_node` meets its contract. Assumes nothing.
+-- `blocks::begin_node` meets its contract.
 use Rattle.blocks.proofs.BeginLaws.{from-keyword, no-keyword}
 use borrow.Author.Needs.{needs}
 use Rattle.blocks.proofs.begin_node.Statement.{statement}

@@ -1,4 +1,4 @@
--- `blocks::begin_word` meets its contract. Assumes nothing.
+-- `blocks::begin_word` meets its contract.
 use native.Mathlib.Omega.{arith}
 use Rattle.blocks.proofs.BeginLaws.{leaf-low, container-low, leaf-begun, leaf-refused, container-begun, unknown-refused}
 use borrow.Author.Needs.{needs}

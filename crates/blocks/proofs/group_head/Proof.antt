@@ -1,4 +1,4 @@
--- `blocks::group_head` meets its contract. Assumes nothing.
+-- `blocks::group_head` meets its contract.
 use Rattle.blocks.proofs.HeadLaws.{group-went}
 use borrow.Author.Needs.{needs}
 use Rattle.blocks.proofs.group_head.Statement.{statement}

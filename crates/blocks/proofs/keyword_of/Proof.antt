@@ -1,4 +1,4 @@
--- `blocks::keyword_of` meets its contract. Assumes nothing.
+-- `blocks::keyword_of` meets its contract.
 use Rattle.blocks.proofs.NameLaws.{container-word, leaf-word, unknown-word}
 use Rattle.grammar.specs.Grammar.{containers, leaves}
 use Rattle.text.specs.Words.{entries}

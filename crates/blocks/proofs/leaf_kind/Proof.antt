@@ -1,4 +1,4 @@
--- `blocks::leaf_kind` meets its contract. Assumes nothing.
+-- `blocks::leaf_kind` meets its contract.
 use borrow.Author.Tests.{lt-ltb, le-ltb}
 use borrow.Author.Needs.{needs}
 use Rattle.blocks.proofs.leaf_kind.Statement.{statement}

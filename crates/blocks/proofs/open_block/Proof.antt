@@ -1,4 +1,4 @@
--- `blocks::open_block` meets its contract. Assumes nothing.
+-- `blocks::open_block` meets its contract.
 use native.Mathlib.Omega.{arith}
 use Rattle.blocks.proofs.BlockLaws.{no-brace, too-deep}
 use borrow.Author.Needs.{needs}

@@ -1,4 +1,4 @@
--- `blocks::stagger_head` meets its contract. Assumes nothing.
+-- `blocks::stagger_head` meets its contract.
 use Rattle.blocks.proofs.HeadLaws.{length-pattern, stagger-went}
 use Rattle.encode.specs.Of.{optPatternOf}
 use native.Mathlib.Omega.{arith}

@@ -1,4 +1,4 @@
--- `book::cell` meets its contract. Assumes nothing.
+-- `book::cell` meets its contract.
 use Prim.Native.Nat.{_+_, _*_}
 use native.Mathlib.Omega.{arith}
 use borrow.Author.Needs.{needs}

@@ -1,4 +1,4 @@
--- `book::find_name` meets its contract. Assumes nothing.
+-- `book::find_name` meets its contract.
 use Rattle.text.specs.Bytes.{at}
 use Rattle.text.specs.Words.{table}
 use Rattle.grammar.specs.Rule.{text}

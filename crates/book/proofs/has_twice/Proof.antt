@@ -1,4 +1,4 @@
--- `book::has_twice` meets its contract. Assumes nothing.
+-- `book::has_twice` meets its contract.
 use Rattle.text.specs.Words.{table}
 use Rattle.grammar.specs.Rule.{text}
 use Prim.Native.Nat.{_≤_, _-_}

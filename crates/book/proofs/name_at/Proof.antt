@@ -1,4 +1,4 @@
--- `book::name_at` meets its contract. Assumes nothing.
+-- `book::name_at` meets its contract.
 use Rattle.text.specs.Bytes.{at}
 use borrow.Author.Needs.{needs}
 use Rattle.book.proofs.name_at.Statement.{statement}

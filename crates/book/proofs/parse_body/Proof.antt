@@ -1,4 +1,4 @@
--- `book::parse_body` meets its contract. Assumes nothing.
+-- `book::parse_body` meets its contract.
 use Rattle.text.specs.Bytes.{at}
 use Rattle.book.proofs.ItemLaws.{reached, no-brace, body-refused, body-went}
 use borrow.Author.Needs.{needs}

@@ -1,4 +1,4 @@
--- `book::parse_item` meets its contract. Assumes nothing.
+-- `book::parse_item` meets its contract.
 use Rattle.text.specs.Bytes.{at}
 use native.Mathlib.Omega.{arith}
 use Rattle.book.proofs.ItemLaws.{no-name, no-equals, no-body, item-went}

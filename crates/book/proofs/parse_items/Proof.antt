@@ -1,4 +1,4 @@
--- `book::parse_items` meets its contract. Assumes nothing.
+-- `book::parse_items` meets its contract.
 use Rattle.text.specs.Bytes.{at}
 use Rattle.sheet.specs.Sheet.{sheet}
 use Rattle.text.specs.Words.{table}

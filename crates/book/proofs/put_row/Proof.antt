@@ -1,4 +1,4 @@
--- `book::put_row` meets its contract. Assumes nothing.
+-- `book::put_row` meets its contract.
 use Prim.Native.Nat.{_+_, _*_}
 use mathlib.Core.Path.{_≡_}
 use native.Mathlib.Omega.{arith}

@@ -1,4 +1,4 @@
--- `book::read` meets its contract. Assumes nothing.
+-- `book::read` meets its contract.
 use Rattle.text.specs.Bytes.{at}
 use mathlib.Core.Path.{sym, _∙_}
 use native.Mathlib.Omega.{arith}

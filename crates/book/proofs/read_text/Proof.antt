@@ -1,4 +1,4 @@
--- `book::read_text` meets its contract. Assumes nothing.
+-- `book::read_text` meets its contract.
 use Rattle.text.specs.Bytes.{at}
 use mathlib.Core.Path.{refl}
 use native.Mathlib.Omega.{arith}

@@ -1,4 +1,4 @@
--- `book::stands_before` meets its contract. Assumes nothing.
+-- `book::stands_before` meets its contract.
 use Rattle.text.specs.Bytes.{at}
 use mathlib.Core.Path.{ap}
 use native.Mathlib.Omega.{arith}

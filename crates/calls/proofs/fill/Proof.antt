@@ -1,4 +1,4 @@
--- `calls::fill` meets its contract. Assumes nothing.
+-- `calls::fill` meets its contract.
 use Rattle.text.specs.Bytes.{at}
 use Rattle.calls.specs.Calls.{calls}
 use Rattle.sheet.specs.Sheet.{sheet}

@@ -1,4 +1,4 @@
--- `calls::note` meets its contract. Assumes nothing.
+-- `calls::note` meets its contract.
 use Rattle.text.specs.Bytes.{at}
 use mathlib.Core.Path.{ap}
 use native.Mathlib.Omega.{arith}

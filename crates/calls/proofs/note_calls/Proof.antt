@@ -1,4 +1,4 @@
--- `calls::note_calls` meets its contract. Assumes nothing.
+-- `calls::note_calls` meets its contract.
 use Rattle.text.specs.Bytes.{at}
 use Rattle.calls.specs.Calls.{calls}
 use Rattle.sheet.specs.Sheet.{sheet}

@@ -1,4 +1,4 @@
--- `calls::note_record` meets its contract. Assumes nothing.
+-- `calls::note_record` meets its contract.
 use Rattle.book.specs.Book.{names}
 use Rattle.calls.proofs.BodyLaws.{no-call, a-call}
 use borrow.Author.Needs.{needs}

@@ -1,4 +1,4 @@
--- `colors::color` meets its contract: each way out is one law of colours. Assumes nothing.
+-- `colors::color` meets its contract: each way out is one law of colours.
 use Rattle.error.specs.Answer.{colorValues}
 use Rattle.error.proofs.AnswerLaws.{and-values}
 use mathlib.Core.Path.{ap, sym, _∙_}

@@ -1,4 +1,4 @@
--- `colors::color_bytes` meets its contract: each way out is one law of colours. Assumes nothing.
+-- `colors::color_bytes` meets its contract: each way out is one law of colours.
 use mathlib.Core.Path.{_∙_}
 use Rattle.colors.proofs.ColorLaws.{bytes-hex, bytes-name}
 use borrow.Author.Needs.{needs}

@@ -1,4 +1,4 @@
--- `colors::digit` meets its contract: each arm is one law of digits. Assumes nothing.
+-- `colors::digit` meets its contract: each arm is one law of digits.
 use native.Mathlib.Omega.{arith}
 use Rattle.colors.proofs.HexLaws.{digit-decimal, digit-capital, digit-small, digit-front, digit-first, digit-between, digit-behind}
 use borrow.Author.Needs.{needs}

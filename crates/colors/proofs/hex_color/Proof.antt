@@ -1,4 +1,4 @@
--- `colors::hex_color` meets its contract: each way out is one law of what stands behind a `#`. Assumes nothing.
+-- `colors::hex_color` meets its contract: each way out is one law of what stands behind a `#`.
 use mathlib.Core.Path.{sym, _∙_}
 use borrow.Author.Tests.{not-true, not-false}
 use Rattle.colors.proofs.HexLaws.{hex-color, no-hex-color}

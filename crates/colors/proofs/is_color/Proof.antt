@@ -1,4 +1,4 @@
--- `colors::is_color` meets its contract: the list decides which names they are. Assumes nothing.
+-- `colors::is_color` meets its contract: the list decides which names they are.
 use mathlib.Core.Path.{_∙_}
 use Rattle.colors.proofs.ColorLaws.{first-list, second-list}
 use borrow.Author.Needs.{needs}

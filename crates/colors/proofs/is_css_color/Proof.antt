@@ -1,4 +1,4 @@
--- `colors::is_css_color` meets its contract: each way out is one law of colours. Assumes nothing.
+-- `colors::is_css_color` meets its contract: each way out is one law of colours.
 use mathlib.Core.Path.{ap, sym, _∙_}
 use Rattle.text.specs.Words.{isSome}
 use Rattle.colors.specs.Means.{rgbaOf}

@@ -1,5 +1,4 @@
 -- `colors::long_name` meets its contract: each table's rows are those of the colours with names of that length, which is computed.
--- Assumes nothing.
 use mathlib.Core.Path.{refl}
 use Rattle.colors.specs.Css.{cssColors}
 use Rattle.colors.specs.Means.{rowsFrom}

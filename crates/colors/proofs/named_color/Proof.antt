@@ -1,4 +1,4 @@
--- `colors::named_color` meets its contract: of a name the first 32 bytes decide. Assumes nothing.
+-- `colors::named_color` meets its contract: of a name the first 32 bytes decide.
 use mathlib.Core.Path.{sym, _∙_}
 use lib.Seq.{length-take-le}
 use Rattle.text.proofs.WriteLaws.{puts-front, puts-fits}

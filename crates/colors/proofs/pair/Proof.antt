@@ -1,4 +1,4 @@
--- `colors::pair` meets its contract: a digit's number is below 16, so the sum fits. Assumes nothing.
+-- `colors::pair` meets its contract: a digit's number is below 16, so the sum fits.
 use native.Mathlib.Omega.{arith}
 use Rattle.colors.proofs.HexLaws.{digit-small-number}
 use borrow.Author.Needs.{needs}

@@ -1,4 +1,4 @@
--- `colors::put_four` meets its contract: four stores into four places are a whole list written anew. Assumes nothing.
+-- `colors::put_four` meets its contract: four stores into four places are a whole list written anew.
 use Rattle.colors.proofs.HexLaws.{sets-whole}
 use mathlib.Core.List.{_∷_, []}
 use borrow.Author.Needs.{needs}

@@ -1,4 +1,4 @@
--- `colors::row_in` meets its contract: the loop keeps the lookup in what is left of the table. Assumes nothing.
+-- `colors::row_in` meets its contract: the loop keeps the lookup in what is left of the table.
 use Rattle.text.specs.Bytes.{at}
 use Rattle.text.specs.Words.{table}
 use Prim.Native.Nat.{_-_}

@@ -1,4 +1,4 @@
--- `colors::written` meets its contract: each way out is one law of the bytes that digits write. Assumes nothing.
+-- `colors::written` meets its contract: each way out is one law of the bytes that digits write.
 use mathlib.Core.Path.{_∙_}
 use native.Mathlib.Omega.{arith}
 use Rattle.colors.proofs.HexLaws.{few-at, few-end, many-at, many-end}

@@ -1,4 +1,4 @@
--- `convert::convert` meets its contract: what is shut is refused so, and an open sheet is converted. Assumes nothing.
+-- `convert::convert` meets its contract: what is shut is refused so, and an open sheet is converted.
 use Rattle.error.specs.Answer.{checkValues}
 use Rattle.error.proofs.AnswerLaws.{with-values}
 use mathlib.Core.Path.{sym, _∙_}

@@ -1,4 +1,4 @@
--- `convert::convert_record` meets its contract: what is noise is overwritten, and the record is passed. Assumes nothing.
+-- `convert::convert_record` meets its contract: what is noise is overwritten, and the record is passed.
 use mathlib.Core.Path.{sym, _∙_}
 use borrow.Author.Needs.{needs}
 use Rattle.convert.proofs.WalkLaws.{overwritten, as-it-was}

@@ -1,5 +1,4 @@
 -- `convert::convert_records` meets its contract: the records before the place are converted, those from it on are as they were.
--- Assumes nothing.
 use Prim.Native.Nat.{_-_}
 use native.Mathlib.Omega.{arith}
 use borrow.Author.Needs.{needs}

@@ -1,4 +1,4 @@
--- `convert::holds_noise` meets its contract: the two bytes at the record's place. Assumes nothing.
+-- `convert::holds_noise` meets its contract: the two bytes at the record's place.
 use native.Mathlib.Omega.{arith}
 use borrow.Author.Needs.{needs}
 use Rattle.convert.proofs.WalkLaws.{another-kind, its-wave}

@@ -1,4 +1,4 @@
--- `cursor::advance` meets its contract. Assumes nothing.
+-- `cursor::advance` meets its contract.
 use Rattle.text.specs.Bytes.{at}
 use Rattle.token.specs.Token.{rest}
 use mathlib.Core.Path.{ap, sym, _∙_}

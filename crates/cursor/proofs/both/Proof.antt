@@ -1,4 +1,4 @@
--- `cursor::both` meets its contract. Assumes nothing.
+-- `cursor::both` meets its contract.
 use mathlib.Core.Path.{sym, ap, _∙_}
 use Prim.Native.Nat.{ℕ, _+_}
 use Rattle.cursor.proofs.CursorLaws.{took-both, both-missing, pair-apart, pair-second, pair-first}

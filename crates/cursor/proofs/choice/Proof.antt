@@ -1,4 +1,4 @@
--- `cursor::choice` meets its contract. Assumes nothing.
+-- `cursor::choice` meets its contract.
 use Rattle.text.specs.Bytes.{at}
 use mathlib.Core.Path.{_≡_, ap, sym, _∙_}
 use mathlib.Core.Option.{some, none}

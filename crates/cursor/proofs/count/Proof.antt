@@ -1,4 +1,4 @@
--- `cursor::count` meets its contract. Assumes nothing.
+-- `cursor::count` meets its contract.
 use borrow.Author.Needs.{needs}
 use Rattle.cursor.proofs.CursorLaws.{a-number-more}
 use Rattle.cursor.proofs.count.Statement.{statement}

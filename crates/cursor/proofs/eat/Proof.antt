@@ -1,4 +1,4 @@
--- `cursor::eat` meets its contract. Assumes nothing.
+-- `cursor::eat` meets its contract.
 use Rattle.cursor.proofs.CursorLaws.{took-eaten}
 use Rattle.grammar.specs.Rule.{eatByte}
 use mathlib.Core.Bool.{false}

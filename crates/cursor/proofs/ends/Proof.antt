@@ -1,4 +1,4 @@
--- `cursor::ends` meets its contract. Assumes nothing.
+-- `cursor::ends` meets its contract.
 use mathlib.Core.Path.{ap, sym, _∙_}
 use Rattle.token.specs.Token.{Kind}
 use Rattle.grammar.specs.Rule.{isEnd}

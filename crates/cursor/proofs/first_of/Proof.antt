@@ -1,4 +1,4 @@
--- `cursor::first_of` meets its contract. Assumes nothing.
+-- `cursor::first_of` meets its contract.
 use Rattle.cursor.proofs.CursorLaws.{left-none, left-some}
 use native.Mathlib.Omega.{arith}
 use Rattle.cursor.proofs.first_of.Statement.{statement}

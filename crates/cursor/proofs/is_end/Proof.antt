@@ -1,4 +1,4 @@
--- `cursor::is_end` meets its contract. Assumes nothing.
+-- `cursor::is_end` meets its contract.
 use borrow.Author.Needs.{needs}
 use Rattle.cursor.proofs.is_end.Statement.{statement}
 use Rattle.cursor.proofs.is_end.Tie as tie

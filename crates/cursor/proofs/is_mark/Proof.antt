@@ -1,4 +1,4 @@
--- `cursor::is_mark` meets its contract. Assumes nothing.
+-- `cursor::is_mark` meets its contract.
 use borrow.Author.Needs.{needs}
 use Rattle.cursor.proofs.is_mark.Statement.{statement}
 use Rattle.cursor.proofs.is_mark.Tie as tie

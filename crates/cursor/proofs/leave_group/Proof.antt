@@ -1,4 +1,4 @@
--- `cursor::leave_group` meets its contract. Assumes nothing.
+-- `cursor::leave_group` meets its contract.
 use mathlib.Core.Path.{refl, sym, _∙_}
 use Rattle.cursor.proofs.CursorLaws.{leave-end, leave-left}
 use borrow.Author.Needs.{needs}

@@ -1,4 +1,4 @@
--- `cursor::leftover` meets its contract. Assumes nothing.
+-- `cursor::leftover` meets its contract.
 use mathlib.Core.Path.{sym}
 use Rattle.cursor.proofs.CursorLaws.{left-none, left-some}
 use borrow.Author.Needs.{needs}

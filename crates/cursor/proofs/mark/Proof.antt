@@ -1,4 +1,4 @@
--- `cursor::mark` meets its contract. Assumes nothing.
+-- `cursor::mark` meets its contract.
 use mathlib.Core.Path.{sym, _∙_}
 use Rattle.cursor.proofs.CursorLaws.{took-mark, mark-missing}
 use borrow.Author.Needs.{needs}

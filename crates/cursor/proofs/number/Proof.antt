@@ -1,4 +1,4 @@
--- `cursor::number` meets its contract. Assumes nothing.
+-- `cursor::number` meets its contract.
 use Rattle.text.specs.Bytes.{at}
 use mathlib.Core.Path.{sym, _∙_}
 use Rattle.cursor.proofs.CursorLaws.{minus-number, no-minus, plus-number, no-number, head-place}

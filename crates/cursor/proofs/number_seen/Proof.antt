@@ -1,4 +1,4 @@
--- `cursor::number_seen` meets its contract. Assumes nothing.
+-- `cursor::number_seen` meets its contract.
 use Rattle.text.specs.Bytes.{at}
 use Rattle.token.proofs.TokenLaws.{rest-of}
 use Rattle.cursor.proofs.CursorLaws.{seen-known}

@@ -1,4 +1,4 @@
--- `cursor::parse_float` meets its contract. Assumes nothing.
+-- `cursor::parse_float` meets its contract.
 use Rattle.text.specs.Bytes.{at}
 use Rattle.error.specs.declared.Refusal.the-variants.{Malformed}
 use Rattle.cursor.proofs.CursorLaws.{counts, took-number}

@@ -1,4 +1,4 @@
--- `cursor::parse_uint` meets its contract. Assumes nothing.
+-- `cursor::parse_uint` meets its contract.
 use Rattle.text.specs.Bytes.{at}
 use mathlib.Core.Path.{sym}
 use Rattle.error.specs.declared.Refusal.the-variants.{Missing}

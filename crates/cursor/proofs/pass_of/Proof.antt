@@ -1,4 +1,4 @@
--- `cursor::pass_of` meets its contract. Assumes nothing.
+-- `cursor::pass_of` meets its contract.
 use native.Mathlib.Numerals.{add-one}
 use Rattle.cursor.proofs.CursorLaws.{closing-some}
 use borrow.Author.Tests.{ne-eqb}

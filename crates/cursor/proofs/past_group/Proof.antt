@@ -1,4 +1,4 @@
--- `cursor::past_group` meets its contract. Assumes nothing.
+-- `cursor::past_group` meets its contract.
 use Prim.Native.Nat.{_-_}
 use Rattle.token.specs.Token.{Kind}
 use Rattle.cursor.proofs.CursorLaws.{Leaving, head-kind, leaving-closes, leaving-goes, leaving-halts, leaving-moves, leaving-start}

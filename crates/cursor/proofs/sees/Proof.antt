@@ -1,4 +1,4 @@
--- `cursor::sees` meets its contract. Assumes nothing.
+-- `cursor::sees` meets its contract.
 use mathlib.Core.Path.{ap, sym, _∙_}
 use Rattle.token.specs.Token.{Kind, isMark}
 use Rattle.cursor.proofs.CursorLaws.{head-kind}

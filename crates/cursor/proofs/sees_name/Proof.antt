@@ -1,4 +1,4 @@
--- `cursor::sees_name` meets its contract. Assumes nothing.
+-- `cursor::sees_name` meets its contract.
 use Rattle.text.specs.Bytes.{at}
 use mathlib.Core.Path.{ap, _∙_}
 use mathlib.Core.Bool.{not}

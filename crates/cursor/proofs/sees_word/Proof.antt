@@ -1,4 +1,4 @@
--- `cursor::sees_word` meets its contract. Assumes nothing.
+-- `cursor::sees_word` meets its contract.
 use mathlib.Core.Path.{_∙_}
 use borrow.Author.Needs.{needs}
 use Rattle.cursor.proofs.sees_word.Statement.{statement}

@@ -1,4 +1,4 @@
--- `cursor::start` meets its contract. Assumes nothing.
+-- `cursor::start` meets its contract.
 use Rattle.cursor.proofs.CursorLaws.{begins}
 use borrow.Author.Needs.{needs}
 use Rattle.cursor.proofs.start.Statement.{statement}

@@ -1,4 +1,4 @@
--- `cursor::string` meets its contract. Assumes nothing.
+-- `cursor::string` meets its contract.
 use native.Mathlib.Omega.{arith}
 use Rattle.cursor.proofs.CursorLaws.{quotes, string-in, took-string, no-string}
 use borrow.Author.Needs.{needs}

@@ -1,4 +1,4 @@
--- `cursor::truth` meets its contract. Assumes nothing.
+-- `cursor::truth` meets its contract.
 use mathlib.Core.Path.{sym, _∙_}
 use Rattle.cursor.proofs.CursorLaws.{took-true, took-false, no-truth}
 use borrow.Author.Needs.{needs}

@@ -1,4 +1,4 @@
--- `cursor::word` meets its contract. Assumes nothing.
+-- `cursor::word` meets its contract.
 use Rattle.text.specs.Bytes.{at}
 use mathlib.Core.Path.{ap, sym, _∙_}
 use Rattle.token.specs.Names.{isKeyword}

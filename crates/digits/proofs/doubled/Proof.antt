@@ -1,4 +1,4 @@
--- `digits::doubled` meets its contract. Assumes nothing.
+-- `digits::doubled` meets its contract.
 use Prim.Native.Nat.{ℕ, _+_, _*_, _/_, _^_, _≤_, _<_}
 use native.Mathlib.Omega.{arith}
 use borrow.Author.Needs.{needs}

@@ -1,4 +1,4 @@
--- `digits::fewest` meets its contract: by the range of the bits. Assumes nothing.
+-- `digits::fewest` meets its contract: by the range of the bits.
 use Prim.Native.Nat.{ℕ}
 use mathlib.Core.Option.{Option, some}
 use mathlib.Core.Path.{_≡_, sym, ap, _∙_}

@@ -1,4 +1,4 @@
--- `digits::fewest_long` meets its contract: the first place with a number between the two middles has the fewest digits. Assumes nothing.
+-- `digits::fewest_long` meets its contract: the first place with a number between the two middles has the fewest digits.
 use mathlib.Core.Path.{_≡_, refl, sym, ap, _∙_, subst}
 use mathlib.Core.Option.{some}
 use Prim.Native.Nat.{ℕ, _+_, _-_, _^_, _≤_, _<_}

@@ -1,4 +1,4 @@
--- `digits::fewest_small` meets its contract: the search finds the best of the first places, or goes on with 10. Assumes nothing.
+-- `digits::fewest_small` meets its contract: the search finds the best of the first places, or goes on with 10.
 use Prim.Native.Nat.{_-_, _<_}
 use mathlib.Core.Logic.{⊎-elim, inl, inr}
 use native.Mathlib.Omega.{arith}

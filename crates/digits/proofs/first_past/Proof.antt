@@ -1,4 +1,4 @@
--- `digits::first_past` meets its contract. Assumes nothing.
+-- `digits::first_past` meets its contract.
 use mathlib.Core.Path.{sym, _∙_}
 use borrow.Author.Needs.{needs}
 use borrow.Author.Tests.{eq-eqb, ne-eqb}

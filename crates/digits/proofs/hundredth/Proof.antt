@@ -1,4 +1,4 @@
--- `digits::hundredth` meets its contract: the f32 is a whole number, and this is its percent. Assumes nothing.
+-- `digits::hundredth` meets its contract: the f32 is a whole number, and this is its percent.
 use mathlib.Core.Bool.{false}
 use mathlib.Core.Path.{_≡_, _∙_}
 use borrow.Author.Needs.{needs}

@@ -1,4 +1,4 @@
--- `digits::large_percent` meets its contract. Assumes nothing.
+-- `digits::large_percent` meets its contract.
 use Prim.Native.Nat.{ℕ}
 use mathlib.Core.Option.{Option, some}
 use mathlib.Core.Path.{_≡_, sym, ap, _∙_}

@@ -1,4 +1,4 @@
--- `digits::least_float` meets its contract: a search by halves, since a percent's f32 rises with the percent. Assumes nothing.
+-- `digits::least_float` meets its contract: a search by halves, since a percent's f32 rises with the percent.
 use Prim.Native.Nat.{_-_, suc-le-suc}
 use mathlib.Core.Path.{sym}
 use native.Mathlib.Nat.{le-trans, le-of-eq}

@@ -1,4 +1,4 @@
--- `digits::least_whole` meets its contract: the middle below the f32, and one more where its tie goes down. Assumes nothing.
+-- `digits::least_whole` meets its contract: the middle below the f32, and one more where its tie goes down.
 use mathlib.Core.Path.{_≡_, refl, sym, ap, _∙_}
 use Prim.Native.Nat.{ℕ, suc, _+_, _*_, _-_, _%_, _^_, _≤_, _<_}
 use native.Mathlib.Nat.{le-antisymm, pow-suc, mul-mod-left, mul-assoc, le-of-eq, lt-of-le-of-lt, lt-of-lt-of-le, lt-of-mul-lt-mul-right}

@@ -1,4 +1,4 @@
--- `digits::lift` meets its contract. Assumes nothing.
+-- `digits::lift` meets its contract.
 use mathlib.Core.Path.{_≡_, sym, ap, _∙_}
 use Prim.Native.Nat.{ℕ, _+_, _*_, _^_}
 use native.Mathlib.Nat.{mul-le-mul-left, add-mul, mul-right-comm}

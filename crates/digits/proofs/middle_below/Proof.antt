@@ -1,5 +1,5 @@
 -- `digits::middle_below` meets its contract: the bits below b have 24 binary digits w and k doublings, and the middle is
--- (2 w + 1) / 2 of those units. Assumes nothing.
+-- (2 w + 1) / 2 of those units.
 use borrow.Author.Needs.{needs}
 use native.Mathlib.Omega.{arith}
 use Rattle.digits.proofs.MiddleLaws.{middle-low, middle-high}

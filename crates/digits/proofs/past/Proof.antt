@@ -1,4 +1,4 @@
--- `digits::past` meets its contract. Assumes nothing.
+-- `digits::past` meets its contract.
 use borrow.Author.Needs.{needs}
 use native.Mathlib.Omega.{arith}
 use Rattle.digits.proofs.MiddleLaws.{room, past-first}

@@ -1,4 +1,4 @@
--- `digits::percent_of` meets its contract. Assumes nothing.
+-- `digits::percent_of` meets its contract.
 use mathlib.Core.Path.{sym, ap, _∙_}
 use native.Mathlib.Omega.{arith}
 use Rattle.digits.specs.Answer.{wholeOf}

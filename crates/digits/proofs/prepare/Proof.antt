@@ -1,4 +1,4 @@
--- `digits::prepare` meets its contract. Assumes nothing.
+-- `digits::prepare` meets its contract.
 use mathlib.Core.Path.{_≡_, refl, sym, ap, _∙_, subst}
 use Prim.Native.Nat.{ℕ, _+_, _*_, _-_, _^_, _≤_, _<_}
 use native.Mathlib.Nat.{zero-mul, zero-add, lt-of-lt-of-le}

@@ -1,4 +1,4 @@
--- `digits::shift_up` meets its contract. Assumes nothing.
+-- `digits::shift_up` meets its contract.
 use mathlib.Core.Path.{_≡_, refl, sym, ap, _∙_}
 use Prim.Native.Nat.{ℕ, _*_, _-_, _^_, _≤_, _<_}
 use native.Mathlib.Nat.{mul-one, add-zero}

@@ -1,5 +1,4 @@
 -- `digits::step` meets its contract: the least number with these places has too many digits, or reads to another f32, or is the best.
--- Assumes nothing.
 use Rattle.digits.proofs.SearchLaws.{scale-low, scale-high, below-limit, step-longer, step-none, step-taken}
 use Rattle.digits.proofs.step.Statement.{statement}
 use Rattle.digits.proofs.step.Tie as tie

@@ -1,4 +1,4 @@
--- `digits::whole` meets its contract. Assumes nothing.
+-- `digits::whole` meets its contract.
 use native.Mathlib.Nat.{add-zero}
 use native.Mathlib.Omega.{arith}
 use Rattle.digits.proofs.whole.Statement.{statement}

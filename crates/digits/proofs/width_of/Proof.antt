@@ -1,5 +1,4 @@
 -- `digits::width_of` meets its contract. The loop's invariant: `limit` is 10 to the power of `digits`, and no fewer digits are enough.
--- Assumes nothing.
 use Prim.Native.Nat.{_-_}
 use native.Mathlib.Omega.{arith}
 use Rattle.digits.proofs.WidthLaws.{Widening, widens, wider, high, wide}

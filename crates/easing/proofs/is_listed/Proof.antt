@@ -1,4 +1,4 @@
--- `easing::is_listed` meets its contract: the table's words are the names, which is computed. Assumes nothing.
+-- `easing::is_listed` meets its contract: the table's words are the names, which is computed.
 use borrow.Author.Needs.{needs}
 use Rattle.text.specs.Words.{entries}
 use Rattle.easing.proofs.is_listed.Statement.{statement}

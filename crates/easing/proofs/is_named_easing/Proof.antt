@@ -1,4 +1,4 @@
--- `easing::is_named_easing` meets its contract: in snake case the first 32 bytes decide. Assumes nothing.
+-- `easing::is_named_easing` meets its contract: in snake case the first 32 bytes decide.
 use mathlib.Core.Path.{sym, _∙_}
 use lib.Seq.{length-take-le}
 use borrow.Author.Needs.{needs}

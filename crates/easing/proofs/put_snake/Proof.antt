@@ -1,4 +1,4 @@
--- `easing::put_snake` meets its contract: a capital is two bytes, one behind the other. Assumes nothing.
+-- `easing::put_snake` meets its contract: a capital is two bytes, one behind the other.
 use mathlib.Core.Path.{sym, _∙_}
 use borrow.Author.Needs.{needs}
 use Rattle.easing.proofs.NameLaws.{byte-capital, byte-other}

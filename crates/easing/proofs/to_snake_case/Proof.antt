@@ -1,5 +1,5 @@
 -- `easing::to_snake_case` meets its contract; the loop keeps that what is written from here on is written from its start, to which the
--- first byte is joined. Assumes nothing.
+-- first byte is joined.
 use Prim.Native.Nat.{_-_, ℕ}
 use mathlib.Core.List.{List}
 use mathlib.Core.Path.{refl, _∙_, _≡_}

@@ -1,4 +1,4 @@
--- `encode::clear` meets its contract: the loop has written zeros from the place on. Assumes nothing.
+-- `encode::clear` meets its contract: the loop has written zeros from the place on.
 use Prim.Native.Nat.{_+_, _-_, _≤_}
 use mathlib.Core.Path.{refl, _∙_, _≡_}
 use native.Mathlib.Nat.{sub-self}

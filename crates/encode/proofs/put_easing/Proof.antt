@@ -1,4 +1,4 @@
--- `encode::put_easing` meets its contract. Assumes nothing.
+-- `encode::put_easing` meets its contract.
 use native.Mathlib.Omega.{arith}
 use borrow.Author.Needs.{needs}
 use Rattle.encode.proofs.OverLaws.{writes-then}

@@ -1,5 +1,5 @@
 -- `encode::put_field` meets its contract: the loop writes the last byte first; with what is left of the field written over it, the sheet is
--- that of the whole field. Assumes nothing.
+-- that of the whole field.
 use Prim.Native.Nat.{_≤_}
 use mathlib.Core.Path.{sym, _∙_, _≡_}
 use native.Mathlib.Omega.{arith}

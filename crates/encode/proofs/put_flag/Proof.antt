@@ -1,4 +1,4 @@
--- `encode::put_flag` meets its contract. Assumes nothing.
+-- `encode::put_flag` meets its contract.
 use borrow.Author.Needs.{needs}
 use Rattle.encode.proofs.put_flag.Statement.{statement}
 use Rattle.encode.proofs.put_flag.Tie as tie

@@ -1,4 +1,4 @@
--- `encode::put_float` meets its contract. Assumes nothing.
+-- `encode::put_float` meets its contract.
 use borrow.Author.Needs.{needs}
 use Rattle.encode.proofs.put_float.Statement.{statement}
 use Rattle.encode.proofs.put_float.Tie as tie

@@ -1,4 +1,4 @@
--- `encode::put_loop` meets its contract. Assumes nothing.
+-- `encode::put_loop` meets its contract.
 use borrow.Author.Needs.{needs}
 use Rattle.encode.proofs.put_loop.Statement.{statement}
 use Rattle.encode.proofs.put_loop.Tie as tie

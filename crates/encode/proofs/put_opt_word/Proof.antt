@@ -1,4 +1,4 @@
--- `encode::put_opt_word` meets its contract. Assumes nothing.
+-- `encode::put_opt_word` meets its contract.
 use borrow.Author.Needs.{needs}
 use Rattle.encode.proofs.put_opt_word.Statement.{statement}
 use Rattle.encode.proofs.put_opt_word.Tie as tie

@@ -1,4 +1,4 @@
--- `encode::put_span` meets its contract: two fields, one behind the other. Assumes nothing.
+-- `encode::put_span` meets its contract: two fields, one behind the other.
 use borrow.Author.Needs.{needs}
 use Rattle.encode.proofs.OverLaws.{writes-then}
 use Rattle.encode.proofs.put_span.Statement.{statement}

@@ -1,4 +1,4 @@
--- `encode::put_time` meets its contract: one case a position. Assumes nothing.
+-- `encode::put_time` meets its contract: one case a position.
 use borrow.Author.Needs.{needs}
 use Rattle.encode.proofs.put_time.Statement.{statement}
 use Rattle.encode.proofs.put_time.Tie as tie

@@ -1,4 +1,4 @@
--- `error::number_of` meets its contract: in each arm the refusal is that arm's constructor, at which `numberOf` computes. Assumes nothing.
+-- `error::number_of` meets its contract: in each arm the refusal is that arm's constructor, at which `numberOf` computes.
 use mathlib.Core.Path.{sym, ap}
 use Rattle.error.specs.Refusal.{numberOf}
 use borrow.Author.Needs.{needs}

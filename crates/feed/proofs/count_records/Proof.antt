@@ -1,4 +1,4 @@
--- `feed::count_records` meets its contract: the loop keeps what the records that stand from end on still add. Assumes nothing.
+-- `feed::count_records` meets its contract: the loop keeps what the records that stand from end on still add.
 use Prim.Native.Nat.{_-_}
 use native.Mathlib.Omega.{arith}
 use Rattle.sheet.specs.Sheet.{decode, sheet}

@@ -1,4 +1,4 @@
--- `feed::count_refused` meets its contract. Assumes nothing.
+-- `feed::count_refused` meets its contract.
 use Rattle.text.specs.Bytes.{at}
 use mathlib.Core.Path.{refl}
 use Rattle.feed.proofs.FeedLaws.{refused-room}

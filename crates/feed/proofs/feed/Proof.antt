@@ -1,4 +1,4 @@
--- `feed::feed` meets its contract: by cases of what reading and checking answered. Assumes nothing.
+-- `feed::feed` meets its contract: by cases of what reading and checking answered.
 use Rattle.error.specs.Answer.{feedValues}
 use Rattle.error.proofs.AnswerLaws.{with-values}
 use Rattle.text.specs.Bytes.{at}

@@ -1,4 +1,4 @@
--- `feed::full` meets its contract. Assumes nothing.
+-- `feed::full` meets its contract.
 use mathlib.Core.Path.{sym, _∙_}
 use Rattle.feed.proofs.FeedLaws.{full-over, full-count}
 use borrow.Author.Needs.{needs}

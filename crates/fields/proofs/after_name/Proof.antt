@@ -1,4 +1,4 @@
--- `fields::after_name` meets its contract. Assumes nothing.
+-- `fields::after_name` meets its contract.
 use Rattle.text.specs.Bytes.{at}
 use mathlib.Core.Path.{ap, _∙_}
 use Rattle.text.specs.Means.{placeOf}

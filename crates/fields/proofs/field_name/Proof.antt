@@ -1,4 +1,4 @@
--- `fields::field_name` meets its contract. Assumes nothing.
+-- `fields::field_name` meets its contract.
 use mathlib.Core.Path.{sym, _∙_}
 use Rattle.fields.proofs.FieldLaws.{took-loop, named}
 use borrow.Author.Needs.{needs}

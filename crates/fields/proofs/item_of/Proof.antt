@@ -1,4 +1,4 @@
--- `fields::item_of` meets its contract. Assumes nothing.
+-- `fields::item_of` meets its contract.
 use Rattle.grammar.specs.Fields.{itemOf}
 use borrow.Author.Tests.{ne-eqb}
 use mathlib.Core.Path.{sym, _∙_}

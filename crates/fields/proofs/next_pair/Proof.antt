@@ -1,4 +1,4 @@
--- `fields::next_pair` meets its contract. Assumes nothing.
+-- `fields::next_pair` meets its contract.
 use Rattle.fields.proofs.FieldLaws.{pairs-refused}
 use Rattle.text.specs.Bytes.{at}
 use Rattle.fields.proofs.FieldLaws.{head-missing, no-plain, paired, pairs-end, started, took-plain}

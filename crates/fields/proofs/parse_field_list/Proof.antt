@@ -1,4 +1,4 @@
--- `fields::parse_field_list` meets its contract. Assumes nothing.
+-- `fields::parse_field_list` meets its contract.
 use Rattle.cursor.specs.declared.Cursor.{Cursor}
 use mathlib.Core.List.{[]}
 use Rattle.fields.specs.declared.Item.{Item}

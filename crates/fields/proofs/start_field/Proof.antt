@@ -1,4 +1,4 @@
--- `fields::start_field` meets its contract. Assumes nothing.
+-- `fields::start_field` meets its contract.
 use Rattle.text.specs.Bytes.{at}
 use Rattle.grammar.specs.Fields.{fieldName}
 use Rattle.fields.proofs.FieldLaws.{head-missing, started}

@@ -1,4 +1,4 @@
--- `heads::grid_inside` meets its contract. Assumes nothing.
+-- `heads::grid_inside` meets its contract.
 use Rattle.text.specs.Bytes.{at}
 use Rattle.heads.specs.Means.{gridInside}
 use Rattle.heads.proofs.HeadLaws.{no-cols, no-rows, took-grid}

@@ -1,4 +1,4 @@
--- `keyframes::key_mark` meets its contract. Assumes nothing.
+-- `keyframes::key_mark` meets its contract.
 use native.Mathlib.Omega.{arith}
 use Rattle.keyframes.proofs.TimeLaws.{no-colon, no-key, took-key}
 use borrow.Author.Needs.{needs}

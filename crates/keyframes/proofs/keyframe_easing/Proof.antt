@@ -1,4 +1,4 @@
--- `keyframes::keyframe_easing` meets its contract. Assumes nothing.
+-- `keyframes::keyframe_easing` meets its contract.
 use Rattle.keyframes.proofs.TimeLaws.{easing-refused, easing-took, no-easing}
 use borrow.Author.Tests.{not-false, not-true}
 use mathlib.Core.Path.{sym, _∙_}

@@ -1,4 +1,4 @@
--- `keyframes::keyframe_entry` meets its contract: a key, a value, an easing. Assumes nothing.
+-- `keyframes::keyframe_entry` meets its contract: a key, a value, an easing.
 use native.Mathlib.Omega.{arith}
 use borrow.Author.Needs.{needs}
 use Rattle.keyframes.proofs.EntryLaws.{entry-went, frame-no-easing, frame-no-key, frame-no-value}

@@ -1,5 +1,5 @@
 use Rattle.text.specs.Bytes.{at}
--- `keyframes::parse_keyframe_time` meets its contract. Assumes nothing.
+-- `keyframes::parse_keyframe_time` meets its contract.
 use Rattle.keyframes.proofs.TimeLaws.{no-time, percent-suffix, took-time}
 use mathlib.Core.Path.{sym, _∙_}
 use native.Mathlib.Omega.{arith}

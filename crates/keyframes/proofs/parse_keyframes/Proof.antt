@@ -1,4 +1,4 @@
--- `keyframes::parse_keyframes` meets its contract. Assumes nothing.
+-- `keyframes::parse_keyframes` meets its contract.
 use native.Mathlib.Omega.{arith}
 use Rattle.keyframes.proofs.TrackLaws.{behind-opener, no-brace, no-target}
 use lib.ListN.{length}

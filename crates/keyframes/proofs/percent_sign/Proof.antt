@@ -1,4 +1,4 @@
--- `keyframes::percent_sign` meets its contract. Assumes nothing.
+-- `keyframes::percent_sign` meets its contract.
 use Rattle.keyframes.proofs.TimeLaws.{a-sign, no-sign}
 use borrow.Author.Needs.{needs}
 use Rattle.keyframes.proofs.percent_sign.Statement.{statement}

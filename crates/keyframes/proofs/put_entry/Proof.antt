@@ -1,4 +1,4 @@
--- `keyframes::put_entry` meets its contract: one field after the other. Assumes nothing.
+-- `keyframes::put_entry` meets its contract: one field after the other.
 use mathlib.Core.Logic.{⊎-elim}
 use native.Mathlib.Omega.{arith}
 use borrow.Author.Needs.{needs}

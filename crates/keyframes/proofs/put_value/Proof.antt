@@ -1,4 +1,4 @@
--- `keyframes::put_value` meets its contract: an array is there already. Assumes nothing.
+-- `keyframes::put_value` meets its contract: an array is there already.
 use mathlib.Core.Path.{refl}
 use borrow.Author.Needs.{needs}
 use Rattle.keyframes.proofs.put_value.Statement.{statement}

@@ -1,4 +1,4 @@
--- `keyframes::separator` meets its contract. Assumes nothing.
+-- `keyframes::separator` meets its contract.
 use Rattle.keyframes.proofs.TrackLaws.{by-comma, by-semicolon}
 use mathlib.Core.Path.{sym, _∙_}
 use borrow.Author.Needs.{needs}

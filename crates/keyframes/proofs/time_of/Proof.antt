@@ -1,4 +1,4 @@
--- `keyframes::time_of` meets its contract. Assumes nothing.
+-- `keyframes::time_of` meets its contract.
 use Rattle.keyframes.proofs.TimeLaws.{rounds-percent, rounds-seconds, stores-percent, stores-seconds}
 use borrow.Author.Needs.{needs}
 use Rattle.keyframes.proofs.time_of.Statement.{statement}

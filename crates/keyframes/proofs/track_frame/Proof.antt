@@ -1,4 +1,4 @@
--- `keyframes::track_frame` meets its contract. Assumes nothing.
+-- `keyframes::track_frame` meets its contract.
 use mathlib.Core.Bool.{false, true}
 use native.Mathlib.Omega.{arith}
 use borrow.Author.Needs.{needs}

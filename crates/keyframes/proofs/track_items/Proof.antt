@@ -1,4 +1,4 @@
--- `keyframes::track_items` meets its contract. Assumes nothing.
+-- `keyframes::track_items` meets its contract.
 use mathlib.Core.Path.{_∙_}
 use Rattle.encode.proofs.OverLaws.{writes-keeps}
 use Rattle.keyframes.proofs.TrackLaws.{Tracked, tracked-start, tracked-standing, tracked-refused, tracked-more, tracked-last}

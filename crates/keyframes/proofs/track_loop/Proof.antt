@@ -1,4 +1,4 @@
--- `keyframes::track_loop` meets its contract. Assumes nothing.
+-- `keyframes::track_loop` meets its contract.
 use native.Mathlib.Omega.{arith}
 use Rattle.keyframes.proofs.TrackLaws.{loop-no-colon, loop-refused, loop-step}
 use borrow.Author.Needs.{needs}

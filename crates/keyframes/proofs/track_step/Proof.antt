@@ -1,4 +1,4 @@
--- `keyframes::track_step` meets its contract. Assumes nothing.
+-- `keyframes::track_step` meets its contract.
 use Rattle.keyframes.proofs.TrackLaws.{step-end, step-frame, step-loop}
 use mathlib.Core.Path.{sym, _∙_}
 use borrow.Author.Needs.{needs}

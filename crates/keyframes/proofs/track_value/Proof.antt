@@ -1,4 +1,4 @@
--- `keyframes::track_value` meets its contract. Assumes nothing.
+-- `keyframes::track_value` meets its contract.
 use native.Mathlib.Omega.{arith}
 use Rattle.keyframes.proofs.TrackLaws.{block-refused, block-went}
 use borrow.Author.Needs.{needs}

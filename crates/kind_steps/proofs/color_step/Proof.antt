@@ -1,4 +1,4 @@
--- `kind_steps::color_step` meets its contract. Assumes nothing.
+-- `kind_steps::color_step` meets its contract.
 use Rattle.cells.proofs.StepLaws.{no-float, a-float, no-easing, an-easing, step-refused, a-case, last-row}
 use Rattle.heads.proofs.NameLaws.{choice-below}
 use mathlib.Core.Path.{refl}

@@ -1,4 +1,4 @@
--- `kind_steps::draw_fields` meets its contract. Assumes nothing.
+-- `kind_steps::draw_fields` meets its contract.
 use Rattle.cells.proofs.StepLaws.{Gathering, gathering-start, list-refused, list-done, value-refused, list-more, list-moves}
 use Rattle.cells.specs.Means.{AllSay}
 use Rattle.kind_steps.specs.Means.{drawCells}

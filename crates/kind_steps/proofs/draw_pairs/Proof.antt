@@ -1,4 +1,4 @@
--- `kind_steps::draw_pairs` meets its contract. Assumes nothing.
+-- `kind_steps::draw_pairs` meets its contract.
 use Rattle.cells.proofs.StepLaws.{Gathering, pairStep, gathering-start, pairs-refused, pairs-done}
 use Rattle.cells.proofs.StepLaws.{pairs-value-refused, pairs-more, pairs-last, pairs-moves}
 use Rattle.kind_steps.specs.Means.{drawCells}

@@ -1,4 +1,4 @@
--- `kind_steps::morph_fields` meets its contract. Assumes nothing.
+-- `kind_steps::morph_fields` meets its contract.
 use Rattle.cells.proofs.StepLaws.{Gathering, gathering-start, list-refused, list-done, value-refused, list-more, list-moves}
 use Rattle.kind_steps.specs.Means.{morphCells}
 use mathlib.Core.Path.{refl}

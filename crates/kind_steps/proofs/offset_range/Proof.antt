@@ -1,4 +1,4 @@
--- `kind_steps::offset_range` meets its contract. Assumes nothing.
+-- `kind_steps::offset_range` meets its contract.
 use native.Mathlib.Omega.{arith}
 use Rattle.kind_steps.proofs.OffsetLaws.{no-start, no-points, no-end, range-taken}
 use borrow.Author.Needs.{needs}

@@ -1,4 +1,4 @@
--- `kind_steps::path_fields` meets its contract. Assumes nothing.
+-- `kind_steps::path_fields` meets its contract.
 use Rattle.cells.proofs.StepLaws.{Gathering, gathering-start, list-refused, list-done, value-refused, list-more, list-moves}
 use Rattle.kind_steps.specs.Means.{pathCells}
 use mathlib.Core.Path.{refl}

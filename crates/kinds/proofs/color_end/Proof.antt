@@ -1,4 +1,4 @@
--- `kinds::color_end` meets its contract. Assumes nothing.
+-- `kinds::color_end` meets its contract.
 use Rattle.encode.specs.Of.{spanOf}
 use Rattle.grammar.specs.Grammar.{colorFields}
 use Rattle.kinds.specs.Means.{colorLeaf}

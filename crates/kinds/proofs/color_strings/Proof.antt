@@ -1,4 +1,4 @@
--- `kinds::color_strings` meets its contract. Assumes nothing.
+-- `kinds::color_strings` meets its contract.
 use native.Mathlib.Omega.{arith}
 use Rattle.kinds.proofs.KindLaws.{no-color, no-color-arrow, no-color-to, strings-end}
 use borrow.Author.Needs.{needs}

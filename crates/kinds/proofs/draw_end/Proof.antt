@@ -1,4 +1,4 @@
--- `kinds::draw_end` meets its contract. Assumes nothing.
+-- `kinds::draw_end` meets its contract.
 use mathlib.Core.List.{[]}
 use mathlib.Core.Path.{refl}
 use Rattle.encode.specs.Of.{spanOf}

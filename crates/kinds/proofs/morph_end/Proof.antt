@@ -1,4 +1,4 @@
--- `kinds::morph_end` meets its contract. Assumes nothing.
+-- `kinds::morph_end` meets its contract.
 use Rattle.encode.specs.Of.{spanOf}
 use Rattle.grammar.specs.Grammar.{morphFields}
 use Rattle.kinds.specs.Means.{morphLeaf}

@@ -1,4 +1,4 @@
--- `kinds::parse_color` meets its contract. Assumes nothing.
+-- `kinds::parse_color` meets its contract.
 use native.Mathlib.Omega.{arith}
 use Rattle.kinds.proofs.KindLaws.{color-no-target, color-no-colon, color-node}
 use borrow.Author.Needs.{needs}

@@ -1,4 +1,4 @@
--- `kinds::parse_draw` meets its contract. Assumes nothing.
+-- `kinds::parse_draw` meets its contract.
 use Rattle.kinds.proofs.KindLaws.{no-svg, draw-node}
 use borrow.Author.Needs.{needs}
 use Rattle.kinds.proofs.parse_draw.Statement.{statement}

@@ -1,4 +1,4 @@
--- `kinds::parse_morph` meets its contract. Assumes nothing.
+-- `kinds::parse_morph` meets its contract.
 use native.Mathlib.Omega.{arith}
 use Rattle.kinds.proofs.KindLaws.{no-from, no-arrow, no-to, morph-node}
 use borrow.Author.Needs.{needs}

@@ -1,4 +1,4 @@
--- `kinds::parse_path` meets its contract. Assumes nothing.
+-- `kinds::parse_path` meets its contract.
 use Rattle.text.specs.Words.{entries}
 use Rattle.kinds.proofs.KindLaws.{path-no-target, path-not-along, path-no-svg, path-node}
 use borrow.Author.Needs.{needs}

@@ -1,4 +1,4 @@
--- `kinds::parse_preset_call` meets its contract. Assumes nothing.
+-- `kinds::parse_preset_call` meets its contract.
 use Rattle.kinds.proofs.PresetLaws.{no-preset, preset-node}
 use borrow.Author.Needs.{needs}
 use Rattle.kinds.proofs.parse_preset_call.Statement.{statement}

@@ -1,4 +1,4 @@
--- `kinds::parse_waveform` meets its contract. Assumes nothing.
+-- `kinds::parse_waveform` meets its contract.
 use Rattle.error.specs.declared.Refusal.the-variants.{Malformed}
 use Rattle.text.specs.Words.{entries}
 use Rattle.heads.proofs.NameLaws.{choice-below}

@@ -1,4 +1,4 @@
--- `kinds::path_end` meets its contract. Assumes nothing.
+-- `kinds::path_end` meets its contract.
 use Rattle.encode.specs.Of.{spanOf}
 use Rattle.grammar.specs.Grammar.{pathFields}
 use Rattle.kinds.specs.Means.{pathLeaf}

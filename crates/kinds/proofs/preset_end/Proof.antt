@@ -1,4 +1,4 @@
--- `kinds::preset_end` meets its contract. Assumes nothing.
+-- `kinds::preset_end` meets its contract.
 use Rattle.encode.specs.Of.{spanOf}
 use Rattle.kinds.specs.Means.{presetLeaf, presetFields}
 use Rattle.kinds.proofs.EndLaws.{free-refused, free-went}

@@ -1,4 +1,4 @@
--- `kinds::waveform_end` meets its contract. Assumes nothing.
+-- `kinds::waveform_end` meets its contract.
 use mathlib.Core.List.{[]}
 use Rattle.grammar.specs.Fields.{parseFieldList}
 use Rattle.grammar.specs.Grammar.{waveformFields}

@@ -1,4 +1,4 @@
--- `leaves::parse_leaf` meets its contract. Assumes nothing.
+-- `leaves::parse_leaf` meets its contract.
 use mathlib.Core.Path.{refl}
 use Rattle.grammar.specs.Grammar.{leaves, parseTween, parseSpring, parseKeyframes, parsePath, parseMorph}
 use Rattle.grammar.specs.Grammar.{parseDraw, parseColor, parseWaveform, parsePresetCall, parseLabel}

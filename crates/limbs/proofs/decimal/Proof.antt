@@ -1,4 +1,4 @@
--- `limbs::decimal` meets its contract. Assumes nothing.
+-- `limbs::decimal` meets its contract.
 use mathlib.Core.Path.{refl, sym, _∙_, subst}
 use Prim.Native.Nat.{ℕ, _+_, _*_, _^_, _≤_}
 use native.Mathlib.Omega.{arith}

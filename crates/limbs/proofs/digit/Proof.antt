@@ -1,4 +1,4 @@
--- `limbs::digit` meets its contract. Assumes nothing.
+-- `limbs::digit` meets its contract.
 use borrow.Author.Needs.{needs}
 use borrow.Author.Tests.{ltb-true, ltb-false}
 use mathlib.Core.Path.{sym, _∙_, subst}

@@ -1,4 +1,4 @@
--- `limbs::double` meets its contract. Assumes nothing.
+-- `limbs::double` meets its contract.
 use borrow.Author.Needs.{needs}
 use mathlib.Core.Path.{refl, sym, _∙_, subst}
 use Prim.Native.Nat.{ℕ, _*_, _^_, _<_}

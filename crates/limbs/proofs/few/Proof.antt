@@ -1,4 +1,4 @@
--- `limbs::few` meets its contract; the loop keeps the number that the digits left make of `v`, and a bound on `v`. Assumes nothing.
+-- `limbs::few` meets its contract; the loop keeps the number that the digits left make of `v`, and a bound on `v`.
 use mathlib.Core.Path.{_≡_, sym, ap, _∙_, subst}
 use Prim.Native.Nat.{ℕ, _+_, _*_, _-_, _^_, _<_, _≤_}
 use native.Mathlib.Nat.{add-zero, sub-zero}

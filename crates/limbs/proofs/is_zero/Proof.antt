@@ -1,4 +1,4 @@
--- `limbs::is_zero` meets its contract. Assumes nothing.
+-- `limbs::is_zero` meets its contract.
 use borrow.Author.Tests.{ne-eqb}
 use mathlib.Core.Path.{_≡_, sym, ap, subst}
 use Prim.Native.Nat.{ℕ, _-_, _≤_, _<_}

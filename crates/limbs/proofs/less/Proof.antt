@@ -1,4 +1,4 @@
--- `limbs::less` meets its contract: from the highest limb down. Assumes nothing.
+-- `limbs::less` meets its contract: from the highest limb down.
 use borrow.Author.Tests.{lt-ltb, le-ltb}
 use mathlib.Core.Path.{_≡_, sym, subst}
 use mathlib.Core.List.{List}

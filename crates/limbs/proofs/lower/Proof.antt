@@ -1,4 +1,4 @@
--- `limbs::lower` meets its contract. Assumes nothing.
+-- `limbs::lower` meets its contract.
 use borrow.Author.Needs.{needs}
 use mathlib.Core.Path.{sym, subst}
 use Prim.Native.Nat.{ℕ, _*_, _^_, _<_}

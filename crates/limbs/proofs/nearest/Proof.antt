@@ -1,4 +1,4 @@
--- `limbs::nearest` meets its contract: a long division, a binary digit at a time. Assumes nothing.
+-- `limbs::nearest` meets its contract: a long division, a binary digit at a time.
 use borrow.Author.Needs.{needs}
 use borrow.Author.Tests.{ltb-true, ltb-false}
 use mathlib.Core.Path.{_≡_, refl, sym, ap, _∙_, subst}

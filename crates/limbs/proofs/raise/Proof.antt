@@ -1,4 +1,4 @@
--- `limbs::raise` meets its contract. Assumes nothing.
+-- `limbs::raise` meets its contract.
 use borrow.Author.Needs.{needs}
 use borrow.Author.Tests.{ltb-true, ltb-false, not-true, not-false}
 use mathlib.Core.Path.{_≡_, refl, sym, _∙_, subst}

@@ -1,4 +1,4 @@
--- `limbs::read` meets its contract: the loop keeps the number that the digits left make of the limbs, and room for them. Assumes nothing.
+-- `limbs::read` meets its contract: the loop keeps the number that the digits left make of the limbs, and room for them.
 use borrow.Author.Needs.{needs}
 use mathlib.Core.Path.{_≡_, refl, sym, ap, _∙_, subst}
 use Prim.Native.Nat.{ℕ, _+_, _*_, _-_, _^_, _<_, _≤_}

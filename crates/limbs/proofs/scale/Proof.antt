@@ -1,4 +1,4 @@
--- `limbs::scale` meets its contract: the limbs are what they were times a power of ten. Assumes nothing.
+-- `limbs::scale` meets its contract: the limbs are what they were times a power of ten.
 use borrow.Author.Needs.{needs}
 use mathlib.Core.Path.{_≡_, refl, sym, ap, _∙_}
 use Prim.Native.Nat.{ℕ, _+_, _*_, _-_, _^_, _≤_}

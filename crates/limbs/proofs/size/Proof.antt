@@ -1,4 +1,4 @@
--- `limbs::size` meets its contract: the limbs above i are 0. Assumes nothing.
+-- `limbs::size` meets its contract: the limbs above i are 0.
 use mathlib.Core.List.{List}
 use mathlib.Core.Path.{_≡_, refl, sym, ap, _∙_, subst}
 use Prim.Native.Nat.{ℕ, suc, _+_, _-_, _*_, _^_, _<_, _≤_}

@@ -1,4 +1,4 @@
--- `limbs::take` meets its contract: limb by limb, a borrow passed on. Assumes nothing.
+-- `limbs::take` meets its contract: limb by limb, a borrow passed on.
 use mathlib.Core.Path.{_≡_, refl, ap, _∙_, subst}
 use Prim.Native.Nat.{ℕ, _+_, _*_, _-_, _^_, _<_, _≤_}
 use native.Mathlib.Omega.{arith}

@@ -1,4 +1,4 @@
--- `limbs::ten` meets its contract. Assumes nothing.
+-- `limbs::ten` meets its contract.
 use borrow.Author.Needs.{needs}
 use native.Mathlib.Nat.{pow-le-pow-right}
 use native.Mathlib.Omega.{arith}

@@ -1,4 +1,4 @@
--- `limbs::two` meets its contract. Assumes nothing.
+-- `limbs::two` meets its contract.
 use borrow.Author.Needs.{needs}
 use native.Mathlib.Nat.{pow-le-pow-right}
 use native.Mathlib.Omega.{arith}

@@ -1,4 +1,4 @@
--- `limbs::whole` meets its contract. Assumes nothing.
+-- `limbs::whole` meets its contract.
 use borrow.Author.Tests.{ltb-true, ltb-false}
 use mathlib.Core.Path.{sym, _∙_}
 use native.Mathlib.Nat.{le-antisymm}

@@ -1,4 +1,4 @@
--- `line::check_byte` meets its contract: what is subtracted from zero gives zero with the sum. Assumes nothing.
+-- `line::check_byte` meets its contract: what is subtracted from zero gives zero with the sum.
 use native.Mathlib.Omega.{arith}
 use borrow.Author.Needs.{needs}
 use Rattle.line.proofs.LineLaws.{total-covered, check-is}

@@ -1,4 +1,4 @@
--- `line::digit` meets its contract: the definition tests as the code does. Assumes nothing.
+-- `line::digit` meets its contract: the definition tests as the code does.
 use borrow.Author.Tests.{le-ltb, lt-ltb}
 use borrow.Author.Needs.{needs}
 use Rattle.line.proofs.digit.Statement.{statement}

@@ -1,4 +1,4 @@
--- `line::has_room` meets its contract: the test for room wraps nowhere. Assumes nothing.
+-- `line::has_room` meets its contract: the test for room wraps nowhere.
 use Prim.Native.Nat.{_*_, _+_}
 use mathlib.Core.Path.{sym}
 use native.Mathlib.Omega.{arith}

@@ -1,4 +1,4 @@
--- `line::line` meets its contract: each way out is a case of the definition. Assumes nothing.
+-- `line::line` meets its contract: each way out is a case of the definition.
 use Rattle.error.specs.Answer.{lineValues}
 use Rattle.error.proofs.AnswerLaws.{with-values}
 use mathlib.Core.Path.{_∙_, sym}

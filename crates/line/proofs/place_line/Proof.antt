@@ -1,4 +1,4 @@
--- `line::place_line` meets its contract: with room the line is written, without it nothing is. Assumes nothing.
+-- `line::place_line` meets its contract: with room the line is written, without it nothing is.
 use mathlib.Core.Path.{sym, _∙_}
 use borrow.Author.Needs.{needs}
 use Rattle.line.proofs.LineLaws.{with-room, without-room}

@@ -1,4 +1,4 @@
--- `line::put_byte` meets its contract: two digits, one behind the other. Assumes nothing.
+-- `line::put_byte` meets its contract: two digits, one behind the other.
 use borrow.Author.Needs.{needs}
 use Rattle.line.specs.Line.{hex}
 use Rattle.text.proofs.WriteLaws.{puts-then}

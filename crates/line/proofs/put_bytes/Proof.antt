@@ -1,4 +1,4 @@
--- `line::put_bytes` meets its contract; the loop keeps that what is written from here on is written from the start. Assumes nothing.
+-- `line::put_bytes` meets its contract; the loop keeps that what is written from here on is written from the start.
 use Prim.Native.Nat.{_-_, ℕ}
 use mathlib.Core.List.{List}
 use mathlib.Core.Path.{refl, _∙_, _≡_}

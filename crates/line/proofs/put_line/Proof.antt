@@ -1,4 +1,4 @@
--- `line::put_line` meets its contract: the parts of a line, one behind the other. Assumes nothing.
+-- `line::put_line` meets its contract: the parts of a line, one behind the other.
 use borrow.Author.Needs.{needs}
 use Rattle.line.proofs.LineLaws.{line-parts}
 use Rattle.text.proofs.WriteLaws.{puts-then}

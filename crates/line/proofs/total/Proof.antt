@@ -1,4 +1,4 @@
--- `line::total` meets its contract; the loop keeps that the total so far and what is left sum to the whole, modulo 256. Assumes nothing.
+-- `line::total` meets its contract; the loop keeps that the total so far and what is left sum to the whole, modulo 256.
 use Prim.Native.Nat.{_<_, _%_, _+_, _-_}
 use mathlib.Core.Path.{_≡_}
 use native.Mathlib.Omega.{arith}

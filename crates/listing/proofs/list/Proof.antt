@@ -1,4 +1,4 @@
--- `listing::list` meets its contract. Assumes nothing.
+-- `listing::list` meets its contract.
 use Rattle.error.specs.Answer.{orderValues}
 use Rattle.error.proofs.AnswerLaws.{with-values}
 use Prim.Native.Nat.{ℕ}

@@ -1,4 +1,4 @@
--- `listing::list_items` meets its contract. Assumes nothing.
+-- `listing::list_items` meets its contract.
 use Prim.Native.Nat.{ℕ}
 use native.Mathlib.Omega.{arith}
 use lib.ListN.{take, length-replicate}

@@ -1,4 +1,4 @@
--- `listing::put` meets its contract. Assumes nothing.
+-- `listing::put` meets its contract.
 use Rattle.text.specs.Bytes.{at}
 use Prim.Native.Nat.{_≤_, _-_}
 use mathlib.Core.List.{_++_}

@@ -1,4 +1,4 @@
--- `lookup::find` meets its contract. Assumes nothing.
+-- `lookup::find` meets its contract.
 use Rattle.error.specs.Answer.{lookupValues}
 use Rattle.error.proofs.AnswerLaws.{and-values}
 use Rattle.text.specs.Bytes.{at}

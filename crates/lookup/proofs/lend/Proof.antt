@@ -1,4 +1,4 @@
--- `lookup::lend` meets its contract. Assumes nothing.
+-- `lookup::lend` meets its contract.
 use borrow.Author.Needs.{needs}
 use Rattle.lookup.proofs.lend.Statement.{statement}
 use Rattle.lookup.proofs.lend.Tie as tie

@@ -1,4 +1,4 @@
--- `lookup::look_in` meets its contract. Assumes nothing.
+-- `lookup::look_in` meets its contract.
 use Prim.Native.Nat.{ℕ}
 use lib.ListN.{length-replicate}
 use Rattle.text.specs.Bytes.{at}

@@ -1,4 +1,4 @@
--- `lookup::lookup` meets its contract. Assumes nothing.
+-- `lookup::lookup` meets its contract.
 use Rattle.text.specs.Bytes.{at}
 use borrow.Author.Needs.{needs}
 use Rattle.lookup.proofs.lookup.Statement.{statement}

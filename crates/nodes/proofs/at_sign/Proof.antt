@@ -1,4 +1,4 @@
--- `nodes::at_sign` meets its contract. Assumes nothing.
+-- `nodes::at_sign` meets its contract.
 use Rattle.text.specs.Bytes.{at}
 use Rattle.nodes.proofs.NodeLaws.{other-sign, plus-sign}
 use borrow.Author.Needs.{needs}

@@ -1,4 +1,4 @@
--- `nodes::parse_at` meets its contract. Assumes nothing.
+-- `nodes::parse_at` meets its contract.
 use native.Mathlib.Omega.{arith}
 use Rattle.text.specs.Bytes.{at}
 use Rattle.nodes.proofs.NodeLaws.{at-went, no-value}

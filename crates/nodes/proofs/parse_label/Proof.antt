@@ -1,4 +1,4 @@
--- `nodes::parse_label` meets its contract. Assumes nothing.
+-- `nodes::parse_label` meets its contract.
 use native.Mathlib.Omega.{arith}
 use Rattle.text.specs.Bytes.{at}
 use Rattle.nodes.proofs.NodeLaws.{label-went, no-semicolon, no-string}

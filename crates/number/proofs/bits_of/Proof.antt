@@ -1,4 +1,4 @@
--- `number::bits_of` meets its contract. Assumes nothing.
+-- `number::bits_of` meets its contract.
 use mathlib.Core.Path.{refl}
 use borrow.Author.Needs.{needs}
 use Rattle.number.specs.Number.{bits}

@@ -1,4 +1,4 @@
--- `number::decimal` meets its contract: what was rounded fits, so its bits give it back. Assumes nothing.
+-- `number::decimal` meets its contract: what was rounded fits, so its bits give it back.
 use borrow.Author.Needs.{needs}
 use mathlib.Core.Path.{ap, _∙_}
 use Prim.Native.Nat.{_^_}

@@ -1,4 +1,4 @@
--- `number::decimal_bits` meets its contract: a sign is the highest bit. Assumes nothing.
+-- `number::decimal_bits` meets its contract: a sign is the highest bit.
 use borrow.Author.Needs.{needs}
 use mathlib.Core.Path.{_≡_, sym, ap, _∙_}
 use mathlib.Core.Bool.{Bool, false}

@@ -1,4 +1,4 @@
--- `number::duplicate` meets its contract: with its sign taken off where it is negative, a float is its size. Assumes nothing.
+-- `number::duplicate` meets its contract: with its sign taken off where it is negative, a float is its size.
 use borrow.Author.Tests.{ltb-true, ltb-false, lt-ltb}
 use mathlib.Core.Path.{_≡_, refl, sym, ap, _∙_}
 use mathlib.Core.Logic.{⊎-elim}

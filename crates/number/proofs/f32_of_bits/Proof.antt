@@ -1,4 +1,4 @@
--- `number::f32_of_bits` meets its contract: a pattern is a NaN's exactly if it is above the infinity's, its sign left off. Assumes nothing.
+-- `number::f32_of_bits` meets its contract: a pattern is a NaN's exactly if it is above the infinity's, its sign left off.
 use borrow.Author.Tests.{lt-ltb, le-ltb}
 use mathlib.Core.Path.{_≡_, refl, sym, _∙_, subst}
 use mathlib.Core.Bool.{Bool, true, not}

@@ -1,4 +1,4 @@
--- `number::nearest_bits` meets its contract: with n of 64 binary digits and d of 40 the quotient has 24 or 25. Assumes nothing.
+-- `number::nearest_bits` meets its contract: with n of 64 binary digits and d of 40 the quotient has 24 or 25.
 use mathlib.Core.Path.{sym, ap, _∙_}
 use mathlib.Core.Bool.{false}
 use Prim.Native.Nat.{ℕ, _+_, _-_, _*_, _^_}

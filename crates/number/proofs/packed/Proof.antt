@@ -1,4 +1,4 @@
--- `number::packed` meets its contract: the nearest whole number is at most 2 ^ 24. Assumes nothing.
+-- `number::packed` meets its contract: the nearest whole number is at most 2 ^ 24.
 use borrow.Author.Needs.{needs}
 use native.Mathlib.Omega.{arith}
 use Prim.Native.Nat.{_≤_}

@@ -1,4 +1,4 @@
--- `number::percent` meets its contract. Assumes nothing.
+-- `number::percent` meets its contract.
 use borrow.Author.Needs.{needs}
 use Rattle.number.proofs.percent.Statement.{statement}
 use Rattle.number.proofs.percent.Tie as tie

@@ -1,5 +1,4 @@
 -- `number::percent_from` meets its contract: the literal is 100; the percent is n / 100 if the f32 nearest to n / 100 is, and equals it.
--- Assumes nothing.
 use mathlib.Core.Path.{_≡_, refl, sym, ap, _∙_, subst}
 use mathlib.Core.Bool.{Bool, true, false, not}
 use Prim.Native.Nat.{ℕ, zero, suc}

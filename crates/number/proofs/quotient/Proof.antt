@@ -1,4 +1,4 @@
--- `number::quotient` meets its contract, by how twice the remainder compares with b. Assumes nothing.
+-- `number::quotient` meets its contract, by how twice the remainder compares with b.
 use borrow.Author.Needs.{needs}
 use mathlib.Core.Path.{sym, refl}
 use native.Mathlib.Nat.{mod-lt}

@@ -1,4 +1,4 @@
--- `number::signed` meets its contract: a sign is the highest bit. Assumes nothing.
+-- `number::signed` meets its contract: a sign is the highest bit.
 use borrow.Author.Needs.{needs}
 use mathlib.Core.Path.{_≡_, refl, ap, _∙_}
 use mathlib.Core.Bool.{true, false}

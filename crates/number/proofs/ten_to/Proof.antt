@@ -1,4 +1,4 @@
--- `number::ten_to` meets its contract: the table is the first ten powers, each ten times the one before. Assumes nothing.
+-- `number::ten_to` meets its contract: the table is the first ten powers, each ten times the one before.
 use borrow.Author.Needs.{needs}
 use mathlib.Core.Path.{_≡_, sym, ap, _∙_}
 use mathlib.Core.List.{List, [], _∷_}

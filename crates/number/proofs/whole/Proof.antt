@@ -1,4 +1,4 @@
--- `number::whole` meets its contract, by the two tests. Assumes nothing.
+-- `number::whole` meets its contract, by the two tests.
 use borrow.Author.Needs.{needs}
 use borrow.Author.Tests.{lt-ltb, le-ltb}
 use mathlib.Core.Logic.{inl, inr}

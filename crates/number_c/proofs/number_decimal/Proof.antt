@@ -1,4 +1,4 @@
--- `number_c::number_decimal` meets its contract. Assumes nothing.
+-- `number_c::number_decimal` meets its contract.
 use borrow.Author.Needs.{needs}
 use borrow.Author.Tests.{lt-ltb, le-ltb}
 use Rattle.number_c.proofs.number_decimal.Statement.{statement}

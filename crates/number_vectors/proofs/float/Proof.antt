@@ -1,4 +1,4 @@
--- `number_vectors::float` meets its contract: what equals itself is no NaN. Assumes nothing.
+-- `number_vectors::float` meets its contract: what equals itself is no NaN.
 use mathlib.Core.Path.{_≡_}
 use Prim.Native.Nat.{ℕ}
 use native.Mathlib.Omega.{arith}

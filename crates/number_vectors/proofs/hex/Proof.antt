@@ -1,4 +1,4 @@
--- `number_vectors::hex` meets its contract: the loop needs no invariant. Assumes nothing.
+-- `number_vectors::hex` meets its contract: the loop needs no invariant.
 use borrow.Author.Needs.{needs}
 use Prim.Native.Nat.{_-_}
 use native.Mathlib.Omega.{arith}

@@ -1,4 +1,4 @@
--- `number_vectors::lines` meets its contract: `at` stays within the text. Assumes nothing.
+-- `number_vectors::lines` meets its contract: `at` stays within the text.
 use borrow.Author.Needs.{needs}
 use Prim.Native.Nat.{_-_, _≤_}
 use native.Mathlib.Omega.{arith}

@@ -1,4 +1,4 @@
--- `opening::first_foreign` meets its contract: there is none, or the loop keeps which byte is the first. Assumes nothing.
+-- `opening::first_foreign` meets its contract: there is none, or the loop keeps which byte is the first.
 use Prim.Native.Nat.{_-_}
 use mathlib.Core.Path.{_≡_, refl, sym, _∙_}
 use lib.ListN.{length, drop}

@@ -1,4 +1,4 @@
--- `opening::has_foreign` meets its contract: the loop keeps that there is one among the bytes before i or from there on. Assumes nothing.
+-- `opening::has_foreign` meets its contract: the loop keeps that there is one among the bytes before i or from there on.
 use Prim.Native.Nat.{_-_}
 use mathlib.Core.Path.{refl}
 use lib.ListN.{length}

@@ -1,4 +1,4 @@
--- `opening::open_bytes` meets its contract. Assumes nothing.
+-- `opening::open_bytes` meets its contract.
 use mathlib.Core.Path.{sym, _∙_}
 use borrow.Author.Needs.{needs}
 use Rattle.opening.proofs.OpenLaws as laws

@@ -1,4 +1,4 @@
--- `opening::open_sheet` meets its contract: the text's refusal, or else that of the bytes. Assumes nothing.
+-- `opening::open_sheet` meets its contract: the text's refusal, or else that of the bytes.
 use mathlib.Core.Path.{refl, sym, _∙_}
 use borrow.Author.Needs.{needs}
 use Rattle.opening.proofs.OpenLaws as laws

@@ -1,4 +1,4 @@
--- `opening::open_text` meets its contract: each way out is one case of the definition. Assumes nothing.
+-- `opening::open_text` meets its contract: each way out is one case of the definition.
 use borrow.Author.Needs.{needs}
 use Rattle.opening.proofs.OpenLaws as laws
 use Rattle.opening.proofs.open_text.Statement.{statement}

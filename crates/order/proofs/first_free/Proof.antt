@@ -1,4 +1,4 @@
--- `order::first_free` meets its contract. Assumes nothing.
+-- `order::first_free` meets its contract.
 use Rattle.order.specs.Order.{listed}
 use Rattle.text.specs.Means.{passes}
 use Prim.Native.Nat.{ℕ, _≤_, _<_, _-_}

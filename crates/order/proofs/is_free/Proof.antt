@@ -1,4 +1,4 @@
--- `order::is_free` meets its contract. Assumes nothing.
+-- `order::is_free` meets its contract.
 use Rattle.order.specs.Means.{callsIn}
 use Rattle.order.proofs.ListLaws.{listed-not-free, free-if-ready}
 use borrow.Author.Needs.{needs}

@@ -1,4 +1,4 @@
--- `order::is_ready` meets its contract. Assumes nothing.
+-- `order::is_ready` meets its contract.
 use Rattle.order.specs.Order.{listed}
 use Prim.Native.Nat.{ℕ, _≤_, _<_, _-_}
 use mathlib.Core.Bool.{true}

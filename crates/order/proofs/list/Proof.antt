@@ -1,4 +1,4 @@
--- `order::list` meets its contract. Assumes nothing.
+-- `order::list` meets its contract.
 use lib.ListN.{length-set}
 use Rattle.order.proofs.ListLaws.{first-low}
 use Rattle.text.specs.Bytes.{at}

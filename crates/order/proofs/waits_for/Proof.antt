@@ -1,4 +1,4 @@
--- `order::waits_for` meets its contract. Assumes nothing.
+-- `order::waits_for` meets its contract.
 use Rattle.order.proofs.ListLaws.{waits-not, waits-if}
 use borrow.Author.Needs.{needs}
 use Rattle.order.proofs.waits_for.Statement.{statement}

@@ -1,4 +1,4 @@
--- `packed::pack_check` meets its contract. Assumes nothing.
+-- `packed::pack_check` meets its contract.
 use borrow.Author.Needs.{needs}
 use Rattle.packed.proofs.pack_check.Statement.{statement}
 use Rattle.packed.proofs.pack_check.Tie as tie

@@ -1,4 +1,4 @@
--- `packed::pack_color` meets its contract. Assumes nothing.
+-- `packed::pack_color` meets its contract.
 use borrow.Author.Needs.{needs}
 use Rattle.packed.proofs.pack_color.Statement.{statement}
 use Rattle.packed.proofs.pack_color.Tie as tie

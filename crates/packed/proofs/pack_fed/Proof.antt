@@ -1,4 +1,4 @@
--- `packed::pack_fed` meets its contract. Assumes nothing.
+-- `packed::pack_fed` meets its contract.
 use borrow.Author.Needs.{needs}
 use Rattle.packed.proofs.pack_fed.Statement.{statement}
 use Rattle.packed.proofs.pack_fed.Tie as tie

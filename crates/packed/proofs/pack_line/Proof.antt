@@ -1,4 +1,4 @@
--- `packed::pack_line` meets its contract. Assumes nothing.
+-- `packed::pack_line` meets its contract.
 use borrow.Author.Needs.{needs}
 use Rattle.packed.proofs.pack_line.Statement.{statement}
 use Rattle.packed.proofs.pack_line.Tie as tie

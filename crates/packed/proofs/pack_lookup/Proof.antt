@@ -1,4 +1,4 @@
--- `packed::pack_lookup` meets its contract. Assumes nothing.
+-- `packed::pack_lookup` meets its contract.
 use borrow.Author.Needs.{needs}
 use Rattle.packed.proofs.pack_lookup.Statement.{statement}
 use Rattle.packed.proofs.pack_lookup.Tie as tie

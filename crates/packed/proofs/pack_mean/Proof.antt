@@ -1,4 +1,4 @@
--- `packed::pack_mean` meets its contract. Assumes nothing.
+-- `packed::pack_mean` meets its contract.
 use borrow.Author.Needs.{needs}
 use Rattle.packed.proofs.pack_mean.Statement.{statement}
 use Rattle.packed.proofs.pack_mean.Tie as tie

@@ -1,4 +1,4 @@
--- `packed::pack_order` meets its contract. Assumes nothing.
+-- `packed::pack_order` meets its contract.
 use borrow.Author.Needs.{needs}
 use Rattle.packed.proofs.pack_order.Statement.{statement}
 use Rattle.packed.proofs.pack_order.Tie as tie

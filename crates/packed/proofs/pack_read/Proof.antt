@@ -1,4 +1,4 @@
--- `packed::pack_read` meets its contract. Assumes nothing.
+-- `packed::pack_read` meets its contract.
 use borrow.Author.Needs.{needs}
 use Rattle.packed.proofs.pack_read.Statement.{statement}
 use Rattle.packed.proofs.pack_read.Tie as tie

@@ -1,4 +1,4 @@
--- `packed::put_pair` meets its contract. Assumes nothing.
+-- `packed::put_pair` meets its contract.
 use Rattle.packed.proofs.PackedLaws.{pair-written}
 use borrow.Author.Needs.{needs}
 use Rattle.packed.proofs.put_pair.Statement.{statement}

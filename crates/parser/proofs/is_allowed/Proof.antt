@@ -1,4 +1,4 @@
--- `parser::is_allowed` meets its contract. Assumes nothing.
+-- `parser::is_allowed` meets its contract.
 use borrow.Author.Needs.{needs}
 use Rattle.parser.proofs.ReadLaws.{allowed}
 use Rattle.parser.proofs.is_allowed.Statement.{statement}

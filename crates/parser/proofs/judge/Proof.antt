@@ -1,4 +1,4 @@
--- `parser::judge` meets its contract. Assumes nothing.
+-- `parser::judge` meets its contract.
 use mathlib.Core.Path.{_∙_}
 use borrow.Author.Needs.{needs}
 use Rattle.parser.proofs.ReadLaws.{split-same}

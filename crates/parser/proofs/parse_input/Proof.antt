@@ -1,4 +1,4 @@
--- `parser::parse_input` meets its contract. Assumes nothing.
+-- `parser::parse_input` meets its contract.
 use mathlib.Core.Path.{sym}
 use borrow.Author.Needs.{needs}
 use Rattle.parser.proofs.ReadLaws.{input-done, input-left, input-refused}

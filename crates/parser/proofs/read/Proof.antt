@@ -1,4 +1,4 @@
--- `parser::read` meets its contract. Assumes nothing.
+-- `parser::read` meets its contract.
 use Rattle.error.specs.Answer.{readValues}
 use Rattle.error.proofs.AnswerLaws.{with-values}
 use Rattle.parser.proofs.ReadLaws.{read-refused, read-tree, split-accepted, split-refused}

@@ -1,4 +1,4 @@
--- `parser::settle` meets its contract. Assumes nothing.
+-- `parser::settle` meets its contract.
 use Rattle.parser.proofs.ReadLaws.{settled-accepted, settled-refused, settled-short}
 use borrow.Author.Needs.{needs}
 use Rattle.parser.proofs.settle.Statement.{statement}

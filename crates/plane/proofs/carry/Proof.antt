@@ -1,4 +1,4 @@
--- `plane::carry` meets its contract: 32, or all is moved. Assumes nothing.
+-- `plane::carry` meets its contract: 32, or all is moved.
 use Rattle.plane.proofs.AnswerLaws.{too-short, carried-all}
 use borrow.Author.Needs.{needs}
 use Rattle.plane.proofs.carry.Statement.{statement}

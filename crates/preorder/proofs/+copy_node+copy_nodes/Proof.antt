@@ -1,4 +1,4 @@
--- `preorder::+copy_node+copy_nodes` meets its contract. Assumes nothing.
+-- `preorder::+copy_node+copy_nodes` meets its contract.
 use Rattle.text.specs.Bytes.{at}
 use Rattle.text.specs.Bytes.{oneOf}
 use mathlib.Core.Path.{_≡_, refl}
@@ -8,7 +8,7 @@ use Rattle.records.proofs.WalkLaws.{nearer}
 use Rattle.places.proofs.StandLaws.{opens, no-node}
 use Rattle.spelling.specs.Spelling.{pageOf}
 use Rattle.preorder.proofs.NodeLaws.{leaf-placed, box-placed, Going, going-start, going-next, going-done}
--- `preorder::copy_node` and `copy_nodes` meet their contracts: bytes left fall; where the nodes left are placed, all are. Assumes nothing.
+-- `preorder::copy_node` and `copy_nodes` meet their contracts: bytes left fall; where the nodes left are placed, all are.
 use Prim.Native.Nat.{_+_, _*_, _-_, _≤_, _<_}
 use lib.ListN.{length}
 use borrow.Author.Needs.{needs}

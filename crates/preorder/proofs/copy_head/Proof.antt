@@ -1,4 +1,4 @@
--- `preorder::copy_head` meets its contract: the word and the fields of each kind. Assumes nothing.
+-- `preorder::copy_head` meets its contract: the word and the fields of each kind.
 use Rattle.fresh.specs.Reads.{start}
 use mathlib.Core.List.{_∷_}
 use mathlib.Core.Path.{refl}

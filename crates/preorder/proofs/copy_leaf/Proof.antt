@@ -1,4 +1,4 @@
--- `preorder::copy_leaf` meets its contract. Assumes nothing.
+-- `preorder::copy_leaf` meets its contract.
 use Rattle.digits.specs.Fewest.{reads}
 use Rattle.fresh.specs.Reads.{start}
 use mathlib.Core.Path.{refl}

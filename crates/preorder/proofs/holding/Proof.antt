@@ -1,4 +1,4 @@
--- `preorder::holding` meets its contract: its count, then its `{`. Assumes nothing.
+-- `preorder::holding` meets its contract: its count, then its `{`.
 use Rattle.digits.specs.Fewest.{count, reads}
 use Rattle.pieces.specs.Pieces.{holds}
 use Rattle.text.specs.Bytes.{oneOf}

@@ -1,4 +1,4 @@
--- `presets::is_color` meets its contract: each way out is one law of colours; of a name the first 32 bytes decide. Assumes nothing.
+-- `presets::is_color` meets its contract: each way out is one law of colours; of a name the first 32 bytes decide.
 use mathlib.Core.Path.{sym, _∙_}
 use lib.Seq.{length-take-le}
 use borrow.Author.Needs.{needs}

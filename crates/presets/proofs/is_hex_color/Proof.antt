@@ -1,4 +1,4 @@
--- `presets::is_hex_color` meets its contract: each way out is one law of colours. Assumes nothing.
+-- `presets::is_hex_color` meets its contract: each way out is one law of colours.
 use mathlib.Core.Path.{sym, _∙_}
 use borrow.Author.Needs.{needs}
 use Rattle.presets.proofs.ColorLaws.{hex-digits, hex-no}

@@ -1,4 +1,4 @@
--- `presets::is_hex_size` meets its contract: each way out has its tests. Assumes nothing.
+-- `presets::is_hex_size` meets its contract: each way out has its tests.
 use borrow.Author.Tests.{ne-eqb}
 use Rattle.presets.proofs.is_hex_size.Statement.{statement}
 use Rattle.presets.proofs.is_hex_size.Tie as tie

@@ -1,4 +1,4 @@
--- `presets::is_known_preset` meets its contract: the table's words are the names, which is computed. Assumes nothing.
+-- `presets::is_known_preset` meets its contract: the table's words are the names, which is computed.
 use mathlib.Core.Path.{_∙_}
 use borrow.Author.Needs.{needs}
 use Rattle.text.specs.Words.{entries}

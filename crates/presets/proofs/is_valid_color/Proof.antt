@@ -1,4 +1,4 @@
--- `presets::is_valid_color` meets its contract: the table's words are the names, and shorter than 32, which is computed. Assumes nothing.
+-- `presets::is_valid_color` meets its contract: the table's words are the names, and shorter than 32, which is computed.
 use mathlib.Core.Path.{refl, _∙_}
 use borrow.Author.Needs.{needs}
 use Rattle.text.specs.Words.{entries, shorter}

@@ -1,4 +1,4 @@
--- `print::put_decimal` meets its contract: it calls itself with a digit fewer. Assumes nothing.
+-- `print::put_decimal` meets its contract: it calls itself with a digit fewer.
 use borrow.Author.Needs.{needs}
 use native.Mathlib.Omega.{arith}
 use Rattle.text.proofs.WriteLaws.{puts-none, puts-then}

@@ -1,4 +1,4 @@
--- `print::print` meets its contract. Assumes nothing.
+-- `print::print` meets its contract.
 use Rattle.error.specs.Answer.{lineValues}
 use Rattle.error.proofs.AnswerLaws.{with-values}
 use Rattle.print.proofs.PrintLaws.{page-short, page-unread, page-refused, page-lined}

@@ -1,4 +1,4 @@
--- `print::put_accept` meets its contract. Assumes nothing.
+-- `print::put_accept` meets its contract.
 use Rattle.text.proofs.WriteLaws.{puts-then}
 use Rattle.script.specs.Output.{accept}
 use borrow.Author.Needs.{needs}

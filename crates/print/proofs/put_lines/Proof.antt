@@ -1,5 +1,5 @@
 -- `print::put_lines` meets its contract: the loop keeps that the record with the ordinal stands from start to end, and that the page has
--- the lines before it. Assumes nothing.
+-- the lines before it.
 use borrow.Author.Tests.{not-false, not-true}
 use Prim.Native.Nat.{_-_, _≤_}
 use mathlib.Core.Option.{some}

@@ -1,4 +1,4 @@
--- `print::put_refusal` meets its contract. Assumes nothing.
+-- `print::put_refusal` meets its contract.
 use Rattle.text.proofs.WriteLaws.{puts-then}
 use Rattle.script.specs.Output.{refusal}
 use borrow.Author.Needs.{needs}

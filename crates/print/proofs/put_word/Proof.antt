@@ -1,4 +1,4 @@
--- `print::put_word` meets its contract. Assumes nothing.
+-- `print::put_word` meets its contract.
 use Prim.Native.Nat.{_-_, ℕ}
 use mathlib.Core.List.{List}
 use mathlib.Core.Path.{refl, _∙_, _≡_}

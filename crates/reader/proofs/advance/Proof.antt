@@ -1,4 +1,4 @@
--- `reader::advance` meets its contract. Assumes nothing.
+-- `reader::advance` meets its contract.
 -- A walk of its MIR, by hand: the struct is taken apart, `cursor::advance` is called on the text and the cursor, and a reader is made of
 -- the text and of the cursor that it gives. All that is known of the callee is that it meets its contract.
 use mathlib.Core.Path.{refl}

@@ -1,4 +1,4 @@
--- `reader::count` meets its contract. Assumes nothing.
+-- `reader::count` meets its contract.
 -- A walk of its MIR, by hand: the struct is taken apart, and `count_from` is called on the text and the cursor. All that is known of the
 -- callee is that it meets its contract.
 use mathlib.Core.Path.{_≡_, refl}

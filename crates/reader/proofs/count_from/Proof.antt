@@ -1,4 +1,4 @@
--- `reader::count_from` meets its contract. Assumes nothing.
+-- `reader::count_from` meets its contract.
 use Prim.Native.Nat.{_-_}
 use mathlib.Core.Path.{sym, _∙_}
 use native.Mathlib.Omega.{arith}

@@ -1,4 +1,4 @@
--- `reader::count_tokens` meets its contract. Assumes nothing.
+-- `reader::count_tokens` meets its contract.
 -- A walk of its MIR, by hand: a reader that `new` gives is held in a local and passed to `count`. All that is known of either is that it
 -- meets its contract.
 -- In a local of a body MIR erases the lifetime of the struct's type, so the value is shown to have the type at `erased`.

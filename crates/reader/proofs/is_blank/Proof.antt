@@ -1,4 +1,4 @@
--- `reader::is_blank` meets its contract. Assumes nothing.
+-- `reader::is_blank` meets its contract.
 use borrow.Author.Needs.{needs}
 use Rattle.reader.proofs.CountLaws.{blank-long, blank-counted}
 use Rattle.reader.proofs.is_blank.Statement.{statement}

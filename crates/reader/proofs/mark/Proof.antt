@@ -1,4 +1,4 @@
--- `reader::mark` meets its contract. Assumes nothing.
+-- `reader::mark` meets its contract.
 -- A walk of its MIR, by hand: the struct is taken apart, and `cursor::mark` is called on the text, the cursor and the byte. All that is
 -- known of the callee is that it meets its contract.
 use mathlib.Core.Path.{refl}

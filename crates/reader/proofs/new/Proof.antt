@@ -1,4 +1,4 @@
--- `reader::new` meets its contract. Assumes nothing.
+-- `reader::new` meets its contract.
 -- A walk of its MIR, by hand: `readable` gives the part of the text that is read and `cursor::first` a cursor in it, and a reader is made
 -- of both. All that is known of either is that it meets its contract.
 -- A `&[u8]` is Copy, so what it owns is had for the callee, for the exit and for the result.

@@ -1,4 +1,4 @@
--- `reader::readable` meets its contract. Assumes nothing.
+-- `reader::readable` meets its contract.
 use mathlib.Core.Path.{sym}
 use Rattle.reader.proofs.CountLaws.{readable-empty, readable-whole}
 use borrow.Author.Needs.{needs}

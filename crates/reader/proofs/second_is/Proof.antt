@@ -1,4 +1,4 @@
--- `reader::second_is` meets its contract. Assumes nothing.
+-- `reader::second_is` meets its contract.
 -- A walk of its MIR, by hand: the readers that `new` and `advance` give are held in locals and passed on, the second to `sees`. All that is
 -- known of the three is that each meets its contract.
 use mathlib.Core.Path.{_≡_, refl, sym, ap, _∙_, subst⁻¹}

@@ -1,4 +1,4 @@
--- `reader::sees` meets its contract. Assumes nothing.
+-- `reader::sees` meets its contract.
 -- A walk of its MIR, by hand: the struct is taken apart, and `cursor::sees` is called on the cursor and the byte. All that is known of the
 -- callee is that it meets its contract.
 -- The callee takes no reference, so the lifetime's token is kept over the call.

@@ -1,5 +1,5 @@
 -- `records::walk_node` and `records::walk_nodes` meet their contracts: a node is its record and then the nodes in it; bytes left fall from
--- a node to the nodes in it. Assumes nothing.
+-- a node to the nodes in it.
 use Prim.Native.Nat.{_*_, _+_, _-_, _≤_, ℕ, _<_}
 use native.Mathlib.Omega.{arith}
 use lib.ListN.{length}

@@ -1,4 +1,4 @@
--- `records::is_sheet` meets its contract: the walk ends where the bytes do just if they decode. Assumes nothing.
+-- `records::is_sheet` meets its contract: the walk ends where the bytes do just if they decode.
 use borrow.Author.Needs.{needs}
 use Rattle.records.proofs.WalkLaws as walks
 use Rattle.records.proofs.is_sheet.Statement.{statement}

@@ -1,4 +1,4 @@
--- `records::record_at` meets its contract: the loop keeps that record k stands from start to end. Assumes nothing.
+-- `records::record_at` meets its contract: the loop keeps that record k stands from start to end.
 use Prim.Native.Nat.{_-_, _≤_}
 use mathlib.Core.Option.{some}
 use mathlib.Core.Path.{_≡_}

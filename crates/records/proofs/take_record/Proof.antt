@@ -1,4 +1,4 @@
--- `records::take_record` meets its contract: one case a kind, its start and its fields. Assumes nothing.
+-- `records::take_record` meets its contract: one case a kind, its start and its fields.
 use mathlib.Core.Logic.{⊎-elim}
 use mathlib.Core.Path.{ap, refl, _∙_}
 use borrow.Author.Needs.{needs}

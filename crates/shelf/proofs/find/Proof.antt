@@ -1,4 +1,4 @@
--- `shelf::find` meets its contract: the place stays between the start and the end. Assumes nothing.
+-- `shelf::find` meets its contract: the place stays between the start and the end.
 use Prim.Native.Nat.{_-_, _≤_}
 use lib.ListN.{length}
 use borrow.Author.Needs.{needs}

@@ -1,4 +1,4 @@
--- `shelf::print_page` meets its contract. Assumes nothing.
+-- `shelf::print_page` meets its contract.
 use mathlib.Core.Path.{sym}
 use lib.Seq.{length-take-le}
 use Rattle.print.proofs.PrintLaws.{printed-fits}

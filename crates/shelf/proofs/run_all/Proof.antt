@@ -1,4 +1,4 @@
--- `shelf::run_all` meets its contract. Assumes nothing.
+-- `shelf::run_all` meets its contract.
 use Prim.Native.Nat.{_-_}
 use mathlib.Core.Path.{_≡_}
 use lib.ListN.{length}

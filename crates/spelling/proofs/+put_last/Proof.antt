@@ -1,4 +1,4 @@
--- `spelling::put_last` meets its contract. Assumes nothing.
+-- `spelling::put_last` meets its contract.
 use native.Mathlib.Omega.{arith}
 use borrow.Author.Needs.{needs}
 use Rattle.spelling.proofs.PageLaws.{no-digits, more-digits}

@@ -1,4 +1,4 @@
--- `spelling::put_whole` meets its contract. Assumes nothing.
+-- `spelling::put_whole` meets its contract.
 use native.Mathlib.Omega.{arith}
 use borrow.Author.Needs.{needs}
 use Rattle.spelling.proofs.PageLaws.{one-digit, last-digit}

@@ -1,4 +1,4 @@
--- `spelling::all_are` meets its contract. Assumes nothing.
+-- `spelling::all_are` meets its contract.
 
 use Rattle.spelling.proofs.PageLaws.{all-is}
 use borrow.Author.Needs.{needs}

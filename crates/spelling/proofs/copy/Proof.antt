@@ -1,4 +1,4 @@
--- `spelling::copy` meets its contract. Assumes nothing.
+-- `spelling::copy` meets its contract.
 use Prim.Native.Nat.{_-_}
 use lib.ListN.{length}
 use Rattle.spelling.proofs.PageLaws.{Copied, copy-first, copy-next, copy-last}

@@ -1,4 +1,4 @@
--- `spelling::is_curve` meets its contract: the table's words are the names, which is computed. Assumes nothing.
+-- `spelling::is_curve` meets its contract: the table's words are the names, which is computed.
 use Rattle.text.specs.Words.{entries}
 use borrow.Author.Needs.{needs}
 use Rattle.spelling.proofs.is_curve.Statement.{statement}

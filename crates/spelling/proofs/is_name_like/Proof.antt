@@ -1,4 +1,4 @@
--- `spelling::is_name_like` meets its contract. Assumes nothing.
+-- `spelling::is_name_like` meets its contract.
 use Rattle.spelling.proofs.PageLaws.{was-false, was-true, no-letter, no-name, a-name}
 use borrow.Author.Needs.{needs}
 use Rattle.spelling.proofs.is_name_like.Statement.{statement}

@@ -1,4 +1,4 @@
--- `spelling::is_plain` meets its contract. Assumes nothing.
+-- `spelling::is_plain` meets its contract.
 use mathlib.Core.Path.{sym, _∙_}
 use Rattle.pieces.specs.Pieces.{nameLike, curveNames}
 use Rattle.text.specs.Words.{isOneOf}

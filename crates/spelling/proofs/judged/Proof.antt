@@ -1,4 +1,4 @@
--- `spelling::judged` meets its contract. Assumes nothing.
+-- `spelling::judged` meets its contract.
 use Rattle.spelling.specs.Spelling.{pageOf}
 use Rattle.spelling.proofs.judged.Statement.{statement}
 use Rattle.spelling.proofs.judged.Tie as tie

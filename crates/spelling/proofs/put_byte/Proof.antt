@@ -1,4 +1,4 @@
--- `spelling::put_byte` meets its contract. Assumes nothing.
+-- `spelling::put_byte` meets its contract.
 use Prim.Native.Nat.{_+_}
 use mathlib.Core.List.{[], _∷_}
 use native.Mathlib.Omega.{arith}

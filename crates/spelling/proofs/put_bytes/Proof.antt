@@ -1,4 +1,4 @@
--- `spelling::put_bytes` meets its contract. Assumes nothing.
+-- `spelling::put_bytes` meets its contract.
 use Prim.Native.Nat.{_+_}
 use native.Mathlib.Omega.{arith}
 use borrow.Author.Tests.{leb-true}

@@ -1,4 +1,4 @@
--- `spelling::put_count` meets its contract. Assumes nothing.
+-- `spelling::put_count` meets its contract.
 use Rattle.spelling.proofs.NumberLaws.{count-put}
 use borrow.Author.Needs.{needs}
 use Rattle.spelling.proofs.put_count.Statement.{statement}

@@ -1,4 +1,4 @@
--- `spelling::put_decimal` meets its contract. Assumes nothing.
+-- `spelling::put_decimal` meets its contract.
 use Rattle.spelling.proofs.PageLaws.{was-false, was-true}
 use Rattle.spelling.proofs.NumberLaws.{not-found, found-below, found-put}
 use Rattle.spelling.specs.Spelling.{pageOf}

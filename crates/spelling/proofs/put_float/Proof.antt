@@ -1,4 +1,4 @@
--- `spelling::put_float` meets its contract. Assumes nothing.
+-- `spelling::put_float` meets its contract.
 use Rattle.spelling.proofs.NumberLaws.{found-float, float-spellable}
 use Rattle.spelling.specs.Spelling.{pageOf, Spellable}
 use mathlib.Core.Path.{sym, subst}

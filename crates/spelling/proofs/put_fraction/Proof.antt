@@ -1,4 +1,4 @@
--- `spelling::put_fraction` meets its contract. Assumes nothing.
+-- `spelling::put_fraction` meets its contract.
 use Rattle.spelling.proofs.PageLaws.{no-fraction, a-fraction}
 use borrow.Author.Needs.{needs}
 use Rattle.spelling.proofs.put_fraction.Statement.{statement}

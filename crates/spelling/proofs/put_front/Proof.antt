@@ -1,4 +1,4 @@
--- `spelling::put_front` meets its contract. Assumes nothing.
+-- `spelling::put_front` meets its contract.
 use mathlib.Core.Bool.{Bool, true, false, _&&_}
 use mathlib.Core.Logic.{⊎-elim}
 use mathlib.Core.Path.{_≡_, refl, sym, ap, _∙_, subst}

@@ -1,4 +1,4 @@
--- `spelling::put_large` meets its contract. Assumes nothing.
+-- `spelling::put_large` meets its contract.
 use mathlib.Core.List.{List, _++_}
 use mathlib.Core.Path.{_≡_, sym, ap, _∙_}
 use Prim.Native.Nat.{ℕ, _<_}

@@ -1,4 +1,4 @@
--- `spelling::put_mark` meets its contract. Assumes nothing.
+-- `spelling::put_mark` meets its contract.
 use mathlib.Core.Path.{refl}
 use mathlib.Core.List.{[], _∷_}
 use Rattle.pieces.specs.Pieces.{aMark, fits, spelt}

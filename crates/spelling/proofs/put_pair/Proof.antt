@@ -1,4 +1,4 @@
--- `spelling::put_pair` meets its contract. Assumes nothing.
+-- `spelling::put_pair` meets its contract.
 use mathlib.Core.List.{[], _∷_}
 use mathlib.Core.Path.{refl, _∙_, ap}
 use borrow.Author.Needs.{needs}

@@ -1,4 +1,4 @@
--- `spelling::put_percent` meets its contract. Assumes nothing.
+-- `spelling::put_percent` meets its contract.
 use Rattle.spelling.proofs.NumberLaws.{found-percent, percent-spellable}
 use Rattle.spelling.specs.Spelling.{pageOf, Spellable}
 use mathlib.Core.Path.{sym, subst}

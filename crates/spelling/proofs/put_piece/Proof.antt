@@ -1,4 +1,4 @@
--- `spelling::put_piece` meets its contract. Assumes nothing.
+-- `spelling::put_piece` meets its contract.
 use mathlib.Core.Path.{ap, _∙_}
 use Rattle.spelling.specs.Spelling.{putOn}
 use mathlib.Core.List.{[], _∷_}

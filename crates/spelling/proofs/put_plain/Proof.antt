@@ -1,4 +1,4 @@
--- `spelling::put_plain` meets its contract. Assumes nothing.
+-- `spelling::put_plain` meets its contract.
 use mathlib.Core.Path.{refl, _∙_}
 use Rattle.pieces.specs.Pieces.{aPlain, fits, spelt}
 use Rattle.spelling.proofs.PageLaws.{piece-judged}

@@ -1,4 +1,4 @@
--- `spelling::put_string` meets its contract. Assumes nothing.
+-- `spelling::put_string` meets its contract.
 use mathlib.Core.List.{[], _∷_, _++_}
 use mathlib.Core.Path.{refl, _∙_}
 use Rattle.pieces.specs.Pieces.{aString, fits, spelt}

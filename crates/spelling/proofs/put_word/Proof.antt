@@ -1,4 +1,4 @@
--- `spelling::put_word` meets its contract. Assumes nothing.
+-- `spelling::put_word` meets its contract.
 use mathlib.Core.Path.{refl}
 use Rattle.pieces.specs.Pieces.{aWord, fits, spelt}
 use Rattle.spelling.proofs.PageLaws.{piece-put}

@@ -1,4 +1,4 @@
--- `spring_step::damping_step` meets its contract. Assumes nothing.
+-- `spring_step::damping_step` meets its contract.
 use Rattle.cells.proofs.StepLaws.{step-refused, a-damping}
 use mathlib.Core.Path.{refl}
 use Prim.Native.Nat.{ℕ}

@@ -1,4 +1,4 @@
--- `spring_step::spring_fields` meets its contract. Assumes nothing.
+-- `spring_step::spring_fields` meets its contract.
 use Rattle.cells.proofs.StepLaws.{Gathering, gathering-start, list-refused, list-done, value-refused, list-more, list-moves}
 use Rattle.spring_step.specs.Means.{springCells}
 use mathlib.Core.Path.{refl}

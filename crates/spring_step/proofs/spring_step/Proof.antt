@@ -1,4 +1,4 @@
--- `spring_step::spring_step` meets its contract. Assumes nothing.
+-- `spring_step::spring_step` meets its contract.
 use Rattle.cells.proofs.StepLaws.{no-float, a-float, step-refused, a-case, no-value, a-value, past}
 use Rattle.heads.proofs.NameLaws.{choice-below}
 use mathlib.Core.Path.{refl}

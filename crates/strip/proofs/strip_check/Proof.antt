@@ -1,4 +1,4 @@
--- `strip::strip_check` meets its contract. Assumes nothing.
+-- `strip::strip_check` meets its contract.
 use borrow.Author.Needs.{needs}
 use Rattle.strip.proofs.strip_check.Statement.{statement}
 use Rattle.strip.proofs.strip_check.Tie as tie

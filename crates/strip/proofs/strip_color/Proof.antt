@@ -1,4 +1,4 @@
--- `strip::strip_color` meets its contract. Assumes nothing.
+-- `strip::strip_color` meets its contract.
 use borrow.Author.Needs.{needs}
 use Rattle.strip.proofs.strip_color.Statement.{statement}
 use Rattle.strip.proofs.strip_color.Tie as tie

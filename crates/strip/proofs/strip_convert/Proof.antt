@@ -1,4 +1,4 @@
--- `strip::strip_convert` meets its contract. Assumes nothing.
+-- `strip::strip_convert` meets its contract.
 use borrow.Author.Needs.{needs}
 use Rattle.strip.proofs.strip_convert.Statement.{statement}
 use Rattle.strip.proofs.strip_convert.Tie as tie

@@ -1,4 +1,4 @@
--- `strip::strip_feed` meets its contract. Assumes nothing.
+-- `strip::strip_feed` meets its contract.
 use borrow.Author.Needs.{needs}
 use Rattle.strip.proofs.strip_feed.Statement.{statement}
 use Rattle.strip.proofs.strip_feed.Tie as tie

@@ -1,4 +1,4 @@
--- `strip::strip_line` meets its contract. Assumes nothing.
+-- `strip::strip_line` meets its contract.
 use borrow.Author.Needs.{needs}
 use Rattle.strip.proofs.strip_line.Statement.{statement}
 use Rattle.strip.proofs.strip_line.Tie as tie

@@ -1,4 +1,4 @@
--- `strip::strip_lookup` meets its contract. Assumes nothing.
+-- `strip::strip_lookup` meets its contract.
 use borrow.Author.Needs.{needs}
 use Rattle.strip.proofs.strip_lookup.Statement.{statement}
 use Rattle.strip.proofs.strip_lookup.Tie as tie

@@ -1,4 +1,4 @@
--- `strip::strip_mean` meets its contract. Assumes nothing.
+-- `strip::strip_mean` meets its contract.
 use mathlib.Core.Path.{_∙_, ap}
 use Rattle.error.specs.declared.MeanAnswer.{MeanAnswer}
 use Rattle.packed.specs.Packed.{meanOutcome}

@@ -1,4 +1,4 @@
--- `strip::strip_order` meets its contract. Assumes nothing.
+-- `strip::strip_order` meets its contract.
 use borrow.Author.Needs.{needs}
 use Rattle.strip.proofs.strip_order.Statement.{statement}
 use Rattle.strip.proofs.strip_order.Tie as tie

@@ -1,4 +1,4 @@
--- `strip::strip_plane` meets its contract. Assumes nothing.
+-- `strip::strip_plane` meets its contract.
 use borrow.Author.Needs.{needs}
 use Rattle.strip.proofs.strip_plane.Statement.{statement}
 use Rattle.strip.proofs.strip_plane.Tie as tie

@@ -1,4 +1,4 @@
--- `strip::strip_print` meets its contract. Assumes nothing.
+-- `strip::strip_print` meets its contract.
 use borrow.Author.Needs.{needs}
 use Rattle.strip.proofs.strip_print.Statement.{statement}
 use Rattle.strip.proofs.strip_print.Tie as tie

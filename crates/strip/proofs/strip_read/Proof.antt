@@ -1,4 +1,4 @@
--- `strip::strip_read` meets its contract. Assumes nothing.
+-- `strip::strip_read` meets its contract.
 use borrow.Author.Needs.{needs}
 use Rattle.strip.proofs.strip_read.Statement.{statement}
 use Rattle.strip.proofs.strip_read.Tie as tie

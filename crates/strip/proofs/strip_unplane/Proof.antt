@@ -1,4 +1,4 @@
--- `strip::strip_unplane` meets its contract. Assumes nothing.
+-- `strip::strip_unplane` meets its contract.
 use borrow.Author.Needs.{needs}
 use Rattle.strip.proofs.strip_unplane.Statement.{statement}
 use Rattle.strip.proofs.strip_unplane.Tie as tie

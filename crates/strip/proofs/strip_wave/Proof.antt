@@ -1,4 +1,4 @@
--- `strip::strip_wave` meets its contract. Assumes nothing.
+-- `strip::strip_wave` meets its contract.
 use borrow.Author.Needs.{needs}
 use Rattle.strip.proofs.strip_wave.Statement.{statement}
 use Rattle.strip.proofs.strip_wave.Tie as tie

@@ -1,4 +1,4 @@
--- `strip::strip_write` meets its contract. Assumes nothing.
+-- `strip::strip_write` meets its contract.
 use borrow.Author.Needs.{needs}
 use Rattle.strip.proofs.strip_write.Statement.{statement}
 use Rattle.strip.proofs.strip_write.Tie as tie

@@ -1,4 +1,4 @@
--- `stripc::print_page` meets its contract. Assumes nothing.
+-- `stripc::print_page` meets its contract.
 use mathlib.Core.Path.{sym}
 use lib.Seq.{length-take-le}
 use Rattle.print.proofs.PrintLaws.{printed-fits}

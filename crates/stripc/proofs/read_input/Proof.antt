@@ -1,4 +1,4 @@
--- `stripc::read_input` meets its contract. Assumes nothing.
+-- `stripc::read_input` meets its contract.
 use Prim.Native.Nat.{_-_, _≤_}
 use mathlib.Core.Path.{_≡_}
 use lib.ListN.{length}

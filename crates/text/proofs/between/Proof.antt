@@ -1,4 +1,4 @@
--- `text::between` meets its contract: each way out has its tests. Assumes nothing.
+-- `text::between` meets its contract: each way out has its tests.
 use borrow.Author.Tests.{le-leb, lt-leb}
 use Rattle.text.proofs.between.Statement.{statement}
 use Rattle.text.proofs.between.Tie as tie

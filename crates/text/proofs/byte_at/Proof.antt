@@ -1,4 +1,4 @@
--- `text::byte_at` meets its contract: past the end `getD` gives 0. Assumes nothing.
+-- `text::byte_at` meets its contract: past the end `getD` gives 0.
 use mathlib.Core.Path.{sym}
 use native.Mathlib.Omega.{arith}
 use lib.ListN.{List·getD-eq-default}

@@ -1,4 +1,4 @@
--- `text::find` meets its contract; the loop keeps the lookup in what is left of the table, with `i` words passed. Assumes nothing.
+-- `text::find` meets its contract; the loop keeps the lookup in what is left of the table, with `i` words passed.
 use Prim.Native.Nat.{_-_, _≤_}
 use mathlib.Core.Path.{ap, sym, _∙_, _≡_}
 use native.Mathlib.Omega.{arith}

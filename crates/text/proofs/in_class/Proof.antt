@@ -1,4 +1,4 @@
--- `text::in_class` meets its contract: in each arm the class is that arm's constructor. Assumes nothing.
+-- `text::in_class` meets its contract: in each arm the class is that arm's constructor.
 use borrow.Author.Needs.{needs}
 use Rattle.text.proofs.in_class.Statement.{statement}
 use Rattle.text.proofs.in_class.Tie as tie

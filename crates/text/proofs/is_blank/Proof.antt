@@ -1,4 +1,4 @@
--- `text::is_blank` meets its contract. Assumes nothing.
+-- `text::is_blank` meets its contract.
 use mathlib.Core.List.{[], _∷_}
 use Rattle.text.proofs.ByteLaws.{tests, tests-are}
 use Rattle.text.proofs.is_blank.Statement.{statement}

@@ -1,4 +1,4 @@
--- `text::is_foreign` meets its contract. Assumes nothing.
+-- `text::is_foreign` meets its contract.
 use Rattle.text.proofs.ByteLaws.{foreign-is}
 use Rattle.text.proofs.is_foreign.Statement.{statement}
 use Rattle.text.proofs.is_foreign.Tie as tie

@@ -1,4 +1,4 @@
--- `text::is_inside` meets its contract. Assumes nothing.
+-- `text::is_inside` meets its contract.
 use mathlib.Core.Path.{sym, _∙_}
 use borrow.Author.Needs.{needs}
 use Rattle.text.proofs.ByteLaws.{neither-is}

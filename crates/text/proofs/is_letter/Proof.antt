@@ -1,4 +1,4 @@
--- `text::is_letter` meets its contract: each way out has the answers of the calls before it. Assumes nothing.
+-- `text::is_letter` meets its contract: each way out has the answers of the calls before it.
 use mathlib.Core.Path.{sym, _∙_}
 use borrow.Author.Needs.{needs}
 use Rattle.text.proofs.is_letter.Statement.{statement}

@@ -1,4 +1,4 @@
--- `text::is_listed` meets its contract: in each arm the answer of `find` is that arm's constructor. Assumes nothing.
+-- `text::is_listed` meets its contract: in each arm the answer of `find` is that arm's constructor.
 use mathlib.Core.Path.{ap, sym, _∙_}
 use borrow.Author.Needs.{needs}
 use Rattle.text.specs.Words.{isSome}

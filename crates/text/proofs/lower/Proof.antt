@@ -1,4 +1,4 @@
--- `text::lower` meets its contract: a capital is at most 90, so the sum fits. Assumes nothing.
+-- `text::lower` meets its contract: a capital is at most 90, so the sum fits.
 use mathlib.Core.Path.{sym, _∙_}
 use native.Mathlib.Omega.{arith}
 use borrow.Author.Needs.{needs}

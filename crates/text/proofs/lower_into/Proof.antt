@@ -1,4 +1,4 @@
--- `text::lower_into` meets its contract; the loop keeps that what is written from here on is written from the start. Assumes nothing.
+-- `text::lower_into` meets its contract; the loop keeps that what is written from here on is written from the start.
 use Prim.Native.Nat.{_-_, ℕ}
 use mathlib.Core.List.{List}
 use mathlib.Core.Path.{refl, sym, _∙_, _≡_}

@@ -1,4 +1,4 @@
--- `text::part` meets its contract: each way out is one law of parts. Assumes nothing.
+-- `text::part` meets its contract: each way out is one law of parts.
 use borrow.Author.Needs.{needs}
 use Rattle.text.proofs.ByteLaws.{part-all, part-in, part-off}
 use Rattle.text.proofs.part.Statement.{statement}

@@ -1,4 +1,4 @@
--- `text::put` meets its contract: in range it is one byte written, else nothing. Assumes nothing.
+-- `text::put` meets its contract: in range it is one byte written, else nothing.
 use mathlib.Core.List.{[], _∷_}
 use borrow.Author.Needs.{needs}
 use Rattle.text.proofs.WriteLaws.{puts-one, puts-full}

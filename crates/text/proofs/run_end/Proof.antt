@@ -1,4 +1,4 @@
--- `text::run_end` meets its contract; the loop keeps where the run ends, whichever of its bytes is the next. Assumes nothing.
+-- `text::run_end` meets its contract; the loop keeps where the run ends, whichever of its bytes is the next.
 use Prim.Native.Nat.{_+_, _-_}
 use mathlib.Core.Path.{sym, _∙_, _≡_}
 use native.Mathlib.Omega.{arith}

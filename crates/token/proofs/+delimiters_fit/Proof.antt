@@ -1,4 +1,4 @@
--- `token::delimiters_fit` meets its contract; it calls itself with what stands behind the first part. Assumes nothing.
+-- `token::delimiters_fit` meets its contract; it calls itself with what stands behind the first part.
 use Prim.Native.Nat.{ℕ, _<_}
 use borrow.Author.Needs.{needs}
 use native.Mathlib.Omega.{arith}

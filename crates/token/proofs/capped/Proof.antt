@@ -1,4 +1,4 @@
--- `token::capped` meets its contract: the loop keeps the number that the digits left make of `v`, or both are large. Assumes nothing.
+-- `token::capped` meets its contract: the loop keeps the number that the digits left make of `v`, or both are large.
 use mathlib.Core.List.{List, [], _∷_}
 use mathlib.Core.Logic.{_⊎_, inl, inr}
 use mathlib.Core.Bool.{Bool, true, false}

@@ -1,4 +1,4 @@
--- `token::clear` meets its contract; the loop keeps the words before `i` zero and the others as they were. Assumes nothing.
+-- `token::clear` meets its contract; the loop keeps the words before `i` zero and the others as they were.
 use Prim.Native.Nat.{_-_, _≤_}
 use mathlib.Core.List.{_++_}
 use mathlib.Core.Path.{_∙_, refl, _≡_}

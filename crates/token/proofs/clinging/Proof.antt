@@ -1,4 +1,4 @@
--- `token::clinging` meets its contract. Assumes nothing.
+-- `token::clinging` meets its contract.
 use mathlib.Core.Bool.{false, true}
 use mathlib.Core.Path.{refl, sym, _∙_}
 use native.Mathlib.Omega.{arith}

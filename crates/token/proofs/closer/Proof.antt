@@ -1,4 +1,4 @@
--- `token::closer` meets its contract. Assumes nothing.
+-- `token::closer` meets its contract.
 use mathlib.Core.Path.{_∙_}
 use borrow.Author.Needs.{needs}
 use borrow.Author.Tests.{ne-eqb}

@@ -1,4 +1,4 @@
--- `token::ended` meets its contract. Assumes nothing.
+-- `token::ended` meets its contract.
 use Rattle.token.proofs.SplitLaws.{held-some}
 use Rattle.token.specs.Means.{held}
 use Rattle.token.proofs.ended.Statement.{statement}

@@ -1,4 +1,4 @@
--- `token::excess` meets its contract. Assumes nothing.
+-- `token::excess` meets its contract.
 use Rattle.token.proofs.excess.Statement.{statement}
 use Rattle.token.proofs.excess.Tie as tie
 

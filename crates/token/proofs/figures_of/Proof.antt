@@ -1,4 +1,4 @@
--- `token::figures_of` meets its contract; the number's parts are its figures. Assumes nothing.
+-- `token::figures_of` meets its contract; the number's parts are its figures.
 use Prim.Native.Nat.{ℕ, suc, _+_, _≤_}
 use mathlib.Core.Bool.{Bool}
 use mathlib.Core.List.{List, []}

@@ -1,4 +1,4 @@
--- `token::first` meets its contract; the first byte decides. Assumes nothing.
+-- `token::first` meets its contract; the first byte decides.
 use mathlib.Core.Bool.{false, true}
 use mathlib.Core.Path.{refl, sym, _∙_}
 use borrow.Author.Needs.{needs}

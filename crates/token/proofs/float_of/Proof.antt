@@ -1,4 +1,4 @@
--- `token::float_of` meets its contract. Assumes nothing.
+-- `token::float_of` meets its contract.
 use mathlib.Core.Path.{_≡_, _∙_}
 use mathlib.Core.Bool.{Bool, false}
 use Prim.Native.Nat.{_^_}

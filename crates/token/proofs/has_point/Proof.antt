@@ -1,4 +1,4 @@
--- `token::has_point` meets its contract. Assumes nothing.
+-- `token::has_point` meets its contract.
 use mathlib.Core.Path.{sym, _∙_}
 use native.Mathlib.Numerals.{add-one}
 use native.Mathlib.Omega.{arith}

@@ -1,4 +1,4 @@
--- `token::has_suffix` meets its contract. Assumes nothing.
+-- `token::has_suffix` meets its contract.
 use borrow.Author.Needs.{needs}
 use Rattle.token.specs.Token.{suffixAt}
 use Rattle.token.proofs.has_suffix.Statement.{statement}

@@ -1,4 +1,4 @@
--- `token::is_closed` meets its contract. Assumes nothing.
+-- `token::is_closed` meets its contract.
 use Rattle.token.proofs.SplitLaws.{held-some}
 use Rattle.token.specs.Means.{held}
 use Rattle.token.proofs.is_closed.Statement.{statement}

@@ -1,4 +1,4 @@
--- `token::is_keyword` meets its contract: a word of at most 7 bytes is found by its number, one of 8 byte by byte. Assumes nothing.
+-- `token::is_keyword` meets its contract: a word of at most 7 bytes is found by its number, one of 8 byte by byte.
 use mathlib.Core.Path.{refl, _∙_}
 use native.Mathlib.Omega.{arith}
 use borrow.Author.Needs.{needs}

@@ -1,4 +1,4 @@
--- `token::is_keyword_of_8` meets its contract. Assumes nothing.
+-- `token::is_keyword_of_8` meets its contract.
 use mathlib.Core.Path.{ap, sym, _∙_}
 use borrow.Author.Needs.{needs}
 use Rattle.text.specs.Words.{isSome}

@@ -1,4 +1,4 @@
--- `token::is_mark` meets its contract. Assumes nothing.
+-- `token::is_mark` meets its contract.
 use Rattle.text.specs.Bytes.{bytes}
 use Rattle.text.proofs.ByteLaws.{tests, tests-are}
 use Rattle.token.proofs.is_mark.Statement.{statement}

@@ -1,4 +1,4 @@
--- `token::is_plain` meets its contract: each of its tests is computed for each delimiter and the quote. Assumes nothing.
+-- `token::is_plain` meets its contract: each of its tests is computed for each delimiter and the quote.
 use Prim.Native.Nat.{ℕ}
 use mathlib.Core.Bool.{_&&_}
 use mathlib.Core.Path.{refl}

@@ -1,4 +1,4 @@
--- `token::long_bits` meets its contract. Assumes nothing.
+-- `token::long_bits` meets its contract.
 use mathlib.Core.Path.{sym, subst}
 use Prim.Native.Nat.{ℕ, _^_, _<_}
 use borrow.Author.Needs.{needs}

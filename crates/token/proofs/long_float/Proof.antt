@@ -1,4 +1,4 @@
--- `token::long_float` meets its contract. Assumes nothing.
+-- `token::long_float` meets its contract.
 use mathlib.Core.Bool.{Bool}
 use mathlib.Core.Path.{_≡_, sym, ap, _∙_}
 use Prim.Native.Nat.{ℕ, _^_}

@@ -1,4 +1,4 @@
--- `token::long_percent` meets its contract. Assumes nothing.
+-- `token::long_percent` meets its contract.
 use mathlib.Core.Path.{_∙_}
 use borrow.Author.Needs.{needs}
 use Rattle.token.proofs.long_percent.Statement.{statement}

@@ -1,4 +1,4 @@
--- `token::name_at` meets its contract. Assumes nothing.
+-- `token::name_at` meets its contract.
 use mathlib.Core.Bool.{false, true}
 use mathlib.Core.Path.{sym, _∙_}
 use native.Mathlib.Nat.{zero-add}

@@ -1,4 +1,4 @@
--- `token::nest` meets its contract; only marks are delimiters. Assumes nothing.
+-- `token::nest` meets its contract; only marks are delimiters.
 use mathlib.Core.Path.{refl}
 use borrow.Author.Needs.{needs}
 use Rattle.token.proofs.nest.Statement.{statement}

@@ -1,4 +1,4 @@
--- `token::nest_byte` meets its contract. Assumes nothing.
+-- `token::nest_byte` meets its contract.
 use borrow.Author.Needs.{needs}
 use Rattle.token.proofs.SplitLaws.{depth-is}
 use Rattle.token.specs.Split.{awaits, nestMark}

@@ -1,4 +1,4 @@
--- `token::nest_mark` meets its contract. Assumes nothing.
+-- `token::nest_mark` meets its contract.
 use mathlib.Core.Bool.{false, true}
 use mathlib.Core.Path.{refl, sym, _∙_}
 use borrow.Author.Needs.{needs}

@@ -1,4 +1,4 @@
--- `token::nests` meets its contract; what `delimiters_fit` leaves in the scratch is cleared. Assumes nothing.
+-- `token::nests` meets its contract; what `delimiters_fit` leaves in the scratch is cleared.
 use Prim.Native.Nat.{ℕ}
 use mathlib.Core.Path.{ap, _∙_}
 use lib.ListN.{replicate}

@@ -1,4 +1,4 @@
--- `token::number_at` meets its contract; each answer comes from the parts of a number, `Parts`. Assumes nothing.
+-- `token::number_at` meets its contract; each answer comes from the parts of a number, `Parts`.
 use Prim.Native.Nat.{_≤_}
 use mathlib.Core.Path.{sym, _∙_}
 use native.Mathlib.Nat.{zero-add}

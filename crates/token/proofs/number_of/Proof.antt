@@ -1,4 +1,4 @@
--- `token::number_of` meets its contract; the number comes from its parts, `Parts`. Assumes nothing.
+-- `token::number_of` meets its contract; the number comes from its parts, `Parts`.
 use Prim.Native.Nat.{ℕ, _≤_}
 use mathlib.Core.Bool.{Bool, false, _||_}
 use mathlib.Core.List.{List, []}

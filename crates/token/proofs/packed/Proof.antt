@@ -1,4 +1,4 @@
--- `token::packed` meets its contract; the last n bytes are packed. Assumes nothing.
+-- `token::packed` meets its contract; the last n bytes are packed.
 use Prim.Native.Nat.{suc, _+_, _-_, _<_, _≤_}
 use mathlib.Core.Path.{_≡_, sym}
 use native.Mathlib.Nat.{sub-zero}

@@ -1,5 +1,5 @@
 -- `token::part_fits` meets its contract; the loop keeps whether the delimiters fit, whatever stands behind the part: they do from
--- `from` on, with the closers that the words hold, or not. Assumes nothing.
+-- `from` on, with the closers that the words hold, or not.
 use Prim.Native.Nat.{ℕ, _-_, _≤_}
 use mathlib.Core.List.{List, _++_}
 use mathlib.Core.Path.{refl, _∙_, _≡_}

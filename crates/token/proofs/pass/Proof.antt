@@ -1,5 +1,5 @@
 -- `token::pass` meets its contract; the loop keeps the answer: that from `at` on, with the closers that the words hold, is the one for the
--- text. Assumes nothing.
+-- text.
 use Prim.Native.Nat.{_-_, _≤_}
 use mathlib.Core.Path.{refl, sym, _∙_, _≡_}
 use native.Mathlib.Omega.{arith}

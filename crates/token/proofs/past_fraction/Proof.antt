@@ -1,4 +1,4 @@
--- `token::past_fraction` meets its contract. Assumes nothing.
+-- `token::past_fraction` meets its contract.
 use mathlib.Core.Path.{sym, _∙_}
 use native.Mathlib.Numerals.{add-one}
 use native.Mathlib.Omega.{arith}

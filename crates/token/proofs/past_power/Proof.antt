@@ -1,4 +1,4 @@
--- `token::past_power` meets its contract. Assumes nothing.
+-- `token::past_power` meets its contract.
 use mathlib.Core.Path.{sym, ap, _∙_}
 use native.Mathlib.Omega.{arith}
 use Prim.Native.Nat.{ℕ, _+_}

@@ -1,4 +1,4 @@
--- `token::past_suffix` meets its contract. Assumes nothing.
+-- `token::past_suffix` meets its contract.
 use mathlib.Core.Path.{sym, _∙_}
 use native.Mathlib.Omega.{arith}
 use Rattle.token.proofs.LexLaws.{suffix-inside}

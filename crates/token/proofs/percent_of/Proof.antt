@@ -1,4 +1,4 @@
--- `token::percent_of` meets its contract. Assumes nothing.
+-- `token::percent_of` meets its contract.
 use mathlib.Core.Path.{_≡_, ap, _∙_}
 use mathlib.Core.Bool.{Bool, false}
 use Prim.Native.Nat.{ℕ}

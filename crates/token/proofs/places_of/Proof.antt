@@ -1,4 +1,4 @@
--- `token::places_of` meets its contract. Assumes nothing.
+-- `token::places_of` meets its contract.
 use native.Mathlib.Omega.{arith}
 use borrow.Author.Needs.{needs}
 use Rattle.token.specs.Token.{placesOf}

@@ -1,4 +1,4 @@
--- `token::plain_end` meets its contract. Assumes nothing.
+-- `token::plain_end` meets its contract.
 use Prim.Native.Nat.{_-_}
 use native.Mathlib.Omega.{arith}
 use lib.ListN.{length}

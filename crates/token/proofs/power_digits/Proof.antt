@@ -1,4 +1,4 @@
--- `token::power_digits` meets its contract. Assumes nothing.
+-- `token::power_digits` meets its contract.
 use Prim.Native.Nat.{_-_}
 use mathlib.Core.Bool.{true, false}
 use mathlib.Core.Path.{_≡_, sym}

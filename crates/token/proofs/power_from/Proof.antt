@@ -1,4 +1,4 @@
--- `token::power_from` meets its contract. Assumes nothing.
+-- `token::power_from` meets its contract.
 use mathlib.Core.Path.{sym}
 use Rattle.token.proofs.LexLaws.{from-is}
 use borrow.Author.Needs.{needs}

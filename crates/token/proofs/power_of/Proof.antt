@@ -1,4 +1,4 @@
--- `token::power_of` meets its contract. Assumes nothing.
+-- `token::power_of` meets its contract.
 use mathlib.Core.Path.{_≡_, sym}
 use mathlib.Core.List.{List}
 use Prim.Native.Nat.{ℕ}

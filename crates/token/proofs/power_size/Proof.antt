@@ -1,4 +1,4 @@
--- `token::power_size` meets its contract. Assumes nothing.
+-- `token::power_size` meets its contract.
 use mathlib.Core.Path.{sym, ap, _∙_}
 use Rattle.token.specs.Token.{powerDigits}
 use Rattle.token.proofs.LexLaws.{size-is}

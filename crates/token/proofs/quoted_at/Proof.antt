@@ -1,4 +1,4 @@
--- `token::quoted_at` meets its contract; `e` is the place of the closing quote. Assumes nothing.
+-- `token::quoted_at` meets its contract; `e` is the place of the closing quote.
 use Prim.Native.Nat.{_≤_}
 use mathlib.Core.Bool.{false, true}
 use mathlib.Core.Path.{refl, sym, _∙_}

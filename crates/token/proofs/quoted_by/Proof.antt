@@ -1,4 +1,4 @@
--- `token::quoted_by` meets its contract. Assumes nothing.
+-- `token::quoted_by` meets its contract.
 use borrow.Author.Tests.{eq-eqb, ne-eqb}
 use Rattle.token.proofs.quoted_by.Statement.{statement}
 use Rattle.token.proofs.quoted_by.Tie as tie

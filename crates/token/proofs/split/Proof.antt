@@ -1,4 +1,4 @@
--- `token::split` meets its contract; what `pass` leaves in the scratch is cleared. Assumes nothing.
+-- `token::split` meets its contract; what `pass` leaves in the scratch is cleared.
 use mathlib.Core.Path.{_≡_, ap, sym, _∙_}
 use native.Mathlib.Omega.{arith}
 use borrow.Author.Needs.{needs}

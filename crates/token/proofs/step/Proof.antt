@@ -1,4 +1,4 @@
--- `token::step` meets its contract; behind the blanks stands the end, no token, or one that the delimiters allow or not. Assumes nothing.
+-- `token::step` meets its contract; behind the blanks stands the end, no token, or one that the delimiters allow or not.
 use mathlib.Core.Path.{sym, _∙_}
 use native.Mathlib.Omega.{arith}
 use lib.ListN.{drop, length-drop}

@@ -1,4 +1,4 @@
--- `token::stretched` meets its contract: from the number's figures. Assumes nothing.
+-- `token::stretched` meets its contract: from the number's figures.
 use Prim.Native.Nat.{ℕ, _+_, _*_, _^_, _≤_, _<_}
 use mathlib.Core.Bool.{true, _&&_}
 use mathlib.Core.List.{List}

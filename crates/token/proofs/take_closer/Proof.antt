@@ -1,4 +1,4 @@
--- `token::take_closer` meets its contract; the last word is the closer that is awaited. Assumes nothing.
+-- `token::take_closer` meets its contract; the last word is the closer that is awaited.
 use mathlib.Core.Bool.{false, true}
 use mathlib.Core.Path.{sym, _∙_}
 use native.Mathlib.Omega.{arith}

@@ -1,4 +1,4 @@
--- `token::take_opener` meets its contract. Assumes nothing.
+-- `token::take_opener` meets its contract.
 use native.Mathlib.Omega.{arith}
 use borrow.Author.Needs.{needs}
 use Rattle.token.proofs.SplitLaws.{opens, full}

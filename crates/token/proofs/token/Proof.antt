@@ -1,4 +1,4 @@
--- `token::token` meets its contract. Assumes nothing.
+-- `token::token` meets its contract.
 use Rattle.text.specs.Bytes.{at}
 use native.Mathlib.Omega.{arith}
 use Rattle.token.proofs.TokenLaws.{rest-of, start-high, piece-high, lexes-end, lexes-bad, lexes-piece}

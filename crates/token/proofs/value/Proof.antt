@@ -1,4 +1,4 @@
--- `token::value` meets its contract; the loop keeps the number that the digits left make of `v`, and a bound on `v`. Assumes nothing.
+-- `token::value` meets its contract; the loop keeps the number that the digits left make of `v`, and a bound on `v`.
 use Prim.Native.Nat.{_+_, _-_, _^_, _≤_, _<_}
 use mathlib.Core.Path.{_≡_, sym, _∙_}
 use native.Mathlib.Nat.{add-zero, sub-zero}

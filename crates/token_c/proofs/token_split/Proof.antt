@@ -1,4 +1,4 @@
--- `token_c::token_split` meets its contract; a text over the limit is refused before `split` sees it. Assumes nothing.
+-- `token_c::token_split` meets its contract; a text over the limit is refused before `split` sees it.
 use mathlib.Core.Path.{refl, sym, _∙_}
 use borrow.Author.Tests.{lt-ltb, le-ltb}
 use Rattle.token_c.specs.Answer.{limited}

@@ -1,4 +1,4 @@
--- `token_cases::bytes` meets its contract; `n` stays within both. Assumes nothing.
+-- `token_cases::bytes` meets its contract; `n` stays within both.
 use Prim.Native.Nat.{_-_, _≤_}
 use mathlib.Core.Path.{_∙_, _≡_}
 use native.Mathlib.Omega.{arith}

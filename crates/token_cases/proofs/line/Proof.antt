@@ -1,7 +1,7 @@
 use Rattle.text.specs.Bytes.{bytes}
 use lib.Seq.{length-take-le}
 use native.Mathlib.Omega.{arith}
--- `token_cases::line` meets its contract; the text is the part that was written. Assumes nothing.
+-- `token_cases::line` meets its contract; the text is the part that was written.
 use mathlib.Core.Path.{sym}
 use lib.Seq.{length-take-le}
 use borrow.Author.Needs.{needs}

@@ -1,4 +1,4 @@
--- `token_cases::line_end` meets its contract; a run ends within the text. Assumes nothing.
+-- `token_cases::line_end` meets its contract; a run ends within the text.
 use native.Mathlib.Omega.{arith}
 use borrow.Author.Needs.{needs}
 use Rattle.text.specs.Bytes.{isHex}

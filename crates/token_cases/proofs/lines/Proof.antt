@@ -1,4 +1,4 @@
--- `token_cases::lines` meets its contract; `at` stays within the text. Assumes nothing.
+-- `token_cases::lines` meets its contract; `at` stays within the text.
 use Prim.Native.Nat.{_-_, _≤_}
 use lib.ListN.{length}
 use borrow.Author.Needs.{needs}

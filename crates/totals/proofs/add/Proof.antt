@@ -1,4 +1,4 @@
--- `totals::add` meets its contract: one word is written. Assumes nothing.
+-- `totals::add` meets its contract: one word is written.
 use borrow.Author.Needs.{needs}
 use Rattle.totals.proofs.TotalsLaws.{set-added}
 use Rattle.totals.proofs.add.Statement.{statement}

@@ -1,4 +1,4 @@
--- `totals::divisor` meets its contract: the loop keeps that what is left to do gives the divisor. Assumes nothing.
+-- `totals::divisor` meets its contract: the loop keeps that what is left to do gives the divisor.
 use native.Mathlib.Nat.{mod-lt}
 use native.Mathlib.Omega.{arith}
 use borrow.Author.Needs.{needs}

@@ -1,4 +1,4 @@
--- `totals::mean` meets its contract. Assumes nothing.
+-- `totals::mean` meets its contract.
 use Rattle.error.specs.Answer.{meanValues}
 use Rattle.error.proofs.AnswerLaws.{and-values}
 use mathlib.Core.Path.{sym, _∙_}

@@ -1,4 +1,4 @@
--- `totals::over_limit` meets its contract: the loop keeps that the words before i are within the limit. Assumes nothing.
+-- `totals::over_limit` meets its contract: the loop keeps that the words before i are within the limit.
 use Prim.Native.Nat.{_-_, _≤_}
 use mathlib.Core.Path.{_≡_, refl, sym, _∙_}
 use native.Mathlib.Omega.{arith}

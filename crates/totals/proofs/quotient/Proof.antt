@@ -1,4 +1,4 @@
--- `totals::quotient` meets its contract. Assumes nothing.
+-- `totals::quotient` meets its contract.
 use Prim.Native.Nat.{_<_}
 use native.Mathlib.Omega.{arith}
 use borrow.Author.Needs.{needs}

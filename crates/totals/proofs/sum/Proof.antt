@@ -1,4 +1,4 @@
--- `totals::sum` meets its contract: the loop keeps that s and the words from i on make the sum. Assumes nothing.
+-- `totals::sum` meets its contract: the loop keeps that s and the words from i on make the sum.
 use Prim.Native.Nat.{_+_, _*_, _-_, _≤_, _<_}
 use mathlib.Core.Path.{_≡_}
 use native.Mathlib.Omega.{arith}

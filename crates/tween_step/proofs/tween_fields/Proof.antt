@@ -1,4 +1,4 @@
--- `tween_step::tween_fields` meets its contract. Assumes nothing.
+-- `tween_step::tween_fields` meets its contract.
 use Rattle.cells.proofs.StepLaws.{Gathering, gathering-start, list-refused, list-done, value-refused, list-more, list-moves}
 use Rattle.tween_step.specs.Means.{tweenCells}
 use mathlib.Core.Path.{refl}

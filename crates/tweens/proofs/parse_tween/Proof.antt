@@ -1,4 +1,4 @@
--- `tweens::parse_tween` meets its contract. Assumes nothing.
+-- `tweens::parse_tween` meets its contract.
 use Rattle.tweens.proofs.TweenLaws.{tween-no-ends, tween-no-fields, tween-untimed, tween-plain, tween-went}
 use Rattle.tweens.proofs.EndsLaws.{ends-room}
 use native.Mathlib.Omega.{arith}

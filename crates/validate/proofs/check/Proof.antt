@@ -1,4 +1,4 @@
--- `validate::check` meets its contract: what is shut is refused so; the walk of an open sheet gives the verdict. Assumes nothing.
+-- `validate::check` meets its contract: what is shut is refused so; the walk of an open sheet gives the verdict.
 use native.Mathlib.Omega.{arith}
 use mathlib.Core.Path.{sym, _∙_}
 use borrow.Author.Needs.{needs}

@@ -1,4 +1,4 @@
--- `validate::open_list` meets its contract. Assumes nothing.
+-- `validate::open_list` meets its contract.
 use native.Mathlib.Omega.{arith}
 use Rattle.validate.proofs.CheckLaws as laws
 use Rattle.validate.proofs.open_list.Statement.{statement}

@@ -1,4 +1,4 @@
--- `validate::open_under` meets its contract: the first of the refusals of a text, of a list and of bytes. Assumes nothing.
+-- `validate::open_under` meets its contract: the first of the refusals of a text, of a list and of bytes.
 use mathlib.Core.Path.{refl, sym, _∙_}
 use borrow.Author.Needs.{needs}
 use Rattle.validate.proofs.CheckLaws as laws

@@ -1,4 +1,4 @@
--- `values::after_word` meets its contract. Assumes nothing.
+-- `values::after_word` meets its contract.
 use Rattle.text.specs.Words.{entries}
 use mathlib.Core.Path.{ap, _∙_}
 use Rattle.grammar.specs.Values.{curves}

@@ -1,4 +1,4 @@
--- `values::bezier_curve` meets its contract. Assumes nothing.
+-- `values::bezier_curve` meets its contract.
 use Rattle.text.specs.Bytes.{at}
 use Rattle.grammar.specs.Values.{bezierCurve, fourFloats}
 use Rattle.values.proofs.ValueLaws.{inside-missing, inside-refused, inside-took}

@@ -1,4 +1,4 @@
--- `values::comma_float` meets its contract. Assumes nothing.
+-- `values::comma_float` meets its contract.
 use Rattle.text.specs.Bytes.{at}
 use Rattle.grammar.specs.Values.{commaFloat, parseFloat}
 use Rattle.values.proofs.ValueLaws.{float-behind}

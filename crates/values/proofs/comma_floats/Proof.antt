@@ -1,4 +1,4 @@
--- `values::comma_floats` meets its contract. Assumes nothing.
+-- `values::comma_floats` meets its contract.
 use Rattle.text.specs.Bytes.{at}
 use Rattle.grammar.specs.Values.{commaFloats, twoFloats}
 use Rattle.values.proofs.ValueLaws.{pair-behind}

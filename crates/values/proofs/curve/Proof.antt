@@ -1,4 +1,4 @@
--- `values::curve` meets its contract. Assumes nothing.
+-- `values::curve` meets its contract.
 use native.Mathlib.Omega.{arith}
 use Rattle.grammar.specs.Values.{curves}
 use Rattle.values.proofs.RowLaws.{elem-at, elem-lt}

@@ -1,4 +1,4 @@
--- `values::four_floats` meets its contract. Assumes nothing.
+-- `values::four_floats` meets its contract.
 use native.Mathlib.Omega.{arith}
 use Rattle.text.specs.Bytes.{at}
 use Rattle.grammar.specs.Values.{fourFloats}

@@ -1,4 +1,4 @@
--- `values::mode` meets its contract. Assumes nothing.
+-- `values::mode` meets its contract.
 use native.Mathlib.Omega.{arith}
 use Rattle.values.proofs.RowLaws.{elem-at, elem-lt}
 use Rattle.grammar.specs.Values.{loopModes}

@@ -1,4 +1,4 @@
--- `values::named_easing` meets its contract. Assumes nothing.
+-- `values::named_easing` meets its contract.
 use mathlib.Core.Logic.{inl, inr}
 use Rattle.text.specs.Bytes.{at}
 use borrow.Author.Tests.{not-false}

@@ -1,4 +1,4 @@
--- `values::next_rough` meets its contract. Assumes nothing.
+-- `values::next_rough` meets its contract.
 use Rattle.text.specs.Words.{entries}
 use Rattle.text.specs.Words.{entries}
 use mathlib.Core.Path.{refl}

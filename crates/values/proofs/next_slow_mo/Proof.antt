@@ -1,4 +1,4 @@
--- `values::next_slow_mo` meets its contract. Assumes nothing.
+-- `values::next_slow_mo` meets its contract.
 use Rattle.text.specs.Words.{entries}
 use Rattle.text.specs.Words.{entries}
 use mathlib.Core.Path.{refl}

@@ -1,4 +1,4 @@
--- `values::parse_easing` meets its contract. Assumes nothing.
+-- `values::parse_easing` meets its contract.
 use Rattle.text.specs.Bytes.{at}
 use Rattle.values.proofs.EasingLaws.{easing-behind}
 use Rattle.grammar.specs.Values.{parseEasing}

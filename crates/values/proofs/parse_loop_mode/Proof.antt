@@ -1,4 +1,4 @@
--- `values::parse_loop_mode` meets its contract. Assumes nothing.
+-- `values::parse_loop_mode` meets its contract.
 use Rattle.text.specs.Words.{entries}
 use mathlib.Core.Path.{ap, _∙_}
 use Rattle.text.specs.Bytes.{at}

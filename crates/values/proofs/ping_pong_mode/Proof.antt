@@ -1,4 +1,4 @@
--- `values::ping_pong_mode` meets its contract. Assumes nothing.
+-- `values::ping_pong_mode` meets its contract.
 use native.Mathlib.Omega.{arith}
 use Rattle.text.specs.Bytes.{at}
 use borrow.Author.Tests.{not-false, not-true}

@@ -1,4 +1,4 @@
--- `values::rough_curve` meets its contract. Assumes nothing.
+-- `values::rough_curve` meets its contract.
 use lib.Ieee.{ofBits, binary32}
 use mathlib.Core.Option.{Option}
 use Rattle.values.proofs.CurveLaws.{a-half, float-or, plain-half, plain-or, word-or}

@@ -1,4 +1,4 @@
--- `values::rough_field` meets its contract. Assumes nothing.
+-- `values::rough_field` meets its contract.
 use Rattle.values.specs.Means.{RoughHeld}
 use Rattle.text.specs.Bytes.{at}
 use Rattle.values.proofs.RowLaws.{by-row, no-count, no-number, refused-row, row-at, second-row, took-count, took-number}

@@ -1,4 +1,4 @@
--- `values::slow_mo_curve` meets its contract. Assumes nothing.
+-- `values::slow_mo_curve` meets its contract.
 use lib.Ieee.{ofBits, binary32}
 use mathlib.Core.Option.{Option}
 use mathlib.Core.Path.{ap, _∙_}

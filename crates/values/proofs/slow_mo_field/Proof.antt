@@ -1,4 +1,4 @@
--- `values::slow_mo_field` meets its contract. Assumes nothing.
+-- `values::slow_mo_field` meets its contract.
 use Rattle.values.specs.Means.{SlowMoHeld}
 use Rattle.text.specs.Bytes.{at}
 use Rattle.values.proofs.RowLaws.{by-row, no-number, refused-row, row-at, second-row, took-number}

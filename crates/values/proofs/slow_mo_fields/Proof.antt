@@ -1,4 +1,4 @@
--- `values::slow_mo_fields` meets its contract. Assumes nothing.
+-- `values::slow_mo_fields` meets its contract.
 use mathlib.Core.List.{[]}
 use lib.Dec.{lit<}
 use borrow.Author.Needs.{needs}

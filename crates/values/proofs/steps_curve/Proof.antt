@@ -1,4 +1,4 @@
--- `values::steps_curve` meets its contract. Assumes nothing.
+-- `values::steps_curve` meets its contract.
 use Rattle.text.specs.Bytes.{at}
 use Rattle.grammar.specs.Values.{stepsCurve}
 use borrow.Author.Needs.{needs}

@@ -1,4 +1,4 @@
--- `values::times_mode` meets its contract. Assumes nothing.
+-- `values::times_mode` meets its contract.
 use Rattle.text.specs.Bytes.{at}
 use Rattle.grammar.specs.Values.{timesMode}
 use borrow.Author.Needs.{needs}

@@ -1,4 +1,4 @@
--- `values::two_floats` meets its contract. Assumes nothing.
+-- `values::two_floats` meets its contract.
 use native.Mathlib.Omega.{arith}
 use Rattle.text.specs.Bytes.{at}
 use Rattle.cursor.proofs.CursorLaws.{took}

@@ -1,4 +1,4 @@
--- `values::wiggle_curve` meets its contract. Assumes nothing.
+-- `values::wiggle_curve` meets its contract.
 use Rattle.text.specs.Bytes.{at}
 use Rattle.grammar.specs.Values.{wiggleCurve}
 use borrow.Author.Needs.{needs}

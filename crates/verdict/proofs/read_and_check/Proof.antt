@@ -1,4 +1,4 @@
--- `verdict::read_and_check` meets its contract. Assumes nothing.
+-- `verdict::read_and_check` meets its contract.
 use Rattle.verdict.proofs.VerdictLaws.{unread, checked, unread-values, checked-values}
 use borrow.Author.Needs.{needs}
 use Rattle.verdict.proofs.read_and_check.Statement.{statement}

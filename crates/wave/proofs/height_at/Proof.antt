@@ -1,4 +1,4 @@
--- `wave::height_at` meets its contract. Assumes nothing.
+-- `wave::height_at` meets its contract.
 use Rattle.wave.proofs.WaveLaws as laws
 use mathlib.Core.Path.{sym, _∙_}
 use borrow.Author.Needs.{needs}

@@ -1,4 +1,4 @@
--- `wave::mirror` meets its contract. Assumes nothing.
+-- `wave::mirror` meets its contract.
 use Rattle.wave.proofs.WaveLaws as laws
 use mathlib.Core.Path.{refl, sym, _∙_}
 use borrow.Author.Needs.{needs}

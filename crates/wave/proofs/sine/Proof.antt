@@ -1,4 +1,4 @@
--- `wave::sine` meets its contract: the table's entries fit. Assumes nothing.
+-- `wave::sine` meets its contract: the table's entries fit.
 use native.Mathlib.Omega.{arith}
 use Rattle.wave.proofs.WaveLaws as laws
 use borrow.Author.Needs.{needs}

@@ -1,4 +1,4 @@
--- `wave::wave` meets its contract: each way out is one case of the definition. Assumes nothing.
+-- `wave::wave` meets its contract: each way out is one case of the definition.
 use Rattle.error.specs.Answer.{checkValues}
 use Rattle.error.proofs.AnswerLaws.{with-values}
 use mathlib.Core.Path.{sym}

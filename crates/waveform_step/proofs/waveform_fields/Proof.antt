@@ -1,4 +1,4 @@
--- `waveform_step::waveform_fields` meets its contract. Assumes nothing.
+-- `waveform_step::waveform_fields` meets its contract.
 use Rattle.cells.proofs.StepLaws.{Gathering, gathering-start, list-refused, list-done, value-refused, list-more, list-moves}
 use Rattle.waveform_step.specs.Means.{waveformCells}
 use mathlib.Core.Path.{refl}

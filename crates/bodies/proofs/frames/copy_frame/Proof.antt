@@ -1,4 +1,4 @@
--- `bodies::frames::copy_frame` meets its contract. Assumes nothing.
+-- `bodies::frames::copy_frame` meets its contract.
 use mathlib.Core.Path.{refl}
 use Rattle.text.specs.Bytes.{oneOf}
 use Rattle.sheet.specs.Sheet.{toEntry, ofEntry}

@@ -1,4 +1,4 @@
--- `bodies::frames::copy_frame_easing` meets its contract. Assumes nothing.
+-- `bodies::frames::copy_frame_easing` meets its contract.
 use mathlib.Core.Path.{refl}
 use Rattle.sheet.specs.Sheet.{easingForm}
 use Rattle.fresh.specs.Meaning.{optionSense}

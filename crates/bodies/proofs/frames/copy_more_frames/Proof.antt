@@ -1,4 +1,4 @@
--- `bodies::frames::copy_more_frames` meets its contract. Assumes nothing.
+-- `bodies::frames::copy_more_frames` meets its contract.
 use Rattle.text.specs.Bytes.{at}
 use Rattle.grammar.specs.Rule.{next, text}
 use Prim.Native.Nat.{_-_, _≤_}

@@ -1,4 +1,4 @@
--- `bodies::frames::copy_time` meets its contract. Assumes nothing.
+-- `bodies::frames::copy_time` meets its contract.
 use mathlib.Core.Path.{refl}
 use native.Mathlib.Omega.{arith}
 use Rattle.ast.specs.Tree as Tree

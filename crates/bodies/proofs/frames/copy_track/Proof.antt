@@ -1,4 +1,4 @@
--- `bodies::frames::copy_track` meets its contract. Assumes nothing.
+-- `bodies::frames::copy_track` meets its contract.
 use Prim.Native.Nat.{suc, _-_}
 use mathlib.Core.List.{[]}
 use mathlib.Core.Path.{_≡_, refl}

@@ -1,4 +1,4 @@
--- `bodies::frames::copy_track_loop` meets its contract. Assumes nothing.
+-- `bodies::frames::copy_track_loop` meets its contract.
 use mathlib.Core.Path.{refl}
 use Rattle.digits.specs.Numeral.{all}
 use Rattle.sheet.specs.Sheet.{loopForm}

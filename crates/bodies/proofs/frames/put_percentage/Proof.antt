@@ -1,4 +1,4 @@
--- `bodies::frames::put_percentage` meets its contract. Assumes nothing.
+-- `bodies::frames::put_percentage` meets its contract.
 use mathlib.Core.Path.{refl}
 use Rattle.text.specs.Bytes.{oneOf}
 use Rattle.digits.specs.Numeral.{percentage}

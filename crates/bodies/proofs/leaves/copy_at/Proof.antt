@@ -1,4 +1,4 @@
--- `bodies::leaves::copy_at` meets its contract. Assumes nothing.
+-- `bodies::leaves::copy_at` meets its contract.
 use mathlib.Core.Path.{refl}
 use Rattle.text.specs.Bytes.{oneOf}
 use Rattle.ast.specs.Tree as Tree

@@ -1,4 +1,4 @@
--- `bodies::leaves::copy_keyframes` meets its contract. Assumes nothing.
+-- `bodies::leaves::copy_keyframes` meets its contract.
 use mathlib.Core.Path.{refl, _∙_}
 use Rattle.text.specs.Bytes.{oneOf}
 use Rattle.ast.specs.Tree as Tree

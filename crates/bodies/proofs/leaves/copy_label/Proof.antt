@@ -1,4 +1,4 @@
--- `bodies::leaves::copy_label` meets its contract. Assumes nothing.
+-- `bodies::leaves::copy_label` meets its contract.
 use mathlib.Core.Path.{refl}
 use Rattle.text.specs.Bytes.{oneOf}
 use Rattle.fresh.specs.Fresh.{mark, leafBody}

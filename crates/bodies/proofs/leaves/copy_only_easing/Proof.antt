@@ -1,4 +1,4 @@
--- `bodies::leaves::copy_only_easing` meets its contract. Assumes nothing.
+-- `bodies::leaves::copy_only_easing` meets its contract.
 use mathlib.Core.Option.{none}
 use mathlib.Core.Path.{refl}
 use Rattle.text.specs.Bytes.{oneOf}

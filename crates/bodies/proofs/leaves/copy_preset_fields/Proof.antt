@@ -1,4 +1,4 @@
--- `bodies::leaves::copy_preset_fields` meets its contract. Assumes nothing.
+-- `bodies::leaves::copy_preset_fields` meets its contract.
 use mathlib.Core.List.{_∷_}
 use mathlib.Core.Option.{some}
 use mathlib.Core.Path.{refl}

@@ -1,4 +1,4 @@
--- `bodies::leaves::copy_spring` meets its contract. Assumes nothing.
+-- `bodies::leaves::copy_spring` meets its contract.
 use mathlib.Core.Path.{refl, _∙_}
 use native.Mathlib.Omega.{arith}
 use Rattle.text.specs.Bytes.{oneOf}

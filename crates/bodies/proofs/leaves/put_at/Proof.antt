@@ -1,4 +1,4 @@
--- `bodies::leaves::put_at` meets its contract. Assumes nothing.
+-- `bodies::leaves::put_at` meets its contract.
 use mathlib.Core.Path.{refl}
 use Rattle.text.specs.Bytes.{oneOf}
 use Rattle.digits.specs.Numeral.{float}

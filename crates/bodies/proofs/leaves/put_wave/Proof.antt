@@ -1,4 +1,4 @@
--- `bodies::leaves::put_wave` meets its contract. Assumes nothing.
+-- `bodies::leaves::put_wave` meets its contract.
 use Rattle.pieces.specs.Pieces.{Piece}
 use mathlib.Core.List.{[], _∷_}
 use mathlib.Core.Path.{refl, ap}

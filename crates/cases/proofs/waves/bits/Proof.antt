@@ -1,4 +1,4 @@
--- `cases::waves::bits` stays in bounds: a height and 32,768 is a whole number below 65,536. Assumes nothing.
+-- `cases::waves::bits` stays in bounds: a height and 32,768 is a whole number below 65,536.
 use Prim.Native.Nat.{ℕ, suc, _+_, _-_, _<_}
 use mathlib.Core.Path.{_≡_, sym, _∙_, ap, subst}
 use native.Mathlib.Omega.{arith}

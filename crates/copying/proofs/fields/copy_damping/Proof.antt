@@ -1,4 +1,4 @@
--- `copying::fields::copy_damping` meets its contract. Assumes nothing.
+-- `copying::fields::copy_damping` meets its contract.
 use mathlib.Core.Option.{some}
 use mathlib.Core.Path.{refl}
 use native.Mathlib.Omega.{arith}

@@ -1,4 +1,4 @@
--- `copying::fields::copy_f32_field` meets its contract. Assumes nothing.
+-- `copying::fields::copy_f32_field` meets its contract.
 use Rattle.fresh.specs.Fresh.{f32}
 use Rattle.copying.proofs.CopyLaws.{under-name}
 use borrow.Author.Needs.{needs}

@@ -1,4 +1,4 @@
--- `copying::fields::copy_in_parens` meets its contract. Assumes nothing.
+-- `copying::fields::copy_in_parens` meets its contract.
 use mathlib.Core.Path.{refl}
 use Rattle.text.specs.Bytes.{oneOf}
 use Rattle.fresh.specs.Fresh.{mark}

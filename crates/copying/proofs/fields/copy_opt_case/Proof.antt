@@ -1,4 +1,4 @@
--- `copying::fields::copy_opt_case` meets its contract. Assumes nothing.
+-- `copying::fields::copy_opt_case` meets its contract.
 use Rattle.codec.specs.Codec.{below}
 use native.Mathlib.Omega.{arith}
 use Rattle.fresh.specs.Fresh.{choose}

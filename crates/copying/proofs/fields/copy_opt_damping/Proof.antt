@@ -1,4 +1,4 @@
--- `copying::fields::copy_opt_damping` meets its contract. Assumes nothing.
+-- `copying::fields::copy_opt_damping` meets its contract.
 use mathlib.Core.Path.{refl}
 use Rattle.sheet.specs.Sheet.{dampingForm}
 use Rattle.fresh.specs.Fresh.{damping}

@@ -1,4 +1,4 @@
--- `copying::fields::copy_opt_flag` meets its contract. Assumes nothing.
+-- `copying::fields::copy_opt_flag` meets its contract.
 use Rattle.sheet.specs.Sheet.{flag}
 use Rattle.fresh.specs.Fresh.{truth}
 use Rattle.copying.proofs.CopyLaws.{read-put, absent-field, present-field}

@@ -1,4 +1,4 @@
--- `copying::fields::copy_opt_offset` meets its contract. Assumes nothing.
+-- `copying::fields::copy_opt_offset` meets its contract.
 use mathlib.Core.Path.{refl}
 use Rattle.text.specs.Bytes.{oneOf}
 use Rattle.digits.specs.Numeral.{all}

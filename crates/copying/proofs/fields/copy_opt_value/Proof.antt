@@ -1,4 +1,4 @@
--- `copying::fields::copy_opt_value` meets its contract. Assumes nothing.
+-- `copying::fields::copy_opt_value` meets its contract.
 use Rattle.sheet.specs.Sheet.{valueForm}
 use Rattle.fresh.specs.Fresh.{value}
 use Rattle.copying.proofs.CopyLaws.{absent-field, present-field}

@@ -1,4 +1,4 @@
--- `copying::fields::copy_reverse` meets its contract. Assumes nothing.
+-- `copying::fields::copy_reverse` meets its contract.
 use mathlib.Core.Path.{refl}
 use Rattle.digits.specs.Numeral.{all}
 use Rattle.pieces.specs.Pieces.{wordLike}

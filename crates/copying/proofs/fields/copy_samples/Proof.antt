@@ -1,4 +1,4 @@
--- `copying::fields::copy_samples` meets its contract. Assumes nothing.
+-- `copying::fields::copy_samples` meets its contract.
 use borrow.Author.Tests.{eq-eqb, ne-eqb}
 use Rattle.digits.specs.Numeral.{counted}
 use mathlib.Core.Path.{refl}

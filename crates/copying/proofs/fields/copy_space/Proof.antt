@@ -1,4 +1,4 @@
--- `copying::fields::copy_space` meets its contract. Assumes nothing.
+-- `copying::fields::copy_space` meets its contract.
 use borrow.Author.Tests.{eq-eqb, ne-eqb}
 use Rattle.text.specs.Words.{entries}
 use Rattle.grammar.specs.Grammar.{spaceNames}

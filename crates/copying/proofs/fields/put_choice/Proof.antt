@@ -1,4 +1,4 @@
--- `copying::fields::put_choice` meets its contract: the words before are passed one by one. Assumes nothing.
+-- `copying::fields::put_choice` meets its contract: the words before are passed one by one.
 use Rattle.text.specs.Bytes.{at}
 use Prim.Native.Nat.{_-_, _≤_}
 use mathlib.Core.Path.{_≡_, _∙_}

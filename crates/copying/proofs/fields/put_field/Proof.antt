@@ -1,4 +1,4 @@
--- `copying::fields::put_field` meets its contract. Assumes nothing.
+-- `copying::fields::put_field` meets its contract.
 use mathlib.Core.Path.{refl}
 use Rattle.text.specs.Bytes.{oneOf}
 use Rattle.pieces.specs.Pieces.{aWord}

@@ -1,4 +1,4 @@
--- `copying::values::copy_array` meets its contract. Assumes nothing.
+-- `copying::values::copy_array` meets its contract.
 use mathlib.Core.Path.{refl}
 use Rattle.text.specs.Bytes.{oneOf}
 use Rattle.codec.specs.Codec.{each}

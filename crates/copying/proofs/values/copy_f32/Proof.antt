@@ -1,4 +1,4 @@
--- `copying::values::copy_f32` meets its contract. Assumes nothing.
+-- `copying::values::copy_f32` meets its contract.
 use Rattle.fresh.specs.Fresh.{f32}
 use Rattle.copying.proofs.CopyLaws.{read-put}
 use borrow.Author.Needs.{needs}

@@ -1,4 +1,4 @@
--- `copying::values::copy_floats` meets its contract. Assumes nothing.
+-- `copying::values::copy_floats` meets its contract.
 use Prim.Native.Nat.{_-_, suc}
 use Prim.Native.Nat.{suc, _-_}
 use mathlib.Core.Path.{_≡_}

@@ -1,4 +1,4 @@
--- `copying::values::copy_more_floats` meets its contract. Assumes nothing.
+-- `copying::values::copy_more_floats` meets its contract.
 use Prim.Native.Nat.{_-_, _≤_}
 use Prim.Native.Nat.{_-_, _≤_}
 use mathlib.Core.Path.{_≡_}

@@ -1,4 +1,4 @@
--- `copying::values::copy_string` meets its contract. Assumes nothing.
+-- `copying::values::copy_string` meets its contract.
 use Rattle.pieces.specs.Pieces.{aString}
 use Rattle.copying.proofs.CopyLaws.{span-put}
 use borrow.Author.Needs.{needs}

@@ -1,4 +1,4 @@
--- `copying::values::copy_u32` meets its contract. Assumes nothing.
+-- `copying::values::copy_u32` meets its contract.
 use Rattle.digits.specs.Numeral.{counted}
 use Rattle.pieces.specs.Pieces.{aNumeral}
 use Rattle.fresh.specs.Fresh.{u32}

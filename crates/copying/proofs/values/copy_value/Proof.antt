@@ -1,4 +1,4 @@
--- `copying::values::copy_value` meets its contract. Assumes nothing.
+-- `copying::values::copy_value` meets its contract.
 use mathlib.Core.Path.{refl}
 use native.Mathlib.Omega.{arith}
 use Rattle.sheet.specs.Sheet.{values, splitValue}

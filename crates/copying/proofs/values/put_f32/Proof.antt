@@ -1,4 +1,4 @@
--- `copying::values::put_f32` meets its contract. Assumes nothing.
+-- `copying::values::put_f32` meets its contract.
 use mathlib.Core.Path.{refl}
 use Rattle.text.specs.Bytes.{oneOf}
 use Rattle.digits.specs.Numeral.{float}

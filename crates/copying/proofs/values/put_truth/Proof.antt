@@ -1,4 +1,4 @@
--- `copying::values::put_truth` meets its contract. Assumes nothing.
+-- `copying::values::put_truth` meets its contract.
 use mathlib.Core.Path.{refl}
 use Rattle.digits.specs.Numeral.{all}
 use Rattle.pieces.specs.Pieces.{wordLike}

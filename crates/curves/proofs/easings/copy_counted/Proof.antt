@@ -1,4 +1,4 @@
--- `curves::easings::copy_counted` meets its contract. Assumes nothing.
+-- `curves::easings::copy_counted` meets its contract.
 use mathlib.Core.Path.{refl}
 use Rattle.text.specs.Bytes.{oneOf}
 use Rattle.pieces.specs.Pieces.{aWord}

@@ -1,4 +1,4 @@
--- `curves::easings::copy_easing` meets its contract. Assumes nothing.
+-- `curves::easings::copy_easing` meets its contract.
 use mathlib.Core.Path.{refl}
 use native.Mathlib.Omega.{arith}
 use Rattle.digits.specs.Numeral.{all}

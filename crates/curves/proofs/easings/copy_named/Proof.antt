@@ -1,4 +1,4 @@
--- `curves::easings::copy_named` meets its contract. Assumes nothing.
+-- `curves::easings::copy_named` meets its contract.
 use Rattle.curves.proofs.PairLaws.{named-read}
 use borrow.Author.Needs.{needs}
 use Rattle.curves.proofs.easings.copy_named.Statement.{statement}

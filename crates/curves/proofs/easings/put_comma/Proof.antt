@@ -1,4 +1,4 @@
--- `curves::easings::put_comma` meets its contract. Assumes nothing.
+-- `curves::easings::put_comma` meets its contract.
 use mathlib.Core.Path.{refl}
 use Rattle.text.specs.Bytes.{oneOf}
 use Rattle.fresh.specs.Fresh.{mark}

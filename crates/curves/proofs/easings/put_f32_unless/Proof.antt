@@ -1,4 +1,4 @@
--- `curves::easings::put_f32_unless` meets its contract. Assumes nothing.
+-- `curves::easings::put_f32_unless` meets its contract.
 use borrow.Author.Tests.{eq-eqb, ne-eqb}
 use Rattle.fresh.specs.Fresh.{f32}
 use Rattle.curves.proofs.PairLaws.{omitted, not-omitted}

@@ -1,4 +1,4 @@
--- `curves::easings::put_named` meets its contract. Assumes nothing.
+-- `curves::easings::put_named` meets its contract.
 use mathlib.Core.Path.{refl}
 use Rattle.text.specs.Bytes.{oneOf}
 use Rattle.digits.specs.Numeral.{all}

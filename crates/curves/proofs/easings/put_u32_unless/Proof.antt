@@ -1,4 +1,4 @@
--- `curves::easings::put_u32_unless` meets its contract. Assumes nothing.
+-- `curves::easings::put_u32_unless` meets its contract.
 use borrow.Author.Tests.{eq-eqb, ne-eqb}
 use Rattle.digits.specs.Numeral.{counted}
 use Rattle.pieces.specs.Pieces.{aNumeral}

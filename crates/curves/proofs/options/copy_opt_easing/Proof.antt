@@ -1,4 +1,4 @@
--- `curves::options::copy_opt_easing` meets its contract. Assumes nothing.
+-- `curves::options::copy_opt_easing` meets its contract.
 use mathlib.Core.Path.{refl}
 use Rattle.digits.specs.Numeral.{all}
 use Rattle.sheet.specs.Sheet.{easingForm}

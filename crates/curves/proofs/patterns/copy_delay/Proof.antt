@@ -1,4 +1,4 @@
--- `curves::patterns::copy_delay` meets its contract. Assumes nothing.
+-- `curves::patterns::copy_delay` meets its contract.
 use mathlib.Core.Path.{refl}
 use Rattle.digits.specs.Numeral.{all}
 use Rattle.sheet.specs.Sheet.{word}

@@ -1,4 +1,4 @@
--- `curves::patterns::copy_grid` meets its contract. Assumes nothing.
+-- `curves::patterns::copy_grid` meets its contract.
 use mathlib.Core.Path.{refl, _∙_}
 use Rattle.text.specs.Bytes.{oneOf}
 use Rattle.digits.specs.Numeral.{all, counted}

@@ -1,4 +1,4 @@
--- `curves::patterns::copy_opening` meets its contract. Assumes nothing.
+-- `curves::patterns::copy_opening` meets its contract.
 use mathlib.Core.Path.{refl}
 use Rattle.digits.specs.Numeral.{all}
 use Rattle.pieces.specs.Pieces.{wordLike}

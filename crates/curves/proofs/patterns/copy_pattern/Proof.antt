@@ -1,4 +1,4 @@
--- `curves::patterns::copy_pattern` meets its contract. Assumes nothing.
+-- `curves::patterns::copy_pattern` meets its contract.
 use mathlib.Core.Path.{refl}
 use native.Mathlib.Omega.{arith}
 use Rattle.digits.specs.Numeral.{all}

@@ -1,4 +1,4 @@
--- `curves::patterns::put_origin` meets its contract. Assumes nothing.
+-- `curves::patterns::put_origin` meets its contract.
 use mathlib.Core.Bool.{false}
 use mathlib.Core.Path.{refl}
 use native.Mathlib.Omega.{arith}

@@ -1,4 +1,4 @@
--- `decode::fields::skip_words` meets its contract: the loop keeps that what is read from here on is read from the start. Assumes nothing.
+-- `decode::fields::skip_words` meets its contract: the loop keeps that what is read from here on is read from the start.
 use Prim.Native.Nat.{_-_, _≤_}
 use native.Mathlib.Omega.{arith}
 use borrow.Author.Needs.{needs}

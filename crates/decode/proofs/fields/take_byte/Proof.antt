@@ -1,4 +1,4 @@
--- `decode::fields::take_byte` meets its contract: the byte is there and below n, is n or more, or the bytes have ended. Assumes nothing.
+-- `decode::fields::take_byte` meets its contract: the byte is there and below n, is n or more, or the bytes have ended.
 use mathlib.Core.Logic.{⊎-elim}
 use native.Mathlib.Omega.{arith}
 use borrow.Author.Needs.{needs}

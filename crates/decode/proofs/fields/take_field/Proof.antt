@@ -1,4 +1,4 @@
--- `decode::fields::take_field` meets its contract: the loop keeps that k bytes are read and make v. Assumes nothing.
+-- `decode::fields::take_field` meets its contract: the loop keeps that k bytes are read and make v.
 use Prim.Native.Nat.{_+_, _-_, _<_, _^_, _≤_}
 use mathlib.Core.Option.{some}
 use mathlib.Core.Path.{_≡_}

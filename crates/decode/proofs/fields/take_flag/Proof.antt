@@ -1,4 +1,4 @@
--- `decode::fields::take_flag` meets its contract: a byte below 2, seen as a truth value. Assumes nothing.
+-- `decode::fields::take_flag` meets its contract: a byte below 2, seen as a truth value.
 use lib.Dec.{eqb}
 use borrow.Author.Needs.{needs}
 use Rattle.decode.proofs.ReadLaws as laws

@@ -1,4 +1,4 @@
--- `decode::fields::take_float` meets its contract: a word, seen as an f32. Assumes nothing.
+-- `decode::fields::take_float` meets its contract: a word, seen as an f32.
 use mathlib.Core.Path.{ap, sym, _∙_}
 use borrow.Author.Needs.{needs}
 use Rattle.number.specs.Number.{f32}

@@ -1,4 +1,4 @@
--- `decode::fields::take_kind` meets its contract: a byte, a field, and the test that the start lies in the text. Assumes nothing.
+-- `decode::fields::take_kind` meets its contract: a byte, a field, and the test that the start lies in the text.
 use Prim.Native.Nat.{ℕ}
 use mathlib.Core.Path.{ap, _∙_}
 use lib.Dec.{ltb}

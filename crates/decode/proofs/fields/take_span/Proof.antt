@@ -1,4 +1,4 @@
--- `decode::fields::take_span` meets its contract: two fields, and the test that they lie in the text. Assumes nothing.
+-- `decode::fields::take_span` meets its contract: two fields, and the test that they lie in the text.
 use Prim.Native.Nat.{_+_}
 use mathlib.Core.Path.{ap, _∙_}
 use lib.Dec.{leb}

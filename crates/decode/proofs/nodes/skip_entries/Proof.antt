@@ -1,4 +1,4 @@
--- `decode::nodes::skip_entries` meets its contract: the loop keeps that what is read from here on is read from the start. Assumes nothing.
+-- `decode::nodes::skip_entries` meets its contract: the loop keeps that what is read from here on is read from the start.
 use Prim.Native.Nat.{_-_, _≤_}
 use native.Mathlib.Omega.{arith}
 use borrow.Author.Needs.{needs}

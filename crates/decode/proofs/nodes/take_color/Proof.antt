@@ -1,4 +1,4 @@
--- `decode::nodes::take_color` meets its contract: one field after the other. Assumes nothing.
+-- `decode::nodes::take_color` meets its contract: one field after the other.
 use borrow.Author.Needs.{needs}
 use Rattle.sheet.specs.Sheet.{ofColor, toColor}
 use Rattle.decode.proofs.ReadLaws.{_&_}

@@ -1,4 +1,4 @@
--- `decode::nodes::take_entry` meets its contract: one field after the other. Assumes nothing.
+-- `decode::nodes::take_entry` meets its contract: one field after the other.
 use mathlib.Core.Path.{_∙_, sym}
 use borrow.Author.Needs.{needs}
 use Rattle.ast.specs.View.{entryOf}

@@ -1,4 +1,4 @@
--- `decode::nodes::take_group` meets its contract: one field after the other. Assumes nothing.
+-- `decode::nodes::take_group` meets its contract: one field after the other.
 use borrow.Author.Needs.{needs}
 use Rattle.decode.proofs.ReadLaws.{_&_}
 use Rattle.decode.proofs.ReadLaws as laws

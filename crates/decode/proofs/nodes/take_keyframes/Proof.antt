@@ -1,4 +1,4 @@
--- `decode::nodes::take_keyframes` meets its contract: one field after the other. Assumes nothing.
+-- `decode::nodes::take_keyframes` meets its contract: one field after the other.
 use lib.ListN.{length}
 use borrow.Author.Needs.{needs}
 use Rattle.codec.specs.Codec.{each}

@@ -1,4 +1,4 @@
--- `decode::values::take_pattern` meets its contract: one case a position. Assumes nothing.
+-- `decode::values::take_pattern` meets its contract: one case a position.
 use mathlib.Core.Path.{refl}
 use native.Mathlib.Omega.{arith}
 use borrow.Author.Needs.{needs}

@@ -1,4 +1,4 @@
--- `decode::values::take_time` meets its contract: one case a position. Assumes nothing.
+-- `decode::values::take_time` meets its contract: one case a position.
 use mathlib.Core.Bool.{false, true}
 use native.Mathlib.Omega.{arith}
 use borrow.Author.Needs.{needs}

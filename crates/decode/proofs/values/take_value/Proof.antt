@@ -1,4 +1,4 @@
--- `decode::values::take_value` meets its contract: one case a position. Assumes nothing.
+-- `decode::values::take_value` meets its contract: one case a position.
 use native.Mathlib.Omega.{arith}
 use lib.ListN.{length}
 use borrow.Author.Needs.{needs}

@@ -1,4 +1,4 @@
--- `plane::moves::advance` meets its contract: the bytes, then the number, in either direction. Assumes nothing.
+-- `plane::moves::advance` meets its contract: the bytes, then the number, in either direction.
 use native.Mathlib.Omega.{arith}
 use Rattle.plane.proofs.MoveLaws.{advance-wide, advance-narrow}
 use borrow.Author.Needs.{needs}

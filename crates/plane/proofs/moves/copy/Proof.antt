@@ -1,4 +1,4 @@
--- `plane::moves::copy` meets its contract: the bytes before m are there. Assumes nothing.
+-- `plane::moves::copy` meets its contract: the bytes before m are there.
 use Prim.Native.Nat.{_-_, _≤_}
 use native.Mathlib.Omega.{arith}
 use borrow.Author.Needs.{needs}

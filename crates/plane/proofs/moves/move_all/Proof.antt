@@ -1,4 +1,4 @@
--- `plane::moves::move_all` meets its contract: record by record, then the bytes behind the last number. Assumes nothing.
+-- `plane::moves::move_all` meets its contract: record by record, then the bytes behind the last number.
 use Prim.Native.Nat.{_-_}
 use mathlib.Core.Path.{_≡_, refl, _∙_}
 use native.Mathlib.Omega.{arith}

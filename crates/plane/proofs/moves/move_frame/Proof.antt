@@ -1,4 +1,4 @@
--- `plane::moves::move_frame` meets its contract: the time, and a scalar. Assumes nothing.
+-- `plane::moves::move_frame` meets its contract: the time, and a scalar.
 use Prim.Native.Nat.{_+_, _-_}
 use mathlib.Core.Path.{refl, _∙_}
 use native.Mathlib.Omega.{arith}

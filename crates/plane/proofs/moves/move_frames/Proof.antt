@@ -1,5 +1,4 @@
 -- `plane::moves::move_frames` meets its contract: whatever stands before the first frame stands, moved on, before the next.
--- Assumes nothing.
 use mathlib.Core.Path.{refl, _∙_}
 use native.Mathlib.Omega.{arith}
 use Rattle.plane.proofs.AtLaws.{side-small, side-other}

@@ -1,4 +1,4 @@
--- `plane::moves::move_record` meets its contract: a track, or a record that is the same in both forms. Assumes nothing.
+-- `plane::moves::move_record` meets its contract: a track, or a record that is the same in both forms.
 use Rattle.plane.proofs.RecordMoveLaws.{inside-record, is-track, passed-record}
 use borrow.Author.Needs.{needs}
 use Rattle.plane.proofs.moves.move_record.Statement.{statement}

@@ -1,4 +1,4 @@
--- `plane::moves::move_track` meets its contract: the frames behind their count, then the loop mode. Assumes nothing.
+-- `plane::moves::move_track` meets its contract: the frames behind their count, then the loop mode.
 use Rattle.plane.proofs.RecordMoveLaws.{frames-before, loop-passed}
 use borrow.Author.Needs.{needs}
 use Rattle.plane.proofs.moves.move_track.Statement.{statement}

@@ -1,4 +1,4 @@
--- `plane::moves::put_number` meets its contract: four bytes, each to its place. Assumes nothing.
+-- `plane::moves::put_number` meets its contract: four bytes, each to its place.
 use lib.ListN.{length-set}
 use native.Mathlib.Omega.{arith}
 use Rattle.plane.proofs.MoveLaws.{fours}

@@ -1,4 +1,4 @@
--- `plane::shape::planed_shape` meets its contract: four bytes a number are left just if the bytes are planed. Assumes nothing.
+-- `plane::shape::planed_shape` meets its contract: four bytes a number are left just if the bytes are planed.
 use native.Mathlib.Omega.{arith}
 use Rattle.plane.proofs.ShapeLaws.{planed-too-long, planed-of, no-planed, left-bytes}
 use borrow.Author.Needs.{needs}

@@ -1,4 +1,4 @@
--- `plane::shape::sheet_shape` meets its contract: the walk ends where the bytes do just if they are a sheet. Assumes nothing.
+-- `plane::shape::sheet_shape` meets its contract: the walk ends where the bytes do just if they are a sheet.
 use native.Mathlib.Omega.{arith}
 use Rattle.plane.proofs.ShapeLaws.{sheet-too-long, sheet-of, no-sheet}
 use borrow.Author.Needs.{needs}

@@ -1,5 +1,5 @@
 -- `plane::walk::pass_node` and `plane::walk::pass_nodes` meet their contracts: a node is its record and then the nodes in it; bytes left
--- fall from a node to the nodes in it. Assumes nothing.
+-- fall from a node to the nodes in it.
 use Prim.Native.Nat.{ℕ, _+_, _*_, _-_, _^_, _≤_, _<_}
 use native.Mathlib.Omega.{arith}
 use lib.ListN.{length}

@@ -1,4 +1,4 @@
--- `plane::walk::pass_sheet` meets its contract: the head's count, and so many nodes. Assumes nothing.
+-- `plane::walk::pass_sheet` meets its contract: the head's count, and so many nodes.
 use Rattle.ast.specs.Tree.{width}
 use Rattle.sheet.specs.Sheet.{forestOf, innerOf}
 use Rattle.decode.proofs.ReadLaws as laws

@@ -1,4 +1,4 @@
--- `plane::walk::take_frame` meets its contract: one field after the other. Assumes nothing.
+-- `plane::walk::take_frame` meets its contract: one field after the other.
 use Rattle.sheet.specs.Sheet.{ofEntry, toEntry}
 use Rattle.decode.proofs.ReadLaws.{_&_}
 use Rattle.decode.proofs.ReadLaws as laws

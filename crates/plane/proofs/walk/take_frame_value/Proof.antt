@@ -1,4 +1,4 @@
--- `plane::walk::take_frame_value` meets its contract: one case a position. Assumes nothing.
+-- `plane::walk::take_frame_value` meets its contract: one case a position.
 use native.Mathlib.Omega.{arith}
 use lib.ListN.{length}
 use mathlib.Core.Path.{refl}

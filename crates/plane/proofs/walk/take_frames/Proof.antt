@@ -1,4 +1,4 @@
--- `plane::walk::take_frames` meets its contract: the loop keeps what is read and counted from the start. Assumes nothing.
+-- `plane::walk::take_frames` meets its contract: the loop keeps what is read and counted from the start.
 use Prim.Native.Nat.{_+_, _-_, _^_, _≤_, _<_}
 use mathlib.Core.Path.{_∙_, ap}
 use native.Mathlib.Omega.{arith}

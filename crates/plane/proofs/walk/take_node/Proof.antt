@@ -1,4 +1,4 @@
--- `plane::walk::take_node` meets its contract: a track's record, or that of any other kind. Assumes nothing.
+-- `plane::walk::take_node` meets its contract: a track's record, or that of any other kind.
 use lib.ListN.{length}
 use Rattle.codec.specs.Codec.{each}
 use Rattle.sheet.specs.Sheet.{toKeyframes, ofKeyframes}

@@ -1,4 +1,4 @@
--- `validate::faults::is_mismatched` meets its contract: a count is that of the view. Assumes nothing.
+-- `validate::faults::is_mismatched` meets its contract: a count is that of the view.
 use borrow.Author.Needs.{needs}
 use Rattle.validate.proofs.TestLaws as tests
 use Rattle.validate.proofs.faults.is_mismatched.Statement.{statement}

@@ -1,4 +1,4 @@
--- `validate::faults::is_not_positive` meets its contract: the literal is the nought of the definitions. Assumes nothing.
+-- `validate::faults::is_not_positive` meets its contract: the literal is the nought of the definitions.
 use Rattle.validate.proofs.TestLaws as tests
 use Rattle.validate.proofs.faults.is_not_positive.Statement.{statement}
 use Rattle.validate.proofs.faults.is_not_positive.Tie as tie

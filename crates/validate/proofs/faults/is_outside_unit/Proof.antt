@@ -1,4 +1,4 @@
--- `validate::faults::is_outside_unit` meets its contract: the two tests in turn. Assumes nothing.
+-- `validate::faults::is_outside_unit` meets its contract: the two tests in turn.
 use Rattle.validate.proofs.TestLaws as tests
 use Rattle.validate.proofs.faults.is_outside_unit.Statement.{statement}
 use Rattle.validate.proofs.faults.is_outside_unit.Tie as tie

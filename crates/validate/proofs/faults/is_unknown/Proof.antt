@@ -1,4 +1,4 @@
--- `validate::faults::is_unknown` meets its contract: only a name can be unknown. Assumes nothing.
+-- `validate::faults::is_unknown` meets its contract: only a name can be unknown.
 use borrow.Author.Needs.{needs}
 use Rattle.validate.proofs.TestLaws as tests
 use Rattle.validate.proofs.faults.is_unknown.Statement.{statement}

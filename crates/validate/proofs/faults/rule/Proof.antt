@@ -1,4 +1,4 @@
--- `validate::faults::rule` meets its contract: a fault so far stays; else the rule decides. Assumes nothing.
+-- `validate::faults::rule` meets its contract: a fault so far stays; else the rule decides.
 use borrow.Author.Needs.{needs}
 use Rattle.validate.proofs.RuleLaws as rules
 use Rattle.validate.proofs.faults.rule.Statement.{statement}

@@ -1,4 +1,4 @@
--- `validate::faults::some_outside_unit` meets its contract: absent, or the start, or else the end. Assumes nothing.
+-- `validate::faults::some_outside_unit` meets its contract: absent, or the start, or else the end.
 use borrow.Author.Needs.{needs}
 use Rattle.validate.proofs.TestLaws as tests
 use Rattle.validate.proofs.faults.some_outside_unit.Statement.{statement}

@@ -1,4 +1,4 @@
--- `validate::faults::some_unknown` meets its contract: absent, or the test of what is present. Assumes nothing.
+-- `validate::faults::some_unknown` meets its contract: absent, or the test of what is present.
 use borrow.Author.Needs.{needs}
 use Rattle.validate.proofs.TestLaws as tests
 use Rattle.validate.proofs.faults.some_unknown.Statement.{statement}

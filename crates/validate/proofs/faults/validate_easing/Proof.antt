@@ -1,4 +1,4 @@
--- `validate::faults::validate_easing` meets its contract: one more rule. Assumes nothing.
+-- `validate::faults::validate_easing` meets its contract: one more rule.
 use mathlib.Core.Path.{_∙_}
 use borrow.Author.Needs.{needs}
 use Rattle.validate.proofs.faults.validate_easing.Statement.{statement}

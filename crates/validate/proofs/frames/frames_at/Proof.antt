@@ -1,4 +1,4 @@
--- `validate::frames::frames_at` meets its contract: behind the target and the count. Assumes nothing.
+-- `validate::frames::frames_at` meets its contract: behind the target and the count.
 use borrow.Author.Needs.{needs}
 use Rattle.validate.proofs.FrameLaws as frames
 use Rattle.validate.proofs.frames.frames_at.Statement.{statement}

@@ -1,4 +1,4 @@
--- `validate::frames::has_unknown_easing` meets its contract. Assumes nothing.
+-- `validate::frames::has_unknown_easing` meets its contract.
 use mathlib.Core.Path.{ap}
 use borrow.Author.Needs.{needs}
 use Rattle.validate.proofs.frames.has_unknown_easing.Statement.{statement}

@@ -1,5 +1,5 @@
 -- `validate::frames::validate_frames` meets its contract: the outer loop has passed the frames before i and keeps their times, the inner
--- one has tried the first j of these. Assumes nothing.
+-- one has tried the first j of these.
 use Prim.Native.Nat.{_-_, _≤_}
 use mathlib.Core.Path.{_≡_, refl, sym, _∙_}
 use native.Mathlib.Omega.{arith}

@@ -1,4 +1,4 @@
--- `validate::frames::validate_keyframes` meets its contract: too few frames, or their first fault. Assumes nothing.
+-- `validate::frames::validate_keyframes` meets its contract: too few frames, or their first fault.
 use borrow.Author.Needs.{needs}
 use Rattle.validate.specs.declared.faults.Fault.the-variants.{None}
 use Rattle.validate.proofs.FrameLaws as frames

@@ -1,4 +1,4 @@
--- `validate::kinds::validate_container` meets its contract: a count alone, a group's fields or a stagger's. Assumes nothing.
+-- `validate::kinds::validate_container` meets its contract: a count alone, a group's fields or a stagger's.
 use borrow.Author.Needs.{needs}
 use Rattle.validate.proofs.KindLaws as kind-laws
 use Rattle.validate.proofs.kinds.validate_container.Statement.{statement}

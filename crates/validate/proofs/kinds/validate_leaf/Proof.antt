@@ -1,5 +1,4 @@
 -- `validate::kinds::validate_leaf` meets its contract: in each arm the kind is that arm's and the rules are those of its fields.
--- Assumes nothing.
 use mathlib.Core.Path.{refl, sym}
 use borrow.Author.Needs.{needs}
 use Rattle.ast.specs.Tree as tree

@@ -1,5 +1,5 @@
 -- `validate::nodes::validate_node` and `validate_nodes` meet their contracts: bytes left fall; the loop keeps that what a walk says of the
--- nodes left it says of all. Assumes nothing.
+-- nodes left it says of all.
 use Prim.Native.Nat.{ℕ, _+_, _*_, _-_, _≤_, _<_}
 use native.Mathlib.Omega.{arith}
 use lib.ListN.{length}

@@ -1,4 +1,4 @@
--- `validate::rules::is_empty_grid` meets its contract: only a grid can be empty. Assumes nothing.
+-- `validate::rules::is_empty_grid` meets its contract: only a grid can be empty.
 use borrow.Author.Needs.{needs}
 use Rattle.validate.proofs.TestLaws as tests
 use Rattle.validate.proofs.rules.is_empty_grid.Statement.{statement}

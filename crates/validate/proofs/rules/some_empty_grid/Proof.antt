@@ -1,4 +1,4 @@
--- `validate::rules::some_empty_grid` meets its contract: absent, or the test of what is present. Assumes nothing.
+-- `validate::rules::some_empty_grid` meets its contract: absent, or the test of what is present.
 use borrow.Author.Needs.{needs}
 use Rattle.validate.proofs.TestLaws as tests
 use Rattle.validate.proofs.rules.some_empty_grid.Statement.{statement}

@@ -1,4 +1,4 @@
--- `validate::rules::validate_color` meets its contract: rules in the order of the definition's list. Assumes nothing.
+-- `validate::rules::validate_color` meets its contract: rules in the order of the definition's list.
 use mathlib.Core.Path.{ap, refl, sym, _∙_}
 use mathlib.Core.Bool.{not}
 use borrow.Author.Needs.{needs}

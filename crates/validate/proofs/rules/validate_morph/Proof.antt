@@ -1,4 +1,4 @@
--- `validate::rules::validate_morph` meets its contract: rules in the order of the definition's list. Assumes nothing.
+-- `validate::rules::validate_morph` meets its contract: rules in the order of the definition's list.
 use mathlib.Core.Path.{ap, refl, sym}
 use lib.Dec.{eqb}
 use borrow.Author.Needs.{needs}

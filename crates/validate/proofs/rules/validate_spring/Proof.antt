@@ -1,4 +1,4 @@
--- `validate::rules::validate_spring` meets its contract: rules in the order of the definition's list. Assumes nothing.
+-- `validate::rules::validate_spring` meets its contract: rules in the order of the definition's list.
 use mathlib.Core.Path.{ap}
 use borrow.Author.Needs.{needs}
 use Rattle.error.specs.declared.Refusal.the-variants.{OutOfRange, ValueTypeMismatch}

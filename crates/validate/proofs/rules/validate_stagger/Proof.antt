@@ -1,4 +1,4 @@
--- `validate::rules::validate_stagger` meets its contract: one rule. Assumes nothing.
+-- `validate::rules::validate_stagger` meets its contract: one rule.
 use mathlib.Core.Path.{ap}
 use borrow.Author.Needs.{needs}
 use Rattle.error.specs.declared.Refusal.the-variants.{OutOfRange}

@@ -1,4 +1,4 @@
--- `validate::rules::validate_waveform` meets its contract: rules in the order of the definition's list. Assumes nothing.
+-- `validate::rules::validate_waveform` meets its contract: rules in the order of the definition's list.
 use mathlib.Core.Path.{ap, sym}
 use lib.Dec.{eqb}
 use borrow.Author.Needs.{needs}
