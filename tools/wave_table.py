@@ -24,7 +24,7 @@ pub const QUARTER: [u16; 1025] = [
 
 DEFINITION_HEAD = """\
 -- 02 (l): the quarter-wave table, "1,025 whole numbers from 0 to 32,767". tools/wave_table.py makes this file and src/table.rt, and
--- compares them with a sine; proofs/TableLaws has its two rules. Assumes nothing.
+-- compares them with a sine; proofs/TableLaws has its two rules.
 use Prim.Native.Nat.{ℕ}
 use mathlib.Core.List.{List, [], _∷_}
 

@@ -128,7 +128,8 @@ module _ (s : List ℕ) (t : Table) (c : Cursor) (r : Ready s c) where
       → Gives (fieldsStep t) s c fs out
   unfolding fieldsStep
   gives-passes m f e fs out h =
-      by-step (fieldsStep t) fs s c _ r (λ k l. rw (e, f .rest, sym (f .left), sym (f .rounded)) (h k (let a = passes-moves m f e in omega arith)))
+      by-step (fieldsStep t) fs s c _ r
+      (λ k l. rw (e, f .rest, sym (f .left), sym (f .rounded)) (h k (let a = passes-moves m f e in omega arith)))
 
   pub gives-refused : (x : Refusal) (q : ℕ) → itemOf (kind (tokens s c)) ≡ starts
       → run s c (fieldHead fieldName t) ≡ refused x q → (fs : Fields)

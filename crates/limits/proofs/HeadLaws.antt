@@ -20,8 +20,8 @@ use Rattle.grammar.specs.Rule.{Rule, give, need, _>>=_, _>>_, eat, sees, goOn}
 use Rattle.grammar.specs.Fields.{lastNumber, pairs}
 use Rattle.grammar.specs.Values.{f32Of}
 use Rattle.grammar.specs.Grammar.{
+  modeNames,
   originNames,
-}
   parseSequence,
   parseParallel,
   parseGroup,

@@ -14,7 +14,8 @@ use Rattle.error.specs.declared.CheckAnswer.the-variants as check
 use Rattle.error.specs.declared.LineAnswer.{LineAnswer}
 use Rattle.error.specs.declared.LineAnswer.the-variants as line
 use Rattle.packed.specs.Packed.{packedRefusal, packedSheet, packedRead, packedCheck}
-use Rattle.packed.specs.Packed.{packedLine, packedScript, packedFed, numberIn, valueIn, lengthIn, recordsIn, roundedIn, scriptNumberIn}
+use Rattle.packed.specs.Packed.{packedLine, packedScript, packedFed, numberIn, valueIn}
+use Rattle.packed.specs.Packed.{lengthIn, recordsIn, roundedIn, scriptNumberIn}
 use Rattle.error.specs.declared.FeedAnswer.{FeedAnswer}
 use Rattle.error.specs.declared.FeedAnswer.the-variants as feed
 use Rattle.error.specs.declared.LookupAnswer.{LookupAnswer}

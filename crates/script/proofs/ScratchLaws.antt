@@ -61,8 +61,10 @@ module _ (t s s′ b : List ℕ) (h : 64 ≤ length s) (h′ : 64 ≤ length s�
     where
       go : (short : Bool)
           → SamePrinted
-          (cond short (lined.Refused OutputTooShort 0, s, b, page) (paged (reading t s b) (printed list t s b (replicate lineBytes 0)) page))
-          (cond short (lined.Refused OutputTooShort 0, s′, b, page) (paged (reading t s′ b) (printed list t s′ b (replicate lineBytes 0)) page))
+          (cond short (lined.Refused OutputTooShort 0, s, b, page)
+          (paged (reading t s b) (printed list t s b (replicate lineBytes 0)) page))
+          (cond short (lined.Refused OutputTooShort 0, s′, b, page)
+          (paged (reading t s′ b) (printed list t s′ b (replicate lineBytes 0)) page))
       go true = record { answer = refl; sheet = refl; page = refl }
       go false =
           let e = printed-same list (replicate lineBytes 0) in

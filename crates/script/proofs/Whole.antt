@@ -1,4 +1,4 @@
--- Demand 3, entire, from three laws of the grammar. Assumes nothing: the laws are parameters.
+-- Demand 3, entire, from three laws of the grammar. The laws are parameters.
 use Prim.Native.Nat.{ℕ, _-_, _≤_}
 use mathlib.Core.Bool.{true}
 use mathlib.Core.List.{List, _++_}

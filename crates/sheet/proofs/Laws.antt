@@ -353,7 +353,8 @@ module _ (w n : ℕ) {inner : Form Sheet.Forest} (b : Law inner) where
       (λ u h. (refl, tt))
       (λ u h. refl)
   forest-lawful (suc c) =
-      via-lawful (Sheet.nodeFormOf w n inner ▹ Sheet.forestOf w n inner c) Sheet.toForest Sheet.ofForest (λ p. nodeLOf .ok (p .0) × Some c (p .1))
+      via-lawful (Sheet.nodeFormOf w n inner ▹ Sheet.forestOf w n inner c) Sheet.toForest Sheet.ofForest
+      (λ p. nodeLOf .ok (p .0) × Some c (p .1))
       (Some (suc c))
       (both-lawful (Sheet.nodeFormOf w n inner) (Sheet.forestOf w n inner c) (nodeLOf .ok) (Some c) (nodeLOf .law) (forest-lawful c))
       (there c) (same c) (λ p h. fine c (p .0) (p .1) (h .0) (h .1)) (λ p h. again (p .0) (p .1))

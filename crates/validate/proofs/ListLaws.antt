@@ -48,12 +48,14 @@ module _ (t s : List ℕ) where
       go (Shut r p) e = absurd (let z : _≡_ {A = ℕ} 0 1 = cc in omega arith)
 
   -- "36 for a list other than the two, after 1 and 2": whatever the sheet is, so before 20
-  pub unlisted : (list : ℕ) → isList list ≡ false → length t ≤ textLimit → foreignFrom 0 t ≡ none → checking list t s ≡ Refused UnknownList 0
+  pub unlisted : (list : ℕ) → isList list ≡ false → length t ≤ textLimit
+      → foreignFrom 0 t ≡ none → checking list t s ≡ Refused UnknownList 0
   unfolding checking openingUnder
   unlisted list n h f = rw (le-ltb textLimit (length t) h, f, n)
 
   -- the same of a text with which some bytes are a sheet
-  pub unlisted-opened : (list : ℕ) → isList list ≡ false → {ns : Forest} → opening t s ≡ opened ns → checking list t s ≡ Refused UnknownList 0
+  pub unlisted-opened : (list : ℕ) → isList list ≡ false → {ns : Forest} → opening t s ≡ opened ns
+      → checking list t s ≡ Refused UnknownList 0
   unlisted-opened list n e = sym (shut-refused list t s (first-shut list t s (text-open e) unknown refl refl))
     where
       unknown : Shut UnknownList 0 ≡ listAnswer list

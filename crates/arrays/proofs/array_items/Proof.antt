@@ -27,9 +27,6 @@ loop-holds c =
     let args = start .args in
     items-start (args .text .now) (args .sheet .now) (args .c) (args .out) (start .pre .0)
 
-ends-requires : tie.Need-ends-requires Inv-loop μ-loop
-ends-requires c κs = search needs
-
 same-length : tie.Need-same-length Inv-loop μ-loop
 same-length c = writes-keeps (c .before .before .loop .inv .writes)
 
@@ -52,9 +49,6 @@ returns c =
 
 parse-float-requires : tie.Need-parse-float-requires Inv-loop μ-loop
 parse-float-requires c κs = c .before .before .loop .inv .listed .ready
-
-enum-known-r : tie.Need-enum-known-r Inv-loop μ-loop
-enum-known-r c = search needs
 
 same-length-2 : tie.Need-same-length-2 Inv-loop μ-loop
 same-length-2 c =
@@ -83,9 +77,6 @@ returns-2 c =
     _ _
     (sym (at-ends .ends .ensures (args .text .now) (loop .inv .listed .ready)) ∙ at-if1 .if1 .left)
     (rw (c .before .r .given .1) at (at-parse-float .parse-float .ensures))
-
-enum-known-x : tie.Need-enum-known-x Inv-loop μ-loop
-enum-known-x c = search needs
 
 put-float-requires : tie.Need-put-float-requires Inv-loop μ-loop
 put-float-requires c κs =
@@ -215,23 +206,5 @@ loop-again c =
 
 pub array-items-spec : {M : Type 1} → statement M
 array-items-spec =
-    tie.close
-    (tie.spec
-    Inv-loop
-    μ-loop
-    loop-holds
-    ends-requires
-    same-length
-    returns
-    parse-float-requires
-    enum-known-r
-    same-length-2
-    returns-2
-    enum-known-x
-    put-float-requires
-    add-n
-    eat-requires
-    same-length-3
-    returns-3
-    loop-less
-    loop-again)
+    tie.close (tie.spec Inv-loop μ-loop loop-holds (λ c κs. search needs) same-length returns parse-float-requires (λ c. search needs)
+    same-length-2 returns-2 (λ c. search needs) put-float-requires add-n eat-requires same-length-3 returns-3 loop-less loop-again)

@@ -6,26 +6,11 @@ use borrow.Author.Needs.{needs}
 use Rattle.arrays.proofs.array_value.Statement.{statement}
 use Rattle.arrays.proofs.array_value.Tie as tie
 
-put-byte-requires : tie.Need-put-byte-requires
-put-byte-requires c κs = search needs
-
-add-array-items : tie.Need-add-array-items
-add-array-items c = search needs
-
 array-items-requires : tie.Need-array-items-requires
 array-items-requires c κs =
     let at-put-byte = c .before .before .before in
     let pre = at-put-byte .before .before .before .before .pre in
     (pre .0, record { short = pre .1 .short; low = omega (arith, at-put-byte .put-byte .ensures .place, pre .1 .low) })
-
-enum-known-r : tie.Need-enum-known-r
-enum-known-r c = search needs
-
-enum-known-n : tie.Need-enum-known-n
-enum-known-n c = search needs
-
-patch-count-requires : tie.Need-patch-count-requires
-patch-count-requires c κs = search needs
 
 leave-group-requires : tie.Need-leave-group-requires
 leave-group-requires c κs =
@@ -34,9 +19,6 @@ leave-group-requires c κs =
     let at-array-items = at-n .before .before .before .before in
     (rw (at-n .n .given .1) at (at-array-items .array-items .ensures)) .0 .took .ready
 
-same-length : tie.Need-same-length
-same-length c = search needs
-
 returns : tie.Need-returns
 returns c =
     let at-r = c .before in
@@ -44,9 +26,6 @@ returns c =
     let c9 = at-array-items .before .before .before .before in
     let args = c9 .before .before .before .before .args in
     array-refused (args .text .now) (args .c) _ _ (rw (at-r .r .given .1) at (at-array-items .array-items .ensures))
-
-same-length-2 : tie.Need-same-length-2
-same-length-2 c = search needs
 
 returns-2 : tie.Need-returns-2
 returns-2 c =
@@ -78,16 +57,5 @@ returns-2 c =
 
 pub array-value-spec : {M : Type 1} → statement M
 array-value-spec =
-    tie.close
-    (tie.spec
-    put-byte-requires
-    add-array-items
-    array-items-requires
-    enum-known-r
-    enum-known-n
-    patch-count-requires
-    leave-group-requires
-    same-length
-    returns
-    same-length-2
-    returns-2)
+    tie.close (tie.spec (λ c κs. search needs) (λ c. search needs) array-items-requires (λ c. search needs) (λ c. search needs)
+    (λ c κs. search needs) leave-group-requires (λ c. search needs) returns (λ c. search needs) returns-2)

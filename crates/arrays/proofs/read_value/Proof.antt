@@ -4,39 +4,12 @@ use Rattle.arrays.proofs.ArrayLaws.{array-held, mark-unseen, scalar-hel
 use Rattle.arrays.proofs.read_value.Statement.{statement}
 use Rattle.arrays.proofs.read_value.Tie as tie
 
-mark-requires : tie.Need-mark-requires
-mark-requires c κs = search needs
-
-enum-known-m : tie.Need-enum-known-m
-enum-known-m c = search needs
-
 array-value-requires : tie.Need-array-value-requires
 array-value-requires c κs =
     let at-m = c .before .before in
     let at-mark = at-m .before .before in
     let start = at-mark .before .before .before in
     ((rw (at-m .m .given .1) at (at-mark .mark .ensures)) .ready, start .pre .1)
-
-enum-known-r : tie.Need-enum-known-r
-enum-known-r c = search needs
-
-enum-known-n : tie.Need-enum-known-n
-enum-known-n c = search needs
-
-enum-told : tie.Need-enum-told
-enum-told c = search needs
-
-parse-float-requires : tie.Need-parse-float-requires
-parse-float-requires c κs = search needs
-
-enum-known-r-2 : tie.Need-enum-known-r-2
-enum-known-r-2 c = search needs
-
-enum-known-x : tie.Need-enum-known-x
-enum-known-x c = search needs
-
-same-length : tie.Need-same-length
-same-length c = search needs
 
 returns : tie.Need-returns
 returns c =
@@ -45,9 +18,6 @@ returns c =
     let at-m = at-array-value .before .before .before in
     let at-mark = at-m .before .before in
     value-refused (rw (at-m .m .given .1) at (at-mark .mark .ensures)) (rw (at-r .r .given .1) at (at-array-value .array-value .ensures))
-
-same-length-2 : tie.Need-same-length-2
-same-length-2 c = search needs
 
 returns-2 : tie.Need-returns-2
 returns-2 c =
@@ -81,20 +51,6 @@ returns-4 c =
 
 pub read-value-spec : {M : Type 1} → statement M
 read-value-spec =
-    tie.close
-    (tie.spec
-    mark-requires
-    enum-known-m
-    array-value-requires
-    enum-known-r
-    enum-known-n
-    enum-told
-    parse-float-requires
-    enum-known-r-2
-    enum-known-x
-    same-length
-    returns
-    same-length-2
-    returns-2
-    returns-3
-    returns-4)
+    tie.close (tie.spec (λ c κs. search needs) (λ c. search needs) array-value-requires (λ c. search needs) (λ c. search needs)
+    (λ c. search needs) (λ c κs. search needs) (λ c. search needs) (λ c. search needs) (λ c. search needs) returns (λ c. search needs)
+    returns-2 returns-3 returns-4)

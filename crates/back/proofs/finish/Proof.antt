@@ -9,23 +9,11 @@ use borrow.Author.Needs.{needs}
 use Rattle.back.proofs.finish.Statement.{statement}
 use Rattle.back.proofs.finish.Tie as tie
 
-refused-requires : tie.Need-refused-requires
-refused-requires c κs = search needs
-
-same-length : tie.Need-same-length
-same-length c = search needs
-
 returns : tie.Need-returns
 returns c =
     let at-refused = c .before .before in
     let at-if1 = at-refused .before .before in
     λ start x l w. at-refused .refused .ensures ∙ unwritable _ _ _ x l w (was-false _ (at-if1 .if1 .taken))
-
-clear-requires : tie.Need-clear-requires
-clear-requires c κs = search needs
-
-same-length-2 : tie.Need-same-length-2
-same-length-2 c = search needs
 
 returns-2 : tie.Need-returns-2
 returns-2 c =
@@ -34,15 +22,6 @@ returns-2 c =
     let at-if1 = at-if2 .before in
     λ start x l w. rw (at-clear .clear .ensures, sub-zero) (nothing-there _ _ _ x l w (was-true _ (at-if1 .if1 .left)) (at-if2 .if2 .taken))
 
-sub-length : tie.Need-sub-length
-sub-length c = search needs
-
-refused-requires-2 : tie.Need-refused-requires-2
-refused-requires-2 c κs = search needs
-
-same-length-3 : tie.Need-same-length-3
-same-length-3 c = search needs
-
 returns-3 : tie.Need-returns-3
 returns-3 c =
     let at-refused2 = c .before .before in
@@ -50,12 +29,6 @@ returns-3 c =
     let at-if1 = at-if3 .before .before in
     λ start x l w. at-refused2 .refused2 .ensures
     ∙ too-long _ _ _ x l w (was-true _ (at-if1 .if1 .left)) (omega (arith, at-if3 .if3 .taken))
-
-refused-requires-3 : tie.Need-refused-requires-3
-refused-requires-3 c κs = search needs
-
-same-length-4 : tie.Need-same-length-4
-same-length-4 c = search needs
 
 returns-4 : tie.Need-returns-4
 returns-4 c =
@@ -66,12 +39,6 @@ returns-4 c =
     let at-if1 = at-if2 .before in
     λ start x l w. at-refused3 .refused3 .ensures
     ∙ no-space _ _ _ x l w (was-true _ (at-if1 .if1 .left)) (omega (arith, at-if3 .if3 .left)) (at-if2 .if2 .left) (at-if4 .if4 .taken)
-
-clear-requires-2 : tie.Need-clear-requires-2
-clear-requires-2 c κs = search needs
-
-same-length-5 : tie.Need-same-length-5
-same-length-5 c = search needs
 
 returns-5 : tie.Need-returns-5
 returns-5 c =
@@ -86,21 +53,6 @@ returns-5 c =
 
 pub finish-spec : {M : Type 1} → statement M
 finish-spec =
-    tie.close
-    (tie.spec
-    refused-requires
-    same-length
-    returns
-    clear-requires
-    same-length-2
-    returns-2
-    sub-length
-    refused-requires-2
-    same-length-3
-    returns-3
-    refused-requires-3
-    same-length-4
-    returns-4
-    clear-requires-2
-    same-length-5
-    returns-5)
+    tie.close (tie.spec (λ c κs. search needs) (λ c. search needs) returns (λ c κs. search needs) (λ c. search needs) returns-2
+    (λ c. search needs) (λ c κs. search needs) (λ c. search needs) returns-3 (λ c κs. search needs) (λ c. search needs) returns-4
+    (λ c κs. search needs) (λ c. search needs) returns-5)

@@ -4,14 +4,8 @@ use borrow.Author.Needs.{needs}
 use Rattle.back.proofs.refused.Statement.{statement}
 use Rattle.back.proofs.refused.Tie as tie
 
-clear-requires : tie.Need-clear-requires
-clear-requires c κs = search needs
-
-same-length : tie.Need-same-length
-same-length c = search needs
-
 returns : tie.Need-returns
 returns c = rw (c .before .before .clear .ensures, sub-zero)
 
 pub refused-spec : {M : Type 1} → statement M
-refused-spec = tie.close (tie.spec clear-requires same-length returns)
+refused-spec = tie.close (tie.spec (λ c κs. search needs) (λ c. search needs) returns)

@@ -228,21 +228,12 @@ parse-stagger-calls t = (
   parse-block.Post,
 )
 
-nodes-step-ends-requires : (t : ℕ) → of.Lts-nodes_step.Need-ends-requires (nodes-step-calls t) (nodes-step-at t) nodes-step.Post
-nodes-step-ends-requires t c κs = search needs
-
 nodes-step-returns : (t : ℕ) → of.Lts-nodes_step.Need-returns (nodes-step-calls t) (nodes-step-at t) nodes-step.Post
 nodes-step-returns t c =
     let at-ends = c .before in
     let start = at-ends .before .before .before .before in
     let r = start .pre .1 .ready in
     step-end _ _ _ r (sym (at-ends .ends .ensures (start .args .text .now) r) ∙ c .if1 .taken)
-
-nodes-step-sees-requires : (t : ℕ) → of.Lts-nodes_step.Need-sees-requires (nodes-step-calls t) (nodes-step-at t) nodes-step.Post
-nodes-step-sees-requires t c κs = search needs
-
-nodes-step-advance-requires : (t : ℕ) → of.Lts-nodes_step.Need-advance-requires (nodes-step-calls t) (nodes-step-at t) nodes-step.Post
-nodes-step-advance-requires t c κs = search needs
 
 nodes-step-returns-2 : (t : ℕ) → of.Lts-nodes_step.Need-returns-2 (nodes-step-calls t) (nodes-step-at t) nodes-step.Post
 nodes-step-returns-2 t c =
@@ -255,18 +246,6 @@ nodes-step-returns-2 t c =
     let f = sym (at-sees .sees .ensures (start .args .text .now) r) ∙ c .before .if2 .taken in
     step-pass _ _ (start .args .t) r e f (c .advance .ensures)
 
-nodes-step-parse-node-requires : (t : ℕ) → of.Lts-nodes_step.Need-parse-node-requires (nodes-step-calls t) (nodes-step-at t) nodes-step.Post
-nodes-step-parse-node-requires t c κs = search needs
-
-nodes-step-enum-known-r : (t : ℕ) → of.Lts-nodes_step.Need-enum-known-r (nodes-step-calls t) (nodes-step-at t) nodes-step.Post
-nodes-step-enum-known-r t c = search needs
-
-nodes-step-enum-known-end : (t : ℕ) → of.Lts-nodes_step.Need-enum-known-end (nodes-step-calls t) (nodes-step-at t) nodes-step.Post
-nodes-step-enum-known-end t c = search needs
-
-nodes-step-add-t22 : (t : ℕ) → of.Lts-nodes_step.Need-add-t22 (nodes-step-calls t) (nodes-step-at t) nodes-step.Post
-nodes-step-add-t22 t c = search needs
-
 nodes-step-add-t23 : (t : ℕ) → of.Lts-nodes_step.Need-add-t23 (nodes-step-calls t) (nodes-step-at t) nodes-step.Post
 nodes-step-add-t23 t c =
     let at-end = c .before .before .before in
@@ -276,9 +255,6 @@ nodes-step-add-t23 t c =
     let pre = c15 .before .pre in
     let h = rw (at-end .end .given .1) at (at-parse-node .parse-node .ensures) in
     omega (arith, h .few, pre .1 .few, h .went .took .ready .high, pre .1 .reached .short)
-
-nodes-step-same-length : (t : ℕ) → of.Lts-nodes_step.Need-same-length (nodes-step-calls t) (nodes-step-at t) nodes-step.Post
-nodes-step-same-length t c = search needs
 
 nodes-step-returns-3 : (t : ℕ) → of.Lts-nodes_step.Need-returns-3 (nodes-step-calls t) (nodes-step-at t) nodes-step.Post
 nodes-step-returns-3 t c =
@@ -295,9 +271,6 @@ nodes-step-returns-3 t c =
     let f = sym (at-sees .sees .ensures (args .text .now) r) ∙ at-if2 .if2 .left in
     step-refused (args .sheet .now) (args .depth) (args .t) r e f (rw (at-r .r .given .1) at (at-parse-node .parse-node .ensures))
 
-nodes-step-same-length-2 : (t : ℕ) → of.Lts-nodes_step.Need-same-length-2 (nodes-step-calls t) (nodes-step-at t) nodes-step.Post
-nodes-step-same-length-2 t c = search needs
-
 nodes-step-returns-4 : (t : ℕ) → of.Lts-nodes_step.Need-returns-4 (nodes-step-calls t) (nodes-step-at t) nodes-step.Post
 nodes-step-returns-4 t c =
     let at-end = c .before .before .before in
@@ -313,19 +286,6 @@ nodes-step-returns-4 t c =
     let f = sym (at-sees .sees .ensures (args .text .now) r) ∙ at-if2 .if2 .left in
     step-node (args .sheet .now) (args .depth) (args .t) r e f (rw (at-end .end .given .1) at (at-parse-node .parse-node .ensures))
 
-parse-block-open-block-requires : (t : ℕ)
-    → of.Lts-parse_block.Need-open-block-requires (parse-block-calls t) (parse-block-at t) parse-block.Post
-parse-block-open-block-requires t c κs = search needs
-
-parse-block-enum-known-r : (t : ℕ) → of.Lts-parse_block.Need-enum-known-r (parse-block-calls t) (parse-block-at t) parse-block.Post
-parse-block-enum-known-r t c = search needs
-
-parse-block-enum-known-m : (t : ℕ) → of.Lts-parse_block.Need-enum-known-m (parse-block-calls t) (parse-block-at t) parse-block.Post
-parse-block-enum-known-m t c = search needs
-
-parse-block-add-parse-nodes : (t : ℕ) → of.Lts-parse_block.Need-add-parse-nodes (parse-block-calls t) (parse-block-at t) parse-block.Post
-parse-block-add-parse-nodes t c = search needs
-
 parse-block-sub-parse-nodes : (t : ℕ) → of.Lts-parse_block.Need-sub-parse-nodes (parse-block-calls t) (parse-block-at t) parse-block.Post
 parse-block-sub-parse-nodes t c =
     let at-m = c .before .before in
@@ -340,12 +300,6 @@ parse-block-parse-nodes-requires t c κs =
     let pre = at-open-block .before .before .before .pre in
     let z = rw (at-m .m .given .1) at (at-open-block .open-block .ensures) in
     (omega (arith, pre .0, z .0 .low, z .0 .ready .high), (z .0 .ready, block-reached (z .0) _ (z .1) (pre .1 .1)))
-
-parse-block-enum-known-r-2 : (t : ℕ) → of.Lts-parse_block.Need-enum-known-r-2 (parse-block-calls t) (parse-block-at t) parse-block.Post
-parse-block-enum-known-r-2 t c = search needs
-
-parse-block-enum-known-t : (t : ℕ) → of.Lts-parse_block.Need-enum-known-t (parse-block-calls t) (parse-block-at t) parse-block.Post
-parse-block-enum-known-t t c = search needs
 
 parse-block-patch-count-requires : (t : ℕ)
     → of.Lts-parse_block.Need-patch-count-requires (parse-block-calls t) (parse-block-at t) parse-block.Post
@@ -377,9 +331,6 @@ parse-block-add-t21 t c =
 parse-block-returns : (t : ℕ) → of.Lts-parse_block.Need-returns (parse-block-calls t) (parse-block-at t) parse-block.Post
 parse-block-returns t c = rw (c .before .r .given .1) at (c .before .before .before .open-block .ensures)
 
-parse-block-same-length : (t : ℕ) → of.Lts-parse_block.Need-same-length (parse-block-calls t) (parse-block-at t) parse-block.Post
-parse-block-same-length t c = search needs
-
 parse-block-returns-2 : (t : ℕ) → of.Lts-parse_block.Need-returns-2 (parse-block-calls t) (parse-block-at t) parse-block.Post
 parse-block-returns-2 t c =
     let at-r2 = c .before in
@@ -388,9 +339,6 @@ parse-block-returns-2 t c =
     let at-open-block = at-m .before .before in
     let z = rw (at-m .m .given .1) at (at-open-block .open-block .ensures) in
     inside-refused (z .0) _ (z .1) (rw (at-r2 .r2 .given .1) at (at-parse-nodes .parse-nodes .ensures))
-
-parse-block-same-length-2 : (t : ℕ) → of.Lts-parse_block.Need-same-length-2 (parse-block-calls t) (parse-block-at t) parse-block.Post
-parse-block-same-length-2 t c = search needs
 
 parse-block-returns-3 : (t : ℕ) → of.Lts-parse_block.Need-returns-3 (parse-block-calls t) (parse-block-at t) parse-block.Post
 parse-block-returns-3 t c =
@@ -403,16 +351,6 @@ parse-block-returns-3 t c =
     block-went (z .0) _ (z .1) (rw (at-t .t .given .1) at (at-parse-nodes .parse-nodes .ensures)) (at-patch-count .patch-count .ensures)
     (c .before .leave-group .ensures)
 
-parse-group-group-head-requires : (t : ℕ)
-    → of.Lts-parse_group.Need-group-head-requires (parse-group-calls t) (parse-group-at t) parse-group.Post
-parse-group-group-head-requires t c κs = search needs
-
-parse-group-enum-known-r : (t : ℕ) → of.Lts-parse_group.Need-enum-known-r (parse-group-calls t) (parse-group-at t) parse-group.Post
-parse-group-enum-known-r t c = search needs
-
-parse-group-enum-known-count : (t : ℕ) → of.Lts-parse_group.Need-enum-known-count (parse-group-calls t) (parse-group-at t) parse-group.Post
-parse-group-enum-known-count t c = search needs
-
 parse-group-parse-block-requires : (t : ℕ)
     → of.Lts-parse_group.Need-parse-block-requires (parse-group-calls t) (parse-group-at t) parse-group.Post
 parse-group-parse-block-requires t c κs =
@@ -422,18 +360,12 @@ parse-group-parse-block-requires t c κs =
     let h = rw (at-count .count .given .1) at (at-group-head .group-head .ensures) in
     (omega (arith, pre .0, h .took .low), (h .took .ready, head-counted h (pre .1 .1)))
 
-parse-group-same-length : (t : ℕ) → of.Lts-parse_group.Need-same-length (parse-group-calls t) (parse-group-at t) parse-group.Post
-parse-group-same-length t c = search needs
-
 parse-group-returns : (t : ℕ) → of.Lts-parse_group.Need-returns (parse-group-calls t) (parse-group-at t) parse-group.Post
 parse-group-returns t c =
     let at-r = c .before in
     let at-group-head = at-r .before .before .before .before in
     let args = at-group-head .before .before .before .before .args in
     head-refused (args .text .now) (args .c) parseGroup (args .depth) (rw (at-r .r .given .1) at (at-group-head .group-head .ensures))
-
-parse-group-same-length-2 : (t : ℕ) → of.Lts-parse_group.Need-same-length-2 (parse-group-calls t) (parse-group-at t) parse-group.Post
-parse-group-same-length-2 t c = search needs
 
 parse-group-returns-2 : (t : ℕ) → of.Lts-parse_group.Need-returns-2 (parse-group-calls t) (parse-group-at t) parse-group.Post
 parse-group-returns-2 t c =
@@ -442,18 +374,6 @@ parse-group-returns-2 t c =
     let at-group-head = at-count .before .before .before .before in
     head-block (rw (at-count .count .given .1) at (at-group-head .group-head .ensures)) _ _ (at-parse-block .parse-block .result)
     (at-parse-block .parse-block .ensures)
-
-parse-node-begin-node-requires : (t : ℕ) → of.Lts-parse_node.Need-begin-node-requires (parse-node-calls t) (parse-node-at t) parse-node.Post
-parse-node-begin-node-requires t c κs = search needs
-
-parse-node-enum-known-r : (t : ℕ) → of.Lts-parse_node.Need-enum-known-r (parse-node-calls t) (parse-node-at t) parse-node.Post
-parse-node-enum-known-r t c = search needs
-
-parse-node-enum-known-q : (t : ℕ) → of.Lts-parse_node.Need-enum-known-q (parse-node-calls t) (parse-node-at t) parse-node.Post
-parse-node-enum-known-q t c = search needs
-
-parse-node-enum-known-i : (t : ℕ) → of.Lts-parse_node.Need-enum-known-i (parse-node-calls t) (parse-node-at t) parse-node.Post
-parse-node-enum-known-i t c = search needs
 
 parse-node-parse-sequence-requires : (t : ℕ)
     → of.Lts-parse_node.Need-parse-sequence-requires (parse-node-calls t) (parse-node-at t) parse-node.Post
@@ -491,9 +411,6 @@ parse-node-parse-stagger-requires t c κs =
     let g = rw (at-i .i .given .1) at (at-begin-node .begin-node .ensures) in
     (omega (arith, pre .0, g .low, g .ready .high), (g .ready, keyword-headed g (pre .1 .1)))
 
-parse-node-same-length : (t : ℕ) → of.Lts-parse_node.Need-same-length (parse-node-calls t) (parse-node-at t) parse-node.Post
-parse-node-same-length t c = search needs
-
 parse-node-returns : (t : ℕ) → of.Lts-parse_node.Need-returns (parse-node-calls t) (parse-node-at t) parse-node.Post
 parse-node-returns t c =
     let at-r = c .before in
@@ -501,18 +418,12 @@ parse-node-returns t c =
     let start = at-begin-node .before .before .before .before in
     (rw (at-r .r .given .1) at (at-begin-node .begin-node .ensures)) (block (start .args .depth))
 
-parse-node-same-length-2 : (t : ℕ) → of.Lts-parse_node.Need-same-length-2 (parse-node-calls t) (parse-node-at t) parse-node.Post
-parse-node-same-length-2 t c = search needs
-
 parse-node-returns-2 : (t : ℕ) → of.Lts-parse_node.Need-returns-2 (parse-node-calls t) (parse-node-at t) parse-node.Post
 parse-node-returns-2 t c =
     let at-q = c .before in
     let at-begin-node = at-q .before .before .before .before in
     let start = at-begin-node .before .before .before .before in
     node-leaf (start .args .depth) (rw (at-q .q .given .1) at (at-begin-node .begin-node .ensures))
-
-parse-node-same-length-3 : (t : ℕ) → of.Lts-parse_node.Need-same-length-3 (parse-node-calls t) (parse-node-at t) parse-node.Post
-parse-node-same-length-3 t c = search needs
 
 parse-node-returns-3 : (t : ℕ) → of.Lts-parse_node.Need-returns-3 (parse-node-calls t) (parse-node-at t) parse-node.Post
 unfolding containers
@@ -525,9 +436,6 @@ parse-node-returns-3 t c =
       (λ z. absurd (omega arith), (λ z. absurd (omega arith), (λ z. absurd (omega arith), tt))),
     )
 
-parse-node-same-length-4 : (t : ℕ) → of.Lts-parse_node.Need-same-length-4 (parse-node-calls t) (parse-node-at t) parse-node.Post
-parse-node-same-length-4 t c = search needs
-
 parse-node-returns-4 : (t : ℕ) → of.Lts-parse_node.Need-returns-4 (parse-node-calls t) (parse-node-at t) parse-node.Post
 unfolding containers
 parse-node-returns-4 t c =
@@ -539,9 +447,6 @@ parse-node-returns-4 t c =
       (λ z. at-parse-parallel .parse-parallel .ensures, (λ z. absurd (omega arith), (λ z. absurd (omega arith), tt))),
     )
 
-parse-node-same-length-5 : (t : ℕ) → of.Lts-parse_node.Need-same-length-5 (parse-node-calls t) (parse-node-at t) parse-node.Post
-parse-node-same-length-5 t c = search needs
-
 parse-node-returns-5 : (t : ℕ) → of.Lts-parse_node.Need-returns-5 (parse-node-calls t) (parse-node-at t) parse-node.Post
 unfolding containers
 parse-node-returns-5 t c =
@@ -550,9 +455,6 @@ parse-node-returns-5 t c =
     let at-begin-node = at-i .before .before .before .before in
     node-container (rw (at-i .i .given .1) at (at-begin-node .begin-node .ensures)) _ _ (at-parse-group .parse-group .result)
     (λ z. absurd (omega arith), (λ z. absurd (omega arith), (λ z. at-parse-group .parse-group .ensures, (λ z. absurd (omega arith), tt))))
-
-parse-node-same-length-6 : (t : ℕ) → of.Lts-parse_node.Need-same-length-6 (parse-node-calls t) (parse-node-at t) parse-node.Post
-parse-node-same-length-6 t c = search needs
 
 parse-node-returns-6 : (t : ℕ) → of.Lts-parse_node.Need-returns-6 (parse-node-calls t) (parse-node-at t) parse-node.Post
 unfolding containers
@@ -589,10 +491,6 @@ parse-nodes-nodes-step-requires t c κs =
     let s = growing-standing (c .before .loop .inv) (pre .1 .1) in
     (omega (arith, pre .0, c .before .loop .inv .listed .low), s)
 
-parse-nodes-enum-known-r : (t : ℕ)
-    → of.Lts-parse_nodes.Need-enum-known-r (parse-nodes-calls t) (parse-nodes-at t) parse-nodes.Post parse-nodes-Inv-loop parse-nodes-μ-loop
-parse-nodes-enum-known-r t c = search needs
-
 parse-nodes-same-length : (t : ℕ)
     → of.Lts-parse_nodes.Need-same-length (parse-nodes-calls t) (parse-nodes-at t) parse-nodes.Post parse-nodes-Inv-loop parse-nodes-μ-loop
 parse-nodes-same-length t c =
@@ -615,10 +513,6 @@ parse-nodes-returns t c =
     let at-loop = at-nodes-step .before .before in
     growing-refused (at-loop .loop .inv) (rw (at-r .r .given .1) at (at-nodes-step .nodes-step .ensures))
 
-parse-nodes-enum-known-u : (t : ℕ)
-    → of.Lts-parse_nodes.Need-enum-known-u (parse-nodes-calls t) (parse-nodes-at t) parse-nodes.Post parse-nodes-Inv-loop parse-nodes-μ-loop
-parse-nodes-enum-known-u t c = search needs
-
 parse-nodes-same-length-2 : (t : ℕ)
     → of.Lts-parse_nodes.Need-same-length-2 (parse-nodes-calls t) (parse-nodes-at t) parse-nodes.Post parse-nodes-Inv-loop
     parse-nodes-μ-loop
@@ -635,11 +529,6 @@ parse-nodes-returns-2 t c =
     let at-nodes-step = at-u .before .before .before .before in
     let at-loop = at-nodes-step .before .before in
     growing-end (at-loop .loop .inv) (rw (at-u .u .given .1) at (at-nodes-step .nodes-step .ensures))
-
-parse-nodes-enum-known-u-2 : (t : ℕ)
-    → of.Lts-parse_nodes.Need-enum-known-u-2 (parse-nodes-calls t) (parse-nodes-at t) parse-nodes.Post parse-nodes-Inv-loop
-    parse-nodes-μ-loop
-parse-nodes-enum-known-u-2 t c = search needs
 
 parse-nodes-loop-less : (t : ℕ)
     → of.Lts-parse_nodes.Need-loop-less (parse-nodes-calls t) (parse-nodes-at t) parse-nodes.Post parse-nodes-Inv-loop parse-nodes-μ-loop
@@ -664,10 +553,6 @@ parse-parallel-parse-block-requires t c κs =
     let pre = start .pre in
     (omega (arith, pre .0), (pre .1 .0, head-counted (parallel-went (start .args .sheet .now) (start .args .out) (pre .1 .0)) (pre .1 .1)))
 
-parse-parallel-same-length : (t : ℕ)
-    → of.Lts-parse_parallel.Need-same-length (parse-parallel-calls t) (parse-parallel-at t) parse-parallel.Post
-parse-parallel-same-length t c = search needs
-
 parse-parallel-returns : (t : ℕ) → of.Lts-parse_parallel.Need-returns (parse-parallel-calls t) (parse-parallel-at t) parse-parallel.Post
 parse-parallel-returns t c =
     let at-parse-block = c .before .before in
@@ -682,28 +567,12 @@ parse-sequence-parse-block-requires t c κs =
     let pre = start .pre in
     (omega (arith, pre .0), (pre .1 .0, head-counted (sequence-went (start .args .sheet .now) (start .args .out) (pre .1 .0)) (pre .1 .1)))
 
-parse-sequence-same-length : (t : ℕ)
-    → of.Lts-parse_sequence.Need-same-length (parse-sequence-calls t) (parse-sequence-at t) parse-sequence.Post
-parse-sequence-same-length t c = search needs
-
 parse-sequence-returns : (t : ℕ) → of.Lts-parse_sequence.Need-returns (parse-sequence-calls t) (parse-sequence-at t) parse-sequence.Post
 parse-sequence-returns t c =
     let at-parse-block = c .before .before in
     let start = at-parse-block .before .before .before .before in
     head-block (sequence-went _ _ (start .pre .1 .0)) _ _ (at-parse-block .parse-block .result)
     (at-parse-block .parse-block .ensures)
-
-parse-stagger-stagger-head-requires : (t : ℕ)
-    → of.Lts-parse_stagger.Need-stagger-head-requires (parse-stagger-calls t) (parse-stagger-at t) parse-stagger.Post
-parse-stagger-stagger-head-requires t c κs = search needs
-
-parse-stagger-enum-known-r : (t : ℕ)
-    → of.Lts-parse_stagger.Need-enum-known-r (parse-stagger-calls t) (parse-stagger-at t) parse-stagger.Post
-parse-stagger-enum-known-r t c = search needs
-
-parse-stagger-enum-known-count : (t : ℕ)
-    → of.Lts-parse_stagger.Need-enum-known-count (parse-stagger-calls t) (parse-stagger-at t) parse-stagger.Post
-parse-stagger-enum-known-count t c = search needs
 
 parse-stagger-parse-block-requires : (t : ℕ)
     → of.Lts-parse_stagger.Need-parse-block-requires (parse-stagger-calls t) (parse-stagger-at t) parse-stagger.Post
@@ -714,19 +583,12 @@ parse-stagger-parse-block-requires t c κs =
     let h = rw (at-count .count .given .1) at (at-stagger-head .stagger-head .ensures) in
     (omega (arith, pre .0, h .took .low), (h .took .ready, head-counted h (pre .1 .1)))
 
-parse-stagger-same-length : (t : ℕ) → of.Lts-parse_stagger.Need-same-length (parse-stagger-calls t) (parse-stagger-at t) parse-stagger.Post
-parse-stagger-same-length t c = search needs
-
 parse-stagger-returns : (t : ℕ) → of.Lts-parse_stagger.Need-returns (parse-stagger-calls t) (parse-stagger-at t) parse-stagger.Post
 parse-stagger-returns t c =
     let at-r = c .before in
     let at-stagger-head = at-r .before .before .before .before in
     let args = at-stagger-head .before .before .before .before .args in
     head-refused (args .text .now) (args .c) parseStagger (args .depth) (rw (at-r .r .given .1) at (at-stagger-head .stagger-head .ensures))
-
-parse-stagger-same-length-2 : (t : ℕ)
-    → of.Lts-parse_stagger.Need-same-length-2 (parse-stagger-calls t) (parse-stagger-at t) parse-stagger.Post
-parse-stagger-same-length-2 t c = search needs
 
 parse-stagger-returns-2 : (t : ℕ) → of.Lts-parse_stagger.Need-returns-2 (parse-stagger-calls t) (parse-stagger-at t) parse-stagger.Post
 parse-stagger-returns-2 t c =
@@ -739,115 +601,30 @@ parse-stagger-returns-2 t c =
 pub +nodes-step+parse-block+parse-group+parse-node+parse-nodes+parse-parallel+parse-sequence+parse-stagger-spec :
     {M : Type 1} → statement M
 +nodes-step+parse-block+parse-group+parse-node+parse-nodes+parse-parallel+parse-sequence+parse-stagger-spec =
-    close
-    μ-nodes-step
-    μ-parse-block
-    μ-parse-group
-    μ-parse-node
-    μ-parse-nodes
-    μ-parse-parallel
-    μ-parse-sequence
-    μ-parse-stagger
-    (λ t. of.Lts-nodes_step.spec (nodes-step-calls t) (nodes-step-at t)
-    nodes-step.Post
-    (nodes-step-ends-requires t)
-    (nodes-step-returns t)
-    (nodes-step-sees-requires t)
-    (nodes-step-advance-requires t)
-    (nodes-step-returns-2 t)
-    (nodes-step-parse-node-requires t)
-    (nodes-step-enum-known-r t)
-    (nodes-step-enum-known-end t)
-    (nodes-step-add-t22 t)
-    (nodes-step-add-t23 t)
-    (nodes-step-same-length t)
-    (nodes-step-returns-3 t)
-    (nodes-step-same-length-2 t)
-    (nodes-step-returns-4 t))
-    (λ t. of.Lts-parse_block.spec (parse-block-calls t) (parse-block-at t)
-    parse-block.Post
-    (parse-block-open-block-requires t)
-    (parse-block-enum-known-r t)
-    (parse-block-enum-known-m t)
-    (parse-block-add-parse-nodes t)
-    (parse-block-sub-parse-nodes t)
-    (parse-block-parse-nodes-requires t)
-    (parse-block-enum-known-r-2 t)
-    (parse-block-enum-known-t t)
-    (parse-block-patch-count-requires t)
-    (parse-block-leave-group-requires t)
-    (parse-block-add-t21 t)
-    (parse-block-returns t)
-    (parse-block-same-length t)
-    (parse-block-returns-2 t)
-    (parse-block-same-length-2 t)
-    (parse-block-returns-3 t))
-    (λ t. of.Lts-parse_group.spec (parse-group-calls t) (parse-group-at t)
-    parse-group.Post
-    (parse-group-group-head-requires t)
-    (parse-group-enum-known-r t)
-    (parse-group-enum-known-count t)
-    (parse-group-parse-block-requires t)
-    (parse-group-same-length t)
-    (parse-group-returns t)
-    (parse-group-same-length-2 t)
+    close μ-nodes-step μ-parse-block μ-parse-group μ-parse-node μ-parse-nodes μ-parse-parallel μ-parse-sequence μ-parse-stagger
+    (λ t. of.Lts-nodes_step.spec (nodes-step-calls t) (nodes-step-at t) nodes-step.Post (λ c κs. search needs) (nodes-step-returns t)
+    (λ c κs. search needs) (λ c κs. search needs) (nodes-step-returns-2 t) (λ c κs. search needs) (λ c. search needs) (λ c. search needs)
+    (λ c. search needs) (nodes-step-add-t23 t) (λ c. search needs) (nodes-step-returns-3 t) (λ c. search needs) (nodes-step-returns-4 t))
+    (λ t. of.Lts-parse_block.spec (parse-block-calls t) (parse-block-at t) parse-block.Post (λ c κs. search needs) (λ c. search needs)
+    (λ c. search needs) (λ c. search needs) (parse-block-sub-parse-nodes t) (parse-block-parse-nodes-requires t) (λ c. search needs)
+    (λ c. search needs) (parse-block-patch-count-requires t) (parse-block-leave-group-requires t) (parse-block-add-t21 t)
+    (parse-block-returns t) (λ c. search needs) (parse-block-returns-2 t) (λ c. search needs) (parse-block-returns-3 t))
+    (λ t. of.Lts-parse_group.spec (parse-group-calls t) (parse-group-at t) parse-group.Post (λ c κs. search needs) (λ c. search needs)
+    (λ c. search needs) (parse-group-parse-block-requires t) (λ c. search needs) (parse-group-returns t) (λ c. search needs)
     (parse-group-returns-2 t))
-    (λ t. of.Lts-parse_node.spec (parse-node-calls t) (parse-node-at t)
-    parse-node.Post
-    (parse-node-begin-node-requires t)
-    (parse-node-enum-known-r t)
-    (parse-node-enum-known-q t)
-    (parse-node-enum-known-i t)
-    (parse-node-parse-sequence-requires t)
-    (parse-node-parse-parallel-requires t)
-    (parse-node-parse-group-requires t)
-    (parse-node-parse-stagger-requires t)
-    (parse-node-same-length t)
-    (parse-node-returns t)
-    (parse-node-same-length-2 t)
-    (parse-node-returns-2 t)
-    (parse-node-same-length-3 t)
-    (parse-node-returns-3 t)
-    (parse-node-same-length-4 t)
-    (parse-node-returns-4 t)
-    (parse-node-same-length-5 t)
-    (parse-node-returns-5 t)
-    (parse-node-same-length-6 t)
-    (parse-node-returns-6 t))
-    (λ t. of.Lts-parse_nodes.spec (parse-nodes-calls t) (parse-nodes-at t)
-    parse-nodes.Post
-    parse-nodes-Inv-loop
-    parse-nodes-μ-loop
-    (parse-nodes-loop-holds t)
-    (parse-nodes-nodes-step-requires t)
-    (parse-nodes-enum-known-r t)
-    (parse-nodes-same-length t)
-    (parse-nodes-returns t)
-    (parse-nodes-enum-known-u t)
-    (parse-nodes-same-length-2 t)
-    (parse-nodes-returns-2 t)
-    (parse-nodes-enum-known-u-2 t)
-    (parse-nodes-loop-less t)
+    (λ t. of.Lts-parse_node.spec (parse-node-calls t) (parse-node-at t) parse-node.Post (λ c κs. search needs) (λ c. search needs)
+    (λ c. search needs) (λ c. search needs) (parse-node-parse-sequence-requires t) (parse-node-parse-parallel-requires t)
+    (parse-node-parse-group-requires t) (parse-node-parse-stagger-requires t) (λ c. search needs) (parse-node-returns t) (λ c. search needs)
+    (parse-node-returns-2 t) (λ c. search needs) (parse-node-returns-3 t) (λ c. search needs) (parse-node-returns-4 t) (λ c. search needs)
+    (parse-node-returns-5 t) (λ c. search needs) (parse-node-returns-6 t))
+    (λ t. of.Lts-parse_nodes.spec (parse-nodes-calls t) (parse-nodes-at t) parse-nodes.Post parse-nodes-Inv-loop parse-nodes-μ-loop
+    (parse-nodes-loop-holds t) (parse-nodes-nodes-step-requires t) (λ c. search needs) (parse-nodes-same-length t) (parse-nodes-returns t)
+    (λ c. search needs) (parse-nodes-same-length-2 t) (parse-nodes-returns-2 t) (λ c. search needs) (parse-nodes-loop-less t)
     (parse-nodes-loop-again t))
-    (λ t. of.Lts-parse_parallel.spec (parse-parallel-calls t) (parse-parallel-at t)
-    parse-parallel.Post
-    (parse-parallel-parse-block-requires t)
-    (parse-parallel-same-length t)
-    (parse-parallel-returns t))
-    (λ t. of.Lts-parse_sequence.spec (parse-sequence-calls t) (parse-sequence-at t)
-    parse-sequence.Post
-    (parse-sequence-parse-block-requires t)
-    (parse-sequence-same-length t)
-    (parse-sequence-returns t))
-    λ t. of.Lts-parse_stagger.spec
-    (stagger-head-reads.Asked, stagger-head-reads.Learnt, parse-block-below t, parse-block.Post)
-    (parse-stagger-at t)
-    parse-stagger.Post
-    (parse-stagger-stagger-head-requires t)
-    (parse-stagger-enum-known-r t)
-    (parse-stagger-enum-known-count t)
-    (parse-stagger-parse-block-requires t)
-    (parse-stagger-same-length t)
-    (parse-stagger-returns t)
-    (parse-stagger-same-length-2 t)
-    (parse-stagger-returns-2 t)
+    (λ t. of.Lts-parse_parallel.spec (parse-parallel-calls t) (parse-parallel-at t) parse-parallel.Post
+    (parse-parallel-parse-block-requires t) (λ c. search needs) (parse-parallel-returns t))
+    (λ t. of.Lts-parse_sequence.spec (parse-sequence-calls t) (parse-sequence-at t) parse-sequence.Post
+    (parse-sequence-parse-block-requires t) (λ c. search needs) (parse-sequence-returns t))
+    λ t. of.Lts-parse_stagger.spec (stagger-head-reads.Asked, stagger-head-reads.Learnt, parse-block-below t, parse-block.Post)
+    (parse-stagger-at t) parse-stagger.Post (λ c κs. search needs) (λ c. search needs) (λ c. search needs)
+    (parse-stagger-parse-block-requires t) (λ c. search needs) (parse-stagger-returns t) (λ c. search needs) (parse-stagger-returns-2 t)

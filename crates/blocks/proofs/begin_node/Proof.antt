@@ -4,15 +4,6 @@ use borrow.Author.Needs.{needs}
 use Rattle.blocks.proofs.begin_node.Statement.{statement}
 use Rattle.blocks.proofs.begin_node.Tie as tie
 
-word-requires : tie.Need-word-requires
-word-requires c κs = search needs
-
-enum-known-p : tie.Need-enum-known-p
-enum-known-p c = search needs
-
-enum-known-word : tie.Need-enum-known-word
-enum-known-word c = search needs
-
 begin-word-requires : tie.Need-begin-word-requires
 begin-word-requires c κs =
     let at-word2 = c .before .before in
@@ -25,9 +16,6 @@ returns c =
     let at-word = c .before .before .before in
     let args = at-word .before .before .before .args in
     no-keyword (args .text .now) (args .c) _ _ (rw (c .before .p .given .1) at (at-word .word .ensures))
-
-same-length : tie.Need-same-length
-same-length c = search needs
 
 returns-2 : tie.Need-returns-2
 returns-2 c =
@@ -49,12 +37,5 @@ returns-2 c =
 
 pub begin-node-spec : {M : Type 1} → statement M
 begin-node-spec =
-    tie.close
-    (tie.spec
-    word-requires
-    enum-known-p
-    enum-known-word
-    begin-word-requires
-    returns
-    same-length
+    tie.close (tie.spec (λ c κs. search needs) (λ c. search needs) (λ c. search needs) begin-word-requires returns (λ c. search needs)
     returns-2)

@@ -5,32 +5,8 @@ use borrow.Author.Needs.{needs}
 use Rattle.blocks.proofs.begin_word.Statement.{statement}
 use Rattle.blocks.proofs.begin_word.Tie as tie
 
-part-requires : tie.Need-part-requires
-part-requires c κs = search needs
-
-keyword-of-requires : tie.Need-keyword-of-requires
-keyword-of-requires c κs = search needs
-
-enum-known-i : tie.Need-enum-known-i
-enum-known-i c = search needs
-
 leaf-kind-requires : tie.Need-leaf-kind-requires
 leaf-kind-requires c κs = leaf-low _ _ (rw (c .before .before .i .given .1) at (c .before .before .before .before .keyword-of .ensures))
-
-put-front-requires : tie.Need-put-front-requires
-put-front-requires c κs = search needs
-
-parse-leaf-requires : tie.Need-parse-leaf-requires
-parse-leaf-requires c κs = search needs
-
-enum-known-r : tie.Need-enum-known-r
-enum-known-r c = search needs
-
-enum-known-q : tie.Need-enum-known-q
-enum-known-q c = search needs
-
-enum-known-i-2 : tie.Need-enum-known-i-2
-enum-known-i-2 c = search needs
 
 add-put-front : tie.Need-add-put-front
 add-put-front c =
@@ -43,18 +19,6 @@ cast-put-front c =
     let at-i2 = c .before .before in
     let at-keyword-of = at-i2 .before .before in
     omega (arith, container-low _ _ (rw (at-i2 .i2 .given .1) at (at-keyword-of .keyword-of .ensures)))
-
-put-front-requires-2 : tie.Need-put-front-requires-2
-put-front-requires-2 c κs = search needs
-
-enum-told : tie.Need-enum-told
-enum-told c = search needs
-
-place-requires : tie.Need-place-requires
-place-requires c κs = search needs
-
-same-length : tie.Need-same-length
-same-length c = search needs
 
 returns : tie.Need-returns
 returns c =
@@ -71,9 +35,6 @@ returns c =
     _ _ _ _ _
     (rw (at-i .i .given .1, at-part .part .ensures) at (at-keyword-of .keyword-of .ensures))
     (rw (at-r .r .given .1) at (at-parse-leaf .parse-leaf .ensures))
-
-same-length-2 : tie.Need-same-length-2
-same-length-2 c = search needs
 
 returns-2 : tie.Need-returns-2
 returns-2 c =
@@ -97,9 +58,6 @@ returns-2 c =
     _ _
     (rw (at-leaf-kind .leaf-kind .ensures) at (at-put-front .put-front .ensures))
     (rw (at-q .q .given .1) at (at-parse-leaf .parse-leaf .ensures))
-
-same-length-3 : tie.Need-same-length-3
-same-length-3 c = search needs
 
 returns-3 : tie.Need-returns-3
 returns-3 c =
@@ -131,26 +89,7 @@ returns-4 c =
 
 pub begin-word-spec : {M : Type 1} → statement M
 begin-word-spec =
-    tie.close
-    (tie.spec
-    part-requires
-    keyword-of-requires
-    enum-known-i
-    leaf-kind-requires
-    put-front-requires
-    parse-leaf-requires
-    enum-known-r
-    enum-known-q
-    enum-known-i-2
-    add-put-front
-    cast-put-front
-    put-front-requires-2
-    enum-told
-    place-requires
-    same-length
-    returns
-    same-length-2
-    returns-2
-    same-length-3
-    returns-3
+    tie.close (tie.spec (λ c κs. search needs) (λ c κs. search needs) (λ c. search needs) leaf-kind-requires (λ c κs. search needs)
+    (λ c κs. search needs) (λ c. search needs) (λ c. search needs) (λ c. search needs) add-put-front cast-put-front (λ c κs. search needs)
+    (λ c. search needs) (λ c κs. search needs) (λ c. search needs) returns (λ c. search needs) returns-2 (λ c. search needs) returns-3
     returns-4)

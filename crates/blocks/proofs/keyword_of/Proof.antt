@@ -7,30 +7,6 @@ use borrow.Author.Needs.{needs}
 use Rattle.blocks.proofs.keyword_of.Statement.{statement}
 use Rattle.blocks.proofs.keyword_of.Tie as tie
 
-slice-aggregate-find : tie.Need-slice-aggregate-find
-slice-aggregate-find c = search needs
-
-find-requires : tie.Need-find-requires
-find-requires c κs = search needs
-
-enum-known-i : tie.Need-enum-known-i
-enum-known-i c = search needs
-
-enum-told : tie.Need-enum-told
-enum-told c = search needs
-
-slice-aggregate-find-2 : tie.Need-slice-aggregate-find-2
-slice-aggregate-find-2 c = search needs
-
-find-requires-2 : tie.Need-find-requires-2
-find-requires-2 c κs = search needs
-
-enum-known-i-2 : tie.Need-enum-known-i-2
-enum-known-i-2 c = search needs
-
-enum-told-2 : tie.Need-enum-told-2
-enum-told-2 c = search needs
-
 returns : tie.Need-returns
 unfolding leaves entries
 returns c =
@@ -60,16 +36,5 @@ returns-3 c =
 
 pub keyword-of-spec : {M : Type 1} → statement M
 keyword-of-spec =
-    tie.close
-    (tie.spec
-    slice-aggregate-find
-    find-requires
-    enum-known-i
-    enum-told
-    slice-aggregate-find-2
-    find-requires-2
-    enum-known-i-2
-    enum-told-2
-    returns
-    returns-2
-    returns-3)
+    tie.close (tie.spec (λ c. search needs) (λ c κs. search needs) (λ c. search needs) (λ c. search needs) (λ c. search needs)
+    (λ c κs. search needs) (λ c. search needs) (λ c. search needs) returns returns-2 returns-3)

@@ -5,18 +5,6 @@ use borrow.Author.Needs.{needs}
 use Rattle.blocks.proofs.open_block.Statement.{statement}
 use Rattle.blocks.proofs.open_block.Tie as tie
 
-mark-requires : tie.Need-mark-requires
-mark-requires c κs = search needs
-
-enum-known-p : tie.Need-enum-known-p
-enum-known-p c = search needs
-
-enum-known-m : tie.Need-enum-known-m
-enum-known-m c = search needs
-
-place-requires : tie.Need-place-requires
-place-requires c κs = search needs
-
 returns : tie.Need-returns
 returns c =
     let at-m = c .before .before .before in
@@ -37,4 +25,4 @@ returns-3 c = (rw (c .before .before .m .given .1) at (c .before .before .before
 
 pub open-block-spec : {M : Type 1} → statement M
 open-block-spec =
-    tie.close (tie.spec mark-requires enum-known-p enum-known-m place-requires returns returns-2 returns-3)
+    tie.close (tie.spec (λ c κs. search needs) (λ c. search needs) (λ c. search needs) (λ c κs. search needs) returns returns-2 returns-3)

@@ -6,15 +6,6 @@ use borrow.Author.Needs.{needs}
 use Rattle.blocks.proofs.stagger_head.Statement.{statement}
 use Rattle.blocks.proofs.stagger_head.Tie as tie
 
-parse-stagger-requires : tie.Need-parse-stagger-requires
-parse-stagger-requires c κs = search needs
-
-enum-known-r : tie.Need-enum-known-r
-enum-known-r c = search needs
-
-enum-known-pattern : tie.Need-enum-known-pattern
-enum-known-pattern c = search needs
-
 put-opt-pattern-requires : tie.Need-put-opt-pattern-requires
 put-opt-pattern-requires c κs =
     let at-pattern = c .before .before in
@@ -42,9 +33,6 @@ put-opt-float-requires c κs =
 returns : tie.Need-returns
 returns c = rw (c .before .r .given .1) at (c .before .before .before .parse-stagger .ensures)
 
-same-length : tie.Need-same-length
-same-length c = search needs
-
 returns-2 : tie.Need-returns-2
 returns-2 c =
     let at-put-opt-float = c .before .before in
@@ -56,13 +44,5 @@ returns-2 c =
 
 pub stagger-head-spec : {M : Type 1} → statement M
 stagger-head-spec =
-    tie.close
-    (tie.spec
-    parse-stagger-requires
-    enum-known-r
-    enum-known-pattern
-    put-opt-pattern-requires
-    put-opt-float-requires
-    returns
-    same-length
-    returns-2)
+    tie.close (tie.spec (λ c κs. search needs) (λ c. search needs) (λ c. search needs) put-opt-pattern-requires put-opt-float-requires
+    returns (λ c. search needs) returns-2)

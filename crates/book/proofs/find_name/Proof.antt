@@ -33,9 +33,6 @@ name-at-requires c κs =
     let pre = c4 .before .pre in
     (pre .0, omega (arith, pre .1))
 
-is-word-requires : tie.Need-is-word-requires Inv-loop μ-loop
-is-word-requires c κs = search needs
-
 returns : tie.Need-returns Inv-loop μ-loop
 returns c xs r h =
     let at-name-at = c .before .before in
@@ -78,15 +75,4 @@ returns-2 c xs r h =
 
 pub find-name-spec : {M : Type 1} → statement M
 find-name-spec =
-    tie.close
-    (tie.spec
-    Inv-loop
-    μ-loop
-    loop-holds
-    name-at-requires
-    is-word-requires
-    returns
-    add-k
-    loop-less
-    loop-again
-    returns-2)
+    tie.close (tie.spec Inv-loop μ-loop loop-holds name-at-requires (λ c κs. search needs) returns add-k loop-less loop-again returns-2)

@@ -51,15 +51,4 @@ returns-2 : tie.Need-returns-2 Inv-loop μ-loop
 returns-2 c xs r h = never-twice xs (c .before .loop .k) (omega arith) (c .before .loop .inv .1 xs r h)
 
 pub has-twice-spec : {M : Type 1} → statement M
-has-twice-spec =
-    tie.close
-    (tie.spec
-    Inv-loop
-    μ-loop
-    loop-holds
-    stands-before-requires
-    returns
-    add-k
-    loop-less
-    loop-again
-    returns-2)
+has-twice-spec = tie.close (tie.spec Inv-loop μ-loop loop-holds stands-before-requires returns add-k loop-less loop-again returns-2)

@@ -5,15 +5,6 @@ use borrow.Author.Needs.{needs}
 use Rattle.book.proofs.parse_body.Statement.{statement}
 use Rattle.book.proofs.parse_body.Tie as tie
 
-mark-requires : tie.Need-mark-requires
-mark-requires c κs = search needs
-
-enum-known-p : tie.Need-enum-known-p
-enum-known-p c = search needs
-
-enum-known-m : tie.Need-enum-known-m
-enum-known-m c = search needs
-
 parse-nodes-requires : tie.Need-parse-nodes-requires
 parse-nodes-requires c κs =
     let at-m = c .before .before in
@@ -21,18 +12,6 @@ parse-nodes-requires c κs =
     let start = at-mark .before .before .before in
     let t = rw (at-m .m .given .1) at (at-mark .mark .ensures) in
     (t .ready, reached (start .pre) t)
-
-enum-known-r : tie.Need-enum-known-r
-enum-known-r c = search needs
-
-enum-known-t : tie.Need-enum-known-t
-enum-known-t c = search needs
-
-patch-count-requires : tie.Need-patch-count-requires
-patch-count-requires c κs = search needs
-
-place-requires : tie.Need-place-requires
-place-requires c κs = search needs
 
 leave-group-requires : tie.Need-leave-group-requires
 leave-group-requires c κs =
@@ -48,9 +27,6 @@ returns c =
     let args = at-mark .before .before .before .args in
     no-brace (args .text .now) (args .c) (rw (c .before .p .given .1) at (at-mark .mark .ensures))
 
-same-length : tie.Need-same-length
-same-length c = search needs
-
 returns-2 : tie.Need-returns-2
 returns-2 c =
     let at-r = c .before in
@@ -58,9 +34,6 @@ returns-2 c =
     let at-m = at-parse-nodes .before .before .before in
     let at-mark = at-m .before .before in
     body-refused (rw (at-m .m .given .1) at (at-mark .mark .ensures)) (rw (at-r .r .given .1) at (at-parse-nodes .parse-nodes .ensures))
-
-same-length-2 : tie.Need-same-length-2
-same-length-2 c = search needs
 
 returns-3 : tie.Need-returns-3
 returns-3 c =
@@ -74,19 +47,6 @@ returns-3 c =
 
 pub parse-body-spec : {M : Type 1} → statement M
 parse-body-spec =
-    tie.close
-    (tie.spec
-    mark-requires
-    enum-known-p
-    enum-known-m
-    parse-nodes-requires
-    enum-known-r
-    enum-known-t
-    patch-count-requires
-    place-requires
-    leave-group-requires
-    returns
-    same-length
-    returns-2
-    same-length-2
-    returns-3)
+    tie.close (tie.spec (λ c κs. search needs) (λ c. search needs) (λ c. search needs) parse-nodes-requires (λ c. search needs)
+    (λ c. search needs) (λ c κs. search needs) (λ c κs. search needs) leave-group-requires returns (λ c. search needs) returns-2
+    (λ c. search needs) returns-3)

@@ -6,38 +6,11 @@ use borrow.Author.Needs.{needs}
 use Rattle.book.proofs.parse_item.Statement.{statement}
 use Rattle.book.proofs.parse_item.Tie as tie
 
-word-requires : tie.Need-word-requires
-word-requires c κs = search needs
-
-enum-known-p : tie.Need-enum-known-p
-enum-known-p c = search needs
-
-enum-known-name : tie.Need-enum-known-name
-enum-known-name c = search needs
-
 mark-requires : tie.Need-mark-requires
 mark-requires c κs = let t = rw (c .before .name .given .1) at (c .before .before .before .word .ensures) in (t .0 .ready, omega arith)
 
-enum-known-p-2 : tie.Need-enum-known-p-2
-enum-known-p-2 c = search needs
-
-enum-known-brace : tie.Need-enum-known-brace
-enum-known-brace c = search needs
-
 parse-body-requires : tie.Need-parse-body-requires
 parse-body-requires c κs = let t = rw (c .before .before .brace .given .1) at (c .before .before .before .before .mark .ensures) in t .ready
-
-enum-known-r : tie.Need-enum-known-r
-enum-known-r c = search needs
-
-enum-known-body : tie.Need-enum-known-body
-enum-known-body c = search needs
-
-place-requires : tie.Need-place-requires
-place-requires c κs = search needs
-
-add-t23 : tie.Need-add-t23
-add-t23 c = search needs
 
 returns : tie.Need-returns
 returns c =
@@ -53,9 +26,6 @@ returns-2 c =
     let t = rw (at-name .name .given .1) at (at-word .word .ensures) in
     no-equals (t .0) (rw (c .before .p2 .given .1) at (at-mark .mark .ensures))
 
-same-length : tie.Need-same-length
-same-length c = search needs
-
 returns-3 : tie.Need-returns-3
 returns-3 c =
     let at-r = c .before in
@@ -67,9 +37,6 @@ returns-3 c =
     let t = rw (at-name .name .given .1) at (at-word .word .ensures) in
     no-body (t .0) (rw (at-brace .brace .given .1) at (at-mark .mark .ensures))
     (rw (at-r .r .given .1) at (at-parse-body .parse-body .ensures))
-
-same-length-2 : tie.Need-same-length-2
-same-length-2 c = search needs
 
 returns-4 : tie.Need-returns-4
 returns-4 c =
@@ -85,22 +52,6 @@ returns-4 c =
 
 pub parse-item-spec : {M : Type 1} → statement M
 parse-item-spec =
-    tie.close
-    (tie.spec
-    word-requires
-    enum-known-p
-    enum-known-name
-    mark-requires
-    enum-known-p-2
-    enum-known-brace
-    parse-body-requires
-    enum-known-r
-    enum-known-body
-    place-requires
-    add-t23
-    returns
-    returns-2
-    same-length
-    returns-3
-    same-length-2
-    returns-4)
+    tie.close (tie.spec (λ c κs. search needs) (λ c. search needs) (λ c. search needs) mark-requires (λ c. search needs) (λ c. search needs)
+    parse-body-requires (λ c. search needs) (λ c. search needs) (λ c κs. search needs) (λ c. search needs) returns returns-2
+    (λ c. search needs) returns-3 (λ c. search needs) returns-4)

@@ -24,18 +24,6 @@ first-requires c κs = c .before .before .pre .0
 loop-holds : tie.Need-loop-holds Inv-loop μ-loop
 loop-holds c = (refl, reading-start (c .first .ensures) (c .before .before .before .pre .1))
 
-ends-requires : tie.Need-ends-requires Inv-loop μ-loop
-ends-requires c κs = search needs
-
-leftover-requires : tie.Need-leftover-requires Inv-loop μ-loop
-leftover-requires c κs = search needs
-
-enum-known-p : tie.Need-enum-known-p Inv-loop μ-loop
-enum-known-p c = search needs
-
-enum-told : tie.Need-enum-told Inv-loop μ-loop
-enum-told c = search needs
-
 same-length : tie.Need-same-length Inv-loop μ-loop
 same-length c =
     let c4 = c .before .before .before .before in
@@ -72,14 +60,8 @@ returns-2 c =
     reading-done r (sym (at-ends .ends .ensures (start .args .text .now) (r .walked .ready)) ∙ at-if1 .if1 .taken)
     (rw (c .enum-told .given .1) at (at-leftover .leftover .ensures))
 
-slice-aggregate-parse-item : tie.Need-slice-aggregate-parse-item Inv-loop μ-loop
-slice-aggregate-parse-item c = search needs
-
 parse-item-requires : tie.Need-parse-item-requires Inv-loop μ-loop
 parse-item-requires c κs = c .before .before .before .loop .inv .1 .walked .ready
-
-enum-known-r : tie.Need-enum-known-r Inv-loop μ-loop
-enum-known-r c = search needs
 
 same-length-3 : tie.Need-same-length-3 Inv-loop μ-loop
 same-length-3 c =
@@ -98,9 +80,6 @@ returns-3 c =
     let r = at-loop .loop .inv .1 in
     reading-refused r (sym (at-ends .ends .ensures (start .args .text .now) (r .walked .ready)) ∙ at-if1 .if1 .left)
     (rw (c .before .r .given .1) at (at-parse-item .parse-item .ensures))
-
-enum-known-x : tie.Need-enum-known-x Inv-loop μ-loop
-enum-known-x c = search needs
 
 sub-put-row : tie.Need-sub-put-row Inv-loop μ-loop
 sub-put-row c =
@@ -164,28 +143,6 @@ loop-again c =
 
 pub parse-items-spec : {M : Type 1} → statement M
 parse-items-spec =
-    tie.close
-    (tie.spec
-    Inv-loop
-    μ-loop
-    first-requires
-    loop-holds
-    ends-requires
-    leftover-requires
-    enum-known-p
-    enum-told
-    same-length
-    returns
-    same-length-2
-    returns-2
-    slice-aggregate-parse-item
-    parse-item-requires
-    enum-known-r
-    same-length-3
-    returns-3
-    enum-known-x
-    sub-put-row
-    put-row-requires
-    add-n
-    loop-less
-    loop-again)
+    tie.close (tie.spec Inv-loop μ-loop first-requires loop-holds (λ c κs. search needs) (λ c κs. search needs) (λ c. search needs)
+    (λ c. search needs) same-length returns same-length-2 returns-2 (λ c. search needs) parse-item-requires (λ c. search needs)
+    same-length-3 returns-3 (λ c. search needs) sub-put-row put-row-requires add-n loop-less loop-again)

@@ -7,15 +7,6 @@ use borrow.Author.Needs.{needs}
 use Rattle.book.proofs.read.Statement.{statement}
 use Rattle.book.proofs.read.Tie as tie
 
-read-text-requires : tie.Need-read-text-requires
-read-text-requires c κs = search needs
-
-enum-known-r : tie.Need-enum-known-r
-enum-known-r c = search needs
-
-enum-known-n : tie.Need-enum-known-n
-enum-known-n c = search needs
-
 has-twice-requires : tie.Need-has-twice-requires
 has-twice-requires c κs =
     let at-n = c .before .before in
@@ -23,18 +14,12 @@ has-twice-requires c κs =
     let h = rw (at-n .n .given .1) at (at-read-text .read-text .ensures) in
     (h .rows .long, omega (arith, h .rows .few, h .count))
 
-same-length : tie.Need-same-length
-same-length c = search needs
-
 returns : tie.Need-returns
 returns c =
     let at-n = c .before .before .before .before in
     let at-read-text = at-n .before .before .before .before in
     let h = rw (at-n .n .given .1) at (at-read-text .read-text .ensures) in
     name-twice h (sym (c .if1 .taken) ∙ c .before .has-twice .ensures (h .items) (h .rows) (h .count))
-
-same-length-2 : tie.Need-same-length-2
-same-length-2 c = search needs
 
 returns-2 : tie.Need-returns-2
 returns-2 c =
@@ -44,18 +29,12 @@ returns-2 c =
     let h = rw (at-n .n .given .1) at (at-read-text .read-text .ensures) in
     too-many h (sym (c .before .if1 .left) ∙ at-has-twice .has-twice .ensures (h .items) (h .rows) (h .count)) (c .if2 .taken)
 
-same-length-3 : tie.Need-same-length-3
-same-length-3 c = search needs
-
 returns-3 : tie.Need-returns-3
 returns-3 c =
     let at-r = c .before in
     let at-read-text = at-r .before .before .before .before in
     let start = at-read-text .before .before .before .before in
     book-wrong (start .args .text .now) (rw (at-r .r .given .1) at (at-read-text .read-text .ensures))
-
-same-length-4 : tie.Need-same-length-4
-same-length-4 c = search needs
 
 returns-4 : tie.Need-returns-4
 returns-4 c =
@@ -67,17 +46,5 @@ returns-4 c =
 
 pub read-spec : {M : Type 1} → statement M
 read-spec =
-    tie.close
-    (tie.spec
-    read-text-requires
-    enum-known-r
-    enum-known-n
-    has-twice-requires
-    same-length
-    returns
-    same-length-2
-    returns-2
-    same-length-3
-    returns-3
-    same-length-4
-    returns-4)
+    tie.close (tie.spec (λ c κs. search needs) (λ c. search needs) (λ c. search needs) has-twice-requires (λ c. search needs) returns
+    (λ c. search needs) returns-2 (λ c. search needs) returns-3 (λ c. search needs) returns-4)

@@ -10,30 +10,12 @@ use Rattle.book.proofs.read_text.Tie as tie
 returns : tie.Need-returns
 returns c = too-long (c .before .before .before .args .text .now) (c .if1 .taken)
 
-slice-aggregate-split : tie.Need-slice-aggregate-split
-slice-aggregate-split c = search needs
-
-split-requires : tie.Need-split-requires
-split-requires c κs = search needs
-
-enum-known-refusal : tie.Need-enum-known-refusal
-enum-known-refusal c = search needs
-
-enum-told : tie.Need-enum-told
-enum-told c = search needs
-
-parse-items-requires : tie.Need-parse-items-requires
-parse-items-requires c κs = search needs
-
 returns-2 : tie.Need-returns-2
 returns-2 c =
     let at-split = c .before .before .before .before in
     let c8 = at-split .before .before .before .before in
     let start = c8 .before in
     split-refused (start .args .text .now) _ (omega arith) refl (rw (c .before .refusal .given .1) at (at-split .split .ensures))
-
-same-length : tie.Need-same-length
-same-length c = search needs
 
 returns-3 : tie.Need-returns-3
 returns-3 c =
@@ -47,14 +29,5 @@ returns-3 c =
 
 pub read-text-spec : {M : Type 1} → statement M
 read-text-spec =
-    tie.close
-    (tie.spec
-    returns
-    slice-aggregate-split
-    split-requires
-    enum-known-refusal
-    enum-told
-    parse-items-requires
-    returns-2
-    same-length
-    returns-3)
+    tie.close (tie.spec returns (λ c. search needs) (λ c κs. search needs) (λ c. search needs) (λ c. search needs) (λ c κs. search needs)
+    returns-2 (λ c. search needs) returns-3)

@@ -8,18 +8,6 @@ use borrow.Author.Needs.{needs}
 use Rattle.book.proofs.stands_before.Statement.{statement}
 use Rattle.book.proofs.stands_before.Tie as tie
 
-name-at-requires : tie.Need-name-at-requires
-name-at-requires c κs = search needs
-
-find-name-requires : tie.Need-find-name-requires
-find-name-requires c κs = search needs
-
-enum-told : tie.Need-enum-told
-enum-told c = search needs
-
-enum-told-2 : tie.Need-enum-told-2
-enum-told-2 c = search needs
-
 returns : tie.Need-returns
 returns c xs r y e =
     let at-find-name = c .before .before in
@@ -38,5 +26,4 @@ returns-2 c xs r y e =
 
 pub stands-before-spec : {M : Type 1} → statement M
 stands-before-spec =
-    tie.close
-    (tie.spec name-at-requires find-name-requires enum-told enum-told-2 returns returns-2)
+    tie.close (tie.spec (λ c κs. search needs) (λ c κs. search needs) (λ c. search needs) (λ c. search needs) returns returns-2)

@@ -27,14 +27,8 @@ first-requires c κs = short-text (c .before .before .before .pre .0)
 loop-holds : tie.Need-loop-holds Inv-loop μ-loop
 loop-holds c = filling-start (c .first .ensures) (c .before .before .before .before .pre .1) (length-replicate {A = ℕ} 49152 0)
 
-slice-aggregate-parse-item : tie.Need-slice-aggregate-parse-item Inv-loop μ-loop
-slice-aggregate-parse-item c = search needs
-
 parse-item-requires : tie.Need-parse-item-requires Inv-loop μ-loop
 parse-item-requires c κs = c .before .before .loop .inv .walked .ready
-
-enum-told : tie.Need-enum-told Inv-loop μ-loop
-enum-told c = search needs
 
 same-length : tie.Need-same-length Inv-loop μ-loop
 same-length c =
@@ -53,15 +47,6 @@ returns c xs e =
     let start = c10 .before in
     absurd (filling-refused (start .pre .0) (at-loop .loop .inv) (at-loop-test .loop-test .taken)
     (rw (c .enum-told .given .1) at (at-parse-item .parse-item .ensures)))
-
-enum-known-x : tie.Need-enum-known-x Inv-loop μ-loop
-enum-known-x c = search needs
-
-slice-aggregate-part : tie.Need-slice-aggregate-part Inv-loop μ-loop
-slice-aggregate-part c = search needs
-
-part-requires : tie.Need-part-requires Inv-loop μ-loop
-part-requires c κs = search needs
 
 note-calls-requires : tie.Need-note-calls-requires Inv-loop μ-loop
 note-calls-requires c κs =
@@ -135,23 +120,6 @@ returns-2 c =
 
 pub fill-spec : {M : Type 1} → statement M
 fill-spec =
-    tie.close
-    (tie.spec
-    Inv-loop
-    μ-loop
-    first-requires
-    loop-holds
-    slice-aggregate-parse-item
-    parse-item-requires
-    enum-told
-    same-length
-    returns
-    enum-known-x
-    slice-aggregate-part
-    part-requires
-    note-calls-requires
-    add-i
-    loop-less
-    loop-again
-    same-length-2
+    tie.close (tie.spec Inv-loop μ-loop first-requires loop-holds (λ c. search needs) parse-item-requires (λ c. search needs) same-length
+    returns (λ c. search needs) (λ c. search needs) (λ c κs. search needs) note-calls-requires add-i loop-less loop-again same-length-2
     returns-2)

@@ -8,19 +8,10 @@ use borrow.Author.Needs.{needs}
 use Rattle.calls.proofs.note.Statement.{statement}
 use Rattle.calls.proofs.note.Tie as tie
 
-part-requires : tie.Need-part-requires
-part-requires c κs = search needs
-
 find-name-requires : tie.Need-find-name-requires
 find-name-requires c κs =
     let pre = c .before .before .before .before .pre in
     (pre .0 .rows .long, omega (arith, pre .0 .rows .few, pre .0 .count))
-
-enum-known-j : tie.Need-enum-known-j
-enum-known-j c = search needs
-
-mul-calls : tie.Need-mul-calls
-mul-calls c = search needs
 
 add-calls : tie.Need-add-calls
 add-calls c =
@@ -41,12 +32,6 @@ slice-write-calls c =
     at (found-in (pre .0) (at-find-name .find-name .result) (at-part .part .result .now) (at-find-name .find-name .ensures))
     in
     omega (arith, found-low (pre .0) (at-part .part .result .now) f, pre .1, pre .2, pre .3)
-
-enum-told : tie.Need-enum-told
-enum-told c = search needs
-
-same-length : tie.Need-same-length
-same-length c = search needs
 
 returns : tie.Need-returns
 returns c xs e =
@@ -70,15 +55,5 @@ returns-2 c xs e =
 
 pub note-spec : {M : Type 1} → statement M
 note-spec =
-    tie.close
-    (tie.spec
-    part-requires
-    find-name-requires
-    enum-known-j
-    mul-calls
-    add-calls
-    slice-write-calls
-    enum-told
-    same-length
-    returns
-    returns-2)
+    tie.close (tie.spec (λ c κs. search needs) find-name-requires (λ c. search needs) (λ c. search needs) add-calls slice-write-calls
+    (λ c. search needs) (λ c. search needs) returns returns-2)

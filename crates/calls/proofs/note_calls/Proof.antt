@@ -21,17 +21,11 @@ Inv-loop text table n calls₀ i sheet at₀ calls at = Noting text sheet calls�
 abbrev μ-loop : tie.MeasureT-loop
 μ-loop text table n calls₀ i sheet at₀ calls at = length sheet - at
 
-take-field-requires : tie.Need-take-field-requires Inv-loop μ-loop
-take-field-requires c κs = search needs
-
 loop-holds : tie.Need-loop-holds Inv-loop μ-loop
 loop-holds c =
     let c4 = c .before .before .before .before in
     let pre = c4 .before .pre in
     noting-start (pre .3) (pre .4) (c .take-field .ensures .reads)
-
-take-record-requires : tie.Need-take-record-requires Inv-loop μ-loop
-take-record-requires c κs = search needs
 
 note-record-requires : tie.Need-note-record-requires Inv-loop μ-loop
 note-record-requires c κs =
@@ -69,15 +63,5 @@ returns c = noting-done (c .before .loop .inv) (c .loop-test .left)
 
 pub note-calls-spec : {M : Type 1} → statement M
 note-calls-spec =
-    tie.close
-    (tie.spec
-    Inv-loop
-    μ-loop
-    take-field-requires
-    loop-holds
-    take-record-requires
-    note-record-requires
-    loop-less
-    loop-again
-    same-length
-    returns)
+    tie.close (tie.spec Inv-loop μ-loop (λ c κs. search needs) loop-holds (λ c κs. search needs) note-record-requires loop-less loop-again
+    same-length returns)

@@ -11,18 +11,6 @@ returns c xs e x h =
     let args = c4 .before .args in
     no-call (args .text .now) (args .calls .now) (args .i) (names xs) x h (c .if1 .taken)
 
-add-take-span : tie.Need-add-take-span
-add-take-span c = search needs
-
-take-span-requires : tie.Need-take-span-requires
-take-span-requires c κs = search needs
-
-note-requires : tie.Need-note-requires
-note-requires c κs = search needs
-
-same-length : tie.Need-same-length
-same-length c = search needs
-
 returns-2 : tie.Need-returns-2
 returns-2 c xs e x h =
     let at-note = c .before .before in
@@ -42,5 +30,4 @@ returns-2 c xs e x h =
 
 pub note-record-spec : {M : Type 1} → statement M
 note-record-spec =
-    tie.close
-    (tie.spec returns add-take-span take-span-requires note-requires same-length returns-2)
+    tie.close (tie.spec returns (λ c. search needs) (λ c κs. search needs) (λ c κs. search needs) (λ c. search needs) returns-2)

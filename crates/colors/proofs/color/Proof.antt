@@ -8,21 +8,6 @@ use borrow.Author.Needs.{needs}
 use Rattle.colors.proofs.color.Statement.{statement}
 use Rattle.colors.proofs.color.Tie as tie
 
-color-bytes-requires : tie.Need-color-bytes-requires
-color-bytes-requires c κs = search needs
-
-enum-known-red : tie.Need-enum-known-red
-enum-known-red c = search needs
-
-put-four-requires : tie.Need-put-four-requires
-put-four-requires c κs = search needs
-
-enum-told : tie.Need-enum-told
-enum-told c = search needs
-
-put-four-requires-2 : tie.Need-put-four-requires-2
-put-four-requires-2 c κs = search needs
-
 returns : tie.Need-returns
 returns c =
     let at-red = c .before .before .before in
@@ -41,12 +26,5 @@ returns-2 c =
 
 pub color-spec : {M : Type 1} → statement M
 color-spec =
-    tie.close
-    (tie.spec
-    color-bytes-requires
-    enum-known-red
-    put-four-requires
-    enum-told
-    put-four-requires-2
-    returns
+    tie.close (tie.spec (λ c κs. search needs) (λ c. search needs) (λ c κs. search needs) (λ c. search needs) (λ c κs. search needs) returns
     returns-2)

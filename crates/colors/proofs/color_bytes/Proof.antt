@@ -5,15 +5,6 @@ use borrow.Author.Needs.{needs}
 use Rattle.colors.proofs.color_bytes.Statement.{statement}
 use Rattle.colors.proofs.color_bytes.Tie as tie
 
-byte-at-requires : tie.Need-byte-at-requires
-byte-at-requires c κs = search needs
-
-part-requires : tie.Need-part-requires
-part-requires c κs = search needs
-
-hex-color-requires : tie.Need-hex-color-requires
-hex-color-requires c κs = search needs
-
 returns : tie.Need-returns
 returns c =
     let at-if1 = c .before .before in
@@ -22,9 +13,6 @@ returns c =
     c .hex-color .ensures
     ∙ bytes-hex (start .args .s .now) (at-byte-at .byte-at .result) (at-byte-at .byte-at .ensures) _ (at-if1 .if1 .taken)
     (c .before .part .ensures)
-
-named-color-requires : tie.Need-named-color-requires
-named-color-requires c κs = search needs
 
 returns-2 : tie.Need-returns-2
 returns-2 c =
@@ -35,11 +23,4 @@ returns-2 c =
 
 pub color-bytes-spec : {M : Type 1} → statement M
 color-bytes-spec =
-    tie.close
-    (tie.spec
-    byte-at-requires
-    part-requires
-    hex-color-requires
-    returns
-    named-color-requires
-    returns-2)
+    tie.close (tie.spec (λ c κs. search needs) (λ c κs. search needs) (λ c κs. search needs) returns (λ c κs. search needs) returns-2)

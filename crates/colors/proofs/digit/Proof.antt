@@ -5,12 +5,6 @@ use borrow.Author.Needs.{needs}
 use Rattle.colors.proofs.digit.Statement.{statement}
 use Rattle.colors.proofs.digit.Tie as tie
 
-add-result : tie.Need-add-result
-add-result c = search needs
-
-add-result-2 : tie.Need-add-result-2
-add-result-2 c = search needs
-
 returns : tie.Need-returns
 returns c = digit-decimal _ (omega arith) (omega arith)
 
@@ -40,14 +34,4 @@ returns-7 c =
 
 pub digit-spec : {M : Type 1} → statement M
 digit-spec =
-    tie.close
-    (tie.spec
-    add-result
-    add-result-2
-    returns
-    returns-2
-    returns-3
-    returns-4
-    returns-5
-    returns-6
-    returns-7)
+    tie.close (tie.spec (λ c. search needs) (λ c. search needs) returns returns-2 returns-3 returns-4 returns-5 returns-6 returns-7)

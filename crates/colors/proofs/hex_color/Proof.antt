@@ -6,23 +6,8 @@ use borrow.Author.Needs.{needs}
 use Rattle.colors.proofs.hex_color.Statement.{statement}
 use Rattle.colors.proofs.hex_color.Tie as tie
 
-is-hex-color-requires : tie.Need-is-hex-color-requires
-is-hex-color-requires c κs = search needs
-
 returns : tie.Need-returns
 returns c = no-hex-color _ (sym (c .before .is-hex-color .ensures) ∙ not-true _ (c .if1 .taken))
-
-written-requires : tie.Need-written-requires
-written-requires c κs = search needs
-
-written-requires-2 : tie.Need-written-requires-2
-written-requires-2 c κs = search needs
-
-written-requires-3 : tie.Need-written-requires-3
-written-requires-3 c κs = search needs
-
-written-requires-4 : tie.Need-written-requires-4
-written-requires-4 c κs = search needs
 
 returns-2 : tie.Need-returns-2
 returns-2 c =
@@ -35,12 +20,5 @@ returns-2 c =
 
 pub hex-color-spec : {M : Type 1} → statement M
 hex-color-spec =
-    tie.close
-    (tie.spec
-    is-hex-color-requires
-    returns
-    written-requires
-    written-requires-2
-    written-requires-3
-    written-requires-4
-    returns-2)
+    tie.close (tie.spec (λ c κs. search needs) returns (λ c κs. search needs) (λ c κs. search needs) (λ c κs. search needs)
+    (λ c κs. search needs) returns-2)

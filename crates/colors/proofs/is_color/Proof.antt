@@ -5,17 +5,8 @@ use borrow.Author.Needs.{needs}
 use Rattle.colors.proofs.is_color.Statement.{statement}
 use Rattle.colors.proofs.is_color.Tie as tie
 
-is-valid-color-requires : tie.Need-is-valid-color-requires
-is-valid-color-requires c κs = search needs
-
 returns : tie.Need-returns
 returns c = c .is-valid-color .ensures ∙ first-list (c .before .before .before .args .list) _ (c .before .if1 .taken)
-
-part-requires : tie.Need-part-requires
-part-requires c κs = search needs
-
-is-css-color-requires : tie.Need-is-css-color-requires
-is-css-color-requires c κs = search needs
 
 returns-2 : tie.Need-returns-2
 returns-2 c =
@@ -24,6 +15,4 @@ returns-2 c =
     c .is-css-color .ensures ∙ (rw (c .before .part .ensures) (second-list (start .args .list) _ (at-if1 .if1 .left)))
 
 pub is-color-spec : {M : Type 1} → statement M
-is-color-spec =
-    tie.close
-    (tie.spec is-valid-color-requires returns part-requires is-css-color-requires returns-2)
+is-color-spec = tie.close (tie.spec (λ c κs. search needs) returns (λ c κs. search needs) (λ c κs. search needs) returns-2)

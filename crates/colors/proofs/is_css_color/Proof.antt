@@ -8,15 +8,6 @@ use borrow.Author.Needs.{needs}
 use Rattle.colors.proofs.is_css_color.Statement.{statement}
 use Rattle.colors.proofs.is_css_color.Tie as tie
 
-byte-at-requires : tie.Need-byte-at-requires
-byte-at-requires c κs = search needs
-
-part-requires : tie.Need-part-requires
-part-requires c κs = search needs
-
-is-hex-color-requires : tie.Need-is-hex-color-requires
-is-hex-color-requires c κs = search needs
-
 returns : tie.Need-returns
 returns c =
     let at-if1 = c .before .before in
@@ -25,15 +16,6 @@ returns c =
     c .is-hex-color .ensures
     ∙ color-hex _ (start .args .s .now) (at-byte-at .byte-at .result) (at-byte-at .byte-at .ensures) _ (at-if1 .if1 .taken)
     (c .before .part .ensures)
-
-named-color-requires : tie.Need-named-color-requires
-named-color-requires c κs = search needs
-
-enum-told : tie.Need-enum-told
-enum-told c = search needs
-
-enum-told-2 : tie.Need-enum-told-2
-enum-told-2 c = search needs
 
 returns-2 : tie.Need-returns-2
 returns-2 c =
@@ -55,14 +37,5 @@ returns-3 c =
 
 pub is-css-color-spec : {M : Type 1} → statement M
 is-css-color-spec =
-    tie.close
-    (tie.spec
-    byte-at-requires
-    part-requires
-    is-hex-color-requires
-    returns
-    named-color-requires
-    enum-told
-    enum-told-2
-    returns-2
-    returns-3)
+    tie.close (tie.spec (λ c κs. search needs) (λ c κs. search needs) (λ c κs. search needs) returns (λ c κs. search needs)
+    (λ c. search needs) (λ c. search needs) returns-2 returns-3)

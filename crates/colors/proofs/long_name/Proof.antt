@@ -8,60 +8,6 @@ use borrow.Author.Needs.{needs}
 use Rattle.colors.proofs.long_name.Statement.{statement}
 use Rattle.colors.proofs.long_name.Tie as tie
 
-slice-aggregate-row-in : tie.Need-slice-aggregate-row-in
-slice-aggregate-row-in c = search needs
-
-row-in-requires : tie.Need-row-in-requires
-row-in-requires c κs = search needs
-
-slice-aggregate-row-in-2 : tie.Need-slice-aggregate-row-in-2
-slice-aggregate-row-in-2 c = search needs
-
-row-in-requires-2 : tie.Need-row-in-requires-2
-row-in-requires-2 c κs = search needs
-
-slice-aggregate-row-in-3 : tie.Need-slice-aggregate-row-in-3
-slice-aggregate-row-in-3 c = search needs
-
-row-in-requires-3 : tie.Need-row-in-requires-3
-row-in-requires-3 c κs = search needs
-
-slice-aggregate-row-in-4 : tie.Need-slice-aggregate-row-in-4
-slice-aggregate-row-in-4 c = search needs
-
-row-in-requires-4 : tie.Need-row-in-requires-4
-row-in-requires-4 c κs = search needs
-
-slice-aggregate-row-in-5 : tie.Need-slice-aggregate-row-in-5
-slice-aggregate-row-in-5 c = search needs
-
-row-in-requires-5 : tie.Need-row-in-requires-5
-row-in-requires-5 c κs = search needs
-
-slice-aggregate-row-in-6 : tie.Need-slice-aggregate-row-in-6
-slice-aggregate-row-in-6 c = search needs
-
-row-in-requires-6 : tie.Need-row-in-requires-6
-row-in-requires-6 c κs = search needs
-
-slice-aggregate-row-in-7 : tie.Need-slice-aggregate-row-in-7
-slice-aggregate-row-in-7 c = search needs
-
-row-in-requires-7 : tie.Need-row-in-requires-7
-row-in-requires-7 c κs = search needs
-
-slice-aggregate-row-in-8 : tie.Need-slice-aggregate-row-in-8
-slice-aggregate-row-in-8 c = search needs
-
-row-in-requires-8 : tie.Need-row-in-requires-8
-row-in-requires-8 c κs = search needs
-
-slice-aggregate-row-in-9 : tie.Need-slice-aggregate-row-in-9
-slice-aggregate-row-in-9 c = search needs
-
-row-in-requires-9 : tie.Need-row-in-requires-9
-row-in-requires-9 c κs = search needs
-
 returns : tie.Need-returns
 unfolding rowsFrom ofLength cssColors
 returns c = by-table _ _ 10 (c .before .before .match .keys1) (c .row-in .ensures) refl
@@ -105,33 +51,7 @@ returns-10 c =
 
 pub long-name-spec : {M : Type 1} → statement M
 long-name-spec =
-    tie.close
-    (tie.spec
-    slice-aggregate-row-in
-    row-in-requires
-    slice-aggregate-row-in-2
-    row-in-requires-2
-    slice-aggregate-row-in-3
-    row-in-requires-3
-    slice-aggregate-row-in-4
-    row-in-requires-4
-    slice-aggregate-row-in-5
-    row-in-requires-5
-    slice-aggregate-row-in-6
-    row-in-requires-6
-    slice-aggregate-row-in-7
-    row-in-requires-7
-    slice-aggregate-row-in-8
-    row-in-requires-8
-    slice-aggregate-row-in-9
-    row-in-requires-9
-    returns
-    returns-2
-    returns-3
-    returns-4
-    returns-5
-    returns-6
-    returns-7
-    returns-8
-    returns-9
-    returns-10)
+    tie.close (tie.spec (λ c. search needs) (λ c κs. search needs) (λ c. search needs) (λ c κs. search needs) (λ c. search needs)
+    (λ c κs. search needs) (λ c. search needs) (λ c κs. search needs) (λ c. search needs) (λ c κs. search needs) (λ c. search needs)
+    (λ c κs. search needs) (λ c. search needs) (λ c κs. search needs) (λ c. search needs) (λ c κs. search needs) (λ c. search needs)
+    (λ c κs. search needs) returns returns-2 returns-3 returns-4 returns-5 returns-6 returns-7 returns-8 returns-9 returns-10)

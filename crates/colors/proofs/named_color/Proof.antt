@@ -7,12 +7,6 @@ use borrow.Author.Needs.{needs}
 use Rattle.colors.proofs.named_color.Statement.{statement}
 use Rattle.colors.proofs.named_color.Tie as tie
 
-slice-aggregate-lower-into : tie.Need-slice-aggregate-lower-into
-slice-aggregate-lower-into c = search needs
-
-lower-into-requires : tie.Need-lower-into-requires
-lower-into-requires c κs = search needs
-
 array-share-prefix-name : tie.Need-array-share-prefix-name
 array-share-prefix-name c = puts-fits (c .before .lower-into .ensures)
 
@@ -20,9 +14,6 @@ slice-aggregate-named : tie.Need-slice-aggregate-named
 slice-aggregate-named c =
     let lower-into = c .before .before .lower-into in
     sym (length-take-le (lower-into .result) (lower-into .last .1 .0) (puts-fits (lower-into .ensures)))
-
-named-requires : tie.Need-named-requires
-named-requires c κs = search needs
 
 returns : tie.Need-returns
 returns c =
@@ -32,11 +23,5 @@ returns c =
 
 pub named-color-spec : {M : Type 1} → statement M
 named-color-spec =
-    tie.close
-    (tie.spec
-    slice-aggregate-lower-into
-    lower-into-requires
-    array-share-prefix-name
-    slice-aggregate-named
-    named-requires
+    tie.close (tie.spec (λ c. search needs) (λ c κs. search needs) array-share-prefix-name slice-aggregate-named (λ c κs. search needs)
     returns)

@@ -5,14 +5,8 @@ use borrow.Author.Needs.{needs}
 use Rattle.colors.proofs.pair.Statement.{statement}
 use Rattle.colors.proofs.pair.Tie as tie
 
-digit-requires : tie.Need-digit-requires
-digit-requires c κs = search needs
-
 mul-result : tie.Need-mul-result
 mul-result c = record { fits = omega (arith, c .digit .ensures, digit-small-number (c .before .args .a)) }
-
-digit-requires-2 : tie.Need-digit-requires-2
-digit-requires-2 c κs = search needs
 
 add-result : tie.Need-add-result
 add-result c =
@@ -21,8 +15,5 @@ add-result c =
       fits = omega (arith, c .before .digit .ensures, c .digit2 .ensures, digit-small-number (args .a), digit-small-number (args .b));
     }
 
-returns : tie.Need-returns
-returns c = search needs
-
 pub pair-spec : {M : Type 1} → statement M
-pair-spec = tie.close (tie.spec digit-requires mul-result digit-requires-2 add-result returns)
+pair-spec = tie.close (tie.spec (λ c κs. search needs) mul-result (λ c κs. search needs) add-result (λ c. search needs))

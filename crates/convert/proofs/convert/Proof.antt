@@ -7,30 +7,15 @@ use Rattle.convert.proofs.ConvertLaws.{is-refused, is-sheet, is-convert
 use Rattle.convert.proofs.convert.Statement.{statement}
 use Rattle.convert.proofs.convert.Tie as tie
 
-open-sheet-requires : tie.Need-open-sheet-requires
-open-sheet-requires c κs = search needs
-
-enum-known-refusal : tie.Need-enum-known-refusal
-enum-known-refusal c = search needs
-
-same-length : tie.Need-same-length
-same-length c = search needs
-
 returns : tie.Need-returns
 returns c =
     let at-refusal = c .before in
     with-values checkValues (is-refused _ _ (sym (at-refusal .refusal .given .1) ∙ at-refusal .before .before .open-sheet .ensures))
 
-enum-told : tie.Need-enum-told
-enum-told c = search needs
-
 convert-records-requires : tie.Need-convert-records-requires
 convert-records-requires c κs =
     let told = c .before in
     is-sheet _ _ (sym (told .enum-told .given .1) ∙ told .before .before .open-sheet .ensures)
-
-same-length-2 : tie.Need-same-length-2
-same-length-2 c = search needs
 
 returns-2 : tie.Need-returns-2
 returns-2 c =
@@ -42,13 +27,5 @@ returns-2 c =
 
 pub convert-spec : {M : Type 1} → statement M
 convert-spec =
-    tie.close
-    (tie.spec
-    open-sheet-requires
-    enum-known-refusal
-    same-length
-    returns
-    enum-told
-    convert-records-requires
-    same-length-2
-    returns-2)
+    tie.close (tie.spec (λ c κs. search needs) (λ c. search needs) (λ c. search needs) returns (λ c. search needs) convert-records-requires
+    (λ c. search needs) returns-2)

@@ -5,21 +5,6 @@ use Rattle.convert.proofs.WalkLaws.{overwritten, as-it-was}
 use Rattle.convert.proofs.convert_record.Statement.{statement}
 use Rattle.convert.proofs.convert_record.Tie as tie
 
-take-record-requires : tie.Need-take-record-requires
-take-record-requires c κs = search needs
-
-holds-noise-requires : tie.Need-holds-noise-requires
-holds-noise-requires c κs = search needs
-
-add-sheet : tie.Need-add-sheet
-add-sheet c = search needs
-
-slice-write-sheet : tie.Need-slice-write-sheet
-slice-write-sheet c = search needs
-
-same-length : tie.Need-same-length
-same-length c = search needs
-
 returns : tie.Need-returns
 returns c =
     let at-take-record = c .before .before .before in
@@ -27,9 +12,6 @@ returns c =
       record { kind = _; number = _; entries = _; reads = at-take-record .take-record .ensures },
       overwritten (start .args .sheet .now) (start .args .at) (sym (c .before .holds-noise .ensures) ∙ c .if1 .taken),
     )
-
-same-length-2 : tie.Need-same-length-2
-same-length-2 c = search needs
 
 returns-2 : tie.Need-returns-2
 returns-2 c =
@@ -41,13 +23,5 @@ returns-2 c =
 
 pub convert-record-spec : {M : Type 1} → statement M
 convert-record-spec =
-    tie.close
-    (tie.spec
-    take-record-requires
-    holds-noise-requires
-    add-sheet
-    slice-write-sheet
-    same-length
-    returns
-    same-length-2
-    returns-2)
+    tie.close (tie.spec (λ c κs. search needs) (λ c κs. search needs) (λ c. search needs) (λ c. search needs) (λ c. search needs) returns
+    (λ c. search needs) returns-2)

@@ -14,9 +14,6 @@ Inv-loop sheet₀ text-len at₀ sheet at = Walked text-len sheet₀ sheet at
 abbrev μ-loop : tie.MeasureT-loop
 μ-loop sheet₀ text-len at₀ sheet at = length sheet - at
 
-take-field-requires : tie.Need-take-field-requires Inv-loop μ-loop
-take-field-requires c κs = search needs
-
 loop-holds : tie.Need-loop-holds Inv-loop μ-loop
 loop-holds c = walked-start (c .before .before .before .pre) (c .take-field .ensures .reads)
 
@@ -55,14 +52,4 @@ returns c = walked-all (c .before .loop .inv) (c .loop-test .left)
 
 pub convert-records-spec : {M : Type 1} → statement M
 convert-records-spec =
-    tie.close
-    (tie.spec
-    Inv-loop
-    μ-loop
-    take-field-requires
-    loop-holds
-    convert-record-requires
-    loop-less
-    loop-again
-    same-length
-    returns)
+    tie.close (tie.spec Inv-loop μ-loop (λ c κs. search needs) loop-holds convert-record-requires loop-less loop-again same-length returns)

@@ -5,19 +5,10 @@ use Rattle.convert.proofs.WalkLaws.{another-kind, its-wave}
 use Rattle.convert.proofs.holds_noise.Statement.{statement}
 use Rattle.convert.proofs.holds_noise.Tie as tie
 
-shared-slice-read-kind : tie.Need-shared-slice-read-kind
-shared-slice-read-kind c = search needs
-
 returns : tie.Need-returns
 returns c =
     let start = c .before .before in
     another-kind (start .args .sheet .now) (start .args .at) (λ e. omega (arith, e, c .if1 .taken))
-
-add-result : tie.Need-add-result
-add-result c = search needs
-
-shared-slice-read-result : tie.Need-shared-slice-read-result
-shared-slice-read-result c = search needs
 
 returns-2 : tie.Need-returns-2
 returns-2 c =
@@ -25,6 +16,4 @@ returns-2 c =
     its-wave (start .args .sheet .now) (start .args .at) (c .before .if1 .left)
 
 pub holds-noise-spec : {M : Type 1} → statement M
-holds-noise-spec =
-    tie.close
-    (tie.spec shared-slice-read-kind returns add-result shared-slice-read-result returns-2)
+holds-noise-spec = tie.close (tie.spec (λ c. search needs) returns (λ c. search needs) (λ c. search needs) returns-2)

@@ -9,9 +9,6 @@ use Rattle.cursor.proofs.CursorLaws.{head-last, head-low}
 use Rattle.cursor.proofs.advance.Statement.{statement}
 use Rattle.cursor.proofs.advance.Tie as tie
 
-wide-requires : tie.Need-wide-requires
-wide-requires c κs = search needs
-
 start-requires : tie.Need-start-requires
 start-requires c κs =
     let start = c .before .before in (
@@ -33,4 +30,4 @@ returns c =
     }
 
 pub advance-spec : {M : Type 1} → statement M
-advance-spec = tie.close (tie.spec wide-requires start-requires returns)
+advance-spec = tie.close (tie.spec (λ c κs. search needs) start-requires returns)

@@ -6,27 +6,6 @@ use borrow.Author.Needs.{needs}
 use Rattle.cursor.proofs.both.Statement.{statement}
 use Rattle.cursor.proofs.both.Tie as tie
 
-place-requires : tie.Need-place-requires
-place-requires c κs = search needs
-
-sees-requires : tie.Need-sees-requires
-sees-requires c κs = search needs
-
-advance-requires : tie.Need-advance-requires
-advance-requires c κs = search needs
-
-sees-requires-2 : tie.Need-sees-requires-2
-sees-requires-2 c κs = search needs
-
-place-requires-2 : tie.Need-place-requires-2
-place-requires-2 c κs = search needs
-
-add-if3 : tie.Need-add-if3
-add-if3 c = search needs
-
-advance-requires-2 : tie.Need-advance-requires-2
-advance-requires-2 c κs = search needs
-
 returns : tie.Need-returns
 returns c =
     let at-place2 = c .before .before in
@@ -85,16 +64,5 @@ returns-4 c =
 
 pub both-spec : {M : Type 1} → statement M
 both-spec =
-    tie.close
-    (tie.spec
-    place-requires
-    sees-requires
-    advance-requires
-    sees-requires-2
-    place-requires-2
-    add-if3
-    advance-requires-2
-    returns
-    returns-2
-    returns-3
-    returns-4)
+    tie.close (tie.spec (λ c κs. search needs) (λ c κs. search needs) (λ c κs. search needs) (λ c κs. search needs) (λ c κs. search needs)
+    (λ c. search needs) (λ c κs. search needs) returns returns-2 returns-3 returns-4)

@@ -8,30 +8,6 @@ use borrow.Author.Needs.{needs}
 use Rattle.cursor.proofs.choice.Statement.{statement}
 use Rattle.cursor.proofs.choice.Tie as tie
 
-word-requires : tie.Need-word-requires
-word-requires c κs = search needs
-
-enum-known-p : tie.Need-enum-known-p
-enum-known-p c = search needs
-
-enum-known-w : tie.Need-enum-known-w
-enum-known-w c = search needs
-
-part-requires : tie.Need-part-requires
-part-requires c κs = search needs
-
-find-requires : tie.Need-find-requires
-find-requires c κs = search needs
-
-enum-known-i : tie.Need-enum-known-i
-enum-known-i c = search needs
-
-enum-told : tie.Need-enum-told
-enum-told c = search needs
-
-place-requires : tie.Need-place-requires
-place-requires c κs = search needs
-
 returns : tie.Need-returns
 returns c = let e = rw (c .before .p .given .1) at (c .before .before .before .word .ensures) in rw e
 
@@ -61,16 +37,5 @@ returns-3 c =
 
 pub choice-spec : {M : Type 1} → statement M
 choice-spec =
-    tie.close
-    (tie.spec
-    word-requires
-    enum-known-p
-    enum-known-w
-    part-requires
-    find-requires
-    enum-known-i
-    enum-told
-    place-requires
-    returns
-    returns-2
-    returns-3)
+    tie.close (tie.spec (λ c κs. search needs) (λ c. search needs) (λ c. search needs) (λ c κs. search needs) (λ c κs. search needs)
+    (λ c. search needs) (λ c. search needs) (λ c κs. search needs) returns returns-2 returns-3)

@@ -8,12 +8,6 @@ use borrow.Author.Needs.{needs}
 use Rattle.cursor.proofs.eat.Statement.{statement}
 use Rattle.cursor.proofs.eat.Tie as tie
 
-sees-requires : tie.Need-sees-requires
-sees-requires c κs = search needs
-
-advance-requires : tie.Need-advance-requires
-advance-requires c κs = search needs
-
 returns : tie.Need-returns
 returns c =
     let at-sees = c .before .before in
@@ -30,4 +24,4 @@ returns-2 c =
     (rw (sym (c .before .sees .ensures (args .text .now) (start .pre .0)) ∙ c .if1 .left))
 
 pub eat-spec : {M : Type 1} → statement M
-eat-spec = tie.close (tie.spec sees-requires advance-requires returns returns-2)
+eat-spec = tie.close (tie.spec (λ c κs. search needs) (λ c κs. search needs) returns returns-2)

@@ -7,11 +7,8 @@ use borrow.Author.Needs.{needs}
 use Rattle.cursor.proofs.ends.Statement.{statement}
 use Rattle.cursor.proofs.ends.Tie as tie
 
-is-end-requires : tie.Need-is-end-requires
-is-end-requires c κs = search needs
-
 returns : tie.Need-returns
 returns c s r = c .is-end .ensures _ _ ∙ ap (λ (k : Kind). isEnd k) (sym (head-kind s (c .before .args .c) r))
 
 pub ends-spec : {M : Type 1} → statement M
-ends-spec = tie.close (tie.spec is-end-requires returns)
+ends-spec = tie.close (tie.spec (λ c κs. search needs) returns)

@@ -3,24 +3,6 @@ use borrow.Author.Needs.{needs}
 use Rattle.cursor.proofs.is_end.Statement.{statement}
 use Rattle.cursor.proofs.is_end.Tie as tie
 
-enum-known-k : tie.Need-enum-known-k
-enum-known-k c = search needs
-
-slice-aggregate-has : tie.Need-slice-aggregate-has
-slice-aggregate-has c = search needs
-
-has-requires : tie.Need-has-requires
-has-requires c κs = search needs
-
-enum-told : tie.Need-enum-told
-enum-told c = search needs
-
-enum-told-2 : tie.Need-enum-told-2
-enum-told-2 c = search needs
-
-enum-told-3 : tie.Need-enum-told-3
-enum-told-3 c = search needs
-
 returns : tie.Need-returns
 returns c t n = rw (c .before .before .before .k .given .1) (c .has .ensures)
 
@@ -35,15 +17,5 @@ returns-4 c t n = rw (c .enum-told3 .given .1)
 
 pub is-end-spec : {M : Type 1} → statement M
 is-end-spec =
-    tie.close
-    (tie.spec
-    enum-known-k
-    slice-aggregate-has
-    has-requires
-    enum-told
-    enum-told-2
-    enum-told-3
-    returns
-    returns-2
-    returns-3
-    returns-4)
+    tie.close (tie.spec (λ c. search needs) (λ c. search needs) (λ c κs. search needs) (λ c. search needs) (λ c. search needs)
+    (λ c. search needs) returns returns-2 returns-3 returns-4)

@@ -5,24 +5,12 @@ use borrow.Author.Needs.{needs}
 use Rattle.cursor.proofs.leave_group.Statement.{statement}
 use Rattle.cursor.proofs.leave_group.Tie as tie
 
-ends-requires : tie.Need-ends-requires
-ends-requires c κs = search needs
-
-advance-requires : tie.Need-advance-requires
-advance-requires c κs = search needs
-
 returns : tie.Need-returns
 returns c =
     let at-ends = c .before .before in
     let start = at-ends .before .before in
     leave-end (start .args .text .now) (start .args .c) (c .advance .result) (start .pre) (c .advance .ensures)
     (sym (at-ends .ends .ensures (start .args .text .now) (start .pre)) ∙ c .before .if1 .taken)
-
-first-of-requires : tie.Need-first-of-requires
-first-of-requires c κs = search needs
-
-past-group-requires : tie.Need-past-group-requires
-past-group-requires c κs = search needs
 
 returns-2 : tie.Need-returns-2
 returns-2 c =
@@ -34,11 +22,4 @@ returns-2 c =
 
 pub leave-group-spec : {M : Type 1} → statement M
 leave-group-spec =
-    tie.close
-    (tie.spec
-    ends-requires
-    advance-requires
-    returns
-    first-of-requires
-    past-group-requires
-    returns-2)
+    tie.close (tie.spec (λ c κs. search needs) (λ c κs. search needs) returns (λ c κs. search needs) (λ c κs. search needs) returns-2)

@@ -8,11 +8,8 @@ use Rattle.cursor.proofs.leftover.Tie as tie
 returns : tie.Need-returns
 returns c = sym (left-none _ (c .if1 .taken))
 
-wide-requires : tie.Need-wide-requires
-wide-requires c κs = search needs
-
 returns-2 : tie.Need-returns-2
 returns-2 c = rw (left-some _ (c .before .if1 .left), c .wide .ensures)
 
 pub leftover-spec : {M : Type 1} → statement M
-leftover-spec = tie.close (tie.spec returns wide-requires returns-2)
+leftover-spec = tie.close (tie.spec returns (λ c κs. search needs) returns-2)

@@ -5,12 +5,6 @@ use borrow.Author.Needs.{needs}
 use Rattle.cursor.proofs.mark.Statement.{statement}
 use Rattle.cursor.proofs.mark.Tie as tie
 
-sees-requires : tie.Need-sees-requires
-sees-requires c κs = search needs
-
-advance-requires : tie.Need-advance-requires
-advance-requires c κs = search needs
-
 returns : tie.Need-returns
 returns c =
     let at-sees = c .before .before in
@@ -18,9 +12,6 @@ returns c =
     let args = start .args in
     took-mark (args .text .now) (args .c) (c .advance .result) (start .pre .0) (c .advance .ensures) (args .b) (start .pre .1)
     (sym (at-sees .sees .ensures (args .text .now) (start .pre .0)) ∙ c .before .if1 .taken)
-
-place-requires : tie.Need-place-requires
-place-requires c κs = search needs
 
 returns-2 : tie.Need-returns-2
 returns-2 c =
@@ -32,4 +23,4 @@ returns-2 c =
     (sym (at-sees .sees .ensures (args .text .now) (start .pre .0)) ∙ c .before .if1 .left))
 
 pub mark-spec : {M : Type 1} → statement M
-mark-spec = tie.close (tie.spec sees-requires advance-requires returns place-requires returns-2)
+mark-spec = tie.close (tie.spec (λ c κs. search needs) (λ c κs. search needs) returns (λ c κs. search needs) returns-2)

@@ -6,27 +6,6 @@ use borrow.Author.Needs.{needs}
 use Rattle.cursor.proofs.number.Statement.{statement}
 use Rattle.cursor.proofs.number.Tie as tie
 
-sees-requires : tie.Need-sees-requires
-sees-requires c κs = search needs
-
-advance-requires : tie.Need-advance-requires
-advance-requires c κs = search needs
-
-number-seen-requires : tie.Need-number-seen-requires
-number-seen-requires c κs = search needs
-
-enum-known-n : tie.Need-enum-known-n
-enum-known-n c = search needs
-
-advance-requires-2 : tie.Need-advance-requires-2
-advance-requires-2 c κs = search needs
-
-enum-told : tie.Need-enum-told
-enum-told c = search needs
-
-place-requires : tie.Need-place-requires
-place-requires c κs = search needs
-
 returns : tie.Need-returns
 returns c =
     let at-n = c .before .before in
@@ -61,21 +40,6 @@ returns-2 c =
       head-place (args .text .now) (args .c) (start .pre) ∙ sym (c .place .ensures),
     )
 
-number-seen-requires-2 : tie.Need-number-seen-requires-2
-number-seen-requires-2 c κs = search needs
-
-enum-known-n-2 : tie.Need-enum-known-n-2
-enum-known-n-2 c = search needs
-
-advance-requires-3 : tie.Need-advance-requires-3
-advance-requires-3 c κs = search needs
-
-enum-told-2 : tie.Need-enum-told-2
-enum-told-2 c = search needs
-
-place-requires-2 : tie.Need-place-requires-2
-place-requires-2 c κs = search needs
-
 returns-3 : tie.Need-returns-3
 returns-3 c =
     let at-n2 = c .before .before in
@@ -101,21 +65,6 @@ returns-4 c =
 
 pub number-spec : {M : Type 1} → statement M
 number-spec =
-    tie.close
-    (tie.spec
-    sees-requires
-    advance-requires
-    number-seen-requires
-    enum-known-n
-    advance-requires-2
-    enum-told
-    place-requires
-    returns
-    returns-2
-    number-seen-requires-2
-    enum-known-n-2
-    advance-requires-3
-    enum-told-2
-    place-requires-2
-    returns-3
-    returns-4)
+    tie.close (tie.spec (λ c κs. search needs) (λ c κs. search needs) (λ c κs. search needs) (λ c. search needs) (λ c κs. search needs)
+    (λ c. search needs) (λ c κs. search needs) returns returns-2 (λ c κs. search needs) (λ c. search needs) (λ c κs. search needs)
+    (λ c. search needs) (λ c κs. search needs) returns-3 returns-4)

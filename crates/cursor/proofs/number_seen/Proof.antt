@@ -6,36 +6,12 @@ use borrow.Author.Needs.{needs}
 use Rattle.cursor.proofs.number_seen.Statement.{statement}
 use Rattle.cursor.proofs.number_seen.Tie as tie
 
-enum-told : tie.Need-enum-told
-enum-told c = search needs
-
-place-requires : tie.Need-place-requires
-place-requires c κs = search needs
-
-sub-number-of : tie.Need-sub-number-of
-sub-number-of c = search needs
-
-part-number-of-start : tie.Need-part-number-of-start
-part-number-of-start c = search needs
-
-part-number-of-end : tie.Need-part-number-of-end
-part-number-of-end c = search needs
-
 number-of-requires : tie.Need-number-of-requires
 number-of-requires c κs =
     let at-enum-told = c .before .before in
     let start = at-enum-told .before .before .before in
     rw (rest-of (start .args .text .now) (c .before .place .result), c .before .place .ensures)
     (rw (at-enum-told .enum-told .given .1) at (start .pre .head .stands))
-
-enum-told-2 : tie.Need-enum-told-2
-enum-told-2 c = search needs
-
-enum-told-3 : tie.Need-enum-told-3
-enum-told-3 c = search needs
-
-enum-told-4 : tie.Need-enum-told-4
-enum-told-4 c = search needs
 
 returns : tie.Need-returns
 returns c =
@@ -61,18 +37,5 @@ returns-4 c = rw (c .before .before .before .pre .head .kind, c .enum-told4 .giv
 
 pub number-seen-spec : {M : Type 1} → statement M
 number-seen-spec =
-    tie.close
-    (tie.spec
-    enum-told
-    place-requires
-    sub-number-of
-    part-number-of-start
-    part-number-of-end
-    number-of-requires
-    enum-told-2
-    enum-told-3
-    enum-told-4
-    returns
-    returns-2
-    returns-3
-    returns-4)
+    tie.close (tie.spec (λ c. search needs) (λ c κs. search needs) (λ c. search needs) (λ c. search needs) (λ c. search needs)
+    number-of-requires (λ c. search needs) (λ c. search needs) (λ c. search needs) returns returns-2 returns-3 returns-4)

@@ -9,15 +9,6 @@ use borrow.Author.Needs.{needs}
 use Rattle.cursor.proofs.parse_float.Statement.{statement}
 use Rattle.cursor.proofs.parse_float.Tie as tie
 
-number-requires : tie.Need-number-requires
-number-requires c κs = search needs
-
-enum-known-p : tie.Need-enum-known-p
-enum-known-p c = search needs
-
-enum-known-negative : tie.Need-enum-known-negative
-enum-known-negative c = search needs
-
 count-requires : tie.Need-count-requires
 count-requires c κs =
     let at-negative = c .before .before in
@@ -53,5 +44,4 @@ returns-2 c =
 
 pub parse-float-spec : {M : Type 1} → statement M
 parse-float-spec =
-    tie.close
-    (tie.spec number-requires enum-known-p enum-known-negative float-of-requires count-requires returns returns-2)
+    tie.close (tie.spec (λ c κs. search needs) (λ c. search needs) (λ c. search needs) float-of-requires count-requires returns returns-2)

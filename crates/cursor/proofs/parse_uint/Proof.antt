@@ -9,18 +9,6 @@ use borrow.Author.Needs.{needs}
 use Rattle.cursor.proofs.parse_uint.Statement.{statement}
 use Rattle.cursor.proofs.parse_uint.Tie as tie
 
-number-requires : tie.Need-number-requires
-number-requires c κs = search needs
-
-enum-known-p : tie.Need-enum-known-p
-enum-known-p c = search needs
-
-enum-known-negative : tie.Need-enum-known-negative
-enum-known-negative c = search needs
-
-place-requires : tie.Need-place-requires
-place-requires c κs = search needs
-
 returns : tie.Need-returns
 unfolding parseUint
 returns c =
@@ -31,18 +19,6 @@ returns c =
     let n = rw (at-negative .negative .given .1) at (at-number .number .ensures) in
     let e = whole-missing (args .text .now) (args .c) _ _ _ n Missing (c .before .if1 .taken) in
     rw (e, head-place (args .text .now) (args .c) (start .pre), c .place .ensures)
-
-whole-requires : tie.Need-whole-requires
-whole-requires c κs = search needs
-
-enum-known-v : tie.Need-enum-known-v
-enum-known-v c = search needs
-
-enum-told : tie.Need-enum-told
-enum-told c = search needs
-
-place-requires-2 : tie.Need-place-requires-2
-place-requires-2 c κs = search needs
 
 returns-2 : tie.Need-returns-2
 unfolding parseUint
@@ -82,17 +58,5 @@ returns-4 c =
 
 pub parse-uint-spec : {M : Type 1} → statement M
 parse-uint-spec =
-    tie.close
-    (tie.spec
-    number-requires
-    enum-known-p
-    enum-known-negative
-    place-requires
-    returns
-    whole-requires
-    enum-known-v
-    enum-told
-    place-requires-2
-    returns-2
-    returns-3
-    returns-4)
+    tie.close (tie.spec (λ c κs. search needs) (λ c. search needs) (λ c. search needs) (λ c κs. search needs) returns (λ c κs. search needs)
+    (λ c. search needs) (λ c. search needs) (λ c κs. search needs) returns-2 returns-3 returns-4)

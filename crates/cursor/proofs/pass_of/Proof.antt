@@ -8,18 +8,9 @@ use borrow.Author.Needs.{needs}
 use Rattle.cursor.proofs.pass_of.Statement.{statement}
 use Rattle.cursor.proofs.pass_of.Tie as tie
 
-enum-known-k : tie.Need-enum-known-k
-enum-known-k c = search needs
-
 returns : tie.Need-returns
 unfolding weigh
 returns c t n = rw (c .before .before .k .given .1, c .if1 .taken)
-
-slice-aggregate-has : tie.Need-slice-aggregate-has
-slice-aggregate-has c = search needs
-
-has-requires : tie.Need-has-requires
-has-requires c κs = search needs
 
 returns-2 : tie.Need-returns-2
 unfolding weigh
@@ -29,9 +20,6 @@ returns-2 c t n =
     let at-k = at-if1 .before .before in
     rw (at-k .k .given .1, ne-eqb _ _ (at-if1 .if1 .left), sym (at-has .has .ensures) ∙ c .before .if2 .taken, c .if3 .taken)
 
-sub-t12 : tie.Need-sub-t12
-sub-t12 c = search needs
-
 returns-3 : tie.Need-returns-3
 unfolding weigh
 returns-3 c t n =
@@ -40,15 +28,6 @@ returns-3 c t n =
     let at-k = at-if1 .before .before in
     rw
     (at-k .k .given .1, ne-eqb _ _ (at-if1 .if1 .left), sym (at-has .has .ensures) ∙ c .before .if2 .taken, closing-some _ (c .if3 .left))
-
-slice-aggregate-has-2 : tie.Need-slice-aggregate-has-2
-slice-aggregate-has-2 c = search needs
-
-has-requires-2 : tie.Need-has-requires-2
-has-requires-2 c κs = search needs
-
-add-t16 : tie.Need-add-t16
-add-t16 c = search needs
 
 returns-4 : tie.Need-returns-4
 unfolding weigh
@@ -64,15 +43,6 @@ returns-4 c t n =
       sym (c .before .has2 .ensures) ∙ c .if4 .taken,
       add-one,
     )
-
-enum-told : tie.Need-enum-told
-enum-told c = search needs
-
-enum-told-2 : tie.Need-enum-told-2
-enum-told-2 c = search needs
-
-enum-told-3 : tie.Need-enum-told-3
-enum-told-3 c = search needs
 
 returns-5 : tie.Need-returns-5
 unfolding weigh
@@ -102,23 +72,6 @@ returns-8 c t n = rw (c .enum-told3 .given .1)
 
 pub pass-of-spec : {M : Type 1} → statement M
 pass-of-spec =
-    tie.close
-    (tie.spec
-    enum-known-k
-    returns
-    slice-aggregate-has
-    has-requires
-    returns-2
-    sub-t12
-    returns-3
-    slice-aggregate-has-2
-    has-requires-2
-    add-t16
-    returns-4
-    enum-told
-    enum-told-2
-    enum-told-3
-    returns-5
-    returns-6
-    returns-7
-    returns-8)
+    tie.close (tie.spec (λ c. search needs) returns (λ c. search needs) (λ c κs. search needs) returns-2 (λ c. search needs) returns-3
+    (λ c. search needs) (λ c κs. search needs) (λ c. search needs) returns-4 (λ c. search needs) (λ c. search needs) (λ c. search needs)
+    returns-5 returns-6 returns-7 returns-8)

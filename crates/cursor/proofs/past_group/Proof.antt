@@ -23,9 +23,6 @@ loop-holds c = leaving-start (c .before .args .text .now) (c .before .args .c) (
 pass-of-requires : tie.Need-pass-of-requires Inv-loop μ-loop
 pass-of-requires c κs = omega (arith, c .loop .inv .deep, c .loop .inv .ready .high)
 
-enum-told : tie.Need-enum-told Inv-loop μ-loop
-enum-told c = search needs
-
 returns : tie.Need-returns Inv-loop μ-loop
 returns c =
     let at-pass-of = c .before .before in
@@ -40,9 +37,6 @@ returns c =
     (loop .inv)
     (ap (λ (k : Kind). weigh k (loop .d)) (head-kind (args .text .now) (loop .m) (loop .inv .ready))
     ∙ sym (at-pass-of .pass-of .ensures _ _) ∙ ap passOf (c .enum-told .given .1))
-
-enum-told-2 : tie.Need-enum-told-2 Inv-loop μ-loop
-enum-told-2 c = search needs
 
 advance-requires : tie.Need-advance-requires Inv-loop μ-loop
 advance-requires c κs = c .before .before .before .loop .inv .ready
@@ -63,9 +57,6 @@ returns-2 c =
     (c .advance .ensures)
     (ap (λ (k : Kind). weigh k (loop .d)) (head-kind (args .text .now) (loop .m) (loop .inv .ready))
     ∙ sym (at-pass-of .pass-of .ensures _ _) ∙ ap passOf (c .before .enum-told2 .given .1))
-
-enum-known-e : tie.Need-enum-known-e Inv-loop μ-loop
-enum-known-e c = search needs
 
 advance-requires-2 : tie.Need-advance-requires-2 Inv-loop μ-loop
 advance-requires-2 c κs =
@@ -106,18 +97,5 @@ loop-again c =
 
 pub past-group-spec : {M : Type 1} → statement M
 past-group-spec =
-    tie.close
-    (tie.spec
-    Inv-loop
-    μ-loop
-    loop-holds
-    pass-of-requires
-    enum-told
-    returns
-    enum-told-2
-    advance-requires
-    returns-2
-    enum-known-e
-    advance-requires-2
-    loop-less
-    loop-again)
+    tie.close (tie.spec Inv-loop μ-loop loop-holds pass-of-requires (λ c. search needs) returns (λ c. search needs) advance-requires
+    returns-2 (λ c. search needs) advance-requires-2 loop-less loop-again)

@@ -6,11 +6,8 @@ use borrow.Author.Needs.{needs}
 use Rattle.cursor.proofs.sees.Statement.{statement}
 use Rattle.cursor.proofs.sees.Tie as tie
 
-is-mark-requires : tie.Need-is-mark-requires
-is-mark-requires c κs = search needs
-
 returns : tie.Need-returns
 returns c s r = c .is-mark .ensures _ _ ∙ ap (λ (k : Kind). isMark k (c .before .args .b)) (sym (head-kind s (c .before .args .c) r))
 
 pub sees-spec : {M : Type 1} → statement M
-sees-spec = tie.close (tie.spec is-mark-requires returns)
+sees-spec = tie.close (tie.spec (λ c κs. search needs) returns)

@@ -8,30 +8,6 @@ use borrow.Author.Needs.{needs}
 use Rattle.cursor.proofs.sees_name.Statement.{statement}
 use Rattle.cursor.proofs.sees_name.Tie as tie
 
-enum-told : tie.Need-enum-told
-enum-told c = search needs
-
-place-requires : tie.Need-place-requires
-place-requires c κs = search needs
-
-size-requires : tie.Need-size-requires
-size-requires c κs = search needs
-
-part-requires : tie.Need-part-requires
-part-requires c κs = search needs
-
-is-keyword-requires : tie.Need-is-keyword-requires
-is-keyword-requires c κs = search needs
-
-enum-told-2 : tie.Need-enum-told-2
-enum-told-2 c = search needs
-
-enum-told-3 : tie.Need-enum-told-3
-enum-told-3 c = search needs
-
-enum-told-4 : tie.Need-enum-told-4
-enum-told-4 c = search needs
-
 returns : tie.Need-returns
 returns c =
     let at-size = c .before .before in
@@ -52,17 +28,5 @@ returns-4 c = rw (c .before .before .before .pre .head .kind, c .enum-told4 .giv
 
 pub sees-name-spec : {M : Type 1} → statement M
 sees-name-spec =
-    tie.close
-    (tie.spec
-    enum-told
-    place-requires
-    size-requires
-    part-requires
-    is-keyword-requires
-    enum-told-2
-    enum-told-3
-    enum-told-4
-    returns
-    returns-2
-    returns-3
-    returns-4)
+    tie.close (tie.spec (λ c. search needs) (λ c κs. search needs) (λ c κs. search needs) (λ c κs. search needs) (λ c κs. search needs)
+    (λ c. search needs) (λ c. search needs) (λ c. search needs) returns returns-2 returns-3 returns-4)

@@ -4,30 +4,6 @@ use borrow.Author.Needs.{needs}
 use Rattle.cursor.proofs.sees_word.Statement.{statement}
 use Rattle.cursor.proofs.sees_word.Tie as tie
 
-enum-told : tie.Need-enum-told
-enum-told c = search needs
-
-place-requires : tie.Need-place-requires
-place-requires c κs = search needs
-
-size-requires : tie.Need-size-requires
-size-requires c κs = search needs
-
-part-requires : tie.Need-part-requires
-part-requires c κs = search needs
-
-is-word-requires : tie.Need-is-word-requires
-is-word-requires c κs = search needs
-
-enum-told-2 : tie.Need-enum-told-2
-enum-told-2 c = search needs
-
-enum-told-3 : tie.Need-enum-told-3
-enum-told-3 c = search needs
-
-enum-told-4 : tie.Need-enum-told-4
-enum-told-4 c = search needs
-
 returns : tie.Need-returns
 returns c =
     let at-size = c .before .before in
@@ -49,17 +25,5 @@ returns-4 c = rw (c .before .before .before .before .pre .head .kind, c .enum-to
 
 pub sees-word-spec : {M : Type 1} → statement M
 sees-word-spec =
-    tie.close
-    (tie.spec
-    enum-told
-    place-requires
-    size-requires
-    part-requires
-    is-word-requires
-    enum-told-2
-    enum-told-3
-    enum-told-4
-    returns
-    returns-2
-    returns-3
-    returns-4)
+    tie.close (tie.spec (λ c. search needs) (λ c κs. search needs) (λ c κs. search needs) (λ c κs. search needs) (λ c κs. search needs)
+    (λ c. search needs) (λ c. search needs) (λ c. search needs) returns returns-2 returns-3 returns-4)

@@ -4,13 +4,10 @@ use borrow.Author.Needs.{needs}
 use Rattle.cursor.proofs.start.Statement.{statement}
 use Rattle.cursor.proofs.start.Tie as tie
 
-token-requires : tie.Need-token-requires
-token-requires c κs = search needs
-
 returns : tie.Need-returns
 returns c =
     let start = c .before .before in
     begins _ _ _ _ _ (start .pre .1) (start .pre .2) (start .pre .3) (c .token .ensures)
 
 pub start-spec : {M : Type 1} → statement M
-start-spec = tie.close (tie.spec token-requires returns)
+start-spec = tie.close (tie.spec (λ c κs. search needs) returns)

@@ -5,35 +5,11 @@ use borrow.Author.Needs.{needs}
 use Rattle.cursor.proofs.string.Statement.{statement}
 use Rattle.cursor.proofs.string.Tie as tie
 
-place-requires : tie.Need-place-requires
-place-requires c κs = search needs
-
-enum-told : tie.Need-enum-told
-enum-told c = search needs
-
-size-requires : tie.Need-size-requires
-size-requires c κs = search needs
-
 sub-size : tie.Need-sub-size
 sub-size c =
     let at-enum-told = c .before in
     let start = at-enum-told .before .before .before .before in
     omega (arith, c .size .ensures, quotes (start .args .text .now) (start .args .c) (start .pre) (at-enum-told .enum-told .given .1))
-
-add-t8 : tie.Need-add-t8
-add-t8 c = search needs
-
-advance-requires : tie.Need-advance-requires
-advance-requires c κs = search needs
-
-enum-told-2 : tie.Need-enum-told-2
-enum-told-2 c = search needs
-
-enum-told-3 : tie.Need-enum-told-3
-enum-told-3 c = search needs
-
-enum-told-4 : tie.Need-enum-told-4
-enum-told-4 c = search needs
 
 returns : tie.Need-returns
 returns c =
@@ -71,18 +47,5 @@ returns-4 c =
 
 pub string-spec : {M : Type 1} → statement M
 string-spec =
-    tie.close
-    (tie.spec
-    place-requires
-    enum-told
-    size-requires
-    sub-size
-    add-t8
-    advance-requires
-    enum-told-2
-    enum-told-3
-    enum-told-4
-    returns
-    returns-2
-    returns-3
-    returns-4)
+    tie.close (tie.spec (λ c κs. search needs) (λ c. search needs) (λ c κs. search needs) sub-size (λ c. search needs)
+    (λ c κs. search needs) (λ c. search needs) (λ c. search needs) (λ c. search needs) returns returns-2 returns-3 returns-4)

@@ -5,15 +5,6 @@ use borrow.Author.Needs.{needs}
 use Rattle.cursor.proofs.truth.Statement.{statement}
 use Rattle.cursor.proofs.truth.Tie as tie
 
-slice-aggregate-sees-word : tie.Need-slice-aggregate-sees-word
-slice-aggregate-sees-word c = search needs
-
-sees-word-requires : tie.Need-sees-word-requires
-sees-word-requires c κs = search needs
-
-advance-requires : tie.Need-advance-requires
-advance-requires c κs = search needs
-
 returns : tie.Need-returns
 returns c =
     let at-sees-word = c .before .before in
@@ -25,15 +16,6 @@ returns c =
     (start .pre)
     (c .advance .ensures)
     (sym (at-sees-word .sees-word .ensures) ∙ c .before .if1 .taken)
-
-slice-aggregate-sees-word-2 : tie.Need-slice-aggregate-sees-word-2
-slice-aggregate-sees-word-2 c = search needs
-
-sees-word-requires-2 : tie.Need-sees-word-requires-2
-sees-word-requires-2 c κs = search needs
-
-advance-requires-2 : tie.Need-advance-requires-2
-advance-requires-2 c κs = search needs
 
 returns-2 : tie.Need-returns-2
 returns-2 c =
@@ -50,9 +32,6 @@ returns-2 c =
     (sym (at-sees-word .sees-word .ensures) ∙ at-if1 .if1 .left)
     (sym (at-sees-word2 .sees-word2 .ensures) ∙ c .before .if2 .taken)
 
-place-requires : tie.Need-place-requires
-place-requires c κs = search needs
-
 returns-3 : tie.Need-returns-3
 returns-3 c =
     let at-sees-word2 = c .before .before in
@@ -65,15 +44,5 @@ returns-3 c =
 
 pub truth-spec : {M : Type 1} → statement M
 truth-spec =
-    tie.close
-    (tie.spec
-    slice-aggregate-sees-word
-    sees-word-requires
-    advance-requires
-    returns
-    slice-aggregate-sees-word-2
-    sees-word-requires-2
-    advance-requires-2
-    returns-2
-    place-requires
-    returns-3)
+    tie.close (tie.spec (λ c. search needs) (λ c κs. search needs) (λ c κs. search needs) returns (λ c. search needs) (λ c κs. search needs)
+    (λ c κs. search needs) returns-2 (λ c κs. search needs) returns-3)

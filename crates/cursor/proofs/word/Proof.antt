@@ -7,21 +7,6 @@ use borrow.Author.Needs.{needs}
 use Rattle.cursor.proofs.word.Statement.{statement}
 use Rattle.cursor.proofs.word.Tie as tie
 
-place-requires : tie.Need-place-requires
-place-requires c κs = search needs
-
-enum-told : tie.Need-enum-told
-enum-told c = search needs
-
-size-requires : tie.Need-size-requires
-size-requires c κs = search needs
-
-part-requires : tie.Need-part-requires
-part-requires c κs = search needs
-
-is-keyword-requires : tie.Need-is-keyword-requires
-is-keyword-requires c κs = search needs
-
 returns : tie.Need-returns
 returns c =
     let at-part = c .before .before in
@@ -35,18 +20,6 @@ returns c =
     rw (at-place .place .ensures)
     (no-word (start .args .text .now) (start .args .c) (start .pre)
     (rw (start .pre .head .kind, at-enum-told .enum-told .given .1, sym k ∙ c .if1 .taken)))
-
-advance-requires : tie.Need-advance-requires
-advance-requires c κs = search needs
-
-enum-told-2 : tie.Need-enum-told-2
-enum-told-2 c = search needs
-
-enum-told-3 : tie.Need-enum-told-3
-enum-told-3 c = search needs
-
-enum-told-4 : tie.Need-enum-told-4
-enum-told-4 c = search needs
 
 returns-2 : tie.Need-returns-2
 returns-2 c =
@@ -89,19 +62,5 @@ returns-5 c =
 
 pub word-spec : {M : Type 1} → statement M
 word-spec =
-    tie.close
-    (tie.spec
-    place-requires
-    enum-told
-    size-requires
-    part-requires
-    is-keyword-requires
-    returns
-    advance-requires
-    enum-told-2
-    enum-told-3
-    enum-told-4
-    returns-2
-    returns-3
-    returns-4
-    returns-5)
+    tie.close (tie.spec (λ c κs. search needs) (λ c. search needs) (λ c κs. search needs) (λ c κs. search needs) (λ c κs. search needs)
+    returns (λ c κs. search needs) (λ c. search needs) (λ c. search needs) (λ c. search needs) returns-2 returns-3 returns-4 returns-5)

@@ -18,18 +18,6 @@ fits n m h a b c =
     sum : (h q : ℕ) → h ≤ 2 ^ 32 → q ≤ 1 → h * 2 + q < 2 ^ 64
     sum h q a b = omega arith
 
-mul-n : tie.Need-mul-n
-mul-n c = search needs
-
-mul-m : tie.Need-mul-m
-mul-m c = search needs
-
-add-m : tie.Need-add-m
-add-m c = search needs
-
-mul-high : tie.Need-mul-high
-mul-high c = search needs
-
 add-high : tie.Need-add-high
 add-high c =
     let start = c .before .before .before in
@@ -41,4 +29,4 @@ returns : tie.Need-returns
 returns c = record { is = omega arith; n = omega arith; middle = omega arith }
 
 pub doubled-spec : {M : Type 1} → statement M
-doubled-spec = tie.close (tie.spec mul-n mul-m add-m mul-high add-high returns)
+doubled-spec = tie.close (tie.spec (λ c. search needs) (λ c. search needs) (λ c. search needs) (λ c. search needs) add-high returns)

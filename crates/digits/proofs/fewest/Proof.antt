@@ -11,37 +11,19 @@ use borrow.Author.Needs.{needs}
 use Rattle.digits.proofs.fewest.Statement.{statement}
 use Rattle.digits.proofs.fewest.Tie as tie
 
-whole-requires : tie.Need-whole-requires
-whole-requires c κs = search needs
-
 whole-answer : (b : ℕ) (r : Decimal) → LeastWhole b r → {o : Option (ℕ × ℕ)} → some (wholeOver b, 0) ≡ o → numberOf r ≡ o
 whole-answer b r l e = rw (l .found, l .is, l .places) e
 
 returns : tie.Need-returns
 returns c = (c .whole .ensures .0 ∙ zero-written _ (c .before .if1 .taken), c .whole .ensures .1)
 
-whole-requires-2 : tie.Need-whole-requires-2
-whole-requires-2 c κs = search needs
-
 returns-2 : tie.Need-returns-2
 returns-2 c =
     let at-if2 = c .before in
     (c .whole2 .ensures .0 ∙ sym (ap decimalOf (none-below _ (at-if2 .before .if1 .left) (at-if2 .if2 .taken))), c .whole2 .ensures .1)
 
-whole-requires-3 : tie.Need-whole-requires-3
-whole-requires-3 c κs = search needs
-
 returns-3 : tie.Need-returns-3
 returns-3 c = (c .whole3 .ensures .0 ∙ sym (ap decimalOf (none-above _ (c .before .if3 .taken))), c .whole3 .ensures .1)
-
-fewest-small-requires : tie.Need-fewest-small-requires
-fewest-small-requires c κs = search needs
-
-returns-4 : tie.Need-returns-4
-returns-4 c = search needs
-
-least-whole-requires : tie.Need-least-whole-requires
-least-whole-requires c κs = search needs
 
 returns-5 : tie.Need-returns-5
 returns-5 c =
@@ -50,15 +32,5 @@ returns-5 c =
 
 pub fewest-spec : {M : Type 1} → statement M
 fewest-spec =
-    tie.close
-    (tie.spec
-    whole-requires
-    returns
-    whole-requires-2
-    returns-2
-    whole-requires-3
-    returns-3
-    fewest-small-requires
-    returns-4
-    least-whole-requires
-    returns-5)
+    tie.close (tie.spec (λ c κs. search needs) returns (λ c κs. search needs) returns-2 (λ c κs. search needs) returns-3
+    (λ c κs. search needs) (λ c. search needs) (λ c κs. search needs) returns-5)

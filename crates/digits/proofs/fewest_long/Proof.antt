@@ -18,15 +18,9 @@ Inv-loop bits low high f₀ g₀ i₀ j₀ places₀ f g i j places = Hunting bi
 abbrev μ-loop : tie.MeasureT-loop
 μ-loop bits low high f₀ g₀ i₀ j₀ places₀ f g i j places = 41 - places
 
-slice-aggregate-prepare : tie.Need-slice-aggregate-prepare Inv-loop μ-loop
-slice-aggregate-prepare c = search needs
-
 prepare-requires : tie.Need-prepare-requires Inv-loop μ-loop
 unfolding upTo
 prepare-requires c κs = (refl, refl, c .before .pre .long-low)
-
-slice-aggregate-prepare-2 : tie.Need-slice-aggregate-prepare-2 Inv-loop μ-loop
-slice-aggregate-prepare-2 c = search needs
 
 prepare-requires-2 : tie.Need-prepare-requires-2 Inv-loop μ-loop
 unfolding upTo
@@ -39,18 +33,12 @@ loop-holds c =
     let start = at-prepare .before .before in
     hunt-starts (start .pre) (at-prepare .prepare .ensures) (at-prepare2 .prepare2 .ensures)
 
-slice-aggregate-first-past : tie.Need-slice-aggregate-first-past Inv-loop μ-loop
-slice-aggregate-first-past c = search needs
-
 first-past-requires : tie.Need-first-past-requires Inv-loop μ-loop
 first-past-requires c κs =
     let at-loop = c .before .before in
     let c6 = at-loop .before .before .before .before in
     let start = c6 .before .before .before in
     (at-loop .loop .inv .fixed-low .long, hunt-low (start .pre) (at-loop .loop .inv))
-
-slice-aggregate-first-past-2 : tie.Need-slice-aggregate-first-past-2 Inv-loop μ-loop
-slice-aggregate-first-past-2 c = search needs
 
 first-past-requires-2 : tie.Need-first-past-requires-2 Inv-loop μ-loop
 first-past-requires-2 c κs =
@@ -83,9 +71,6 @@ returns c =
       },
     )
 
-slice-aggregate-lift : tie.Need-slice-aggregate-lift Inv-loop μ-loop
-slice-aggregate-lift c = search needs
-
 lift-requires : tie.Need-lift-requires Inv-loop μ-loop
 lift-requires c κs =
     let c4 = c .before .before .before .before in
@@ -93,9 +78,6 @@ lift-requires c κs =
     let c11 = at-loop .before .before .before .before in
     let start = c11 .before .before .before in
     (at-loop .loop .inv .fixed-low .long, hunt-low (start .pre) (at-loop .loop .inv), omega arith)
-
-slice-aggregate-lift-2 : tie.Need-slice-aggregate-lift-2 Inv-loop μ-loop
-slice-aggregate-lift-2 c = search needs
 
 lift-requires-2 : tie.Need-lift-requires-2 Inv-loop μ-loop
 lift-requires-2 c κs =
@@ -136,34 +118,11 @@ loop-again c =
     (at-lift .lift .ensures .0)
     (at-lift2 .lift2 .ensures .0)
 
-whole-requires : tie.Need-whole-requires Inv-loop μ-loop
-whole-requires c κs = search needs
-
 returns-2 : tie.Need-returns-2 Inv-loop μ-loop
 returns-2 c = (c .whole .ensures .0 ∙ hunt-ends (c .before .before .loop .inv) (c .before .loop-test .left), c .whole .ensures .1)
 
 pub fewest-long-spec : {M : Type 1} → statement M
 fewest-long-spec =
-    tie.close
-    (tie.spec
-    Inv-loop
-    μ-loop
-    slice-aggregate-prepare
-    prepare-requires
-    slice-aggregate-prepare-2
-    prepare-requires-2
-    loop-holds
-    slice-aggregate-first-past
-    first-past-requires
-    slice-aggregate-first-past-2
-    first-past-requires-2
-    returns
-    slice-aggregate-lift
-    lift-requires
-    slice-aggregate-lift-2
-    lift-requires-2
-    add-places
-    loop-less
-    loop-again
-    whole-requires
-    returns-2)
+    tie.close (tie.spec Inv-loop μ-loop (λ c. search needs) prepare-requires (λ c. search needs) prepare-requires-2 loop-holds
+    (λ c. search needs) first-past-requires (λ c. search needs) first-past-requires-2 returns (λ c. search needs) lift-requires
+    (λ c. search needs) lift-requires-2 add-places loop-less loop-again (λ c κs. search needs) returns-2)

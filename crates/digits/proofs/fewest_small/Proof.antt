@@ -99,21 +99,5 @@ returns-3 c = c .fewest-long2 .ensures
 
 pub fewest-small-spec : {M : Type 1} → statement M
 fewest-small-spec =
-    tie.close
-    (tie.spec
-    Inv-loop
-    μ-loop
-    middle-below-requires
-    add-middle-below
-    middle-below-requires-2
-    fewest-long-requires
-    returns
-    loop-holds
-    step-requires
-    mul-scale
-    add-places
-    loop-less
-    loop-again
-    returns-2
-    fewest-long-requires-2
-    returns-3)
+    tie.close (tie.spec Inv-loop μ-loop middle-below-requires add-middle-below middle-below-requires-2 fewest-long-requires returns
+    loop-holds step-requires mul-scale add-places loop-less loop-again returns-2 fewest-long-requires-2 returns-3)

@@ -14,12 +14,6 @@ divided w =
     let y = start .args .y in
     w .percent-from .ensures .0 false (floatWhole y) (w .before .f32-of-bits .ensures ∙ float-is y (start .pre .0) (start .pre .1))
 
-f32-of-bits-requires : tie.Need-f32-of-bits-requires
-f32-of-bits-requires c κs = search needs
-
-percent-from-requires : tie.Need-percent-from-requires
-percent-from-requires c κs = search needs
-
 bits-of-requires : tie.Need-bits-of-requires
 bits-of-requires c κs = not-nan _ (divided c)
 
@@ -27,5 +21,4 @@ returns : tie.Need-returns
 returns c = measured _ (c .bits-of .ensures) (divided (c .before))
 
 pub hundredth-spec : {M : Type 1} → statement M
-hundredth-spec =
-    tie.close (tie.spec f32-of-bits-requires percent-from-requires bits-of-requires returns)
+hundredth-spec = tie.close (tie.spec (λ c κs. search needs) (λ c κs. search needs) bits-of-requires returns)

@@ -13,15 +13,6 @@ use borrow.Author.Needs.{needs}
 use Rattle.digits.proofs.large_percent.Statement.{statement}
 use Rattle.digits.proofs.large_percent.Tie as tie
 
-least-float-requires : tie.Need-least-float-requires
-least-float-requires c κs = search needs
-
-hundredth-requires : tie.Need-hundredth-requires
-hundredth-requires c κs = search needs
-
-whole-requires : tie.Need-whole-requires
-whole-requires c κs = search needs
-
 whole-answer : (b : ℕ) (r : Decimal) → LeastWhole b r → {o : Option (ℕ × ℕ)} → some (wholeOver b, 0) ≡ o → numberOf r ≡ o
 whole-answer b r l e = rw (l .found, l .is, l .places) e
 
@@ -37,16 +28,10 @@ returns c =
       c .whole .ensures .1,
     )
 
-middle-below-requires : tie.Need-middle-below-requires
-middle-below-requires c κs = search needs
-
 past-requires : tie.Need-past-requires
 past-requires c κs =
     let f = c .before .before .before .before .least-float .ensures in
     (fair-of (omega (arith, f .low)) (c .middle-below .ensures .1), omega arith, omega arith)
-
-whole-requires-2 : tie.Need-whole-requires-2
-whole-requires-2 c κs = search needs
 
 returns-2 : tie.Need-returns-2
 returns-2 c =
@@ -62,9 +47,6 @@ returns-2 c =
           (sym (at-hundredth .hundredth .ensures) ∙ at-if1 .if1 .left),
       c .whole2 .ensures .1,
     )
-
-least-whole-requires : tie.Need-least-whole-requires
-least-whole-requires c κs = search needs
 
 returns-3 : tie.Need-returns-3
 returns-3 c =
@@ -82,15 +64,5 @@ returns-3 c =
 
 pub large-percent-spec : {M : Type 1} → statement M
 large-percent-spec =
-    tie.close
-    (tie.spec
-    least-float-requires
-    hundredth-requires
-    whole-requires
-    returns
-    middle-below-requires
-    past-requires
-    whole-requires-2
-    returns-2
-    least-whole-requires
-    returns-3)
+    tie.close (tie.spec (λ c κs. search needs) (λ c κs. search needs) (λ c κs. search needs) returns (λ c κs. search needs) past-requires
+    (λ c κs. search needs) returns-2 (λ c κs. search needs) returns-3)

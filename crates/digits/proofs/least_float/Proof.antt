@@ -52,17 +52,5 @@ returns c = seek-ends (c .before .loop .inv) (c .loop-test .left)
 
 pub least-float-spec : {M : Type 1} → statement M
 least-float-spec =
-    tie.close
-    (tie.spec
-    Inv-loop
-    μ-loop
-    loop-holds
-    sub-mid
-    add-mid
-    hundredth-requires
-    add-lo
-    loop-less
-    loop-again
-    loop-less-2
-    loop-again-2
+    tie.close (tie.spec Inv-loop μ-loop loop-holds sub-mid add-mid hundredth-requires add-lo loop-less loop-again loop-less-2 loop-again-2
     returns)

@@ -67,9 +67,6 @@ abbrev μ-loop : tie.MeasureT-loop
 sub-b : tie.Need-sub-b Inv-loop μ-loop
 sub-b c = omega arith
 
-doublings-requires : tie.Need-doublings-requires Inv-loop μ-loop
-doublings-requires c κs = search needs
-
 mul-w : tie.Need-mul-w Inv-loop μ-loop
 mul-w c = omega (arith, c .doublings .ensures)
 
@@ -192,23 +189,5 @@ returns c =
 
 pub least-whole-spec : {M : Type 1} → statement M
 least-whole-spec =
-    tie.close
-    (tie.spec
-    Inv-loop
-    μ-loop
-    sub-b
-    doublings-requires
-    mul-w
-    sub-w
-    mul-n
-    add-n
-    cast-n
-    loop-holds
-    doubled-requires
-    add-i
-    loop-less
-    loop-again
-    add-n-2
-    cast-n-2
-    sub-n
-    returns)
+    tie.close (tie.spec Inv-loop μ-loop sub-b (λ c κs. search needs) mul-w sub-w mul-n add-n cast-n loop-holds doubled-requires add-i
+    loop-less loop-again add-n-2 cast-n-2 sub-n returns)

@@ -8,9 +8,6 @@ use borrow.Author.Needs.{needs}
 use Rattle.digits.proofs.lift.Statement.{statement}
 use Rattle.digits.proofs.lift.Tie as tie
 
-muladd-requires : tie.Need-muladd-requires
-muladd-requires c κs = search needs
-
 mul-result : tie.Need-mul-result
 mul-result c =
     let c4 = c .before .before .before .before in
@@ -24,9 +21,6 @@ add-result c =
     let start = at-muladd .before .before .before in
     let h = mul-le-mul-left (start .args .whole) (start .pre .2) in
     omega (arith, start .pre .1, start .pre .2, at-muladd .muladd .ensures .1)
-
-same-length : tie.Need-same-length
-same-length c = search needs
 
 -- what does not fit goes to the whole number
 joined : (w m o f g p : ℕ) → g + o * p ≡ f * m + 0 → (w * m + o) * p + g ≡ (w * p + f) * m
@@ -46,4 +40,4 @@ returns c =
     )
 
 pub lift-spec : {M : Type 1} → statement M
-lift-spec = tie.close (tie.spec muladd-requires mul-result add-result same-length returns)
+lift-spec = tie.close (tie.spec (λ c κs. search needs) mul-result add-result (λ c. search needs) returns)

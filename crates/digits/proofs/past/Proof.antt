@@ -11,12 +11,6 @@ mul-result c =
     let r = room {m = start .args .m} {d = start .args .scale} (start .pre .0) (start .pre .2) in
     omega (arith, r .product)
 
-cast-result : tie.Need-cast-result
-cast-result c = search needs
-
-shl-result : tie.Need-shl-result
-shl-result c = search needs
-
 add-result : tie.Need-add-result
 add-result c =
     let start = c .before .before in
@@ -29,12 +23,6 @@ sub-result c =
     let r = room {m = start .args .m} {d = start .args .scale} (start .pre .0) (start .pre .2) in
     omega (arith, r .shifted, r .low, start .pre .0 .tie)
 
-cast-result-2 : tie.Need-cast-result-2
-cast-result-2 c = search needs
-
-shr-result : tie.Need-shr-result
-shr-result c = search needs
-
 returns : tie.Need-returns
 returns c =
     let start = c .before .before .before .before in
@@ -42,13 +30,5 @@ returns c =
 
 pub past-spec : {M : Type 1} → statement M
 past-spec =
-    tie.close
-    (tie.spec
-    mul-result
-    cast-result
-    shl-result
-    add-result
-    sub-result
-    cast-result-2
-    shr-result
+    tie.close (tie.spec mul-result (λ c. search needs) (λ c. search needs) add-result sub-result (λ c. search needs) (λ c. search needs)
     returns)

@@ -9,22 +9,13 @@ use borrow.Author.Needs.{needs}
 use Rattle.digits.proofs.percent_of.Statement.{statement}
 use Rattle.digits.proofs.percent_of.Tie as tie
 
-whole-requires : tie.Need-whole-requires
-whole-requires c κs = search needs
-
 returns : tie.Need-returns
 returns c = (c .whole .ensures .0 ∙ sym (ap wholeOf (zero-percent-written _ (c .before .if1 .taken))), c .whole .ensures .1)
-
-whole-requires-2 : tie.Need-whole-requires-2
-whole-requires-2 c κs = search needs
 
 returns-2 : tie.Need-returns-2
 returns-2 c =
     let at-if2 = c .before in
     (c .whole2 .ensures .0 ∙ sym (ap wholeOf (no-percent-below _ (at-if2 .before .if1 .left) (at-if2 .if2 .taken))), c .whole2 .ensures .1)
-
-whole-requires-3 : tie.Need-whole-requires-3
-whole-requires-3 c κs = search needs
 
 returns-3 : tie.Need-returns-3
 returns-3 c = (c .whole3 .ensures .0 ∙ sym (ap wholeOf (no-percent-above _ (c .before .if3 .taken))), c .whole3 .ensures .1)
@@ -32,20 +23,8 @@ returns-3 c = (c .whole3 .ensures .0 ∙ sym (ap wholeOf (no-percent-above _ (c 
 large-percent-requires : tie.Need-large-percent-requires
 large-percent-requires c κs = (c .before .if3 .left, omega (arith, percent-24, c .if4 .taken))
 
-returns-4 : tie.Need-returns-4
-returns-4 c = search needs
-
-middle-below-requires : tie.Need-middle-below-requires
-middle-below-requires c κs = search needs
-
 past-requires : tie.Need-past-requires
 past-requires c κs = (fair-of (c .before .before .before .if2 .left) (c .middle-below .ensures .1), omega arith, omega arith)
-
-add-middle-below : tie.Need-add-middle-below
-add-middle-below c = search needs
-
-middle-below-requires-2 : tie.Need-middle-below-requires-2
-middle-below-requires-2 c κs = search needs
 
 past-requires-2 : tie.Need-past-requires-2
 past-requires-2 c κs =
@@ -53,9 +32,6 @@ past-requires-2 c κs =
     let at-if2 = c4 .before .before in
     let low = at-if2 .if2 .left in
     (fair-of (omega (arith, low)) (c .middle-below2 .ensures .1), omega arith, omega arith)
-
-whole-requires-4 : tie.Need-whole-requires-4
-whole-requires-4 c κs = search needs
 
 returns-5 : tie.Need-returns-5
 returns-5 c =
@@ -77,27 +53,8 @@ large-percent-requires-2 c κs =
     let at-if3 = at-past .before .before .before in
     (at-if3 .if3 .left, large-first (at-past .past .ensures _ (at-past .before .middle-below .ensures .0)) (c .if5 .left))
 
-returns-6 : tie.Need-returns-6
-returns-6 c = search needs
-
 pub percent-of-spec : {M : Type 1} → statement M
 percent-of-spec =
-    tie.close
-    (tie.spec
-    whole-requires
-    returns
-    whole-requires-2
-    returns-2
-    whole-requires-3
-    returns-3
-    large-percent-requires
-    returns-4
-    middle-below-requires
-    past-requires
-    add-middle-below
-    middle-below-requires-2
-    past-requires-2
-    whole-requires-4
-    returns-5
-    large-percent-requires-2
-    returns-6)
+    tie.close (tie.spec (λ c κs. search needs) returns (λ c κs. search needs) returns-2 (λ c κs. search needs) returns-3
+    large-percent-requires (λ c. search needs) (λ c κs. search needs) past-requires (λ c. search needs) (λ c κs. search needs)
+    past-requires-2 (λ c κs. search needs) returns-5 large-percent-requires-2 (λ c. search needs))

@@ -66,9 +66,6 @@ half w =
 cast-num : tie.Need-cast-num
 cast-num c = omega (arith, c .before .before .pre .2 .num)
 
-muladd-requires : tie.Need-muladd-requires
-muladd-requires c κs = search needs
-
 sub-shift-up : tie.Need-sub-shift-up
 sub-shift-up c =
     let c4 = c .before .before .before .before in
@@ -98,9 +95,6 @@ lift-requires-2 c κs =
     let h = half at-lift in
     (h .long, whole-low l h (lower _ l), omega arith)
 
-same-length : tie.Need-same-length
-same-length c = search needs
-
 returns : tie.Need-returns
 returns c =
     let at-lift2 = c .before .before in
@@ -115,13 +109,5 @@ returns c =
 
 pub prepare-spec : {M : Type 1} → statement M
 prepare-spec =
-    tie.close
-    (tie.spec
-    cast-num
-    muladd-requires
-    sub-shift-up
-    shift-up-requires
-    lift-requires
-    lift-requires-2
-    same-length
+    tie.close (tie.spec cast-num (λ c κs. search needs) sub-shift-up shift-up-requires lift-requires lift-requires-2 (λ c. search needs)
     returns)

@@ -55,15 +55,4 @@ returns c =
     at-loop .loop .inv .2 ∙ ap (λ (z : ℕ). upTo 5 (at-loop .before .before .args .f .now) * 2 ^ z) (omega arith)
 
 pub shift-up-spec : {M : Type 1} → statement M
-shift-up-spec =
-    tie.close
-    (tie.spec
-    Inv-loop
-    μ-loop
-    loop-holds
-    muladd-requires
-    add-i
-    loop-less
-    loop-again
-    same-length
-    returns)
+shift-up-spec = tie.close (tie.spec Inv-loop μ-loop loop-holds muladd-requires add-i loop-less loop-again same-length returns)

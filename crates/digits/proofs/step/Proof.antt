@@ -40,6 +40,4 @@ returns-3 c =
     (at-if2 .if2 .left) (c .width-of .ensures)
 
 pub step-spec : {M : Type 1} → statement M
-step-spec =
-    tie.close
-    (tie.spec past-requires returns past-requires-2 returns-2 width-of-requires returns-3)
+step-spec = tie.close (tie.spec past-requires returns past-requires-2 returns-2 width-of-requires returns-3)

@@ -40,16 +40,4 @@ returns : tie.Need-returns Inv-loop μ-loop
 returns c = wide (c .before .loop .inv) (c .loop-test .left)
 
 pub width-of-spec : {M : Type 1} → statement M
-width-of-spec =
-    tie.close
-    (tie.spec
-    Inv-loop
-    μ-loop
-    add-digits
-    mul-limit
-    loop-holds
-    mul-limit-2
-    add-digits-2
-    loop-less
-    loop-again
-    returns)
+width-of-spec = tie.close (tie.spec Inv-loop μ-loop add-digits mul-limit loop-holds mul-limit-2 add-digits-2 loop-less loop-again returns)

@@ -7,23 +7,11 @@ use Rattle.easing.proofs.NameLaws.{easing-plain, easing-variant}
 use Rattle.easing.proofs.is_named_easing.Statement.{statement}
 use Rattle.easing.proofs.is_named_easing.Tie as tie
 
-part-requires : tie.Need-part-requires
-part-requires c κs = search needs
-
-is-listed-requires : tie.Need-is-listed-requires
-is-listed-requires c κs = search needs
-
 returns : tie.Need-returns
 returns c =
     let at-part = c .before .before in
     let start = at-part .before .before in
     c .is-listed .ensures ∙ easing-plain (start .args .variant) _ _ (at-part .part .ensures) (c .before .if1 .taken)
-
-slice-aggregate-to-snake-case : tie.Need-slice-aggregate-to-snake-case
-slice-aggregate-to-snake-case c = search needs
-
-to-snake-case-requires : tie.Need-to-snake-case-requires
-to-snake-case-requires c κs = search needs
 
 array-share-prefix-name : tie.Need-array-share-prefix-name
 array-share-prefix-name c = puts-fits (c .before .to-snake-case .ensures)
@@ -32,9 +20,6 @@ slice-aggregate-is-listed : tie.Need-slice-aggregate-is-listed
 slice-aggregate-is-listed c =
     let to-snake-case = c .before .before .to-snake-case in
     sym (length-take-le (to-snake-case .result) (to-snake-case .last .1 .0) (puts-fits (to-snake-case .ensures)))
-
-is-listed-requires-2 : tie.Need-is-listed-requires-2
-is-listed-requires-2 c κs = search needs
 
 returns-2 : tie.Need-returns-2
 returns-2 c =
@@ -48,14 +33,5 @@ returns-2 c =
 
 pub is-named-easing-spec : {M : Type 1} → statement M
 is-named-easing-spec =
-    tie.close
-    (tie.spec
-    part-requires
-    is-listed-requires
-    returns
-    slice-aggregate-to-snake-case
-    to-snake-case-requires
-    array-share-prefix-name
-    slice-aggregate-is-listed
-    is-listed-requires-2
-    returns-2)
+    tie.close (tie.spec (λ c κs. search needs) (λ c κs. search needs) returns (λ c. search needs) (λ c κs. search needs)
+    array-share-prefix-name slice-aggregate-is-listed (λ c κs. search needs) returns-2)

@@ -6,21 +6,6 @@ use Rattle.text.proofs.WriteLaws.{puts-then}
 use Rattle.easing.proofs.put_snake.Statement.{statement}
 use Rattle.easing.proofs.put_snake.Tie as tie
 
-is-upper-requires : tie.Need-is-upper-requires
-is-upper-requires c κs = search needs
-
-put-requires : tie.Need-put-requires
-put-requires c κs = search needs
-
-lower-requires : tie.Need-lower-requires
-lower-requires c κs = search needs
-
-put-requires-2 : tie.Need-put-requires-2
-put-requires-2 c κs = search needs
-
-same-length : tie.Need-same-length
-same-length c = search needs
-
 returns : tie.Need-returns
 returns c =
     let at-put2 = c .before .before in
@@ -33,12 +18,6 @@ returns c =
     (at-lower .lower .ensures))
     (puts-then (at-put .put .ensures) (at-put2 .put2 .ensures))
 
-put-requires-3 : tie.Need-put-requires-3
-put-requires-3 c κs = search needs
-
-same-length-2 : tie.Need-same-length-2
-same-length-2 c = search needs
-
 returns-2 : tie.Need-returns-2
 returns-2 c =
     let at-put3 = c .before .before in
@@ -49,14 +28,5 @@ returns-2 c =
 
 pub put-snake-spec : {M : Type 1} → statement M
 put-snake-spec =
-    tie.close
-    (tie.spec
-    is-upper-requires
-    put-requires
-    lower-requires
-    put-requires-2
-    same-length
-    returns
-    put-requires-3
-    same-length-2
-    returns-2)
+    tie.close (tie.spec (λ c κs. search needs) (λ c κs. search needs) (λ c κs. search needs) (λ c κs. search needs) (λ c. search needs)
+    returns (λ c κs. search needs) (λ c. search needs) returns-2)

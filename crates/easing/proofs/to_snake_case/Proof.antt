@@ -39,15 +39,6 @@ whole at-loop after end p =
 returns : tie.Need-returns Inv-loop μ-loop
 returns c = rw (snake-nil (c .before .before .before .args .w .now) (c .if1 .taken)) (puts-none _ 0)
 
-shared-slice-read-lower : tie.Need-shared-slice-read-lower Inv-loop μ-loop
-shared-slice-read-lower c = search needs
-
-lower-requires : tie.Need-lower-requires Inv-loop μ-loop
-lower-requires c κs = search needs
-
-put-requires : tie.Need-put-requires Inv-loop μ-loop
-put-requires c κs = search needs
-
 loop-holds : tie.Need-loop-holds Inv-loop μ-loop
 loop-holds c = (refl, λ after end p. p)
 
@@ -59,18 +50,6 @@ same-length c =
 
 returns-2 : tie.Need-returns-2 Inv-loop μ-loop
 returns-2 c = whole (c .before .before) _ _ (puts-full _ _ _ (c .if2 .taken))
-
-shared-slice-read-put-snake : tie.Need-shared-slice-read-put-snake Inv-loop μ-loop
-shared-slice-read-put-snake c = search needs
-
-put-snake-requires : tie.Need-put-snake-requires Inv-loop μ-loop
-put-snake-requires c κs = search needs
-
-add-i : tie.Need-add-i Inv-loop μ-loop
-add-i c = search needs
-
-loop-less : tie.Need-loop-less Inv-loop μ-loop
-loop-less c = search needs
 
 loop-again : tie.Need-loop-again Inv-loop μ-loop
 loop-again c =
@@ -98,21 +77,5 @@ returns-3 c =
 
 pub to-snake-case-spec : {M : Type 1} → statement M
 to-snake-case-spec =
-    tie.close
-    (tie.spec
-    Inv-loop
-    μ-loop
-    returns
-    shared-slice-read-lower
-    lower-requires
-    put-requires
-    loop-holds
-    same-length
-    returns-2
-    shared-slice-read-put-snake
-    put-snake-requires
-    add-i
-    loop-less
-    loop-again
-    same-length-2
-    returns-3)
+    tie.close (tie.spec Inv-loop μ-loop returns (λ c. search needs) (λ c κs. search needs) (λ c κs. search needs) loop-holds same-length
+    returns-2 (λ c. search needs) (λ c κs. search needs) (λ c. search needs) (λ c. search needs) loop-again same-length-2 returns-3)

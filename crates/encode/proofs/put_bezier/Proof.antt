@@ -4,18 +4,6 @@ use Rattle.encode.proofs.OverLaws.{writes-then}
 use Rattle.encode.proofs.put_bezier.Statement.{statement}
 use Rattle.encode.proofs.put_bezier.Tie as tie
 
-put-case-floats-requires : tie.Need-put-case-floats-requires
-put-case-floats-requires c κs = search needs
-
-put-float-requires : tie.Need-put-float-requires
-put-float-requires c κs = search needs
-
-put-float-requires-2 : tie.Need-put-float-requires-2
-put-float-requires-2 c κs = search needs
-
-same-length : tie.Need-same-length
-same-length c = search needs
-
 returns : tie.Need-returns
 returns c =
     let at-put-float2 = c .before .before in
@@ -25,6 +13,4 @@ returns c =
     (writes-then (at-put-float .put-float .ensures) (at-put-float2 .put-float2 .ensures))
 
 pub put-bezier-spec : {M : Type 1} → statement M
-put-bezier-spec =
-    tie.close
-    (tie.spec put-case-floats-requires put-float-requires put-float-requires-2 same-length returns)
+put-bezier-spec = tie.close (tie.spec (λ c κs. search needs) (λ c κs. search needs) (λ c κs. search needs) (λ c. search needs) returns)

@@ -4,15 +4,6 @@ use Rattle.encode.proofs.OverLaws.{writes-then}
 use Rattle.encode.proofs.put_case_float.Statement.{statement}
 use Rattle.encode.proofs.put_case_float.Tie as tie
 
-put-byte-requires : tie.Need-put-byte-requires
-put-byte-requires c κs = search needs
-
-put-float-requires : tie.Need-put-float-requires
-put-float-requires c κs = search needs
-
-same-length : tie.Need-same-length
-same-length c = search needs
-
 returns : tie.Need-returns
 returns c =
     let at-put-float = c .before .before in
@@ -20,4 +11,4 @@ returns c =
     writes-then (at-put-byte .put-byte .ensures) (at-put-float .put-float .ensures)
 
 pub put-case-float-spec : {M : Type 1} → statement M
-put-case-float-spec = tie.close (tie.spec put-byte-requires put-float-requires same-length returns)
+put-case-float-spec = tie.close (tie.spec (λ c κs. search needs) (λ c κs. search needs) (λ c. search needs) returns)

@@ -4,15 +4,6 @@ use Rattle.encode.proofs.OverLaws.{writes-then}
 use Rattle.encode.proofs.put_case_floats.Statement.{statement}
 use Rattle.encode.proofs.put_case_floats.Tie as tie
 
-put-case-float-requires : tie.Need-put-case-float-requires
-put-case-float-requires c κs = search needs
-
-put-float-requires : tie.Need-put-float-requires
-put-float-requires c κs = search needs
-
-same-length : tie.Need-same-length
-same-length c = search needs
-
 returns : tie.Need-returns
 returns c =
     let at-put-float = c .before .before in
@@ -20,5 +11,4 @@ returns c =
     writes-then (at-put-case-float .put-case-float .ensures) (at-put-float .put-float .ensures)
 
 pub put-case-floats-spec : {M : Type 1} → statement M
-put-case-floats-spec =
-    tie.close (tie.spec put-case-float-requires put-float-requires same-length returns)
+put-case-floats-spec = tie.close (tie.spec (λ c κs. search needs) (λ c κs. search needs) (λ c. search needs) returns)

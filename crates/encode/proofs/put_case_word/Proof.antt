@@ -4,15 +4,6 @@ use Rattle.encode.proofs.OverLaws.{writes-then}
 use Rattle.encode.proofs.put_case_word.Statement.{statement}
 use Rattle.encode.proofs.put_case_word.Tie as tie
 
-put-byte-requires : tie.Need-put-byte-requires
-put-byte-requires c κs = search needs
-
-put-word-requires : tie.Need-put-word-requires
-put-word-requires c κs = search needs
-
-same-length : tie.Need-same-length
-same-length c = search needs
-
 returns : tie.Need-returns
 returns c =
     let at-put-word = c .before .before in
@@ -20,4 +11,4 @@ returns c =
     writes-then (at-put-byte .put-byte .ensures) (at-put-word .put-word .ensures)
 
 pub put-case-word-spec : {M : Type 1} → statement M
-put-case-word-spec = tie.close (tie.spec put-byte-requires put-word-requires same-length returns)
+put-case-word-spec = tie.close (tie.spec (λ c κs. search needs) (λ c κs. search needs) (λ c. search needs) returns)

@@ -4,17 +4,11 @@ use borrow.Author.Needs.{needs}
 use Rattle.encode.proofs.put_damping.Statement.{statement}
 use Rattle.encode.proofs.put_damping.Tie as tie
 
-enum-known-d : tie.Need-enum-known-d
-enum-known-d c = search needs
-
 put-case-float-requires : tie.Need-put-case-float-requires
 put-case-float-requires c κs =
     let at-d = c .before .before in
     let start = at-d .before .before .before in
     (omega arith, rw (at-d .d .given .1) at (start .pre .1))
-
-enum-known-d-2 : tie.Need-enum-known-d-2
-enum-known-d-2 c = search needs
 
 put-case-floats-requires : tie.Need-put-case-floats-requires
 put-case-floats-requires c κs =
@@ -22,17 +16,11 @@ put-case-floats-requires c κs =
     let start = at-d2 .before .before .before in
     (omega arith, rw (at-d2 .d2 .given .1) at (start .pre .1))
 
-enum-known-d-3 : tie.Need-enum-known-d-3
-enum-known-d-3 c = search needs
-
 put-case-floats-requires-2 : tie.Need-put-case-floats-requires-2
 put-case-floats-requires-2 c κs =
     let at-d3 = c .before .before in
     let start = at-d3 .before .before .before in
     (omega arith, rw (at-d3 .d3 .given .1) at (start .pre .1))
-
-same-length : tie.Need-same-length
-same-length c = search needs
 
 returns : tie.Need-returns
 returns c =
@@ -40,17 +28,11 @@ returns c =
     let at-d = at-put-case-float .before .before .before in
     rw (at-d .d .given .1) (at-put-case-float .put-case-float .ensures)
 
-same-length-2 : tie.Need-same-length-2
-same-length-2 c = search needs
-
 returns-2 : tie.Need-returns-2
 returns-2 c =
     let at-put-case-floats = c .before .before in
     let at-d2 = at-put-case-floats .before .before .before in
     rw (at-d2 .d2 .given .1) (at-put-case-floats .put-case-floats .ensures)
-
-same-length-3 : tie.Need-same-length-3
-same-length-3 c = search needs
 
 returns-3 : tie.Need-returns-3
 returns-3 c =
@@ -60,17 +42,5 @@ returns-3 c =
 
 pub put-damping-spec : {M : Type 1} → statement M
 put-damping-spec =
-    tie.close
-    (tie.spec
-    enum-known-d
-    put-case-float-requires
-    enum-known-d-2
-    put-case-floats-requires
-    enum-known-d-3
-    put-case-floats-requires-2
-    same-length
-    returns
-    same-length-2
-    returns-2
-    same-length-3
-    returns-3)
+    tie.close (tie.spec (λ c. search needs) put-case-float-requires (λ c. search needs) put-case-floats-requires (λ c. search needs)
+    put-case-floats-requires-2 (λ c. search needs) returns (λ c. search needs) returns-2 (λ c. search needs) returns-3)

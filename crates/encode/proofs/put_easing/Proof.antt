@@ -5,35 +5,11 @@ use Rattle.encode.proofs.OverLaws.{writes-then}
 use Rattle.encode.proofs.put_easing.Statement.{statement}
 use Rattle.encode.proofs.put_easing.Tie as tie
 
-enum-known-e : tie.Need-enum-known-e
-enum-known-e c = search needs
-
-put-named-requires : tie.Need-put-named-requires
-put-named-requires c κs = search needs
-
-enum-known-e-2 : tie.Need-enum-known-e-2
-enum-known-e-2 c = search needs
-
 put-bezier-requires : tie.Need-put-bezier-requires
 put-bezier-requires c κs =
     let at-e2 = c .before .before in
     let start = at-e2 .before .before .before in
     (omega arith, rw (at-e2 .e2 .given .1) at (start .pre .1))
-
-enum-known-e-3 : tie.Need-enum-known-e-3
-enum-known-e-3 c = search needs
-
-put-case-word-requires : tie.Need-put-case-word-requires
-put-case-word-requires c κs = search needs
-
-enum-known-e-4 : tie.Need-enum-known-e-4
-enum-known-e-4 c = search needs
-
-put-case-word-requires-2 : tie.Need-put-case-word-requires-2
-put-case-word-requires-2 c κs = search needs
-
-enum-known-e-5 : tie.Need-enum-known-e-5
-enum-known-e-5 c = search needs
 
 put-case-float-requires : tie.Need-put-case-float-requires
 put-case-float-requires c κs =
@@ -41,20 +17,11 @@ put-case-float-requires c κs =
     let start = at-e5 .before .before .before in
     (omega arith, rw (at-e5 .e5 .given .1) at (start .pre .1))
 
-put-word-requires : tie.Need-put-word-requires
-put-word-requires c κs = search needs
-
-enum-known-e-6 : tie.Need-enum-known-e-6
-enum-known-e-6 c = search needs
-
 put-case-floats-requires : tie.Need-put-case-floats-requires
 put-case-floats-requires c κs =
     let at-e6 = c .before .before in
     let start = at-e6 .before .before .before in
     (omega arith, rw (at-e6 .e6 .given .1) at (start .pre .1))
-
-same-length : tie.Need-same-length
-same-length c = search needs
 
 returns : tie.Need-returns
 returns c =
@@ -62,17 +29,11 @@ returns c =
     let at-e = at-put-named .before .before .before in
     λ n. rw (at-e .e .given .1) (at-put-named .put-named .ensures n)
 
-same-length-2 : tie.Need-same-length-2
-same-length-2 c = search needs
-
 returns-2 : tie.Need-returns-2
 returns-2 c =
     let at-put-bezier = c .before .before in
     let at-e2 = at-put-bezier .before .before .before in
     λ n. rw (at-e2 .e2 .given .1) (at-put-bezier .put-bezier .ensures n)
-
-same-length-3 : tie.Need-same-length-3
-same-length-3 c = search needs
 
 returns-3 : tie.Need-returns-3
 returns-3 c =
@@ -80,17 +41,11 @@ returns-3 c =
     let at-e3 = at-put-case-word .before .before .before in
     λ n. rw (at-e3 .e3 .given .1) (at-put-case-word .put-case-word .ensures)
 
-same-length-4 : tie.Need-same-length-4
-same-length-4 c = search needs
-
 returns-4 : tie.Need-returns-4
 returns-4 c =
     let at-put-case-word2 = c .before .before in
     let at-e4 = at-put-case-word2 .before .before .before in
     λ n. rw (at-e4 .e4 .given .1) (at-put-case-word2 .put-case-word2 .ensures)
-
-same-length-5 : tie.Need-same-length-5
-same-length-5 c = search needs
 
 returns-5 : tie.Need-returns-5
 returns-5 c =
@@ -98,9 +53,6 @@ returns-5 c =
     let at-put-case-float = at-put-word .before .before .before .before in
     let at-e5 = at-put-case-float .before .before .before in
     λ n. rw (at-e5 .e5 .given .1) (writes-then (at-put-case-float .put-case-float .ensures) (at-put-word .put-word .ensures))
-
-same-length-6 : tie.Need-same-length-6
-same-length-6 c = search needs
 
 returns-6 : tie.Need-returns-6
 returns-6 c =
@@ -110,30 +62,7 @@ returns-6 c =
 
 pub put-easing-spec : {M : Type 1} → statement M
 put-easing-spec =
-    tie.close
-    (tie.spec
-    enum-known-e
-    put-named-requires
-    enum-known-e-2
-    put-bezier-requires
-    enum-known-e-3
-    put-case-word-requires
-    enum-known-e-4
-    put-case-word-requires-2
-    enum-known-e-5
-    put-case-float-requires
-    put-word-requires
-    enum-known-e-6
-    put-case-floats-requires
-    same-length
-    returns
-    same-length-2
-    returns-2
-    same-length-3
-    returns-3
-    same-length-4
-    returns-4
-    same-length-5
-    returns-5
-    same-length-6
-    returns-6)
+    tie.close (tie.spec (λ c. search needs) (λ c κs. search needs) (λ c. search needs) put-bezier-requires (λ c. search needs)
+    (λ c κs. search needs) (λ c. search needs) (λ c κs. search needs) (λ c. search needs) put-case-float-requires (λ c κs. search needs)
+    (λ c. search needs) put-case-floats-requires (λ c. search needs) returns (λ c. search needs) returns-2 (λ c. search needs) returns-3
+    (λ c. search needs) returns-4 (λ c. search needs) returns-5 (λ c. search needs) returns-6)

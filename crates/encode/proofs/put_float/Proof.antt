@@ -3,15 +3,6 @@ use borrow.Author.Needs.{needs}
 use Rattle.encode.proofs.put_float.Statement.{statement}
 use Rattle.encode.proofs.put_float.Tie as tie
 
-bits-of-requires : tie.Need-bits-of-requires
-bits-of-requires c κs = search needs
-
-put-word-requires : tie.Need-put-word-requires
-put-word-requires c κs = search needs
-
-same-length : tie.Need-same-length
-same-length c = search needs
-
 returns : tie.Need-returns
 returns c =
     let at-put-word = c .before .before in
@@ -19,4 +10,4 @@ returns c =
     rw (at-bits-of .bits-of .ensures) at (at-put-word .put-word .ensures)
 
 pub put-float-spec : {M : Type 1} → statement M
-put-float-spec = tie.close (tie.spec bits-of-requires put-word-requires same-length returns)
+put-float-spec = tie.close (tie.spec (λ c κs. search needs) (λ c κs. search needs) (λ c. search needs) returns)

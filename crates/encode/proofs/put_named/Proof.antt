@@ -4,18 +4,6 @@ use Rattle.encode.proofs.OverLaws.{writes-then}
 use Rattle.encode.proofs.put_named.Statement.{statement}
 use Rattle.encode.proofs.put_named.Tie as tie
 
-put-byte-requires : tie.Need-put-byte-requires
-put-byte-requires c κs = search needs
-
-put-flag-requires : tie.Need-put-flag-requires
-put-flag-requires c κs = search needs
-
-put-span-requires : tie.Need-put-span-requires
-put-span-requires c κs = search needs
-
-same-length : tie.Need-same-length
-same-length c = search needs
-
 returns : tie.Need-returns
 returns c =
     let at-put-span = c .before .before in
@@ -24,5 +12,4 @@ returns c =
     λ n. writes-then (at-put-byte .put-byte .ensures) (writes-then (at-put-flag .put-flag .ensures) (at-put-span .put-span .ensures n))
 
 pub put-named-spec : {M : Type 1} → statement M
-put-named-spec =
-    tie.close (tie.spec put-byte-requires put-flag-requires put-span-requires same-length returns)
+put-named-spec = tie.close (tie.spec (λ c κs. search needs) (λ c κs. search needs) (λ c κs. search needs) (λ c. search needs) returns)

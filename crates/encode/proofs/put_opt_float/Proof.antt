@@ -4,32 +4,17 @@ use borrow.Author.Needs.{needs}
 use Rattle.encode.proofs.put_opt_float.Statement.{statement}
 use Rattle.encode.proofs.put_opt_float.Tie as tie
 
-enum-told : tie.Need-enum-told
-enum-told c = search needs
-
-put-byte-requires : tie.Need-put-byte-requires
-put-byte-requires c κs = search needs
-
-enum-known-o : tie.Need-enum-known-o
-enum-known-o c = search needs
-
 put-case-float-requires : tie.Need-put-case-float-requires
 put-case-float-requires c κs =
     let at-o = c .before .before in
     let start = at-o .before .before .before in
     (omega arith, rw (at-o .o .given .1) at (start .pre .1))
 
-same-length : tie.Need-same-length
-same-length c = search needs
-
 returns : tie.Need-returns
 returns c =
     let at-put-byte = c .before .before in
     let at-enum-told = at-put-byte .before .before in
     rw (at-enum-told .enum-told .given .1) (at-put-byte .put-byte .ensures)
-
-same-length-2 : tie.Need-same-length-2
-same-length-2 c = search needs
 
 returns-2 : tie.Need-returns-2
 returns-2 c =
@@ -39,13 +24,5 @@ returns-2 c =
 
 pub put-opt-float-spec : {M : Type 1} → statement M
 put-opt-float-spec =
-    tie.close
-    (tie.spec
-    enum-told
-    put-byte-requires
-    enum-known-o
-    put-case-float-requires
-    same-length
-    returns
-    same-length-2
-    returns-2)
+    tie.close (tie.spec (λ c. search needs) (λ c κs. search needs) (λ c. search needs) put-case-float-requires (λ c. search needs) returns
+    (λ c. search needs) returns-2)

@@ -5,24 +5,6 @@ use Rattle.encode.proofs.OverLaws.{writes-then}
 use Rattle.encode.proofs.put_pattern.Statement.{statement}
 use Rattle.encode.proofs.put_pattern.Tie as tie
 
-enum-known-p : tie.Need-enum-known-p
-enum-known-p c = search needs
-
-put-case-word-requires : tie.Need-put-case-word-requires
-put-case-word-requires c κs = search needs
-
-put-word-requires : tie.Need-put-word-requires
-put-word-requires c κs = search needs
-
-put-byte-requires : tie.Need-put-byte-requires
-put-byte-requires c κs = search needs
-
-enum-known-p-2 : tie.Need-enum-known-p-2
-enum-known-p-2 c = search needs
-
-put-case-word-requires-2 : tie.Need-put-case-word-requires-2
-put-case-word-requires-2 c κs = search needs
-
 put-float-requires : tie.Need-put-float-requires
 put-float-requires c κs =
     let c4 = c .before .before .before .before in
@@ -40,21 +22,6 @@ put-float-requires-2 c κs =
     let q = rw (at-p2 .p2 .given .1) at (start .pre .1) in
     (omega arith, q .1)
 
-enum-told : tie.Need-enum-told
-enum-told c = search needs
-
-put-byte-requires-2 : tie.Need-put-byte-requires-2
-put-byte-requires-2 c κs = search needs
-
-enum-told-2 : tie.Need-enum-told-2
-enum-told-2 c = search needs
-
-put-byte-requires-3 : tie.Need-put-byte-requires-3
-put-byte-requires-3 c κs = search needs
-
-same-length : tie.Need-same-length
-same-length c = search needs
-
 returns : tie.Need-returns
 returns c =
     let at-put-byte = c .before .before in
@@ -63,9 +30,6 @@ returns c =
     let at-p = at-put-case-word .before .before .before in
     rw (at-p .p .given .1)
     (writes-then (at-put-case-word .put-case-word .ensures) (writes-then (at-put-word .put-word .ensures) (at-put-byte .put-byte .ensures)))
-
-same-length-2 : tie.Need-same-length-2
-same-length-2 c = search needs
 
 returns-2 : tie.Need-returns-2
 returns-2 c =
@@ -77,17 +41,11 @@ returns-2 c =
     (writes-then (at-put-case-word2 .put-case-word2 .ensures)
     (writes-then (at-put-float .put-float .ensures) (at-put-float2 .put-float2 .ensures)))
 
-same-length-3 : tie.Need-same-length-3
-same-length-3 c = search needs
-
 returns-3 : tie.Need-returns-3
 returns-3 c =
     let at-put-byte2 = c .before .before in
     let at-enum-told = at-put-byte2 .before .before in
     rw (at-enum-told .enum-told .given .1) (at-put-byte2 .put-byte2 .ensures)
-
-same-length-4 : tie.Need-same-length-4
-same-length-4 c = search needs
 
 returns-4 : tie.Need-returns-4
 returns-4 c =
@@ -97,25 +55,7 @@ returns-4 c =
 
 pub put-pattern-spec : {M : Type 1} → statement M
 put-pattern-spec =
-    tie.close
-    (tie.spec
-    enum-known-p
-    put-case-word-requires
-    put-word-requires
-    put-byte-requires
-    enum-known-p-2
-    put-case-word-requires-2
-    put-float-requires
-    put-float-requires-2
-    enum-told
-    put-byte-requires-2
-    enum-told-2
-    put-byte-requires-3
-    same-length
-    returns
-    same-length-2
-    returns-2
-    same-length-3
-    returns-3
-    same-length-4
+    tie.close (tie.spec (λ c. search needs) (λ c κs. search needs) (λ c κs. search needs) (λ c κs. search needs) (λ c. search needs)
+    (λ c κs. search needs) put-float-requires put-float-requires-2 (λ c. search needs) (λ c κs. search needs) (λ c. search needs)
+    (λ c κs. search needs) (λ c. search needs) returns (λ c. search needs) returns-2 (λ c. search needs) returns-3 (λ c. search needs)
     returns-4)

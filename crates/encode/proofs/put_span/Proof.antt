@@ -4,15 +4,6 @@ use Rattle.encode.proofs.OverLaws.{writes-then}
 use Rattle.encode.proofs.put_span.Statement.{statement}
 use Rattle.encode.proofs.put_span.Tie as tie
 
-put-field-requires : tie.Need-put-field-requires
-put-field-requires c κs = search needs
-
-put-field-requires-2 : tie.Need-put-field-requires-2
-put-field-requires-2 c κs = search needs
-
-same-length : tie.Need-same-length
-same-length c = search needs
-
 returns : tie.Need-returns
 returns c =
     let at-put-field2 = c .before .before in
@@ -20,4 +11,4 @@ returns c =
     λ n. writes-then (at-put-field .put-field .ensures) (at-put-field2 .put-field2 .ensures)
 
 pub put-span-spec : {M : Type 1} → statement M
-put-span-spec = tie.close (tie.spec put-field-requires put-field-requires-2 same-length returns)
+put-span-spec = tie.close (tie.spec (λ c κs. search needs) (λ c κs. search needs) (λ c. search needs) returns)

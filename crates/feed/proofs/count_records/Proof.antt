@@ -16,19 +16,10 @@ Inv-loop totals₀ sheet text-len end₀ totals end = Counting text-len sheet (n
 abbrev μ-loop : tie.MeasureT-loop
 μ-loop totals₀ sheet text-len end₀ totals end = length sheet - end
 
-take-field-requires : tie.Need-take-field-requires Inv-loop μ-loop
-take-field-requires c κs = search needs
-
 loop-holds : tie.Need-loop-holds Inv-loop μ-loop
 loop-holds c =
     let pre = c .before .before .before .pre in
     counting-start (pre .0) (pre .1) (c .take-field .ensures .reads)
-
-take-record-requires : tie.Need-take-record-requires Inv-loop μ-loop
-take-record-requires c κs = search needs
-
-cast-add : tie.Need-cast-add Inv-loop μ-loop
-cast-add c = search needs
 
 add-add : tie.Need-add-add Inv-loop μ-loop
 add-add c =
@@ -91,19 +82,5 @@ returns c = counting-done (c .before .loop .inv) (c .loop-test .left)
 
 pub count-records-spec : {M : Type 1} → statement M
 count-records-spec =
-    tie.close
-    (tie.spec
-    Inv-loop
-    μ-loop
-    take-field-requires
-    loop-holds
-    take-record-requires
-    cast-add
-    add-add
-    add-requires
-    cast-add-2
-    add-requires-2
-    loop-less
-    loop-again
-    same-length
-    returns)
+    tie.close (tie.spec Inv-loop μ-loop (λ c κs. search needs) loop-holds (λ c κs. search needs) (λ c. search needs) add-add add-requires
+    cast-add-2 add-requires-2 loop-less loop-again same-length returns)

@@ -6,23 +6,13 @@ use borrow.Author.Needs.{needs}
 use Rattle.feed.proofs.count_refused.Statement.{statement}
 use Rattle.feed.proofs.count_refused.Tie as tie
 
-number-of-requires : tie.Need-number-of-requires
-number-of-requires c κs = search needs
-
-cast-add : tie.Need-cast-add
-cast-add c = search needs
-
 add-requires : tie.Need-add-requires
 add-requires c κs =
     let start = c .before .before .before in
     refused-room (start .pre) (start .args .refusal) (c .number-of .ensures)
 
-same-length : tie.Need-same-length
-same-length c = search needs
-
 returns : tie.Need-returns
 returns c = (rw (c .before .before .before .number-of .ensures) at (c .before .before .add .ensures), refl)
 
 pub count-refused-spec : {M : Type 1} → statement M
-count-refused-spec =
-    tie.close (tie.spec number-of-requires cast-add add-requires same-length returns)
+count-refused-spec = tie.close (tie.spec (λ c κs. search needs) (λ c. search needs) add-requires (λ c. search needs) returns)

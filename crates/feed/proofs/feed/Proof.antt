@@ -9,17 +9,8 @@ use borrow.Author.Needs.{needs}
 use Rattle.feed.proofs.feed.Statement.{statement}
 use Rattle.feed.proofs.feed.Tie as tie
 
-full-requires : tie.Need-full-requires
-full-requires c κs = search needs
-
 returns : tie.Need-returns
 returns c = with-values feedValues (feed-full _ _ _ _ _ (sym (c .before .full .ensures) ∙ c .if1 .taken))
-
-read-and-check-requires : tie.Need-read-and-check-requires
-read-and-check-requires c κs = search needs
-
-enum-known-refusal : tie.Need-enum-known-refusal
-enum-known-refusal c = search needs
 
 count-refused-requires : tie.Need-count-refused-requires
 count-refused-requires c κs =
@@ -28,12 +19,6 @@ count-refused-requires c κs =
     let at-if1 = c8 .before .before .before in
     let at-full = at-if1 .before in
     words-of _ (search needs) (sym (at-full .full .ensures) ∙ at-if1 .if1 .left)
-
-enum-known-length : tie.Need-enum-known-length
-enum-known-length c = search needs
-
-enum-known-answer : tie.Need-enum-known-answer
-enum-known-answer c = search needs
 
 count-refused-requires-2 : tie.Need-count-refused-requires-2
 count-refused-requires-2 c κs =
@@ -44,9 +29,6 @@ count-refused-requires-2 c κs =
     let at-full = at-if1 .before in
     words-of _ (search needs) (sym (at-full .full .ensures) ∙ at-if1 .if1 .left)
 
-enum-told : tie.Need-enum-told
-enum-told c = search needs
-
 add-requires : tie.Need-add-requires
 add-requires c κs =
     let c4 = c .before .before .before .before in
@@ -55,9 +37,6 @@ add-requires c κs =
     let at-if1 = c12 .before in
     let at-full = at-if1 .before in
     accepted-room (words-of _ (search needs) (sym (at-full .full .ensures) ∙ at-if1 .if1 .left))
-
-part-requires : tie.Need-part-requires
-part-requires c κs = search needs
 
 count-records-requires : tie.Need-count-records-requires
 count-records-requires c κs =
@@ -72,12 +51,6 @@ count-records-requires c κs =
       is-sheet _ _ _ (rw (at-length .length .given .1) at (at-read-and-check .read-and-check .ensures .0)) (c .part .ensures),
     )
 
-same-length : tie.Need-same-length
-same-length c = search needs
-
-same-length-2 : tie.Need-same-length-2
-same-length-2 c = search needs
-
 returns-2 : tie.Need-returns-2
 returns-2 c =
     let at-refusal = c .before .before .before in
@@ -90,12 +63,6 @@ returns-2 c =
     (rw (at-refusal .refusal .given .1) at (at-read-and-check .read-and-check .ensures .0))
     (c .count-refused .ensures .0)
     (c .count-refused .ensures .1))
-
-same-length-3 : tie.Need-same-length-3
-same-length-3 c = search needs
-
-same-length-4 : tie.Need-same-length-4
-same-length-4 c = search needs
 
 returns-3 : tie.Need-returns-3
 returns-3 c =
@@ -111,12 +78,6 @@ returns-3 c =
     (rw (at-length .length .given .1, at-answer .answer .given .1) at (at-read-and-check .read-and-check .ensures .1 .0))
     (c .count-refused2 .ensures .0)
     (c .count-refused2 .ensures .1))
-
-same-length-5 : tie.Need-same-length-5
-same-length-5 c = search needs
-
-same-length-6 : tie.Need-same-length-6
-same-length-6 c = search needs
 
 returns-4 : tie.Need-returns-4
 returns-4 c =
@@ -136,26 +97,7 @@ returns-4 c =
 
 pub feed-spec : {M : Type 1} → statement M
 feed-spec =
-    tie.close
-    (tie.spec
-    full-requires
-    returns
-    read-and-check-requires
-    enum-known-refusal
-    count-refused-requires
-    enum-known-length
-    enum-known-answer
-    count-refused-requires-2
-    enum-told
-    add-requires
-    part-requires
-    count-records-requires
-    same-length
-    same-length-2
-    returns-2
-    same-length-3
-    same-length-4
-    returns-3
-    same-length-5
-    same-length-6
-    returns-4)
+    tie.close (tie.spec (λ c κs. search needs) returns (λ c κs. search needs) (λ c. search needs) count-refused-requires (λ c. search needs)
+    (λ c. search needs) count-refused-requires-2 (λ c. search needs) add-requires (λ c κs. search needs) count-records-requires
+    (λ c. search needs) (λ c. search needs) returns-2 (λ c. search needs) (λ c. search needs) returns-3 (λ c. search needs)
+    (λ c. search needs) returns-4)

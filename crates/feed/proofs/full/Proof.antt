@@ -5,17 +5,11 @@ use borrow.Author.Needs.{needs}
 use Rattle.feed.proofs.full.Statement.{statement}
 use Rattle.feed.proofs.full.Tie as tie
 
-over-limit-requires : tie.Need-over-limit-requires
-over-limit-requires c κs = search needs
-
 returns : tie.Need-returns
 returns c = full-over _ (sym (c .before .over-limit .ensures) ∙ c .if1 .taken)
-
-sum-requires : tie.Need-sum-requires
-sum-requires c κs = search needs
 
 returns-2 : tie.Need-returns-2
 returns-2 c = full-count _ (sym (c .before .before .over-limit .ensures) ∙ c .before .if1 .left) (c .sum .ensures)
 
 pub full-spec : {M : Type 1} → statement M
-full-spec = tie.close (tie.spec over-limit-requires returns sum-requires returns-2)
+full-spec = tie.close (tie.spec (λ c κs. search needs) returns (λ c κs. search needs) returns-2)

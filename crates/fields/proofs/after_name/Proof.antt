@@ -7,30 +7,6 @@ use borrow.Author.Needs.{needs}
 use Rattle.fields.proofs.after_name.Statement.{statement}
 use Rattle.fields.proofs.after_name.Tie as tie
 
-mark-requires : tie.Need-mark-requires
-mark-requires c κs = search needs
-
-enum-known-p : tie.Need-enum-known-p
-enum-known-p c = search needs
-
-enum-known-m : tie.Need-enum-known-m
-enum-known-m c = search needs
-
-part-requires : tie.Need-part-requires
-part-requires c κs = search needs
-
-find-requires : tie.Need-find-requires
-find-requires c κs = search needs
-
-enum-known-i : tie.Need-enum-known-i
-enum-known-i c = search needs
-
-enum-told : tie.Need-enum-told
-enum-told c = search needs
-
-place-requires : tie.Need-place-requires
-place-requires c κs = search needs
-
 returns : tie.Need-returns
 returns c t e = let h = rw (c .before .p .given .1) at (c .before .before .before .mark .ensures) in rw h
 
@@ -59,16 +35,5 @@ returns-3 c t e =
 
 pub after-name-spec : {M : Type 1} → statement M
 after-name-spec =
-    tie.close
-    (tie.spec
-    mark-requires
-    enum-known-p
-    enum-known-m
-    part-requires
-    find-requires
-    enum-known-i
-    enum-told
-    place-requires
-    returns
-    returns-2
-    returns-3)
+    tie.close (tie.spec (λ c κs. search needs) (λ c. search needs) (λ c. search needs) (λ c κs. search needs) (λ c κs. search needs)
+    (λ c. search needs) (λ c. search needs) (λ c κs. search needs) returns returns-2 returns-3)

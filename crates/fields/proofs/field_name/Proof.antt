@@ -5,18 +5,6 @@ use borrow.Author.Needs.{needs}
 use Rattle.fields.proofs.field_name.Statement.{statement}
 use Rattle.fields.proofs.field_name.Tie as tie
 
-slice-aggregate-sees-word : tie.Need-slice-aggregate-sees-word
-slice-aggregate-sees-word c = search needs
-
-sees-word-requires : tie.Need-sees-word-requires
-sees-word-requires c κs = search needs
-
-place-requires : tie.Need-place-requires
-place-requires c κs = search needs
-
-advance-requires : tie.Need-advance-requires
-advance-requires c κs = search needs
-
 returns : tie.Need-returns
 returns c =
     let at-if1 = c .before .before in
@@ -26,9 +14,6 @@ returns c =
     (took-loop (start .args .text .now) (start .args .c) (c .advance .result) (start .pre) (c .advance .ensures)
     (sym (at-sees-word .sees-word .ensures) ∙ at-if1 .if1 .taken))
 
-word-requires : tie.Need-word-requires
-word-requires c κs = search needs
-
 returns-2 : tie.Need-returns-2
 returns-2 c =
     let at-sees-word = c .before .before in
@@ -37,12 +22,5 @@ returns-2 c =
 
 pub field-name-spec : {M : Type 1} → statement M
 field-name-spec =
-    tie.close
-    (tie.spec
-    slice-aggregate-sees-word
-    sees-word-requires
-    place-requires
-    advance-requires
-    returns
-    word-requires
-    returns-2)
+    tie.close (tie.spec (λ c. search needs) (λ c κs. search needs) (λ c κs. search needs) (λ c κs. search needs) returns
+    (λ c κs. search needs) returns-2)

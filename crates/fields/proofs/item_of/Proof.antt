@@ -6,15 +6,6 @@ use borrow.Author.Needs.{needs}
 use Rattle.fields.proofs.item_of.Statement.{statement}
 use Rattle.fields.proofs.item_of.Tie as tie
 
-enum-known-k : tie.Need-enum-known-k
-enum-known-k c = search needs
-
-slice-aggregate-has : tie.Need-slice-aggregate-has
-slice-aggregate-has c = search needs
-
-has-requires : tie.Need-has-requires
-has-requires c κs = search needs
-
 returns : tie.Need-returns
 unfolding itemOf
 returns c t n = rw (c .before .before .before .before .k .given .1, sym (c .before .has .ensures) ∙ c .if1 .taken)
@@ -33,15 +24,6 @@ returns-3 c t n =
     let at-has = at-if1 .before in
     let at-k = at-has .before .before .before in
     rw (at-k .k .given .1, sym (at-has .has .ensures) ∙ at-if1 .if1 .left, ne-eqb _ _ (c .before .if2 .left), c .if3 .taken)
-
-enum-told : tie.Need-enum-told
-enum-told c = search needs
-
-enum-told-2 : tie.Need-enum-told-2
-enum-told-2 c = search needs
-
-enum-told-3 : tie.Need-enum-told-3
-enum-told-3 c = search needs
 
 returns-4 : tie.Need-returns-4
 unfolding itemOf
@@ -65,18 +47,5 @@ returns-7 c t n = rw (c .enum-told3 .given .1)
 
 pub item-of-spec : {M : Type 1} → statement M
 item-of-spec =
-    tie.close
-    (tie.spec
-    enum-known-k
-    slice-aggregate-has
-    has-requires
-    returns
-    returns-2
-    returns-3
-    enum-told
-    enum-told-2
-    enum-told-3
-    returns-4
-    returns-5
-    returns-6
-    returns-7)
+    tie.close (tie.spec (λ c. search needs) (λ c. search needs) (λ c κs. search needs) returns returns-2 returns-3 (λ c. search needs)
+    (λ c. search needs) (λ c. search needs) returns-4 returns-5 returns-6 returns-7)

@@ -8,9 +8,6 @@ use borrow.Author.Needs.{needs}
 use Rattle.fields.proofs.next_pair.Statement.{statement}
 use Rattle.fields.proofs.next_pair.Tie as tie
 
-ends-requires : tie.Need-ends-requires
-ends-requires c κs = search needs
-
 returns : tie.Need-returns
 returns c t e =
     let start = c .before .before .before .before in (
@@ -18,15 +15,6 @@ returns c t e =
       pairs-end (start .args .text .now) t (start .args .c) (start .pre)
           (sym (c .before .ends .ensures (start .args .text .now) (start .pre)) ∙ c .if1 .taken),
     )
-
-word-requires : tie.Need-word-requires
-word-requires c κs = search needs
-
-enum-known-p : tie.Need-enum-known-p
-enum-known-p c = search needs
-
-enum-known-name : tie.Need-enum-known-name
-enum-known-name c = search needs
 
 after-name-requires : tie.Need-after-name-requires
 after-name-requires c κs = (rw (c .before .name .given .1) at (c .before .before .before .word .ensures)) .0 .ready
@@ -69,13 +57,5 @@ returns-3 c t e =
 
 pub next-pair-spec : {M : Type 1} → statement M
 next-pair-spec =
-    tie.close
-    (tie.spec
-    ends-requires
-    returns
-    word-requires
-    enum-known-p
-    enum-known-name
-    after-name-requires
-    returns-2
-    returns-3)
+    tie.close (tie.spec (λ c κs. search needs) returns (λ c κs. search needs) (λ c. search needs) (λ c. search needs) after-name-requires
+    returns-2 returns-3)

@@ -36,12 +36,6 @@ loop-holds c =
     let start = c .before .before in
     passed-start (start .args .text .now) (start .args .c) (start .pre)
 
-item-of-requires : tie.Need-item-of-requires Inv-loop μ-loop
-item-of-requires c κs = search needs
-
-enum-told : tie.Need-enum-told Inv-loop μ-loop
-enum-told c = search needs
-
 returns : tie.Need-returns Inv-loop μ-loop
 returns c t e =
     let at-item-of = c .before .before in
@@ -54,9 +48,6 @@ returns c t e =
           (gives-halts (args .text .now) t (loop .m) (loop .inv .ready)
           (item (args .text .now) (loop .m) (loop .inv .ready) _ _ (at-item-of .item-of .ensures) (c .enum-told .given .1)) fs),
     )
-
-enum-told-2 : tie.Need-enum-told-2 Inv-loop μ-loop
-enum-told-2 c = search needs
 
 advance-requires : tie.Need-advance-requires Inv-loop μ-loop
 advance-requires c κs = c .before .before .before .loop .inv .ready
@@ -74,9 +65,6 @@ returns-2 c t e =
           (gives-closes (args .text .now) t (loop .m) (loop .inv .ready) (c .advance .result) (c .advance .ensures)
           (item (args .text .now) (loop .m) (loop .inv .ready) _ _ (at-item-of .item-of .ensures) (c .before .enum-told2 .given .1)) fs),
     )
-
-enum-told-3 : tie.Need-enum-told-3 Inv-loop μ-loop
-enum-told-3 c = search needs
 
 advance-requires-2 : tie.Need-advance-requires-2 Inv-loop μ-loop
 advance-requires-2 c κs = c .before .before .before .loop .inv .ready
@@ -107,9 +95,6 @@ loop-again c =
     (c .advance2 .ensures)
     (item (args .text .now) (loop .m) (loop .inv .ready) _ _ (at-item-of .item-of .ensures) (c .before .enum-told3 .given .1))
 
-enum-told-4 : tie.Need-enum-told-4 Inv-loop μ-loop
-enum-told-4 c = search needs
-
 start-field-requires : tie.Need-start-field-requires Inv-loop μ-loop
 start-field-requires c κs = c .before .before .before .loop .inv .ready
 
@@ -131,21 +116,5 @@ returns-3 c t e =
 
 pub parse-field-list-spec : {M : Type 1} → statement M
 parse-field-list-spec =
-    tie.close
-    (tie.spec
-    Inv-loop
-    μ-loop
-    loop-holds
-    item-of-requires
-    enum-told
-    returns
-    enum-told-2
-    advance-requires
-    returns-2
-    enum-told-3
-    advance-requires-2
-    loop-less
-    loop-again
-    enum-told-4
-    start-field-requires
-    returns-3)
+    tie.close (tie.spec Inv-loop μ-loop loop-holds (λ c κs. search needs) (λ c. search needs) returns (λ c. search needs) advance-requires
+    returns-2 (λ c. search needs) advance-requires-2 loop-less loop-again (λ c. search needs) start-field-requires returns-3)

@@ -6,15 +6,6 @@ use borrow.Author.Needs.{needs}
 use Rattle.fields.proofs.start_field.Statement.{statement}
 use Rattle.fields.proofs.start_field.Tie as tie
 
-field-name-requires : tie.Need-field-name-requires
-field-name-requires c κs = search needs
-
-enum-known-p : tie.Need-enum-known-p
-enum-known-p c = search needs
-
-enum-known-name : tie.Need-enum-known-name
-enum-known-name c = search needs
-
 after-name-requires : tie.Need-after-name-requires
 after-name-requires c κs = (rw (c .before .name .given .1) at (c .before .before .before .field-name .ensures)) .ready
 
@@ -33,12 +24,4 @@ returns-2 c t e =
     (rw (at-name .name .given .1) at (at-field-name .field-name .ensures)) (c .after-name .ensures t e)
 
 pub start-field-spec : {M : Type 1} → statement M
-start-field-spec =
-    tie.close
-    (tie.spec
-    field-name-requires
-    enum-known-p
-    enum-known-name
-    after-name-requires
-    returns
-    returns-2)
+start-field-spec = tie.close (tie.spec (λ c κs. search needs) (λ c. search needs) (λ c. search needs) after-name-requires returns returns-2)

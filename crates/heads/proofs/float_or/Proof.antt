@@ -4,12 +4,6 @@ use borrow.Author.Needs.{needs}
 use Rattle.heads.proofs.float_or.Statement.{statement}
 use Rattle.heads.proofs.float_or.Tie as tie
 
-enum-told : tie.Need-enum-told
-enum-told c = search needs
-
-enum-known-o : tie.Need-enum-known-o
-enum-known-o c = search needs
-
 returns : tie.Need-returns
 returns c = rw (c .enum-told .given .1) (record { is = refl; plain = λ o d. d })
 
@@ -17,4 +11,4 @@ returns-2 : tie.Need-returns-2
 returns-2 c = rw (c .before .o .given .1) (record { is = refl; plain = λ o d. o })
 
 pub float-or-spec : {M : Type 1} → statement M
-float-or-spec = tie.close (tie.spec enum-told enum-known-o returns returns-2)
+float-or-spec = tie.close (tie.spec (λ c. search needs) (λ c. search needs) returns returns-2)

@@ -9,15 +9,6 @@ use borrow.Author.Needs.{needs}
 use Rattle.heads.proofs.grid_field.Statement.{statement}
 use Rattle.heads.proofs.grid_field.Tie as tie
 
-parse-grid-origin-requires : tie.Need-parse-grid-origin-requires
-parse-grid-origin-requires c κs = search needs
-
-enum-known-r : tie.Need-enum-known-r
-enum-known-r c = search needs
-
-enum-known-k : tie.Need-enum-known-k
-enum-known-k c = search needs
-
 returns : tie.Need-returns
 unfolding gridFields
 returns c =
@@ -48,15 +39,6 @@ returns-2 c =
         (λ z. (aNumber (c .before .k .given .0 .0), took-origin (args .text .now) (args .c) _ _ (t .0), grid-origin (args .f) _), tt),
       ),
     )
-
-parse-uint-requires : tie.Need-parse-uint-requires
-parse-uint-requires c κs = search needs
-
-enum-known-r-2 : tie.Need-enum-known-r-2
-enum-known-r-2 c = search needs
-
-enum-known-n : tie.Need-enum-known-n
-enum-known-n c = search needs
 
 returns-3 : tie.Need-returns-3
 unfolding gridFields
@@ -97,16 +79,5 @@ returns-5 c =
 
 pub grid-field-spec : {M : Type 1} → statement M
 grid-field-spec =
-    tie.close
-    (tie.spec
-    parse-grid-origin-requires
-    enum-known-r
-    enum-known-k
-    returns
-    returns-2
-    parse-uint-requires
-    enum-known-r-2
-    enum-known-n
-    returns-3
-    returns-4
-    returns-5)
+    tie.close (tie.spec (λ c κs. search needs) (λ c. search needs) (λ c. search needs) returns returns-2 (λ c κs. search needs)
+    (λ c. search needs) (λ c. search needs) returns-3 returns-4 returns-5)

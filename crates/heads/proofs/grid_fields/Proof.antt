@@ -23,9 +23,6 @@ loop-holds c = kept-start GridHeld gridFields (c .before .args .text .now) (c .b
 next-grid-requires : tie.Need-next-grid-requires Inv-loop μ-loop
 next-grid-requires c κs = c .loop .inv .listed .ready
 
-enum-known-r : tie.Need-enum-known-r Inv-loop μ-loop
-enum-known-r c = search needs
-
 returns : tie.Need-returns Inv-loop μ-loop
 returns c =
     let at-next-grid = c .before .before .before in
@@ -39,9 +36,6 @@ returns c =
     (at-loop .loop .inv)
     _ _
     (rw (c .before .r .given .1) at (at-next-grid .next-grid .ensures))
-
-enum-known-e : tie.Need-enum-known-e Inv-loop μ-loop
-enum-known-e c = search needs
 
 returns-2 : tie.Need-returns-2 Inv-loop μ-loop
 returns-2 c =
@@ -57,14 +51,8 @@ returns-2 c =
     _
     (rw (c .before .e .given .1) at (at-next-grid .next-grid .ensures))
 
-enum-known-i : tie.Need-enum-known-i Inv-loop μ-loop
-enum-known-i c = search needs
-
 grid-field-requires : tie.Need-grid-field-requires Inv-loop μ-loop
 grid-field-requires c κs = (rw (c .before .i .given .1) at (c .before .before .before .next-grid .ensures)) .ready
-
-enum-known-r-2 : tie.Need-enum-known-r-2 Inv-loop μ-loop
-enum-known-r-2 c = search needs
 
 returns-3 : tie.Need-returns-3 Inv-loop μ-loop
 returns-3 c =
@@ -83,9 +71,6 @@ returns-3 c =
     (rw (at-i .i .given .1) at (at-next-grid .next-grid .ensures))
     _ _
     (rw (c .before .r2 .given .1) at (at-grid-field .grid-field .ensures))
-
-enum-known-g : tie.Need-enum-known-g Inv-loop μ-loop
-enum-known-g c = search needs
 
 eat-requires : tie.Need-eat-requires Inv-loop μ-loop
 eat-requires c κs =
@@ -162,22 +147,5 @@ loop-again c =
 
 pub grid-fields-spec : {M : Type 1} → statement M
 grid-fields-spec =
-    tie.close
-    (tie.spec
-    Inv-loop
-    μ-loop
-    loop-holds
-    next-grid-requires
-    enum-known-r
-    returns
-    enum-known-e
-    returns-2
-    enum-known-i
-    grid-field-requires
-    enum-known-r-2
-    returns-3
-    enum-known-g
-    eat-requires
-    returns-4
-    loop-less
-    loop-again)
+    tie.close (tie.spec Inv-loop μ-loop loop-holds next-grid-requires (λ c. search needs) returns (λ c. search needs) returns-2
+    (λ c. search needs) grid-field-requires (λ c. search needs) returns-3 (λ c. search needs) eat-requires returns-4 loop-less loop-again)

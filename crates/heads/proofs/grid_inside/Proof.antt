@@ -6,24 +6,6 @@ use borrow.Author.Needs.{needs}
 use Rattle.heads.proofs.grid_inside.Statement.{statement}
 use Rattle.heads.proofs.grid_inside.Tie as tie
 
-grid-fields-requires : tie.Need-grid-fields-requires
-grid-fields-requires c κs = search needs
-
-enum-known-r : tie.Need-enum-known-r
-enum-known-r c = search needs
-
-enum-known-f : tie.Need-enum-known-f
-enum-known-f c = search needs
-
-place-requires : tie.Need-place-requires
-place-requires c κs = search needs
-
-enum-known-counted : tie.Need-enum-known-counted
-enum-known-counted c = search needs
-
-enum-told : tie.Need-enum-told
-enum-told c = search needs
-
 returns : tie.Need-returns
 returns c =
     let at-place = c .before .before in
@@ -33,12 +15,6 @@ returns c =
     rw (at-place .place .ensures)
     (no-cols (args .text .now) (args .c) _ (at-f .f .given .0 .0) (rw (at-f .f .given .1) at (at-grid-fields .grid-fields .ensures))
     (c .enum-told .given .1))
-
-enum-known-counted-rows : tie.Need-enum-known-counted-rows
-enum-known-counted-rows c = search needs
-
-enum-told-2 : tie.Need-enum-told-2
-enum-told-2 c = search needs
 
 returns-2 : tie.Need-returns-2
 returns-2 c =
@@ -51,9 +27,6 @@ returns-2 c =
     (no-rows (args .text .now) (args .c) _ (at-f .f .given .0 .0) (rw (at-f .f .given .1) at (at-grid-fields .grid-fields .ensures)) _
     (at-counted .counted .given .1)
     (c .enum-told2 .given .1))
-
-case-or-requires : tie.Need-case-or-requires
-case-or-requires c κs = search needs
 
 returns-3 : tie.Need-returns-3
 unfolding gridInside
@@ -74,18 +47,5 @@ returns-4 c =
 
 pub grid-inside-spec : {M : Type 1} → statement M
 grid-inside-spec =
-    tie.close
-    (tie.spec
-    grid-fields-requires
-    enum-known-r
-    enum-known-f
-    place-requires
-    enum-known-counted
-    enum-told
-    returns
-    enum-known-counted-rows
-    enum-told-2
-    returns-2
-    case-or-requires
-    returns-3
-    returns-4)
+    tie.close (tie.spec (λ c κs. search needs) (λ c. search needs) (λ c. search needs) (λ c κs. search needs) (λ c. search needs)
+    (λ c. search needs) returns (λ c. search needs) (λ c. search needs) returns-2 (λ c κs. search needs) returns-3 returns-4)

@@ -5,23 +5,8 @@ use borrow.Author.Needs.{needs}
 use Rattle.heads.proofs.grid_pattern.Statement.{statement}
 use Rattle.heads.proofs.grid_pattern.Tie as tie
 
-mark-requires : tie.Need-mark-requires
-mark-requires c κs = search needs
-
-enum-known-p : tie.Need-enum-known-p
-enum-known-p c = search needs
-
-enum-known-m : tie.Need-enum-known-m
-enum-known-m c = search needs
-
 grid-inside-requires : tie.Need-grid-inside-requires
 grid-inside-requires c κs = (rw (c .before .m .given .1) at (c .before .before .before .mark .ensures)) .ready
-
-enum-known-r : tie.Need-enum-known-r
-enum-known-r c = search needs
-
-enum-known-x : tie.Need-enum-known-x
-enum-known-x c = search needs
 
 leave-group-requires : tie.Need-leave-group-requires
 leave-group-requires c κs = (rw (c .before .x .given .1) at (c .before .before .before .grid-inside .ensures)) .0 .ready
@@ -59,15 +44,5 @@ returns-3 c =
 
 pub grid-pattern-spec : {M : Type 1} → statement M
 grid-pattern-spec =
-    tie.close
-    (tie.spec
-    mark-requires
-    enum-known-p
-    enum-known-m
-    grid-inside-requires
-    enum-known-r
-    enum-known-x
-    leave-group-requires
-    returns
-    returns-2
-    returns-3)
+    tie.close (tie.spec (λ c κs. search needs) (λ c. search needs) (λ c. search needs) grid-inside-requires (λ c. search needs)
+    (λ c. search needs) leave-group-requires returns returns-2 returns-3)

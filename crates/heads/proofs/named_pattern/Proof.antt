@@ -11,12 +11,6 @@ use borrow.Author.Needs.{needs}
 use Rattle.heads.proofs.named_pattern.Statement.{statement}
 use Rattle.heads.proofs.named_pattern.Tie as tie
 
-grid-pattern-requires : tie.Need-grid-pattern-requires
-grid-pattern-requires c κs = search needs
-
-random-pattern-requires : tie.Need-random-pattern-requires
-random-pattern-requires c κs = search needs
-
 returns : tie.Need-returns
 unfolding patterns
 returns c =
@@ -65,6 +59,4 @@ returns-4 c =
     )
 
 pub named-pattern-spec : {M : Type 1} → statement M
-named-pattern-spec =
-    tie.close
-    (tie.spec grid-pattern-requires random-pattern-requires returns returns-2 returns-3 returns-4)
+named-pattern-spec = tie.close (tie.spec (λ c κs. search needs) (λ c κs. search needs) returns returns-2 returns-3 returns-4)

@@ -8,18 +8,6 @@ use borrow.Author.Needs.{needs}
 use Rattle.heads.proofs.opening_field.Statement.{statement}
 use Rattle.heads.proofs.opening_field.Tie as tie
 
-slice-aggregate-choice : tie.Need-slice-aggregate-choice
-slice-aggregate-choice c = search needs
-
-choice-requires : tie.Need-choice-requires
-choice-requires c κs = search needs
-
-enum-known-r : tie.Need-enum-known-r
-enum-known-r c = search needs
-
-enum-known-i : tie.Need-enum-known-i
-enum-known-i c = search needs
-
 opening-value-requires : tie.Need-opening-value-requires
 opening-value-requires c κs =
     let at-choice = c .before .before .before in
@@ -52,12 +40,5 @@ returns-2 c =
 
 pub opening-field-spec : {M : Type 1} → statement M
 opening-field-spec =
-    tie.close
-    (tie.spec
-    slice-aggregate-choice
-    choice-requires
-    enum-known-r
-    enum-known-i
-    opening-value-requires
-    returns
+    tie.close (tie.spec (λ c. search needs) (λ c κs. search needs) (λ c. search needs) (λ c. search needs) opening-value-requires returns
     returns-2)

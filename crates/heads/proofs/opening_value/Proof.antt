@@ -11,23 +11,8 @@ use borrow.Author.Needs.{needs}
 use Rattle.heads.proofs.opening_value.Statement.{statement}
 use Rattle.heads.proofs.opening_value.Tie as tie
 
-mark-requires : tie.Need-mark-requires
-mark-requires c κs = search needs
-
-enum-known-p : tie.Need-enum-known-p
-enum-known-p c = search needs
-
-enum-known-m : tie.Need-enum-known-m
-enum-known-m c = search needs
-
 parse-stagger-pattern-requires : tie.Need-parse-stagger-pattern-requires
 parse-stagger-pattern-requires c κs = (rw (c .before .before .m .given .1) at (c .before .before .before .before .mark .ensures)) .ready
-
-enum-known-r : tie.Need-enum-known-r
-enum-known-r c = search needs
-
-enum-known-x : tie.Need-enum-known-x
-enum-known-x c = search needs
 
 returns : tie.Need-returns
 unfolding openingFields
@@ -65,12 +50,6 @@ returns-2 c =
 
 parse-float-requires : tie.Need-parse-float-requires
 parse-float-requires c κs = (rw (c .before .before .m .given .1) at (c .before .before .before .before .mark .ensures)) .ready
-
-enum-known-r-2 : tie.Need-enum-known-r-2
-enum-known-r-2 c = search needs
-
-enum-known-x-2 : tie.Need-enum-known-x-2
-enum-known-x-2 c = search needs
 
 returns-3 : tie.Need-returns-3
 unfolding openingFields
@@ -117,19 +96,5 @@ returns-5 c =
 
 pub opening-value-spec : {M : Type 1} → statement M
 opening-value-spec =
-    tie.close
-    (tie.spec
-    mark-requires
-    enum-known-p
-    enum-known-m
-    parse-stagger-pattern-requires
-    enum-known-r
-    enum-known-x
-    returns
-    returns-2
-    parse-float-requires
-    enum-known-r-2
-    enum-known-x-2
-    returns-3
-    returns-4
-    returns-5)
+    tie.close (tie.spec (λ c κs. search needs) (λ c. search needs) (λ c. search needs) parse-stagger-pattern-requires (λ c. search needs)
+    (λ c. search needs) returns returns-2 parse-float-requires (λ c. search needs) (λ c. search needs) returns-3 returns-4 returns-5)

@@ -7,18 +7,6 @@ use borrow.Author.Needs.{needs}
 use Rattle.heads.proofs.parse_group.Statement.{statement}
 use Rattle.heads.proofs.parse_group.Tie as tie
 
-slice-aggregate-choice : tie.Need-slice-aggregate-choice
-slice-aggregate-choice c = search needs
-
-choice-requires : tie.Need-choice-requires
-choice-requires c κs = search needs
-
-enum-known-r : tie.Need-enum-known-r
-enum-known-r c = search needs
-
-enum-known-i : tie.Need-enum-known-i
-enum-known-i c = search needs
-
 cast-t13 : tie.Need-cast-t13
 unfolding entries
 cast-t13 c =
@@ -41,12 +29,4 @@ returns-2 c =
 
 pub parse-group-spec : {M : Type 1} → statement M
 parse-group-spec =
-    tie.close
-    (tie.spec
-    slice-aggregate-choice
-    choice-requires
-    enum-known-r
-    enum-known-i
-    cast-t13
-    returns
-    returns-2)
+    tie.close (tie.spec (λ c. search needs) (λ c κs. search needs) (λ c. search needs) (λ c. search needs) cast-t13 returns returns-2)

@@ -19,9 +19,6 @@ abbrev μ-loop : tie.MeasureT-loop
 loop-holds : tie.Need-loop-holds Inv-loop μ-loop
 loop-holds c = (opened-start (c .before .args .text .now) (c .before .args .c) (c .before .pre), (tt, tt))
 
-sees-requires : tie.Need-sees-requires Inv-loop μ-loop
-sees-requires c κs = search needs
-
 returns : tie.Need-returns Inv-loop μ-loop
 returns c =
     let at-loop = c .before .before in
@@ -34,9 +31,6 @@ opening-field-requires : tie.Need-opening-field-requires Inv-loop μ-loop
 opening-field-requires c κs =
     let loop = c .before .before .loop in
     (loop .inv .0 .ready, loop .inv .1)
-
-enum-known-r : tie.Need-enum-known-r Inv-loop μ-loop
-enum-known-r c = search needs
 
 returns-2 : tie.Need-returns-2 Inv-loop μ-loop
 returns-2 c =
@@ -55,9 +49,6 @@ returns-2 c =
     (loop .inv .0)
     e _ _
     (rw (c .before .r .given .1) at (at-opening-field .opening-field .ensures))
-
-enum-known-g : tie.Need-enum-known-g Inv-loop μ-loop
-enum-known-g c = search needs
 
 eat-requires : tie.Need-eat-requires Inv-loop μ-loop
 eat-requires c κs = ((rw (c .before .g .given .1) at (c .before .before .before .opening-field .ensures)) .0 .ready, lit< tt)
@@ -117,18 +108,5 @@ loop-again c =
 
 pub parse-stagger-spec : {M : Type 1} → statement M
 parse-stagger-spec =
-    tie.close
-    (tie.spec
-    Inv-loop
-    μ-loop
-    loop-holds
-    sees-requires
-    returns
-    opening-field-requires
-    enum-known-r
-    returns-2
-    enum-known-g
-    eat-requires
-    returns-3
-    loop-less
-    loop-again)
+    tie.close (tie.spec Inv-loop μ-loop loop-holds (λ c κs. search needs) returns opening-field-requires (λ c. search needs) returns-2
+    (λ c. search needs) eat-requires returns-3 loop-less loop-again)

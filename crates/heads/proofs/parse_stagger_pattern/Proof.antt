@@ -7,18 +7,6 @@ use borrow.Author.Needs.{needs}
 use Rattle.heads.proofs.parse_stagger_pattern.Statement.{statement}
 use Rattle.heads.proofs.parse_stagger_pattern.Tie as tie
 
-slice-aggregate-choice : tie.Need-slice-aggregate-choice
-slice-aggregate-choice c = search needs
-
-choice-requires : tie.Need-choice-requires
-choice-requires c κs = search needs
-
-enum-known-r : tie.Need-enum-known-r
-enum-known-r c = search needs
-
-enum-known-i : tie.Need-enum-known-i
-enum-known-i c = search needs
-
 named-pattern-requires : tie.Need-named-pattern-requires
 named-pattern-requires c κs = (rw (c .before .i .given .1) at (c .before .before .before .choice .ensures)) .ready
 
@@ -40,12 +28,5 @@ returns-2 c =
 
 pub parse-stagger-pattern-spec : {M : Type 1} → statement M
 parse-stagger-pattern-spec =
-    tie.close
-    (tie.spec
-    slice-aggregate-choice
-    choice-requires
-    enum-known-r
-    enum-known-i
-    named-pattern-requires
-    returns
+    tie.close (tie.spec (λ c. search needs) (λ c κs. search needs) (λ c. search needs) (λ c. search needs) named-pattern-requires returns
     returns-2)

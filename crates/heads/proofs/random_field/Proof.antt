@@ -10,15 +10,6 @@ use borrow.Author.Needs.{needs}
 use Rattle.heads.proofs.random_field.Statement.{statement}
 use Rattle.heads.proofs.random_field.Tie as tie
 
-parse-uint-requires : tie.Need-parse-uint-requires
-parse-uint-requires c κs = search needs
-
-enum-known-r : tie.Need-enum-known-r
-enum-known-r c = search needs
-
-enum-known-n : tie.Need-enum-known-n
-enum-known-n c = search needs
-
 returns : tie.Need-returns
 unfolding randomFields
 returns c =
@@ -39,15 +30,6 @@ returns-2 c =
       λ z. (aNumber (c .before .n .given .0 .0), took-count (args .text .now) (args .c) _ _ t, random-seed (args .f) _),
       (λ z. absurd (omega arith), (λ z. absurd (omega arith), tt)),
     )
-
-parse-float-requires : tie.Need-parse-float-requires
-parse-float-requires c κs = search needs
-
-enum-known-r-2 : tie.Need-enum-known-r-2
-enum-known-r-2 c = search needs
-
-enum-known-x : tie.Need-enum-known-x
-enum-known-x c = search needs
 
 returns-3 : tie.Need-returns-3
 unfolding randomFields
@@ -95,16 +77,5 @@ returns-5 c =
 
 pub random-field-spec : {M : Type 1} → statement M
 random-field-spec =
-    tie.close
-    (tie.spec
-    parse-uint-requires
-    enum-known-r
-    enum-known-n
-    returns
-    returns-2
-    parse-float-requires
-    enum-known-r-2
-    enum-known-x
-    returns-3
-    returns-4
-    returns-5)
+    tie.close (tie.spec (λ c κs. search needs) (λ c. search needs) (λ c. search needs) returns returns-2 (λ c κs. search needs)
+    (λ c. search needs) (λ c. search needs) returns-3 returns-4 returns-5)

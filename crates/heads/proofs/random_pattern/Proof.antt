@@ -7,32 +7,8 @@ use borrow.Author.Needs.{needs}
 use Rattle.heads.proofs.random_pattern.Statement.{statement}
 use Rattle.heads.proofs.random_pattern.Tie as tie
 
-mark-requires : tie.Need-mark-requires
-mark-requires c κs = search needs
-
-enum-known-p : tie.Need-enum-known-p
-enum-known-p c = search needs
-
-enum-known-m : tie.Need-enum-known-m
-enum-known-m c = search needs
-
 random-fields-requires : tie.Need-random-fields-requires
 random-fields-requires c κs = (rw (c .before .m .given .1) at (c .before .before .before .mark .ensures)) .ready
-
-enum-known-r : tie.Need-enum-known-r
-enum-known-r c = search needs
-
-enum-known-f : tie.Need-enum-known-f
-enum-known-f c = search needs
-
-word-or-requires : tie.Need-word-or-requires
-word-or-requires c κs = search needs
-
-float-or-requires : tie.Need-float-or-requires
-float-or-requires c κs = search needs
-
-float-or-requires-2 : tie.Need-float-or-requires-2
-float-or-requires-2 c κs = search needs
 
 leave-group-requires : tie.Need-leave-group-requires
 leave-group-requires c κs =
@@ -83,18 +59,6 @@ returns-3 c =
 
 pub random-pattern-spec : {M : Type 1} → statement M
 random-pattern-spec =
-    tie.close
-    (tie.spec
-    mark-requires
-    enum-known-p
-    enum-known-m
-    random-fields-requires
-    enum-known-r
-    enum-known-f
-    word-or-requires
-    float-or-requires
-    float-or-requires-2
-    leave-group-requires
-    returns
-    returns-2
+    tie.close (tie.spec (λ c κs. search needs) (λ c. search needs) (λ c. search needs) random-fields-requires (λ c. search needs)
+    (λ c. search needs) (λ c κs. search needs) (λ c κs. search needs) (λ c κs. search needs) leave-group-requires returns returns-2
     returns-3)

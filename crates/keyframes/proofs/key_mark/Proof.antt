@@ -5,25 +5,10 @@ use borrow.Author.Needs.{needs}
 use Rattle.keyframes.proofs.key_mark.Statement.{statement}
 use Rattle.keyframes.proofs.key_mark.Tie as tie
 
-parse-keyframe-time-requires : tie.Need-parse-keyframe-time-requires
-parse-keyframe-time-requires c κs = search needs
-
-enum-known-r : tie.Need-enum-known-r
-enum-known-r c = search needs
-
-enum-known-percent : tie.Need-enum-known-percent
-enum-known-percent c = search needs
-
 mark-requires : tie.Need-mark-requires
 mark-requires c κs =
     let at-parse-keyframe-time = c .before .before .before in
     ((rw (c .before .percent .given .1) at (at-parse-keyframe-time .parse-keyframe-time .ensures)) .took .ready, omega arith)
-
-enum-known-p : tie.Need-enum-known-p
-enum-known-p c = search needs
-
-enum-known-n : tie.Need-enum-known-n
-enum-known-n c = search needs
 
 returns : tie.Need-returns
 returns c =
@@ -49,14 +34,5 @@ returns-3 c =
 
 pub key-mark-spec : {M : Type 1} → statement M
 key-mark-spec =
-    tie.close
-    (tie.spec
-    parse-keyframe-time-requires
-    enum-known-r
-    enum-known-percent
-    mark-requires
-    enum-known-p
-    enum-known-n
-    returns
-    returns-2
-    returns-3)
+    tie.close (tie.spec (λ c κs. search needs) (λ c. search needs) (λ c. search needs) mark-requires (λ c. search needs) (λ c. search needs)
+    returns returns-2 returns-3)

@@ -6,9 +6,6 @@ use borrow.Author.Needs.{needs}
 use Rattle.keyframes.proofs.keyframe_easing.Statement.{statement}
 use Rattle.keyframes.proofs.keyframe_easing.Tie as tie
 
-sees-name-requires : tie.Need-sees-name-requires
-sees-name-requires c κs = search needs
-
 returns : tie.Need-returns
 returns c =
     let start = c .before .before .before in (
@@ -16,15 +13,6 @@ returns c =
           (sym (c .before .sees-name .ensures) ∙ not-true (c .before .sees-name .result) (c .if1 .taken)),
       tt,
     )
-
-parse-easing-requires : tie.Need-parse-easing-requires
-parse-easing-requires c κs = search needs
-
-enum-known-r : tie.Need-enum-known-r
-enum-known-r c = search needs
-
-enum-known-e : tie.Need-enum-known-e
-enum-known-e c = search needs
 
 returns-2 : tie.Need-returns-2
 returns-2 c =
@@ -57,12 +45,4 @@ returns-3 c =
 
 pub keyframe-easing-spec : {M : Type 1} → statement M
 keyframe-easing-spec =
-    tie.close
-    (tie.spec
-    sees-name-requires
-    returns
-    parse-easing-requires
-    enum-known-r
-    enum-known-e
-    returns-2
-    returns-3)
+    tie.close (tie.spec (λ c κs. search needs) returns (λ c κs. search needs) (λ c. search needs) (λ c. search needs) returns-2 returns-3)

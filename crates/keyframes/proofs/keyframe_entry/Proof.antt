@@ -5,18 +5,6 @@ use Rattle.keyframes.proofs.EntryLaws.{entry-went, frame-no-easing, fra
 use Rattle.keyframes.proofs.keyframe_entry.Statement.{statement}
 use Rattle.keyframes.proofs.keyframe_entry.Tie as tie
 
-key-mark-requires : tie.Need-key-mark-requires
-key-mark-requires c κs = search needs
-
-enum-known-r : tie.Need-enum-known-r
-enum-known-r c = search needs
-
-enum-known-percent : tie.Need-enum-known-percent
-enum-known-percent c = search needs
-
-add-read-value : tie.Need-add-read-value
-add-read-value c = search needs
-
 read-value-requires : tie.Need-read-value-requires
 read-value-requires c κs =
     let at-percent = c .before .before in
@@ -26,35 +14,17 @@ read-value-requires c κs =
       record { short = pre .1 .short; low = omega (arith, pre .1 .low) },
     )
 
-enum-known-r-2 : tie.Need-enum-known-r-2
-enum-known-r-2 c = search needs
-
-enum-known-value : tie.Need-enum-known-value
-enum-known-value c = search needs
-
 keyframe-easing-requires : tie.Need-keyframe-easing-requires
 keyframe-easing-requires c κs =
     let at-value = c .before in
     let at-read-value = at-value .before .before .before .before in
     (rw (at-value .value .given .1) at (at-read-value .read-value .ensures)) .took .ready
 
-enum-known-r-3 : tie.Need-enum-known-r-3
-enum-known-r-3 c = search needs
-
-enum-known-easing : tie.Need-enum-known-easing
-enum-known-easing c = search needs
-
-entry-of-requires : tie.Need-entry-of-requires
-entry-of-requires c κs = search needs
-
 returns : tie.Need-returns
 returns c =
     let at-key-mark = c .before .before .before in
     let args = at-key-mark .before .before .before .args in
     frame-no-key (args .text .now) (args .c) (rw (c .before .r .given .1) at (at-key-mark .key-mark .ensures))
-
-same-length : tie.Need-same-length
-same-length c = search needs
 
 returns-2 : tie.Need-returns-2
 returns-2 c =
@@ -64,9 +34,6 @@ returns-2 c =
     let at-key-mark = at-percent .before .before in
     frame-no-value (rw (at-percent .percent .given .1) at (at-key-mark .key-mark .ensures))
     (rw (at-r2 .r2 .given .1) at (at-read-value .read-value .ensures))
-
-same-length-2 : tie.Need-same-length-2
-same-length-2 c = search needs
 
 returns-3 : tie.Need-returns-3
 returns-3 c =
@@ -81,9 +48,6 @@ returns-3 c =
     (start .args .out)
     (rw (at-value .value .given .1) at (at-read-value .read-value .ensures))
     (rw (c .before .r3 .given .1) at (at-keyframe-easing .keyframe-easing .ensures))
-
-same-length-3 : tie.Need-same-length-3
-same-length-3 c = search needs
 
 returns-4 : tie.Need-returns-4
 returns-4 c =
@@ -101,23 +65,6 @@ returns-4 c =
 
 pub keyframe-entry-spec : {M : Type 1} → statement M
 keyframe-entry-spec =
-    tie.close
-    (tie.spec
-    key-mark-requires
-    enum-known-r
-    enum-known-percent
-    add-read-value
-    read-value-requires
-    enum-known-r-2
-    enum-known-value
-    keyframe-easing-requires
-    enum-known-r-3
-    enum-known-easing
-    entry-of-requires
-    returns
-    same-length
-    returns-2
-    same-length-2
-    returns-3
-    same-length-3
-    returns-4)
+    tie.close (tie.spec (λ c κs. search needs) (λ c. search needs) (λ c. search needs) (λ c. search needs) read-value-requires
+    (λ c. search needs) (λ c. search needs) keyframe-easing-requires (λ c. search needs) (λ c. search needs) (λ c κs. search needs) returns
+    (λ c. search needs) returns-2 (λ c. search needs) returns-3 (λ c. search needs) returns-4)

@@ -7,23 +7,8 @@ use borrow.Author.Needs.{needs}
 use Rattle.keyframes.proofs.parse_keyframe_time.Statement.{statement}
 use Rattle.keyframes.proofs.parse_keyframe_time.Tie as tie
 
-number-requires : tie.Need-number-requires
-number-requires c κs = search needs
-
-enum-known-p : tie.Need-enum-known-p
-enum-known-p c = search needs
-
-enum-known-negative : tie.Need-enum-known-negative
-enum-known-negative c = search needs
-
 percent-sign-requires : tie.Need-percent-sign-requires
 percent-sign-requires c κs = (rw (c .before .negative .given .1) at (c .before .before .before .number .ensures)) .ready
-
-all-requires : tie.Need-all-requires
-all-requires c κs = search needs
-
-place-requires : tie.Need-place-requires
-place-requires c κs = search needs
 
 returns : tie.Need-returns
 returns c =
@@ -75,16 +60,5 @@ returns-3 c =
 
 pub parse-keyframe-time-spec : {M : Type 1} → statement M
 parse-keyframe-time-spec =
-    tie.close
-    (tie.spec
-    number-requires
-    enum-known-p
-    enum-known-negative
-    percent-sign-requires
-    all-requires
-    place-requires
-    returns
-    time-of-requires
-    count-requires
-    returns-2
-    returns-3)
+    tie.close (tie.spec (λ c κs. search needs) (λ c. search needs) (λ c. search needs) percent-sign-requires (λ c κs. search needs)
+    (λ c κs. search needs) returns time-of-requires count-requires returns-2 returns-3)

@@ -6,26 +6,8 @@ use borrow.Author.Needs.{needs}
 use Rattle.keyframes.proofs.parse_keyframes.Statement.{statement}
 use Rattle.keyframes.proofs.parse_keyframes.Tie as tie
 
-word-requires : tie.Need-word-requires
-word-requires c κs = search needs
-
-enum-known-p : tie.Need-enum-known-p
-enum-known-p c = search needs
-
-enum-known-target : tie.Need-enum-known-target
-enum-known-target c = search needs
-
 mark-requires : tie.Need-mark-requires
 mark-requires c κs = ((rw (c .before .target .given .1) at (c .before .before .before .word .ensures)) .0 .ready, omega arith)
-
-enum-known-p-2 : tie.Need-enum-known-p-2
-enum-known-p-2 c = search needs
-
-enum-known-n : tie.Need-enum-known-n
-enum-known-n c = search needs
-
-put-span-requires : tie.Need-put-span-requires
-put-span-requires c κs = search needs
 
 track-value-requires : tie.Need-track-value-requires
 track-value-requires c κs =
@@ -54,9 +36,6 @@ returns-2 c =
     let at-word = at-target .before .before in
     no-brace _ _ _ _ _ ((rw (at-target .target .given .1) at (at-word .word .ensures)) .0) _
     (rw (c .before .p2 .given .1) at (at-mark .mark .ensures))
-
-same-length : tie.Need-same-length
-same-length c = search needs
 
 returns-3 : tie.Need-returns-3
 returns-3 c =
@@ -87,17 +66,5 @@ returns-3 c =
 
 pub parse-keyframes-spec : {M : Type 1} → statement M
 parse-keyframes-spec =
-    tie.close
-    (tie.spec
-    word-requires
-    enum-known-p
-    enum-known-target
-    mark-requires
-    enum-known-p-2
-    enum-known-n
-    put-span-requires
-    track-value-requires
-    returns
-    returns-2
-    same-length
-    returns-3)
+    tie.close (tie.spec (λ c κs. search needs) (λ c. search needs) (λ c. search needs) mark-requires (λ c. search needs) (λ c. search needs)
+    (λ c κs. search needs) track-value-requires returns returns-2 (λ c. search needs) returns-3)

@@ -9,13 +9,10 @@ returns c =
     let start = c .before .before in
     no-sign (start .args .text .now) (start .args .c) (start .pre) (start .args .point) (c .if1 .taken)
 
-eat-requires : tie.Need-eat-requires
-eat-requires c κs = search needs
-
 returns-2 : tie.Need-returns-2
 returns-2 c =
     let args = c .before .before .before .args in
     a-sign (args .text .now) (args .c) _ (args .point) _ (c .before .if1 .left) (c .eat .ensures)
 
 pub percent-sign-spec : {M : Type 1} → statement M
-percent-sign-spec = tie.close (tie.spec returns eat-requires returns-2)
+percent-sign-spec = tie.close (tie.spec returns (λ c κs. search needs) returns-2)

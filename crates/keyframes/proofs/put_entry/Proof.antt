@@ -8,9 +8,6 @@ use Rattle.keyframes.proofs.EntryLaws.{value-end}
 use Rattle.keyframes.proofs.put_entry.Statement.{statement}
 use Rattle.keyframes.proofs.put_entry.Tie as tie
 
-put-time-requires : tie.Need-put-time-requires
-put-time-requires c κs = search needs
-
 put-value-requires : tie.Need-put-value-requires
 put-value-requires c κs =
     let at-put-time = c .before .before .before in
@@ -35,13 +32,6 @@ put-opt-easing-requires c κs =
       start .pre .2 .2,
     )
 
-same-length : tie.Need-same-length
-same-length c = search needs
-
-returns : tie.Need-returns
-returns c = search needs
-
 pub put-entry-spec : {M : Type 1} → statement M
 put-entry-spec =
-    tie.close
-    (tie.spec put-time-requires put-value-requires put-opt-easing-requires same-length returns)
+    tie.close (tie.spec (λ c κs. search needs) put-value-requires put-opt-easing-requires (λ c. search needs) (λ c. search needs))

@@ -7,14 +7,8 @@ use Rattle.keyframes.proofs.put_value.Tie as tie
 returns : tie.Need-returns
 returns c = rw (c .if1 .taken) (refl, refl)
 
-put-scalar-requires : tie.Need-put-scalar-requires
-put-scalar-requires c κs = search needs
-
-same-length : tie.Need-same-length
-same-length c = search needs
-
 returns-2 : tie.Need-returns-2
 returns-2 c = rw (c .before .before .before .before .if1 .left) (c .before .before .put-scalar .ensures)
 
 pub put-value-spec : {M : Type 1} → statement M
-put-value-spec = tie.close (tie.spec returns put-scalar-requires same-length returns-2)
+put-value-spec = tie.close (tie.spec returns (λ c κs. search needs) (λ c. search needs) returns-2)

@@ -4,9 +4,6 @@ use borrow.Author.Needs.{needs}
 use Rattle.keyframes.proofs.time_of.Statement.{statement}
 use Rattle.keyframes.proofs.time_of.Tie as tie
 
-percent-of-requires : tie.Need-percent-of-requires
-percent-of-requires c κs = search needs
-
 returns : tie.Need-returns
 returns c =
     let args = c .before .before .before .args in
@@ -14,9 +11,6 @@ returns c =
       stores-percent (args .percent) (args .negative) _ e (c .percent-of .ensures .0),
       rounds-percent (args .percent) (args .negative) _ e (c .percent-of .ensures .1),
     )
-
-float-of-requires : tie.Need-float-of-requires
-float-of-requires c κs = search needs
 
 returns-2 : tie.Need-returns-2
 returns-2 c =
@@ -27,4 +21,4 @@ returns-2 c =
     )
 
 pub time-of-spec : {M : Type 1} → statement M
-time-of-spec = tie.close (tie.spec percent-of-requires returns float-of-requires returns-2)
+time-of-spec = tie.close (tie.spec (λ c κs. search needs) returns (λ c κs. search needs) returns-2)

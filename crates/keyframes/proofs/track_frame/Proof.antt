@@ -7,15 +7,6 @@ use Rattle.keyframes.proofs.TrackLaws.{frame-refused, frame-step}
 use Rattle.keyframes.proofs.track_frame.Statement.{statement}
 use Rattle.keyframes.proofs.track_frame.Tie as tie
 
-keyframe-entry-requires : tie.Need-keyframe-entry-requires
-keyframe-entry-requires c κs = search needs
-
-enum-known-r : tie.Need-enum-known-r
-enum-known-r c = search needs
-
-enum-known-entry : tie.Need-enum-known-entry
-enum-known-entry c = search needs
-
 put-entry-requires : tie.Need-put-entry-requires
 put-entry-requires c κs =
     let at-entry = c .before .before in
@@ -41,9 +32,6 @@ add-t21 c =
     let pre = c16 .before .pre in
     omega (arith, pre .few, pre .inner .low)
 
-same-length : tie.Need-same-length
-same-length c = search needs
-
 returns : tie.Need-returns
 returns c =
     let at-separator = c .before .before .before in
@@ -65,9 +53,6 @@ returns c =
     true
     (c .if1 .taken)
 
-same-length-2 : tie.Need-same-length-2
-same-length-2 c = search needs
-
 returns-2 : tie.Need-returns-2
 returns-2 c =
     let at-r = c .before in
@@ -75,9 +60,6 @@ returns-2 c =
     let c9 = at-keyframe-entry .before .before .before .before in
     let args = c9 .before .args in
     frame-refused (args .text .now) (args .t) _ _ (rw (at-r .r .given .1) at (at-keyframe-entry .keyframe-entry .ensures))
-
-same-length-3 : tie.Need-same-length-3
-same-length-3 c = search needs
 
 returns-3 : tie.Need-returns-3
 returns-3 c =
@@ -102,17 +84,5 @@ returns-3 c =
 
 pub track-frame-spec : {M : Type 1} → statement M
 track-frame-spec =
-    tie.close
-    (tie.spec
-    keyframe-entry-requires
-    enum-known-r
-    enum-known-entry
-    put-entry-requires
-    separator-requires
-    add-t21
-    same-length
-    returns
-    same-length-2
-    returns-2
-    same-length-3
-    returns-3)
+    tie.close (tie.spec (λ c κs. search needs) (λ c. search needs) (λ c. search needs) put-entry-requires separator-requires add-t21
+    (λ c. search needs) returns (λ c. search needs) returns-2 (λ c. search needs) returns-3)

@@ -35,9 +35,6 @@ track-step-requires c κs =
     (c .before .loop .inv)
     (start .pre .1)
 
-enum-known-r : tie.Need-enum-known-r Inv-loop μ-loop
-enum-known-r c = search needs
-
 same-length : tie.Need-same-length Inv-loop μ-loop
 same-length c =
     let c4 = c .before .before .before .before in
@@ -62,9 +59,6 @@ returns c =
     _ _
     (rw (at-r .r .given .1) at (at-track-step .track-step .ensures))
 
-enum-known-u : tie.Need-enum-known-u Inv-loop μ-loop
-enum-known-u c = search needs
-
 same-length-2 : tie.Need-same-length-2 Inv-loop μ-loop
 same-length-2 c =
     let c4 = c .before .before .before .before in
@@ -88,9 +82,6 @@ returns-2 c =
     (at-loop .loop .inv)
     _ _
     (rw (at-u .u .given .1) at (at-track-step .track-step .ensures))
-
-enum-known-u-2 : tie.Need-enum-known-u-2 Inv-loop μ-loop
-enum-known-u-2 c = search needs
 
 loop-less : tie.Need-loop-less Inv-loop μ-loop
 loop-less c =
@@ -118,18 +109,5 @@ loop-again c =
 
 pub track-items-spec : {M : Type 1} → statement M
 track-items-spec =
-    tie.close
-    (tie.spec
-    Inv-loop
-    μ-loop
-    loop-holds
-    track-step-requires
-    enum-known-r
-    same-length
-    returns
-    enum-known-u
-    same-length-2
-    returns-2
-    enum-known-u-2
-    loop-less
-    loop-again)
+    tie.close (tie.spec Inv-loop μ-loop loop-holds track-step-requires (λ c. search needs) same-length returns (λ c. search needs)
+    same-length-2 returns-2 (λ c. search needs) loop-less loop-again)

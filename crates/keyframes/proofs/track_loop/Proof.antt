@@ -5,26 +5,8 @@ use borrow.Author.Needs.{needs}
 use Rattle.keyframes.proofs.track_loop.Statement.{statement}
 use Rattle.keyframes.proofs.track_loop.Tie as tie
 
-advance-requires : tie.Need-advance-requires
-advance-requires c κs = search needs
-
-mark-requires : tie.Need-mark-requires
-mark-requires c κs = search needs
-
-enum-known-p : tie.Need-enum-known-p
-enum-known-p c = search needs
-
-enum-known-m : tie.Need-enum-known-m
-enum-known-m c = search needs
-
 parse-loop-mode-requires : tie.Need-parse-loop-mode-requires
 parse-loop-mode-requires c κs = (rw (c .before .m .given .1) at (c .before .before .before .mark .ensures)) .ready
-
-enum-known-r : tie.Need-enum-known-r
-enum-known-r c = search needs
-
-enum-known-mode : tie.Need-enum-known-mode
-enum-known-mode c = search needs
 
 eat-requires : tie.Need-eat-requires
 eat-requires c κs = ((rw (c .before .mode .given .1) at (c .before .before .before .parse-loop-mode .ensures)) .ready, omega arith)
@@ -69,16 +51,5 @@ returns-3 c b =
 
 pub track-loop-spec : {M : Type 1} → statement M
 track-loop-spec =
-    tie.close
-    (tie.spec
-    advance-requires
-    mark-requires
-    enum-known-p
-    enum-known-m
-    parse-loop-mode-requires
-    enum-known-r
-    enum-known-mode
-    eat-requires
-    returns
-    returns-2
-    returns-3)
+    tie.close (tie.spec (λ c κs. search needs) (λ c κs. search needs) (λ c. search needs) (λ c. search needs) parse-loop-mode-requires
+    (λ c. search needs) (λ c. search needs) eat-requires returns returns-2 returns-3)

@@ -5,9 +5,6 @@ use borrow.Author.Needs.{needs}
 use Rattle.keyframes.proofs.track_step.Statement.{statement}
 use Rattle.keyframes.proofs.track_step.Tie as tie
 
-ends-requires : tie.Need-ends-requires
-ends-requires c κs = search needs
-
 returns : tie.Need-returns
 returns c =
     let at-ends = c .before in
@@ -15,15 +12,6 @@ returns c =
     let args = start .args in
     step-end (args .text .now) (args .sheet .now) (args .t) (start .pre .ready)
     (sym (at-ends .ends .ensures (args .text .now) (start .pre .ready)) ∙ c .if1 .taken)
-
-slice-aggregate-sees-word : tie.Need-slice-aggregate-sees-word
-slice-aggregate-sees-word c = search needs
-
-sees-word-requires : tie.Need-sees-word-requires
-sees-word-requires c κs = search needs
-
-track-loop-requires : tie.Need-track-loop-requires
-track-loop-requires c κs = search needs
 
 returns-2 : tie.Need-returns-2
 returns-2 c =
@@ -41,12 +29,6 @@ returns-2 c =
     (c .track-loop .result)
     (sym (at-sees-word .sees-word .ensures) ∙ c .before .if2 .taken)
     (c .track-loop .ensures (args .sheet .now))
-
-track-frame-requires : tie.Need-track-frame-requires
-track-frame-requires c κs = search needs
-
-same-length : tie.Need-same-length
-same-length c = search needs
 
 returns-3 : tie.Need-returns-3
 returns-3 c =
@@ -69,14 +51,5 @@ returns-3 c =
 
 pub track-step-spec : {M : Type 1} → statement M
 track-step-spec =
-    tie.close
-    (tie.spec
-    ends-requires
-    returns
-    slice-aggregate-sees-word
-    sees-word-requires
-    track-loop-requires
-    returns-2
-    track-frame-requires
-    same-length
-    returns-3)
+    tie.close (tie.spec (λ c κs. search needs) returns (λ c. search needs) (λ c κs. search needs) (λ c κs. search needs) returns-2
+    (λ c κs. search needs) (λ c. search needs) returns-3)

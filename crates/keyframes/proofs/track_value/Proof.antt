@@ -5,21 +5,6 @@ use borrow.Author.Needs.{needs}
 use Rattle.keyframes.proofs.track_value.Statement.{statement}
 use Rattle.keyframes.proofs.track_value.Tie as tie
 
-add-track-items : tie.Need-add-track-items
-add-track-items c = search needs
-
-track-items-requires : tie.Need-track-items-requires
-track-items-requires c κs = search needs
-
-enum-known-r : tie.Need-enum-known-r
-enum-known-r c = search needs
-
-enum-known-t : tie.Need-enum-known-t
-enum-known-t c = search needs
-
-patch-count-requires : tie.Need-patch-count-requires
-patch-count-requires c κs = search needs
-
 put-opt-loop-requires : tie.Need-put-opt-loop-requires
 put-opt-loop-requires c κs =
     let c4 = c .before .before .before .before in
@@ -37,18 +22,12 @@ leave-group-requires c κs =
     let at-track-items = at-t .before .before .before .before in
     (rw (at-t .t .given .1) at (at-track-items .track-items .ensures)) .took .ready
 
-same-length : tie.Need-same-length
-same-length c = search needs
-
 returns : tie.Need-returns
 returns c =
     let at-r = c .before in
     let at-track-items = at-r .before .before .before .before in
     let args = at-track-items .before .before .before .before .args in
     block-refused (args .text .now) (args .c) _ _ (rw (at-r .r .given .1) at (at-track-items .track-items .ensures))
-
-same-length-2 : tie.Need-same-length-2
-same-length-2 c = search needs
 
 returns-2 : tie.Need-returns-2
 returns-2 c =
@@ -72,16 +51,5 @@ returns-2 c =
 
 pub track-value-spec : {M : Type 1} → statement M
 track-value-spec =
-    tie.close
-    (tie.spec
-    add-track-items
-    track-items-requires
-    enum-known-r
-    enum-known-t
-    patch-count-requires
-    put-opt-loop-requires
-    leave-group-requires
-    same-length
-    returns
-    same-length-2
-    returns-2)
+    tie.close (tie.spec (λ c. search needs) (λ c κs. search needs) (λ c. search needs) (λ c. search needs) (λ c κs. search needs)
+    put-opt-loop-requires leave-group-requires (λ c. search needs) returns (λ c. search needs) returns-2)

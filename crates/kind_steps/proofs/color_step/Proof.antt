@@ -14,42 +14,12 @@ use borrow.Author.Needs.{needs}
 use Rattle.kind_steps.proofs.color_step.Statement.{statement}
 use Rattle.kind_steps.proofs.color_step.Tie as tie
 
-parse-float-requires : tie.Need-parse-float-requires
-parse-float-requires c κs = search needs
-
-enum-known-r : tie.Need-enum-known-r
-enum-known-r c = search needs
-
-enum-known-x : tie.Need-enum-known-x
-enum-known-x c = search needs
-
-slice-aggregate-choice : tie.Need-slice-aggregate-choice
-slice-aggregate-choice c = search needs
-
-choice-requires : tie.Need-choice-requires
-choice-requires c κs = search needs
-
-enum-known-r-2 : tie.Need-enum-known-r-2
-enum-known-r-2 c = search needs
-
-enum-known-i : tie.Need-enum-known-i
-enum-known-i c = search needs
-
 cast-t32 : tie.Need-cast-t32
 unfolding entries
 cast-t32 c =
     let at-choice = c .before .before .before in
     let b = choice-below _ _ _ _ _ _ (rw (c .before .i .given .1) at (at-choice .choice .ensures)) in
     omega (arith, b)
-
-parse-easing-requires : tie.Need-parse-easing-requires
-parse-easing-requires c κs = search needs
-
-enum-known-r-3 : tie.Need-enum-known-r-3
-enum-known-r-3 c = search needs
-
-enum-known-x-2 : tie.Need-enum-known-x-2
-enum-known-x-2 c = search needs
 
 returns : tie.Need-returns
 unfolding colorFields
@@ -100,22 +70,6 @@ returns-6 c =
 
 pub color-step-spec : {M : Type 1} → statement M
 color-step-spec =
-    tie.close
-    (tie.spec
-    parse-float-requires
-    enum-known-r
-    enum-known-x
-    slice-aggregate-choice
-    choice-requires
-    enum-known-r-2
-    enum-known-i
-    cast-t32
-    parse-easing-requires
-    enum-known-r-3
-    enum-known-x-2
-    returns
-    returns-2
-    returns-3
-    returns-4
-    returns-5
-    returns-6)
+    tie.close (tie.spec (λ c κs. search needs) (λ c. search needs) (λ c. search needs) (λ c. search needs) (λ c κs. search needs)
+    (λ c. search needs) (λ c. search needs) cast-t32 (λ c κs. search needs) (λ c. search needs) (λ c. search needs) returns returns-2
+    returns-3 returns-4 returns-5 returns-6)

@@ -25,14 +25,8 @@ abbrev μ-loop : tie.MeasureT-loop
 loop-holds : tie.Need-loop-holds Inv-loop μ-loop
 loop-holds c = (c .before .pre, λ fs h. gathering-start (c .before .pre) h)
 
-slice-aggregate-parse-field-list : tie.Need-slice-aggregate-parse-field-list Inv-loop μ-loop
-slice-aggregate-parse-field-list c = search needs
-
 parse-field-list-requires : tie.Need-parse-field-list-requires Inv-loop μ-loop
 parse-field-list-requires c κs = c .before .loop .inv .0
-
-enum-known-r : tie.Need-enum-known-r Inv-loop μ-loop
-enum-known-r c = search needs
 
 returns : tie.Need-returns Inv-loop μ-loop
 unfolding drawFields entries
@@ -42,9 +36,6 @@ returns c =
     λ fs h. list-refused (at-loop .loop .inv .1 fs h)
     (rw (c .before .r .given .1) at (at-parse-field-list .parse-field-list .ensures drawFields refl))
 
-enum-known-e : tie.Need-enum-known-e Inv-loop μ-loop
-enum-known-e c = search needs
-
 returns-2 : tie.Need-returns-2 Inv-loop μ-loop
 unfolding drawFields entries
 returns-2 c =
@@ -53,15 +44,9 @@ returns-2 c =
     λ fs h. list-done (at-loop .loop .inv .1 fs h)
     (rw (c .before .e .given .1) at (at-parse-field-list .parse-field-list .ensures drawFields refl))
 
-enum-known-i : tie.Need-enum-known-i Inv-loop μ-loop
-enum-known-i c = search needs
-
 draw-step-requires : tie.Need-draw-step-requires Inv-loop μ-loop
 unfolding drawFields entries
 draw-step-requires c κs = (rw (c .before .i .given .1) at (c .before .before .before .parse-field-list .ensures drawFields refl)) .ready
-
-enum-known-r-2 : tie.Need-enum-known-r-2 Inv-loop μ-loop
-enum-known-r-2 c = search needs
 
 returns-3 : tie.Need-returns-3 Inv-loop μ-loop
 unfolding drawFields entries
@@ -73,9 +58,6 @@ returns-3 c =
     λ fs h. value-refused (at-loop .loop .inv .1 fs h)
     (rw (at-i .i .given .1) at (at-parse-field-list .parse-field-list .ensures drawFields refl))
     (rw (c .before .r2 .given .1) at (at-draw-step .draw-step .ensures))
-
-enum-known-g : tie.Need-enum-known-g Inv-loop μ-loop
-enum-known-g c = search needs
 
 loop-less : tie.Need-loop-less Inv-loop μ-loop
 unfolding drawFields entries
@@ -101,21 +83,6 @@ loop-again c =
 
 pub draw-fields-spec : {M : Type 1} → statement M
 draw-fields-spec =
-    tie.close
-    (tie.spec
-    Inv-loop
-    μ-loop
-    loop-holds
-    slice-aggregate-parse-field-list
-    parse-field-list-requires
-    enum-known-r
-    returns
-    enum-known-e
-    returns-2
-    enum-known-i
-    draw-step-requires
-    enum-known-r-2
-    returns-3
-    enum-known-g
-    loop-less
+    tie.close (tie.spec Inv-loop μ-loop loop-holds (λ c. search needs) parse-field-list-requires (λ c. search needs) returns
+    (λ c. search needs) returns-2 (λ c. search needs) draw-step-requires (λ c. search needs) returns-3 (λ c. search needs) loop-less
     loop-again)

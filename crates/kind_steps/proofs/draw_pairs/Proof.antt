@@ -21,21 +21,12 @@ Inv-loop text rows m₀ kept₀ m kept = Gathering pairStep text m₀ m drawFiel
 abbrev μ-loop : tie.MeasureT-loop
 μ-loop text rows m₀ kept₀ m kept = length text - m .at
 
-no-draw-fields-requires : tie.Need-no-draw-fields-requires Inv-loop μ-loop
-no-draw-fields-requires c κs = search needs
-
 loop-holds : tie.Need-loop-holds Inv-loop μ-loop
 unfolding last
 loop-holds c = rw (c .no-draw-fields .ensures) (gathering-start (c .before .before .pre) ((refl, tt), ((refl, tt), tt)))
 
-slice-aggregate-next-pair : tie.Need-slice-aggregate-next-pair Inv-loop μ-loop
-slice-aggregate-next-pair c = search needs
-
 next-pair-requires : tie.Need-next-pair-requires Inv-loop μ-loop
 next-pair-requires c κs = c .before .loop .inv .listed .ready
-
-enum-known-r : tie.Need-enum-known-r Inv-loop μ-loop
-enum-known-r c = search needs
 
 returns : tie.Need-returns Inv-loop μ-loop
 unfolding drawFields entries
@@ -44,9 +35,6 @@ returns c =
     let at-loop = at-next-pair .before .before in
     pairs-refused (at-loop .loop .inv) (rw (c .before .r .given .1) at (at-next-pair .next-pair .ensures drawFields refl))
 
-enum-known-e : tie.Need-enum-known-e Inv-loop μ-loop
-enum-known-e c = search needs
-
 returns-2 : tie.Need-returns-2 Inv-loop μ-loop
 unfolding drawFields entries
 returns-2 c =
@@ -54,15 +42,9 @@ returns-2 c =
     let at-loop = at-next-pair .before .before in
     pairs-done (at-loop .loop .inv) (rw (c .before .e .given .1) at (at-next-pair .next-pair .ensures drawFields refl))
 
-enum-known-i : tie.Need-enum-known-i Inv-loop μ-loop
-enum-known-i c = search needs
-
 draw-step-requires : tie.Need-draw-step-requires Inv-loop μ-loop
 unfolding drawFields entries
 draw-step-requires c κs = (rw (c .before .i .given .1) at (c .before .before .before .next-pair .ensures drawFields refl)) .ready
-
-enum-known-r-2 : tie.Need-enum-known-r-2 Inv-loop μ-loop
-enum-known-r-2 c = search needs
 
 returns-3 : tie.Need-returns-3 Inv-loop μ-loop
 unfolding drawFields entries
@@ -73,9 +55,6 @@ returns-3 c =
     let at-loop = at-next-pair .before .before in
     pairs-value-refused (at-loop .loop .inv) (rw (at-i .i .given .1) at (at-next-pair .next-pair .ensures drawFields refl))
     (rw (c .before .r2 .given .1) at (at-draw-step .draw-step .ensures))
-
-enum-known-g : tie.Need-enum-known-g Inv-loop μ-loop
-enum-known-g c = search needs
 
 eat-requires : tie.Need-eat-requires Inv-loop μ-loop
 unfolding drawFields entries
@@ -128,24 +107,6 @@ loop-again c =
 
 pub draw-pairs-spec : {M : Type 1} → statement M
 draw-pairs-spec =
-    tie.close
-    (tie.spec
-    Inv-loop
-    μ-loop
-    no-draw-fields-requires
-    loop-holds
-    slice-aggregate-next-pair
-    next-pair-requires
-    enum-known-r
-    returns
-    enum-known-e
-    returns-2
-    enum-known-i
-    draw-step-requires
-    enum-known-r-2
-    returns-3
-    enum-known-g
-    eat-requires
-    returns-4
-    loop-less
-    loop-again)
+    tie.close (tie.spec Inv-loop μ-loop (λ c κs. search needs) loop-holds (λ c. search needs) next-pair-requires (λ c. search needs) returns
+    (λ c. search needs) returns-2 (λ c. search needs) draw-step-requires (λ c. search needs) returns-3 (λ c. search needs) eat-requires
+    returns-4 loop-less loop-again)

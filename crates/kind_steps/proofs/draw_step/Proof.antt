@@ -7,24 +7,6 @@ use borrow.Author.Needs.{needs}
 use Rattle.kind_steps.proofs.draw_step.Statement.{statement}
 use Rattle.kind_steps.proofs.draw_step.Tie as tie
 
-parse-float-requires : tie.Need-parse-float-requires
-parse-float-requires c κs = search needs
-
-enum-known-r : tie.Need-enum-known-r
-enum-known-r c = search needs
-
-enum-known-x : tie.Need-enum-known-x
-enum-known-x c = search needs
-
-parse-easing-requires : tie.Need-parse-easing-requires
-parse-easing-requires c κs = search needs
-
-enum-known-r-2 : tie.Need-enum-known-r-2
-enum-known-r-2 c = search needs
-
-enum-known-x-2 : tie.Need-enum-known-x-2
-enum-known-x-2 c = search needs
-
 returns : tie.Need-returns
 unfolding drawFields
 returns c =
@@ -58,15 +40,5 @@ returns-4 c =
 
 pub draw-step-spec : {M : Type 1} → statement M
 draw-step-spec =
-    tie.close
-    (tie.spec
-    parse-float-requires
-    enum-known-r
-    enum-known-x
-    parse-easing-requires
-    enum-known-r-2
-    enum-known-x-2
-    returns
-    returns-2
-    returns-3
-    returns-4)
+    tie.close (tie.spec (λ c κs. search needs) (λ c. search needs) (λ c. search needs) (λ c κs. search needs) (λ c. search needs)
+    (λ c. search needs) returns returns-2 returns-3 returns-4)

@@ -7,33 +7,6 @@ use borrow.Author.Needs.{needs}
 use Rattle.kind_steps.proofs.morph_step.Statement.{statement}
 use Rattle.kind_steps.proofs.morph_step.Tie as tie
 
-parse-uint-requires : tie.Need-parse-uint-requires
-parse-uint-requires c κs = search needs
-
-enum-known-r : tie.Need-enum-known-r
-enum-known-r c = search needs
-
-enum-known-n : tie.Need-enum-known-n
-enum-known-n c = search needs
-
-parse-float-requires : tie.Need-parse-float-requires
-parse-float-requires c κs = search needs
-
-enum-known-r-2 : tie.Need-enum-known-r-2
-enum-known-r-2 c = search needs
-
-enum-known-x : tie.Need-enum-known-x
-enum-known-x c = search needs
-
-parse-easing-requires : tie.Need-parse-easing-requires
-parse-easing-requires c κs = search needs
-
-enum-known-r-3 : tie.Need-enum-known-r-3
-enum-known-r-3 c = search needs
-
-enum-known-x-2 : tie.Need-enum-known-x-2
-enum-known-x-2 c = search needs
-
 returns : tie.Need-returns
 unfolding morphFields
 returns c =
@@ -82,20 +55,6 @@ returns-6 c =
 
 pub morph-step-spec : {M : Type 1} → statement M
 morph-step-spec =
-    tie.close
-    (tie.spec
-    parse-uint-requires
-    enum-known-r
-    enum-known-n
-    parse-float-requires
-    enum-known-r-2
-    enum-known-x
-    parse-easing-requires
-    enum-known-r-3
-    enum-known-x-2
-    returns
-    returns-2
-    returns-3
-    returns-4
-    returns-5
+    tie.close (tie.spec (λ c κs. search needs) (λ c. search needs) (λ c. search needs) (λ c κs. search needs) (λ c. search needs)
+    (λ c. search needs) (λ c κs. search needs) (λ c. search needs) (λ c. search needs) returns returns-2 returns-3 returns-4 returns-5
     returns-6)

@@ -5,34 +5,13 @@ use borrow.Author.Needs.{needs}
 use Rattle.kind_steps.proofs.offset_range.Statement.{statement}
 use Rattle.kind_steps.proofs.offset_range.Tie as tie
 
-parse-float-requires : tie.Need-parse-float-requires
-parse-float-requires c κs = search needs
-
-enum-known-r : tie.Need-enum-known-r
-enum-known-r c = search needs
-
-enum-known-start : tie.Need-enum-known-start
-enum-known-start c = search needs
-
 both-requires : tie.Need-both-requires
 both-requires c κs =
     let at-parse-float = c .before .before .before in
     ((rw (c .before .start .given .1) at (at-parse-float .parse-float .ensures)) .0 .ready, omega arith, omega arith)
 
-enum-known-p : tie.Need-enum-known-p
-enum-known-p c = search needs
-
-enum-known-n : tie.Need-enum-known-n
-enum-known-n c = search needs
-
 parse-float-requires-2 : tie.Need-parse-float-requires-2
 parse-float-requires-2 c κs = (rw (c .before .n .given .1) at (c .before .before .before .both .ensures)) .ready
-
-enum-known-r-2 : tie.Need-enum-known-r-2
-enum-known-r-2 c = search needs
-
-enum-known-end : tie.Need-enum-known-end
-enum-known-end c = search needs
 
 returns : tie.Need-returns
 returns c =
@@ -71,18 +50,5 @@ returns-4 c =
 
 pub offset-range-spec : {M : Type 1} → statement M
 offset-range-spec =
-    tie.close
-    (tie.spec
-    parse-float-requires
-    enum-known-r
-    enum-known-start
-    both-requires
-    enum-known-p
-    enum-known-n
-    parse-float-requires-2
-    enum-known-r-2
-    enum-known-end
-    returns
-    returns-2
-    returns-3
-    returns-4)
+    tie.close (tie.spec (λ c κs. search needs) (λ c. search needs) (λ c. search needs) both-requires (λ c. search needs) (λ c. search needs)
+    parse-float-requires-2 (λ c. search needs) (λ c. search needs) returns returns-2 returns-3 returns-4)

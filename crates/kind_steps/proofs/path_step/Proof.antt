@@ -8,51 +8,6 @@ use borrow.Author.Needs.{needs}
 use Rattle.kind_steps.proofs.path_step.Statement.{statement}
 use Rattle.kind_steps.proofs.path_step.Tie as tie
 
-parse-float-requires : tie.Need-parse-float-requires
-parse-float-requires c κs = search needs
-
-enum-known-r : tie.Need-enum-known-r
-enum-known-r c = search needs
-
-enum-known-x : tie.Need-enum-known-x
-enum-known-x c = search needs
-
-parse-easing-requires : tie.Need-parse-easing-requires
-parse-easing-requires c κs = search needs
-
-enum-known-r-2 : tie.Need-enum-known-r-2
-enum-known-r-2 c = search needs
-
-enum-known-x-2 : tie.Need-enum-known-x-2
-enum-known-x-2 c = search needs
-
-truth-requires : tie.Need-truth-requires
-truth-requires c κs = search needs
-
-enum-known-p : tie.Need-enum-known-p
-enum-known-p c = search needs
-
-enum-known-b : tie.Need-enum-known-b
-enum-known-b c = search needs
-
-offset-range-requires : tie.Need-offset-range-requires
-offset-range-requires c κs = search needs
-
-enum-known-r-3 : tie.Need-enum-known-r-3
-enum-known-r-3 c = search needs
-
-enum-known-start : tie.Need-enum-known-start
-enum-known-start c = search needs
-
-parse-loop-mode-requires : tie.Need-parse-loop-mode-requires
-parse-loop-mode-requires c κs = search needs
-
-enum-known-r-4 : tie.Need-enum-known-r-4
-enum-known-r-4 c = search needs
-
-enum-known-x-3 : tie.Need-enum-known-x-3
-enum-known-x-3 c = search needs
-
 returns : tie.Need-returns
 unfolding pathFields
 returns c =
@@ -127,30 +82,7 @@ returns-10 c =
 
 pub path-step-spec : {M : Type 1} → statement M
 path-step-spec =
-    tie.close
-    (tie.spec
-    parse-float-requires
-    enum-known-r
-    enum-known-x
-    parse-easing-requires
-    enum-known-r-2
-    enum-known-x-2
-    truth-requires
-    enum-known-p
-    enum-known-b
-    offset-range-requires
-    enum-known-r-3
-    enum-known-start
-    parse-loop-mode-requires
-    enum-known-r-4
-    enum-known-x-3
-    returns
-    returns-2
-    returns-3
-    returns-4
-    returns-5
-    returns-6
-    returns-7
-    returns-8
-    returns-9
-    returns-10)
+    tie.close (tie.spec (λ c κs. search needs) (λ c. search needs) (λ c. search needs) (λ c κs. search needs) (λ c. search needs)
+    (λ c. search needs) (λ c κs. search needs) (λ c. search needs) (λ c. search needs) (λ c κs. search needs) (λ c. search needs)
+    (λ c. search needs) (λ c κs. search needs) (λ c. search needs) (λ c. search needs) returns returns-2 returns-3 returns-4 returns-5
+    returns-6 returns-7 returns-8 returns-9 returns-10)

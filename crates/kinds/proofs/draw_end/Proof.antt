@@ -18,27 +18,6 @@ listed : (w : tie.After-draw-fields) →
 unfolding last
 listed w = w .draw-fields .ensures [] (rw (w .before .no-draw-fields .ensures) ((refl, tt), ((refl, tt), tt)))
 
-no-draw-fields-requires : tie.Need-no-draw-fields-requires
-no-draw-fields-requires c κs = search needs
-
-draw-fields-requires : tie.Need-draw-fields-requires
-draw-fields-requires c κs = search needs
-
-enum-known-r : tie.Need-enum-known-r
-enum-known-r c = search needs
-
-enum-known-f : tie.Need-enum-known-f
-enum-known-f c = search needs
-
-enum-known-written : tie.Need-enum-known-written
-enum-known-written c = search needs
-
-enum-told : tie.Need-enum-told
-enum-told c = search needs
-
-place-requires : tie.Need-place-requires
-place-requires c κs = search needs
-
 returns : tie.Need-returns
 returns c =
     let at-f = c .before .before .before .before in
@@ -69,9 +48,6 @@ returns-2 c =
     (rw (c .before .r .given .1)
     at (listed at-draw-fields))
 
-same-length : tie.Need-same-length
-same-length c = search needs
-
 returns-3 : tie.Need-returns-3
 returns-3 c =
     let at-put-draw = c .before .before in
@@ -96,17 +72,5 @@ returns-3 c =
 
 pub draw-end-spec : {M : Type 1} → statement M
 draw-end-spec =
-    tie.close
-    (tie.spec
-    no-draw-fields-requires
-    draw-fields-requires
-    enum-known-r
-    enum-known-f
-    enum-known-written
-    enum-told
-    place-requires
-    returns
-    put-draw-requires
-    returns-2
-    same-length
-    returns-3)
+    tie.close (tie.spec (λ c κs. search needs) (λ c κs. search needs) (λ c. search needs) (λ c. search needs) (λ c. search needs)
+    (λ c. search needs) (λ c κs. search needs) returns put-draw-requires returns-2 (λ c. search needs) returns-3)

@@ -7,24 +7,6 @@ use borrow.Author.Needs.{needs}
 use Rattle.kinds.proofs.morph_end.Statement.{statement}
 use Rattle.kinds.proofs.morph_end.Tie as tie
 
-morph-fields-requires : tie.Need-morph-fields-requires
-morph-fields-requires c κs = search needs
-
-enum-known-r : tie.Need-enum-known-r
-enum-known-r c = search needs
-
-enum-known-f : tie.Need-enum-known-f
-enum-known-f c = search needs
-
-enum-known-written : tie.Need-enum-known-written
-enum-known-written c = search needs
-
-enum-told : tie.Need-enum-told
-enum-told c = search needs
-
-place-requires : tie.Need-place-requires
-place-requires c κs = search needs
-
 returns : tie.Need-returns
 returns c =
     let at-f = c .before .before .before .before in
@@ -34,9 +16,6 @@ returns c =
     rw (c .place .ensures)
     (end-untimed (args .text .now) (args .c) morphFields (morphLeaf (spanOf (args .from)) (spanOf (args .to))) h (h .say .1 .0 .0)
     (c .before .enum-told .given .1))
-
-word-or-requires : tie.Need-word-or-requires
-word-or-requires c κs = search needs
 
 put-morph-requires : tie.Need-put-morph-requires
 put-morph-requires c κs =
@@ -53,9 +32,6 @@ returns-2 c =
     let args = at-morph-fields .before .before .before .args in
     end-refused (args .text .now) (args .c) morphFields (morphLeaf (spanOf (args .from)) (spanOf (args .to)))
     (rw (c .before .r .given .1) at (at-morph-fields .morph-fields .ensures))
-
-same-length : tie.Need-same-length
-same-length c = search needs
 
 returns-3 : tie.Need-returns-3
 returns-3 c =
@@ -80,17 +56,5 @@ returns-3 c =
 
 pub morph-end-spec : {M : Type 1} → statement M
 morph-end-spec =
-    tie.close
-    (tie.spec
-    morph-fields-requires
-    enum-known-r
-    enum-known-f
-    enum-known-written
-    enum-told
-    place-requires
-    returns
-    word-or-requires
-    put-morph-requires
-    returns-2
-    same-length
-    returns-3)
+    tie.close (tie.spec (λ c κs. search needs) (λ c. search needs) (λ c. search needs) (λ c. search needs) (λ c. search needs)
+    (λ c κs. search needs) returns (λ c κs. search needs) put-morph-requires returns-2 (λ c. search needs) returns-3)

@@ -5,23 +5,8 @@ use borrow.Author.Needs.{needs}
 use Rattle.kinds.proofs.parse_color.Statement.{statement}
 use Rattle.kinds.proofs.parse_color.Tie as tie
 
-word-requires : tie.Need-word-requires
-word-requires c κs = search needs
-
-enum-known-p : tie.Need-enum-known-p
-enum-known-p c = search needs
-
-enum-known-target : tie.Need-enum-known-target
-enum-known-target c = search needs
-
 mark-requires : tie.Need-mark-requires
 mark-requires c κs = ((rw (c .before .target .given .1) at (c .before .before .before .word .ensures)) .0 .ready, omega arith)
-
-enum-known-p-2 : tie.Need-enum-known-p-2
-enum-known-p-2 c = search needs
-
-enum-known-n : tie.Need-enum-known-n
-enum-known-n c = search needs
 
 color-strings-requires : tie.Need-color-strings-requires
 color-strings-requires c κs =
@@ -46,9 +31,6 @@ returns-2 c =
     color-no-colon (args .text .now) (args .c) _ (at-target .target .given .0 .0)
     ((rw (at-target .target .given .1) at (at-word .word .ensures)) .0) _ (rw (c .before .p2 .given .1) at (at-mark .mark .ensures))
 
-same-length : tie.Need-same-length
-same-length c = search needs
-
 returns-3 : tie.Need-returns-3
 returns-3 c =
     let at-color-strings = c .before .before in
@@ -72,16 +54,5 @@ returns-3 c =
 
 pub parse-color-spec : {M : Type 1} → statement M
 parse-color-spec =
-    tie.close
-    (tie.spec
-    word-requires
-    enum-known-p
-    enum-known-target
-    mark-requires
-    enum-known-p-2
-    enum-known-n
-    color-strings-requires
-    returns
-    returns-2
-    same-length
-    returns-3)
+    tie.close (tie.spec (λ c κs. search needs) (λ c. search needs) (λ c. search needs) mark-requires (λ c. search needs) (λ c. search needs)
+    color-strings-requires returns returns-2 (λ c. search needs) returns-3)

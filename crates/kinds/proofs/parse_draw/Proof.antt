@@ -4,15 +4,6 @@ use borrow.Author.Needs.{needs}
 use Rattle.kinds.proofs.parse_draw.Statement.{statement}
 use Rattle.kinds.proofs.parse_draw.Tie as tie
 
-string-requires : tie.Need-string-requires
-string-requires c κs = search needs
-
-enum-known-p : tie.Need-enum-known-p
-enum-known-p c = search needs
-
-enum-known-svg : tie.Need-enum-known-svg
-enum-known-svg c = search needs
-
 draw-end-requires : tie.Need-draw-end-requires
 draw-end-requires c κs =
     let at-svg = c .before .before in
@@ -26,9 +17,6 @@ returns c =
     let args = at-string .before .before .before .args in
     no-svg (args .text .now) (args .c) _ (rw (c .before .p .given .1) at (at-string .string .ensures))
 
-same-length : tie.Need-same-length
-same-length c = search needs
-
 returns-2 : tie.Need-returns-2
 returns-2 c =
     let at-draw-end = c .before .before in
@@ -40,12 +28,5 @@ returns-2 c =
 
 pub parse-draw-spec : {M : Type 1} → statement M
 parse-draw-spec =
-    tie.close
-    (tie.spec
-    string-requires
-    enum-known-p
-    enum-known-svg
-    draw-end-requires
-    returns
-    same-length
+    tie.close (tie.spec (λ c κs. search needs) (λ c. search needs) (λ c. search needs) draw-end-requires returns (λ c. search needs)
     returns-2)

@@ -4,15 +4,6 @@ use borrow.Author.Needs.{needs}
 use Rattle.kinds.proofs.parse_preset_call.Statement.{statement}
 use Rattle.kinds.proofs.parse_preset_call.Tie as tie
 
-word-requires : tie.Need-word-requires
-word-requires c κs = search needs
-
-enum-known-p : tie.Need-enum-known-p
-enum-known-p c = search needs
-
-enum-known-name : tie.Need-enum-known-name
-enum-known-name c = search needs
-
 preset-end-requires : tie.Need-preset-end-requires
 preset-end-requires c κs =
     let at-name = c .before .before in
@@ -25,9 +16,6 @@ returns c =
     let at-word = c .before .before .before in
     let args = at-word .before .before .before .args in
     no-preset (args .text .now) (args .c) _ (rw (c .before .p .given .1) at (at-word .word .ensures))
-
-same-length : tie.Need-same-length
-same-length c = search needs
 
 returns-2 : tie.Need-returns-2
 returns-2 c =
@@ -49,12 +37,5 @@ returns-2 c =
 
 pub parse-preset-call-spec : {M : Type 1} → statement M
 parse-preset-call-spec =
-    tie.close
-    (tie.spec
-    word-requires
-    enum-known-p
-    enum-known-name
-    preset-end-requires
-    returns
-    same-length
+    tie.close (tie.spec (λ c κs. search needs) (λ c. search needs) (λ c. search needs) preset-end-requires returns (λ c. search needs)
     returns-2)

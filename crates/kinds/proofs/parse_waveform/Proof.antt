@@ -8,21 +8,6 @@ use borrow.Author.Needs.{needs}
 use Rattle.kinds.proofs.parse_waveform.Statement.{statement}
 use Rattle.kinds.proofs.parse_waveform.Tie as tie
 
-slice-aggregate-choice : tie.Need-slice-aggregate-choice
-slice-aggregate-choice c = search needs
-
-choice-requires : tie.Need-choice-requires
-choice-requires c κs = search needs
-
-enum-known-r : tie.Need-enum-known-r
-enum-known-r c = search needs
-
-enum-known-i : tie.Need-enum-known-i
-enum-known-i c = search needs
-
-place-requires : tie.Need-place-requires
-place-requires c κs = search needs
-
 returns : tie.Need-returns
 unfolding entries
 returns c =
@@ -55,9 +40,6 @@ returns-2 c =
     let args = at-choice .before .before .before .before .args in
     no-waveform (args .text .now) (args .c) _ _ (rw (c .before .r .given .1) at (at-choice .choice .ensures))
 
-same-length : tie.Need-same-length
-same-length c = search needs
-
 returns-3 : tie.Need-returns-3
 unfolding entries
 returns-3 c =
@@ -71,16 +53,5 @@ returns-3 c =
 
 pub parse-waveform-spec : {M : Type 1} → statement M
 parse-waveform-spec =
-    tie.close
-    (tie.spec
-    slice-aggregate-choice
-    choice-requires
-    enum-known-r
-    enum-known-i
-    place-requires
-    returns
-    cast-waveform-end
-    waveform-end-requires
-    returns-2
-    same-length
-    returns-3)
+    tie.close (tie.spec (λ c. search needs) (λ c κs. search needs) (λ c. search needs) (λ c. search needs) (λ c κs. search needs) returns
+    cast-waveform-end waveform-end-requires returns-2 (λ c. search needs) returns-3)

@@ -7,24 +7,6 @@ use borrow.Author.Needs.{needs}
 use Rattle.kinds.proofs.path_end.Statement.{statement}
 use Rattle.kinds.proofs.path_end.Tie as tie
 
-path-fields-requires : tie.Need-path-fields-requires
-path-fields-requires c κs = search needs
-
-enum-known-r : tie.Need-enum-known-r
-enum-known-r c = search needs
-
-enum-known-f : tie.Need-enum-known-f
-enum-known-f c = search needs
-
-enum-known-written : tie.Need-enum-known-written
-enum-known-written c = search needs
-
-enum-told : tie.Need-enum-told
-enum-told c = search needs
-
-place-requires : tie.Need-place-requires
-place-requires c κs = search needs
-
 returns : tie.Need-returns
 returns c =
     let at-f = c .before .before .before .before in
@@ -51,9 +33,6 @@ returns-2 c =
     end-refused (args .text .now) (args .c) pathFields (pathLeaf (spanOf (args .target)) (spanOf (args .svg)))
     (rw (c .before .r .given .1) at (at-path-fields .path-fields .ensures))
 
-same-length : tie.Need-same-length
-same-length c = search needs
-
 returns-3 : tie.Need-returns-3
 returns-3 c =
     let at-put-path = c .before .before in
@@ -76,16 +55,5 @@ returns-3 c =
 
 pub path-end-spec : {M : Type 1} → statement M
 path-end-spec =
-    tie.close
-    (tie.spec
-    path-fields-requires
-    enum-known-r
-    enum-known-f
-    enum-known-written
-    enum-told
-    place-requires
-    returns
-    put-path-requires
-    returns-2
-    same-length
-    returns-3)
+    tie.close (tie.spec (λ c κs. search needs) (λ c. search needs) (λ c. search needs) (λ c. search needs) (λ c. search needs)
+    (λ c κs. search needs) returns put-path-requires returns-2 (λ c. search needs) returns-3)

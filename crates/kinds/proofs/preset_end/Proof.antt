@@ -6,15 +6,6 @@ use borrow.Author.Needs.{needs}
 use Rattle.kinds.proofs.preset_end.Statement.{statement}
 use Rattle.kinds.proofs.preset_end.Tie as tie
 
-preset-fields-requires : tie.Need-preset-fields-requires
-preset-fields-requires c κs = search needs
-
-enum-known-r : tie.Need-enum-known-r
-enum-known-r c = search needs
-
-enum-known-f : tie.Need-enum-known-f
-enum-known-f c = search needs
-
 put-preset-requires : tie.Need-put-preset-requires
 put-preset-requires c κs =
     let at-preset-fields = c .before .before .before .before in
@@ -29,9 +20,6 @@ returns c =
     free-refused (args .text .now) (args .c) presetFields (presetLeaf (spanOf (args .name)))
     (rw (c .before .r .given .1) at (at-preset-fields .preset-fields .ensures))
 
-same-length : tie.Need-same-length
-same-length c = search needs
-
 returns-2 : tie.Need-returns-2
 returns-2 c =
     let at-put-preset = c .before .before in
@@ -44,12 +32,5 @@ returns-2 c =
 
 pub preset-end-spec : {M : Type 1} → statement M
 preset-end-spec =
-    tie.close
-    (tie.spec
-    preset-fields-requires
-    enum-known-r
-    enum-known-f
-    put-preset-requires
-    returns
-    same-length
+    tie.close (tie.spec (λ c κs. search needs) (λ c. search needs) (λ c. search needs) put-preset-requires returns (λ c. search needs)
     returns-2)

@@ -6,18 +6,6 @@ use borrow.Author.Needs.{needs}
 use Rattle.kinds.proofs.preset_fields.Statement.{statement}
 use Rattle.kinds.proofs.preset_fields.Tie as tie
 
-preset-pairs-requires : tie.Need-preset-pairs-requires
-preset-pairs-requires c κs = search needs
-
-enum-known-r : tie.Need-enum-known-r
-enum-known-r c = search needs
-
-enum-known-f : tie.Need-enum-known-f
-enum-known-f c = search needs
-
-sees-requires : tie.Need-sees-requires
-sees-requires c κs = search needs
-
 returns : tie.Need-returns
 returns c =
     let at-f = c .before .before .before in
@@ -32,9 +20,6 @@ advance-requires c κs =
     let at-f = c .before .before .before in
     let at-preset-pairs = at-f .before .before in
     (rw (at-f .f .given .1) at (at-preset-pairs .preset-pairs .ensures)) .took .ready
-
-draw-fields-requires : tie.Need-draw-fields-requires
-draw-fields-requires c κs = search needs
 
 returns-2 : tie.Need-returns-2
 returns-2 c =
@@ -56,14 +41,5 @@ returns-3 c =
 
 pub preset-fields-spec : {M : Type 1} → statement M
 preset-fields-spec =
-    tie.close
-    (tie.spec
-    preset-pairs-requires
-    enum-known-r
-    enum-known-f
-    sees-requires
-    returns
-    advance-requires
-    draw-fields-requires
-    returns-2
-    returns-3)
+    tie.close (tie.spec (λ c κs. search needs) (λ c. search needs) (λ c. search needs) (λ c κs. search needs) returns advance-requires
+    (λ c κs. search needs) returns-2 returns-3)

@@ -6,12 +6,6 @@ use borrow.Author.Needs.{needs}
 use Rattle.kinds.proofs.preset_pairs.Statement.{statement}
 use Rattle.kinds.proofs.preset_pairs.Tie as tie
 
-sees-requires : tie.Need-sees-requires
-sees-requires c κs = search needs
-
-no-draw-fields-requires : tie.Need-no-draw-fields-requires
-no-draw-fields-requires c κs = search needs
-
 returns : tie.Need-returns
 returns c =
     let at-sees = c .before .before in
@@ -19,18 +13,6 @@ returns c =
     rw (c .no-draw-fields .ensures)
     (no-pairs (start .pre)
     (sym (at-sees .sees .ensures (start .args .text .now) (start .pre)) ∙ not-true (at-sees .sees .result) (c .before .if1 .taken)))
-
-advance-requires : tie.Need-advance-requires
-advance-requires c κs = search needs
-
-draw-pairs-requires : tie.Need-draw-pairs-requires
-draw-pairs-requires c κs = search needs
-
-enum-known-r : tie.Need-enum-known-r
-enum-known-r c = search needs
-
-enum-known-f : tie.Need-enum-known-f
-enum-known-f c = search needs
 
 leave-group-requires : tie.Need-leave-group-requires
 leave-group-requires c κs = (rw (c .before .f .given .1) at (c .before .before .before .draw-pairs .ensures)) .took .ready
@@ -65,15 +47,5 @@ returns-3 c =
 
 pub preset-pairs-spec : {M : Type 1} → statement M
 preset-pairs-spec =
-    tie.close
-    (tie.spec
-    sees-requires
-    no-draw-fields-requires
-    returns
-    advance-requires
-    draw-pairs-requires
-    enum-known-r
-    enum-known-f
-    leave-group-requires
-    returns-2
-    returns-3)
+    tie.close (tie.spec (λ c κs. search needs) (λ c κs. search needs) returns (λ c κs. search needs) (λ c κs. search needs)
+    (λ c. search needs) (λ c. search needs) leave-group-requires returns-2 returns-3)

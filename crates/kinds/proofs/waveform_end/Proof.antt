@@ -8,15 +8,6 @@ use borrow.Author.Needs.{needs}
 use Rattle.kinds.proofs.waveform_end.Statement.{statement}
 use Rattle.kinds.proofs.waveform_end.Tie as tie
 
-waveform-fields-requires : tie.Need-waveform-fields-requires
-waveform-fields-requires c κs = search needs
-
-enum-known-r : tie.Need-enum-known-r
-enum-known-r c = search needs
-
-enum-known-f : tie.Need-enum-known-f
-enum-known-f c = search needs
-
 put-waveform-requires : tie.Need-put-waveform-requires
 put-waveform-requires c κs =
     let at-f = c .before .before in
@@ -33,9 +24,6 @@ returns c =
     let args = at-waveform-fields .before .before .before .args in
     free-refused (args .text .now) (args .c) (parseFieldList waveformFields []) (waveformLeaf (args .kind))
     (rw (c .before .r .given .1) at (at-waveform-fields .waveform-fields .ensures))
-
-same-length : tie.Need-same-length
-same-length c = search needs
 
 returns-2 : tie.Need-returns-2
 returns-2 c =
@@ -57,12 +45,5 @@ returns-2 c =
 
 pub waveform-end-spec : {M : Type 1} → statement M
 waveform-end-spec =
-    tie.close
-    (tie.spec
-    waveform-fields-requires
-    enum-known-r
-    enum-known-f
-    put-waveform-requires
-    returns
-    same-length
+    tie.close (tie.spec (λ c κs. search needs) (λ c. search needs) (λ c. search needs) put-waveform-requires returns (λ c. search needs)
     returns-2)

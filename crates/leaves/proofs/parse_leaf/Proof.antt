@@ -8,42 +8,6 @@ use borrow.Author.Needs.{needs}
 use Rattle.leaves.proofs.parse_leaf.Statement.{statement}
 use Rattle.leaves.proofs.parse_leaf.Tie as tie
 
-parse-tween-requires : tie.Need-parse-tween-requires
-parse-tween-requires c κs = search needs
-
-parse-spring-requires : tie.Need-parse-spring-requires
-parse-spring-requires c κs = search needs
-
-parse-keyframes-requires : tie.Need-parse-keyframes-requires
-parse-keyframes-requires c κs = search needs
-
-parse-path-requires : tie.Need-parse-path-requires
-parse-path-requires c κs = search needs
-
-parse-morph-requires : tie.Need-parse-morph-requires
-parse-morph-requires c κs = search needs
-
-parse-draw-requires : tie.Need-parse-draw-requires
-parse-draw-requires c κs = search needs
-
-parse-color-requires : tie.Need-parse-color-requires
-parse-color-requires c κs = search needs
-
-parse-waveform-requires : tie.Need-parse-waveform-requires
-parse-waveform-requires c κs = search needs
-
-parse-preset-call-requires : tie.Need-parse-preset-call-requires
-parse-preset-call-requires c κs = search needs
-
-parse-label-requires : tie.Need-parse-label-requires
-parse-label-requires c κs = search needs
-
-parse-at-requires : tie.Need-parse-at-requires
-parse-at-requires c κs = search needs
-
-same-length : tie.Need-same-length
-same-length c = search needs
-
 returns : tie.Need-returns
 unfolding leaves
 returns c =
@@ -63,9 +27,6 @@ returns c =
     refl
     (at-match .match .keys1)
     (at-parse-tween .parse-tween .ensures)
-
-same-length-2 : tie.Need-same-length-2
-same-length-2 c = search needs
 
 returns-2 : tie.Need-returns-2
 unfolding leaves
@@ -87,9 +48,6 @@ returns-2 c =
     (at-match .match .keys2)
     (at-parse-spring .parse-spring .ensures)
 
-same-length-3 : tie.Need-same-length-3
-same-length-3 c = search needs
-
 returns-3 : tie.Need-returns-3
 unfolding leaves
 returns-3 c =
@@ -109,9 +67,6 @@ returns-3 c =
     refl
     (at-match .match .keys3)
     (at-parse-keyframes .parse-keyframes .ensures)
-
-same-length-4 : tie.Need-same-length-4
-same-length-4 c = search needs
 
 returns-4 : tie.Need-returns-4
 unfolding leaves
@@ -133,9 +88,6 @@ returns-4 c =
     (at-match .match .keys4)
     (at-parse-path .parse-path .ensures)
 
-same-length-5 : tie.Need-same-length-5
-same-length-5 c = search needs
-
 returns-5 : tie.Need-returns-5
 unfolding leaves
 returns-5 c =
@@ -155,9 +107,6 @@ returns-5 c =
     refl
     (at-match .match .keys5)
     (at-parse-morph .parse-morph .ensures)
-
-same-length-6 : tie.Need-same-length-6
-same-length-6 c = search needs
 
 returns-6 : tie.Need-returns-6
 unfolding leaves
@@ -179,9 +128,6 @@ returns-6 c =
     (at-match .match .keys6)
     (at-parse-draw .parse-draw .ensures)
 
-same-length-7 : tie.Need-same-length-7
-same-length-7 c = search needs
-
 returns-7 : tie.Need-returns-7
 unfolding leaves
 returns-7 c =
@@ -201,9 +147,6 @@ returns-7 c =
     refl
     (at-match .match .keys7)
     (at-parse-color .parse-color .ensures)
-
-same-length-8 : tie.Need-same-length-8
-same-length-8 c = search needs
 
 returns-8 : tie.Need-returns-8
 unfolding leaves
@@ -225,9 +168,6 @@ returns-8 c =
     (at-match .match .keys8)
     (at-parse-waveform .parse-waveform .ensures)
 
-same-length-9 : tie.Need-same-length-9
-same-length-9 c = search needs
-
 returns-9 : tie.Need-returns-9
 unfolding leaves
 returns-9 c =
@@ -247,9 +187,6 @@ returns-9 c =
     refl
     (at-match .match .keys9)
     (at-parse-preset-call .parse-preset-call .ensures)
-
-same-length-10 : tie.Need-same-length-10
-same-length-10 c = search needs
 
 returns-10 : tie.Need-returns-10
 unfolding leaves
@@ -271,9 +208,6 @@ returns-10 c =
     (at-match .match .keys10)
     (at-parse-label .parse-label .ensures)
 
-same-length-11 : tie.Need-same-length-11
-same-length-11 c = search needs
-
 returns-11 : tie.Need-returns-11
 returns-11 c =
     let at-parse-at = c .before .before in
@@ -293,38 +227,8 @@ returns-11 c =
 
 pub parse-leaf-spec : {M : Type 1} → statement M
 parse-leaf-spec =
-    tie.close
-    (tie.spec
-    parse-tween-requires
-    parse-spring-requires
-    parse-keyframes-requires
-    parse-path-requires
-    parse-morph-requires
-    parse-draw-requires
-    parse-color-requires
-    parse-waveform-requires
-    parse-preset-call-requires
-    parse-label-requires
-    parse-at-requires
-    same-length
-    returns
-    same-length-2
-    returns-2
-    same-length-3
-    returns-3
-    same-length-4
-    returns-4
-    same-length-5
-    returns-5
-    same-length-6
-    returns-6
-    same-length-7
-    returns-7
-    same-length-8
-    returns-8
-    same-length-9
-    returns-9
-    same-length-10
-    returns-10
-    same-length-11
-    returns-11)
+    tie.close (tie.spec (λ c κs. search needs) (λ c κs. search needs) (λ c κs. search needs) (λ c κs. search needs) (λ c κs. search needs)
+    (λ c κs. search needs) (λ c κs. search needs) (λ c κs. search needs) (λ c κs. search needs) (λ c κs. search needs)
+    (λ c κs. search needs) (λ c. search needs) returns (λ c. search needs) returns-2 (λ c. search needs) returns-3 (λ c. search needs)
+    returns-4 (λ c. search needs) returns-5 (λ c. search needs) returns-6 (λ c. search needs) returns-7 (λ c. search needs) returns-8
+    (λ c. search needs) returns-9 (λ c. search needs) returns-10 (λ c. search needs) returns-11)

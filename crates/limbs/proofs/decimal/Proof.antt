@@ -10,26 +10,8 @@ use borrow.Author.Needs.{needs}
 use Rattle.limbs.proofs.decimal.Statement.{statement}
 use Rattle.limbs.proofs.decimal.Tie as tie
 
-array-write-b : tie.Need-array-write-b
-array-write-b c = search needs
-
-add-wanted : tie.Need-add-wanted
-add-wanted c = search needs
-
-add-wanted-2 : tie.Need-add-wanted-2
-add-wanted-2 c = search needs
-
-wanted-requires : tie.Need-wanted-requires
-wanted-requires c κs = search needs
-
-array-borrow-prefix-a : tie.Need-array-borrow-prefix-a
-array-borrow-prefix-a c = search needs
-
 slice-aggregate-divided : tie.Need-slice-aggregate-divided
 slice-aggregate-divided c = sym (length-take-le _ _ (c .before .wanted .ensures .2))
-
-array-borrow-prefix-b : tie.Need-array-borrow-prefix-b
-array-borrow-prefix-b c = search needs
 
 slice-aggregate-divided-2 : tie.Need-slice-aggregate-divided-2
 slice-aggregate-divided-2 c = sym (length-take-le _ _ (c .before .before .wanted .ensures .2))
@@ -55,20 +37,7 @@ divided-requires c κs =
       subst (λ (z : ℕ). 10 ^ args .down * 4 ≤ 4294967296 ^ z) (sym (length-take-le n _ few)) (enough _ n (wanted .ensures .1)),
     )
 
-returns : tie.Need-returns
-returns c = search needs
-
 pub decimal-spec : {M : Type 1} → statement M
 decimal-spec =
-    tie.close
-    (tie.spec
-    array-write-b
-    add-wanted
-    add-wanted-2
-    wanted-requires
-    array-borrow-prefix-a
-    slice-aggregate-divided
-    array-borrow-prefix-b
-    slice-aggregate-divided-2
-    divided-requires
-    returns)
+    tie.close (tie.spec (λ c. search needs) (λ c. search needs) (λ c. search needs) (λ c κs. search needs) (λ c. search needs)
+    slice-aggregate-divided (λ c. search needs) slice-aggregate-divided-2 divided-requires (λ c. search needs))

@@ -10,9 +10,6 @@ use Rattle.limbs.proofs.LimbLaws.{dbl-lt, rest-lt, digit-zero, digit-on
 use Rattle.limbs.proofs.digit.Statement.{statement}
 use Rattle.limbs.proofs.digit.Tie as tie
 
-less-requires : tie.Need-less-requires
-less-requires c κs = search needs
-
 double-requires : tie.Need-double-requires
 double-requires c κs =
     let at-less = c .before .before in
@@ -41,9 +38,6 @@ double-requires-2 c κs =
     (dbl-lt (val (t .last .0)) b (4294967296 ^ length (s .args .a .now)) (rest-lt a b (val (t .last .0)) (t .ensures) (s .pre .1))
     (s .pre .2))
 
-same-length : tie.Need-same-length
-same-length c = search needs
-
 returns : tie.Need-returns
 returns c =
     let at-double = c .before .before in
@@ -55,9 +49,6 @@ returns c =
     let d = at-double .double in
     let z = digit-zero (val (d .last .0)) a b (d .ensures) (ltb-true a b (sym (at-less .less .ensures) ∙ at-if1 .if1 .taken)) in
     (lit≤ tt, z .0, z .1)
-
-same-length-2 : tie.Need-same-length-2
-same-length-2 c = search needs
 
 returns-2 : tie.Need-returns-2
 returns-2 c =
@@ -74,13 +65,5 @@ returns-2 c =
 
 pub digit-spec : {M : Type 1} → statement M
 digit-spec =
-    tie.close
-    (tie.spec
-    less-requires
-    double-requires
-    take-requires
-    double-requires-2
-    same-length
-    returns
-    same-length-2
-    returns-2)
+    tie.close (tie.spec (λ c κs. search needs) double-requires take-requires double-requires-2 (λ c. search needs) returns
+    (λ c. search needs) returns-2)

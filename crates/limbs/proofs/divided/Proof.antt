@@ -145,12 +145,6 @@ nearest-requires c κs =
       omega (arith, long, s .pre .3),
     )
 
-same-length : tie.Need-same-length
-same-length c = search needs
-
-same-length-2 : tie.Need-same-length-2
-same-length-2 c = search needs
-
 same : (a b n d : ℕ) (r : Bits) → Nearest a b r → a ≡ n → b ≡ d → Nearest n d r
 same a b n d r h e f = subst (λ (z : ℕ). Nearest n z r) f (subst (λ (z : ℕ). Nearest z b r) e h)
 
@@ -169,13 +163,5 @@ returns c =
 
 pub divided-spec : {M : Type 1} → statement M
 divided-spec =
-    tie.close
-    (tie.spec
-    read-requires
-    read-requires-2
-    scale-requires
-    scale-requires-2
-    nearest-requires
-    same-length
-    same-length-2
-    returns)
+    tie.close (tie.spec read-requires read-requires-2 scale-requires scale-requires-2 nearest-requires (λ c. search needs)
+    (λ c. search needs) returns)

@@ -9,12 +9,6 @@ use Rattle.limbs.proofs.LimbLaws.{product}
 use Rattle.limbs.proofs.double.Statement.{statement}
 use Rattle.limbs.proofs.double.Tie as tie
 
-muladd-requires : tie.Need-muladd-requires
-muladd-requires c κs = search needs
-
-same-length : tie.Need-same-length
-same-length c = search needs
-
 returns : tie.Need-returns
 returns c =
     let at-muladd = c .before .before in
@@ -26,4 +20,4 @@ returns c =
     ∙ add-zero (val a * 2)
 
 pub double-spec : {M : Type 1} → statement M
-double-spec = tie.close (tie.spec muladd-requires same-length returns)
+double-spec = tie.close (tie.spec (λ c κs. search needs) (λ c. search needs) returns)

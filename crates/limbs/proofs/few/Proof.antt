@@ -90,17 +90,5 @@ returns c =
 
 pub few-spec : {M : Type 1} → statement M
 few-spec =
-    tie.close
-    (tie.spec
-    Inv-loop
-    μ-loop
-    loop-holds
-    mul-v
-    add-worth
-    shared-slice-read-worth
-    worth-requires
-    add-v
-    add-i
-    loop-less
-    loop-again
+    tie.close (tie.spec Inv-loop μ-loop loop-holds mul-v add-worth shared-slice-read-worth worth-requires add-v add-i loop-less loop-again
     returns)

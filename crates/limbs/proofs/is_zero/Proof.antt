@@ -54,16 +54,4 @@ returns-2 c =
     sym (ap (λ (z : ℕ). eqb z 0) (subst (λ (z : ℕ). upTo z a ≡ 0) e (at .loop .inv .1)))
 
 pub is-zero-spec : {M : Type 1} → statement M
-is-zero-spec =
-    tie.close
-    (tie.spec
-    Inv-loop
-    μ-loop
-    loop-holds
-    mul-if1
-    shared-slice-read-if1
-    returns
-    add-i
-    loop-less
-    loop-again
-    returns-2)
+is-zero-spec = tie.close (tie.spec Inv-loop μ-loop loop-holds mul-if1 shared-slice-read-if1 returns add-i loop-less loop-again returns-2)

@@ -101,18 +101,5 @@ returns-3 c =
 
 pub less-spec : {M : Type 1} → statement M
 less-spec =
-    tie.close
-    (tie.spec
-    Inv-loop
-    μ-loop
-    loop-holds
-    sub-i
-    mul-x
-    shared-slice-read-x
-    mul-y
-    shared-slice-read-y
-    returns
-    returns-2
-    loop-less
-    loop-again
-    returns-3)
+    tie.close (tie.spec Inv-loop μ-loop loop-holds sub-i mul-x shared-slice-read-x mul-y shared-slice-read-y returns returns-2 loop-less
+    loop-again returns-3)

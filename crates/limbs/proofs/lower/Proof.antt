@@ -21,30 +21,12 @@ under w =
     shifted (val (start .args .a .now)) (val (start .args .b .now)) (at-size2 .size2 .result) (at-size .size .result) (w .excess .result)
     (at-size2 .size2 .ensures .0) (at-size .size .ensures .1) (w .excess .ensures .1) (start .pre .1)
 
-size-requires : tie.Need-size-requires
-size-requires c κs = search needs
-
-size-requires-2 : tie.Need-size-requires-2
-size-requires-2 c κs = search needs
-
-excess-requires : tie.Need-excess-requires
-excess-requires c κs = search needs
-
 lift-requires : tie.Need-lift-requires
 lift-requires c κs =
     let c1 = c .before in
     let c5 = c1 .before .before .before .before in
     let start = c5 .before .before in
     below _ _ _ (under c1) (start .pre .2)
-
-cast-result : tie.Need-cast-result
-cast-result c = search needs
-
-sub-result : tie.Need-sub-result
-sub-result c = search needs
-
-same-length : tie.Need-same-length
-same-length c = search needs
 
 returns : tie.Need-returns
 returns c =
@@ -63,13 +45,5 @@ returns c =
 
 pub lower-spec : {M : Type 1} → statement M
 lower-spec =
-    tie.close
-    (tie.spec
-    size-requires
-    size-requires-2
-    excess-requires
-    lift-requires
-    cast-result
-    sub-result
-    same-length
-    returns)
+    tie.close (tie.spec (λ c κs. search needs) (λ c κs. search needs) (λ c κs. search needs) lift-requires (λ c. search needs)
+    (λ c. search needs) (λ c. search needs) returns)

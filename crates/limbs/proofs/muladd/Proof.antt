@@ -114,23 +114,5 @@ returns c =
 
 pub muladd-spec : {M : Type 1} → statement M
 muladd-spec =
-    tie.close
-    (tie.spec
-    Inv-loop
-    μ-loop
-    wide-requires
-    wide-requires-2
-    loop-holds
-    mul-wide
-    slice-read-wide
-    wide-requires-3
-    mul-t
-    add-t
-    cast-a
-    mul-a
-    slice-write-a
-    add-i
-    loop-less
-    loop-again
-    same-length
-    returns)
+    tie.close (tie.spec Inv-loop μ-loop wide-requires wide-requires-2 loop-holds mul-wide slice-read-wide wide-requires-3 mul-t add-t cast-a
+    mul-a slice-write-a add-i loop-less loop-again same-length returns)

@@ -23,15 +23,6 @@ abbrev μ-loop : tie.MeasureT-loop
 raise-requires : tie.Need-raise-requires Inv-loop μ-loop
 raise-requires c κs = let p = c .before .before .before .before .pre in (p .0, p .1, p .2, p .4)
 
-infinity-requires : tie.Need-infinity-requires Inv-loop μ-loop
-infinity-requires c κs = search needs
-
-same-length : tie.Need-same-length Inv-loop μ-loop
-same-length c = search needs
-
-same-length-2 : tie.Need-same-length-2 Inv-loop μ-loop
-same-length-2 c = search needs
-
 returns : tie.Need-returns Inv-loop μ-loop
 returns c =
     let at-raise = c .before .before .before .before in
@@ -174,14 +165,8 @@ loop-again c =
       g .kept .0 ∙ at .loop .inv .4,
     )
 
-infinity-requires-2 : tie.Need-infinity-requires-2 Inv-loop μ-loop
-infinity-requires-2 c κs = search needs
-
 same-length-3 : tie.Need-same-length-3 Inv-loop μ-loop
 same-length-3 c = long (c .before .before .before)
-
-same-length-4 : tie.Need-same-length-4 Inv-loop μ-loop
-same-length-4 c = search needs
 
 returns-2 : tie.Need-returns-2 Inv-loop μ-loop
 returns-2 c =
@@ -208,16 +193,10 @@ add-bits c =
     let w = came at in
     omega (arith, at-most (at .loop .q) (val (at .loop .a)) _ (w .below) (w .few), c .whole .ensures)
 
-is-zero-requires : tie.Need-is-zero-requires Inv-loop μ-loop
-is-zero-requires c κs = search needs
-
 same-length-5 : tie.Need-same-length-5 Inv-loop μ-loop
 same-length-5 c =
     let c4 = c .before .before .before .before in
     long (c4 .before .before .before)
-
-same-length-6 : tie.Need-same-length-6 Inv-loop μ-loop
-same-length-6 c = search needs
 
 returns-3 : tie.Need-returns-3 Inv-loop μ-loop
 returns-3 c =
@@ -233,31 +212,6 @@ returns-3 c =
 
 pub nearest-spec : {M : Type 1} → statement M
 nearest-spec =
-    tie.close
-    (tie.spec
-    Inv-loop
-    μ-loop
-    raise-requires
-    infinity-requires
-    same-length
-    same-length-2
-    returns
-    lower-requires
-    loop-holds
-    digit-requires
-    mul-q
-    add-q
-    sub-k
-    loop-less
-    loop-again
-    infinity-requires-2
-    same-length-3
-    same-length-4
-    returns-2
-    whole-requires
-    mul-bits
-    add-bits
-    is-zero-requires
-    same-length-5
-    same-length-6
-    returns-3)
+    tie.close (tie.spec Inv-loop μ-loop raise-requires (λ c κs. search needs) (λ c. search needs) (λ c. search needs) returns lower-requires
+    loop-holds digit-requires mul-q add-q sub-k loop-less loop-again (λ c κs. search needs) same-length-3 (λ c. search needs) returns-2
+    whole-requires mul-bits add-bits (λ c κs. search needs) same-length-5 (λ c. search needs) returns-3)

@@ -54,9 +54,6 @@ size-requires-2 c κs =
     let pre = c .before .before .before .before .pre in
     omega (arith, pre .0, pre .3)
 
-excess-requires : tie.Need-excess-requires Inv-loop μ-loop
-excess-requires c κs = search needs
-
 lift-requires : tie.Need-lift-requires Inv-loop μ-loop
 lift-requires c κs =
     let at-excess = c .before in
@@ -183,23 +180,5 @@ returns-2 c =
 
 pub raise-spec : {M : Type 1} → statement M
 raise-spec =
-    tie.close
-    (tie.spec
-    Inv-loop
-    μ-loop
-    size-requires
-    size-requires-2
-    excess-requires
-    lift-requires
-    cast-k
-    add-k
-    loop-holds
-    less-requires
-    double-requires
-    add-k-2
-    loop-less
-    loop-again
-    same-length
-    returns
-    same-length-2
-    returns-2)
+    tie.close (tie.spec Inv-loop μ-loop size-requires size-requires-2 (λ c κs. search needs) lift-requires cast-k add-k loop-holds
+    less-requires double-requires add-k-2 loop-less loop-again same-length returns same-length-2 returns-2)

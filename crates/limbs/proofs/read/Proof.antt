@@ -27,9 +27,6 @@ loop-holds c = (omega arith, refl, simp (add-zero, sub-zero), rw sub-zero (c .be
 sub-least : tie.Need-sub-least Inv-loop μ-loop
 sub-least c = omega arith
 
-least-requires : tie.Need-least-requires Inv-loop μ-loop
-least-requires c κs = search needs
-
 add-few : tie.Need-add-few Inv-loop μ-loop
 add-few c =
     let c4 = c .before .before .before .before in
@@ -120,19 +117,5 @@ returns c =
 
 pub read-spec : {M : Type 1} → statement M
 read-spec =
-    tie.close
-    (tie.spec
-    Inv-loop
-    μ-loop
-    loop-holds
-    sub-least
-    least-requires
-    add-few
-    few-requires
-    ten-requires
-    muladd-requires
-    add-i
-    loop-less
-    loop-again
-    same-length
-    returns)
+    tie.close (tie.spec Inv-loop μ-loop loop-holds sub-least (λ c κs. search needs) add-few few-requires ten-requires muladd-requires add-i
+    loop-less loop-again same-length returns)

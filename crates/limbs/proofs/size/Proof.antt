@@ -97,19 +97,5 @@ returns-2 c =
 
 pub size-spec : {M : Type 1} → statement M
 size-spec =
-    tie.close
-    (tie.spec
-    Inv-loop
-    μ-loop
-    loop-holds
-    sub-i
-    mul-x
-    shared-slice-read-x
-    mul-result
-    add-result
-    cast-result
-    sub-result
-    returns
-    loop-less
-    loop-again
-    returns-2)
+    tie.close (tie.spec Inv-loop μ-loop loop-holds sub-i mul-x shared-slice-read-x mul-result add-result cast-result sub-result returns
+    loop-less loop-again returns-2)

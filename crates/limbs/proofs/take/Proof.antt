@@ -123,27 +123,5 @@ returns c =
 
 pub take-spec : {M : Type 1} → statement M
 take-spec =
-    tie.close
-    (tie.spec
-    Inv-loop
-    μ-loop
-    loop-holds
-    mul-wide
-    slice-read-wide
-    wide-requires
-    mul-wide-2
-    shared-slice-read-wide
-    wide-requires-2
-    add-y
-    borrow-of-requires
-    mul-a
-    add-a
-    sub-a
-    cast-a
-    mul-a-2
-    slice-write-a
-    add-i
-    loop-less
-    loop-again
-    same-length
-    returns)
+    tie.close (tie.spec Inv-loop μ-loop loop-holds mul-wide slice-read-wide wide-requires mul-wide-2 shared-slice-read-wide wide-requires-2
+    add-y borrow-of-requires mul-a add-a sub-a cast-a mul-a-2 slice-write-a add-i loop-less loop-again same-length returns)

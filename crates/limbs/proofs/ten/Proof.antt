@@ -5,9 +5,6 @@ use native.Mathlib.Omega.{arith}
 use Rattle.limbs.proofs.ten.Statement.{statement}
 use Rattle.limbs.proofs.ten.Tie as tie
 
-ten-to-requires : tie.Need-ten-to-requires
-ten-to-requires c κs = search needs
-
 cast-result : tie.Need-cast-result
 cast-result c = omega (arith, c .ten-to .ensures, pow-le-pow-right {n = 10} (omega arith) (c .before .pre))
 
@@ -15,4 +12,4 @@ returns : tie.Need-returns
 returns c = c .ten-to .ensures
 
 pub ten-spec : {M : Type 1} → statement M
-ten-spec = tie.close (tie.spec ten-to-requires cast-result returns)
+ten-spec = tie.close (tie.spec (λ c κs. search needs) cast-result returns)

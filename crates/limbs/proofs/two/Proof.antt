@@ -5,14 +5,8 @@ use native.Mathlib.Omega.{arith}
 use Rattle.limbs.proofs.two.Statement.{statement}
 use Rattle.limbs.proofs.two.Tie as tie
 
-cast-result : tie.Need-cast-result
-cast-result c = search needs
-
-shl-result : tie.Need-shl-result
-shl-result c = search needs
-
 returns : tie.Need-returns
 returns c = omega (arith, pow-le-pow-right {n = 2} (omega arith) (c .pre))
 
 pub two-spec : {M : Type 1} → statement M
-two-spec = tie.close (tie.spec cast-result shl-result returns)
+two-spec = tie.close (tie.spec (λ c. search needs) (λ c. search needs) returns)

@@ -8,17 +8,8 @@ use borrow.Author.Needs.{needs}
 use Rattle.limbs.proofs.whole.Statement.{statement}
 use Rattle.limbs.proofs.whole.Tie as tie
 
-less-requires : tie.Need-less-requires
-less-requires c κs = search needs
-
 less-requires-2 : tie.Need-less-requires-2
 less-requires-2 c κs = sym (c .before .before .before .before .pre .0)
-
-add-result : tie.Need-add-result
-add-result c = search needs
-
-add-result-2 : tie.Need-add-result-2
-add-result-2 c = search needs
 
 returns : tie.Need-returns
 returns c =
@@ -48,6 +39,4 @@ returns-3 c =
     (ltb-false a b (sym (at-less .less .ensures) ∙ at-if1 .if1 .left)))
 
 pub whole-spec : {M : Type 1} → statement M
-whole-spec =
-    tie.close
-    (tie.spec less-requires less-requires-2 add-result add-result-2 returns returns-2 returns-3)
+whole-spec = tie.close (tie.spec (λ c κs. search needs) less-requires-2 (λ c. search needs) (λ c. search needs) returns returns-2 returns-3)

@@ -5,15 +5,6 @@ use Rattle.line.proofs.LineLaws.{with-room, without-room}
 use Rattle.line.proofs.place_line.Statement.{statement}
 use Rattle.line.proofs.place_line.Tie as tie
 
-has-room-requires : tie.Need-has-room-requires
-has-room-requires c κs = search needs
-
-put-line-requires : tie.Need-put-line-requires
-put-line-requires c κs = search needs
-
-same-length : tie.Need-same-length
-same-length c = search needs
-
 returns : tie.Need-returns
 returns c =
     let at-put-line = c .before .before in
@@ -25,5 +16,4 @@ returns-2 : tie.Need-returns-2
 returns-2 c = sym (without-room _ _ _ (sym (c .before .has-room .ensures) ∙ c .if1 .left))
 
 pub place-line-spec : {M : Type 1} → statement M
-place-line-spec =
-    tie.close (tie.spec has-room-requires put-line-requires same-length returns returns-2)
+place-line-spec = tie.close (tie.spec (λ c κs. search needs) (λ c κs. search needs) (λ c. search needs) returns returns-2)

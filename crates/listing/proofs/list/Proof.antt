@@ -9,20 +9,8 @@ use borrow.Author.Needs.{needs}
 use Rattle.listing.proofs.list.Statement.{statement}
 use Rattle.listing.proofs.list.Tie as tie
 
-slice-aggregate-read : tie.Need-slice-aggregate-read
-slice-aggregate-read c = search needs
-
 read-requires : tie.Need-read-requires
 read-requires c κs = length-replicate {A = ℕ} 21844 0
-
-enum-known-refusal : tie.Need-enum-known-refusal
-enum-known-refusal c = search needs
-
-enum-known-n : tie.Need-enum-known-n
-enum-known-n c = search needs
-
-slice-aggregate-list-items : tie.Need-slice-aggregate-list-items
-slice-aggregate-list-items c = search needs
 
 list-items-requires : tie.Need-list-items-requires
 list-items-requires c κs =
@@ -34,10 +22,8 @@ returns : tie.Need-returns
 returns c =
     let at-read = c .before .before .before .before in
     let args = at-read .before .before .before .before .args in
-    with-values orderValues (listing-wrong (args .text .now) (args .out .now) (rw (c .before .refusal .given .1) at (at-read .read .ensures)))
-
-same-length : tie.Need-same-length
-same-length c = search needs
+    with-values orderValues
+    (listing-wrong (args .text .now) (args .out .now) (rw (c .before .refusal .given .1) at (at-read .read .ensures)))
 
 returns-2 : tie.Need-returns-2
 returns-2 c =
@@ -49,14 +35,5 @@ returns-2 c =
 
 pub list-spec : {M : Type 1} → statement M
 list-spec =
-    tie.close
-    (tie.spec
-    slice-aggregate-read
-    read-requires
-    enum-known-refusal
-    enum-known-n
-    slice-aggregate-list-items
-    list-items-requires
-    returns
-    same-length
-    returns-2)
+    tie.close (tie.spec (λ c. search needs) read-requires (λ c. search needs) (λ c. search needs) (λ c. search needs) list-items-requires
+    returns (λ c. search needs) returns-2)

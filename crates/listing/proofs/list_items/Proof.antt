@@ -8,18 +8,6 @@ use borrow.Author.Needs.{needs}
 use Rattle.listing.proofs.list_items.Statement.{statement}
 use Rattle.listing.proofs.list_items.Tie as tie
 
-slice-aggregate-fill : tie.Need-slice-aggregate-fill
-slice-aggregate-fill c = search needs
-
-fill-requires : tie.Need-fill-requires
-fill-requires c κs = search needs
-
-slice-aggregate-list : tie.Need-slice-aggregate-list
-slice-aggregate-list c = search needs
-
-slice-aggregate-list-2 : tie.Need-slice-aggregate-list-2
-slice-aggregate-list-2 c = search needs
-
 list-requires : tie.Need-list-requires
 list-requires c κs =
     let at-fill = c .before .before .before in
@@ -28,9 +16,6 @@ list-requires c κs =
     let h = start .pre in
     (square h (at-fill .fill .ensures (h .items) (h .is)), length-replicate {A = ℕ} 128 0)
 
-slice-aggregate-put : tie.Need-slice-aggregate-put
-slice-aggregate-put c = search needs
-
 put-requires : tie.Need-put-requires
 put-requires c κs =
     let at-list = c .before .before .before .before in
@@ -38,9 +23,6 @@ put-requires c κs =
     let c12 = c8 .before .before .before .before in
     let start = c12 .before in
     omega (arith, few-items (start .pre), at-list .list .kept .1 .1 .0, length-replicate {A = ℕ} 128 0)
-
-same-length : tie.Need-same-length
-same-length c = search needs
 
 returns : tie.Need-returns
 returns c =
@@ -71,15 +53,5 @@ returns-2 c =
 
 pub list-items-spec : {M : Type 1} → statement M
 list-items-spec =
-    tie.close
-    (tie.spec
-    slice-aggregate-fill
-    fill-requires
-    slice-aggregate-list
-    slice-aggregate-list-2
-    list-requires
-    slice-aggregate-put
-    put-requires
-    same-length
-    returns
-    returns-2)
+    tie.close (tie.spec (λ c. search needs) (λ c κs. search needs) (λ c. search needs) (λ c. search needs) list-requires (λ c. search needs)
+    put-requires (λ c. search needs) returns returns-2)

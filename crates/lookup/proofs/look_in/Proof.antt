@@ -9,20 +9,8 @@ use borrow.Author.Needs.{needs}
 use Rattle.lookup.proofs.look_in.Statement.{statement}
 use Rattle.lookup.proofs.look_in.Tie as tie
 
-slice-aggregate-read : tie.Need-slice-aggregate-read
-slice-aggregate-read c = search needs
-
 read-requires : tie.Need-read-requires
 read-requires c κs = length-replicate {A = ℕ} 21844 0
-
-enum-known-r : tie.Need-enum-known-r
-enum-known-r c = search needs
-
-enum-known-n : tie.Need-enum-known-n
-enum-known-n c = search needs
-
-slice-aggregate-find-name : tie.Need-slice-aggregate-find-name
-slice-aggregate-find-name c = search needs
 
 find-name-requires : tie.Need-find-name-requires
 find-name-requires c κs =
@@ -30,15 +18,6 @@ find-name-requires c κs =
     let at-read = at-n .before .before .before in
     let h = rw (at-n .n .given .1) at (at-read .read .ensures) in
     (h .rows .long, omega (arith, h .rows .few, h .count))
-
-enum-told : tie.Need-enum-told
-enum-told c = search needs
-
-enum-known-k : tie.Need-enum-known-k
-enum-known-k c = search needs
-
-slice-aggregate-cell : tie.Need-slice-aggregate-cell
-slice-aggregate-cell c = search needs
 
 cell-requires : tie.Need-cell-requires
 cell-requires c κs =
@@ -50,9 +29,6 @@ cell-requires c κs =
     let h = rw (at-n .n .given .1) at (at-read .read .ensures) in
     let f = rw (at-k .k .given .1) at (found-in h (at-find-name .find-name .result) (args .name .now) (at-find-name .find-name .ensures)) in
     (h .rows .long, omega (arith, found-low h (args .name .now) f, h .rows .few, h .count), omega arith)
-
-slice-aggregate-cell-2 : tie.Need-slice-aggregate-cell-2
-slice-aggregate-cell-2 c = search needs
 
 cell-requires-2 : tie.Need-cell-requires-2
 cell-requires-2 c κs =
@@ -98,20 +74,6 @@ returns-3 c =
 
 pub look-in-spec : {M : Type 1} → statement M
 look-in-spec =
-    tie.close
-    (tie.spec
-    slice-aggregate-read
-    read-requires
-    enum-known-r
-    enum-known-n
-    slice-aggregate-find-name
-    find-name-requires
-    enum-told
-    enum-known-k
-    slice-aggregate-cell
-    cell-requires
-    slice-aggregate-cell-2
-    cell-requires-2
-    returns
-    returns-2
+    tie.close (tie.spec (λ c. search needs) read-requires (λ c. search needs) (λ c. search needs) (λ c. search needs) find-name-requires
+    (λ c. search needs) (λ c. search needs) (λ c. search needs) cell-requires (λ c. search needs) cell-requires-2 returns returns-2
     returns-3)

@@ -4,14 +4,8 @@ use borrow.Author.Needs.{needs}
 use Rattle.lookup.proofs.lookup.Statement.{statement}
 use Rattle.lookup.proofs.lookup.Tie as tie
 
-find-requires : tie.Need-find-requires
-find-requires c κs = search needs
-
-lend-requires : tie.Need-lend-requires
-lend-requires c κs = search needs
-
 returns : tie.Need-returns
 returns c = rw (c .before .find .ensures .0) at (c .lend .ensures)
 
 pub lookup-spec : {M : Type 1} → statement M
-lookup-spec = tie.close (tie.spec find-requires lend-requires returns)
+lookup-spec = tie.close (tie.spec (λ c κs. search needs) (λ c κs. search needs) returns)

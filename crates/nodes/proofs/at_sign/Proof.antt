@@ -5,14 +5,8 @@ use borrow.Author.Needs.{needs}
 use Rattle.nodes.proofs.at_sign.Statement.{statement}
 use Rattle.nodes.proofs.at_sign.Tie as tie
 
-eat-requires : tie.Need-eat-requires
-eat-requires c κs = search needs
-
 returns : tie.Need-returns
 returns c = plus-sign _ _ _ (rw (c .if1 .taken) at (c .before .before .eat .ensures))
-
-eat-requires-2 : tie.Need-eat-requires-2
-eat-requires-2 c κs = search needs
 
 returns-2 : tie.Need-returns-2
 returns-2 c =
@@ -21,4 +15,4 @@ returns-2 c =
     other-sign _ _ _ (rw (at-if1 .if1 .left) at (at-eat .eat .ensures)) _ _ (c .before .eat2 .ensures)
 
 pub at-sign-spec : {M : Type 1} → statement M
-at-sign-spec = tie.close (tie.spec eat-requires returns eat-requires-2 returns-2)
+at-sign-spec = tie.close (tie.spec (λ c κs. search needs) returns (λ c κs. search needs) returns-2)

@@ -10,21 +10,6 @@ use borrow.Author.Needs.{needs}
 use Rattle.nodes.proofs.parse_at.Statement.{statement}
 use Rattle.nodes.proofs.parse_at.Tie as tie
 
-at-sign-requires : tie.Need-at-sign-requires
-at-sign-requires c κs = search needs
-
-number-requires : tie.Need-number-requires
-number-requires c κs = search needs
-
-enum-known-p : tie.Need-enum-known-p
-enum-known-p c = search needs
-
-enum-known-negative : tie.Need-enum-known-negative
-enum-known-negative c = search needs
-
-turned-requires : tie.Need-turned-requires
-turned-requires c κs = search needs
-
 float-of-requires : tie.Need-float-of-requires
 float-of-requires c κs =
     let at-negative = c .before .before in
@@ -72,9 +57,6 @@ returns c =
     let at-at-sign = at-number .before .before in
     no-value _ _ _ _ _ (at-at-sign .at-sign .ensures) _ (rw (c .before .p .given .1) at (at-number .number .ensures))
 
-same-length : tie.Need-same-length
-same-length c = search needs
-
 returns-2 : tie.Need-returns-2
 returns-2 c =
     let at-put-flag = c .before .before .before in
@@ -98,18 +80,5 @@ returns-2 c =
 
 pub parse-at-spec : {M : Type 1} → statement M
 parse-at-spec =
-    tie.close
-    (tie.spec
-    at-sign-requires
-    number-requires
-    enum-known-p
-    enum-known-negative
-    turned-requires
-    float-of-requires
-    count-requires
-    eat-requires
-    put-float-requires
-    put-flag-requires
-    returns
-    same-length
-    returns-2)
+    tie.close (tie.spec (λ c κs. search needs) (λ c κs. search needs) (λ c. search needs) (λ c. search needs) (λ c κs. search needs)
+    float-of-requires count-requires eat-requires put-float-requires put-flag-requires returns (λ c. search needs) returns-2)

@@ -7,26 +7,8 @@ use borrow.Author.Needs.{needs}
 use Rattle.nodes.proofs.parse_label.Statement.{statement}
 use Rattle.nodes.proofs.parse_label.Tie as tie
 
-string-requires : tie.Need-string-requires
-string-requires c κs = search needs
-
-enum-known-p : tie.Need-enum-known-p
-enum-known-p c = search needs
-
-enum-known-s : tie.Need-enum-known-s
-enum-known-s c = search needs
-
 mark-requires : tie.Need-mark-requires
 mark-requires c κs = ((rw (c .before .s .given .1) at (c .before .before .before .string .ensures)) .0 .ready, omega arith)
-
-enum-known-p-2 : tie.Need-enum-known-p-2
-enum-known-p-2 c = search needs
-
-enum-known-n : tie.Need-enum-known-n
-enum-known-n c = search needs
-
-put-span-requires : tie.Need-put-span-requires
-put-span-requires c κs = search needs
 
 returns : tie.Need-returns
 returns c =
@@ -42,9 +24,6 @@ returns-2 c =
     no-semicolon _ _ _ _ ((rw (at-s .s .given .1) at (at-string .string .ensures)) .0) _
     (rw (c .before .p2 .given .1) at (at-mark .mark .ensures))
 
-same-length : tie.Need-same-length
-same-length c = search needs
-
 returns-3 : tie.Need-returns-3
 returns-3 c =
     let at-put-span = c .before .before in
@@ -58,16 +37,5 @@ returns-3 c =
 
 pub parse-label-spec : {M : Type 1} → statement M
 parse-label-spec =
-    tie.close
-    (tie.spec
-    string-requires
-    enum-known-p
-    enum-known-s
-    mark-requires
-    enum-known-p-2
-    enum-known-n
-    put-span-requires
-    returns
-    returns-2
-    same-length
-    returns-3)
+    tie.close (tie.spec (λ c κs. search needs) (λ c. search needs) (λ c. search needs) mark-requires (λ c. search needs) (λ c. search needs)
+    (λ c κs. search needs) returns returns-2 (λ c. search needs) returns-3)

@@ -5,12 +5,9 @@ use Rattle.number.specs.Number.{bits}
 use Rattle.number.proofs.bits_of.Statement.{statement}
 use Rattle.number.proofs.bits_of.Tie as tie
 
-float-to-bits-result : tie.Need-float-to-bits-result
-float-to-bits-result c = search needs
-
 returns : tie.Need-returns
 unfolding bits
 returns c = refl
 
 pub bits-of-spec : {M : Type 1} → statement M
-bits-of-spec = tie.close (tie.spec float-to-bits-result returns)
+bits-of-spec = tie.close (tie.spec (λ c. search needs) returns)

@@ -9,12 +9,6 @@ use Rattle.number.proofs.Floats.{f32-bits}
 use Rattle.number.proofs.decimal.Statement.{statement}
 use Rattle.number.proofs.decimal.Tie as tie
 
-decimal-bits-requires : tie.Need-decimal-bits-requires
-decimal-bits-requires c κs = search needs
-
-f32-of-bits-requires : tie.Need-f32-of-bits-requires
-f32-of-bits-requires c κs = search needs
-
 returns : tie.Need-returns
 returns c =
     let at-decimal-bits = c .before in
@@ -26,4 +20,4 @@ returns c =
     )
 
 pub decimal-spec : {M : Type 1} → statement M
-decimal-spec = tie.close (tie.spec decimal-bits-requires f32-of-bits-requires returns)
+decimal-spec = tie.close (tie.spec (λ c κs. search needs) (λ c κs. search needs) returns)

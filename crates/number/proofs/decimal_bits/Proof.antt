@@ -34,9 +34,6 @@ judged c =
     c .nearest-bits .ensures .1 s
     ∙ ap (λ (d : ℕ). rounded (round binary32 s (args .digits) d) (fraction s (args .digits) d)) (c .before .ten-to .ensures)
 
-ten-to-requires : tie.Need-ten-to-requires
-ten-to-requires c κs = search needs
-
 nearest-bits-requires : tie.Need-nearest-bits-requires
 nearest-bits-requires c κs =
     let p = c .before .args .places in
@@ -73,4 +70,4 @@ returns-2 c =
     )
 
 pub decimal-bits-spec : {M : Type 1} → statement M
-decimal-bits-spec = tie.close (tie.spec ten-to-requires nearest-bits-requires add-bits returns returns-2)
+decimal-bits-spec = tie.close (tie.spec (λ c κs. search needs) nearest-bits-requires add-bits returns returns-2)

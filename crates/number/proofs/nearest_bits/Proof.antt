@@ -102,19 +102,5 @@ returns-3 c =
 
 pub nearest-bits-spec : {M : Type 1} → statement M
 nearest-bits-spec =
-    tie.close
-    (tie.spec
-    returns
-    sub-y
-    cast-a
-    shl-a
-    cast-b
-    shl-b
-    add-k
-    sub-k
-    packed-requires
-    mul-packed
-    add-packed
-    packed-requires-2
-    returns-2
-    returns-3)
+    tie.close (tie.spec returns sub-y cast-a shl-a cast-b shl-b add-k sub-k packed-requires mul-packed add-packed packed-requires-2
+    returns-2 returns-3)

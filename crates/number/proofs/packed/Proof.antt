@@ -10,12 +10,6 @@ small : (c : tie.After-quotient) → c .quotient .result .whole ≤ 16777216
 small c =
     omega (arith, closest-le (c .before .args .a) (c .before .args .b) 16777216 (c .before .pre .2), c .quotient .ensures .0)
 
-quotient-requires : tie.Need-quotient-requires
-quotient-requires c κs = search needs
-
-mul-bits : tie.Need-mul-bits
-mul-bits c = search needs
-
 cast-bits : tie.Need-cast-bits
 cast-bits c = omega (arith, small (c .before))
 
@@ -28,4 +22,4 @@ returns c =
     (omega (arith, at-quotient .quotient .ensures .0), at-quotient .quotient .ensures .1)
 
 pub packed-spec : {M : Type 1} → statement M
-packed-spec = tie.close (tie.spec quotient-requires mul-bits cast-bits add-bits returns)
+packed-spec = tie.close (tie.spec (λ c κs. search needs) (λ c. search needs) cast-bits add-bits returns)

@@ -3,15 +3,6 @@ use borrow.Author.Needs.{needs}
 use Rattle.number.proofs.percent.Statement.{statement}
 use Rattle.number.proofs.percent.Tie as tie
 
-decimal-requires : tie.Need-decimal-requires
-decimal-requires c κs = search needs
-
-decimal-requires-2 : tie.Need-decimal-requires-2
-decimal-requires-2 c κs = search needs
-
-percent-from-requires : tie.Need-percent-from-requires
-percent-from-requires c κs = search needs
-
 returns : tie.Need-returns
 returns c =
     let at-decimal2 = c .before in
@@ -24,4 +15,4 @@ returns c =
     )
 
 pub percent-spec : {M : Type 1} → statement M
-percent-spec = tie.close (tie.spec decimal-requires decimal-requires-2 percent-from-requires returns)
+percent-spec = tie.close (tie.spec (λ c κs. search needs) (λ c κs. search needs) (λ c κs. search needs) returns)

@@ -7,20 +7,8 @@ use Rattle.number.proofs.Closest.{closest-below, closest-tie, closest-a
 use Rattle.number.proofs.quotient.Statement.{statement}
 use Rattle.number.proofs.quotient.Tie as tie
 
-div-q : tie.Need-div-q
-div-q c = search needs
-
-rem-rest : tie.Need-rem-rest
-rem-rest c = search needs
-
 mul-t : tie.Need-mul-t
 mul-t c = omega (arith, mod-lt (c .args .a) (c .pre .0))
-
-add-whole : tie.Need-add-whole
-add-whole c = search needs
-
-add-whole-2 : tie.Need-add-whole-2
-add-whole-2 c = search needs
 
 returns : tie.Need-returns
 returns c = (sym (closest-below _ _ (c .if1 .taken)), refl)
@@ -33,4 +21,4 @@ returns-3 c = (sym (closest-above _ _ (omega arith)), refl)
 
 pub quotient-spec : {M : Type 1} → statement M
 quotient-spec =
-    tie.close (tie.spec div-q rem-rest mul-t add-whole add-whole-2 returns returns-2 returns-3)
+    tie.close (tie.spec (λ c. search needs) (λ c. search needs) mul-t (λ c. search needs) (λ c. search needs) returns returns-2 returns-3)

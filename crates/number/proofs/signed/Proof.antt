@@ -21,22 +21,11 @@ turned m n d x e h =
 plain : (m n d : ℕ) (x : Float) → m ≡ bits (round binary32 false n d) → x ≡ f32 m → x ≡ round binary32 false n d
 plain m n d x e h = h ∙ ap f32 e ∙ f32-bits (round binary32 false n d) (round-fits binary32 false n d)
 
-add-f32-of-bits : tie.Need-add-f32-of-bits
-add-f32-of-bits c = search needs
-
-f32-of-bits-requires : tie.Need-f32-of-bits-requires
-f32-of-bits-requires c κs = search needs
-
 returns : tie.Need-returns
 returns c = rw (c .before .before .if1 .taken) (λ n d e. turned _ n d _ e (c .f32-of-bits .ensures), refl)
-
-f32-of-bits-requires-2 : tie.Need-f32-of-bits-requires-2
-f32-of-bits-requires-2 c κs = search needs
 
 returns-2 : tie.Need-returns-2
 returns-2 c = rw (c .before .if1 .left) (λ n d e. plain _ n d _ e (c .f32-of-bits2 .ensures), refl)
 
 pub signed-spec : {M : Type 1} → statement M
-signed-spec =
-    tie.close
-    (tie.spec add-f32-of-bits f32-of-bits-requires returns f32-of-bits-requires-2 returns-2)
+signed-spec = tie.close (tie.spec (λ c. search needs) (λ c κs. search needs) returns (λ c κs. search needs) returns-2)

@@ -20,14 +20,8 @@ tens-at (suc n) p zero h = sym (mul-one p)
 tens-at (suc n) p (suc i) h =
     tens-at n (p * 10) i (le-of-suc-le-suc h) ∙ mul-assoc p 10 (10 ^ i) ∙ ap (λ (x : ℕ). p * x) (mul-comm 10 (10 ^ i) ∙ sym (pow-suc 10 i))
 
-mul-result : tie.Need-mul-result
-mul-result c = search needs
-
-array-read-result : tie.Need-array-read-result
-array-read-result c = search needs
-
 returns : tie.Need-returns
 returns c = tens-at 10 1 (c .args .places) (omega arith) ∙ one-mul (10 ^ c .args .places)
 
 pub ten-to-spec : {M : Type 1} → statement M
-ten-to-spec = tie.close (tie.spec mul-result array-read-result returns)
+ten-to-spec = tie.close (tie.spec (λ c. search needs) (λ c. search needs) returns)

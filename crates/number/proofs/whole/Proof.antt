@@ -26,12 +26,9 @@ returns-2 : tie.Need-returns-2
 unfolding whole
 returns-2 c w e = rw (c .before .if1 .left, lt-ltb _ _ (above _ _ e (c .if2 .taken)))
 
-cast-t4 : tie.Need-cast-t4
-cast-t4 c = search needs
-
 returns-3 : tie.Need-returns-3
 unfolding whole
 returns-3 c w e = rw (c .before .if1 .left, same _ _ e (c .if2 .left), le-ltb _ _ (c .if2 .left))
 
 pub whole-spec : {M : Type 1} → statement M
-whole-spec = tie.close (tie.spec returns returns-2 cast-t4 returns-3)
+whole-spec = tie.close (tie.spec returns returns-2 (λ c. search needs) returns-3)

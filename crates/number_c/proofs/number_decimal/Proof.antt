@@ -4,17 +4,11 @@ use borrow.Author.Tests.{lt-ltb, le-ltb}
 use Rattle.number_c.proofs.number_decimal.Statement.{statement}
 use Rattle.number_c.proofs.number_decimal.Tie as tie
 
-decimal-requires : tie.Need-decimal-requires
-decimal-requires c κs = search needs
-
 returns : tie.Need-returns
 returns c = rw (lt-ltb 9 _ (c .before .if1 .taken)) (c .decimal .ensures .0)
-
-decimal-requires-2 : tie.Need-decimal-requires-2
-decimal-requires-2 c κs = search needs
 
 returns-2 : tie.Need-returns-2
 returns-2 c = rw (le-ltb 9 _ (c .before .if1 .left)) (c .decimal2 .ensures .0)
 
 pub number-decimal-spec : {M : Type 1} → statement M
-number-decimal-spec = tie.close (tie.spec decimal-requires returns decimal-requires-2 returns-2)
+number-decimal-spec = tie.close (tie.spec (λ c κs. search needs) returns (λ c κs. search needs) returns-2)

@@ -18,32 +18,7 @@ equal-number (fin s m d) e = tt
 bits-of-requires : tie.Need-bits-of-requires
 bits-of-requires c κs = equal-number (c .before .args .x) (c .if1 .taken)
 
-cast-print-hex : tie.Need-cast-print-hex
-cast-print-hex c = search needs
-
-print-hex-requires : tie.Need-print-hex-requires
-print-hex-requires c κs = search needs
-
-slice-aggregate-write-all : tie.Need-slice-aggregate-write-all
-slice-aggregate-write-all c = search needs
-
-write-all-requires : tie.Need-write-all-requires
-write-all-requires c κs = search needs
-
-returns : tie.Need-returns
-returns c = search needs
-
-returns-2 : tie.Need-returns-2
-returns-2 c = search needs
-
 pub float-spec : {M : Type 1} → statement M
 float-spec =
-    tie.close
-    (tie.spec
-    bits-of-requires
-    cast-print-hex
-    print-hex-requires
-    slice-aggregate-write-all
-    write-all-requires
-    returns
-    returns-2)
+    tie.close (tie.spec bits-of-requires (λ c. search needs) (λ c κs. search needs) (λ c. search needs) (λ c κs. search needs)
+    (λ c. search needs) (λ c. search needs))

@@ -30,19 +30,5 @@ loop-less c = omega arith
 loop-again : tie.Need-loop-again Inv-loop μ-loop
 loop-again c = omega arith
 
-returns : tie.Need-returns Inv-loop μ-loop
-returns c = search needs
-
 pub lines-spec : {M : Type 1} → statement M
-lines-spec =
-    tie.close
-    (tie.spec
-    Inv-loop
-    μ-loop
-    loop-holds
-    sub-loop
-    line-requires
-    add-at
-    loop-less
-    loop-again
-    returns)
+lines-spec = tie.close (tie.spec Inv-loop μ-loop loop-holds sub-loop line-requires add-at loop-less loop-again (λ c. search needs))

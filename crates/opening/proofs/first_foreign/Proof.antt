@@ -15,32 +15,17 @@ Inv-loop text i₀ i = foreignFrom i (drop i text) ≡ foreignFrom 0 text
 abbrev μ-loop : tie.MeasureT-loop
 μ-loop text i₀ i = length text - i
 
-has-foreign-requires : tie.Need-has-foreign-requires Inv-loop μ-loop
-has-foreign-requires c κs = search needs
-
 returns : tie.Need-returns Inv-loop μ-loop
 returns c = laws.not-there _ (sym (not-true _ (c .if1 .taken)) ∙ c .before .has-foreign .ensures)
 
 loop-holds : tie.Need-loop-holds Inv-loop μ-loop
 loop-holds c = refl
 
-shared-slice-read-in-class : tie.Need-shared-slice-read-in-class Inv-loop μ-loop
-shared-slice-read-in-class c = search needs
-
-in-class-requires : tie.Need-in-class-requires Inv-loop μ-loop
-in-class-requires c κs = search needs
-
 returns-2 : tie.Need-returns-2 Inv-loop μ-loop
 returns-2 c =
     let at-loop-test = c .before .before .before in
     let at-loop = at-loop-test .before in
     sym (laws.foreign-here _ _ (at-loop-test .loop-test .taken) (sym (c .before .in-class .ensures) ∙ c .if2 .taken)) ∙ at-loop .loop .inv
-
-add-i : tie.Need-add-i Inv-loop μ-loop
-add-i c = search needs
-
-loop-less : tie.Need-loop-less Inv-loop μ-loop
-loop-less c = search needs
 
 loop-again : tie.Need-loop-again Inv-loop μ-loop
 loop-again c =
@@ -53,17 +38,5 @@ returns-3 c = sym (laws.foreign-none _ _ (c .loop-test .left)) ∙ c .before .lo
 
 pub first-foreign-spec : {M : Type 1} → statement M
 first-foreign-spec =
-    tie.close
-    (tie.spec
-    Inv-loop
-    μ-loop
-    has-foreign-requires
-    returns
-    loop-holds
-    shared-slice-read-in-class
-    in-class-requires
-    returns-2
-    add-i
-    loop-less
-    loop-again
-    returns-3)
+    tie.close (tie.spec Inv-loop μ-loop (λ c κs. search needs) returns loop-holds (λ c. search needs) (λ c κs. search needs) returns-2
+    (λ c. search needs) (λ c. search needs) loop-again returns-3)

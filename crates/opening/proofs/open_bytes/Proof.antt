@@ -5,9 +5,6 @@ use Rattle.opening.proofs.OpenLaws as laws
 use Rattle.opening.proofs.open_bytes.Statement.{statement}
 use Rattle.opening.proofs.open_bytes.Tie as tie
 
-is-sheet-requires : tie.Need-is-sheet-requires
-is-sheet-requires c κs = search needs
-
 returns : tie.Need-returns
 returns c = laws.sheet-or-not _ _ (sym (c .if1 .taken) ∙ c .before .is-sheet .ensures)
 
@@ -15,4 +12,4 @@ returns-2 : tie.Need-returns-2
 returns-2 c = laws.sheet-or-not _ _ (sym (c .if1 .left) ∙ c .before .is-sheet .ensures)
 
 pub open-bytes-spec : {M : Type 1} → statement M
-open-bytes-spec = tie.close (tie.spec is-sheet-requires returns returns-2)
+open-bytes-spec = tie.close (tie.spec (λ c κs. search needs) returns returns-2)

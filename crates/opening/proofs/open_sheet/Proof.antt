@@ -5,18 +5,6 @@ use Rattle.opening.proofs.OpenLaws as laws
 use Rattle.opening.proofs.open_sheet.Statement.{statement}
 use Rattle.opening.proofs.open_sheet.Tie as tie
 
-open-text-requires : tie.Need-open-text-requires
-open-text-requires c κs = search needs
-
-enum-told : tie.Need-enum-told
-enum-told c = search needs
-
-open-bytes-requires : tie.Need-open-bytes-requires
-open-bytes-requires c κs = search needs
-
-enum-told-2 : tie.Need-enum-told-2
-enum-told-2 c = search needs
-
 returns : tie.Need-returns
 returns c =
     let at-open-text = c .before .before .before in
@@ -29,5 +17,4 @@ returns-2 c =
 
 pub open-sheet-spec : {M : Type 1} → statement M
 open-sheet-spec =
-    tie.close
-    (tie.spec open-text-requires enum-told open-bytes-requires enum-told-2 returns returns-2)
+    tie.close (tie.spec (λ c κs. search needs) (λ c. search needs) (λ c κs. search needs) (λ c. search needs) returns returns-2)

@@ -7,20 +7,11 @@ use Rattle.opening.proofs.open_text.Tie as tie
 returns : tie.Need-returns
 returns c = laws.too-long _ (c .if1 .taken)
 
-first-foreign-requires : tie.Need-first-foreign-requires
-first-foreign-requires c κs = search needs
-
-enum-known-foreign : tie.Need-enum-known-foreign
-enum-known-foreign c = search needs
-
 returns-2 : tie.Need-returns-2
 returns-2 c =
     let at-first-foreign = c .before .before .before in
     let at-if1 = at-first-foreign .before in
     laws.not-long _ (at-if1 .if1 .left) (rw (c .before .foreign .given .1) at (at-first-foreign .first-foreign .ensures))
-
-enum-told : tie.Need-enum-told
-enum-told c = search needs
 
 returns-3 : tie.Need-returns-3
 returns-3 c =
@@ -29,6 +20,4 @@ returns-3 c =
     laws.not-long _ (at-if1 .if1 .left) (rw (c .enum-told .given .1) at (at-first-foreign .first-foreign .ensures))
 
 pub open-text-spec : {M : Type 1} → statement M
-open-text-spec =
-    tie.close
-    (tie.spec returns first-foreign-requires enum-known-foreign returns-2 enum-told returns-3)
+open-text-spec = tie.close (tie.spec returns (λ c κs. search needs) (λ c. search needs) returns-2 (λ c. search needs) returns-3)

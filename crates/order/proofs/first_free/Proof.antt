@@ -51,15 +51,4 @@ returns-2 c =
     sym (first-none _ (args .n) (λ a l. c .before .loop .inv .1 a (omega arith)))
 
 pub first-free-spec : {M : Type 1} → statement M
-first-free-spec =
-    tie.close
-    (tie.spec
-    Inv-loop
-    μ-loop
-    loop-holds
-    is-free-requires
-    returns
-    add-i
-    loop-less
-    loop-again
-    returns-2)
+first-free-spec = tie.close (tie.spec Inv-loop μ-loop loop-holds is-free-requires returns add-i loop-less loop-again returns-2)

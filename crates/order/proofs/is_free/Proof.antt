@@ -5,19 +5,10 @@ use borrow.Author.Needs.{needs}
 use Rattle.order.proofs.is_free.Statement.{statement}
 use Rattle.order.proofs.is_free.Tie as tie
 
-cast-has : tie.Need-cast-has
-cast-has c = search needs
-
-has-requires : tie.Need-has-requires
-has-requires c κs = search needs
-
 returns : tie.Need-returns
 returns c =
     let args = c .before .before .before .before .args in
     listed-not-free (callsIn (args .calls .now)) (args .n) (args .listed .now) (args .i) (c .before .has .ensures) (c .if1 .taken)
-
-is-ready-requires : tie.Need-is-ready-requires
-is-ready-requires c κs = search needs
 
 returns-2 : tie.Need-returns-2
 returns-2 c =
@@ -33,4 +24,4 @@ returns-2 c =
     (c .is-ready .ensures)
 
 pub is-free-spec : {M : Type 1} → statement M
-is-free-spec = tie.close (tie.spec cast-has has-requires returns is-ready-requires returns-2)
+is-free-spec = tie.close (tie.spec (λ c. search needs) (λ c κs. search needs) returns (λ c κs. search needs) returns-2)

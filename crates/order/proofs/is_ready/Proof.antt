@@ -49,15 +49,4 @@ returns-2 c =
     sym (every-all _ (args .n) (λ a l. c .before .loop .inv .1 a (omega arith)))
 
 pub is-ready-spec : {M : Type 1} → statement M
-is-ready-spec =
-    tie.close
-    (tie.spec
-    Inv-loop
-    μ-loop
-    loop-holds
-    waits-for-requires
-    returns
-    add-j
-    loop-less
-    loop-again
-    returns-2)
+is-ready-spec = tie.close (tie.spec Inv-loop μ-loop loop-holds waits-for-requires returns add-j loop-less loop-again returns-2)

@@ -23,17 +23,11 @@ loop-holds c =
     let start = c .before .before in
     (omega arith, start .pre .1, coming-start (callsIn (start .args .calls .now)) (start .args .n))
 
-part-requires : tie.Need-part-requires Inv-loop μ-loop
-part-requires c κs = search needs
-
 first-free-requires : tie.Need-first-free-requires Inv-loop μ-loop
 first-free-requires c κs =
     let c4 = c .before .before .before .before in
     let start = c4 .before .before in
     start .pre .0
-
-enum-told : tie.Need-enum-told Inv-loop μ-loop
-enum-told c = search needs
 
 same-length : tie.Need-same-length Inv-loop μ-loop
 same-length c =
@@ -51,9 +45,6 @@ returns c =
     let args = at-loop .before .before .before .args in
     coming-none (callsIn (args .calls .now)) (args .n) (at-loop-test .loop-test .taken) (at-loop .loop .inv .2)
     (rw (c .enum-told .given .1, at-part .part .ensures) at (at-first-free .first-free .ensures))
-
-enum-known-i : tie.Need-enum-known-i Inv-loop μ-loop
-enum-known-i c = search needs
 
 cast-out : tie.Need-cast-out Inv-loop μ-loop
 cast-out c =
@@ -113,21 +104,5 @@ returns-2 c =
 
 pub list-spec : {M : Type 1} → statement M
 list-spec =
-    tie.close
-    (tie.spec
-    Inv-loop
-    μ-loop
-    loop-holds
-    part-requires
-    first-free-requires
-    enum-told
-    same-length
-    returns
-    enum-known-i
-    cast-out
-    slice-write-out
-    add-k
-    loop-less
-    loop-again
-    same-length-2
-    returns-2)
+    tie.close (tie.spec Inv-loop μ-loop loop-holds (λ c κs. search needs) first-free-requires (λ c. search needs) same-length returns
+    (λ c. search needs) cast-out slice-write-out add-k loop-less loop-again same-length-2 returns-2)

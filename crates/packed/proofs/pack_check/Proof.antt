@@ -3,15 +3,6 @@ use borrow.Author.Needs.{needs}
 use Rattle.packed.proofs.pack_check.Statement.{statement}
 use Rattle.packed.proofs.pack_check.Tie as tie
 
-enum-told : tie.Need-enum-told
-enum-told c = search needs
-
-enum-known-answer : tie.Need-enum-known-answer
-enum-known-answer c = search needs
-
-pack-refusal-requires : tie.Need-pack-refusal-requires
-pack-refusal-requires c κs = search needs
-
 returns : tie.Need-returns
 returns c = rw (c .enum-told .given .1)
 
@@ -19,6 +10,4 @@ returns-2 : tie.Need-returns-2
 returns-2 c = rw (c .before .before .answer .given .1, c .pack-refusal .ensures)
 
 pub pack-check-spec : {M : Type 1} → statement M
-pack-check-spec =
-    tie.close
-    (tie.spec enum-told enum-known-answer pack-refusal-requires returns returns-2)
+pack-check-spec = tie.close (tie.spec (λ c. search needs) (λ c. search needs) (λ c κs. search needs) returns returns-2)

@@ -5,20 +5,8 @@ use Rattle.parser.proofs.ReadLaws.{split-same}
 use Rattle.parser.proofs.judge.Statement.{statement}
 use Rattle.parser.proofs.judge.Tie as tie
 
-is-allowed-requires : tie.Need-is-allowed-requires
-is-allowed-requires c κs = search needs
-
-same-length : tie.Need-same-length
-same-length c = search needs
-
 returns : tie.Need-returns
 returns c = rw (c .if1 .taken) at (c .before .before .before .is-allowed .ensures)
-
-split-requires : tie.Need-split-requires
-split-requires c κs = search needs
-
-same-length-2 : tie.Need-same-length-2
-same-length-2 c = search needs
 
 returns-2 : tie.Need-returns-2
 returns-2 c =
@@ -31,6 +19,4 @@ returns-2 c =
     (at-is-allowed .is-allowed .kept .1 .0)
 
 pub judge-spec : {M : Type 1} → statement M
-judge-spec =
-    tie.close
-    (tie.spec is-allowed-requires same-length returns split-requires same-length-2 returns-2)
+judge-spec = tie.close (tie.spec (λ c κs. search needs) (λ c. search needs) returns (λ c κs. search needs) (λ c. search needs) returns-2)

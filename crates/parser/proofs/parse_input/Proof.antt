@@ -5,45 +5,6 @@ use Rattle.parser.proofs.ReadLaws.{input-done, input-left, input-refuse
 use Rattle.parser.proofs.parse_input.Statement.{statement}
 use Rattle.parser.proofs.parse_input.Tie as tie
 
-first-requires : tie.Need-first-requires
-first-requires c κs = search needs
-
-parse-nodes-requires : tie.Need-parse-nodes-requires
-parse-nodes-requires c κs = search needs
-
-enum-known-refusal : tie.Need-enum-known-refusal
-enum-known-refusal c = search needs
-
-refused-requires : tie.Need-refused-requires
-refused-requires c κs = search needs
-
-enum-known-nodes : tie.Need-enum-known-nodes
-enum-known-nodes c = search needs
-
-leftover-requires : tie.Need-leftover-requires
-leftover-requires c κs = search needs
-
-enum-known-place : tie.Need-enum-known-place
-enum-known-place c = search needs
-
-refused-requires-2 : tie.Need-refused-requires-2
-refused-requires-2 c κs = search needs
-
-enum-told : tie.Need-enum-told
-enum-told c = search needs
-
-patch-count-requires : tie.Need-patch-count-requires
-patch-count-requires c κs = search needs
-
-rounded-requires : tie.Need-rounded-requires
-rounded-requires c κs = search needs
-
-place-requires : tie.Need-place-requires
-place-requires c κs = search needs
-
-same-length : tie.Need-same-length
-same-length c = search needs
-
 returns : tie.Need-returns
 returns c =
     let at-refusal = c .before .before in
@@ -52,9 +13,6 @@ returns c =
     let start = at-first .before .before .before in
     let g = rw (at-refusal .refusal .given .1) at (at-parse-nodes .parse-nodes .ensures) in
     input-refused (start .args .text .now) (at-first .first .result) (at-first .first .ensures) _ _ _ (c .refused .ensures) g
-
-same-length-2 : tie.Need-same-length-2
-same-length-2 c = search needs
 
 returns-2 : tie.Need-returns-2
 returns-2 c =
@@ -67,9 +25,6 @@ returns-2 c =
     let g = rw (at-nodes .nodes .given .1) at (at-parse-nodes .parse-nodes .ensures) in
     let l = rw (at-place .place .given .1) at (at-leftover .leftover .ensures) in
     input-left (start .args .text .now) (at-first .first .result) (at-first .first .ensures) g _ _ (c .refused2 .ensures) (sym l)
-
-same-length-3 : tie.Need-same-length-3
-same-length-3 c = search needs
 
 returns-3 : tie.Need-returns-3
 returns-3 c =
@@ -88,23 +43,6 @@ returns-3 c =
 
 pub parse-input-spec : {M : Type 1} → statement M
 parse-input-spec =
-    tie.close
-    (tie.spec
-    first-requires
-    parse-nodes-requires
-    enum-known-refusal
-    refused-requires
-    enum-known-nodes
-    leftover-requires
-    enum-known-place
-    refused-requires-2
-    enum-told
-    patch-count-requires
-    rounded-requires
-    place-requires
-    same-length
-    returns
-    same-length-2
-    returns-2
-    same-length-3
-    returns-3)
+    tie.close (tie.spec (λ c κs. search needs) (λ c κs. search needs) (λ c. search needs) (λ c κs. search needs) (λ c. search needs)
+    (λ c κs. search needs) (λ c. search needs) (λ c κs. search needs) (λ c. search needs) (λ c κs. search needs) (λ c κs. search needs)
+    (λ c κs. search needs) (λ c. search needs) returns (λ c. search needs) returns-2 (λ c. search needs) returns-3)

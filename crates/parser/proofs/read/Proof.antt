@@ -20,38 +20,14 @@ returns-2 c =
     with-values readValues
     (sym (too-few (start .args .text .now) (start .args .scratch .now) (start .args .sheet .now) (at-if1 .if1 .left) (c .if2 .taken)))
 
-parse-input-requires : tie.Need-parse-input-requires
-parse-input-requires c κs = search needs
-
-judge-requires : tie.Need-judge-requires
-judge-requires c κs = search needs
-
-enum-known-refusal : tie.Need-enum-known-refusal
-enum-known-refusal c = search needs
-
-settle-requires : tie.Need-settle-requires
-settle-requires c κs = search needs
-
-enum-told : tie.Need-enum-told
-enum-told c = search needs
-
-settle-requires-2 : tie.Need-settle-requires-2
-settle-requires-2 c κs = search needs
-
-same-length : tie.Need-same-length
-same-length c = search needs
-
-same-length-2 : tie.Need-same-length-2
-same-length-2 c = search needs
-
 returns-3 : tie.Need-returns-3
 returns-3 c =
     let at-settle = c .before .before in
     let at-refusal = at-settle .before .before .before in
     let at-judge = at-refusal .before .before .before .before in
+    let judge = at-judge .judge in
     let at-parse-input = at-judge .before .before .before .before in
     let parse-input = at-parse-input .parse-input in
-    let judge = at-judge .judge in
     let at-if2 = at-parse-input .before .before in
     let at-if1 = at-if2 .before in
     let start = at-if1 .before .before .before .before in
@@ -75,20 +51,14 @@ returns-3 c =
     (parse-input .kept .1 .0)
     (at-settle .settle .ensures))
 
-same-length-3 : tie.Need-same-length-3
-same-length-3 c = search needs
-
-same-length-4 : tie.Need-same-length-4
-same-length-4 c = search needs
-
 returns-4 : tie.Need-returns-4
 returns-4 c =
     let at-settle2 = c .before .before in
     let at-enum-told = at-settle2 .before .before in
     let at-judge = at-enum-told .before .before .before .before in
+    let judge = at-judge .judge in
     let at-parse-input = at-judge .before .before .before .before in
     let parse-input = at-parse-input .parse-input in
-    let judge = at-judge .judge in
     let at-if2 = at-parse-input .before .before in
     let at-if1 = at-if2 .before in
     let start = at-if1 .before .before .before .before in
@@ -116,19 +86,6 @@ returns-4 c =
 
 pub read-spec : {M : Type 1} → statement M
 read-spec =
-    tie.close
-    (tie.spec
-    returns
-    returns-2
-    parse-input-requires
-    judge-requires
-    enum-known-refusal
-    settle-requires
-    enum-told
-    settle-requires-2
-    same-length
-    same-length-2
-    returns-3
-    same-length-3
-    same-length-4
+    tie.close (tie.spec returns returns-2 (λ c κs. search needs) (λ c κs. search needs) (λ c. search needs) (λ c κs. search needs)
+    (λ c. search needs) (λ c κs. search needs) (λ c. search needs) (λ c. search needs) returns-3 (λ c. search needs) (λ c. search needs)
     returns-4)

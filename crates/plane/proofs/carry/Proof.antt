@@ -14,11 +14,8 @@ move-all-requires c κs =
     let start = c .before .before .before .before in
     (start .pre) .before (start .args .out .now) (c .before .if1 .left) .0
 
-same-length : tie.Need-same-length
-same-length c = search needs
-
 returns-2 : tie.Need-returns-2
 returns-2 c = λ k. carried-all k (c .before .before .before .before .if1 .left) (c .before .before .move-all .ensures)
 
 pub carry-spec : {M : Type 1} → statement M
-carry-spec = tie.close (tie.spec returns move-all-requires same-length returns-2)
+carry-spec = tie.close (tie.spec returns move-all-requires (λ c. search needs) returns-2)

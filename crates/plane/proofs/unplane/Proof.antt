@@ -8,12 +8,6 @@ use borrow.Author.Needs.{needs}
 use Rattle.plane.proofs.unplane.Statement.{statement}
 use Rattle.plane.proofs.unplane.Tie as tie
 
-open-text-requires : tie.Need-open-text-requires
-open-text-requires c κs = search needs
-
-enum-known-refusal : tie.Need-enum-known-refusal
-enum-known-refusal c = search needs
-
 returns : tie.Need-returns
 returns c =
     let at-open-text = c .before .before .before in
@@ -21,25 +15,10 @@ returns c =
     with-values lineValues (unplane-shut (args .text .now) (args .planed .now) (args .out .now)
     (sym (c .before .refusal .given .1) ∙ at-open-text .open-text .ensures))
 
-enum-told : tie.Need-enum-told
-enum-told c = search needs
-
-planed-shape-requires : tie.Need-planed-shape-requires
-planed-shape-requires c κs = search needs
-
-enum-known-rest : tie.Need-enum-known-rest
-enum-known-rest c = search needs
-
 carry-requires : tie.Need-carry-requires
 carry-requires c κs =
     let m = rw (c .before .before .rest .given .1) at (c .before .before .before .before .planed-shape .ensures) in
     carries-narrow _ _ (m .0) _ _ (m .1) (m .2) (m .3)
-
-enum-told-2 : tie.Need-enum-told-2
-enum-told-2 c = search needs
-
-same-length : tie.Need-same-length
-same-length c = search needs
 
 returns-2 : tie.Need-returns-2
 returns-2 c =
@@ -66,16 +45,5 @@ returns-3 c =
 
 pub unplane-spec : {M : Type 1} → statement M
 unplane-spec =
-    tie.close
-    (tie.spec
-    open-text-requires
-    enum-known-refusal
-    returns
-    enum-told
-    planed-shape-requires
-    enum-known-rest
-    carry-requires
-    enum-told-2
-    same-length
-    returns-2
-    returns-3)
+    tie.close (tie.spec (λ c κs. search needs) (λ c. search needs) returns (λ c. search needs) (λ c κs. search needs) (λ c. search needs)
+    carry-requires (λ c. search needs) (λ c. search needs) returns-2 returns-3)

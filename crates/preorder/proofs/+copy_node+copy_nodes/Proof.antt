@@ -66,15 +66,6 @@ copy-node-returns t c =
     let start = c .before .before .before .before in
     record { on = omega arith; is = λ d x h. no-node (start .args .text .now) _ (c .if1 .taken) d x h }
 
-copy-node-copy-record-requires : (t : ℕ) → copy-node-lts.Need-copy-record-requires (node-calls t) (copy-node-at t) copy-node.Post
-copy-node-copy-record-requires t c κs = search needs
-
-copy-node-enum-told : (t : ℕ) → copy-node-lts.Need-enum-told (node-calls t) (copy-node-at t) copy-node.Post
-copy-node-enum-told t c = search needs
-
-copy-node-enum-known-kind : (t : ℕ) → copy-node-lts.Need-enum-known-kind (node-calls t) (copy-node-at t) copy-node.Post
-copy-node-enum-known-kind t c = search needs
-
 copy-node-copy-nodes-requires : (t : ℕ) → copy-node-lts.Need-copy-nodes-requires (node-calls t) (copy-node-at t) copy-node.Post
 copy-node-copy-nodes-requires t c κs =
     let c4 = c .before .before .before .before in
@@ -92,9 +83,6 @@ copy-node-put-mark-requires-2 : (t : ℕ) → copy-node-lts.Need-put-mark-requir
 unfolding oneOf
 copy-node-put-mark-requires-2 t c κs = refl
 
-copy-node-same-length : (t : ℕ) → copy-node-lts.Need-same-length (node-calls t) (copy-node-at t) copy-node.Post
-copy-node-same-length t c = search needs
-
 copy-node-returns-2 : (t : ℕ) → copy-node-lts.Need-returns-2 (node-calls t) (copy-node-at t) copy-node.Post
 copy-node-returns-2 t c =
     let at-enum-told = c .before in
@@ -103,9 +91,6 @@ copy-node-returns-2 t c =
       on = nearer (copy-record .ensures .reads);
       is = λ d x h. leaf-placed _ _ (opens _ _ _ (rw (at-enum-told .enum-told .given .1) at (copy-record .ensures .reads)) d x h);
     }
-
-copy-node-same-length-2 : (t : ℕ) → copy-node-lts.Need-same-length-2 (node-calls t) (copy-node-at t) copy-node.Post
-copy-node-same-length-2 t c = search needs
 
 copy-node-returns-3 : (t : ℕ) → copy-node-lts.Need-returns-3 (node-calls t) (copy-node-at t) copy-node.Post
 copy-node-returns-3 t c =
@@ -172,10 +157,6 @@ copy-nodes-loop-again t c =
       going-next _ _ _ (loop .inv .3) (at-loop-test .loop-test .taken) (at-copy-node .copy-node .ensures),
     )
 
-copy-nodes-same-length : (t : ℕ)
-    → copy-nodes-lts.Need-same-length (nodes-calls t) (copy-nodes-at t) copy-nodes.Post copy-nodes-Inv-loop copy-nodes-μ-loop
-copy-nodes-same-length t c = search needs
-
 copy-nodes-returns :
     (t : ℕ) →
     copy-nodes-lts.Need-returns
@@ -187,30 +168,11 @@ copy-nodes-returns :
 copy-nodes-returns t c = record { on = c .before .loop .inv .2; is = going-done _ _ _ (c .before .loop .inv .3) (c .loop-test .left) }
 
 pub +copy-node+copy-nodes-spec : {M : Type 1} → statement M
-+copy-node+copy-nodes-spec = close μ-copy-node μ-copy-nodes (λ t. copy-node-lts.spec (node-calls t)
-    (copy-node-at t)
-    copy-node.Post
-    (copy-node-returns t)
-    (copy-node-copy-record-requires t)
-    (copy-node-enum-told t)
-    (copy-node-enum-known-kind t)
-    (copy-node-copy-nodes-requires t)
-    (copy-node-put-mark-requires t)
-    (copy-node-put-mark-requires-2 t)
-    (copy-node-same-length t)
-    (copy-node-returns-2 t)
-    (copy-node-same-length-2 t)
-    (copy-node-returns-3 t))
-    λ t. copy-nodes-lts.spec
-    (nodes-calls t)
-    (copy-nodes-at t)
-    copy-nodes.Post
-    copy-nodes-Inv-loop
-    copy-nodes-μ-loop
-    (copy-nodes-loop-holds t)
-    (copy-nodes-copy-node-requires t)
-    (copy-nodes-add-k t)
-    (copy-nodes-loop-less t)
-    (copy-nodes-loop-again t)
-    (copy-nodes-same-length t)
-    (copy-nodes-returns t)
++copy-node+copy-nodes-spec =
+    close μ-copy-node μ-copy-nodes
+    (λ t. copy-node-lts.spec (node-calls t) (copy-node-at t) copy-node.Post (copy-node-returns t) (λ c κs. search needs) (λ c. search needs)
+    (λ c. search needs) (copy-node-copy-nodes-requires t) (copy-node-put-mark-requires t) (copy-node-put-mark-requires-2 t)
+    (λ c. search needs) (copy-node-returns-2 t) (λ c. search needs) (copy-node-returns-3 t))
+    λ t. copy-nodes-lts.spec (nodes-calls t) (copy-nodes-at t) copy-nodes.Post copy-nodes-Inv-loop copy-nodes-μ-loop
+    (copy-nodes-loop-holds t) (copy-nodes-copy-node-requires t) (copy-nodes-add-k t) (copy-nodes-loop-less t) (copy-nodes-loop-again t)
+    (λ c. search needs) (copy-nodes-returns t)

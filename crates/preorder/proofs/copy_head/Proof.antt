@@ -15,35 +15,17 @@ use borrow.Author.Needs.{needs}
 use Rattle.preorder.proofs.copy_head.Statement.{statement}
 use Rattle.preorder.proofs.copy_head.Tie as tie
 
-slice-aggregate-put-word : tie.Need-slice-aggregate-put-word
-slice-aggregate-put-word c = search needs
-
 put-word-requires : tie.Need-put-word-requires
 unfolding wordLike all
 put-word-requires c κs = refl
-
-slice-aggregate-put-word-2 : tie.Need-slice-aggregate-put-word-2
-slice-aggregate-put-word-2 c = search needs
 
 put-word-requires-2 : tie.Need-put-word-requires-2
 unfolding wordLike all
 put-word-requires-2 c κs = refl
 
-take-byte-requires : tie.Need-take-byte-requires
-take-byte-requires c κs = search needs
-
-slice-aggregate-put-word-3 : tie.Need-slice-aggregate-put-word-3
-slice-aggregate-put-word-3 c = search needs
-
 put-word-requires-3 : tie.Need-put-word-requires-3
 unfolding wordLike all
 put-word-requires-3 c κs = refl
-
-slice-aggregate-put-choice : tie.Need-slice-aggregate-put-choice
-slice-aggregate-put-choice c = search needs
-
-cast-put-choice : tie.Need-cast-put-choice
-cast-put-choice c = search needs
 
 put-choice-requires : tie.Need-put-choice-requires
 unfolding allWords entries wordLike all
@@ -52,18 +34,9 @@ put-choice-requires c κs =
     let at-take-byte = c4 .before .before .before .before in
     (refl, omega (arith, at-take-byte .take-byte .ensures .small), omega arith)
 
-slice-aggregate-put-word-4 : tie.Need-slice-aggregate-put-word-4
-slice-aggregate-put-word-4 c = search needs
-
 put-word-requires-4 : tie.Need-put-word-requires-4
 unfolding wordLike all
 put-word-requires-4 c κs = refl
-
-copy-opening-requires : tie.Need-copy-opening-requires
-copy-opening-requires c κs = search needs
-
-same-length : tie.Need-same-length
-same-length c = search needs
 
 returns : tie.Need-returns
 returns c =
@@ -71,17 +44,11 @@ returns c =
     let at-match = at-put-word .before .before .before in
     λ t from start b r k end g. sequence-told t b (at-match .match .keys1) (at-put-word .put-word .ensures) g
 
-same-length-2 : tie.Need-same-length-2
-same-length-2 c = search needs
-
 returns-2 : tie.Need-returns-2
 returns-2 c =
     let at-put-word2 = c .before .before in
     let at-match = at-put-word2 .before .before .before in
     λ t from start b r k end g. parallel-told t b (at-match .match .keys2) (at-put-word2 .put-word2 .ensures) g
-
-same-length-3 : tie.Need-same-length-3
-same-length-3 c = search needs
 
 returns-3 : tie.Need-returns-3
 unfolding choose entries
@@ -97,9 +64,6 @@ returns-3 c =
     (at-put-choice .put-choice .ensures modeNames refl)))
     g
 
-same-length-4 : tie.Need-same-length-4
-same-length-4 c = search needs
-
 returns-4 : tie.Need-returns-4
 returns-4 c =
     let at-copy-opening = c .before .before in
@@ -112,26 +76,7 @@ returns-4 c =
 
 pub copy-head-spec : {M : Type 1} → statement M
 copy-head-spec =
-    tie.close
-    (tie.spec
-    slice-aggregate-put-word
-    put-word-requires
-    slice-aggregate-put-word-2
-    put-word-requires-2
-    take-byte-requires
-    slice-aggregate-put-word-3
-    put-word-requires-3
-    slice-aggregate-put-choice
-    cast-put-choice
-    put-choice-requires
-    slice-aggregate-put-word-4
-    put-word-requires-4
-    copy-opening-requires
-    same-length
-    returns
-    same-length-2
-    returns-2
-    same-length-3
-    returns-3
-    same-length-4
-    returns-4)
+    tie.close (tie.spec (λ c. search needs) put-word-requires (λ c. search needs) put-word-requires-2 (λ c κs. search needs)
+    (λ c. search needs) put-word-requires-3 (λ c. search needs) (λ c. search needs) put-choice-requires (λ c. search needs)
+    put-word-requires-4 (λ c κs. search needs) (λ c. search needs) returns (λ c. search needs) returns-2 (λ c. search needs) returns-3
+    (λ c. search needs) returns-4)

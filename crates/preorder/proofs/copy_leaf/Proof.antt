@@ -16,151 +16,49 @@ use Rattle.preorder.proofs.copy_leaf.Statement.{statement}
 use Rattle.preorder.proofs.copy_leaf.Tie as tie
 use Rattle.preorder.proofs.copy_leaf.Reads as reads
 
-slice-aggregate-put-word : tie.Need-slice-aggregate-put-word
-slice-aggregate-put-word c = search needs
-
 put-word-requires : tie.Need-put-word-requires
 unfolding wordLike all
 put-word-requires c κs = refl
-
-copy-tween-requires : tie.Need-copy-tween-requires
-copy-tween-requires c κs = search needs
-
-leaf-requires : tie.Need-leaf-requires
-leaf-requires c κs = search needs
-
-slice-aggregate-put-word-2 : tie.Need-slice-aggregate-put-word-2
-slice-aggregate-put-word-2 c = search needs
 
 put-word-requires-2 : tie.Need-put-word-requires-2
 unfolding wordLike all
 put-word-requires-2 c κs = refl
 
-copy-spring-requires : tie.Need-copy-spring-requires
-copy-spring-requires c κs = search needs
-
-leaf-requires-2 : tie.Need-leaf-requires-2
-leaf-requires-2 c κs = search needs
-
-slice-aggregate-put-word-3 : tie.Need-slice-aggregate-put-word-3
-slice-aggregate-put-word-3 c = search needs
-
 put-word-requires-3 : tie.Need-put-word-requires-3
 unfolding wordLike all
 put-word-requires-3 c κs = refl
-
-copy-keyframes-requires : tie.Need-copy-keyframes-requires
-copy-keyframes-requires c κs = search needs
-
-leaf-requires-3 : tie.Need-leaf-requires-3
-leaf-requires-3 c κs = search needs
-
-slice-aggregate-put-word-4 : tie.Need-slice-aggregate-put-word-4
-slice-aggregate-put-word-4 c = search needs
 
 put-word-requires-4 : tie.Need-put-word-requires-4
 unfolding wordLike all
 put-word-requires-4 c κs = refl
 
-copy-path-requires : tie.Need-copy-path-requires
-copy-path-requires c κs = search needs
-
-leaf-requires-4 : tie.Need-leaf-requires-4
-leaf-requires-4 c κs = search needs
-
-slice-aggregate-put-word-5 : tie.Need-slice-aggregate-put-word-5
-slice-aggregate-put-word-5 c = search needs
-
 put-word-requires-5 : tie.Need-put-word-requires-5
 unfolding wordLike all
 put-word-requires-5 c κs = refl
-
-copy-morph-requires : tie.Need-copy-morph-requires
-copy-morph-requires c κs = search needs
-
-leaf-requires-5 : tie.Need-leaf-requires-5
-leaf-requires-5 c κs = search needs
-
-slice-aggregate-put-word-6 : tie.Need-slice-aggregate-put-word-6
-slice-aggregate-put-word-6 c = search needs
 
 put-word-requires-6 : tie.Need-put-word-requires-6
 unfolding wordLike all
 put-word-requires-6 c κs = refl
 
-copy-draw-requires : tie.Need-copy-draw-requires
-copy-draw-requires c κs = search needs
-
-leaf-requires-6 : tie.Need-leaf-requires-6
-leaf-requires-6 c κs = search needs
-
-slice-aggregate-put-word-7 : tie.Need-slice-aggregate-put-word-7
-slice-aggregate-put-word-7 c = search needs
-
 put-word-requires-7 : tie.Need-put-word-requires-7
 unfolding wordLike all
 put-word-requires-7 c κs = refl
-
-copy-color-requires : tie.Need-copy-color-requires
-copy-color-requires c κs = search needs
-
-leaf-requires-7 : tie.Need-leaf-requires-7
-leaf-requires-7 c κs = search needs
-
-slice-aggregate-put-word-8 : tie.Need-slice-aggregate-put-word-8
-slice-aggregate-put-word-8 c = search needs
 
 put-word-requires-8 : tie.Need-put-word-requires-8
 unfolding wordLike all
 put-word-requires-8 c κs = refl
 
-copy-waveform-requires : tie.Need-copy-waveform-requires
-copy-waveform-requires c κs = search needs
-
-leaf-requires-8 : tie.Need-leaf-requires-8
-leaf-requires-8 c κs = search needs
-
-slice-aggregate-put-word-9 : tie.Need-slice-aggregate-put-word-9
-slice-aggregate-put-word-9 c = search needs
-
 put-word-requires-9 : tie.Need-put-word-requires-9
 unfolding wordLike all
 put-word-requires-9 c κs = refl
-
-copy-preset-requires : tie.Need-copy-preset-requires
-copy-preset-requires c κs = search needs
-
-leaf-requires-9 : tie.Need-leaf-requires-9
-leaf-requires-9 c κs = search needs
-
-slice-aggregate-put-word-10 : tie.Need-slice-aggregate-put-word-10
-slice-aggregate-put-word-10 c = search needs
 
 put-word-requires-10 : tie.Need-put-word-requires-10
 unfolding wordLike all
 put-word-requires-10 c κs = refl
 
-copy-label-requires : tie.Need-copy-label-requires
-copy-label-requires c κs = search needs
-
-leaf-requires-10 : tie.Need-leaf-requires-10
-leaf-requires-10 c κs = search needs
-
-slice-aggregate-put-word-11 : tie.Need-slice-aggregate-put-word-11
-slice-aggregate-put-word-11 c = search needs
-
 put-word-requires-11 : tie.Need-put-word-requires-11
 unfolding wordLike all
 put-word-requires-11 c κs = refl
-
-copy-at-requires : tie.Need-copy-at-requires
-copy-at-requires c κs = search needs
-
-leaf-requires-11 : tie.Need-leaf-requires-11
-leaf-requires-11 c κs = search needs
-
-same-length : tie.Need-same-length
-same-length c = search needs
 
 returns : tie.Need-returns
 unfolding leafWord
@@ -179,9 +77,6 @@ returns c =
           (λ x e i. e i .1);
     })
 
-same-length-2 : tie.Need-same-length-2
-same-length-2 c = search needs
-
 returns-2 : tie.Need-returns-2
 unfolding leafWord
 returns-2 c =
@@ -198,9 +93,6 @@ returns-2 c =
           (in-front (spell "spring") (at-put-word2 .put-word2 .ensures) (at-copy-spring .copy-spring .ensures)))
           (λ x e i. e i .1);
     })
-
-same-length-3 : tie.Need-same-length-3
-same-length-3 c = search needs
 
 returns-3 : tie.Need-returns-3
 unfolding leafWord
@@ -219,9 +111,6 @@ returns-3 c =
           (λ x e i. e i .1);
     })
 
-same-length-4 : tie.Need-same-length-4
-same-length-4 c = search needs
-
 returns-4 : tie.Need-returns-4
 unfolding leafWord
 returns-4 c =
@@ -238,9 +127,6 @@ returns-4 c =
           (in-front (spell "path") (at-put-word4 .put-word4 .ensures) (at-copy-path .copy-path .ensures)))
           (λ x e i. e i .1);
     })
-
-same-length-5 : tie.Need-same-length-5
-same-length-5 c = search needs
 
 returns-5 : tie.Need-returns-5
 unfolding leafWord
@@ -259,9 +145,6 @@ returns-5 c =
           (λ x e i. e i .1);
     })
 
-same-length-6 : tie.Need-same-length-6
-same-length-6 c = search needs
-
 returns-6 : tie.Need-returns-6
 unfolding leafWord
 returns-6 c =
@@ -278,9 +161,6 @@ returns-6 c =
           (in-front (spell "draw") (at-put-word6 .put-word6 .ensures) (at-copy-draw .copy-draw .ensures)))
           (λ x e i. e i .1);
     })
-
-same-length-7 : tie.Need-same-length-7
-same-length-7 c = search needs
 
 returns-7 : tie.Need-returns-7
 unfolding leafWord
@@ -299,9 +179,6 @@ returns-7 c =
           (λ x e i. e i .1);
     })
 
-same-length-8 : tie.Need-same-length-8
-same-length-8 c = search needs
-
 returns-8 : tie.Need-returns-8
 unfolding leafWord
 returns-8 c =
@@ -318,9 +195,6 @@ returns-8 c =
           (in-front (spell "waveform") (at-put-word8 .put-word8 .ensures) (at-copy-waveform .copy-waveform .ensures (args .text .now))))
           (λ x e i. e i .1);
     })
-
-same-length-9 : tie.Need-same-length-9
-same-length-9 c = search needs
 
 returns-9 : tie.Need-returns-9
 unfolding leafWord
@@ -339,9 +213,6 @@ returns-9 c =
           (λ x e i. e i .1);
     })
 
-same-length-10 : tie.Need-same-length-10
-same-length-10 c = search needs
-
 returns-10 : tie.Need-returns-10
 unfolding leafWord
 returns-10 c =
@@ -358,9 +229,6 @@ returns-10 c =
           (in-front (spell "label") (at-put-word10 .put-word10 .ensures) (at-copy-label .copy-label .ensures)))
           (λ x e i. e i .1);
     })
-
-same-length-11 : tie.Need-same-length-11
-same-length-11 c = search needs
 
 returns-11 : tie.Need-returns-11
 unfolding leafWord
@@ -384,71 +252,14 @@ returns-11 c =
 
 pub copy-leaf-spec : {M : Type 1} → statement M
 copy-leaf-spec =
-    tie.close
-    (tie.spec
-    slice-aggregate-put-word
-    put-word-requires
-    copy-tween-requires
-    leaf-requires
-    slice-aggregate-put-word-2
-    put-word-requires-2
-    copy-spring-requires
-    leaf-requires-2
-    slice-aggregate-put-word-3
-    put-word-requires-3
-    copy-keyframes-requires
-    leaf-requires-3
-    slice-aggregate-put-word-4
-    put-word-requires-4
-    copy-path-requires
-    leaf-requires-4
-    slice-aggregate-put-word-5
-    put-word-requires-5
-    copy-morph-requires
-    leaf-requires-5
-    slice-aggregate-put-word-6
-    put-word-requires-6
-    copy-draw-requires
-    leaf-requires-6
-    slice-aggregate-put-word-7
-    put-word-requires-7
-    copy-color-requires
-    leaf-requires-7
-    slice-aggregate-put-word-8
-    put-word-requires-8
-    copy-waveform-requires
-    leaf-requires-8
-    slice-aggregate-put-word-9
-    put-word-requires-9
-    copy-preset-requires
-    leaf-requires-9
-    slice-aggregate-put-word-10
-    put-word-requires-10
-    copy-label-requires
-    leaf-requires-10
-    slice-aggregate-put-word-11
-    put-word-requires-11
-    copy-at-requires
-    leaf-requires-11
-    same-length
-    returns
-    same-length-2
-    returns-2
-    same-length-3
-    returns-3
-    same-length-4
-    returns-4
-    same-length-5
-    returns-5
-    same-length-6
-    returns-6
-    same-length-7
-    returns-7
-    same-length-8
-    returns-8
-    same-length-9
-    returns-9
-    same-length-10
-    returns-10
-    same-length-11
-    returns-11)
+    tie.close (tie.spec (λ c. search needs) put-word-requires (λ c κs. search needs) (λ c κs. search needs) (λ c. search needs)
+    put-word-requires-2 (λ c κs. search needs) (λ c κs. search needs) (λ c. search needs) put-word-requires-3 (λ c κs. search needs)
+    (λ c κs. search needs) (λ c. search needs) put-word-requires-4 (λ c κs. search needs) (λ c κs. search needs) (λ c. search needs)
+    put-word-requires-5 (λ c κs. search needs) (λ c κs. search needs) (λ c. search needs) put-word-requires-6 (λ c κs. search needs)
+    (λ c κs. search needs) (λ c. search needs) put-word-requires-7 (λ c κs. search needs) (λ c κs. search needs) (λ c. search needs)
+    put-word-requires-8 (λ c κs. search needs) (λ c κs. search needs) (λ c. search needs) put-word-requires-9 (λ c κs. search needs)
+    (λ c κs. search needs) (λ c. search needs) put-word-requires-10 (λ c κs. search needs) (λ c κs. search needs) (λ c. search needs)
+    put-word-requires-11 (λ c κs. search needs) (λ c κs. search needs) (λ c. search needs) returns (λ c. search needs) returns-2
+    (λ c. search needs) returns-3 (λ c. search needs) returns-4 (λ c. search needs) returns-5 (λ c. search needs) returns-6
+    (λ c. search needs) returns-7 (λ c. search needs) returns-8 (λ c. search needs) returns-9 (λ c. search needs) returns-10
+    (λ c. search needs) returns-11)

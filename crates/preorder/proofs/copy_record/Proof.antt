@@ -5,22 +5,10 @@ use borrow.Author.Needs.{needs}
 use Rattle.preorder.proofs.copy_record.Statement.{statement}
 use Rattle.preorder.proofs.copy_record.Tie as tie
 
-take-kind-requires : tie.Need-take-kind-requires
-take-kind-requires c κs = search needs
-
-copy-head-requires : tie.Need-copy-head-requires
-copy-head-requires c κs = search needs
-
-holding-requires : tie.Need-holding-requires
-holding-requires c κs = search needs
-
 copy-leaf-requires : tie.Need-copy-leaf-requires
 copy-leaf-requires c κs =
     let at-take-kind = c .before .before in
     (⊎-elim (λ w. inl (omega arith)) (λ w. inr (omega arith)) (c .before .if1 .came), at-take-kind .take-kind .ensures .kindAt .small)
-
-same-length : tie.Need-same-length
-same-length c = search needs
 
 returns : tie.Need-returns
 returns c =
@@ -28,9 +16,6 @@ returns c =
     let at-copy-head = at-holding .before .before .before .before in
     let at-take-kind = at-copy-head .before .before .before .before in
     at-copy-head .copy-head .ensures _ _ _ (at-take-kind .take-kind .ensures) _ _ _ (at-holding .holding .ensures)
-
-same-length-2 : tie.Need-same-length-2
-same-length-2 c = search needs
 
 returns-2 : tie.Need-returns-2
 returns-2 c =
@@ -40,13 +25,5 @@ returns-2 c =
 
 pub copy-record-spec : {M : Type 1} → statement M
 copy-record-spec =
-    tie.close
-    (tie.spec
-    take-kind-requires
-    copy-head-requires
-    holding-requires
-    copy-leaf-requires
-    same-length
-    returns
-    same-length-2
-    returns-2)
+    tie.close (tie.spec (λ c κs. search needs) (λ c κs. search needs) (λ c κs. search needs) copy-leaf-requires (λ c. search needs) returns
+    (λ c. search needs) returns-2)

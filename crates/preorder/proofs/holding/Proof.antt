@@ -8,18 +8,9 @@ use Rattle.preorder.proofs.holding.Statement.{statement}
 use Rattle.preorder.proofs.holding.Tie as tie
 use Rattle.preorder.proofs.holding.Reads as reads
 
-take-field-requires : tie.Need-take-field-requires
-take-field-requires c κs = search needs
-
-cast-t5 : tie.Need-cast-t5
-cast-t5 c = search needs
-
 put-mark-requires : tie.Need-put-mark-requires
 unfolding oneOf
 put-mark-requires c κs = refl
-
-same-length : tie.Need-same-length
-same-length c = search needs
 
 returns : tie.Need-returns
 returns c =
@@ -28,5 +19,4 @@ returns c =
     record { count = _; holds = refl; reads = at-take-field .take-field .ensures .reads; puts = at-put-mark .put-mark .ensures }
 
 pub holding-spec : {M : Type 1} → statement M
-holding-spec =
-    tie.close (tie.spec take-field-requires cast-t5 put-mark-requires same-length returns)
+holding-spec = tie.close (tie.spec (λ c κs. search needs) (λ c. search needs) put-mark-requires (λ c. search needs) returns)

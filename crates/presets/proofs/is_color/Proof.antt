@@ -7,15 +7,6 @@ use Rattle.presets.proofs.ColorLaws.{color-hex, color-name}
 use Rattle.presets.proofs.is_color.Statement.{statement}
 use Rattle.presets.proofs.is_color.Tie as tie
 
-byte-at-requires : tie.Need-byte-at-requires
-byte-at-requires c κs = search needs
-
-part-requires : tie.Need-part-requires
-part-requires c κs = search needs
-
-is-hex-color-requires : tie.Need-is-hex-color-requires
-is-hex-color-requires c κs = search needs
-
 returns : tie.Need-returns
 returns c =
     let at-part = c .before in
@@ -26,12 +17,6 @@ returns c =
     ∙ color-hex _ (start .args .s .now) (at-byte-at .byte-at .result) (at-byte-at .byte-at .ensures) _ (at-if1 .if1 .taken)
     (at-part .part .ensures)
 
-slice-aggregate-lower-into : tie.Need-slice-aggregate-lower-into
-slice-aggregate-lower-into c = search needs
-
-lower-into-requires : tie.Need-lower-into-requires
-lower-into-requires c κs = search needs
-
 array-share-prefix-name : tie.Need-array-share-prefix-name
 array-share-prefix-name c = puts-fits (c .before .lower-into .ensures)
 
@@ -39,9 +24,6 @@ slice-aggregate-is-listed : tie.Need-slice-aggregate-is-listed
 slice-aggregate-is-listed c =
     let lower-into = c .before .before .lower-into in
     sym (length-take-le (lower-into .result) (lower-into .last .1 .0) (puts-fits (lower-into .ensures)))
-
-is-listed-requires : tie.Need-is-listed-requires
-is-listed-requires c κs = search needs
 
 returns-2 : tie.Need-returns-2
 returns-2 c =
@@ -55,15 +37,5 @@ returns-2 c =
 
 pub is-color-spec : {M : Type 1} → statement M
 is-color-spec =
-    tie.close
-    (tie.spec
-    byte-at-requires
-    part-requires
-    is-hex-color-requires
-    returns
-    slice-aggregate-lower-into
-    lower-into-requires
-    array-share-prefix-name
-    slice-aggregate-is-listed
-    is-listed-requires
-    returns-2)
+    tie.close (tie.spec (λ c κs. search needs) (λ c κs. search needs) (λ c κs. search needs) returns (λ c. search needs)
+    (λ c κs. search needs) array-share-prefix-name slice-aggregate-is-listed (λ c κs. search needs) returns-2)

@@ -5,12 +5,6 @@ use Rattle.presets.proofs.ColorLaws.{hex-digits, hex-no}
 use Rattle.presets.proofs.is_hex_color.Statement.{statement}
 use Rattle.presets.proofs.is_hex_color.Tie as tie
 
-is-hex-size-requires : tie.Need-is-hex-size-requires
-is-hex-size-requires c κs = search needs
-
-run-end-requires : tie.Need-run-end-requires
-run-end-requires c κs = search needs
-
 returns : tie.Need-returns
 returns c =
     let at-is-hex-size = c .before .before in
@@ -22,4 +16,4 @@ returns-2 : tie.Need-returns-2
 returns-2 c = hex-no (c .before .before .before .args .digits .now) (sym (c .before .is-hex-size .ensures) ∙ c .if1 .left)
 
 pub is-hex-color-spec : {M : Type 1} → statement M
-is-hex-color-spec = tie.close (tie.spec is-hex-size-requires run-end-requires returns returns-2)
+is-hex-color-spec = tie.close (tie.spec (λ c κs. search needs) (λ c κs. search needs) returns returns-2)

@@ -6,19 +6,9 @@ use Rattle.presets.specs.Presets.{isPreset}
 use Rattle.presets.proofs.is_known_preset.Statement.{statement}
 use Rattle.presets.proofs.is_known_preset.Tie as tie
 
-slice-aggregate-is-listed : tie.Need-slice-aggregate-is-listed
-slice-aggregate-is-listed c = search needs
-
-part-requires : tie.Need-part-requires
-part-requires c κs = search needs
-
-is-listed-requires : tie.Need-is-listed-requires
-is-listed-requires c κs = search needs
-
 returns : tie.Need-returns
 unfolding entries isPreset
 returns c = c .is-listed .ensures ∙ (rw (c .before .part .ensures))
 
 pub is-known-preset-spec : {M : Type 1} → statement M
-is-known-preset-spec =
-    tie.close (tie.spec slice-aggregate-is-listed part-requires is-listed-requires returns)
+is-known-preset-spec = tie.close (tie.spec (λ c. search needs) (λ c κs. search needs) (λ c κs. search needs) returns)

@@ -5,12 +5,6 @@ use Rattle.text.specs.Words.{entries, shorter}
 use Rattle.presets.proofs.is_valid_color.Statement.{statement}
 use Rattle.presets.proofs.is_valid_color.Tie as tie
 
-slice-aggregate-is-color : tie.Need-slice-aggregate-is-color
-slice-aggregate-is-color c = search needs
-
-part-requires : tie.Need-part-requires
-part-requires c κs = search needs
-
 is-color-requires : tie.Need-is-color-requires
 unfolding entries shorter
 is-color-requires c κs = refl
@@ -20,5 +14,4 @@ unfolding entries
 returns c = c .is-color .ensures ∙ (rw (c .before .part .ensures))
 
 pub is-valid-color-spec : {M : Type 1} → statement M
-is-valid-color-spec =
-    tie.close (tie.spec slice-aggregate-is-color part-requires is-color-requires returns)
+is-valid-color-spec = tie.close (tie.spec (λ c. search needs) (λ c κs. search needs) is-color-requires returns)

@@ -31,18 +31,6 @@ put-decimal-calls t = (put-reads.Asked, put-reads.Learnt, put-decimal-below t, p
 put-decimal-returns : (t : ℕ) → put-decimal-lts.Need-returns (put-decimal-calls t) (put-decimal-at t) put-decimal.Post
 put-decimal-returns t c = rw (decimal-none _ (c .before .before .args .n) (c .if1 .taken)) (puts-none _ _)
 
-put-decimal-cast-put : (t : ℕ) → put-decimal-lts.Need-cast-put (put-decimal-calls t) (put-decimal-at t) put-decimal.Post
-put-decimal-cast-put t c = search needs
-
-put-decimal-add-put : (t : ℕ) → put-decimal-lts.Need-add-put (put-decimal-calls t) (put-decimal-at t) put-decimal.Post
-put-decimal-add-put t c = search needs
-
-put-decimal-put-requires : (t : ℕ) → put-decimal-lts.Need-put-requires (put-decimal-calls t) (put-decimal-at t) put-decimal.Post
-put-decimal-put-requires t c κs = search needs
-
-put-decimal-same-length : (t : ℕ) → put-decimal-lts.Need-same-length (put-decimal-calls t) (put-decimal-at t) put-decimal.Post
-put-decimal-same-length t c = search needs
-
 put-decimal-returns-2 : (t : ℕ) → put-decimal-lts.Need-returns-2 (put-decimal-calls t) (put-decimal-at t) put-decimal.Post
 put-decimal-returns-2 t c =
     let at-put = c .before .before in
@@ -50,25 +38,6 @@ put-decimal-returns-2 t c =
     let at-if1 = tests .before in
     let start = at-if1 .before .before in
     rw (decimal-one (start .args .digits) (start .args .n) (omega (arith, at-if1 .if1 .left)) (tests .if2 .taken)) (at-put .put .ensures)
-
-put-decimal-sub-put-decimal : (t : ℕ) → put-decimal-lts.Need-sub-put-decimal (put-decimal-calls t) (put-decimal-at t) put-decimal.Post
-put-decimal-sub-put-decimal t c = search needs
-
-put-decimal-put-decimal-requires : (t : ℕ)
-    → put-decimal-lts.Need-put-decimal-requires (put-decimal-calls t) (put-decimal-at t) put-decimal.Post
-put-decimal-put-decimal-requires t c κs = search needs
-
-put-decimal-cast-put-2 : (t : ℕ) → put-decimal-lts.Need-cast-put-2 (put-decimal-calls t) (put-decimal-at t) put-decimal.Post
-put-decimal-cast-put-2 t c = search needs
-
-put-decimal-add-put-2 : (t : ℕ) → put-decimal-lts.Need-add-put-2 (put-decimal-calls t) (put-decimal-at t) put-decimal.Post
-put-decimal-add-put-2 t c = search needs
-
-put-decimal-put-requires-2 : (t : ℕ) → put-decimal-lts.Need-put-requires-2 (put-decimal-calls t) (put-decimal-at t) put-decimal.Post
-put-decimal-put-requires-2 t c κs = search needs
-
-put-decimal-same-length-2 : (t : ℕ) → put-decimal-lts.Need-same-length-2 (put-decimal-calls t) (put-decimal-at t) put-decimal.Post
-put-decimal-same-length-2 t c = search needs
 
 put-decimal-returns-3 : (t : ℕ) → put-decimal-lts.Need-returns-3 (put-decimal-calls t) (put-decimal-at t) put-decimal.Post
 put-decimal-returns-3 t c =
@@ -81,19 +50,8 @@ put-decimal-returns-3 t c =
     (puts-then (front .put-decimal .ensures) (at-put2 .put2 .ensures))
 
 pub +put-decimal-spec : {M : Type 1} → statement M
-+put-decimal-spec = close μ-put-decimal λ t. put-decimal-lts.spec (put-decimal-calls t)
-    (put-decimal-at t)
-    put-decimal.Post
-    (put-decimal-returns t)
-    (put-decimal-cast-put t)
-    (put-decimal-add-put t)
-    (put-decimal-put-requires t)
-    (put-decimal-same-length t)
-    (put-decimal-returns-2 t)
-    (put-decimal-sub-put-decimal t)
-    (put-decimal-put-decimal-requires t)
-    (put-decimal-cast-put-2 t)
-    (put-decimal-add-put-2 t)
-    (put-decimal-put-requires-2 t)
-    (put-decimal-same-length-2 t)
-    (put-decimal-returns-3 t)
++put-decimal-spec =
+    close μ-put-decimal
+    λ t. put-decimal-lts.spec (put-decimal-calls t) (put-decimal-at t) put-decimal.Post (put-decimal-returns t) (λ c. search needs)
+    (λ c. search needs) (λ c κs. search needs) (λ c. search needs) (put-decimal-returns-2 t) (λ c. search needs) (λ c κs. search needs)
+    (λ c. search needs) (λ c. search needs) (λ c κs. search needs) (λ c. search needs) (put-decimal-returns-3 t)

@@ -10,42 +10,6 @@ use Rattle.print.proofs.print.Tie as tie
 returns : tie.Need-returns
 returns c = with-values lineValues (page-short _ _ _ _ _ (omega arith))
 
-read-and-check-requires : tie.Need-read-and-check-requires
-read-and-check-requires c κs = search needs
-
-enum-known-refusal : tie.Need-enum-known-refusal
-enum-known-refusal c = search needs
-
-put-refusal-requires : tie.Need-put-refusal-requires
-put-refusal-requires c κs = search needs
-
-enum-known-length : tie.Need-enum-known-length
-enum-known-length c = search needs
-
-enum-known-answer : tie.Need-enum-known-answer
-enum-known-answer c = search needs
-
-put-refusal-requires-2 : tie.Need-put-refusal-requires-2
-put-refusal-requires-2 c κs = search needs
-
-enum-told : tie.Need-enum-told
-enum-told c = search needs
-
-part-requires : tie.Need-part-requires
-part-requires c κs = search needs
-
-put-lines-requires : tie.Need-put-lines-requires
-put-lines-requires c κs = search needs
-
-same-length : tie.Need-same-length
-same-length c = search needs
-
-same-length-2 : tie.Need-same-length-2
-same-length-2 c = search needs
-
-same-length-3 : tie.Need-same-length-3
-same-length-3 c = search needs
-
 returns-2 : tie.Need-returns-2
 returns-2 c =
     let at-put-refusal = c .before .before in
@@ -56,15 +20,6 @@ returns-2 c =
     with-values lineValues (page-unread _ _ _ _ _ (omega (arith, at-if1 .if1 .left))
     (rw (at-refusal .refusal .given .1) at (at-read-and-check .read-and-check .ensures .0))
     (at-put-refusal .put-refusal .ensures))
-
-same-length-4 : tie.Need-same-length-4
-same-length-4 c = search needs
-
-same-length-5 : tie.Need-same-length-5
-same-length-5 c = search needs
-
-same-length-6 : tie.Need-same-length-6
-same-length-6 c = search needs
 
 returns-3 : tie.Need-returns-3
 returns-3 c =
@@ -78,15 +33,6 @@ returns-3 c =
     (rw (at-length .length .given .1) at (at-read-and-check .read-and-check .ensures .0))
     (rw (at-length .length .given .1, at-answer .answer .given .1) at (at-read-and-check .read-and-check .ensures .1 .0))
     (at-put-refusal2 .put-refusal2 .ensures))
-
-same-length-7 : tie.Need-same-length-7
-same-length-7 c = search needs
-
-same-length-8 : tie.Need-same-length-8
-same-length-8 c = search needs
-
-same-length-9 : tie.Need-same-length-9
-same-length-9 c = search needs
 
 returns-4 : tie.Need-returns-4
 returns-4 c =
@@ -104,27 +50,7 @@ returns-4 c =
 
 pub print-spec : {M : Type 1} → statement M
 print-spec =
-    tie.close
-    (tie.spec
-    returns
-    read-and-check-requires
-    enum-known-refusal
-    put-refusal-requires
-    enum-known-length
-    enum-known-answer
-    put-refusal-requires-2
-    enum-told
-    part-requires
-    put-lines-requires
-    same-length
-    same-length-2
-    same-length-3
-    returns-2
-    same-length-4
-    same-length-5
-    same-length-6
-    returns-3
-    same-length-7
-    same-length-8
-    same-length-9
-    returns-4)
+    tie.close (tie.spec returns (λ c κs. search needs) (λ c. search needs) (λ c κs. search needs) (λ c. search needs) (λ c. search needs)
+    (λ c κs. search needs) (λ c. search needs) (λ c κs. search needs) (λ c κs. search needs) (λ c. search needs) (λ c. search needs)
+    (λ c. search needs) returns-2 (λ c. search needs) (λ c. search needs) (λ c. search needs) returns-3 (λ c. search needs)
+    (λ c. search needs) (λ c. search needs) returns-4)

@@ -24,23 +24,11 @@ Inv-loop sheet text-len count page₀ start₀ end₀ ordinal₀ at₀ page star
 abbrev μ-loop : tie.MeasureT-loop
 μ-loop sheet text-len count page₀ start₀ end₀ ordinal₀ at₀ page start end ordinal at = length sheet - end
 
-take-field-requires : tie.Need-take-field-requires Inv-loop μ-loop
-take-field-requires c κs = search needs
-
 loop-holds : tie.Need-loop-holds Inv-loop μ-loop
 loop-holds c = (omega arith, omega arith, refl, λ ns e. goes _ _ (first _ _ ns e (c .take-field .ensures .reads)))
 
 sub-has-room : tie.Need-sub-has-room Inv-loop μ-loop
 sub-has-room c = omega arith
-
-has-room-requires : tie.Need-has-room-requires Inv-loop μ-loop
-has-room-requires c κs = search needs
-
-put-refusal-requires : tie.Need-put-refusal-requires Inv-loop μ-loop
-put-refusal-requires c κs = search needs
-
-same-length : tie.Need-same-length Inv-loop μ-loop
-same-length c = search needs
 
 returns : tie.Need-returns Inv-loop μ-loop
 returns c =
@@ -55,18 +43,6 @@ returns c =
 sub-part : tie.Need-sub-part Inv-loop μ-loop
 sub-part c = omega arith
 
-part-requires : tie.Need-part-requires Inv-loop μ-loop
-part-requires c κs = search needs
-
-put-line-requires : tie.Need-put-line-requires Inv-loop μ-loop
-put-line-requires c κs = search needs
-
-put-accept-requires : tie.Need-put-accept-requires Inv-loop μ-loop
-put-accept-requires c κs = search needs
-
-same-length-2 : tie.Need-same-length-2 Inv-loop μ-loop
-same-length-2 c = search needs
-
 returns-2 : tie.Need-returns-2 Inv-loop μ-loop
 returns-2 c =
     let at-put-accept = c .before .before in
@@ -79,9 +55,6 @@ returns-2 c =
     λ ns e. goes-last (at-loop .loop .inv .3 ns e)
     (sym (at-has-room .has-room .ensures) ∙ not-false (at-has-room .has-room .result) (at-if1 .if1 .left))
     (rw (at-part .part .ensures) at (at-put-line .put-line .ensures)) (at-if2 .if2 .taken) (at-put-accept .put-accept .ensures)
-
-take-record-requires : tie.Need-take-record-requires Inv-loop μ-loop
-take-record-requires c κs = search needs
 
 add-ordinal : tie.Need-add-ordinal Inv-loop μ-loop
 add-ordinal c = omega arith
@@ -108,24 +81,6 @@ loop-again c =
 
 pub put-lines-spec : {M : Type 1} → statement M
 put-lines-spec =
-    tie.close
-    (tie.spec
-    Inv-loop
-    μ-loop
-    take-field-requires
-    loop-holds
-    sub-has-room
-    has-room-requires
-    put-refusal-requires
-    same-length
-    returns
-    sub-part
-    part-requires
-    put-line-requires
-    put-accept-requires
-    same-length-2
-    returns-2
-    take-record-requires
-    add-ordinal
-    loop-less
-    loop-again)
+    tie.close (tie.spec Inv-loop μ-loop (λ c κs. search needs) loop-holds sub-has-room (λ c κs. search needs) (λ c κs. search needs)
+    (λ c. search needs) returns sub-part (λ c κs. search needs) (λ c κs. search needs) (λ c κs. search needs) (λ c. search needs) returns-2
+    (λ c κs. search needs) add-ordinal loop-less loop-again)

@@ -18,9 +18,6 @@ abbrev μ-loop : tie.MeasureT-loop
 loop-holds : tie.Need-loop-holds Inv-loop μ-loop
 loop-holds c = counted-none (c .before .args .text .now) (c .before .args .c) (c .before .pre)
 
-sees-requires : tie.Need-sees-requires Inv-loop μ-loop
-sees-requires c κs = search needs
-
 add-n : tie.Need-add-n Inv-loop μ-loop
 add-n c =
     let at-loop = c .before .before in
@@ -82,4 +79,4 @@ returns c =
     (sym (c .before .sees .ensures (args .text .now) (loop .inv .ready)) ∙ not-false _ (c .if1 .left))
 
 pub count-from-spec : {M : Type 1} → statement M
-count-from-spec = tie.close (tie.spec Inv-loop μ-loop loop-holds sees-requires add-n advance-requires loop-less loop-again returns)
+count-from-spec = tie.close (tie.spec Inv-loop μ-loop loop-holds (λ c κs. search needs) add-n advance-requires loop-less loop-again returns)

@@ -7,11 +7,8 @@ use Rattle.reader.proofs.is_blank.Tie as tie
 returns : tie.Need-returns
 returns c = blank-long _ (c .if1 .taken)
 
-count-tokens-requires : tie.Need-count-tokens-requires
-count-tokens-requires c κs = search needs
-
 returns-2 : tie.Need-returns-2
 returns-2 c = blank-counted _ _ (c .before .if1 .left) (c .count-tokens .ensures)
 
 pub is-blank-spec : {M : Type 1} → statement M
-is-blank-spec = tie.close (tie.spec returns count-tokens-requires returns-2)
+is-blank-spec = tie.close (tie.spec returns (λ c κs. search needs) returns-2)

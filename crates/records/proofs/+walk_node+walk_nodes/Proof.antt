@@ -49,26 +49,11 @@ node-calls t = (lost-reads.Asked, lost-reads.Learnt, take-record-reads.Asked, ta
 abbrev nodes-calls : ℕ → walk-nodes-lts.Claims
 nodes-calls t = (walk-node-below t, walk-node.Post)
 
-walk-node-lost-requires : (t : ℕ) → walk-node-lts.Need-lost-requires (node-calls t) (walk-node-at t) walk-node.Post
-walk-node-lost-requires t c κs = search needs
-
 walk-node-returns : (t : ℕ) → walk-node-lts.Need-returns (node-calls t) (walk-node-at t) walk-node.Post
 walk-node-returns t c =
     let at-if1 = c .before in
     let start = at-if1 .before .before in
     walks.node-end (start .args .n) (inner (start .args .n) (start .args .depth)) _ _ (at-if1 .if1 .taken) (c .lost .ensures)
-
-walk-node-take-record-requires : (t : ℕ) → walk-node-lts.Need-take-record-requires (node-calls t) (walk-node-at t) walk-node.Post
-walk-node-take-record-requires t c κs = search needs
-
-walk-node-enum-told : (t : ℕ) → walk-node-lts.Need-enum-told (node-calls t) (walk-node-at t) walk-node.Post
-walk-node-enum-told t c = search needs
-
-walk-node-enum-known-kind : (t : ℕ) → walk-node-lts.Need-enum-known-kind (node-calls t) (walk-node-at t) walk-node.Post
-walk-node-enum-known-kind t c = search needs
-
-walk-node-lost-requires-2 : (t : ℕ) → walk-node-lts.Need-lost-requires-2 (node-calls t) (walk-node-at t) walk-node.Post
-walk-node-lost-requires-2 t c κs = search needs
 
 walk-node-returns-2 : (t : ℕ) → walk-node-lts.Need-returns-2 (node-calls t) (walk-node-at t) walk-node.Post
 walk-node-returns-2 t c =
@@ -84,9 +69,6 @@ walk-node-returns-2 t c =
     (rw (at-kind .kind .given .1) at (at-take-record .take-record .ensures))
     (walks.is-container (at-kind .kind .given .0 .0))
     (c .lost2 .ensures)
-
-walk-node-sub-walk-nodes : (t : ℕ) → walk-node-lts.Need-sub-walk-nodes (node-calls t) (walk-node-at t) walk-node.Post
-walk-node-sub-walk-nodes t c = search needs
 
 walk-node-walk-nodes-requires : (t : ℕ) → walk-node-lts.Need-walk-nodes-requires (node-calls t) (walk-node-at t) walk-node.Post
 walk-node-walk-nodes-requires t c κs =
@@ -162,29 +144,11 @@ walk-nodes-returns t c =
     walks.going-done (start .args .n) (inner (start .args .n) (start .args .depth)) _ _ _ _ _ (c .loop-test .left) (at-loop .loop .inv .2)
 
 pub +walk-node+walk-nodes-spec : {M : Type 1} → statement M
-+walk-node+walk-nodes-spec = close μ-walk-node μ-walk-nodes (λ t. walk-node-lts.spec (node-calls t)
-    (walk-node-at t)
-    walk-node.Post
-    (walk-node-lost-requires t)
-    (walk-node-returns t)
-    (walk-node-take-record-requires t)
-    (walk-node-enum-told t)
-    (walk-node-enum-known-kind t)
-    (walk-node-lost-requires-2 t)
-    (walk-node-returns-2 t)
-    (walk-node-sub-walk-nodes t)
-    (walk-node-walk-nodes-requires t)
-    (walk-node-returns-3 t)
-    (walk-node-returns-4 t))
-    λ t. walk-nodes-lts.spec
-    (nodes-calls t)
-    (walk-nodes-at t)
-    walk-nodes.Post
-    walk-nodes-Inv-loop
-    walk-nodes-μ-loop
-    (walk-nodes-loop-holds t)
-    (walk-nodes-walk-node-requires t)
-    (walk-nodes-add-k t)
-    (walk-nodes-loop-less t)
-    (walk-nodes-loop-again t)
++walk-node+walk-nodes-spec =
+    close μ-walk-node μ-walk-nodes
+    (λ t. walk-node-lts.spec (node-calls t) (walk-node-at t) walk-node.Post (λ c κs. search needs) (walk-node-returns t)
+    (λ c κs. search needs) (λ c. search needs) (λ c. search needs) (λ c κs. search needs) (walk-node-returns-2 t) (λ c. search needs)
+    (walk-node-walk-nodes-requires t) (walk-node-returns-3 t) (walk-node-returns-4 t))
+    λ t. walk-nodes-lts.spec (nodes-calls t) (walk-nodes-at t) walk-nodes.Post walk-nodes-Inv-loop walk-nodes-μ-loop
+    (walk-nodes-loop-holds t) (walk-nodes-walk-node-requires t) (walk-nodes-add-k t) (walk-nodes-loop-less t) (walk-nodes-loop-again t)
     (walk-nodes-returns t)

@@ -7,15 +7,6 @@ use Rattle.records.proofs.is_sheet.Tie as tie
 returns : tie.Need-returns
 returns c = walks.too-long _ _ (c .if1 .taken)
 
-take-field-requires : tie.Need-take-field-requires
-take-field-requires c κs = search needs
-
-cast-walk-nodes : tie.Need-cast-walk-nodes
-cast-walk-nodes c = search needs
-
-walk-nodes-requires : tie.Need-walk-nodes-requires
-walk-nodes-requires c κs = search needs
-
 returns-2 : tie.Need-returns-2
 returns-2 c =
     let at-take-field = c .before .before in
@@ -23,5 +14,4 @@ returns-2 c =
     walks.decides _ _ (at-if1 .if1 .left) (at-take-field .take-field .ensures .reads) (c .walk-nodes .ensures)
 
 pub is-sheet-spec : {M : Type 1} → statement M
-is-sheet-spec =
-    tie.close (tie.spec returns take-field-requires cast-walk-nodes walk-nodes-requires returns-2)
+is-sheet-spec = tie.close (tie.spec returns (λ c κs. search needs) (λ c. search needs) (λ c κs. search needs) returns-2)

@@ -19,9 +19,6 @@ Inv-loop bytes text-len ordinal start₀ end₀ k₀ start end k =
 abbrev μ-loop : tie.MeasureT-loop
 μ-loop bytes text-len ordinal start₀ end₀ k₀ start end k = ordinal - k
 
-take-field-requires : tie.Need-take-field-requires Inv-loop μ-loop
-take-field-requires c κs = search needs
-
 loop-holds : tie.Need-loop-holds Inv-loop μ-loop
 loop-holds c = (omega arith, omega arith, λ ns e. places.first _ _ ns e (c .take-field .ensures .reads))
 
@@ -32,9 +29,6 @@ returns c =
       within = omega arith;
       is = λ ns e. places.no-more _ _ _ (at-loop .loop .inv .2 ns e) _ (c .if1 .taken) (c .before .loop-test .taken);
     }
-
-take-record-requires : tie.Need-take-record-requires Inv-loop μ-loop
-take-record-requires c κs = search needs
 
 add-k : tie.Need-add-k Inv-loop μ-loop
 add-k c = omega arith
@@ -71,17 +65,5 @@ returns-3 c =
 
 pub record-at-spec : {M : Type 1} → statement M
 record-at-spec =
-    tie.close
-    (tie.spec
-    Inv-loop
-    μ-loop
-    take-field-requires
-    loop-holds
-    returns
-    take-record-requires
-    add-k
-    loop-less
-    loop-again
-    returns-2
-    sub-t11
-    returns-3)
+    tie.close (tie.spec Inv-loop μ-loop (λ c κs. search needs) loop-holds returns (λ c κs. search needs) add-k loop-less loop-again
+    returns-2 sub-t11 returns-3)

@@ -12,27 +12,12 @@ use Rattle.records.proofs.RecordLaws as records
 use Rattle.records.proofs.take_record.Statement.{statement}
 use Rattle.records.proofs.take_record.Tie as tie
 
-take-kind-requires : tie.Need-take-kind-requires
-take-kind-requires c κs = search needs
-
-take-tween-requires : tie.Need-take-tween-requires
-take-tween-requires c κs = search needs
-
-take-spring-requires : tie.Need-take-spring-requires
-take-spring-requires c κs = search needs
-
-take-keyframes-requires : tie.Need-take-keyframes-requires
-take-keyframes-requires c κs = search needs
-
 returns : tie.Need-returns
 returns c =
     let at-take-keyframes = c .before in
     let at-match = at-take-keyframes .before in
     let b = at-match .before .take-kind .ensures in
     records.told 2 b (at-match .match .keys3) (b .startAt & at-take-keyframes .take-keyframes .ensures) (λ x e i. (Leaf, 2, e i .1 .frames))
-
-take-group-requires : tie.Need-take-group-requires
-take-group-requires c κs = search needs
 
 returns-2 : tie.Need-returns-2
 returns-2 c =
@@ -45,9 +30,6 @@ returns-2 c =
     in
     let b = at-take-kind .take-kind .ensures in
     records.told 5 b (at-match .match .keys4) (b .startAt & r) (λ x e i. (e i .1, 5, 0))
-
-take-stagger-requires : tie.Need-take-stagger-requires
-take-stagger-requires c κs = search needs
 
 returns-3 : tie.Need-returns-3
 returns-3 c =
@@ -62,33 +44,6 @@ returns-3 c =
     in
     let b = at-take-kind .take-kind .ensures in
     records.told 6 b (at-match .match .keys5) (b .startAt & r) (λ x e i. (e i .1, 6, 0))
-
-take-path-requires : tie.Need-take-path-requires
-take-path-requires c κs = search needs
-
-take-morph-requires : tie.Need-take-morph-requires
-take-morph-requires c κs = search needs
-
-take-draw-requires : tie.Need-take-draw-requires
-take-draw-requires c κs = search needs
-
-take-color-requires : tie.Need-take-color-requires
-take-color-requires c κs = search needs
-
-take-waveform-requires : tie.Need-take-waveform-requires
-take-waveform-requires c κs = search needs
-
-take-preset-requires : tie.Need-take-preset-requires
-take-preset-requires c κs = search needs
-
-take-span-requires : tie.Need-take-span-requires
-take-span-requires c κs = search needs
-
-take-field-requires : tie.Need-take-field-requires
-take-field-requires c κs = search needs
-
-cast-t29 : tie.Need-cast-t29
-cast-t29 c = search needs
 
 returns-4 : tie.Need-returns-4
 returns-4 c =
@@ -105,9 +60,6 @@ returns-4 c =
     (λ h. records.told 4 b h (b .startAt & r) (λ x e i. (e i .1, 4, 0)))
     (records.three-or-four _ (at-if1 .if1 .taken) (m .0 .0 .0 .0 .0 .0 .0 .0 .0 .0 .0 .1) (m .0 .0 .0 .0 .0 .0 .0 .0 .0 .0 .1)
     (m .0 .0 .0 .0 .0 .0 .0 .0 .0 .1))
-
-take-at-requires : tie.Need-take-at-requires
-take-at-requires c κs = search needs
 
 returns-5 : tie.Need-returns-5
 returns-5 c =
@@ -178,35 +130,8 @@ returns-14 c =
 
 pub take-record-spec : {M : Type 1} → statement M
 take-record-spec =
-    tie.close
-    (tie.spec
-    take-kind-requires
-    take-tween-requires
-    take-spring-requires
-    take-keyframes-requires
-    returns
-    take-group-requires
-    returns-2
-    take-stagger-requires
-    returns-3
-    take-path-requires
-    take-morph-requires
-    take-draw-requires
-    take-color-requires
-    take-waveform-requires
-    take-preset-requires
-    take-span-requires
-    take-field-requires
-    cast-t29
-    returns-4
-    take-at-requires
-    returns-5
-    returns-6
-    returns-7
-    returns-8
-    returns-9
-    returns-10
-    returns-11
-    returns-12
-    returns-13
+    tie.close (tie.spec (λ c κs. search needs) (λ c κs. search needs) (λ c κs. search needs) (λ c κs. search needs) returns
+    (λ c κs. search needs) returns-2 (λ c κs. search needs) returns-3 (λ c κs. search needs) (λ c κs. search needs) (λ c κs. search needs)
+    (λ c κs. search needs) (λ c κs. search needs) (λ c κs. search needs) (λ c κs. search needs) (λ c κs. search needs) (λ c. search needs)
+    returns-4 (λ c κs. search needs) returns-5 returns-6 returns-7 returns-8 returns-9 returns-10 returns-11 returns-12 returns-13
     returns-14)

@@ -30,14 +30,6 @@ put-last-returns : (t : ℕ) → put-last-lts.Need-returns (
 ) (put-last-at t) put-last.Post
 put-last-returns t c = no-digits _ _ _ _ (c .if1 .taken)
 
-put-last-sub-put-last : (t : ℕ) → put-last-lts.Need-sub-put-last (
-  put-last-below t,
-  put-last.Post,
-  put-byte-reads.Asked,
-  put-byte-reads.Learnt,
-) (put-last-at t) put-last.Post
-put-last-sub-put-last t c = search needs
-
 put-last-put-last-requires : (t : ℕ) → put-last-lts.Need-put-last-requires (
   put-last-below t,
   put-last.Post,
@@ -45,38 +37,6 @@ put-last-put-last-requires : (t : ℕ) → put-last-lts.Need-put-last-requires (
   put-byte-reads.Learnt,
 ) (put-last-at t) put-last.Post
 put-last-put-last-requires t c κs = (omega (arith, c .before .before .before .pre .0, c .before .if1 .left), tt)
-
-put-last-cast-put-byte : (t : ℕ) → put-last-lts.Need-cast-put-byte (
-  put-last-below t,
-  put-last.Post,
-  put-byte-reads.Asked,
-  put-byte-reads.Learnt,
-) (put-last-at t) put-last.Post
-put-last-cast-put-byte t c = search needs
-
-put-last-add-put-byte : (t : ℕ) → put-last-lts.Need-add-put-byte (
-  put-last-below t,
-  put-last.Post,
-  put-byte-reads.Asked,
-  put-byte-reads.Learnt,
-) (put-last-at t) put-last.Post
-put-last-add-put-byte t c = search needs
-
-put-last-put-byte-requires : (t : ℕ) → put-last-lts.Need-put-byte-requires (
-  put-last-below t,
-  put-last.Post,
-  put-byte-reads.Asked,
-  put-byte-reads.Learnt,
-) (put-last-at t) put-last.Post
-put-last-put-byte-requires t c κs = search needs
-
-put-last-same-length : (t : ℕ) → put-last-lts.Need-same-length (
-  put-last-below t,
-  put-last.Post,
-  put-byte-reads.Asked,
-  put-byte-reads.Learnt,
-) (put-last-at t) put-last.Post
-put-last-same-length t c = search needs
 
 put-last-returns-2 : (t : ℕ) → put-last-lts.Need-returns-2 (
   put-last-below t,
@@ -92,19 +52,8 @@ put-last-returns-2 t c =
     more-digits _ _ _ _ (omega arith) (at-put-last .put-last .ensures) (at-put-byte .put-byte .ensures)
 
 pub +put-last-spec : {M : Type 1} → statement M
-+put-last-spec = close μ-put-last λ t. put-last-lts.spec (
-  put-last-below t,
-  put-last.Post,
-  put-byte-reads.Asked,
-  put-byte-reads.Learnt,
-)
-    (put-last-at t)
-    put-last.Post
-    (put-last-returns t)
-    (put-last-sub-put-last t)
-    (put-last-put-last-requires t)
-    (put-last-cast-put-byte t)
-    (put-last-add-put-byte t)
-    (put-last-put-byte-requires t)
-    (put-last-same-length t)
-    (put-last-returns-2 t)
++put-last-spec =
+    close μ-put-last
+    λ t. put-last-lts.spec (put-last-below t, put-last.Post, put-byte-reads.Asked, put-byte-reads.Learnt) (put-last-at t) put-last.Post
+    (put-last-returns t) (λ c. search needs) (put-last-put-last-requires t) (λ c. search needs) (λ c. search needs) (λ c κs. search needs)
+    (λ c. search needs) (put-last-returns-2 t)

@@ -22,38 +22,6 @@ abbrev put-whole-below : ℕ → In 1 put-whole-kinds.ps
 put-whole-below t =
     and 1 put-whole-kinds.ps (falls 1 put-whole-kinds.ps _<_ μ-put-whole t) put-whole.Pre
 
-put-whole-cast-put-byte : (t : ℕ) → put-whole-lts.Need-cast-put-byte (
-  put-byte-reads.Asked,
-  put-byte-reads.Learnt,
-  put-whole-below t,
-  put-whole.Post,
-) (put-whole-at t) put-whole.Post
-put-whole-cast-put-byte t c = search needs
-
-put-whole-add-put-byte : (t : ℕ) → put-whole-lts.Need-add-put-byte (
-  put-byte-reads.Asked,
-  put-byte-reads.Learnt,
-  put-whole-below t,
-  put-whole.Post,
-) (put-whole-at t) put-whole.Post
-put-whole-add-put-byte t c = search needs
-
-put-whole-put-byte-requires : (t : ℕ) → put-whole-lts.Need-put-byte-requires (
-  put-byte-reads.Asked,
-  put-byte-reads.Learnt,
-  put-whole-below t,
-  put-whole.Post,
-) (put-whole-at t) put-whole.Post
-put-whole-put-byte-requires t c κs = search needs
-
-put-whole-same-length : (t : ℕ) → put-whole-lts.Need-same-length (
-  put-byte-reads.Asked,
-  put-byte-reads.Learnt,
-  put-whole-below t,
-  put-whole.Post,
-) (put-whole-at t) put-whole.Post
-put-whole-same-length t c = search needs
-
 put-whole-returns : (t : ℕ) → put-whole-lts.Need-returns (
   put-byte-reads.Asked,
   put-byte-reads.Learnt,
@@ -70,38 +38,6 @@ put-whole-put-whole-requires : (t : ℕ) → put-whole-lts.Need-put-whole-requir
 ) (put-whole-at t) put-whole.Post
 put-whole-put-whole-requires t c κs = (omega (arith, c .before .before .before .pre .0), tt)
 
-put-whole-cast-put-byte-2 : (t : ℕ) → put-whole-lts.Need-cast-put-byte-2 (
-  put-byte-reads.Asked,
-  put-byte-reads.Learnt,
-  put-whole-below t,
-  put-whole.Post,
-) (put-whole-at t) put-whole.Post
-put-whole-cast-put-byte-2 t c = search needs
-
-put-whole-add-put-byte-2 : (t : ℕ) → put-whole-lts.Need-add-put-byte-2 (
-  put-byte-reads.Asked,
-  put-byte-reads.Learnt,
-  put-whole-below t,
-  put-whole.Post,
-) (put-whole-at t) put-whole.Post
-put-whole-add-put-byte-2 t c = search needs
-
-put-whole-put-byte-requires-2 : (t : ℕ) → put-whole-lts.Need-put-byte-requires-2 (
-  put-byte-reads.Asked,
-  put-byte-reads.Learnt,
-  put-whole-below t,
-  put-whole.Post,
-) (put-whole-at t) put-whole.Post
-put-whole-put-byte-requires-2 t c κs = search needs
-
-put-whole-same-length-2 : (t : ℕ) → put-whole-lts.Need-same-length-2 (
-  put-byte-reads.Asked,
-  put-byte-reads.Learnt,
-  put-whole-below t,
-  put-whole.Post,
-) (put-whole-at t) put-whole.Post
-put-whole-same-length-2 t c = search needs
-
 put-whole-returns-2 : (t : ℕ) → put-whole-lts.Need-returns-2 (
   put-byte-reads.Asked,
   put-byte-reads.Learnt,
@@ -115,22 +51,9 @@ put-whole-returns-2 t c =
     λ k h. last-digit _ k _ (at-if1 .if1 .left) h (at-put-whole .put-whole .ensures) (at-put-byte2 .put-byte2 .ensures)
 
 pub +put-whole-spec : {M : Type 1} → statement M
-+put-whole-spec = close μ-put-whole λ t. put-whole-lts.spec (
-  put-byte-reads.Asked,
-  put-byte-reads.Learnt,
-  put-whole-below t,
-  put-whole.Post,
-)
-    (put-whole-at t)
-    put-whole.Post
-    (put-whole-cast-put-byte t)
-    (put-whole-add-put-byte t)
-    (put-whole-put-byte-requires t)
-    (put-whole-same-length t)
-    (put-whole-returns t)
-    (put-whole-put-whole-requires t)
-    (put-whole-cast-put-byte-2 t)
-    (put-whole-add-put-byte-2 t)
-    (put-whole-put-byte-requires-2 t)
-    (put-whole-same-length-2 t)
++put-whole-spec =
+    close μ-put-whole
+    λ t. put-whole-lts.spec (put-byte-reads.Asked, put-byte-reads.Learnt, put-whole-below t, put-whole.Post) (put-whole-at t) put-whole.Post
+    (λ c. search needs) (λ c. search needs) (λ c κs. search needs) (λ c. search needs) (put-whole-returns t)
+    (put-whole-put-whole-requires t) (λ c. search needs) (λ c. search needs) (λ c κs. search needs) (λ c. search needs)
     (put-whole-returns-2 t)

@@ -5,11 +5,8 @@ use borrow.Author.Needs.{needs}
 use Rattle.spelling.proofs.all_are.Statement.{statement}
 use Rattle.spelling.proofs.all_are.Tie as tie
 
-run-end-requires : tie.Need-run-end-requires
-run-end-requires c κs = search needs
-
 returns : tie.Need-returns
 returns c = all-is _ (c .before .before .args .part .now) _ (c .run-end .ensures)
 
 pub all-are-spec : {M : Type 1} → statement M
-all-are-spec = tie.close (tie.spec run-end-requires returns)
+all-are-spec = tie.close (tie.spec (λ c κs. search needs) returns)

@@ -4,20 +4,11 @@ use borrow.Author.Needs.{needs}
 use Rattle.spelling.proofs.is_name_like.Statement.{statement}
 use Rattle.spelling.proofs.is_name_like.Tie as tie
 
-byte-at-requires : tie.Need-byte-at-requires
-byte-at-requires c κs = search needs
-
-in-class-requires : tie.Need-in-class-requires
-in-class-requires c κs = search needs
-
 returns : tie.Need-returns
 returns c =
     let at-byte-at = c .before .before in
     let start = at-byte-at .before .before in
     no-letter (start .args .word .now) (c .before .in-class .ensures) (at-byte-at .byte-at .ensures) (was-false _ (c .if1 .taken))
-
-all-are-requires : tie.Need-all-are-requires
-all-are-requires c κs = search needs
 
 returns-2 : tie.Need-returns-2
 returns-2 c =
@@ -32,9 +23,6 @@ returns-2 c =
     (was-true _ (at-if1 .if1 .left))
     (c .before .all-are .ensures)
     (was-false _ (c .if2 .taken))
-
-is-keyword-requires : tie.Need-is-keyword-requires
-is-keyword-requires c κs = search needs
 
 returns-3 : tie.Need-returns-3
 returns-3 c =
@@ -54,12 +42,5 @@ returns-3 c =
 
 pub is-name-like-spec : {M : Type 1} → statement M
 is-name-like-spec =
-    tie.close
-    (tie.spec
-    byte-at-requires
-    in-class-requires
-    returns
-    all-are-requires
-    returns-2
-    is-keyword-requires
+    tie.close (tie.spec (λ c κs. search needs) (λ c κs. search needs) returns (λ c κs. search needs) returns-2 (λ c κs. search needs)
     returns-3)

@@ -7,16 +7,10 @@ use borrow.Author.Needs.{needs}
 use Rattle.spelling.proofs.is_plain.Statement.{statement}
 use Rattle.spelling.proofs.is_plain.Tie as tie
 
-is-curve-requires : tie.Need-is-curve-requires
-is-curve-requires c κs = search needs
-
 returns : tie.Need-returns
 returns c =
     let args = c .before .before .before .args in
     a-curve (nameLike (args .word .now)) (isOneOf curveNames (args .word .now)) (sym (c .before .is-curve .ensures) ∙ c .if1 .taken)
-
-is-name-like-requires : tie.Need-is-name-like-requires
-is-name-like-requires c κs = search needs
 
 returns-2 : tie.Need-returns-2
 returns-2 c =
@@ -27,4 +21,4 @@ returns-2 c =
     (sym (at-is-curve .is-curve .ensures) ∙ c .before .if1 .left)
 
 pub is-plain-spec : {M : Type 1} → statement M
-is-plain-spec = tie.close (tie.spec is-curve-requires returns is-name-like-requires returns-2)
+is-plain-spec = tie.close (tie.spec (λ c κs. search needs) returns (λ c κs. search needs) returns-2)

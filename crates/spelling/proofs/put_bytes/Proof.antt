@@ -10,9 +10,6 @@ use borrow.Author.Needs.{needs}
 use Rattle.spelling.proofs.put_bytes.Statement.{statement}
 use Rattle.spelling.proofs.put_bytes.Tie as tie
 
-has-room-requires : tie.Need-has-room-requires
-has-room-requires c κs = search needs
-
 copy-requires : tie.Need-copy-requires
 copy-requires c κs =
     let at-has-room = c .before .before in
@@ -28,9 +25,6 @@ add-t11 c =
     let h = leb-true (args .pen .at + length (args .part .now)) most (sym (at-has-room .has-room .ensures) ∙ at-if1 .if1 .taken) in
     omega arith
 
-same-length : tie.Need-same-length
-same-length c = search needs
-
 returns : tie.Need-returns
 returns c =
     let at-copy = c .before .before in
@@ -41,15 +35,10 @@ returns c =
     (with-room (args .pen .at) (args .pen .fits) (args .out .now) (args .part .now)
     (sym (at-has-room .has-room .ensures) ∙ at-if1 .if1 .taken))
 
-add-t6 : tie.Need-add-t6
-add-t6 c = search needs
-
 returns-2 : tie.Need-returns-2
 returns-2 c =
     let args = c .before .before .before .before .args in
     no-room (args .pen .at) (args .pen .fits) (args .out .now) _ (args .part .now) (sym (c .before .has-room .ensures) ∙ c .if1 .left)
 
 pub put-bytes-spec : {M : Type 1} → statement M
-put-bytes-spec =
-    tie.close
-    (tie.spec has-room-requires copy-requires add-t11 same-length returns add-t6 returns-2)
+put-bytes-spec = tie.close (tie.spec (λ c κs. search needs) copy-requires add-t11 (λ c. search needs) returns (λ c. search needs) returns-2)

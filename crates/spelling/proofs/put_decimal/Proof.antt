@@ -16,15 +16,6 @@ put-front-requires c κs =
     let start = c .before .before .before .before in
     (start .pre .1, found-below (start .args .d) (start .pre .0) (was-true _ (c .before .if1 .left)))
 
-put-fraction-requires : tie.Need-put-fraction-requires
-put-fraction-requires c κs = search needs
-
-put-byte-requires : tie.Need-put-byte-requires
-put-byte-requires c κs = search needs
-
-same-length : tie.Need-same-length
-same-length c = search needs
-
 returns-2 : tie.Need-returns-2
 returns-2 c =
     let at-byte = c .before .before in
@@ -38,11 +29,4 @@ returns-2 c =
 
 pub put-decimal-spec : {M : Type 1} → statement M
 put-decimal-spec =
-    tie.close
-    (tie.spec
-    returns
-    put-front-requires
-    put-fraction-requires
-    put-byte-requires
-    same-length
-    returns-2)
+    tie.close (tie.spec returns put-front-requires (λ c κs. search needs) (λ c κs. search needs) (λ c. search needs) returns-2)

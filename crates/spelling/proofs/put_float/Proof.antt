@@ -6,14 +6,8 @@ use borrow.Author.Needs.{needs}
 use Rattle.spelling.proofs.put_float.Statement.{statement}
 use Rattle.spelling.proofs.put_float.Tie as tie
 
-fewest-requires : tie.Need-fewest-requires
-fewest-requires c κs = search needs
-
 put-decimal-requires : tie.Need-put-decimal-requires
 put-decimal-requires c κs = (subst Spellable (sym (c .fewest .ensures .0)) (float-spellable _), c .fewest .ensures .1)
-
-same-length : tie.Need-same-length
-same-length c = search needs
 
 returns : tie.Need-returns
 returns c =
@@ -23,4 +17,4 @@ returns c =
     found-float (args .bits) (pageOf (args .out .now) (args .pen)) _ (at-fewest .fewest .ensures .0) (at-put-decimal .put-decimal .ensures)
 
 pub put-float-spec : {M : Type 1} → statement M
-put-float-spec = tie.close (tie.spec fewest-requires put-decimal-requires same-length returns)
+put-float-spec = tie.close (tie.spec (λ c κs. search needs) put-decimal-requires (λ c. search needs) returns)

@@ -7,15 +7,6 @@ use Rattle.spelling.proofs.put_fraction.Tie as tie
 returns : tie.Need-returns
 returns c = no-fraction _ _ _ _ (c .if1 .taken)
 
-put-byte-requires : tie.Need-put-byte-requires
-put-byte-requires c κs = search needs
-
-put-last-requires : tie.Need-put-last-requires
-put-last-requires c κs = search needs
-
-same-length : tie.Need-same-length
-same-length c = search needs
-
 returns-2 : tie.Need-returns-2
 returns-2 c =
     let at-put-last = c .before .before in
@@ -24,5 +15,4 @@ returns-2 c =
     a-fraction _ _ _ (at-if1 .if1 .left) (at-put-byte .put-byte .ensures) (at-put-last .put-last .ensures)
 
 pub put-fraction-spec : {M : Type 1} → statement M
-put-fraction-spec =
-    tie.close (tie.spec returns put-byte-requires put-last-requires same-length returns-2)
+put-fraction-spec = tie.close (tie.spec returns (λ c κs. search needs) (λ c κs. search needs) (λ c. search needs) returns-2)

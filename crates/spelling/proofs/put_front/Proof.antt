@@ -58,12 +58,6 @@ all-whole d n h =
     no : (a b : ℕ) → a ≡ 0 → b ≡ 0 → 0 < a + b → ⊥
     no a b e f k = omega arith
 
-put-whole-requires : tie.Need-put-whole-requires
-put-whole-requires c κs = search needs
-
-same-length : tie.Need-same-length
-same-length c = search needs
-
 returns : tie.Need-returns
 returns c =
     let at-whole = c .before .before in
@@ -74,9 +68,6 @@ returns c =
     ∙ ap (λ (z : ℕ). putOn (wholeDigits 39 z) (pageOf (start .args .out .now) (start .args .pen)))
     (sym (no-whole d (start .pre .0) (at-if1 .if1 .taken)))
 
-ten-to-requires : tie.Need-ten-to-requires
-ten-to-requires c κs = search needs
-
 div-put-whole : tie.Need-div-put-whole
 div-put-whole c =
     let at-ten-to = c .before in
@@ -85,12 +76,6 @@ div-put-whole c =
     let d = start .args .d in
     let h = ten-pos (d .places) in
     omega (arith, at-ten-to .ten-to .ensures)
-
-put-whole-requires-2 : tie.Need-put-whole-requires-2
-put-whole-requires-2 c κs = search needs
-
-same-length-2 : tie.Need-same-length-2
-same-length-2 c = search needs
 
 returns-2 : tie.Need-returns-2
 returns-2 c =
@@ -111,9 +96,6 @@ put-large-requires c κs =
     let start = c5 .before .before in
     large (start .args .d) (start .pre .0) (some-part (start .args .d .middle) (start .args .d .high) (at-if2 .if2 .left))
 
-same-length-3 : tie.Need-same-length-3
-same-length-3 c = search needs
-
 returns-3 : tie.Need-returns-3
 returns-3 c =
     let at-large = c .before .before in
@@ -127,16 +109,5 @@ returns-3 c =
 
 pub put-front-spec : {M : Type 1} → statement M
 put-front-spec =
-    tie.close
-    (tie.spec
-    put-whole-requires
-    same-length
-    returns
-    ten-to-requires
-    div-put-whole
-    put-whole-requires-2
-    same-length-2
-    returns-2
-    put-large-requires
-    same-length-3
-    returns-3)
+    tie.close (tie.spec (λ c κs. search needs) (λ c. search needs) returns (λ c κs. search needs) div-put-whole (λ c κs. search needs)
+    (λ c. search needs) returns-2 put-large-requires (λ c. search needs) returns-3)

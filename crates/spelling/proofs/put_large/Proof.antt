@@ -16,15 +16,6 @@ use Rattle.spelling.proofs.put_large.Tie as tie
 positive : (n : ℕ) → (n ≡ 0 → ⊥) → 0 < n
 positive n h = omega arith
 
-put-whole-requires : tie.Need-put-whole-requires
-put-whole-requires c κs = search needs
-
-put-last-requires : tie.Need-put-last-requires
-put-last-requires c κs = search needs
-
-same-length : tie.Need-same-length
-same-length c = search needs
-
 returns : tie.Need-returns
 returns c =
     let at-last = c .before .before in
@@ -37,18 +28,6 @@ returns c =
     ∙ ap (putOn (lastDigits 18 (d .n))) (at-whole .put-whole .ensures 21 (lt-of-lt-of-le (start .pre .middle) (lit≤ tt)))
     ∙ put-both (wholeDigits 21 (d .middle)) (lastDigits 18 (d .n)) p
     ∙ ap (λ (z : List ℕ). putOn z p) (sym (two-parts d (start .pre) (at-if1 .if1 .taken)))
-
-put-whole-requires-2 : tie.Need-put-whole-requires-2
-put-whole-requires-2 c κs = search needs
-
-put-last-requires-2 : tie.Need-put-last-requires-2
-put-last-requires-2 c κs = search needs
-
-put-last-requires-3 : tie.Need-put-last-requires-3
-put-last-requires-3 c κs = search needs
-
-same-length-2 : tie.Need-same-length-2
-same-length-2 c = search needs
 
 returns-2 : tie.Need-returns-2
 returns-2 c =
@@ -69,14 +48,5 @@ returns-2 c =
 
 pub put-large-spec : {M : Type 1} → statement M
 put-large-spec =
-    tie.close
-    (tie.spec
-    put-whole-requires
-    put-last-requires
-    same-length
-    returns
-    put-whole-requires-2
-    put-last-requires-2
-    put-last-requires-3
-    same-length-2
-    returns-2)
+    tie.close (tie.spec (λ c κs. search needs) (λ c κs. search needs) (λ c. search needs) returns (λ c κs. search needs)
+    (λ c κs. search needs) (λ c κs. search needs) (λ c. search needs) returns-2)

@@ -7,15 +7,6 @@ use borrow.Author.Needs.{needs}
 use Rattle.spelling.proofs.put_mark.Statement.{statement}
 use Rattle.spelling.proofs.put_mark.Tie as tie
 
-put-byte-requires : tie.Need-put-byte-requires
-put-byte-requires c κs = search needs
-
-put-byte-requires-2 : tie.Need-put-byte-requires-2
-put-byte-requires-2 c κs = search needs
-
-same-length : tie.Need-same-length
-same-length c = search needs
-
 returns : tie.Need-returns
 unfolding fits spelt
 returns c =
@@ -26,4 +17,4 @@ returns c =
     (start .pre)
 
 pub put-mark-spec : {M : Type 1} → statement M
-put-mark-spec = tie.close (tie.spec put-byte-requires put-byte-requires-2 same-length returns)
+put-mark-spec = tie.close (tie.spec (λ c κs. search needs) (λ c κs. search needs) (λ c. search needs) returns)

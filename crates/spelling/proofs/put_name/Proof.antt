@@ -6,18 +6,6 @@ use borrow.Author.Needs.{needs}
 use Rattle.spelling.proofs.put_name.Statement.{statement}
 use Rattle.spelling.proofs.put_name.Tie as tie
 
-put-piece-requires : tie.Need-put-piece-requires
-put-piece-requires c κs = search needs
-
-is-name-like-requires : tie.Need-is-name-like-requires
-is-name-like-requires c κs = search needs
-
-judged-requires : tie.Need-judged-requires
-judged-requires c κs = search needs
-
-same-length : tie.Need-same-length
-same-length c = search needs
-
 returns : tie.Need-returns
 unfolding fits spelt
 returns c =
@@ -28,6 +16,4 @@ returns c =
     (c .before .is-name-like .ensures)
 
 pub put-name-spec : {M : Type 1} → statement M
-put-name-spec =
-    tie.close
-    (tie.spec put-piece-requires is-name-like-requires judged-requires same-length returns)
+put-name-spec = tie.close (tie.spec (λ c κs. search needs) (λ c κs. search needs) (λ c κs. search needs) (λ c. search needs) returns)

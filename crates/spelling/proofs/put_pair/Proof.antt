@@ -8,18 +8,6 @@ use Rattle.spelling.proofs.PageLaws.{piece-put, put-both}
 use Rattle.spelling.proofs.put_pair.Statement.{statement}
 use Rattle.spelling.proofs.put_pair.Tie as tie
 
-put-byte-requires : tie.Need-put-byte-requires
-put-byte-requires c κs = search needs
-
-put-byte-requires-2 : tie.Need-put-byte-requires-2
-put-byte-requires-2 c κs = search needs
-
-put-byte-requires-3 : tie.Need-put-byte-requires-3
-put-byte-requires-3 c κs = search needs
-
-same-length : tie.Need-same-length
-same-length c = search needs
-
 returns : tie.Need-returns
 unfolding fits spelt
 returns c =
@@ -40,6 +28,4 @@ returns c =
     (rw (start .pre .0, start .pre .1))
 
 pub put-pair-spec : {M : Type 1} → statement M
-put-pair-spec =
-    tie.close
-    (tie.spec put-byte-requires put-byte-requires-2 put-byte-requires-3 same-length returns)
+put-pair-spec = tie.close (tie.spec (λ c κs. search needs) (λ c κs. search needs) (λ c κs. search needs) (λ c. search needs) returns)

@@ -6,14 +6,8 @@ use borrow.Author.Needs.{needs}
 use Rattle.spelling.proofs.put_percent.Statement.{statement}
 use Rattle.spelling.proofs.put_percent.Tie as tie
 
-percent-of-requires : tie.Need-percent-of-requires
-percent-of-requires c κs = search needs
-
 put-decimal-requires : tie.Need-put-decimal-requires
 put-decimal-requires c κs = (subst Spellable (sym (c .percent-of .ensures .0)) (percent-spellable _), c .percent-of .ensures .1)
-
-same-length : tie.Need-same-length
-same-length c = search needs
 
 returns : tie.Need-returns
 returns c =
@@ -24,5 +18,4 @@ returns c =
     (at-put-decimal .put-decimal .ensures)
 
 pub put-percent-spec : {M : Type 1} → statement M
-put-percent-spec =
-    tie.close (tie.spec percent-of-requires put-decimal-requires same-length returns)
+put-percent-spec = tie.close (tie.spec (λ c κs. search needs) put-decimal-requires (λ c. search needs) returns)

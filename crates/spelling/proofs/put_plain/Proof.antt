@@ -6,18 +6,6 @@ use borrow.Author.Needs.{needs}
 use Rattle.spelling.proofs.put_plain.Statement.{statement}
 use Rattle.spelling.proofs.put_plain.Tie as tie
 
-put-piece-requires : tie.Need-put-piece-requires
-put-piece-requires c κs = search needs
-
-is-plain-requires : tie.Need-is-plain-requires
-is-plain-requires c κs = search needs
-
-judged-requires : tie.Need-judged-requires
-judged-requires c κs = search needs
-
-same-length : tie.Need-same-length
-same-length c = search needs
-
 returns : tie.Need-returns
 unfolding fits spelt
 returns c =
@@ -28,5 +16,4 @@ returns c =
     (c .before .is-plain .ensures)
 
 pub put-plain-spec : {M : Type 1} → statement M
-put-plain-spec =
-    tie.close (tie.spec put-piece-requires is-plain-requires judged-requires same-length returns)
+put-plain-spec = tie.close (tie.spec (λ c κs. search needs) (λ c κs. search needs) (λ c κs. search needs) (λ c. search needs) returns)

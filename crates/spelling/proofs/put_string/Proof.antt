@@ -7,27 +7,6 @@ use borrow.Author.Needs.{needs}
 use Rattle.spelling.proofs.put_string.Statement.{statement}
 use Rattle.spelling.proofs.put_string.Tie as tie
 
-put-byte-requires : tie.Need-put-byte-requires
-put-byte-requires c κs = search needs
-
-put-bytes-requires : tie.Need-put-bytes-requires
-put-bytes-requires c κs = search needs
-
-put-byte-requires-2 : tie.Need-put-byte-requires-2
-put-byte-requires-2 c κs = search needs
-
-put-byte-requires-3 : tie.Need-put-byte-requires-3
-put-byte-requires-3 c κs = search needs
-
-all-are-requires : tie.Need-all-are-requires
-all-are-requires c κs = search needs
-
-judged-requires : tie.Need-judged-requires
-judged-requires c κs = search needs
-
-same-length : tie.Need-same-length
-same-length c = search needs
-
 returns : tie.Need-returns
 unfolding fits spelt
 returns c =
@@ -44,13 +23,5 @@ returns c =
 
 pub put-string-spec : {M : Type 1} → statement M
 put-string-spec =
-    tie.close
-    (tie.spec
-    put-byte-requires
-    put-bytes-requires
-    put-byte-requires-2
-    put-byte-requires-3
-    all-are-requires
-    judged-requires
-    same-length
-    returns)
+    tie.close (tie.spec (λ c κs. search needs) (λ c κs. search needs) (λ c κs. search needs) (λ c κs. search needs) (λ c κs. search needs)
+    (λ c κs. search needs) (λ c. search needs) returns)

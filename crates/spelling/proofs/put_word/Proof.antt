@@ -6,12 +6,6 @@ use borrow.Author.Needs.{needs}
 use Rattle.spelling.proofs.put_word.Statement.{statement}
 use Rattle.spelling.proofs.put_word.Tie as tie
 
-put-piece-requires : tie.Need-put-piece-requires
-put-piece-requires c κs = search needs
-
-same-length : tie.Need-same-length
-same-length c = search needs
-
 returns : tie.Need-returns
 unfolding fits spelt
 returns c =
@@ -20,4 +14,4 @@ returns c =
     piece-put (aWord (start .args .word .now)) _ (start .args .word .now) refl (at-put-piece .put-piece .ensures) refl (start .pre)
 
 pub put-word-spec : {M : Type 1} → statement M
-put-word-spec = tie.close (tie.spec put-piece-requires same-length returns)
+put-word-spec = tie.close (tie.spec (λ c κs. search needs) (λ c. search needs) returns)

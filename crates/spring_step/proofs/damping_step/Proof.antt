@@ -12,33 +12,6 @@ use borrow.Author.Needs.{needs}
 use Rattle.spring_step.proofs.damping_step.Statement.{statement}
 use Rattle.spring_step.proofs.damping_step.Tie as tie
 
-parse-float-in-parens-requires : tie.Need-parse-float-in-parens-requires
-parse-float-in-parens-requires c κs = search needs
-
-enum-known-r : tie.Need-enum-known-r
-enum-known-r c = search needs
-
-enum-known-x : tie.Need-enum-known-x
-enum-known-x c = search needs
-
-parse-two-floats-in-parens-requires : tie.Need-parse-two-floats-in-parens-requires
-parse-two-floats-in-parens-requires c κs = search needs
-
-enum-known-r-2 : tie.Need-enum-known-r-2
-enum-known-r-2 c = search needs
-
-enum-known-x-2 : tie.Need-enum-known-x-2
-enum-known-x-2 c = search needs
-
-parse-two-floats-in-parens-requires-2 : tie.Need-parse-two-floats-in-parens-requires-2
-parse-two-floats-in-parens-requires-2 c κs = search needs
-
-enum-known-r-3 : tie.Need-enum-known-r-3
-enum-known-r-3 c = search needs
-
-enum-known-x-3 : tie.Need-enum-known-x-3
-enum-known-x-3 c = search needs
-
 returns : tie.Need-returns
 unfolding springFields criticalDamping
 returns c =
@@ -98,20 +71,6 @@ returns-6 c =
 
 pub damping-step-spec : {M : Type 1} → statement M
 damping-step-spec =
-    tie.close
-    (tie.spec
-    parse-float-in-parens-requires
-    enum-known-r
-    enum-known-x
-    parse-two-floats-in-parens-requires
-    enum-known-r-2
-    enum-known-x-2
-    parse-two-floats-in-parens-requires-2
-    enum-known-r-3
-    enum-known-x-3
-    returns
-    returns-2
-    returns-3
-    returns-4
-    returns-5
+    tie.close (tie.spec (λ c κs. search needs) (λ c. search needs) (λ c. search needs) (λ c κs. search needs) (λ c. search needs)
+    (λ c. search needs) (λ c κs. search needs) (λ c. search needs) (λ c. search needs) returns returns-2 returns-3 returns-4 returns-5
     returns-6)

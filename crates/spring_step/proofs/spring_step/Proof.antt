@@ -14,81 +14,12 @@ use borrow.Author.Needs.{needs}
 use Rattle.spring_step.proofs.spring_step.Statement.{statement}
 use Rattle.spring_step.proofs.spring_step.Tie as tie
 
-slice-aggregate-choice : tie.Need-slice-aggregate-choice
-slice-aggregate-choice c = search needs
-
-choice-requires : tie.Need-choice-requires
-choice-requires c κs = search needs
-
-enum-known-r : tie.Need-enum-known-r
-enum-known-r c = search needs
-
-enum-known-i : tie.Need-enum-known-i
-enum-known-i c = search needs
-
 cast-t47 : tie.Need-cast-t47
 unfolding entries
 cast-t47 c =
     let at-choice = c .before .before .before in
     let b = choice-below _ _ _ _ _ _ (rw (c .before .i .given .1) at (at-choice .choice .ensures)) in
     omega (arith, b)
-
-parse-float-requires : tie.Need-parse-float-requires
-parse-float-requires c κs = search needs
-
-enum-known-r-2 : tie.Need-enum-known-r-2
-enum-known-r-2 c = search needs
-
-enum-known-x : tie.Need-enum-known-x
-enum-known-x c = search needs
-
-parse-float-requires-2 : tie.Need-parse-float-requires-2
-parse-float-requires-2 c κs = search needs
-
-enum-known-r-3 : tie.Need-enum-known-r-3
-enum-known-r-3 c = search needs
-
-enum-known-x-2 : tie.Need-enum-known-x-2
-enum-known-x-2 c = search needs
-
-parse-float-requires-3 : tie.Need-parse-float-requires-3
-parse-float-requires-3 c κs = search needs
-
-enum-known-r-4 : tie.Need-enum-known-r-4
-enum-known-r-4 c = search needs
-
-enum-known-x-3 : tie.Need-enum-known-x-3
-enum-known-x-3 c = search needs
-
-past-value-requires : tie.Need-past-value-requires
-past-value-requires c κs = search needs
-
-enum-known-r-5 : tie.Need-enum-known-r-5
-enum-known-r-5 c = search needs
-
-enum-known-m : tie.Need-enum-known-m
-enum-known-m c = search needs
-
-parse-float-requires-4 : tie.Need-parse-float-requires-4
-parse-float-requires-4 c κs = search needs
-
-enum-known-r-6 : tie.Need-enum-known-r-6
-enum-known-r-6 c = search needs
-
-enum-known-x-4 : tie.Need-enum-known-x-4
-enum-known-x-4 c = search needs
-
-slice-aggregate-choice-2 : tie.Need-slice-aggregate-choice-2
-slice-aggregate-choice-2 c = search needs
-
-choice-requires-2 : tie.Need-choice-requires-2
-choice-requires-2 c κs = search needs
-
-enum-known-r-7 : tie.Need-enum-known-r-7
-enum-known-r-7 c = search needs
-
-enum-known-i-2 : tie.Need-enum-known-i-2
-enum-known-i-2 c = search needs
 
 cast-t111 : tie.Need-cast-t111
 unfolding entries
@@ -211,51 +142,11 @@ returns-14 c =
     a-case 6 "integrator" (λ l. at-match .match .keys7) (choice Malformed integratorNames) 6 _ refl refl refl
     (rw (c .before .i2 .given .1) at (at-choice2 .choice2 .ensures))
 
-returns-15 : tie.Need-returns-15
-returns-15 c = search needs
-
 pub spring-step-spec : {M : Type 1} → statement M
 spring-step-spec =
-    tie.close
-    (tie.spec
-    slice-aggregate-choice
-    choice-requires
-    enum-known-r
-    enum-known-i
-    cast-t47
-    parse-float-requires
-    enum-known-r-2
-    enum-known-x
-    parse-float-requires-2
-    enum-known-r-3
-    enum-known-x-2
-    parse-float-requires-3
-    enum-known-r-4
-    enum-known-x-3
-    past-value-requires
-    enum-known-r-5
-    enum-known-m
-    parse-float-requires-4
-    enum-known-r-6
-    enum-known-x-4
-    slice-aggregate-choice-2
-    choice-requires-2
-    enum-known-r-7
-    enum-known-i-2
-    cast-t111
-    damping-step-requires
-    returns
-    returns-2
-    returns-3
-    returns-4
-    returns-5
-    returns-6
-    returns-7
-    returns-8
-    returns-9
-    returns-10
-    returns-11
-    returns-12
-    returns-13
-    returns-14
-    returns-15)
+    tie.close (tie.spec (λ c. search needs) (λ c κs. search needs) (λ c. search needs) (λ c. search needs) cast-t47 (λ c κs. search needs)
+    (λ c. search needs) (λ c. search needs) (λ c κs. search needs) (λ c. search needs) (λ c. search needs) (λ c κs. search needs)
+    (λ c. search needs) (λ c. search needs) (λ c κs. search needs) (λ c. search needs) (λ c. search needs) (λ c κs. search needs)
+    (λ c. search needs) (λ c. search needs) (λ c. search needs) (λ c κs. search needs) (λ c. search needs) (λ c. search needs) cast-t111
+    damping-step-requires returns returns-2 returns-3 returns-4 returns-5 returns-6 returns-7 returns-8 returns-9 returns-10 returns-11
+    returns-12 returns-13 returns-14 (λ c. search needs))

@@ -6,14 +6,11 @@ use borrow.Author.Needs.{needs}
 use Rattle.strip.proofs.strip_mean.Statement.{statement}
 use Rattle.strip.proofs.strip_mean.Tie as tie
 
-mean-requires : tie.Need-mean-requires
-mean-requires c κs = search needs
-
-pack-mean-requires : tie.Need-pack-mean-requires
-pack-mean-requires c κs = search needs
-
 returns : tie.Need-returns
-returns c = c .pack-mean .ensures ∙ ap (λ (a : MeanAnswer). meanOutcome a (c .before .before .before .args .out .now)) (c .before .before .mean .ensures .0)
+returns c =
+    let at-mean = c .before .before in
+    let start = at-mean .before in
+    c .pack-mean .ensures ∙ ap (λ (a : MeanAnswer). meanOutcome a (start .args .out .now)) (at-mean .mean .ensures .0)
 
 pub strip-mean-spec : {M : Type 1} → statement M
-strip-mean-spec = tie.close (tie.spec mean-requires pack-mean-requires returns)
+strip-mean-spec = tie.close (tie.spec (λ c κs. search needs) (λ c κs. search needs) returns)

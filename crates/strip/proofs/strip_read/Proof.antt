@@ -3,21 +3,11 @@ use borrow.Author.Needs.{needs}
 use Rattle.strip.proofs.strip_read.Statement.{statement}
 use Rattle.strip.proofs.strip_read.Tie as tie
 
-read-requires : tie.Need-read-requires
-read-requires c κs = search needs
-
-pack-read-requires : tie.Need-pack-read-requires
-pack-read-requires c κs = search needs
-
-same-length : tie.Need-same-length
-same-length c = search needs
-
-same-length-2 : tie.Need-same-length-2
-same-length-2 c = search needs
-
 returns : tie.Need-returns
-returns c = rw (c .pack-read .ensures, ← c .before .before .before .before .before .read .ensures .0)
+returns c =
+    let c4 = c .before .before .before .before in
+    let at-read = c4 .before in
+    rw (c .pack-read .ensures, ← at-read .read .ensures .0)
 
 pub strip-read-spec : {M : Type 1} → statement M
-strip-read-spec =
-    tie.close (tie.spec read-requires pack-read-requires same-length same-length-2 returns)
+strip-read-spec = tie.close (tie.spec (λ c κs. search needs) (λ c κs. search needs) (λ c. search needs) (λ c. search needs) returns)

@@ -16,23 +16,8 @@ Inv-loop names word at₀ i₀ at i = (i ≤ at) × (find (table names) 0 word �
 abbrev μ-loop : tie.MeasureT-loop
 μ-loop names word at₀ i₀ at i = length names - at
 
-loop-holds : tie.Need-loop-holds Inv-loop μ-loop
-loop-holds c = search needs
-
-shared-slice-read-size : tie.Need-shared-slice-read-size Inv-loop μ-loop
-shared-slice-read-size c = search needs
-
 cast-size : tie.Need-cast-size Inv-loop μ-loop
 cast-size c = omega (arith, c .shared-slice-known3 .given (c .before .before .loop .at))
-
-add-part : tie.Need-add-part Inv-loop μ-loop
-add-part c = search needs
-
-part-requires : tie.Need-part-requires Inv-loop μ-loop
-part-requires c κs = search needs
-
-is-word-requires : tie.Need-is-word-requires Inv-loop μ-loop
-is-word-requires c κs = search needs
 
 returns : tie.Need-returns Inv-loop μ-loop
 returns c =
@@ -56,12 +41,6 @@ add-at-2 c =
     let at-loop = at-shared-slice-known3 .before .before in
     omega (arith, at-shared-slice-known3 .shared-slice-known3 .given (at-loop .loop .at))
 
-add-i : tie.Need-add-i Inv-loop μ-loop
-add-i c = search needs
-
-loop-less : tie.Need-loop-less Inv-loop μ-loop
-loop-less c = search needs
-
 loop-again : tie.Need-loop-again Inv-loop μ-loop
 loop-again c =
     let at-is-word = c .before in
@@ -81,20 +60,5 @@ returns-2 c =
 
 pub find-spec : {M : Type 1} → statement M
 find-spec =
-    tie.close
-    (tie.spec
-    Inv-loop
-    μ-loop
-    loop-holds
-    shared-slice-read-size
-    cast-size
-    add-part
-    part-requires
-    is-word-requires
-    returns
-    add-at
-    add-at-2
-    add-i
-    loop-less
-    loop-again
-    returns-2)
+    tie.close (tie.spec Inv-loop μ-loop (λ c. search needs) (λ c. search needs) cast-size (λ c. search needs) (λ c κs. search needs)
+    (λ c κs. search needs) returns add-at add-at-2 (λ c. search needs) (λ c. search needs) loop-again returns-2)

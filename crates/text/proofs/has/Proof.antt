@@ -15,23 +15,11 @@ Inv-loop set b i₀ i = (i ≤ length set) × (oneOf set b ≡ oneOf (drop i set
 abbrev μ-loop : tie.MeasureT-loop
 μ-loop set b i₀ i = length set - i
 
-loop-holds : tie.Need-loop-holds Inv-loop μ-loop
-loop-holds c = search needs
-
-shared-slice-read-if1 : tie.Need-shared-slice-read-if1 Inv-loop μ-loop
-shared-slice-read-if1 c = search needs
-
 returns : tie.Need-returns Inv-loop μ-loop
 returns c =
     let at-loop = c .before .before .before in
     let args = at-loop .before .args in
     sym (at-loop .loop .inv .1 ∙ has-yes (args .set .now) (at-loop .loop .i) (args .b) (omega arith) (c .if1 .taken))
-
-add-i : tie.Need-add-i Inv-loop μ-loop
-add-i c = search needs
-
-loop-less : tie.Need-loop-less Inv-loop μ-loop
-loop-less c = search needs
 
 loop-again : tie.Need-loop-again Inv-loop μ-loop
 loop-again c =
@@ -46,14 +34,5 @@ returns-2 c =
 
 pub has-spec : {M : Type 1} → statement M
 has-spec =
-    tie.close
-    (tie.spec
-    Inv-loop
-    μ-loop
-    loop-holds
-    shared-slice-read-if1
-    returns
-    add-i
-    loop-less
-    loop-again
+    tie.close (tie.spec Inv-loop μ-loop (λ c. search needs) (λ c. search needs) returns (λ c. search needs) (λ c. search needs) loop-again
     returns-2)

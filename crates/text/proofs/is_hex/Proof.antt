@@ -4,21 +4,11 @@ use borrow.Author.Needs.{needs}
 use Rattle.text.proofs.is_hex.Statement.{statement}
 use Rattle.text.proofs.is_hex.Tie as tie
 
-between-requires : tie.Need-between-requires
-between-requires c κs = search needs
-
 returns : tie.Need-returns
 returns c = rw (sym (c .before .between .ensures) ∙ c .if1 .taken)
-
-slice-aggregate-has : tie.Need-slice-aggregate-has
-slice-aggregate-has c = search needs
-
-has-requires : tie.Need-has-requires
-has-requires c κs = search needs
 
 returns-2 : tie.Need-returns-2
 returns-2 c = rw (sym (c .before .before .before .between .ensures) ∙ c .before .before .if1 .left, c .has .ensures)
 
 pub is-hex-spec : {M : Type 1} → statement M
-is-hex-spec =
-    tie.close (tie.spec between-requires returns slice-aggregate-has has-requires returns-2)
+is-hex-spec = tie.close (tie.spec (λ c κs. search needs) returns (λ c. search needs) (λ c κs. search needs) returns-2)

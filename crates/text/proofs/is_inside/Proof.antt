@@ -5,9 +5,6 @@ use Rattle.text.proofs.ByteLaws.{neither-is}
 use Rattle.text.proofs.is_inside.Statement.{statement}
 use Rattle.text.proofs.is_inside.Tie as tie
 
-between-requires : tie.Need-between-requires
-between-requires c κs = search needs
-
 returns : tie.Need-returns
 returns c =
     let b = c .before .before .args .b in
@@ -17,5 +14,4 @@ returns-2 : tie.Need-returns-2
 returns-2 c = rw (sym (c .before .between .ensures) ∙ c .if1 .left)
 
 pub is-inside-spec : {M : Type 1} → statement M
-is-inside-spec =
-    tie.close (tie.spec between-requires returns returns-2)
+is-inside-spec = tie.close (tie.spec (λ c κs. search needs) returns returns-2)

@@ -4,14 +4,8 @@ use borrow.Author.Needs.{needs}
 use Rattle.text.proofs.is_letter.Statement.{statement}
 use Rattle.text.proofs.is_letter.Tie as tie
 
-between-requires : tie.Need-between-requires
-between-requires c κs = search needs
-
 returns : tie.Need-returns
 returns c = rw (sym (c .before .between .ensures) ∙ c .if1 .taken)
-
-is-upper-requires : tie.Need-is-upper-requires
-is-upper-requires c κs = search needs
 
 returns-2 : tie.Need-returns-2
 returns-2 c =
@@ -26,5 +20,4 @@ returns-3 c =
     rw (sym (at-between .between .ensures) ∙ at-if1 .if1 .left, sym (c .before .is-upper .ensures) ∙ c .if2 .left)
 
 pub is-letter-spec : {M : Type 1} → statement M
-is-letter-spec =
-    tie.close (tie.spec between-requires returns is-upper-requires returns-2 returns-3)
+is-letter-spec = tie.close (tie.spec (λ c κs. search needs) returns (λ c κs. search needs) returns-2 returns-3)

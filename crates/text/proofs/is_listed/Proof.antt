@@ -6,15 +6,6 @@ use Rattle.text.specs.Means.{placeOf}
 use Rattle.text.proofs.is_listed.Statement.{statement}
 use Rattle.text.proofs.is_listed.Tie as tie
 
-find-requires : tie.Need-find-requires
-find-requires c κs = search needs
-
-enum-told : tie.Need-enum-told
-enum-told c = search needs
-
-enum-told-2 : tie.Need-enum-told-2
-enum-told-2 c = search needs
-
 returns : tie.Need-returns
 returns c = ap isSome (sym (ap placeOf (c .enum-told .given .1)) ∙ c .before .before .find .ensures)
 
@@ -22,4 +13,4 @@ returns-2 : tie.Need-returns-2
 returns-2 c = ap isSome (sym (ap placeOf (c .enum-told2 .given .1)) ∙ c .before .before .find .ensures)
 
 pub is-listed-spec : {M : Type 1} → statement M
-is-listed-spec = tie.close (tie.spec find-requires enum-told enum-told-2 returns returns-2)
+is-listed-spec = tie.close (tie.spec (λ c κs. search needs) (λ c. search needs) (λ c. search needs) returns returns-2)

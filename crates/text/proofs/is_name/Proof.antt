@@ -4,17 +4,11 @@ use borrow.Author.Needs.{needs}
 use Rattle.text.proofs.is_name.Statement.{statement}
 use Rattle.text.proofs.is_name.Tie as tie
 
-is-letter-requires : tie.Need-is-letter-requires
-is-letter-requires c κs = search needs
-
 returns : tie.Need-returns
 returns c = rw (sym (c .before .is-letter .ensures) ∙ c .if1 .taken)
-
-between-requires : tie.Need-between-requires
-between-requires c κs = search needs
 
 returns-2 : tie.Need-returns-2
 returns-2 c = rw (sym (c .before .before .is-letter .ensures) ∙ c .before .if1 .left) (c .between .ensures)
 
 pub is-name-spec : {M : Type 1} → statement M
-is-name-spec = tie.close (tie.spec is-letter-requires returns between-requires returns-2)
+is-name-spec = tie.close (tie.spec (λ c κs. search needs) returns (λ c κs. search needs) returns-2)

@@ -6,9 +6,6 @@ use Rattle.text.proofs.ByteLaws.{within-is}
 use Rattle.text.proofs.lower.Statement.{statement}
 use Rattle.text.proofs.lower.Tie as tie
 
-is-upper-requires : tie.Need-is-upper-requires
-is-upper-requires c κs = search needs
-
 add-result : tie.Need-add-result
 add-result c =
     let start = c .before .before in
@@ -21,4 +18,4 @@ returns-2 : tie.Need-returns-2
 returns-2 c = rw (sym (c .before .is-upper .ensures) ∙ c .if1 .left)
 
 pub lower-spec : {M : Type 1} → statement M
-lower-spec = tie.close (tie.spec is-upper-requires add-result returns returns-2)
+lower-spec = tie.close (tie.spec (λ c κs. search needs) add-result returns returns-2)

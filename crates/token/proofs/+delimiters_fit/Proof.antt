@@ -41,29 +41,11 @@ calls t = (
   delimiters-fit.Post,
 )
 
-delimiters-fit-part-fits-requires : (t : ℕ) → delimiters-fit-lts.Need-part-fits-requires (calls t) (delimiters-fit-at t) delimiters-fit.Post
-delimiters-fit-part-fits-requires t c κs = search needs
-
-delimiters-fit-enum-told : (t : ℕ) → delimiters-fit-lts.Need-enum-told (calls t) (delimiters-fit-at t) delimiters-fit.Post
-delimiters-fit-enum-told t c = search needs
-
-delimiters-fit-enum-known-q : (t : ℕ) → delimiters-fit-lts.Need-enum-known-q (calls t) (delimiters-fit-at t) delimiters-fit.Post
-delimiters-fit-enum-known-q t c = search needs
-
-delimiters-fit-is-closed-requires : (t : ℕ) → delimiters-fit-lts.Need-is-closed-requires (calls t) (delimiters-fit-at t) delimiters-fit.Post
-delimiters-fit-is-closed-requires t c κs = search needs
-
-delimiters-fit-same-length : (t : ℕ) → delimiters-fit-lts.Need-same-length (calls t) (delimiters-fit-at t) delimiters-fit.Post
-delimiters-fit-same-length t c = search needs
-
 delimiters-fit-returns : (t : ℕ) → delimiters-fit-lts.Need-returns (calls t) (delimiters-fit-at t) delimiters-fit.Post
 delimiters-fit-returns t c =
     let at-part-fits = c .before .before .before .before in
     let m = rw (c .enum-told .given .1) at (at-part-fits .part-fits .ensures []) in
     sym (rw append-nil at m)
-
-delimiters-fit-same-length-2 : (t : ℕ) → delimiters-fit-lts.Need-same-length-2 (calls t) (delimiters-fit-at t) delimiters-fit.Post
-delimiters-fit-same-length-2 t c = search needs
 
 delimiters-fit-returns-2 : (t : ℕ) → delimiters-fit-lts.Need-returns-2 (calls t) (delimiters-fit-at t) delimiters-fit.Post
 delimiters-fit-returns-2 t c =
@@ -85,23 +67,6 @@ delimiters-fit-part-fits-requires-2 t c κs =
     let start = c4 .before in
     (omega (arith, length-take-le textLimit (start .args .text .now) (omega arith)), start .pre .1 .0, start .pre .1 .1)
 
-delimiters-fit-enum-told-2 : (t : ℕ) → delimiters-fit-lts.Need-enum-told-2 (calls t) (delimiters-fit-at t) delimiters-fit.Post
-delimiters-fit-enum-told-2 t c = search needs
-
-delimiters-fit-enum-known-q-2 : (t : ℕ) → delimiters-fit-lts.Need-enum-known-q-2 (calls t) (delimiters-fit-at t) delimiters-fit.Post
-delimiters-fit-enum-known-q-2 t c = search needs
-
-delimiters-fit-sub-delimiters-fit : (t : ℕ) → delimiters-fit-lts.Need-sub-delimiters-fit (calls t) (delimiters-fit-at t) delimiters-fit.Post
-delimiters-fit-sub-delimiters-fit t c = search needs
-
-delimiters-fit-part-delimiters-fit-start : (t : ℕ)
-    → delimiters-fit-lts.Need-part-delimiters-fit-start (calls t) (delimiters-fit-at t) delimiters-fit.Post
-delimiters-fit-part-delimiters-fit-start t c = search needs
-
-delimiters-fit-part-delimiters-fit-end : (t : ℕ)
-    → delimiters-fit-lts.Need-part-delimiters-fit-end (calls t) (delimiters-fit-at t) delimiters-fit.Post
-delimiters-fit-part-delimiters-fit-end t c = search needs
-
 delimiters-fit-delimiters-fit-requires : (t : ℕ)
     → delimiters-fit-lts.Need-delimiters-fit-requires (calls t) (delimiters-fit-at t) delimiters-fit.Post
 delimiters-fit-delimiters-fit-requires t c κs =
@@ -114,9 +79,6 @@ delimiters-fit-delimiters-fit-requires t c κs =
     let l = ap length (rest-of text textLimit) ∙ length-drop textLimit text in
     (omega (arith, l, start .pre .0), (omega (arith, at-part-fits .part-fits2 .kept .1 .1 .0, start .pre .1 .0), m .few))
 
-delimiters-fit-same-length-3 : (t : ℕ) → delimiters-fit-lts.Need-same-length-3 (calls t) (delimiters-fit-at t) delimiters-fit.Post
-delimiters-fit-same-length-3 t c = search needs
-
 delimiters-fit-returns-3 : (t : ℕ) → delimiters-fit-lts.Need-returns-3 (calls t) (delimiters-fit-at t) delimiters-fit.Post
 delimiters-fit-returns-3 t c =
     let at-part-fits = c .before .before .before .before in
@@ -125,9 +87,6 @@ delimiters-fit-returns-3 t c =
     let text = start .args .text .now in
     let m = rw (c .enum-told2 .given .1) at (at-part-fits .part-fits2 .ensures (drop textLimit text)) in
     sym (rw (take-append-drop textLimit text) at m)
-
-delimiters-fit-same-length-4 : (t : ℕ) → delimiters-fit-lts.Need-same-length-4 (calls t) (delimiters-fit-at t) delimiters-fit.Post
-delimiters-fit-same-length-4 t c = search needs
 
 delimiters-fit-returns-4 : (t : ℕ) → delimiters-fit-lts.Need-returns-4 (calls t) (delimiters-fit-at t) delimiters-fit.Post
 delimiters-fit-returns-4 t c =
@@ -141,26 +100,10 @@ delimiters-fit-returns-4 t c =
     rw (rest-of text textLimit) at (at-delimiters-fit .delimiters-fit .ensures) ∙ sym (rw (take-append-drop textLimit text) at (m .is))
 
 pub +delimiters-fit-spec : {M : Type 1} → statement M
-+delimiters-fit-spec = close μ-delimiters-fit λ t. delimiters-fit-lts.spec (calls t)
-    (delimiters-fit-at t)
-    delimiters-fit.Post
-    (delimiters-fit-part-fits-requires t)
-    (delimiters-fit-enum-told t)
-    (delimiters-fit-enum-known-q t)
-    (delimiters-fit-is-closed-requires t)
-    (delimiters-fit-same-length t)
-    (delimiters-fit-returns t)
-    (delimiters-fit-same-length-2 t)
-    (delimiters-fit-returns-2 t)
-    (delimiters-fit-slice-aggregate-part-fits t)
-    (delimiters-fit-part-fits-requires-2 t)
-    (delimiters-fit-enum-told-2 t)
-    (delimiters-fit-enum-known-q-2 t)
-    (delimiters-fit-sub-delimiters-fit t)
-    (delimiters-fit-part-delimiters-fit-start t)
-    (delimiters-fit-part-delimiters-fit-end t)
-    (delimiters-fit-delimiters-fit-requires t)
-    (delimiters-fit-same-length-3 t)
-    (delimiters-fit-returns-3 t)
-    (delimiters-fit-same-length-4 t)
-    (delimiters-fit-returns-4 t)
++delimiters-fit-spec =
+    close μ-delimiters-fit
+    λ t. delimiters-fit-lts.spec (calls t) (delimiters-fit-at t) delimiters-fit.Post (λ c κs. search needs) (λ c. search needs)
+    (λ c. search needs) (λ c κs. search needs) (λ c. search needs) (delimiters-fit-returns t) (λ c. search needs)
+    (delimiters-fit-returns-2 t) (delimiters-fit-slice-aggregate-part-fits t) (delimiters-fit-part-fits-requires-2 t) (λ c. search needs)
+    (λ c. search needs) (λ c. search needs) (λ c. search needs) (λ c. search needs) (delimiters-fit-delimiters-fit-requires t)
+    (λ c. search needs) (delimiters-fit-returns-3 t) (λ c. search needs) (delimiters-fit-returns-4 t)

@@ -69,9 +69,6 @@ digit t w i h l = within-is 48 57 (getD t i 0) (run-in isDigit t i (omega arith)
 loop-holds : tie.Need-loop-holds Inv-loop μ-loop
 loop-holds c = (omega arith, inl (rw sub-zero))
 
-cast-grown : tie.Need-cast-grown Inv-loop μ-loop
-cast-grown c = search needs
-
 shared-slice-read-grown : tie.Need-shared-slice-read-grown Inv-loop μ-loop
 shared-slice-read-grown c =
     let start = c .before .before .before .before in
@@ -92,12 +89,6 @@ grown-requires c κs =
     let start = at-loop .before .before in
     omega (arith, digit (start .args .t .now) (start .args .w) (at-loop .loop .i) (start .pre) (c .before .loop-test .taken) .1)
 
-add-i : tie.Need-add-i Inv-loop μ-loop
-add-i c = search needs
-
-loop-less : tie.Need-loop-less Inv-loop μ-loop
-loop-less c = search needs
-
 loop-again : tie.Need-loop-again Inv-loop μ-loop
 loop-again c =
     let at-loop = c .before .before .before in
@@ -117,17 +108,5 @@ returns c =
 
 pub capped-spec : {M : Type 1} → statement M
 capped-spec =
-    tie.close
-    (tie.spec
-    Inv-loop
-    μ-loop
-    loop-holds
-    cast-grown
-    shared-slice-read-grown
-    sub-grown
-    cast-grown-2
-    grown-requires
-    add-i
-    loop-less
-    loop-again
-    returns)
+    tie.close (tie.spec Inv-loop μ-loop loop-holds (λ c. search needs) shared-slice-read-grown sub-grown cast-grown-2 grown-requires
+    (λ c. search needs) (λ c. search needs) loop-again returns)

@@ -9,12 +9,6 @@ use Rattle.token.proofs.LexLaws.{inside, clings-is}
 use Rattle.token.proofs.clinging.Statement.{statement}
 use Rattle.token.proofs.clinging.Tie as tie
 
-byte-at-requires : tie.Need-byte-at-requires
-byte-at-requires c κs = search needs
-
-in-class-requires : tie.Need-in-class-requires
-in-class-requires c κs = search needs
-
 returns : tie.Need-returns
 returns c =
     let at-byte-at = c .before .before in
@@ -54,18 +48,12 @@ returns-3 c =
     (c .if3 .taken)
     refl refl
 
-byte-at-requires-2 : tie.Need-byte-at-requires-2
-byte-at-requires-2 c κs = search needs
-
 add-byte-at : tie.Need-add-byte-at
 add-byte-at c =
     let at-byte-at2 = c .before in
     let c5 = at-byte-at2 .before .before .before .before in
     let args = c5 .before .before .before .args in
     omega (arith, inside (args .t .now) (args .n) 46 (sym (at-byte-at2 .byte-at2 .ensures) ∙ c .if4 .taken) (omega arith))
-
-byte-at-requires-3 : tie.Need-byte-at-requires-3
-byte-at-requires-3 c κs = search needs
 
 returns-4 : tie.Need-returns-4
 returns-4 c =
@@ -111,15 +99,5 @@ returns-5 c =
 
 pub clinging-spec : {M : Type 1} → statement M
 clinging-spec =
-    tie.close
-    (tie.spec
-    byte-at-requires
-    in-class-requires
-    returns
-    returns-2
-    returns-3
-    byte-at-requires-2
-    add-byte-at
-    byte-at-requires-3
-    returns-4
-    returns-5)
+    tie.close (tie.spec (λ c κs. search needs) (λ c κs. search needs) returns returns-2 returns-3 (λ c κs. search needs) add-byte-at
+    (λ c κs. search needs) returns-4 returns-5)

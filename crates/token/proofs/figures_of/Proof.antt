@@ -65,14 +65,8 @@ soon w =
     in
     omega (arith, w .past-fraction .ensures)
 
-run-end-requires : tie.Need-run-end-requires
-run-end-requires c κs = search needs
-
 cast-w : tie.Need-cast-w
 cast-w c = omega (arith, c .before .before .pre .whole)
-
-has-point-requires : tie.Need-has-point-requires
-has-point-requires c κs = search needs
 
 past-fraction-requires : tie.Need-past-fraction-requires
 past-fraction-requires c κs =
@@ -84,23 +78,14 @@ past-fraction-requires c κs =
 power-size-requires : tie.Need-power-size-requires
 power-size-requires c κs = omega (arith, soon c)
 
-places-of-requires : tie.Need-places-of-requires
-places-of-requires c κs = search needs
-
 sub-from : tie.Need-sub-from
 sub-from c = let f = few c in fraction-low [] _ _ _ _ (f .places)
 
 power-of-requires : tie.Need-power-of-requires
 power-of-requires c κs = (omega (arith, soon (c .before .before)), c .before .power-size .ensures)
 
-cast-byte-at : tie.Need-cast-byte-at
-cast-byte-at c = search needs
-
 add-byte-at : tie.Need-add-byte-at
 add-byte-at c = omega (arith, soon (c .before .before .before))
-
-byte-at-requires : tie.Need-byte-at-requires
-byte-at-requires c κs = search needs
 
 sign : (t : List ℕ) (n b : ℕ) (x : Bool) → b ≡ getD t (n + 1) 0 → eqb b 45 ≡ x → eqb (getD t (suc n) 0) 45 ≡ x
 sign t n b x e h = ap (λ (z : ℕ). eqb (getD t z 0) 45) (sym (add-one n)) ∙ ap (λ (z : ℕ). eqb z 45) (sym e) ∙ h
@@ -157,18 +142,5 @@ returns-2 c =
 
 pub figures-of-spec : {M : Type 1} → statement M
 figures-of-spec =
-    tie.close
-    (tie.spec
-    run-end-requires
-    cast-w
-    has-point-requires
-    past-fraction-requires
-    power-size-requires
-    places-of-requires
-    sub-from
-    power-of-requires
-    cast-byte-at
-    add-byte-at
-    byte-at-requires
-    returns
-    returns-2)
+    tie.close (tie.spec (λ c κs. search needs) cast-w (λ c κs. search needs) past-fraction-requires power-size-requires
+    (λ c κs. search needs) sub-from power-of-requires (λ c. search needs) add-byte-at (λ c κs. search needs) returns returns-2)

@@ -8,15 +8,6 @@ use Rattle.token.proofs.LexLaws.{lex-cut, lex-is}
 use Rattle.token.proofs.first.Statement.{statement}
 use Rattle.token.proofs.first.Tie as tie
 
-byte-at-requires : tie.Need-byte-at-requires
-byte-at-requires c κs = search needs
-
-in-class-requires : tie.Need-in-class-requires
-in-class-requires c κs = search needs
-
-name-at-requires : tie.Need-name-at-requires
-name-at-requires c κs = search needs
-
 returns : tie.Need-returns
 returns c =
     let at-in-class = c .before .before in
@@ -26,12 +17,6 @@ returns c =
     let e = sym (at-byte-at .byte-at .ensures) in
     lex-cut t _ (lex-is t true _ _ _ (rw e (sym (at-in-class .in-class .ensures) ∙ c .before .if1 .taken)) refl refl refl)
     (c .name-at .result) (c .name-at .ensures)
-
-in-class-requires-2 : tie.Need-in-class-requires-2
-in-class-requires-2 c κs = search needs
-
-number-at-requires : tie.Need-number-at-requires
-number-at-requires c κs = search needs
 
 returns-2 : tie.Need-returns-2
 returns-2 c =
@@ -48,9 +33,6 @@ returns-2 c =
     (c .number-at .result)
     (c .number-at .ensures)
 
-quoted-at-requires : tie.Need-quoted-at-requires
-quoted-at-requires c κs = search needs
-
 returns-3 : tie.Need-returns-3
 returns-3 c =
     let at-if2 = c .before .before in
@@ -66,9 +48,6 @@ returns-3 c =
     (rw e (sym (at-in-class2 .in-class2 .ensures) ∙ at-if2 .if2 .left)) (eq-eqb _ 34 (e ∙ c .before .if3 .taken)) refl)
     (c .quoted-at .result)
     (c .quoted-at .ensures)
-
-is-mark-requires : tie.Need-is-mark-requires
-is-mark-requires c κs = search needs
 
 returns-4 : tie.Need-returns-4
 returns-4 c =
@@ -106,17 +85,5 @@ returns-5 c =
 
 pub first-spec : {M : Type 1} → statement M
 first-spec =
-    tie.close
-    (tie.spec
-    byte-at-requires
-    in-class-requires
-    name-at-requires
-    returns
-    in-class-requires-2
-    number-at-requires
-    returns-2
-    quoted-at-requires
-    returns-3
-    is-mark-requires
-    returns-4
-    returns-5)
+    tie.close (tie.spec (λ c κs. search needs) (λ c κs. search needs) (λ c κs. search needs) returns (λ c κs. search needs)
+    (λ c κs. search needs) returns-2 (λ c κs. search needs) returns-3 (λ c κs. search needs) returns-4 returns-5)

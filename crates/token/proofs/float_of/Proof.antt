@@ -12,18 +12,6 @@ use borrow.Author.Needs.{needs}
 use Rattle.token.proofs.float_of.Statement.{statement}
 use Rattle.token.proofs.float_of.Tie as tie
 
-cast-long-float : tie.Need-cast-long-float
-cast-long-float c = search needs
-
-sub-long-float : tie.Need-sub-long-float
-sub-long-float c = search needs
-
-part-long-float-start : tie.Need-part-long-float-start
-part-long-float-start c = search needs
-
-part-long-float-end : tie.Need-part-long-float-end
-part-long-float-end c = search needs
-
 long-float-requires : tie.Need-long-float-requires
 long-float-requires c κs =
     let start = c .before .before .before .before in
@@ -34,9 +22,6 @@ returns c =
     let c4 = c .before .before .before .before in
     let start = c4 .before in
     rw (rest-of (start .args .text .now) (start .args .n .at)) at (c .long-float .ensures)
-
-decimal-requires : tie.Need-decimal-requires
-decimal-requires c κs = search needs
 
 short-value : (s : Bool) (w : Written) (n : numbers.Number) (x : Float) → Reads w n → n .long ≡ false
     → x ≡ round binary32 s (n .digits) (10 ^ n .places) → x ≡ nearest s w
@@ -59,13 +44,5 @@ returns-2 c =
 
 pub float-of-spec : {M : Type 1} → statement M
 float-of-spec =
-    tie.close
-    (tie.spec
-    cast-long-float
-    sub-long-float
-    part-long-float-start
-    part-long-float-end
-    long-float-requires
-    returns
-    decimal-requires
-    returns-2)
+    tie.close (tie.spec (λ c. search needs) (λ c. search needs) (λ c. search needs) (λ c. search needs) long-float-requires returns
+    (λ c κs. search needs) returns-2)

@@ -9,19 +9,10 @@ use Rattle.token.specs.Token.{pointAt}
 use Rattle.token.proofs.has_point.Statement.{statement}
 use Rattle.token.proofs.has_point.Tie as tie
 
-byte-at-requires : tie.Need-byte-at-requires
-byte-at-requires c κs = search needs
-
 add-byte-at : tie.Need-add-byte-at
 add-byte-at c =
     let args = c .before .before .before .args in
     omega (arith, inside (args .t .now) (args .w) 46 (sym (c .before .byte-at .ensures) ∙ c .if1 .taken) (omega arith))
-
-byte-at-requires-2 : tie.Need-byte-at-requires-2
-byte-at-requires-2 c κs = search needs
-
-in-class-requires : tie.Need-in-class-requires
-in-class-requires c κs = search needs
 
 returns : tie.Need-returns
 unfolding pointAt
@@ -36,6 +27,4 @@ unfolding pointAt
 returns-2 c = rw (ne-eqb _ 46 (λ q. c .if1 .left (c .before .byte-at .ensures ∙ q)))
 
 pub has-point-spec : {M : Type 1} → statement M
-has-point-spec =
-    tie.close
-    (tie.spec byte-at-requires add-byte-at byte-at-requires-2 in-class-requires returns returns-2)
+has-point-spec = tie.close (tie.spec (λ c κs. search needs) add-byte-at (λ c κs. search needs) (λ c κs. search needs) returns returns-2)

@@ -4,12 +4,9 @@ use Rattle.token.specs.Token.{suffixAt}
 use Rattle.token.proofs.has_suffix.Statement.{statement}
 use Rattle.token.proofs.has_suffix.Tie as tie
 
-byte-at-requires : tie.Need-byte-at-requires
-byte-at-requires c κs = search needs
-
 returns : tie.Need-returns
 unfolding suffixAt
 returns c = rw (c .byte-at .ensures)
 
 pub has-suffix-spec : {M : Type 1} → statement M
-has-suffix-spec = tie.close (tie.spec byte-at-requires returns)
+has-suffix-spec = tie.close (tie.spec (λ c κs. search needs) returns)

@@ -10,12 +10,6 @@ use Rattle.token.proofs.NameLaws.{allBytes, keyword-packed, keyword-eig
 use Rattle.token.proofs.is_keyword.Statement.{statement}
 use Rattle.token.proofs.is_keyword.Tie as tie
 
-packed-requires : tie.Need-packed-requires
-packed-requires c κs = search needs
-
-is-keyword-upto-4-requires : tie.Need-is-keyword-upto-4-requires
-is-keyword-upto-4-requires c κs = search needs
-
 returns : tie.Need-returns
 unfolding allBytes every sized
 returns c =
@@ -24,12 +18,6 @@ returns c =
     c .is-keyword-upto-4 .ensures
     ∙ keyword-packed upTo4 w (lt-ltb (length w) 5 (omega arith)) refl (λ j l. omega (arith, at-known .shared-slice-known .given j)) _
     (c .before .packed .ensures)
-
-packed-requires-2 : tie.Need-packed-requires-2
-packed-requires-2 c κs = search needs
-
-is-keyword-upto-7-requires : tie.Need-is-keyword-upto-7-requires
-is-keyword-upto-7-requires c κs = search needs
 
 returns-2 : tie.Need-returns-2
 unfolding allBytes every sized
@@ -41,9 +29,6 @@ returns-2 c =
     ∙ keyword-packed upTo7 w (rw (lt-ltb 4 (length w) (omega arith), lt-ltb (length w) 8 (omega arith))) refl
     (λ j l. omega (arith, at-known .shared-slice-known .given j)) _ (c .before .packed2 .ensures)
 
-is-keyword-of-8-requires : tie.Need-is-keyword-of-8-requires
-is-keyword-of-8-requires c κs = search needs
-
 returns-3 : tie.Need-returns-3
 returns-3 c = c .is-keyword-of-8 .ensures ∙ keyword-eight _ (c .before .if3 .taken)
 
@@ -52,14 +37,5 @@ returns-4 c = keyword-long (c .before .before .before .before .args .word .now) 
 
 pub is-keyword-spec : {M : Type 1} → statement M
 is-keyword-spec =
-    tie.close
-    (tie.spec
-    packed-requires
-    is-keyword-upto-4-requires
-    returns
-    packed-requires-2
-    is-keyword-upto-7-requires
-    returns-2
-    is-keyword-of-8-requires
-    returns-3
-    returns-4)
+    tie.close (tie.spec (λ c κs. search needs) (λ c κs. search needs) returns (λ c κs. search needs) (λ c κs. search needs) returns-2
+    (λ c κs. search needs) returns-3 returns-4)

@@ -7,22 +7,10 @@ use Rattle.token.proofs.NameLaws.{find-last}
 use Rattle.token.proofs.is_keyword_of_8.Statement.{statement}
 use Rattle.token.proofs.is_keyword_of_8.Tie as tie
 
-slice-aggregate-is-word : tie.Need-slice-aggregate-is-word
-slice-aggregate-is-word c = search needs
-
-is-word-requires : tie.Need-is-word-requires
-is-word-requires c κs = search needs
-
 returns : tie.Need-returns
 returns c =
     let e = sym (c .before .is-word .ensures) ∙ c .if1 .taken in
     ap isSome (sym (find-here _ _ _ 0 e))
-
-slice-aggregate-is-word-2 : tie.Need-slice-aggregate-is-word-2
-slice-aggregate-is-word-2 c = search needs
-
-is-word-requires-2 : tie.Need-is-word-requires-2
-is-word-requires-2 c κs = search needs
 
 returns-2 : tie.Need-returns-2
 returns-2 c =
@@ -30,12 +18,6 @@ returns-2 c =
     let d = sym (at-if1 .before .is-word .ensures) ∙ at-if1 .if1 .left in
     let e = sym (c .before .is-word2 .ensures) ∙ c .if2 .taken in
     ap isSome (sym (find-past _ _ _ 0 d ∙ find-here _ _ _ 1 e))
-
-slice-aggregate-is-word-3 : tie.Need-slice-aggregate-is-word-3
-slice-aggregate-is-word-3 c = search needs
-
-is-word-requires-3 : tie.Need-is-word-requires-3
-is-word-requires-3 c κs = search needs
 
 returns-3 : tie.Need-returns-3
 returns-3 c =
@@ -48,14 +30,5 @@ returns-3 c =
 
 pub is-keyword-of-8-spec : {M : Type 1} → statement M
 is-keyword-of-8-spec =
-    tie.close
-    (tie.spec
-    slice-aggregate-is-word
-    is-word-requires
-    returns
-    slice-aggregate-is-word-2
-    is-word-requires-2
-    returns-2
-    slice-aggregate-is-word-3
-    is-word-requires-3
-    returns-3)
+    tie.close (tie.spec (λ c. search needs) (λ c κs. search needs) returns (λ c. search needs) (λ c κs. search needs) returns-2
+    (λ c. search needs) (λ c κs. search needs) returns-3)

@@ -13,21 +13,6 @@ roomy : (n d : ℕ) (r : Bits) → Nearest n d r → r .bits < 2147483648
 unfolding bits
 roomy n d r h = rw (h .bits) (bits-room n d)
 
-cast-decimal : tie.Need-cast-decimal
-cast-decimal c = search needs
-
-cast-decimal-2 : tie.Need-cast-decimal-2
-cast-decimal-2 c = search needs
-
-cast-decimal-3 : tie.Need-cast-decimal-3
-cast-decimal-3 c = search needs
-
-cast-decimal-4 : tie.Need-cast-decimal-4
-cast-decimal-4 c = search needs
-
-decimal-requires : tie.Need-decimal-requires
-decimal-requires c κs = search needs
-
 returns : tie.Need-returns
 returns c =
     let c4 = c .before .before .before .before in
@@ -37,5 +22,4 @@ returns c =
 
 pub long-bits-spec : {M : Type 1} → statement M
 long-bits-spec =
-    tie.close
-    (tie.spec cast-decimal cast-decimal-2 cast-decimal-3 cast-decimal-4 decimal-requires returns)
+    tie.close (tie.spec (λ c. search needs) (λ c. search needs) (λ c. search needs) (λ c. search needs) (λ c κs. search needs) returns)

@@ -9,24 +9,6 @@ use borrow.Author.Needs.{needs}
 use Rattle.token.proofs.long_float.Statement.{statement}
 use Rattle.token.proofs.long_float.Tie as tie
 
-figures-of-requires : tie.Need-figures-of-requires
-figures-of-requires c κs = search needs
-
-cast-down : tie.Need-cast-down
-cast-down c = search needs
-
-cast-down-2 : tie.Need-cast-down-2
-cast-down-2 c = search needs
-
-add-down : tie.Need-add-down
-add-down c = search needs
-
-long-bits-requires : tie.Need-long-bits-requires
-long-bits-requires c κs = search needs
-
-signed-requires : tie.Need-signed-requires
-signed-requires c κs = search needs
-
 valued : (s : Bool) (w : Written) (p : ℕ) (x : Float) → w .places ≡ p → x ≡ round binary32 s (w .digits) (10 ^ p) → x ≡ nearest s w
 unfolding nearest
 valued s w p x e h = h ∙ ap (λ (z : ℕ). round binary32 s (w .digits) (10 ^ z)) (sym e)
@@ -49,12 +31,5 @@ returns c =
 
 pub long-float-spec : {M : Type 1} → statement M
 long-float-spec =
-    tie.close
-    (tie.spec
-    figures-of-requires
-    cast-down
-    cast-down-2
-    add-down
-    long-bits-requires
-    signed-requires
-    returns)
+    tie.close (tie.spec (λ c κs. search needs) (λ c. search needs) (λ c. search needs) (λ c. search needs) (λ c κs. search needs)
+    (λ c κs. search needs) returns)

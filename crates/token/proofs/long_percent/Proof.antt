@@ -4,24 +4,6 @@ use borrow.Author.Needs.{needs}
 use Rattle.token.proofs.long_percent.Statement.{statement}
 use Rattle.token.proofs.long_percent.Tie as tie
 
-figures-of-requires : tie.Need-figures-of-requires
-figures-of-requires c κs = search needs
-
-long-bits-requires : tie.Need-long-bits-requires
-long-bits-requires c κs = search needs
-
-long-bits-requires-2 : tie.Need-long-bits-requires-2
-long-bits-requires-2 c κs = search needs
-
-signed-requires : tie.Need-signed-requires
-signed-requires c κs = search needs
-
-signed-requires-2 : tie.Need-signed-requires-2
-signed-requires-2 c κs = search needs
-
-percent-from-requires : tie.Need-percent-from-requires
-percent-from-requires c κs = search needs
-
 returns : tie.Need-returns
 returns c =
     let at-signed = c .before .before in
@@ -39,12 +21,5 @@ returns c =
 
 pub long-percent-spec : {M : Type 1} → statement M
 long-percent-spec =
-    tie.close
-    (tie.spec
-    figures-of-requires
-    long-bits-requires
-    long-bits-requires-2
-    signed-requires
-    signed-requires-2
-    percent-from-requires
-    returns)
+    tie.close (tie.spec (λ c κs. search needs) (λ c κs. search needs) (λ c κs. search needs) (λ c κs. search needs) (λ c κs. search needs)
+    (λ c κs. search needs) returns)

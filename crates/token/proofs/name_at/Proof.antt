@@ -10,17 +10,8 @@ use Rattle.token.proofs.LexLaws.{run-fits, name-is}
 use Rattle.token.proofs.name_at.Statement.{statement}
 use Rattle.token.proofs.name_at.Tie as tie
 
-run-end-requires : tie.Need-run-end-requires
-run-end-requires c κs = search needs
-
 cast-n : tie.Need-cast-n
 cast-n c = omega (arith, run-fits isName (c .before .before .args .t .now) 0 (omega arith))
-
-cast-byte-at : tie.Need-cast-byte-at
-cast-byte-at c = search needs
-
-byte-at-requires : tie.Need-byte-at-requires
-byte-at-requires c κs = search needs
 
 returns : tie.Need-returns
 returns c =
@@ -40,4 +31,4 @@ returns-2 c =
     }
 
 pub name-at-spec : {M : Type 1} → statement M
-name-at-spec = tie.close (tie.spec run-end-requires cast-n cast-byte-at byte-at-requires returns returns-2)
+name-at-spec = tie.close (tie.spec (λ c κs. search needs) cast-n (λ c. search needs) (λ c κs. search needs) returns returns-2)

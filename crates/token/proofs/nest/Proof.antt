@@ -4,24 +4,6 @@ use borrow.Author.Needs.{needs}
 use Rattle.token.proofs.nest.Statement.{statement}
 use Rattle.token.proofs.nest.Tie as tie
 
-enum-known-k : tie.Need-enum-known-k
-enum-known-k c = search needs
-
-nest-mark-requires : tie.Need-nest-mark-requires
-nest-mark-requires c κs = search needs
-
-enum-told : tie.Need-enum-told
-enum-told c = search needs
-
-enum-told-2 : tie.Need-enum-told-2
-enum-told-2 c = search needs
-
-enum-told-3 : tie.Need-enum-told-3
-enum-told-3 c = search needs
-
-same-length : tie.Need-same-length
-same-length c = search needs
-
 returns : tie.Need-returns
 returns c =
     let at-nest-mark = c .before .before in
@@ -39,15 +21,5 @@ returns-4 c = λ t n. rw (c .enum-told3 .given .1) (record { is = refl; few = c 
 
 pub nest-spec : {M : Type 1} → statement M
 nest-spec =
-    tie.close
-    (tie.spec
-    enum-known-k
-    nest-mark-requires
-    enum-told
-    enum-told-2
-    enum-told-3
-    same-length
-    returns
-    returns-2
-    returns-3
-    returns-4)
+    tie.close (tie.spec (λ c. search needs) (λ c κs. search needs) (λ c. search needs) (λ c. search needs) (λ c. search needs)
+    (λ c. search needs) returns returns-2 returns-3 returns-4)

@@ -9,12 +9,6 @@ use Rattle.token.proofs.nest_byte.Tie as tie
 returns : tie.Need-returns
 returns c = record { is = rw (c .if1 .taken); few = c .before .before .pre .1 }
 
-nest-mark-requires : tie.Need-nest-mark-requires
-nest-mark-requires c κs = search needs
-
-same-length : tie.Need-same-length
-same-length c = search needs
-
 returns-2 : tie.Need-returns-2
 returns-2 c =
     let at-nest-mark = c .before .before in
@@ -25,4 +19,4 @@ returns-2 c =
     (at-nest-mark .nest-mark .last .1 .0) (at-nest-mark .nest-mark .result) (at-nest-mark .nest-mark .ensures)
 
 pub nest-byte-spec : {M : Type 1} → statement M
-nest-byte-spec = tie.close (tie.spec returns nest-mark-requires same-length returns-2)
+nest-byte-spec = tie.close (tie.spec returns (λ c κs. search needs) (λ c. search needs) returns-2)

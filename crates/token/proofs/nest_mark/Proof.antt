@@ -7,18 +7,6 @@ use Rattle.token.specs.Means.{held}
 use Rattle.token.proofs.nest_mark.Statement.{statement}
 use Rattle.token.proofs.nest_mark.Tie as tie
 
-slice-aggregate-has : tie.Need-slice-aggregate-has
-slice-aggregate-has c = search needs
-
-has-requires : tie.Need-has-requires
-has-requires c κs = search needs
-
-take-opener-requires : tie.Need-take-opener-requires
-take-opener-requires c κs = search needs
-
-same-length : tie.Need-same-length
-same-length c = search needs
-
 returns : tie.Need-returns
 returns c =
     let at-take-opener = c .before .before in
@@ -27,18 +15,6 @@ returns c =
     let args = at-has .before .before .before .args in
     depth-is _ _ (mark-is (args .b) (held (args .words .now) (args .depth)) true _ (sym (at-has .has .ensures) ∙ at-if1 .if1 .taken) refl)
     (at-take-opener .take-opener .last .1 .0) (at-take-opener .take-opener .result) (at-take-opener .take-opener .ensures)
-
-slice-aggregate-has-2 : tie.Need-slice-aggregate-has-2
-slice-aggregate-has-2 c = search needs
-
-has-requires-2 : tie.Need-has-requires-2
-has-requires-2 c κs = search needs
-
-take-closer-requires : tie.Need-take-closer-requires
-take-closer-requires c κs = search needs
-
-same-length-2 : tie.Need-same-length-2
-same-length-2 c = search needs
 
 returns-2 : tie.Need-returns-2
 returns-2 c =
@@ -67,16 +43,5 @@ returns-3 c =
 
 pub nest-mark-spec : {M : Type 1} → statement M
 nest-mark-spec =
-    tie.close
-    (tie.spec
-    slice-aggregate-has
-    has-requires
-    take-opener-requires
-    same-length
-    returns
-    slice-aggregate-has-2
-    has-requires-2
-    take-closer-requires
-    same-length-2
-    returns-2
-    returns-3)
+    tie.close (tie.spec (λ c. search needs) (λ c κs. search needs) (λ c κs. search needs) (λ c. search needs) returns (λ c. search needs)
+    (λ c κs. search needs) (λ c κs. search needs) (λ c. search needs) returns-2 returns-3)

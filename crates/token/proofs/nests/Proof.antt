@@ -7,15 +7,6 @@ use Rattle.token.specs.Means.{held}
 use Rattle.token.proofs.nests.Statement.{statement}
 use Rattle.token.proofs.nests.Tie as tie
 
-delimiters-fit-requires : tie.Need-delimiters-fit-requires
-delimiters-fit-requires c κs = search needs
-
-clear-requires : tie.Need-clear-requires
-clear-requires c κs = search needs
-
-same-length : tie.Need-same-length
-same-length c = search needs
-
 returns : tie.Need-returns
 unfolding held
 returns c =
@@ -26,4 +17,4 @@ returns c =
     )
 
 pub nests-spec : {M : Type 1} → statement M
-nests-spec = tie.close (tie.spec delimiters-fit-requires clear-requires same-length returns)
+nests-spec = tie.close (tie.spec (λ c κs. search needs) (λ c κs. search needs) (λ c. search needs) returns)

@@ -59,14 +59,8 @@ ends w =
     let whole = run-fits isDigit t 0 (omega arith) in
     fraction-inside t (at-run-end .run-end .result) _ (w .has-point .ensures) (omega arith)
 
-run-end-requires : tie.Need-run-end-requires
-run-end-requires c κs = search needs
-
 cast-w : tie.Need-cast-w
 cast-w c = omega (arith, run-fits isDigit (c .before .before .args .t .now) 0 (omega arith))
-
-has-point-requires : tie.Need-has-point-requires
-has-point-requires c κs = search needs
 
 past-fraction-requires : tie.Need-past-fraction-requires
 past-fraction-requires c κs = (c .has-point .ensures, omega (arith, ends c, c .before .before .before .pre))
@@ -82,9 +76,6 @@ past-power-requires c κs =
       omega (arith, c .power-size .ensures, power-is (start .args .t .now) (at-past-fraction .past-fraction .result) .few),
     )
 
-has-suffix-requires : tie.Need-has-suffix-requires
-has-suffix-requires c κs = search needs
-
 past-suffix-requires : tie.Need-past-suffix-requires
 past-suffix-requires c κs =
     let at-past-power = c .before in
@@ -95,15 +86,6 @@ past-suffix-requires c κs =
     (omega (arith, at-past-fraction .past-fraction .ensures, ends (at-past-fraction .before)))
     in
     (c .has-suffix .ensures, omega (arith, at-past-power .past-power .ensures, stop, start .pre))
-
-places-of-requires : tie.Need-places-of-requires
-places-of-requires c κs = search needs
-
-clinging-requires : tie.Need-clinging-requires
-clinging-requires c κs = search needs
-
-excess-requires : tie.Need-excess-requires
-excess-requires c κs = search needs
 
 returns : tie.Need-returns
 returns c =
@@ -133,19 +115,6 @@ returns-3 c =
 
 pub number-at-spec : {M : Type 1} → statement M
 number-at-spec =
-    tie.close
-    (tie.spec
-    run-end-requires
-    cast-w
-    has-point-requires
-    past-fraction-requires
-    power-size-requires
-    past-power-requires
-    has-suffix-requires
-    past-suffix-requires
-    places-of-requires
-    clinging-requires
-    excess-requires
-    returns
-    returns-2
+    tie.close (tie.spec (λ c κs. search needs) cast-w (λ c κs. search needs) past-fraction-requires power-size-requires past-power-requires
+    (λ c κs. search needs) past-suffix-requires (λ c κs. search needs) (λ c κs. search needs) (λ c κs. search needs) returns returns-2
     returns-3)

@@ -102,14 +102,8 @@ few-short w h =
     let at-run-end = at-power-size .before .before .before in
     short (at-run-end .run-end .result) (w .places-of .result) (at-power-size .power-size .result) h
 
-run-end-requires : tie.Need-run-end-requires
-run-end-requires c κs = search needs
-
 cast-w : tie.Need-cast-w
 cast-w c = omega (arith, c .before .before .pre .whole)
-
-has-point-requires : tie.Need-has-point-requires
-has-point-requires c κs = search needs
 
 past-fraction-requires : tie.Need-past-fraction-requires
 past-fraction-requires c κs =
@@ -129,12 +123,6 @@ past-power-requires c κs =
       omega (arith, soon at-past-fraction),
       omega (arith, c .power-size .ensures, power-is t (at-past-fraction .past-fraction .result) .few),
     )
-
-has-suffix-requires : tie.Need-has-suffix-requires
-has-suffix-requires c κs = search needs
-
-places-of-requires : tie.Need-places-of-requires
-places-of-requires c κs = search needs
 
 stretched-requires : tie.Need-stretched-requires
 stretched-requires c κs =
@@ -167,9 +155,6 @@ value-requires-2 c κs =
       omega (arith, s .places),
     )
 
-cast-t13 : tie.Need-cast-t13
-cast-t13 c = search needs
-
 -- what equal numbers say of the code's
 same-number : (w v : Written) (n : numbers.Number) → v ≡ w → n .point ≡ v .point → n .suffix ≡ v .suffix → n .digits ≡ v .digits
     → n .places ≡ v .places → n .places ≤ 9
@@ -194,20 +179,6 @@ returns-2 c =
 
 pub number-of-spec : {M : Type 1} → statement M
 number-of-spec =
-    tie.close
-    (tie.spec
-    run-end-requires
-    cast-w
-    has-point-requires
-    past-fraction-requires
-    power-size-requires
-    past-power-requires
-    has-suffix-requires
-    places-of-requires
-    stretched-requires
-    returns
-    value-requires
-    sub-value
-    value-requires-2
-    cast-t13
+    tie.close (tie.spec (λ c κs. search needs) cast-w (λ c κs. search needs) past-fraction-requires power-size-requires past-power-requires
+    (λ c κs. search needs) (λ c κs. search needs) stretched-requires returns value-requires sub-value value-requires-2 (λ c. search needs)
     returns-2)

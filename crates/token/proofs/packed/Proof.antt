@@ -19,21 +19,6 @@ abbrev μ-loop : tie.MeasureT-loop
 loop-holds : tie.Need-loop-holds Inv-loop μ-loop
 loop-holds c = (omega arith, rw sub-zero (pack-end (c .args .word .now)))
 
-cast-loop : tie.Need-cast-loop Inv-loop μ-loop
-cast-loop c = search needs
-
-add-n : tie.Need-add-n Inv-loop μ-loop
-add-n c = search needs
-
-cast-b : tie.Need-cast-b Inv-loop μ-loop
-cast-b c = search needs
-
-sub-b : tie.Need-sub-b Inv-loop μ-loop
-sub-b c = search needs
-
-shared-slice-read-b : tie.Need-shared-slice-read-b Inv-loop μ-loop
-shared-slice-read-b c = search needs
-
 -- one byte more fits
 small : (w : tie.After-shared-slice-known Inv-loop μ-loop) → w .before .before .loop .v < 72057594037927936
 small w =
@@ -59,9 +44,6 @@ add-v c =
     let word = at-loop .before .args .word .now in
     omega (arith, small c, c .shared-slice-known .given (length word - (at-loop .loop .n + 1)))
 
-loop-less : tie.Need-loop-less Inv-loop μ-loop
-loop-less c = search needs
-
 loop-again : tie.Need-loop-again Inv-loop μ-loop
 loop-again c =
     let at-loop = c .before .before in
@@ -78,19 +60,5 @@ returns c =
 
 pub packed-spec : {M : Type 1} → statement M
 packed-spec =
-    tie.close
-    (tie.spec
-    Inv-loop
-    μ-loop
-    loop-holds
-    cast-loop
-    add-n
-    cast-b
-    sub-b
-    shared-slice-read-b
-    cast-b-2
-    mul-v
-    add-v
-    loop-less
-    loop-again
-    returns)
+    tie.close (tie.spec Inv-loop μ-loop loop-holds (λ c. search needs) (λ c. search needs) (λ c. search needs) (λ c. search needs)
+    (λ c. search needs) cast-b-2 mul-v add-v (λ c. search needs) loop-again returns)

@@ -24,35 +24,11 @@ abbrev μ-loop : tie.MeasureT-loop
 loop-holds : tie.Need-loop-holds Inv-loop μ-loop
 loop-holds c = (refl, omega arith, omega arith, λ u. refl)
 
-plain-end-requires : tie.Need-plain-end-requires Inv-loop μ-loop
-plain-end-requires c κs = search needs
-
-cast-if1 : tie.Need-cast-if1 Inv-loop μ-loop
-cast-if1 c = search needs
-
-same-length : tie.Need-same-length Inv-loop μ-loop
-same-length c = search needs
-
 returns : tie.Need-returns Inv-loop μ-loop
 returns c = λ u.
     let at-plain-end = c .before in
     let loop = at-plain-end .before .loop in
     record { is = loop .inv .3 u ∙ nests-end (at-plain-end .plain-end .ensures) _ _ u (omega arith); few = loop .inv .2 }
-
-cast-b : tie.Need-cast-b Inv-loop μ-loop
-cast-b c = search needs
-
-shared-slice-read-b : tie.Need-shared-slice-read-b Inv-loop μ-loop
-shared-slice-read-b c = search needs
-
-nest-byte-requires : tie.Need-nest-byte-requires Inv-loop μ-loop
-nest-byte-requires c κs = search needs
-
-enum-told : tie.Need-enum-told Inv-loop μ-loop
-enum-told c = search needs
-
-same-length-2 : tie.Need-same-length-2 Inv-loop μ-loop
-same-length-2 c = search needs
 
 returns-2 : tie.Need-returns-2 Inv-loop μ-loop
 returns-2 c = λ u.
@@ -61,15 +37,6 @@ returns-2 c = λ u.
     let loop = at-plain-end .before .loop in
     let m = rw (c .enum-told .given .1) at (at-nest-byte .nest-byte .ensures) in
     loop .inv .3 u ∙ nests-stop (at-plain-end .plain-end .ensures) _ _ u (omega arith) _ m
-
-enum-known-d : tie.Need-enum-known-d Inv-loop μ-loop
-enum-known-d c = search needs
-
-add-from : tie.Need-add-from Inv-loop μ-loop
-add-from c = search needs
-
-quoted-by-requires : tie.Need-quoted-by-requires Inv-loop μ-loop
-quoted-by-requires c κs = search needs
 
 loop-less : tie.Need-loop-less Inv-loop μ-loop
 loop-less c =
@@ -90,23 +57,6 @@ loop-again c =
 
 pub part-fits-spec : {M : Type 1} → statement M
 part-fits-spec =
-    tie.close
-    (tie.spec
-    Inv-loop
-    μ-loop
-    loop-holds
-    plain-end-requires
-    cast-if1
-    same-length
-    returns
-    cast-b
-    shared-slice-read-b
-    nest-byte-requires
-    enum-told
-    same-length-2
-    returns-2
-    enum-known-d
-    add-from
-    quoted-by-requires
-    loop-less
-    loop-again)
+    tie.close (tie.spec Inv-loop μ-loop loop-holds (λ c κs. search needs) (λ c. search needs) (λ c. search needs) returns
+    (λ c. search needs) (λ c. search needs) (λ c κs. search needs) (λ c. search needs) (λ c. search needs) returns-2 (λ c. search needs)
+    (λ c. search needs) (λ c κs. search needs) loop-less loop-again)

@@ -14,9 +14,6 @@ add-run-end c =
     let start = c .before .before in
     omega (arith, point-inside (start .args .t .now) (start .args .w) (sym (start .pre .0) ∙ c .if1 .taken))
 
-run-end-requires : tie.Need-run-end-requires
-run-end-requires c κs = search needs
-
 cast-result : tie.Need-cast-result
 unfolding pastFraction
 cast-result c =
@@ -33,4 +30,4 @@ unfolding pastFraction
 returns-2 c = rw (c .if1 .left)
 
 pub past-fraction-spec : {M : Type 1} → statement M
-past-fraction-spec = tie.close (tie.spec add-run-end run-end-requires cast-result returns returns-2)
+past-fraction-spec = tie.close (tie.spec add-run-end (λ c κs. search needs) cast-result returns returns-2)

@@ -12,9 +12,6 @@ returns c =
     let args = c .before .before .args in
     sym (past-none (args .t .now) (args .n) (args .size) (c .if1 .taken))
 
-power-from-requires : tie.Need-power-from-requires
-power-from-requires c κs = search needs
-
 add-result : tie.Need-add-result
 add-result c =
     let start = c .before .before .before in
@@ -26,4 +23,4 @@ returns-2 c =
     ap (λ (z : ℕ). z + args .size) (c .power-from .ensures) ∙ sym (past-some (args .t .now) (args .n) (args .size) (omega arith))
 
 pub past-power-spec : {M : Type 1} → statement M
-past-power-spec = tie.close (tie.spec returns power-from-requires add-result returns-2)
+past-power-spec = tie.close (tie.spec returns (λ c κs. search needs) add-result returns-2)

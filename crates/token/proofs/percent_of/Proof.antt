@@ -12,18 +12,6 @@ use borrow.Author.Needs.{needs}
 use Rattle.token.proofs.percent_of.Statement.{statement}
 use Rattle.token.proofs.percent_of.Tie as tie
 
-cast-long-percent : tie.Need-cast-long-percent
-cast-long-percent c = search needs
-
-sub-long-percent : tie.Need-sub-long-percent
-sub-long-percent c = search needs
-
-part-long-percent-start : tie.Need-part-long-percent-start
-part-long-percent-start c = search needs
-
-part-long-percent-end : tie.Need-part-long-percent-end
-part-long-percent-end c = search needs
-
 long-percent-requires : tie.Need-long-percent-requires
 long-percent-requires c κs =
     let start = c .before .before .before .before in
@@ -34,9 +22,6 @@ returns c =
     let c4 = c .before .before .before .before in
     let start = c4 .before in
     rw (rest-of (start .args .text .now) (start .args .n .at)) at (c .long-percent .ensures)
-
-percent-requires : tie.Need-percent-requires
-percent-requires c κs = search needs
 
 short-value : (s : Bool) (w : Written) (n : numbers.Number) (x : Float) → Reads w n → n .long ≡ false
     → x ≡ percent s (n .digits) → x ≡ percent s (w .digits)
@@ -57,13 +42,5 @@ returns-2 c =
 
 pub percent-of-spec : {M : Type 1} → statement M
 percent-of-spec =
-    tie.close
-    (tie.spec
-    cast-long-percent
-    sub-long-percent
-    part-long-percent-start
-    part-long-percent-end
-    long-percent-requires
-    returns
-    percent-requires
-    returns-2)
+    tie.close (tie.spec (λ c. search needs) (λ c. search needs) (λ c. search needs) (λ c. search needs) long-percent-requires returns
+    (λ c κs. search needs) returns-2)

@@ -5,12 +5,6 @@ use Rattle.token.specs.Token.{placesOf}
 use Rattle.token.proofs.places_of.Statement.{statement}
 use Rattle.token.proofs.places_of.Tie as tie
 
-sub-result : tie.Need-sub-result
-sub-result c = search needs
-
-sub-result-2 : tie.Need-sub-result-2
-sub-result-2 c = search needs
-
 returns : tie.Need-returns
 unfolding placesOf
 returns c = rw (c .before .if1 .taken) (omega arith)
@@ -24,4 +18,4 @@ unfolding placesOf
 returns-3 c = rw (c .if1 .left)
 
 pub places-of-spec : {M : Type 1} → statement M
-places-of-spec = tie.close (tie.spec sub-result sub-result-2 returns returns-2 returns-3)
+places-of-spec = tie.close (tie.spec (λ c. search needs) (λ c. search needs) returns returns-2 returns-3)

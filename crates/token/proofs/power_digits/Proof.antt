@@ -11,15 +11,6 @@ use Rattle.token.proofs.LexLaws.{digits-are}
 use Rattle.token.proofs.power_digits.Statement.{statement}
 use Rattle.token.proofs.power_digits.Tie as tie
 
-run-end-requires : tie.Need-run-end-requires
-run-end-requires c κs = search needs
-
-sub-n : tie.Need-sub-n
-sub-n c = search needs
-
-cast-if1 : tie.Need-cast-if1
-cast-if1 c = search needs
-
 counted : (w : tie.After-run-end)
     →
     let args = w .before .before .args in
@@ -31,9 +22,6 @@ returns c =
     let args = c .before .before .before .args in
     sym (digits-are (args .t .now) (args .m) _ (counted (c .before)) true (lt-ltb 2 _ (c .if1 .taken)))
 
-cast-result : tie.Need-cast-result
-cast-result c = search needs
-
 returns-2 : tie.Need-returns-2
 returns-2 c =
     let args = c .before .before .before .args in
@@ -41,4 +29,4 @@ returns-2 c =
 
 pub power-digits-spec : {M : Type 1} → statement M
 power-digits-spec =
-    tie.close (tie.spec run-end-requires sub-n cast-if1 returns cast-result returns-2)
+    tie.close (tie.spec (λ c κs. search needs) (λ c. search needs) (λ c. search needs) returns (λ c. search needs) returns-2)

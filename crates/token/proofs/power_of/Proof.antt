@@ -18,9 +18,6 @@ returns c =
     let args = c .before .before .args in
     sym (decimal-nil 0 _ (args .size) (c .if1 .taken))
 
-power-from-requires : tie.Need-power-from-requires
-power-from-requires c κs = search needs
-
 value-requires : tie.Need-value-requires
 value-requires c κs =
     let start = c .before .before .before in
@@ -37,5 +34,4 @@ returns-2 : tie.Need-returns-2
 returns-2 c = rw (c .before .power-from .ensures) at (c .value .ensures)
 
 pub power-of-spec : {M : Type 1} → statement M
-power-of-spec =
-    tie.close (tie.spec returns power-from-requires value-requires cast-result returns-2)
+power-of-spec = tie.close (tie.spec returns (λ c κs. search needs) value-requires cast-result returns-2)

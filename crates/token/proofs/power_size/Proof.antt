@@ -6,15 +6,6 @@ use borrow.Author.Needs.{needs}
 use Rattle.token.proofs.power_size.Statement.{statement}
 use Rattle.token.proofs.power_size.Tie as tie
 
-byte-at-requires : tie.Need-byte-at-requires
-byte-at-requires c κs = search needs
-
-power-from-requires : tie.Need-power-from-requires
-power-from-requires c κs = search needs
-
-power-digits-requires : tie.Need-power-digits-requires
-power-digits-requires c κs = search needs
-
 returns : tie.Need-returns
 returns c =
     let at-if1 = c .before .before in
@@ -27,5 +18,4 @@ returns-2 : tie.Need-returns-2
 returns-2 c = sym (size-is _ _ _ (c .before .byte-at .ensures) _ (c .if1 .left))
 
 pub power-size-spec : {M : Type 1} → statement M
-power-size-spec =
-    tie.close (tie.spec byte-at-requires power-from-requires power-digits-requires returns returns-2)
+power-size-spec = tie.close (tie.spec (λ c κs. search needs) (λ c κs. search needs) (λ c κs. search needs) returns returns-2)

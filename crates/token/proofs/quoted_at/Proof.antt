@@ -20,29 +20,14 @@ ends w =
     let t = start .args .t .now in
     omega (arith, w .run-end .ensures, start .pre, run-le isInside (drop 1 t), length-drop 1 t)
 
-run-end-requires : tie.Need-run-end-requires
-run-end-requires c κs = search needs
-
 cast-e : tie.Need-cast-e
 cast-e c = omega (arith, ends c)
-
-cast-byte-at : tie.Need-cast-byte-at
-cast-byte-at c = search needs
-
-byte-at-requires : tie.Need-byte-at-requires
-byte-at-requires c κs = search needs
 
 add-n : tie.Need-add-n
 add-n c = omega (arith, ends (c .before .before))
 
 cast-byte-at-2 : tie.Need-cast-byte-at-2
 cast-byte-at-2 c = omega (arith, ends (c .before .before))
-
-byte-at-requires-2 : tie.Need-byte-at-requires-2
-byte-at-requires-2 c κs = search needs
-
-in-class-requires : tie.Need-in-class-requires
-in-class-requires c κs = search needs
 
 returns : tie.Need-returns
 returns c =
@@ -86,16 +71,5 @@ returns-3 c =
 
 pub quoted-at-spec : {M : Type 1} → statement M
 quoted-at-spec =
-    tie.close
-    (tie.spec
-    run-end-requires
-    cast-e
-    cast-byte-at
-    byte-at-requires
-    add-n
-    cast-byte-at-2
-    byte-at-requires-2
-    in-class-requires
-    returns
-    returns-2
-    returns-3)
+    tie.close (tie.spec (λ c κs. search needs) cast-e (λ c. search needs) (λ c κs. search needs) add-n cast-byte-at-2 (λ c κs. search needs)
+    (λ c κs. search needs) returns returns-2 returns-3)

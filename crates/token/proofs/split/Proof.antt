@@ -35,29 +35,8 @@ answered w a e =
 returns : tie.Need-returns
 returns c = too-short _ _ (omega arith)
 
-pass-requires : tie.Need-pass-requires
-pass-requires c κs = search needs
-
-clear-requires : tie.Need-clear-requires
-clear-requires c κs = search needs
-
-enum-told : tie.Need-enum-told
-enum-told c = search needs
-
-enum-known-answer : tie.Need-enum-known-answer
-enum-known-answer c = search needs
-
-cast-t15 : tie.Need-cast-t15
-cast-t15 c = search needs
-
-same-length : tie.Need-same-length
-same-length c = search needs
-
 returns-2 : tie.Need-returns-2
 returns-2 c = answered (c .before .before .before .before) _ (ap wideAnswer (c .enum-told .given .1))
-
-same-length-2 : tie.Need-same-length-2
-same-length-2 c = search needs
 
 returns-3 : tie.Need-returns-3
 returns-3 c =
@@ -66,5 +45,5 @@ returns-3 c =
 
 pub split-spec : {M : Type 1} → statement M
 split-spec =
-    tie.close
-    (tie.spec returns pass-requires clear-requires enum-told enum-known-answer cast-t15 same-length returns-2 same-length-2 returns-3)
+    tie.close (tie.spec returns (λ c κs. search needs) (λ c κs. search needs) (λ c. search needs) (λ c. search needs) (λ c. search needs)
+    (λ c. search needs) returns-2 (λ c. search needs) returns-3)

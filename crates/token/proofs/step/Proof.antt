@@ -10,19 +10,10 @@ use Rattle.token.proofs.WholeLaws.{whole-of}
 use Rattle.token.proofs.step.Statement.{statement}
 use Rattle.token.proofs.step.Tie as tie
 
-run-end-requires : tie.Need-run-end-requires
-run-end-requires c κs = search needs
-
 cast-start : tie.Need-cast-start
 cast-start c =
     let start = c .before .before .before in
     omega (arith, start-high (start .args .text .now) (start .args .at) _ (c .run-end .ensures) (start .pre .0))
-
-cast-if1 : tie.Need-cast-if1
-cast-if1 c = search needs
-
-ended-requires : tie.Need-ended-requires
-ended-requires c κs = search needs
 
 returns : tie.Need-returns
 returns c =
@@ -30,42 +21,6 @@ returns c =
     let args = at-run-end .before .before .before .args in
     c .ended .ensures (args .words .now)
     ∙ sym (over-end (args .text .now) (args .at) (at-run-end .run-end .result) (at-run-end .run-end .ensures) _ (omega arith))
-
-cast-first : tie.Need-cast-first
-cast-first c = search needs
-
-sub-first : tie.Need-sub-first
-sub-first c = search needs
-
-part-first-start : tie.Need-part-first-start
-part-first-start c = search needs
-
-part-first-end : tie.Need-part-first-end
-part-first-end c = search needs
-
-first-requires : tie.Need-first-requires
-first-requires c κs = search needs
-
-enum-known-r : tie.Need-enum-known-r
-enum-known-r c = search needs
-
-halt-requires : tie.Need-halt-requires
-halt-requires c κs = search needs
-
-enum-known-k : tie.Need-enum-known-k
-enum-known-k c = search needs
-
-nest-requires : tie.Need-nest-requires
-nest-requires c κs = search needs
-
-enum-known-r-2 : tie.Need-enum-known-r-2
-enum-known-r-2 c = search needs
-
-halt-requires-2 : tie.Need-halt-requires-2
-halt-requires-2 c κs = search needs
-
-enum-known-d : tie.Need-enum-known-d
-enum-known-d c = search needs
 
 add-next : tie.Need-add-next
 add-next c =
@@ -87,9 +42,6 @@ returns-2 c =
     (sym (over-bad (args .text .now) (args .at) (at-run-end .run-end .result) (at-run-end .run-end .ensures) _ (omega arith) _
     (rw (rest-of (args .text .now) (at-run-end .run-end .result), at-r .r .given .1) at (at-first .first .ensures))))
 
-same-length : tie.Need-same-length
-same-length c = search needs
-
 returns-3 : tie.Need-returns-3
 returns-3 c =
     let at-r2 = c .before .before in
@@ -103,9 +55,6 @@ returns-3 c =
     rw (c .halt2 .ensures)
     (sym (over-unfit (args .text .now) (args .at) (run-end .result) (run-end .ensures) _ (omega arith) _ _ m _
     (rw (at-r2 .r2 .given .1) at (at-nest .nest .ensures (drop (run-end .result) (args .text .now)) (at-k .k .given .0 .1 .0)))))
-
-same-length-2 : tie.Need-same-length-2
-same-length-2 c = search needs
 
 returns-4 : tie.Need-returns-4
 returns-4 c =
@@ -129,28 +78,7 @@ returns-4 c =
 
 pub step-spec : {M : Type 1} → statement M
 step-spec =
-    tie.close
-    (tie.spec
-    run-end-requires
-    cast-start
-    cast-if1
-    ended-requires
-    returns
-    cast-first
-    sub-first
-    part-first-start
-    part-first-end
-    first-requires
-    enum-known-r
-    halt-requires
-    enum-known-k
-    nest-requires
-    enum-known-r-2
-    halt-requires-2
-    enum-known-d
-    add-next
-    returns-2
-    same-length
-    returns-3
-    same-length-2
-    returns-4)
+    tie.close (tie.spec (λ c κs. search needs) cast-start (λ c. search needs) (λ c κs. search needs) returns (λ c. search needs)
+    (λ c. search needs) (λ c. search needs) (λ c. search needs) (λ c κs. search needs) (λ c. search needs) (λ c κs. search needs)
+    (λ c. search needs) (λ c κs. search needs) (λ c. search needs) (λ c κs. search needs) (λ c. search needs) add-next returns-2
+    (λ c. search needs) returns-3 (λ c. search needs) returns-4)

@@ -75,18 +75,6 @@ times-below v x u r h e l =
     subst (λ (z : ℕ). v * z < 10 ^ 19) (sym e)
     (ten-fits (v * 10 ^ u) (x + u) 19 (lt-of-lt-of-le (mul-lt-mul-of-pos-right h (ten-positive u)) (le-of-eq (sym (pow-add 10 x u)))) l)
 
-figures-of-requires : tie.Need-figures-of-requires
-figures-of-requires c κs = search needs
-
-add-places : tie.Need-add-places
-add-places c = search needs
-
-add-if1 : tie.Need-add-if1
-add-if1 c = search needs
-
-add-if1-2 : tie.Need-add-if1-2
-add-if1-2 c = search needs
-
 value-requires : tie.Need-value-requires
 value-requires c κs =
     let c4 = c .before .before .before .before in
@@ -102,9 +90,6 @@ value-requires-2 c κs =
     let f = at-figures-of .figures-of in
     let s = small c1 in
     (f .ensures .q, ten-fits (c .value .result) (f .result .w) _ (whole c) (omega (arith, s .all)), omega (arith, s .all))
-
-cast-ten-to : tie.Need-cast-ten-to
-cast-ten-to c = search needs
 
 ten-to-requires : tie.Need-ten-to-requires
 ten-to-requires c κs = omega (arith, small (c .before .before .before) .up)
@@ -127,9 +112,6 @@ mul-digits c =
           (c .ten-to .ensures)
           (small c4 .all),
     )
-
-cast-t19 : tie.Need-cast-t19
-cast-t19 c = search needs
 
 -- multiplied out
 product : (t : List ℕ) (d : Figures) → FiguresAre t d → (h v r : ℕ)
@@ -162,9 +144,6 @@ returns c =
       },
     )
 
-capped-requires : tie.Need-capped-requires
-capped-requires c κs = search needs
-
 returns-2 : tie.Need-returns-2
 returns-2 c =
     let c4 = c .before .before .before .before in
@@ -185,18 +164,5 @@ returns-2 c =
 
 pub stretched-spec : {M : Type 1} → statement M
 stretched-spec =
-    tie.close
-    (tie.spec
-    figures-of-requires
-    add-places
-    add-if1
-    add-if1-2
-    value-requires
-    value-requires-2
-    cast-ten-to
-    ten-to-requires
-    mul-digits
-    cast-t19
-    returns
-    capped-requires
-    returns-2)
+    tie.close (tie.spec (λ c κs. search needs) (λ c. search needs) (λ c. search needs) (λ c. search needs) value-requires value-requires-2
+    (λ c. search needs) ten-to-requires mul-digits (λ c. search needs) returns (λ c κs. search needs) returns-2)

@@ -13,21 +13,6 @@ returns c =
     let args = c .before .before .args in
     closes-none (args .words .now) (args .depth) (args .b) (c .if1 .taken)
 
-sub-last : tie.Need-sub-last
-sub-last c = search needs
-
-cast-if2 : tie.Need-cast-if2
-cast-if2 c = search needs
-
-mul-if2 : tie.Need-mul-if2
-mul-if2 c = search needs
-
-shared-slice-read-if2 : tie.Need-shared-slice-read-if2
-shared-slice-read-if2 c = search needs
-
-wide-requires : tie.Need-wide-requires
-wide-requires c κs = search needs
-
 returns-2 : tie.Need-returns-2
 returns-2 c =
     let at-if1 = c .before .before .before in
@@ -47,5 +32,5 @@ returns-3 c =
 
 pub take-closer-spec : {M : Type 1} → statement M
 take-closer-spec =
-    tie.close
-    (tie.spec returns sub-last cast-if2 mul-if2 shared-slice-read-if2 wide-requires returns-2 returns-3)
+    tie.close (tie.spec returns (λ c. search needs) (λ c. search needs) (λ c. search needs) (λ c. search needs) (λ c κs. search needs)
+    returns-2 returns-3)

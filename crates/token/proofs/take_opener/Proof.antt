@@ -5,21 +5,6 @@ use Rattle.token.proofs.SplitLaws.{opens, full}
 use Rattle.token.proofs.take_opener.Statement.{statement}
 use Rattle.token.proofs.take_opener.Tie as tie
 
-closer-requires : tie.Need-closer-requires
-closer-requires c κs = search needs
-
-mul-words : tie.Need-mul-words
-mul-words c = search needs
-
-slice-write-words : tie.Need-slice-write-words
-slice-write-words c = search needs
-
-add-deeper : tie.Need-add-deeper
-add-deeper c = search needs
-
-same-length : tie.Need-same-length
-same-length c = search needs
-
 returns : tie.Need-returns
 returns c =
     let start = c .before .before .before in
@@ -39,5 +24,5 @@ returns-2 c =
 
 pub take-opener-spec : {M : Type 1} → statement M
 take-opener-spec =
-    tie.close
-    (tie.spec closer-requires mul-words slice-write-words add-deeper same-length returns returns-2)
+    tie.close (tie.spec (λ c κs. search needs) (λ c. search needs) (λ c. search needs) (λ c. search needs) (λ c. search needs) returns
+    returns-2)

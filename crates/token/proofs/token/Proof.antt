@@ -6,19 +6,10 @@ use borrow.Author.Needs.{needs}
 use Rattle.token.proofs.token.Statement.{statement}
 use Rattle.token.proofs.token.Tie as tie
 
-run-end-requires : tie.Need-run-end-requires
-run-end-requires c κs = search needs
-
 cast-start : tie.Need-cast-start
 cast-start c =
     let start = c .before .before in
     omega (arith, start-high (start .args .text .now) (start .args .at) _ (c .run-end .ensures) (start .pre .0))
-
-cast-if1 : tie.Need-cast-if1
-cast-if1 c = search needs
-
-token-at-requires : tie.Need-token-at-requires
-token-at-requires c κs = search needs
 
 returns : tie.Need-returns
 returns c =
@@ -26,30 +17,6 @@ returns c =
     let start = at-run-end .before .before in
     rw (c .token-at .ensures)
     (lexes-end (start .args .text .now) (start .args .at) _ (at-run-end .run-end .ensures) (start .pre .0) (c .before .if1 .taken))
-
-cast-first : tie.Need-cast-first
-cast-first c = search needs
-
-sub-first : tie.Need-sub-first
-sub-first c = search needs
-
-part-first-start : tie.Need-part-first-start
-part-first-start c = search needs
-
-part-first-end : tie.Need-part-first-end
-part-first-end c = search needs
-
-first-requires : tie.Need-first-requires
-first-requires c κs = search needs
-
-enum-told : tie.Need-enum-told
-enum-told c = search needs
-
-token-at-requires-2 : tie.Need-token-at-requires-2
-token-at-requires-2 c κs = search needs
-
-enum-known-k : tie.Need-enum-known-k
-enum-known-k c = search needs
 
 add-token-at : tie.Need-add-token-at
 add-token-at c =
@@ -59,9 +26,6 @@ add-token-at c =
     let args = at-run-end .before .before .args in
     let m = rw (rest-of (args .text .now) (at-run-end .run-end .result), c .before .k .given .1) at (at-first .first .ensures) in
     omega (arith, piece-high (args .text .now) (args .at) _ (at-run-end .run-end .ensures) (at-if1 .if1 .left) _ _ m)
-
-token-at-requires-3 : tie.Need-token-at-requires-3
-token-at-requires-3 c κs = search needs
 
 returns-2 : tie.Need-returns-2
 returns-2 c =
@@ -86,22 +50,6 @@ returns-3 c =
 
 pub token-spec : {M : Type 1} → statement M
 token-spec =
-    tie.close
-    (tie.spec
-    run-end-requires
-    cast-start
-    cast-if1
-    token-at-requires
-    returns
-    cast-first
-    sub-first
-    part-first-start
-    part-first-end
-    first-requires
-    enum-told
-    token-at-requires-2
-    enum-known-k
-    add-token-at
-    token-at-requires-3
-    returns-2
-    returns-3)
+    tie.close (tie.spec (λ c κs. search needs) cast-start (λ c. search needs) (λ c κs. search needs) returns (λ c. search needs)
+    (λ c. search needs) (λ c. search needs) (λ c. search needs) (λ c κs. search needs) (λ c. search needs) (λ c κs. search needs)
+    (λ c. search needs) add-token-at (λ c κs. search needs) returns-2 returns-3)

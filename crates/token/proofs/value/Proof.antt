@@ -24,9 +24,6 @@ loop-holds c = (omega arith, simp (add-zero, sub-zero), rw add-zero (c .pre .1))
 mul-v : tie.Need-mul-v Inv-loop μ-loop
 mul-v c = omega (arith, ten-fits (c .before .loop .v) _ 18 (c .before .loop .inv .2) (omega arith))
 
-cast-v : tie.Need-cast-v Inv-loop μ-loop
-cast-v c = search needs
-
 add-v : tie.Need-add-v Inv-loop μ-loop
 add-v c =
     let start = c .before .before in
@@ -64,12 +61,6 @@ add-v-2 c =
       ten-fits (at-loop .loop .v) _ 18 (at-loop .loop .inv .2) (omega arith),
     )
 
-add-i : tie.Need-add-i Inv-loop μ-loop
-add-i c = search needs
-
-loop-less : tie.Need-loop-less Inv-loop μ-loop
-loop-less c = search needs
-
 loop-again : tie.Need-loop-again Inv-loop μ-loop
 loop-again c =
     let at-loop = c .before .before in
@@ -95,19 +86,5 @@ returns c =
 
 pub value-spec : {M : Type 1} → statement M
 value-spec =
-    tie.close
-    (tie.spec
-    Inv-loop
-    μ-loop
-    loop-holds
-    mul-v
-    cast-v
-    add-v
-    shared-slice-read-v
-    sub-v
-    cast-v-2
-    add-v-2
-    add-i
-    loop-less
-    loop-again
-    returns)
+    tie.close (tie.spec Inv-loop μ-loop loop-holds mul-v (λ c. search needs) add-v shared-slice-read-v sub-v cast-v-2 add-v-2
+    (λ c. search needs) (λ c. search needs) loop-again returns)

@@ -6,9 +6,6 @@ use Rattle.token.proofs.LexLaws.{run-fits}
 use Rattle.token_cases.proofs.line_end.Statement.{statement}
 use Rattle.token_cases.proofs.line_end.Tie as tie
 
-run-end-requires : tie.Need-run-end-requires
-run-end-requires c κs = search needs
-
 returns : tie.Need-returns
 returns c =
     let start = c .before .before in (
@@ -17,4 +14,4 @@ returns c =
     )
 
 pub line-end-spec : {M : Type 1} → statement M
-line-end-spec = tie.close (tie.spec run-end-requires returns)
+line-end-spec = tie.close (tie.spec (λ c κs. search needs) returns)

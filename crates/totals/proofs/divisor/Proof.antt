@@ -15,9 +15,6 @@ abbrev μ-loop : tie.MeasureT-loop
 loop-holds : tie.Need-loop-holds Inv-loop μ-loop
 loop-holds c = euclid-start _ _
 
-rem-rest : tie.Need-rem-rest Inv-loop μ-loop
-rem-rest c = search needs
-
 loop-less : tie.Need-loop-less Inv-loop μ-loop
 loop-less c =
     let l = c .before .loop in
@@ -31,4 +28,4 @@ returns : tie.Need-returns Inv-loop μ-loop
 returns c = search (needs, euclid-last)
 
 pub divisor-spec : {M : Type 1} → statement M
-divisor-spec = tie.close (tie.spec Inv-loop μ-loop loop-holds rem-rest loop-less loop-again returns)
+divisor-spec = tie.close (tie.spec Inv-loop μ-loop loop-holds (λ c. search needs) loop-less loop-again returns)

@@ -8,26 +8,14 @@ use Rattle.totals.proofs.MeanLaws.{mean-over, mean-records, mean-entrie
 use Rattle.totals.proofs.mean.Statement.{statement}
 use Rattle.totals.proofs.mean.Tie as tie
 
-over-limit-requires : tie.Need-over-limit-requires
-over-limit-requires c κs = search needs
-
 returns : tie.Need-returns
 returns c = and-values meanValues (mean-over _ _ (sym (c .before .over-limit .ensures) ∙ c .if1 .taken))
-
-sum-requires : tie.Need-sum-requires
-sum-requires c κs = search needs
 
 cast-quotient : tie.Need-cast-quotient
 cast-quotient c =
     let at-if1 = c .before .before .before in
     let start = at-if1 .before .before .before in
     omega (arith, c .sum .ensures, records-fit (start .args .totals .now) 0 (sym (at-if1 .before .over-limit .ensures) ∙ at-if1 .if1 .left))
-
-element-copy-out-quotient : tie.Need-element-copy-out-quotient
-element-copy-out-quotient c = search needs
-
-quotient-requires : tie.Need-quotient-requires
-quotient-requires c κs = search needs
 
 returns-2 : tie.Need-returns-2
 returns-2 c =
@@ -37,15 +25,6 @@ returns-2 c =
     let at-over-limit = at-if1 .before in
     and-values meanValues (mean-records _ _ (sym (at-over-limit .over-limit .ensures) ∙ at-if1 .if1 .left) (at-if2 .if2 .taken)
     (rw (at-sum .sum .ensures) at (c .quotient .ensures)))
-
-element-copy-out-quotient-2 : tie.Need-element-copy-out-quotient-2
-element-copy-out-quotient-2 c = search needs
-
-element-copy-out-quotient-3 : tie.Need-element-copy-out-quotient-3
-element-copy-out-quotient-3 c = search needs
-
-quotient-requires-2 : tie.Need-quotient-requires-2
-quotient-requires-2 c κs = search needs
 
 returns-3 : tie.Need-returns-3
 returns-3 c =
@@ -57,16 +36,5 @@ returns-3 c =
 
 pub mean-spec : {M : Type 1} → statement M
 mean-spec =
-    tie.close
-    (tie.spec
-    over-limit-requires
-    returns
-    sum-requires
-    cast-quotient
-    element-copy-out-quotient
-    quotient-requires
-    returns-2
-    element-copy-out-quotient-2
-    element-copy-out-quotient-3
-    quotient-requires-2
-    returns-3)
+    tie.close (tie.spec (λ c κs. search needs) returns (λ c κs. search needs) cast-quotient (λ c. search needs) (λ c κs. search needs)
+    returns-2 (λ c. search needs) (λ c. search needs) (λ c κs. search needs) returns-3)

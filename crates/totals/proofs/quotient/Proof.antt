@@ -9,9 +9,6 @@ use Rattle.totals.proofs.quotient.Tie as tie
 returns : tie.Need-returns
 returns c = search (needs, no-quotient)
 
-divisor-requires : tie.Need-divisor-requires
-divisor-requires c κs = search needs
-
 div-t5 : tie.Need-div-t5
 div-t5 c =
     let n = c .before .if1 .left in
@@ -28,4 +25,4 @@ returns-2 : tie.Need-returns-2
 returns-2 c = search (needs, quotient-is)
 
 pub quotient-spec : {M : Type 1} → statement M
-quotient-spec = tie.close (tie.spec returns divisor-requires div-t5 div-t6 returns-2)
+quotient-spec = tie.close (tie.spec returns (λ c κs. search needs) div-t5 div-t6 returns-2)

@@ -6,38 +6,11 @@ use borrow.Author.Needs.{needs}
 use Rattle.tweens.proofs.parse_tween.Statement.{statement}
 use Rattle.tweens.proofs.parse_tween.Tie as tie
 
-parse-ends-requires : tie.Need-parse-ends-requires
-parse-ends-requires c κs = search needs
-
-enum-known-r : tie.Need-enum-known-r
-enum-known-r c = search needs
-
-enum-known-at : tie.Need-enum-known-at
-enum-known-at c = search needs
-
 tween-fields-requires : tie.Need-tween-fields-requires
 tween-fields-requires c κs =
     let at-at = c .before in
     let at-parse-ends = at-at .before .before .before .before in
     (rw (at-at .at .given .1) at (at-parse-ends .parse-ends .ensures)) .took .ready
-
-enum-known-r-2 : tie.Need-enum-known-r-2
-enum-known-r-2 c = search needs
-
-enum-known-fields : tie.Need-enum-known-fields
-enum-known-fields c = search needs
-
-enum-known-written : tie.Need-enum-known-written
-enum-known-written c = search needs
-
-enum-told : tie.Need-enum-told
-enum-told c = search needs
-
-place-requires : tie.Need-place-requires
-place-requires c κs = search needs
-
-same-length : tie.Need-same-length
-same-length c = search needs
 
 returns : tie.Need-returns
 returns c =
@@ -63,18 +36,12 @@ put-tween-fields-requires c κs =
       tween-plain e (rw (at-fields .fields .given .1) at (at-tween-fields .tween-fields .ensures)) (at-written .written .given .1),
     )
 
-same-length-2 : tie.Need-same-length-2
-same-length-2 c = search needs
-
 returns-2 : tie.Need-returns-2
 returns-2 c =
     let at-r = c .before in
     let at-parse-ends = at-r .before .before .before .before in
     let args = at-parse-ends .before .before .before .before .args in
     tween-no-ends (args .text .now) (args .c) _ _ (rw (at-r .r .given .1) at (at-parse-ends .parse-ends .ensures))
-
-same-length-3 : tie.Need-same-length-3
-same-length-3 c = search needs
 
 returns-3 : tie.Need-returns-3
 returns-3 c =
@@ -83,9 +50,6 @@ returns-3 c =
     let at-parse-ends = at-at .before .before .before .before in
     tween-no-fields (rw (at-at .at .given .1) at (at-parse-ends .parse-ends .ensures))
     (rw (c .before .r2 .given .1) at (at-tween-fields .tween-fields .ensures))
-
-same-length-4 : tie.Need-same-length-4
-same-length-4 c = search needs
 
 returns-4 : tie.Need-returns-4
 returns-4 c =
@@ -103,23 +67,6 @@ returns-4 c =
 
 pub parse-tween-spec : {M : Type 1} → statement M
 parse-tween-spec =
-    tie.close
-    (tie.spec
-    parse-ends-requires
-    enum-known-r
-    enum-known-at
-    tween-fields-requires
-    enum-known-r-2
-    enum-known-fields
-    enum-known-written
-    enum-told
-    place-requires
-    same-length
-    returns
-    put-tween-fields-requires
-    same-length-2
-    returns-2
-    same-length-3
-    returns-3
-    same-length-4
-    returns-4)
+    tie.close (tie.spec (λ c κs. search needs) (λ c. search needs) (λ c. search needs) tween-fields-requires (λ c. search needs)
+    (λ c. search needs) (λ c. search needs) (λ c. search needs) (λ c κs. search needs) (λ c. search needs) returns put-tween-fields-requires
+    (λ c. search needs) returns-2 (λ c. search needs) returns-3 (λ c. search needs) returns-4)

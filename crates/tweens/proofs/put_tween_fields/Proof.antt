@@ -75,9 +75,6 @@ put-opt-word-end w =
     let start = w24 .before .before .before in
     omega (arith, put-opt-float3-end w4, w .put-opt-word .ensures .place, word-most (optWordOf (start .args .x .round)))
 
-put-float-requires : tie.Need-put-float-requires
-put-float-requires c κs = search needs
-
 put-opt-easing-requires : tie.Need-put-opt-easing-requires
 put-opt-easing-requires c κs =
     let c3 = c .before .before .before in
@@ -118,9 +115,6 @@ put-opt-word-requires c κs = omega (arith, put-opt-float3-end (c .before .befor
 put-flag-requires : tie.Need-put-flag-requires
 put-flag-requires c κs = omega (arith, put-opt-word-end (c .before .before .before))
 
-same-length : tie.Need-same-length
-same-length c = search needs
-
 returns : tie.Need-returns
 returns c =
     let at-put-flag = c .before .before in
@@ -141,15 +135,5 @@ returns c =
 
 pub put-tween-fields-spec : {M : Type 1} → statement M
 put-tween-fields-spec =
-    tie.close
-    (tie.spec
-    put-float-requires
-    put-opt-easing-requires
-    put-opt-float-requires
-    put-opt-float-requires-2
-    put-opt-loop-requires
-    put-opt-float-requires-3
-    put-opt-word-requires
-    put-flag-requires
-    same-length
-    returns)
+    tie.close (tie.spec (λ c κs. search needs) put-opt-easing-requires put-opt-float-requires put-opt-float-requires-2 put-opt-loop-requires
+    put-opt-float-requires-3 put-opt-word-requires put-flag-requires (λ c. search needs) returns)

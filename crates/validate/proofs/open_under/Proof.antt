@@ -5,24 +5,6 @@ use Rattle.validate.proofs.CheckLaws as laws
 use Rattle.validate.proofs.open_under.Statement.{statement}
 use Rattle.validate.proofs.open_under.Tie as tie
 
-open-text-requires : tie.Need-open-text-requires
-open-text-requires c κs = search needs
-
-open-list-requires : tie.Need-open-list-requires
-open-list-requires c κs = search needs
-
-earlier-requires : tie.Need-earlier-requires
-earlier-requires c κs = search needs
-
-enum-told : tie.Need-enum-told
-enum-told c = search needs
-
-open-bytes-requires : tie.Need-open-bytes-requires
-open-bytes-requires c κs = search needs
-
-enum-told-2 : tie.Need-enum-told-2
-enum-told-2 c = search needs
-
 returns : tie.Need-returns
 returns c =
     let at-earlier = c .before .before .before in
@@ -42,13 +24,5 @@ returns-2 c =
 
 pub open-under-spec : {M : Type 1} → statement M
 open-under-spec =
-    tie.close
-    (tie.spec
-    open-text-requires
-    open-list-requires
-    earlier-requires
-    enum-told
-    open-bytes-requires
-    enum-told-2
-    returns
-    returns-2)
+    tie.close (tie.spec (λ c κs. search needs) (λ c κs. search needs) (λ c κs. search needs) (λ c. search needs) (λ c κs. search needs)
+    (λ c. search needs) returns returns-2)

@@ -10,27 +10,6 @@ use borrow.Author.Needs.{needs}
 use Rattle.values.proofs.after_word.Statement.{statement}
 use Rattle.values.proofs.after_word.Tie as tie
 
-slice-aggregate-find : tie.Need-slice-aggregate-find
-slice-aggregate-find c = search needs
-
-part-requires : tie.Need-part-requires
-part-requires c κs = search needs
-
-find-requires : tie.Need-find-requires
-find-requires c κs = search needs
-
-enum-told : tie.Need-enum-told
-enum-told c = search needs
-
-named-easing-requires : tie.Need-named-easing-requires
-named-easing-requires c κs = search needs
-
-enum-known-i : tie.Need-enum-known-i
-enum-known-i c = search needs
-
-curve-requires : tie.Need-curve-requires
-curve-requires c κs = search needs
-
 returns : tie.Need-returns
 unfolding curves entries
 returns c =
@@ -56,14 +35,5 @@ returns-2 c =
 
 pub after-word-spec : {M : Type 1} → statement M
 after-word-spec =
-    tie.close
-    (tie.spec
-    slice-aggregate-find
-    part-requires
-    find-requires
-    enum-told
-    named-easing-requires
-    enum-known-i
-    curve-requires
-    returns
-    returns-2)
+    tie.close (tie.spec (λ c. search needs) (λ c κs. search needs) (λ c κs. search needs) (λ c. search needs) (λ c κs. search needs)
+    (λ c. search needs) (λ c κs. search needs) returns returns-2)

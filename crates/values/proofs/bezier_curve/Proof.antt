@@ -6,23 +6,8 @@ use borrow.Author.Needs.{needs}
 use Rattle.values.proofs.bezier_curve.Statement.{statement}
 use Rattle.values.proofs.bezier_curve.Tie as tie
 
-mark-requires : tie.Need-mark-requires
-mark-requires c κs = search needs
-
-enum-known-p : tie.Need-enum-known-p
-enum-known-p c = search needs
-
-enum-known-m : tie.Need-enum-known-m
-enum-known-m c = search needs
-
 four-floats-requires : tie.Need-four-floats-requires
 four-floats-requires c κs = (rw (c .before .m .given .1) at (c .before .before .before .mark .ensures)) .ready
-
-enum-known-r : tie.Need-enum-known-r
-enum-known-r c = search needs
-
-enum-known-e : tie.Need-enum-known-e
-enum-known-e c = search needs
 
 leave-group-requires : tie.Need-leave-group-requires
 leave-group-requires c κs = ((rw (c .before .e .given .1) at (c .before .before .before .four-floats .ensures)) .0) .ready
@@ -59,15 +44,5 @@ returns-3 c =
 
 pub bezier-curve-spec : {M : Type 1} → statement M
 bezier-curve-spec =
-    tie.close
-    (tie.spec
-    mark-requires
-    enum-known-p
-    enum-known-m
-    four-floats-requires
-    enum-known-r
-    enum-known-e
-    leave-group-requires
-    returns
-    returns-2
-    returns-3)
+    tie.close (tie.spec (λ c κs. search needs) (λ c. search needs) (λ c. search needs) four-floats-requires (λ c. search needs)
+    (λ c. search needs) leave-group-requires returns returns-2 returns-3)

@@ -6,15 +6,6 @@ use borrow.Author.Needs.{needs}
 use Rattle.values.proofs.comma_float.Statement.{statement}
 use Rattle.values.proofs.comma_float.Tie as tie
 
-mark-requires : tie.Need-mark-requires
-mark-requires c κs = search needs
-
-enum-known-p : tie.Need-enum-known-p
-enum-known-p c = search needs
-
-enum-known-m : tie.Need-enum-known-m
-enum-known-m c = search needs
-
 parse-float-requires : tie.Need-parse-float-requires
 parse-float-requires c κs = (rw (c .before .m .given .1) at (c .before .before .before .mark .ensures)) .ready
 
@@ -33,5 +24,4 @@ returns-2 c =
 
 pub comma-float-spec : {M : Type 1} → statement M
 comma-float-spec =
-    tie.close
-    (tie.spec mark-requires enum-known-p enum-known-m parse-float-requires returns returns-2)
+    tie.close (tie.spec (λ c κs. search needs) (λ c. search needs) (λ c. search needs) parse-float-requires returns returns-2)

@@ -6,15 +6,6 @@ use borrow.Author.Needs.{needs}
 use Rattle.values.proofs.comma_floats.Statement.{statement}
 use Rattle.values.proofs.comma_floats.Tie as tie
 
-mark-requires : tie.Need-mark-requires
-mark-requires c κs = search needs
-
-enum-known-p : tie.Need-enum-known-p
-enum-known-p c = search needs
-
-enum-known-m : tie.Need-enum-known-m
-enum-known-m c = search needs
-
 two-floats-requires : tie.Need-two-floats-requires
 two-floats-requires c κs = (rw (c .before .m .given .1) at (c .before .before .before .mark .ensures)) .ready
 
@@ -33,5 +24,4 @@ returns-2 c =
 
 pub comma-floats-spec : {M : Type 1} → statement M
 comma-floats-spec =
-    tie.close
-    (tie.spec mark-requires enum-known-p enum-known-m two-floats-requires returns returns-2)
+    tie.close (tie.spec (λ c κs. search needs) (λ c. search needs) (λ c. search needs) two-floats-requires returns returns-2)

@@ -7,21 +7,6 @@ use borrow.Author.Needs.{needs}
 use Rattle.values.proofs.curve.Statement.{statement}
 use Rattle.values.proofs.curve.Tie as tie
 
-bezier-curve-requires : tie.Need-bezier-curve-requires
-bezier-curve-requires c κs = search needs
-
-steps-curve-requires : tie.Need-steps-curve-requires
-steps-curve-requires c κs = search needs
-
-wiggle-curve-requires : tie.Need-wiggle-curve-requires
-wiggle-curve-requires c κs = search needs
-
-rough-curve-requires : tie.Need-rough-curve-requires
-rough-curve-requires c κs = search needs
-
-slow-mo-curve-requires : tie.Need-slow-mo-curve-requires
-slow-mo-curve-requires c κs = search needs
-
 returns : tie.Need-returns
 unfolding curves
 returns c row e =
@@ -55,15 +40,5 @@ returns-5 c row e =
 
 pub curve-spec : {M : Type 1} → statement M
 curve-spec =
-    tie.close
-    (tie.spec
-    bezier-curve-requires
-    steps-curve-requires
-    wiggle-curve-requires
-    rough-curve-requires
-    slow-mo-curve-requires
-    returns
-    returns-2
-    returns-3
-    returns-4
-    returns-5)
+    tie.close (tie.spec (λ c κs. search needs) (λ c κs. search needs) (λ c κs. search needs) (λ c κs. search needs) (λ c κs. search needs)
+    returns returns-2 returns-3 returns-4 returns-5)

@@ -6,23 +6,8 @@ use borrow.Author.Needs.{needs}
 use Rattle.values.proofs.four_floats.Statement.{statement}
 use Rattle.values.proofs.four_floats.Tie as tie
 
-two-floats-requires : tie.Need-two-floats-requires
-two-floats-requires c κs = search needs
-
-enum-known-r : tie.Need-enum-known-r
-enum-known-r c = search needs
-
-enum-known-x1 : tie.Need-enum-known-x1
-enum-known-x1 c = search needs
-
 comma-floats-requires : tie.Need-comma-floats-requires
 comma-floats-requires c κs = (rw (c .before .x1 .given .1) at (c .before .before .before .two-floats .ensures)) .took .ready
-
-enum-known-r-2 : tie.Need-enum-known-r-2
-enum-known-r-2 c = search needs
-
-enum-known-x2 : tie.Need-enum-known-x2
-enum-known-x2 c = search needs
 
 returns : tie.Need-returns
 unfolding fourFloats
@@ -52,14 +37,5 @@ returns-3 c =
 
 pub four-floats-spec : {M : Type 1} → statement M
 four-floats-spec =
-    tie.close
-    (tie.spec
-    two-floats-requires
-    enum-known-r
-    enum-known-x1
-    comma-floats-requires
-    enum-known-r-2
-    enum-known-x2
-    returns
-    returns-2
-    returns-3)
+    tie.close (tie.spec (λ c κs. search needs) (λ c. search needs) (λ c. search needs) comma-floats-requires (λ c. search needs)
+    (λ c. search needs) returns returns-2 returns-3)

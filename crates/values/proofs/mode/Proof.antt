@@ -9,12 +9,6 @@ use borrow.Author.Needs.{needs}
 use Rattle.values.proofs.mode.Statement.{statement}
 use Rattle.values.proofs.mode.Tie as tie
 
-ping-pong-mode-requires : tie.Need-ping-pong-mode-requires
-ping-pong-mode-requires c κs = search needs
-
-times-mode-requires : tie.Need-times-mode-requires
-times-mode-requires c κs = search needs
-
 returns : tie.Need-returns
 unfolding loopModes
 returns c row e =
@@ -40,6 +34,4 @@ returns-4 c row e =
     (mode-some (args .text .now) (args .c) _ (c .times-mode .result) (c .times-mode .ensures))
 
 pub mode-spec : {M : Type 1} → statement M
-mode-spec =
-    tie.close
-    (tie.spec ping-pong-mode-requires times-mode-requires returns returns-2 returns-3 returns-4)
+mode-spec = tie.close (tie.spec (λ c κs. search needs) (λ c κs. search needs) returns returns-2 returns-3 returns-4)

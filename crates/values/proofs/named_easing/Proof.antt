@@ -10,15 +10,6 @@ use borrow.Author.Needs.{needs}
 use Rattle.values.proofs.named_easing.Statement.{statement}
 use Rattle.values.proofs.named_easing.Tie as tie
 
-part-requires : tie.Need-part-requires
-part-requires c κs = search needs
-
-slice-aggregate-is-word : tie.Need-slice-aggregate-is-word
-slice-aggregate-is-word c = search needs
-
-is-word-requires : tie.Need-is-word-requires
-is-word-requires c κs = search needs
-
 returns : tie.Need-returns
 returns c =
     let at-part = c .before .before .before in
@@ -30,23 +21,8 @@ returns c =
       tt,
     )
 
-both-requires : tie.Need-both-requires
-both-requires c κs = search needs
-
-enum-told : tie.Need-enum-told
-enum-told c = search needs
-
-enum-known-m : tie.Need-enum-known-m
-enum-known-m c = search needs
-
 word-requires : tie.Need-word-requires
 word-requires c κs = (rw (c .before .m .given .1) at (c .before .before .before .both .ensures)) .ready
-
-enum-known-p : tie.Need-enum-known-p
-enum-known-p c = search needs
-
-enum-known-variant : tie.Need-enum-known-variant
-enum-known-variant c = search needs
 
 returns-2 : tie.Need-returns-2
 returns-2 c =
@@ -104,18 +80,5 @@ returns-4 c =
 
 pub named-easing-spec : {M : Type 1} → statement M
 named-easing-spec =
-    tie.close
-    (tie.spec
-    part-requires
-    slice-aggregate-is-word
-    is-word-requires
-    returns
-    both-requires
-    enum-told
-    enum-known-m
-    word-requires
-    enum-known-p
-    enum-known-variant
-    returns-2
-    returns-3
-    returns-4)
+    tie.close (tie.spec (λ c κs. search needs) (λ c. search needs) (λ c κs. search needs) returns (λ c κs. search needs) (λ c. search needs)
+    (λ c. search needs) word-requires (λ c. search needs) (λ c. search needs) returns-2 returns-3 returns-4)

@@ -7,12 +7,6 @@ use borrow.Author.Needs.{needs}
 use Rattle.values.proofs.parse_easing.Statement.{statement}
 use Rattle.values.proofs.parse_easing.Tie as tie
 
-sees-requires : tie.Need-sees-requires
-sees-requires c κs = search needs
-
-place-requires : tie.Need-place-requires
-place-requires c κs = search needs
-
 returns : tie.Need-returns
 unfolding parseEasing
 returns c =
@@ -20,15 +14,6 @@ returns c =
     let start = at-sees .before .before in
     rw
     (sym (at-sees .sees .ensures (start .args .text .now) (start .pre)) ∙ c .before .if1 .taken, start .pre .head .place, c .place .ensures)
-
-word-requires : tie.Need-word-requires
-word-requires c κs = search needs
-
-enum-known-p : tie.Need-enum-known-p
-enum-known-p c = search needs
-
-enum-known-name : tie.Need-enum-known-name
-enum-known-name c = search needs
 
 after-word-requires : tie.Need-after-word-requires
 after-word-requires c κs = let w = rw (c .before .name .given .1) at (c .before .before .before .word .ensures) in (w .0 .ready, w .1)
@@ -62,14 +47,5 @@ returns-3 c =
 
 pub parse-easing-spec : {M : Type 1} → statement M
 parse-easing-spec =
-    tie.close
-    (tie.spec
-    sees-requires
-    place-requires
-    returns
-    word-requires
-    enum-known-p
-    enum-known-name
-    after-word-requires
-    returns-2
-    returns-3)
+    tie.close (tie.spec (λ c κs. search needs) (λ c κs. search needs) returns (λ c κs. search needs) (λ c. search needs) (λ c. search needs)
+    after-word-requires returns-2 returns-3)

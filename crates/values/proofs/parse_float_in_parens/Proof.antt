@@ -6,23 +6,8 @@ use borrow.Author.Needs.{needs}
 use Rattle.values.proofs.parse_float_in_parens.Statement.{statement}
 use Rattle.values.proofs.parse_float_in_parens.Tie as tie
 
-mark-requires : tie.Need-mark-requires
-mark-requires c κs = search needs
-
-enum-known-p : tie.Need-enum-known-p
-enum-known-p c = search needs
-
-enum-known-m : tie.Need-enum-known-m
-enum-known-m c = search needs
-
 parse-float-requires : tie.Need-parse-float-requires
 parse-float-requires c κs = (rw (c .before .m .given .1) at (c .before .before .before .mark .ensures)) .ready
-
-enum-known-r : tie.Need-enum-known-r
-enum-known-r c = search needs
-
-enum-known-x : tie.Need-enum-known-x
-enum-known-x c = search needs
 
 leave-group-requires : tie.Need-leave-group-requires
 leave-group-requires c κs = ((rw (c .before .x .given .1) at (c .before .before .before .parse-float .ensures)) .0) .ready
@@ -59,15 +44,5 @@ returns-3 c =
 
 pub parse-float-in-parens-spec : {M : Type 1} → statement M
 parse-float-in-parens-spec =
-    tie.close
-    (tie.spec
-    mark-requires
-    enum-known-p
-    enum-known-m
-    parse-float-requires
-    enum-known-r
-    enum-known-x
-    leave-group-requires
-    returns
-    returns-2
-    returns-3)
+    tie.close (tie.spec (λ c κs. search needs) (λ c. search needs) (λ c. search needs) parse-float-requires (λ c. search needs)
+    (λ c. search needs) leave-group-requires returns returns-2 returns-3)

@@ -11,39 +11,12 @@ use borrow.Author.Needs.{needs}
 use Rattle.values.proofs.parse_loop_mode.Statement.{statement}
 use Rattle.values.proofs.parse_loop_mode.Tie as tie
 
-word-requires : tie.Need-word-requires
-word-requires c κs = search needs
-
-enum-known-p : tie.Need-enum-known-p
-enum-known-p c = search needs
-
-enum-known-name : tie.Need-enum-known-name
-enum-known-name c = search needs
-
-slice-aggregate-find : tie.Need-slice-aggregate-find
-slice-aggregate-find c = search needs
-
-part-requires : tie.Need-part-requires
-part-requires c κs = search needs
-
-find-requires : tie.Need-find-requires
-find-requires c κs = search needs
-
-enum-known-i : tie.Need-enum-known-i
-enum-known-i c = search needs
-
 mode-requires : tie.Need-mode-requires
 mode-requires c κs =
     let c4 = c .before .before .before .before in
     let at-name = c4 .before .before .before in
     let at-word = at-name .before .before in
     (rw (at-name .name .given .1) at (at-word .word .ensures)) .0 .ready
-
-enum-told : tie.Need-enum-told
-enum-told c = search needs
-
-place-requires : tie.Need-place-requires
-place-requires c κs = search needs
 
 returns : tie.Need-returns
 unfolding parseLoopMode
@@ -79,18 +52,5 @@ returns-3 c =
 
 pub parse-loop-mode-spec : {M : Type 1} → statement M
 parse-loop-mode-spec =
-    tie.close
-    (tie.spec
-    word-requires
-    enum-known-p
-    enum-known-name
-    slice-aggregate-find
-    part-requires
-    find-requires
-    enum-known-i
-    mode-requires
-    enum-told
-    place-requires
-    returns
-    returns-2
-    returns-3)
+    tie.close (tie.spec (λ c κs. search needs) (λ c. search needs) (λ c. search needs) (λ c. search needs) (λ c κs. search needs)
+    (λ c κs. search needs) (λ c. search needs) mode-requires (λ c. search needs) (λ c κs. search needs) returns returns-2 returns-3)

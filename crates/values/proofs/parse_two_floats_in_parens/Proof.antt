@@ -7,23 +7,8 @@ use borrow.Author.Needs.{needs}
 use Rattle.values.proofs.parse_two_floats_in_parens.Statement.{statement}
 use Rattle.values.proofs.parse_two_floats_in_parens.Tie as tie
 
-mark-requires : tie.Need-mark-requires
-mark-requires c κs = search needs
-
-enum-known-p : tie.Need-enum-known-p
-enum-known-p c = search needs
-
-enum-known-m : tie.Need-enum-known-m
-enum-known-m c = search needs
-
 two-floats-requires : tie.Need-two-floats-requires
 two-floats-requires c κs = (rw (c .before .m .given .1) at (c .before .before .before .mark .ensures)) .ready
-
-enum-known-r : tie.Need-enum-known-r
-enum-known-r c = search needs
-
-enum-known-a : tie.Need-enum-known-a
-enum-known-a c = search needs
 
 leave-group-requires : tie.Need-leave-group-requires
 leave-group-requires c κs = ((rw (c .before .a .given .1) at (c .before .before .before .two-floats .ensures)) .took) .ready
@@ -62,15 +47,5 @@ returns-3 c =
 
 pub parse-two-floats-in-parens-spec : {M : Type 1} → statement M
 parse-two-floats-in-parens-spec =
-    tie.close
-    (tie.spec
-    mark-requires
-    enum-known-p
-    enum-known-m
-    two-floats-requires
-    enum-known-r
-    enum-known-a
-    leave-group-requires
-    returns
-    returns-2
-    returns-3)
+    tie.close (tie.spec (λ c κs. search needs) (λ c. search needs) (λ c. search needs) two-floats-requires (λ c. search needs)
+    (λ c. search needs) leave-group-requires returns returns-2 returns-3)

@@ -9,24 +9,12 @@ use borrow.Author.Needs.{needs}
 use Rattle.values.proofs.ping_pong_mode.Statement.{statement}
 use Rattle.values.proofs.ping_pong_mode.Tie as tie
 
-sees-requires : tie.Need-sees-requires
-sees-requires c κs = search needs
-
 returns : tie.Need-returns
 unfolding pingPongMode
 returns c =
     let start = c .before .before .before in
     stays (start .args .text .now) (start .args .c) (start .pre) _ _
     (rw (sym (c .before .sees .ensures (start .args .text .now) (start .pre)) ∙ not-true _ (c .if1 .taken)))
-
-uint-in-parens-requires : tie.Need-uint-in-parens-requires
-uint-in-parens-requires c κs = search needs
-
-enum-known-r : tie.Need-enum-known-r
-enum-known-r c = search needs
-
-enum-known-n : tie.Need-enum-known-n
-enum-known-n c = search needs
 
 returns-2 : tie.Need-returns-2
 unfolding pingPongMode
@@ -54,12 +42,4 @@ returns-3 c =
 
 pub ping-pong-mode-spec : {M : Type 1} → statement M
 ping-pong-mode-spec =
-    tie.close
-    (tie.spec
-    sees-requires
-    returns
-    uint-in-parens-requires
-    enum-known-r
-    enum-known-n
-    returns-2
-    returns-3)
+    tie.close (tie.spec (λ c κs. search needs) returns (λ c κs. search needs) (λ c. search needs) (λ c. search needs) returns-2 returns-3)

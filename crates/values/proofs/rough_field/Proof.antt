@@ -9,15 +9,6 @@ use borrow.Author.Needs.{needs}
 use Rattle.values.proofs.rough_field.Statement.{statement}
 use Rattle.values.proofs.rough_field.Tie as tie
 
-parse-float-requires : tie.Need-parse-float-requires
-parse-float-requires c κs = search needs
-
-enum-known-r : tie.Need-enum-known-r
-enum-known-r c = search needs
-
-enum-known-x : tie.Need-enum-known-x
-enum-known-x c = search needs
-
 returns : tie.Need-returns
 unfolding roughFields
 returns c row e =
@@ -43,15 +34,6 @@ returns-2 c row e =
     (row-at roughFields (args .i) 0 row _ (at-if1 .if1 .taken) refl e)
     (took-number (args .text .now) (args .c) _ _ (t .0))
     (rough-strength (args .f) _ (t .1))
-
-parse-uint-requires : tie.Need-parse-uint-requires
-parse-uint-requires c κs = search needs
-
-enum-known-r-2 : tie.Need-enum-known-r-2
-enum-known-r-2 c = search needs
-
-enum-known-n : tie.Need-enum-known-n
-enum-known-n c = search needs
 
 returns-3 : tie.Need-returns-3
 unfolding roughFields
@@ -81,15 +63,5 @@ returns-4 c row e =
 
 pub rough-field-spec : {M : Type 1} → statement M
 rough-field-spec =
-    tie.close
-    (tie.spec
-    parse-float-requires
-    enum-known-r
-    enum-known-x
-    returns
-    returns-2
-    parse-uint-requires
-    enum-known-r-2
-    enum-known-n
-    returns-3
-    returns-4)
+    tie.close (tie.spec (λ c κs. search needs) (λ c. search needs) (λ c. search needs) returns returns-2 (λ c κs. search needs)
+    (λ c. search needs) (λ c. search needs) returns-3 returns-4)

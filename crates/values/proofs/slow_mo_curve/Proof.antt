@@ -13,32 +13,11 @@ use borrow.Author.Needs.{needs}
 use Rattle.values.proofs.slow_mo_curve.Statement.{statement}
 use Rattle.values.proofs.slow_mo_curve.Tie as tie
 
-mark-requires : tie.Need-mark-requires
-mark-requires c κs = search needs
-
-enum-known-p : tie.Need-enum-known-p
-enum-known-p c = search needs
-
-enum-known-m : tie.Need-enum-known-m
-enum-known-m c = search needs
-
 slow-mo-fields-requires : tie.Need-slow-mo-fields-requires
 slow-mo-fields-requires c κs = (rw (c .before .m .given .1) at (c .before .before .before .mark .ensures)) .ready
 
-enum-known-r : tie.Need-enum-known-r
-enum-known-r c = search needs
-
-enum-known-f : tie.Need-enum-known-f
-enum-known-f c = search needs
-
 leave-group-requires : tie.Need-leave-group-requires
 leave-group-requires c κs = (rw (c .before .f .given .1) at (c .before .before .before .slow-mo-fields .ensures)) .1 .ready
-
-float-or-requires : tie.Need-float-or-requires
-float-or-requires c κs = search needs
-
-float-or-requires-2 : tie.Need-float-or-requires-2
-float-or-requires-2 c κs = search needs
 
 returns : tie.Need-returns
 unfolding slowMoCurve
@@ -90,17 +69,5 @@ returns-3 c =
 
 pub slow-mo-curve-spec : {M : Type 1} → statement M
 slow-mo-curve-spec =
-    tie.close
-    (tie.spec
-    mark-requires
-    enum-known-p
-    enum-known-m
-    slow-mo-fields-requires
-    enum-known-r
-    enum-known-f
-    leave-group-requires
-    float-or-requires
-    float-or-requires-2
-    returns
-    returns-2
-    returns-3)
+    tie.close (tie.spec (λ c κs. search needs) (λ c. search needs) (λ c. search needs) slow-mo-fields-requires (λ c. search needs)
+    (λ c. search needs) leave-group-requires (λ c κs. search needs) (λ c κs. search needs) returns returns-2 returns-3)

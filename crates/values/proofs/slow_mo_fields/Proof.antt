@@ -32,9 +32,6 @@ loop-holds c = (
 next-slow-mo-requires : tie.Need-next-slow-mo-requires Inv-loop μ-loop
 next-slow-mo-requires c κs = c .loop .inv .1 .ready
 
-enum-known-r : tie.Need-enum-known-r Inv-loop μ-loop
-enum-known-r c = search needs
-
 returns : tie.Need-returns Inv-loop μ-loop
 unfolding pairs
 returns c =
@@ -53,9 +50,6 @@ returns c =
     (loop .inv .1)
     _
     (n (loop .inv .0))
-
-enum-known-e : tie.Need-enum-known-e Inv-loop μ-loop
-enum-known-e c = search needs
 
 returns-2 : tie.Need-returns-2 Inv-loop μ-loop
 unfolding pairs
@@ -81,14 +75,8 @@ returns-2 c =
       loop .inv .2,
     )
 
-enum-known-i : tie.Need-enum-known-i Inv-loop μ-loop
-enum-known-i c = search needs
-
 slow-mo-field-requires : tie.Need-slow-mo-field-requires Inv-loop μ-loop
 slow-mo-field-requires c κs = (rw (c .before .i .given .1) at (c .before .before .before .next-slow-mo .ensures)) .ready
-
-enum-known-r-2 : tie.Need-enum-known-r-2 Inv-loop μ-loop
-enum-known-r-2 c = search needs
 
 returns-3 : tie.Need-returns-3 Inv-loop μ-loop
 unfolding pairs
@@ -110,9 +98,6 @@ returns-3 c =
     (at-loop .loop .inv .1)
     _ n _ _
     (h (n .row) (n .is))
-
-enum-known-g : tie.Need-enum-known-g Inv-loop μ-loop
-enum-known-g c = search needs
 
 eat-requires : tie.Need-eat-requires Inv-loop μ-loop
 eat-requires c κs =
@@ -203,22 +188,6 @@ loop-again c =
 
 pub slow-mo-fields-spec : {M : Type 1} → statement M
 slow-mo-fields-spec =
-    tie.close
-    (tie.spec
-    Inv-loop
-    μ-loop
-    loop-holds
-    next-slow-mo-requires
-    enum-known-r
-    returns
-    enum-known-e
-    returns-2
-    enum-known-i
-    slow-mo-field-requires
-    enum-known-r-2
-    returns-3
-    enum-known-g
-    eat-requires
-    returns-4
-    loop-less
+    tie.close (tie.spec Inv-loop μ-loop loop-holds next-slow-mo-requires (λ c. search needs) returns (λ c. search needs) returns-2
+    (λ c. search needs) slow-mo-field-requires (λ c. search needs) returns-3 (λ c. search needs) eat-requires returns-4 loop-less
     loop-again)

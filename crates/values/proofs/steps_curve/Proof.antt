@@ -5,15 +5,6 @@ use borrow.Author.Needs.{needs}
 use Rattle.values.proofs.steps_curve.Statement.{statement}
 use Rattle.values.proofs.steps_curve.Tie as tie
 
-uint-in-parens-requires : tie.Need-uint-in-parens-requires
-uint-in-parens-requires c κs = search needs
-
-enum-known-r : tie.Need-enum-known-r
-enum-known-r c = search needs
-
-enum-known-n : tie.Need-enum-known-n
-enum-known-n c = search needs
-
 returns : tie.Need-returns
 unfolding stepsCurve
 returns c = let h = rw (c .before .r .given .1) at (c .before .before .before .uint-in-parens .ensures) in rw h
@@ -26,5 +17,4 @@ returns-2 c =
     (record { is = rw (t .is); low = t .low; ready = t .ready }, tt)
 
 pub steps-curve-spec : {M : Type 1} → statement M
-steps-curve-spec =
-    tie.close (tie.spec uint-in-parens-requires enum-known-r enum-known-n returns returns-2)
+steps-curve-spec = tie.close (tie.spec (λ c κs. search needs) (λ c. search needs) (λ c. search needs) returns returns-2)

@@ -5,15 +5,6 @@ use borrow.Author.Needs.{needs}
 use Rattle.values.proofs.times_mode.Statement.{statement}
 use Rattle.values.proofs.times_mode.Tie as tie
 
-uint-in-parens-requires : tie.Need-uint-in-parens-requires
-uint-in-parens-requires c κs = search needs
-
-enum-known-r : tie.Need-enum-known-r
-enum-known-r c = search needs
-
-enum-known-n : tie.Need-enum-known-n
-enum-known-n c = search needs
-
 returns : tie.Need-returns
 unfolding timesMode
 returns c = let h = rw (c .before .r .given .1) at (c .before .before .before .uint-in-parens .ensures) in rw h
@@ -26,5 +17,4 @@ returns-2 c =
     record { is = rw (t .is); low = t .low; ready = t .ready }
 
 pub times-mode-spec : {M : Type 1} → statement M
-times-mode-spec =
-    tie.close (tie.spec uint-in-parens-requires enum-known-r enum-known-n returns returns-2)
+times-mode-spec = tie.close (tie.spec (λ c κs. search needs) (λ c. search needs) (λ c. search needs) returns returns-2)

@@ -7,23 +7,8 @@ use borrow.Author.Needs.{needs}
 use Rattle.values.proofs.two_floats.Statement.{statement}
 use Rattle.values.proofs.two_floats.Tie as tie
 
-parse-float-requires : tie.Need-parse-float-requires
-parse-float-requires c κs = search needs
-
-enum-known-r : tie.Need-enum-known-r
-enum-known-r c = search needs
-
-enum-known-a : tie.Need-enum-known-a
-enum-known-a c = search needs
-
 comma-float-requires : tie.Need-comma-float-requires
 comma-float-requires c κs = (rw (c .before .a .given .1) at (c .before .before .before .parse-float .ensures)) .0 .ready
-
-enum-known-r-2 : tie.Need-enum-known-r-2
-enum-known-r-2 c = search needs
-
-enum-known-b : tie.Need-enum-known-b
-enum-known-b c = search needs
 
 returns : tie.Need-returns
 unfolding twoFloats
@@ -55,14 +40,5 @@ returns-3 c =
 
 pub two-floats-spec : {M : Type 1} → statement M
 two-floats-spec =
-    tie.close
-    (tie.spec
-    parse-float-requires
-    enum-known-r
-    enum-known-a
-    comma-float-requires
-    enum-known-r-2
-    enum-known-b
-    returns
-    returns-2
-    returns-3)
+    tie.close (tie.spec (λ c κs. search needs) (λ c. search needs) (λ c. search needs) comma-float-requires (λ c. search needs)
+    (λ c. search needs) returns returns-2 returns-3)

@@ -4,27 +4,6 @@ use borrow.Author.Needs.{needs}
 use Rattle.verdict.proofs.read_and_check.Statement.{statement}
 use Rattle.verdict.proofs.read_and_check.Tie as tie
 
-read-requires : tie.Need-read-requires
-read-requires c κs = search needs
-
-enum-known-refusal : tie.Need-enum-known-refusal
-enum-known-refusal c = search needs
-
-enum-known-length : tie.Need-enum-known-length
-enum-known-length c = search needs
-
-part-requires : tie.Need-part-requires
-part-requires c κs = search needs
-
-check-requires : tie.Need-check-requires
-check-requires c κs = search needs
-
-same-length : tie.Need-same-length
-same-length c = search needs
-
-same-length-2 : tie.Need-same-length-2
-same-length-2 c = search needs
-
 returns : tie.Need-returns
 returns c =
     let at-refusal = c .before in
@@ -43,12 +22,6 @@ returns c =
         ),
       ),
     )
-
-same-length-3 : tie.Need-same-length-3
-same-length-3 c = search needs
-
-same-length-4 : tie.Need-same-length-4
-same-length-4 c = search needs
 
 returns-2 : tie.Need-returns-2
 returns-2 c =
@@ -72,16 +45,5 @@ returns-2 c =
 
 pub read-and-check-spec : {M : Type 1} → statement M
 read-and-check-spec =
-    tie.close
-    (tie.spec
-    read-requires
-    enum-known-refusal
-    enum-known-length
-    part-requires
-    check-requires
-    same-length
-    same-length-2
-    returns
-    same-length-3
-    same-length-4
-    returns-2)
+    tie.close (tie.spec (λ c κs. search needs) (λ c. search needs) (λ c. search needs) (λ c κs. search needs) (λ c κs. search needs)
+    (λ c. search needs) (λ c. search needs) returns (λ c. search needs) (λ c. search needs) returns-2)

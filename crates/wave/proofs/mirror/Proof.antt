@@ -5,24 +5,6 @@ use borrow.Author.Needs.{needs}
 use Rattle.wave.proofs.mirror.Statement.{statement}
 use Rattle.wave.proofs.mirror.Tie as tie
 
-fold-requires : tie.Need-fold-requires
-fold-requires c κs = search needs
-
-quarter-requires : tie.Need-quarter-requires
-quarter-requires c κs = search needs
-
-less-requires : tie.Need-less-requires
-less-requires c κs = search needs
-
-fold-requires-2 : tie.Need-fold-requires-2
-fold-requires-2 c κs = search needs
-
-quarter-requires-2 : tie.Need-quarter-requires-2
-quarter-requires-2 c κs = search needs
-
-less-requires-2 : tie.Need-less-requires-2
-less-requires-2 c κs = search needs
-
 returns : tie.Need-returns
 returns c =
     let at-fold = c .before .before in
@@ -41,13 +23,5 @@ returns-2 c =
 
 pub mirror-spec : {M : Type 1} → statement M
 mirror-spec =
-    tie.close
-    (tie.spec
-    fold-requires
-    quarter-requires
-    less-requires
-    fold-requires-2
-    quarter-requires-2
-    less-requires-2
-    returns
-    returns-2)
+    tie.close (tie.spec (λ c κs. search needs) (λ c κs. search needs) (λ c κs. search needs) (λ c κs. search needs) (λ c κs. search needs)
+    (λ c κs. search needs) returns returns-2)

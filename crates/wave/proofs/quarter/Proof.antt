@@ -5,12 +5,6 @@ use borrow.Author.Needs.{needs}
 use Rattle.wave.proofs.quarter.Statement.{statement}
 use Rattle.wave.proofs.quarter.Tie as tie
 
-sine-requires : tie.Need-sine-requires
-sine-requires c κs = search needs
-
-triangle-requires : tie.Need-triangle-requires
-triangle-requires c κs = search needs
-
 returns : tie.Need-returns
 returns c =
     let start = c .before .before .before in
@@ -24,4 +18,4 @@ returns-2 c =
     )
 
 pub quarter-spec : {M : Type 1} → statement M
-quarter-spec = tie.close (tie.spec sine-requires triangle-requires returns returns-2)
+quarter-spec = tie.close (tie.spec (λ c κs. search needs) (λ c κs. search needs) returns returns-2)

@@ -5,15 +5,6 @@ use borrow.Author.Needs.{needs}
 use Rattle.wave.proofs.sine.Statement.{statement}
 use Rattle.wave.proofs.sine.Tie as tie
 
-mul-result : tie.Need-mul-result
-mul-result c = search needs
-
-cast-result : tie.Need-cast-result
-cast-result c = search needs
-
-mul-result-2 : tie.Need-mul-result-2
-mul-result-2 c = search needs
-
 shared-slice-read-result : tie.Need-shared-slice-read-result
 shared-slice-read-result c =
     let start = c .before in
@@ -33,6 +24,4 @@ returns c =
     laws.entry (start .args .t .now) (start .args .p) (start .pre .0)
 
 pub sine-spec : {M : Type 1} → statement M
-sine-spec =
-    tie.close
-    (tie.spec mul-result cast-result mul-result-2 shared-slice-read-result cast-result-2 returns)
+sine-spec = tie.close (tie.spec (λ c. search needs) (λ c. search needs) (λ c. search needs) shared-slice-read-result cast-result-2 returns)

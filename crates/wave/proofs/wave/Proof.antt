@@ -17,12 +17,6 @@ returns-3 : tie.Need-returns-3
 returns-3 c =
     with-values checkValues (sym (laws.too-short _ _ _ (c .before .before .if1 .left) (c .before .if2 .left) (c .if3 .taken)))
 
-draw-requires : tie.Need-draw-requires
-draw-requires c κs = search needs
-
-same-length : tie.Need-same-length
-same-length c = search needs
-
 returns-4 : tie.Need-returns-4
 returns-4 c =
     let at-if3 = c .before .before .before in
@@ -31,4 +25,4 @@ returns-4 c =
     (laws.accepts _ _ _ _ (at-if1 .if1 .left) (at-if3 .before .if2 .left) (at-if3 .if3 .left) (c .before .draw .ensures))
 
 pub wave-spec : {M : Type 1} → statement M
-wave-spec = tie.close (tie.spec returns returns-2 returns-3 draw-requires same-length returns-4)
+wave-spec = tie.close (tie.spec returns returns-2 returns-3 (λ c κs. search needs) (λ c. search needs) returns-4)

@@ -7,69 +7,6 @@ use borrow.Author.Needs.{needs}
 use Rattle.waveform_step.proofs.waveform_step.Statement.{statement}
 use Rattle.waveform_step.proofs.waveform_step.Tie as tie
 
-parse-float-requires : tie.Need-parse-float-requires
-parse-float-requires c κs = search needs
-
-enum-known-r : tie.Need-enum-known-r
-enum-known-r c = search needs
-
-enum-known-x : tie.Need-enum-known-x
-enum-known-x c = search needs
-
-parse-float-requires-2 : tie.Need-parse-float-requires-2
-parse-float-requires-2 c κs = search needs
-
-enum-known-r-2 : tie.Need-enum-known-r-2
-enum-known-r-2 c = search needs
-
-enum-known-x-2 : tie.Need-enum-known-x-2
-enum-known-x-2 c = search needs
-
-parse-float-requires-3 : tie.Need-parse-float-requires-3
-parse-float-requires-3 c κs = search needs
-
-enum-known-r-3 : tie.Need-enum-known-r-3
-enum-known-r-3 c = search needs
-
-enum-known-x-3 : tie.Need-enum-known-x-3
-enum-known-x-3 c = search needs
-
-parse-float-requires-4 : tie.Need-parse-float-requires-4
-parse-float-requires-4 c κs = search needs
-
-enum-known-r-4 : tie.Need-enum-known-r-4
-enum-known-r-4 c = search needs
-
-enum-known-x-4 : tie.Need-enum-known-x-4
-enum-known-x-4 c = search needs
-
-parse-uint-requires : tie.Need-parse-uint-requires
-parse-uint-requires c κs = search needs
-
-enum-known-r-5 : tie.Need-enum-known-r-5
-enum-known-r-5 c = search needs
-
-enum-known-n : tie.Need-enum-known-n
-enum-known-n c = search needs
-
-parse-float-requires-5 : tie.Need-parse-float-requires-5
-parse-float-requires-5 c κs = search needs
-
-enum-known-r-6 : tie.Need-enum-known-r-6
-enum-known-r-6 c = search needs
-
-enum-known-x-5 : tie.Need-enum-known-x-5
-enum-known-x-5 c = search needs
-
-parse-float-requires-6 : tie.Need-parse-float-requires-6
-parse-float-requires-6 c κs = search needs
-
-enum-known-r-7 : tie.Need-enum-known-r-7
-enum-known-r-7 c = search needs
-
-enum-known-x-6 : tie.Need-enum-known-x-6
-enum-known-x-6 c = search needs
-
 returns : tie.Need-returns
 unfolding waveformFields
 returns c =
@@ -177,40 +114,8 @@ returns-14 c =
 
 pub waveform-step-spec : {M : Type 1} → statement M
 waveform-step-spec =
-    tie.close
-    (tie.spec
-    parse-float-requires
-    enum-known-r
-    enum-known-x
-    parse-float-requires-2
-    enum-known-r-2
-    enum-known-x-2
-    parse-float-requires-3
-    enum-known-r-3
-    enum-known-x-3
-    parse-float-requires-4
-    enum-known-r-4
-    enum-known-x-4
-    parse-uint-requires
-    enum-known-r-5
-    enum-known-n
-    parse-float-requires-5
-    enum-known-r-6
-    enum-known-x-5
-    parse-float-requires-6
-    enum-known-r-7
-    enum-known-x-6
-    returns
-    returns-2
-    returns-3
-    returns-4
-    returns-5
-    returns-6
-    returns-7
-    returns-8
-    returns-9
-    returns-10
-    returns-11
-    returns-12
-    returns-13
-    returns-14)
+    tie.close (tie.spec (λ c κs. search needs) (λ c. search needs) (λ c. search needs) (λ c κs. search needs) (λ c. search needs)
+    (λ c. search needs) (λ c κs. search needs) (λ c. search needs) (λ c. search needs) (λ c κs. search needs) (λ c. search needs)
+    (λ c. search needs) (λ c κs. search needs) (λ c. search needs) (λ c. search needs) (λ c κs. search needs) (λ c. search needs)
+    (λ c. search needs) (λ c κs. search needs) (λ c. search needs) (λ c. search needs) returns returns-2 returns-3 returns-4 returns-5
+    returns-6 returns-7 returns-8 returns-9 returns-10 returns-11 returns-12 returns-13 returns-14)

@@ -11,8 +11,8 @@ use Rattle.write.proofs.put_color.Tie as tie
 
 put-span-requires : tie.Need-put-span-requires
 put-span-requires c κs =
-    let c7 = c .before .before .before in
-    let start = c7 .before .before in
+    let c4 = c .before .before .before .before in
+    let start = c4 .before in
     let z = start .pre .0 in
     omega arith
 
@@ -101,9 +101,6 @@ put-opt-easing-requires c κs =
       start .pre .1 .1,
     )
 
-same-length : tie.Need-same-length
-same-length c = search needs
-
 returns : tie.Need-returns
 returns c =
     let at-put-opt-easing = c .before .before in
@@ -138,13 +135,5 @@ returns c =
 
 pub put-color-spec : {M : Type 1} → statement M
 put-color-spec =
-    tie.close
-    (tie.spec
-    put-span-requires
-    put-span-requires-2
-    put-span-requires-3
-    put-float-requires
-    put-byte-requires
-    put-opt-easing-requires
-    same-length
-    returns)
+    tie.close (tie.spec put-span-requires put-span-requires-2 put-span-requires-3 put-float-requires put-byte-requires
+    put-opt-easing-requires (λ c. search needs) returns)

@@ -40,9 +40,6 @@ put-opt-easing-requires c κs =
       start .pre .1 .1,
     )
 
-same-length : tie.Need-same-length
-same-length c = search needs
-
 returns : tie.Need-returns
 returns c =
     let at-put-opt-easing = c .before .before in
@@ -63,11 +60,4 @@ returns c =
     }
 
 pub put-draw-spec : {M : Type 1} → statement M
-put-draw-spec =
-    tie.close
-    (tie.spec
-    put-span-requires
-    put-float-requires
-    put-opt-easing-requires
-    same-length
-    returns)
+put-draw-spec = tie.close (tie.spec put-span-requires put-float-requires put-opt-easing-requires (λ c. search needs) returns)

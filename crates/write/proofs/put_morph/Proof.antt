@@ -11,8 +11,7 @@ use Rattle.write.proofs.put_morph.Tie as tie
 
 put-span-requires : tie.Need-put-span-requires
 put-span-requires c κs =
-    let c7 = c .before .before .before in
-    let start = c7 .before in
+    let start = c .before .before .before .before in
     let z = start .pre .0 in
     omega arith
 
@@ -79,9 +78,6 @@ put-opt-easing-requires c κs =
       start .pre .1 .1,
     )
 
-same-length : tie.Need-same-length
-same-length c = search needs
-
 returns : tie.Need-returns
 returns c =
     let at-put-opt-easing = c .before .before in
@@ -113,12 +109,5 @@ returns c =
 
 pub put-morph-spec : {M : Type 1} → statement M
 put-morph-spec =
-    tie.close
-    (tie.spec
-    put-span-requires
-    put-span-requires-2
-    put-word-requires
-    put-float-requires
-    put-opt-easing-requires
-    same-length
-    returns)
+    tie.close (tie.spec put-span-requires put-span-requires-2 put-word-requires put-float-requires put-opt-easing-requires
+    (λ c. search needs) returns)

@@ -11,8 +11,7 @@ use Rattle.write.proofs.put_path.Tie as tie
 
 put-span-requires : tie.Need-put-span-requires
 put-span-requires c κs =
-    let c7 = c .before .before .before in
-    let start = c7 .before in
+    let start = c .before .before .before .before in
     let z = start .pre .0 in
     omega arith
 
@@ -130,9 +129,6 @@ put-opt-loop-requires c κs =
     let l6 = opt-range (optRangeOf (args .x .offset)) in
     omega arith
 
-same-length : tie.Need-same-length
-same-length c = search needs
-
 returns : tie.Need-returns
 returns c =
     let at-put-opt-loop = c .before .before in
@@ -172,14 +168,5 @@ returns c =
 
 pub put-path-spec : {M : Type 1} → statement M
 put-path-spec =
-    tie.close
-    (tie.spec
-    put-span-requires
-    put-span-requires-2
-    put-float-requires
-    put-opt-easing-requires
-    put-opt-bool-requires
-    put-opt-range-requires
-    put-opt-loop-requires
-    same-length
-    returns)
+    tie.close (tie.spec put-span-requires put-span-requires-2 put-float-requires put-opt-easing-requires put-opt-bool-requires
+    put-opt-range-requires put-opt-loop-requires (λ c. search needs) returns)

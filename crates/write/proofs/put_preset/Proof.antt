@@ -39,9 +39,6 @@ put-opt-easing-requires c κs =
       start .pre .1 .1,
     )
 
-same-length : tie.Need-same-length
-same-length c = search needs
-
 returns : tie.Need-returns
 returns c =
     let at-put-opt-easing = c .before .before in
@@ -62,11 +59,4 @@ returns c =
     }
 
 pub put-preset-spec : {M : Type 1} → statement M
-put-preset-spec =
-    tie.close
-    (tie.spec
-    put-span-requires
-    put-opt-float-requires
-    put-opt-easing-requires
-    same-length
-    returns)
+put-preset-spec = tie.close (tie.spec put-span-requires put-opt-float-requires put-opt-easing-requires (λ c. search needs) returns)

@@ -203,15 +203,5 @@ returns c =
 
 pub put-waveform-spec : {M : Type 1} → statement M
 put-waveform-spec =
-    tie.close
-    (tie.spec
-    put-byte-requires
-    put-opt-float-requires
-    put-opt-float-requires-2
-    put-opt-float-requires-3
-    put-opt-float-requires-4
-    put-opt-word-requires
-    put-opt-float-requires-5
-    put-opt-float-requires-6
-    same-length
-    returns)
+    tie.close (tie.spec put-byte-requires put-opt-float-requires put-opt-float-requires-2 put-opt-float-requires-3 put-opt-float-requires-4
+    put-opt-word-requires put-opt-float-requires-5 put-opt-float-requires-6 same-length returns)

@@ -9,21 +9,9 @@ use borrow.Author.Needs.{needs}
 use Rattle.bodies.proofs.frames.copy_frame.Statement.{statement}
 use Rattle.bodies.proofs.frames.copy_frame.Tie as tie
 
-copy-time-requires : tie.Need-copy-time-requires
-copy-time-requires c κs = search needs
-
 put-mark-requires : tie.Need-put-mark-requires
 unfolding oneOf
 put-mark-requires c κs = refl
-
-copy-value-requires : tie.Need-copy-value-requires
-copy-value-requires c κs = search needs
-
-copy-frame-easing-requires : tie.Need-copy-frame-easing-requires
-copy-frame-easing-requires c κs = search needs
-
-same-length : tie.Need-same-length
-same-length c = search needs
 
 returns : tie.Need-returns
 unfolding frame
@@ -42,11 +30,4 @@ returns c =
 
 pub copy-frame-spec : {M : Type 1} → statement M
 copy-frame-spec =
-    tie.close
-    (tie.spec
-    copy-time-requires
-    put-mark-requires
-    copy-value-requires
-    copy-frame-easing-requires
-    same-length
-    returns)
+    tie.close (tie.spec (λ c κs. search needs) put-mark-requires (λ c κs. search needs) (λ c κs. search needs) (λ c. search needs) returns)

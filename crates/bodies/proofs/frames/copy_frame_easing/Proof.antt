@@ -8,9 +8,6 @@ use borrow.Author.Needs.{needs}
 use Rattle.bodies.proofs.frames.copy_frame_easing.Statement.{statement}
 use Rattle.bodies.proofs.frames.copy_frame_easing.Tie as tie
 
-take-byte-requires : tie.Need-take-byte-requires
-take-byte-requires c κs = search needs
-
 returns : tie.Need-returns
 unfolding frameEasing
 returns c =
@@ -18,12 +15,6 @@ returns c =
     let start = at-take-byte .before .before .before .before in
     is-absent (easingForm _) (λ o. frameEasing (optionSense (start .args .text .now) o)) (at-take-byte .take-byte .ensures) (c .if1 .taken)
     (λ ps. refl)
-
-copy-easing-requires : tie.Need-copy-easing-requires
-copy-easing-requires c κs = search needs
-
-same-length : tie.Need-same-length
-same-length c = search needs
 
 returns-2 : tie.Need-returns-2
 unfolding frameEasing
@@ -36,5 +27,4 @@ returns-2 c =
     (at-if1 .if1 .left) (renamed (at-copy-easing .copy-easing .ensures) (λ x ps. refl))
 
 pub copy-frame-easing-spec : {M : Type 1} → statement M
-copy-frame-easing-spec =
-    tie.close (tie.spec take-byte-requires returns copy-easing-requires same-length returns-2)
+copy-frame-easing-spec = tie.close (tie.spec (λ c κs. search needs) returns (λ c κs. search needs) (λ c. search needs) returns-2)

@@ -30,9 +30,6 @@ put-mark-requires : tie.Need-put-mark-requires Inv-loop μ-loop
 unfolding oneOf
 put-mark-requires c κs = refl
 
-copy-frame-requires : tie.Need-copy-frame-requires Inv-loop μ-loop
-copy-frame-requires c κs = search needs
-
 add-k : tie.Need-add-k Inv-loop μ-loop
 add-k c = omega arith
 
@@ -52,24 +49,11 @@ loop-again c =
           (in-front (mark ",") (at-put-mark .put-mark .ensures) (at-copy-frame .copy-frame .ensures)) (at-loop .loop .inv .2),
     )
 
-same-length : tie.Need-same-length Inv-loop μ-loop
-same-length c = search needs
-
 returns : tie.Need-returns Inv-loop μ-loop
 unfolding commaFrames
 returns c = walk-done _ _ _ _ _ _ _ (λ ps. refl) (c .loop-test .left) (c .before .loop .inv .2)
 
 pub copy-more-frames-spec : {M : Type 1} → statement M
 copy-more-frames-spec =
-    tie.close
-    (tie.spec
-    Inv-loop
-    μ-loop
-    loop-holds
-    put-mark-requires
-    copy-frame-requires
-    add-k
-    loop-less
-    loop-again
-    same-length
+    tie.close (tie.spec Inv-loop μ-loop loop-holds put-mark-requires (λ c κs. search needs) add-k loop-less loop-again (λ c. search needs)
     returns)

@@ -9,18 +9,6 @@ use borrow.Author.Needs.{needs}
 use Rattle.bodies.proofs.frames.copy_time.Statement.{statement}
 use Rattle.bodies.proofs.frames.copy_time.Tie as tie
 
-take-byte-requires : tie.Need-take-byte-requires
-take-byte-requires c κs = search needs
-
-take-field-requires : tie.Need-take-field-requires
-take-field-requires c κs = search needs
-
-put-percentage-requires : tie.Need-put-percentage-requires
-put-percentage-requires c κs = search needs
-
-same-length : tie.Need-same-length
-same-length c = search needs
-
 returns : tie.Need-returns
 returns c =
     let at-put-percentage = c .before .before in
@@ -29,12 +17,6 @@ returns c =
     let at-take-byte = at-if1 .before .before in
     in-case timeCases splitTime time 0 (at-take-byte .take-byte .ensures .reads) (at-if1 .if1 .taken)
     (read-put (λ b. time (Tree.percent b)) (at-take-field .take-field .ensures .reads) (at-put-percentage .put-percentage .ensures))
-
-copy-f32-requires : tie.Need-copy-f32-requires
-copy-f32-requires c κs = search needs
-
-same-length-2 : tie.Need-same-length-2
-same-length-2 c = search needs
 
 returns-2 : tie.Need-returns-2
 unfolding time
@@ -47,13 +29,5 @@ returns-2 c =
 
 pub copy-time-spec : {M : Type 1} → statement M
 copy-time-spec =
-    tie.close
-    (tie.spec
-    take-byte-requires
-    take-field-requires
-    put-percentage-requires
-    same-length
-    returns
-    copy-f32-requires
-    same-length-2
-    returns-2)
+    tie.close (tie.spec (λ c κs. search needs) (λ c κs. search needs) (λ c κs. search needs) (λ c. search needs) returns
+    (λ c κs. search needs) (λ c. search needs) returns-2)

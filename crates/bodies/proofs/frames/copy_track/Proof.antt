@@ -15,18 +15,6 @@ use borrow.Author.Needs.{needs}
 use Rattle.bodies.proofs.frames.copy_track.Statement.{statement}
 use Rattle.bodies.proofs.frames.copy_track.Tie as tie
 
-take-field-requires : tie.Need-take-field-requires
-take-field-requires c κs = search needs
-
-cast-n : tie.Need-cast-n
-cast-n c = search needs
-
-copy-track-loop-requires : tie.Need-copy-track-loop-requires
-copy-track-loop-requires c κs = search needs
-
-same-length : tie.Need-same-length
-same-length c = search needs
-
 returns : tie.Need-returns
 returns c =
     let at-copy-track-loop = c .before .before in
@@ -39,21 +27,6 @@ returns c =
     (counted length (each (entryForm _)) (at-take-field .take-field .ensures .reads)
     (rw (at-if1 .if1 .taken) (each-none (entryForm _) _ _ _)))
     (renamed (at-copy-track-loop .copy-track-loop .ensures) (λ o ps. track-is [] o ps))
-
-copy-frame-requires : tie.Need-copy-frame-requires
-copy-frame-requires c κs = search needs
-
-sub-copy-more-frames : tie.Need-sub-copy-more-frames
-sub-copy-more-frames c = search needs
-
-copy-more-frames-requires : tie.Need-copy-more-frames-requires
-copy-more-frames-requires c κs = search needs
-
-copy-track-loop-requires-2 : tie.Need-copy-track-loop-requires-2
-copy-track-loop-requires-2 c κs = search needs
-
-same-length-2 : tie.Need-same-length-2
-same-length-2 c = search needs
 
 returns-2 : tie.Need-returns-2
 returns-2 c =
@@ -79,16 +52,5 @@ returns-2 c =
 
 pub copy-track-spec : {M : Type 1} → statement M
 copy-track-spec =
-    tie.close
-    (tie.spec
-    take-field-requires
-    cast-n
-    copy-track-loop-requires
-    same-length
-    returns
-    copy-frame-requires
-    sub-copy-more-frames
-    copy-more-frames-requires
-    copy-track-loop-requires-2
-    same-length-2
-    returns-2)
+    tie.close (tie.spec (λ c κs. search needs) (λ c. search needs) (λ c κs. search needs) (λ c. search needs) returns (λ c κs. search needs)
+    (λ c. search needs) (λ c κs. search needs) (λ c κs. search needs) (λ c. search needs) returns-2)

@@ -10,30 +10,15 @@ use borrow.Author.Needs.{needs}
 use Rattle.bodies.proofs.frames.copy_track_loop.Statement.{statement}
 use Rattle.bodies.proofs.frames.copy_track_loop.Tie as tie
 
-take-byte-requires : tie.Need-take-byte-requires
-take-byte-requires c κs = search needs
-
 returns : tie.Need-returns
 returns c =
     let at-take-byte = c .before .before in
     let start = at-take-byte .before .before .before in
     is-absent loopForm (loopBy (start .args .first)) (at-take-byte .take-byte .ensures) (c .if1 .taken) (λ ps. refl)
 
-put-comma-requires : tie.Need-put-comma-requires
-put-comma-requires c κs = search needs
-
-slice-aggregate-put-field : tie.Need-slice-aggregate-put-field
-slice-aggregate-put-field c = search needs
-
 put-field-requires : tie.Need-put-field-requires
 unfolding wordLike all
 put-field-requires c κs = refl
-
-copy-loop-requires : tie.Need-copy-loop-requires
-copy-loop-requires c κs = search needs
-
-same-length : tie.Need-same-length
-same-length c = search needs
 
 returns-2 : tie.Need-returns-2
 unfolding trackLoop
@@ -51,13 +36,5 @@ returns-2 c =
 
 pub copy-track-loop-spec : {M : Type 1} → statement M
 copy-track-loop-spec =
-    tie.close
-    (tie.spec
-    take-byte-requires
-    returns
-    put-comma-requires
-    slice-aggregate-put-field
-    put-field-requires
-    copy-loop-requires
-    same-length
-    returns-2)
+    tie.close (tie.spec (λ c κs. search needs) returns (λ c κs. search needs) (λ c. search needs) put-field-requires (λ c κs. search needs)
+    (λ c. search needs) returns-2)

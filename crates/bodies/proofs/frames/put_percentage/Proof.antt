@@ -10,15 +10,9 @@ use borrow.Author.Needs.{needs}
 use Rattle.bodies.proofs.frames.put_percentage.Statement.{statement}
 use Rattle.bodies.proofs.frames.put_percentage.Tie as tie
 
-put-percent-requires : tie.Need-put-percent-requires
-put-percent-requires c κs = search needs
-
 put-mark-requires : tie.Need-put-mark-requires
 unfolding oneOf
 put-mark-requires c κs = refl
-
-same-length : tie.Need-same-length
-same-length c = search needs
 
 returns : tie.Need-returns
 returns c =
@@ -34,15 +28,9 @@ put-mark-requires-2 : tie.Need-put-mark-requires-2
 unfolding oneOf
 put-mark-requires-2 c κs = refl
 
-put-percent-requires-2 : tie.Need-put-percent-requires-2
-put-percent-requires-2 c κs = search needs
-
 put-mark-requires-3 : tie.Need-put-mark-requires-3
 unfolding oneOf
 put-mark-requires-3 c κs = refl
-
-same-length-2 : tie.Need-same-length-2
-same-length-2 c = search needs
 
 returns-2 : tie.Need-returns-2
 returns-2 c =
@@ -57,14 +45,5 @@ returns-2 c =
 
 pub put-percentage-spec : {M : Type 1} → statement M
 put-percentage-spec =
-    tie.close
-    (tie.spec
-    put-percent-requires
-    put-mark-requires
-    same-length
-    returns
-    put-mark-requires-2
-    put-percent-requires-2
-    put-mark-requires-3
-    same-length-2
-    returns-2)
+    tie.close (tie.spec (λ c κs. search needs) put-mark-requires (λ c. search needs) returns put-mark-requires-2 (λ c κs. search needs)
+    put-mark-requires-3 (λ c. search needs) returns-2)

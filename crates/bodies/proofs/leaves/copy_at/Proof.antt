@@ -11,21 +11,9 @@ use borrow.Author.Needs.{needs}
 use Rattle.bodies.proofs.leaves.copy_at.Statement.{statement}
 use Rattle.bodies.proofs.leaves.copy_at.Tie as tie
 
-take-field-requires : tie.Need-take-field-requires
-take-field-requires c κs = search needs
-
-take-flag-requires : tie.Need-take-flag-requires
-take-flag-requires c κs = search needs
-
-put-at-requires : tie.Need-put-at-requires
-put-at-requires c κs = search needs
-
 put-mark-requires : tie.Need-put-mark-requires
 unfolding oneOf
 put-mark-requires c κs = refl
-
-same-length : tie.Need-same-length
-same-length c = search needs
 
 returns : tie.Need-returns
 unfolding leafBody
@@ -40,11 +28,4 @@ returns c =
 
 pub copy-at-spec : {M : Type 1} → statement M
 copy-at-spec =
-    tie.close
-    (tie.spec
-    take-field-requires
-    take-flag-requires
-    put-at-requires
-    put-mark-requires
-    same-length
-    returns)
+    tie.close (tie.spec (λ c κs. search needs) (λ c κs. search needs) (λ c κs. search needs) put-mark-requires (λ c. search needs) returns)

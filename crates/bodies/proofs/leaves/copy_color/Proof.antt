@@ -12,35 +12,17 @@ use borrow.Author.Needs.{needs}
 use Rattle.bodies.proofs.leaves.copy_color.Statement.{statement}
 use Rattle.bodies.proofs.leaves.copy_color.Tie as tie
 
-copy-name-requires : tie.Need-copy-name-requires
-copy-name-requires c κs = search needs
-
 put-mark-requires : tie.Need-put-mark-requires
 unfolding oneOf
 put-mark-requires c κs = refl
-
-copy-string-requires : tie.Need-copy-string-requires
-copy-string-requires c κs = search needs
 
 put-pair-requires : tie.Need-put-pair-requires
 unfolding oneOf
 put-pair-requires c κs = (refl, refl)
 
-copy-string-requires-2 : tie.Need-copy-string-requires-2
-copy-string-requires-2 c κs = search needs
-
-slice-aggregate-copy-f32-field : tie.Need-slice-aggregate-copy-f32-field
-slice-aggregate-copy-f32-field c = search needs
-
 copy-f32-field-requires : tie.Need-copy-f32-field-requires
 unfolding wordLike all
 copy-f32-field-requires c κs = refl
-
-copy-space-requires : tie.Need-copy-space-requires
-copy-space-requires c κs = search needs
-
-copy-opt-easing-requires : tie.Need-copy-opt-easing-requires
-copy-opt-easing-requires c κs = search needs
 
 put-mark-requires-2 : tie.Need-put-mark-requires-2
 unfolding oneOf
@@ -92,17 +74,5 @@ returns c =
 
 pub copy-color-spec : {M : Type 1} → statement M
 copy-color-spec =
-    tie.close
-    (tie.spec
-    copy-name-requires
-    put-mark-requires
-    copy-string-requires
-    put-pair-requires
-    copy-string-requires-2
-    slice-aggregate-copy-f32-field
-    copy-f32-field-requires
-    copy-space-requires
-    copy-opt-easing-requires
-    put-mark-requires-2
-    same-length
-    returns)
+    tie.close (tie.spec (λ c κs. search needs) put-mark-requires (λ c κs. search needs) put-pair-requires (λ c κs. search needs)
+    (λ c. search needs) copy-f32-field-requires (λ c κs. search needs) (λ c κs. search needs) put-mark-requires-2 same-length returns)

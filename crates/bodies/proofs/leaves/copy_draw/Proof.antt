@@ -12,18 +12,9 @@ use borrow.Author.Needs.{needs}
 use Rattle.bodies.proofs.leaves.copy_draw.Statement.{statement}
 use Rattle.bodies.proofs.leaves.copy_draw.Tie as tie
 
-copy-string-requires : tie.Need-copy-string-requires
-copy-string-requires c κs = search needs
-
-slice-aggregate-copy-f32-field : tie.Need-slice-aggregate-copy-f32-field
-slice-aggregate-copy-f32-field c = search needs
-
 copy-f32-field-requires : tie.Need-copy-f32-field-requires
 unfolding wordLike all
 copy-f32-field-requires c κs = refl
-
-copy-opt-easing-requires : tie.Need-copy-opt-easing-requires
-copy-opt-easing-requires c κs = search needs
 
 put-mark-requires : tie.Need-put-mark-requires
 unfolding oneOf
@@ -59,12 +50,5 @@ returns c =
 
 pub copy-draw-spec : {M : Type 1} → statement M
 copy-draw-spec =
-    tie.close
-    (tie.spec
-    copy-string-requires
-    slice-aggregate-copy-f32-field
-    copy-f32-field-requires
-    copy-opt-easing-requires
-    put-mark-requires
-    same-length
-    returns)
+    tie.close (tie.spec (λ c κs. search needs) (λ c. search needs) copy-f32-field-requires (λ c κs. search needs) put-mark-requires
+    same-length returns)

@@ -10,15 +10,9 @@ use borrow.Author.Needs.{needs}
 use Rattle.bodies.proofs.leaves.copy_keyframes.Statement.{statement}
 use Rattle.bodies.proofs.leaves.copy_keyframes.Tie as tie
 
-copy-name-requires : tie.Need-copy-name-requires
-copy-name-requires c κs = search needs
-
 put-mark-requires : tie.Need-put-mark-requires
 unfolding oneOf
 put-mark-requires c κs = refl
-
-copy-track-requires : tie.Need-copy-track-requires
-copy-track-requires c κs = search needs
 
 put-mark-requires-2 : tie.Need-put-mark-requires-2
 unfolding oneOf
@@ -57,12 +51,5 @@ returns c =
 
 pub copy-keyframes-spec : {M : Type 1} → statement M
 copy-keyframes-spec =
-    tie.close
-    (tie.spec
-    copy-name-requires
-    put-mark-requires
-    copy-track-requires
-    put-mark-requires-2
-    put-mark-requires-3
-    same-length
+    tie.close (tie.spec (λ c κs. search needs) put-mark-requires (λ c κs. search needs) put-mark-requires-2 put-mark-requires-3 same-length
     returns)

@@ -7,15 +7,9 @@ use borrow.Author.Needs.{needs}
 use Rattle.bodies.proofs.leaves.copy_label.Statement.{statement}
 use Rattle.bodies.proofs.leaves.copy_label.Tie as tie
 
-copy-string-requires : tie.Need-copy-string-requires
-copy-string-requires c κs = search needs
-
 put-mark-requires : tie.Need-put-mark-requires
 unfolding oneOf
 put-mark-requires c κs = refl
-
-same-length : tie.Need-same-length
-same-length c = search needs
 
 returns : tie.Need-returns
 unfolding leafBody
@@ -25,4 +19,4 @@ returns c =
     renamed (behind (mark ";") (at-copy-string .copy-string .ensures) (at-put-mark .put-mark .ensures)) (λ x ps. refl)
 
 pub copy-label-spec : {M : Type 1} → statement M
-copy-label-spec = tie.close (tie.spec copy-string-requires put-mark-requires same-length returns)
+copy-label-spec = tie.close (tie.spec (λ c κs. search needs) put-mark-requires (λ c. search needs) returns)

@@ -12,28 +12,13 @@ use borrow.Author.Needs.{needs}
 use Rattle.bodies.proofs.leaves.copy_morph.Statement.{statement}
 use Rattle.bodies.proofs.leaves.copy_morph.Tie as tie
 
-copy-string-requires : tie.Need-copy-string-requires
-copy-string-requires c κs = search needs
-
 put-pair-requires : tie.Need-put-pair-requires
 unfolding oneOf
 put-pair-requires c κs = (refl, refl)
 
-copy-string-requires-2 : tie.Need-copy-string-requires-2
-copy-string-requires-2 c κs = search needs
-
-copy-samples-requires : tie.Need-copy-samples-requires
-copy-samples-requires c κs = search needs
-
-slice-aggregate-copy-f32-field : tie.Need-slice-aggregate-copy-f32-field
-slice-aggregate-copy-f32-field c = search needs
-
 copy-f32-field-requires : tie.Need-copy-f32-field-requires
 unfolding wordLike all
 copy-f32-field-requires c κs = refl
-
-copy-opt-easing-requires : tie.Need-copy-opt-easing-requires
-copy-opt-easing-requires c κs = search needs
 
 put-mark-requires : tie.Need-put-mark-requires
 unfolding oneOf
@@ -78,15 +63,5 @@ returns c =
 
 pub copy-morph-spec : {M : Type 1} → statement M
 copy-morph-spec =
-    tie.close
-    (tie.spec
-    copy-string-requires
-    put-pair-requires
-    copy-string-requires-2
-    copy-samples-requires
-    slice-aggregate-copy-f32-field
-    copy-f32-field-requires
-    copy-opt-easing-requires
-    put-mark-requires
-    same-length
-    returns)
+    tie.close (tie.spec (λ c κs. search needs) put-pair-requires (λ c κs. search needs) (λ c κs. search needs) (λ c. search needs)
+    copy-f32-field-requires (λ c κs. search needs) put-mark-requires same-length returns)

@@ -13,9 +13,6 @@ use borrow.Author.Needs.{needs}
 use Rattle.bodies.proofs.leaves.copy_only_easing.Statement.{statement}
 use Rattle.bodies.proofs.leaves.copy_only_easing.Tie as tie
 
-take-byte-requires : tie.Need-take-byte-requires
-take-byte-requires c κs = search needs
-
 returns : tie.Need-returns
 unfolding commaIf field
 returns c =
@@ -28,18 +25,9 @@ put-mark-requires : tie.Need-put-mark-requires
 unfolding oneOf
 put-mark-requires c κs = refl
 
-slice-aggregate-put-field : tie.Need-slice-aggregate-put-field
-slice-aggregate-put-field c = search needs
-
 put-field-requires : tie.Need-put-field-requires
 unfolding wordLike all
 put-field-requires c κs = refl
-
-copy-easing-requires : tie.Need-copy-easing-requires
-copy-easing-requires c κs = search needs
-
-same-length : tie.Need-same-length
-same-length c = search needs
 
 returns-2 : tie.Need-returns-2
 unfolding commaIf field
@@ -62,13 +50,5 @@ returns-2 c =
 
 pub copy-only-easing-spec : {M : Type 1} → statement M
 copy-only-easing-spec =
-    tie.close
-    (tie.spec
-    take-byte-requires
-    returns
-    put-mark-requires
-    slice-aggregate-put-field
-    put-field-requires
-    copy-easing-requires
-    same-length
-    returns-2)
+    tie.close (tie.spec (λ c κs. search needs) returns put-mark-requires (λ c. search needs) put-field-requires (λ c κs. search needs)
+    (λ c. search needs) returns-2)

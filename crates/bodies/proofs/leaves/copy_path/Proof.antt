@@ -12,41 +12,17 @@ use borrow.Author.Needs.{needs}
 use Rattle.bodies.proofs.leaves.copy_path.Statement.{statement}
 use Rattle.bodies.proofs.leaves.copy_path.Tie as tie
 
-copy-name-requires : tie.Need-copy-name-requires
-copy-name-requires c κs = search needs
-
-slice-aggregate-put-word : tie.Need-slice-aggregate-put-word
-slice-aggregate-put-word c = search needs
-
 put-word-requires : tie.Need-put-word-requires
 unfolding wordLike all
 put-word-requires c κs = refl
-
-copy-string-requires : tie.Need-copy-string-requires
-copy-string-requires c κs = search needs
-
-slice-aggregate-copy-f32-field : tie.Need-slice-aggregate-copy-f32-field
-slice-aggregate-copy-f32-field c = search needs
 
 copy-f32-field-requires : tie.Need-copy-f32-field-requires
 unfolding wordLike all
 copy-f32-field-requires c κs = refl
 
-copy-opt-easing-requires : tie.Need-copy-opt-easing-requires
-copy-opt-easing-requires c κs = search needs
-
-slice-aggregate-copy-opt-flag : tie.Need-slice-aggregate-copy-opt-flag
-slice-aggregate-copy-opt-flag c = search needs
-
 copy-opt-flag-requires : tie.Need-copy-opt-flag-requires
 unfolding wordLike all
 copy-opt-flag-requires c κs = refl
-
-copy-opt-offset-requires : tie.Need-copy-opt-offset-requires
-copy-opt-offset-requires c κs = search needs
-
-copy-opt-loop-requires : tie.Need-copy-opt-loop-requires
-copy-opt-loop-requires c κs = search needs
 
 put-mark-requires : tie.Need-put-mark-requires
 unfolding oneOf
@@ -104,19 +80,6 @@ returns c =
 
 pub copy-path-spec : {M : Type 1} → statement M
 copy-path-spec =
-    tie.close
-    (tie.spec
-    copy-name-requires
-    slice-aggregate-put-word
-    put-word-requires
-    copy-string-requires
-    slice-aggregate-copy-f32-field
-    copy-f32-field-requires
-    copy-opt-easing-requires
-    slice-aggregate-copy-opt-flag
-    copy-opt-flag-requires
-    copy-opt-offset-requires
-    copy-opt-loop-requires
-    put-mark-requires
-    same-length
-    returns)
+    tie.close (tie.spec (λ c κs. search needs) (λ c. search needs) put-word-requires (λ c κs. search needs) (λ c. search needs)
+    copy-f32-field-requires (λ c κs. search needs) (λ c. search needs) copy-opt-flag-requires (λ c κs. search needs) (λ c κs. search needs)
+    put-mark-requires same-length returns)

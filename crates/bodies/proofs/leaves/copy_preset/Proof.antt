@@ -10,12 +10,6 @@ use borrow.Author.Needs.{needs}
 use Rattle.bodies.proofs.leaves.copy_preset.Statement.{statement}
 use Rattle.bodies.proofs.leaves.copy_preset.Tie as tie
 
-copy-name-requires : tie.Need-copy-name-requires
-copy-name-requires c κs = search needs
-
-copy-preset-fields-requires : tie.Need-copy-preset-fields-requires
-copy-preset-fields-requires c κs = search needs
-
 put-mark-requires : tie.Need-put-mark-requires
 unfolding oneOf
 put-mark-requires c κs = refl
@@ -43,6 +37,4 @@ returns c =
     (λ x ps. refl))
 
 pub copy-preset-spec : {M : Type 1} → statement M
-copy-preset-spec =
-    tie.close
-    (tie.spec copy-name-requires copy-preset-fields-requires put-mark-requires same-length returns)
+copy-preset-spec = tie.close (tie.spec (λ c κs. search needs) (λ c κs. search needs) put-mark-requires same-length returns)

@@ -15,15 +15,6 @@ use borrow.Author.Needs.{needs}
 use Rattle.bodies.proofs.leaves.copy_preset_fields.Statement.{statement}
 use Rattle.bodies.proofs.leaves.copy_preset_fields.Tie as tie
 
-take-byte-requires : tie.Need-take-byte-requires
-take-byte-requires c κs = search needs
-
-copy-only-easing-requires : tie.Need-copy-only-easing-requires
-copy-only-easing-requires c κs = search needs
-
-same-length : tie.Need-same-length
-same-length c = search needs
-
 returns : tie.Need-returns
 returns c =
     let at-copy-only-easing = c .before .before in
@@ -37,18 +28,9 @@ put-mark-requires : tie.Need-put-mark-requires
 unfolding oneOf
 put-mark-requires c κs = refl
 
-slice-aggregate-copy-f32-field : tie.Need-slice-aggregate-copy-f32-field
-slice-aggregate-copy-f32-field c = search needs
-
 copy-f32-field-requires : tie.Need-copy-f32-field-requires
 unfolding wordLike all
 copy-f32-field-requires c κs = refl
-
-copy-opt-easing-requires : tie.Need-copy-opt-easing-requires
-copy-opt-easing-requires c κs = search needs
-
-same-length-2 : tie.Need-same-length-2
-same-length-2 c = search needs
 
 returns-2 : tie.Need-returns-2
 unfolding commaIf
@@ -72,15 +54,5 @@ returns-2 c =
 
 pub copy-preset-fields-spec : {M : Type 1} → statement M
 copy-preset-fields-spec =
-    tie.close
-    (tie.spec
-    take-byte-requires
-    copy-only-easing-requires
-    same-length
-    returns
-    put-mark-requires
-    slice-aggregate-copy-f32-field
-    copy-f32-field-requires
-    copy-opt-easing-requires
-    same-length-2
-    returns-2)
+    tie.close (tie.spec (λ c κs. search needs) (λ c κs. search needs) (λ c. search needs) returns put-mark-requires (λ c. search needs)
+    copy-f32-field-requires (λ c κs. search needs) (λ c. search needs) returns-2)

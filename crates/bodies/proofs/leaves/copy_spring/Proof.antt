@@ -16,80 +16,41 @@ use borrow.Author.Needs.{needs}
 use Rattle.bodies.proofs.leaves.copy_spring.Statement.{statement}
 use Rattle.bodies.proofs.leaves.copy_spring.Tie as tie
 
-copy-name-requires : tie.Need-copy-name-requires
-copy-name-requires c κs = search needs
-
 put-mark-requires : tie.Need-put-mark-requires
 unfolding oneOf
 put-mark-requires c κs = refl
-
-copy-value-requires : tie.Need-copy-value-requires
-copy-value-requires c κs = search needs
 
 put-pair-requires : tie.Need-put-pair-requires
 unfolding oneOf
 put-pair-requires c κs = (refl, refl)
 
-copy-value-requires-2 : tie.Need-copy-value-requires-2
-copy-value-requires-2 c κs = search needs
-
-slice-aggregate-copy-opt-case : tie.Need-slice-aggregate-copy-opt-case
-slice-aggregate-copy-opt-case c = search needs
-
-slice-aggregate-copy-opt-case-2 : tie.Need-slice-aggregate-copy-opt-case-2
-slice-aggregate-copy-opt-case-2 c = search needs
-
 copy-opt-case-requires : tie.Need-copy-opt-case-requires
 unfolding allWords entries wordLike all
 copy-opt-case-requires c κs = (refl, refl, refl, omega arith, omega arith)
-
-slice-aggregate-copy-opt-f32 : tie.Need-slice-aggregate-copy-opt-f32
-slice-aggregate-copy-opt-f32 c = search needs
 
 copy-opt-f32-requires : tie.Need-copy-opt-f32-requires
 unfolding wordLike all
 copy-opt-f32-requires c κs = refl
 
-slice-aggregate-copy-opt-f32-2 : tie.Need-slice-aggregate-copy-opt-f32-2
-slice-aggregate-copy-opt-f32-2 c = search needs
-
 copy-opt-f32-requires-2 : tie.Need-copy-opt-f32-requires-2
 unfolding wordLike all
 copy-opt-f32-requires-2 c κs = refl
-
-slice-aggregate-copy-opt-f32-3 : tie.Need-slice-aggregate-copy-opt-f32-3
-slice-aggregate-copy-opt-f32-3 c = search needs
 
 copy-opt-f32-requires-3 : tie.Need-copy-opt-f32-requires-3
 unfolding wordLike all
 copy-opt-f32-requires-3 c κs = refl
 
-slice-aggregate-copy-opt-value : tie.Need-slice-aggregate-copy-opt-value
-slice-aggregate-copy-opt-value c = search needs
-
 copy-opt-value-requires : tie.Need-copy-opt-value-requires
 unfolding wordLike all
 copy-opt-value-requires c κs = refl
-
-slice-aggregate-copy-opt-f32-4 : tie.Need-slice-aggregate-copy-opt-f32-4
-slice-aggregate-copy-opt-f32-4 c = search needs
 
 copy-opt-f32-requires-4 : tie.Need-copy-opt-f32-requires-4
 unfolding wordLike all
 copy-opt-f32-requires-4 c κs = refl
 
-slice-aggregate-copy-opt-case-3 : tie.Need-slice-aggregate-copy-opt-case-3
-slice-aggregate-copy-opt-case-3 c = search needs
-
-slice-aggregate-copy-opt-case-4 : tie.Need-slice-aggregate-copy-opt-case-4
-slice-aggregate-copy-opt-case-4 c = search needs
-
 copy-opt-case-requires-2 : tie.Need-copy-opt-case-requires-2
 unfolding allWords entries wordLike all
 copy-opt-case-requires-2 c κs = (refl, refl, refl, omega arith, omega arith)
-
-copy-opt-damping-requires : tie.Need-copy-opt-damping-requires
-copy-opt-damping-requires c κs = search needs
 
 put-mark-requires-2 : tie.Need-put-mark-requires-2
 unfolding oneOf
@@ -173,30 +134,8 @@ returns c =
 
 pub copy-spring-spec : {M : Type 1} → statement M
 copy-spring-spec =
-    tie.close
-    (tie.spec
-    copy-name-requires
-    put-mark-requires
-    copy-value-requires
-    put-pair-requires
-    copy-value-requires-2
-    slice-aggregate-copy-opt-case
-    slice-aggregate-copy-opt-case-2
-    copy-opt-case-requires
-    slice-aggregate-copy-opt-f32
-    copy-opt-f32-requires
-    slice-aggregate-copy-opt-f32-2
-    copy-opt-f32-requires-2
-    slice-aggregate-copy-opt-f32-3
-    copy-opt-f32-requires-3
-    slice-aggregate-copy-opt-value
-    copy-opt-value-requires
-    slice-aggregate-copy-opt-f32-4
-    copy-opt-f32-requires-4
-    slice-aggregate-copy-opt-case-3
-    slice-aggregate-copy-opt-case-4
-    copy-opt-case-requires-2
-    copy-opt-damping-requires
-    put-mark-requires-2
-    same-length
-    returns)
+    tie.close (tie.spec (λ c κs. search needs) put-mark-requires (λ c κs. search needs) put-pair-requires (λ c κs. search needs)
+    (λ c. search needs) (λ c. search needs) copy-opt-case-requires (λ c. search needs) copy-opt-f32-requires (λ c. search needs)
+    copy-opt-f32-requires-2 (λ c. search needs) copy-opt-f32-requires-3 (λ c. search needs) copy-opt-value-requires (λ c. search needs)
+    copy-opt-f32-requires-4 (λ c. search needs) (λ c. search needs) copy-opt-case-requires-2 (λ c κs. search needs) put-mark-requires-2
+    same-length returns)

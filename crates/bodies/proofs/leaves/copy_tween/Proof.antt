@@ -12,66 +12,33 @@ use borrow.Author.Needs.{needs}
 use Rattle.bodies.proofs.leaves.copy_tween.Statement.{statement}
 use Rattle.bodies.proofs.leaves.copy_tween.Tie as tie
 
-copy-name-requires : tie.Need-copy-name-requires
-copy-name-requires c κs = search needs
-
 put-mark-requires : tie.Need-put-mark-requires
 unfolding oneOf
 put-mark-requires c κs = refl
-
-copy-value-requires : tie.Need-copy-value-requires
-copy-value-requires c κs = search needs
 
 put-pair-requires : tie.Need-put-pair-requires
 unfolding oneOf
 put-pair-requires c κs = (refl, refl)
 
-copy-value-requires-2 : tie.Need-copy-value-requires-2
-copy-value-requires-2 c κs = search needs
-
-slice-aggregate-copy-f32-field : tie.Need-slice-aggregate-copy-f32-field
-slice-aggregate-copy-f32-field c = search needs
-
 copy-f32-field-requires : tie.Need-copy-f32-field-requires
 unfolding wordLike all
 copy-f32-field-requires c κs = refl
-
-copy-opt-easing-requires : tie.Need-copy-opt-easing-requires
-copy-opt-easing-requires c κs = search needs
-
-slice-aggregate-copy-opt-f32 : tie.Need-slice-aggregate-copy-opt-f32
-slice-aggregate-copy-opt-f32 c = search needs
 
 copy-opt-f32-requires : tie.Need-copy-opt-f32-requires
 unfolding wordLike all
 copy-opt-f32-requires c κs = refl
 
-slice-aggregate-copy-opt-f32-2 : tie.Need-slice-aggregate-copy-opt-f32-2
-slice-aggregate-copy-opt-f32-2 c = search needs
-
 copy-opt-f32-requires-2 : tie.Need-copy-opt-f32-requires-2
 unfolding wordLike all
 copy-opt-f32-requires-2 c κs = refl
-
-copy-opt-loop-requires : tie.Need-copy-opt-loop-requires
-copy-opt-loop-requires c κs = search needs
-
-slice-aggregate-copy-opt-f32-3 : tie.Need-slice-aggregate-copy-opt-f32-3
-slice-aggregate-copy-opt-f32-3 c = search needs
 
 copy-opt-f32-requires-3 : tie.Need-copy-opt-f32-requires-3
 unfolding wordLike all
 copy-opt-f32-requires-3 c κs = refl
 
-slice-aggregate-copy-opt-u32 : tie.Need-slice-aggregate-copy-opt-u32
-slice-aggregate-copy-opt-u32 c = search needs
-
 copy-opt-u32-requires : tie.Need-copy-opt-u32-requires
 unfolding wordLike all
 copy-opt-u32-requires c κs = refl
-
-copy-reverse-requires : tie.Need-copy-reverse-requires
-copy-reverse-requires c κs = search needs
 
 put-mark-requires-2 : tie.Need-put-mark-requires-2
 unfolding oneOf
@@ -150,26 +117,7 @@ returns c =
 
 pub copy-tween-spec : {M : Type 1} → statement M
 copy-tween-spec =
-    tie.close
-    (tie.spec
-    copy-name-requires
-    put-mark-requires
-    copy-value-requires
-    put-pair-requires
-    copy-value-requires-2
-    slice-aggregate-copy-f32-field
-    copy-f32-field-requires
-    copy-opt-easing-requires
-    slice-aggregate-copy-opt-f32
-    copy-opt-f32-requires
-    slice-aggregate-copy-opt-f32-2
-    copy-opt-f32-requires-2
-    copy-opt-loop-requires
-    slice-aggregate-copy-opt-f32-3
-    copy-opt-f32-requires-3
-    slice-aggregate-copy-opt-u32
-    copy-opt-u32-requires
-    copy-reverse-requires
-    put-mark-requires-2
-    same-length
-    returns)
+    tie.close (tie.spec (λ c κs. search needs) put-mark-requires (λ c κs. search needs) put-pair-requires (λ c κs. search needs)
+    (λ c. search needs) copy-f32-field-requires (λ c κs. search needs) (λ c. search needs) copy-opt-f32-requires (λ c. search needs)
+    copy-opt-f32-requires-2 (λ c κs. search needs) (λ c. search needs) copy-opt-f32-requires-3 (λ c. search needs) copy-opt-u32-requires
+    (λ c κs. search needs) put-mark-requires-2 same-length returns)

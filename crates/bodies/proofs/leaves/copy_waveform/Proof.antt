@@ -12,59 +12,29 @@ use borrow.Author.Needs.{needs}
 use Rattle.bodies.proofs.leaves.copy_waveform.Statement.{statement}
 use Rattle.bodies.proofs.leaves.copy_waveform.Tie as tie
 
-take-byte-requires : tie.Need-take-byte-requires
-take-byte-requires c κs = search needs
-
-cast-put-wave : tie.Need-cast-put-wave
-cast-put-wave c = search needs
-
-put-wave-requires : tie.Need-put-wave-requires
-put-wave-requires c κs = search needs
-
-slice-aggregate-copy-opt-f32 : tie.Need-slice-aggregate-copy-opt-f32
-slice-aggregate-copy-opt-f32 c = search needs
-
 copy-opt-f32-requires : tie.Need-copy-opt-f32-requires
 unfolding wordLike all
 copy-opt-f32-requires c κs = refl
-
-slice-aggregate-copy-opt-f32-2 : tie.Need-slice-aggregate-copy-opt-f32-2
-slice-aggregate-copy-opt-f32-2 c = search needs
 
 copy-opt-f32-requires-2 : tie.Need-copy-opt-f32-requires-2
 unfolding wordLike all
 copy-opt-f32-requires-2 c κs = refl
 
-slice-aggregate-copy-opt-f32-3 : tie.Need-slice-aggregate-copy-opt-f32-3
-slice-aggregate-copy-opt-f32-3 c = search needs
-
 copy-opt-f32-requires-3 : tie.Need-copy-opt-f32-requires-3
 unfolding wordLike all
 copy-opt-f32-requires-3 c κs = refl
-
-slice-aggregate-copy-opt-f32-4 : tie.Need-slice-aggregate-copy-opt-f32-4
-slice-aggregate-copy-opt-f32-4 c = search needs
 
 copy-opt-f32-requires-4 : tie.Need-copy-opt-f32-requires-4
 unfolding wordLike all
 copy-opt-f32-requires-4 c κs = refl
 
-slice-aggregate-copy-opt-u32 : tie.Need-slice-aggregate-copy-opt-u32
-slice-aggregate-copy-opt-u32 c = search needs
-
 copy-opt-u32-requires : tie.Need-copy-opt-u32-requires
 unfolding wordLike all
 copy-opt-u32-requires c κs = refl
 
-slice-aggregate-copy-opt-f32-5 : tie.Need-slice-aggregate-copy-opt-f32-5
-slice-aggregate-copy-opt-f32-5 c = search needs
-
 copy-opt-f32-requires-5 : tie.Need-copy-opt-f32-requires-5
 unfolding wordLike all
 copy-opt-f32-requires-5 c κs = refl
-
-slice-aggregate-copy-opt-f32-6 : tie.Need-slice-aggregate-copy-opt-f32-6
-slice-aggregate-copy-opt-f32-6 c = search needs
 
 copy-opt-f32-requires-6 : tie.Need-copy-opt-f32-requires-6
 unfolding wordLike all
@@ -134,25 +104,7 @@ returns c =
 
 pub copy-waveform-spec : {M : Type 1} → statement M
 copy-waveform-spec =
-    tie.close
-    (tie.spec
-    take-byte-requires
-    cast-put-wave
-    put-wave-requires
-    slice-aggregate-copy-opt-f32
-    copy-opt-f32-requires
-    slice-aggregate-copy-opt-f32-2
-    copy-opt-f32-requires-2
-    slice-aggregate-copy-opt-f32-3
-    copy-opt-f32-requires-3
-    slice-aggregate-copy-opt-f32-4
-    copy-opt-f32-requires-4
-    slice-aggregate-copy-opt-u32
-    copy-opt-u32-requires
-    slice-aggregate-copy-opt-f32-5
-    copy-opt-f32-requires-5
-    slice-aggregate-copy-opt-f32-6
-    copy-opt-f32-requires-6
-    put-mark-requires
-    same-length
-    returns)
+    tie.close (tie.spec (λ c κs. search needs) (λ c. search needs) (λ c κs. search needs) (λ c. search needs) copy-opt-f32-requires
+    (λ c. search needs) copy-opt-f32-requires-2 (λ c. search needs) copy-opt-f32-requires-3 (λ c. search needs) copy-opt-f32-requires-4
+    (λ c. search needs) copy-opt-u32-requires (λ c. search needs) copy-opt-f32-requires-5 (λ c. search needs) copy-opt-f32-requires-6
+    put-mark-requires same-length returns)

@@ -13,12 +13,6 @@ put-mark-requires : tie.Need-put-mark-requires
 unfolding oneOf
 put-mark-requires c κs = refl
 
-put-f32-requires : tie.Need-put-f32-requires
-put-f32-requires c κs = search needs
-
-same-length : tie.Need-same-length
-same-length c = search needs
-
 returns : tie.Need-returns
 unfolding atValue
 returns c =
@@ -26,12 +20,6 @@ returns c =
     let at-put-mark = at-put-f32 .before .before .before .before in
     let at-if1 = at-put-mark .before .before in
     rw (at-if1 .if1 .taken) (called (one-piece (mark "+") (at-put-mark .put-mark .ensures) and at-put-f32 .put-f32 .ensures) (λ ps. refl))
-
-put-float-requires : tie.Need-put-float-requires
-put-float-requires c κs = search needs
-
-same-length-2 : tie.Need-same-length-2
-same-length-2 c = search needs
 
 returns-2 : tie.Need-returns-2
 unfolding atValue
@@ -42,12 +30,5 @@ returns-2 c =
 
 pub put-at-spec : {M : Type 1} → statement M
 put-at-spec =
-    tie.close
-    (tie.spec
-    put-mark-requires
-    put-f32-requires
-    same-length
-    returns
-    put-float-requires
-    same-length-2
+    tie.close (tie.spec put-mark-requires (λ c κs. search needs) (λ c. search needs) returns (λ c κs. search needs) (λ c. search needs)
     returns-2)

@@ -14,28 +14,13 @@ use borrow.Author.Needs.{needs}
 use Rattle.bodies.proofs.leaves.put_wave.Statement.{statement}
 use Rattle.bodies.proofs.leaves.put_wave.Tie as tie
 
-slice-aggregate-put-choice : tie.Need-slice-aggregate-put-choice
-slice-aggregate-put-choice c = search needs
-
 put-choice-requires : tie.Need-put-choice-requires
 unfolding allWords entries wordLike all
 put-choice-requires c κs = (refl, omega (arith, c .before .before .if1 .taken), omega arith)
 
-same-length : tie.Need-same-length
-same-length c = search needs
-
 returns : tie.Need-returns
 unfolding entries
 returns c = c .before .before .put-choice .ensures waveNames refl
-
-slice-aggregate-put-name : tie.Need-slice-aggregate-put-name
-slice-aggregate-put-name c = search needs
-
-put-name-requires : tie.Need-put-name-requires
-put-name-requires c κs = search needs
-
-same-length-2 : tie.Need-same-length-2
-same-length-2 c = search needs
 
 returns-2 : tie.Need-returns-2
 unfolding choose
@@ -46,13 +31,5 @@ returns-2 c =
 
 pub put-wave-spec : {M : Type 1} → statement M
 put-wave-spec =
-    tie.close
-    (tie.spec
-    slice-aggregate-put-choice
-    put-choice-requires
-    same-length
-    returns
-    slice-aggregate-put-name
-    put-name-requires
-    same-length-2
-    returns-2)
+    tie.close (tie.spec (λ c. search needs) put-choice-requires (λ c. search needs) returns (λ c. search needs) (λ c κs. search needs)
+    (λ c. search needs) returns-2)

@@ -51,11 +51,5 @@ add-up c = sum-fits (c .args .h) (c .fits .h)
 cast-up-2 : tie.Need-cast-up-2
 cast-up-2 c = whole (c .args .h) (c .fits .h)
 
-wrapping-add-u32-requires : tie.Need-wrapping-add-u32-requires
-wrapping-add-u32-requires c κs = search needs
-
-returns : tie.Need-returns
-returns c = search needs
-
 pub bits-spec : {M : Type 1} → statement M
-bits-spec = tie.close (tie.spec cast-up add-up cast-up-2 wrapping-add-u32-requires returns)
+bits-spec = tie.close (tie.spec cast-up add-up cast-up-2 (λ c κs. search needs) (λ c. search needs))

@@ -11,21 +11,9 @@ use borrow.Author.Needs.{needs}
 use Rattle.copying.proofs.fields.copy_damping.Statement.{statement}
 use Rattle.copying.proofs.fields.copy_damping.Tie as tie
 
-take-byte-requires : tie.Need-take-byte-requires
-take-byte-requires c κs = search needs
-
-slice-aggregate-put-field : tie.Need-slice-aggregate-put-field
-slice-aggregate-put-field c = search needs
-
 put-field-requires : tie.Need-put-field-requires
 unfolding wordLike all
 put-field-requires c κs = refl
-
-copy-in-parens-requires : tie.Need-copy-in-parens-requires
-copy-in-parens-requires c κs = search needs
-
-same-length : tie.Need-same-length
-same-length c = search needs
 
 returns : tie.Need-returns
 unfolding damping
@@ -37,18 +25,9 @@ returns c =
     in-case dampings splitDamping (λ d. damping (some d)) 0 (at-take-byte .take-byte .ensures .reads) (at-if1 .if1 .taken)
     (renamed (put-before (at-put-field .put-field .ensures) (at-copy-in-parens .copy-in-parens .ensures)) (λ x ps. refl))
 
-slice-aggregate-put-field-2 : tie.Need-slice-aggregate-put-field-2
-slice-aggregate-put-field-2 c = search needs
-
 put-field-requires-2 : tie.Need-put-field-requires-2
 unfolding wordLike all
 put-field-requires-2 c κs = refl
-
-copy-two-in-parens-requires : tie.Need-copy-two-in-parens-requires
-copy-two-in-parens-requires c κs = search needs
-
-same-length-2 : tie.Need-same-length-2
-same-length-2 c = search needs
 
 returns-2 : tie.Need-returns-2
 unfolding damping
@@ -60,18 +39,9 @@ returns-2 c =
     in-case dampings splitDamping (λ d. damping (some d)) 1 (at-take-byte .take-byte .ensures .reads) (at-if2 .if2 .taken)
     (renamed (put-before (at-put-field2 .put-field2 .ensures) (at-copy-two-in-parens .copy-two-in-parens .ensures)) (λ x ps. refl))
 
-slice-aggregate-put-field-3 : tie.Need-slice-aggregate-put-field-3
-slice-aggregate-put-field-3 c = search needs
-
 put-field-requires-3 : tie.Need-put-field-requires-3
 unfolding wordLike all
 put-field-requires-3 c κs = refl
-
-copy-two-in-parens-requires-2 : tie.Need-copy-two-in-parens-requires-2
-copy-two-in-parens-requires-2 c κs = search needs
-
-same-length-3 : tie.Need-same-length-3
-same-length-3 c = search needs
 
 returns-3 : tie.Need-returns-3
 unfolding damping
@@ -90,21 +60,6 @@ returns-3 c =
 
 pub copy-damping-spec : {M : Type 1} → statement M
 copy-damping-spec =
-    tie.close
-    (tie.spec
-    take-byte-requires
-    slice-aggregate-put-field
-    put-field-requires
-    copy-in-parens-requires
-    same-length
-    returns
-    slice-aggregate-put-field-2
-    put-field-requires-2
-    copy-two-in-parens-requires
-    same-length-2
-    returns-2
-    slice-aggregate-put-field-3
-    put-field-requires-3
-    copy-two-in-parens-requires-2
-    same-length-3
-    returns-3)
+    tie.close (tie.spec (λ c κs. search needs) (λ c. search needs) put-field-requires (λ c κs. search needs) (λ c. search needs) returns
+    (λ c. search needs) put-field-requires-2 (λ c κs. search needs) (λ c. search needs) returns-2 (λ c. search needs) put-field-requires-3
+    (λ c κs. search needs) (λ c. search needs) returns-3)

@@ -5,15 +5,6 @@ use borrow.Author.Needs.{needs}
 use Rattle.copying.proofs.fields.copy_f32_field.Statement.{statement}
 use Rattle.copying.proofs.fields.copy_f32_field.Tie as tie
 
-put-field-requires : tie.Need-put-field-requires
-put-field-requires c κs = search needs
-
-copy-f32-requires : tie.Need-copy-f32-requires
-copy-f32-requires c κs = search needs
-
-same-length : tie.Need-same-length
-same-length c = search needs
-
 returns : tie.Need-returns
 returns c =
     let at-copy-f32 = c .before .before in
@@ -21,4 +12,4 @@ returns c =
     λ n e. under-name n f32 e (at-put-field .put-field .ensures) (at-copy-f32 .copy-f32 .ensures)
 
 pub copy-f32-field-spec : {M : Type 1} → statement M
-copy-f32-field-spec = tie.close (tie.spec put-field-requires copy-f32-requires same-length returns)
+copy-f32-field-spec = tie.close (tie.spec (λ c κs. search needs) (λ c κs. search needs) (λ c. search needs) returns)

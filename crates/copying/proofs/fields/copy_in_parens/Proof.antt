@@ -11,15 +11,9 @@ put-mark-requires : tie.Need-put-mark-requires
 unfolding oneOf
 put-mark-requires c κs = refl
 
-copy-f32-requires : tie.Need-copy-f32-requires
-copy-f32-requires c κs = search needs
-
 put-mark-requires-2 : tie.Need-put-mark-requires-2
 unfolding oneOf
 put-mark-requires-2 c κs = refl
-
-same-length : tie.Need-same-length
-same-length c = search needs
 
 returns : tie.Need-returns
 returns c =
@@ -30,6 +24,4 @@ returns c =
     (at-put-mark2 .put-mark2 .ensures)
 
 pub copy-in-parens-spec : {M : Type 1} → statement M
-copy-in-parens-spec =
-    tie.close
-    (tie.spec put-mark-requires copy-f32-requires put-mark-requires-2 same-length returns)
+copy-in-parens-spec = tie.close (tie.spec put-mark-requires (λ c κs. search needs) put-mark-requires-2 (λ c. search needs) returns)

@@ -7,24 +7,12 @@ use borrow.Author.Needs.{needs}
 use Rattle.copying.proofs.fields.copy_opt_case.Statement.{statement}
 use Rattle.copying.proofs.fields.copy_opt_case.Tie as tie
 
-take-byte-requires : tie.Need-take-byte-requires
-take-byte-requires c κs = search needs
-
 returns : tie.Need-returns
 returns c =
     let at-take-byte = c .before .before in
     let c6 = at-take-byte .before .before .before .before in
     let start = c6 .before in
     λ f ns e g. absent-field f (choose ns) (below (start .args .n)) (at-take-byte .take-byte .ensures) (c .if1 .taken)
-
-put-field-requires : tie.Need-put-field-requires
-put-field-requires c κs = search needs
-
-take-byte-requires-2 : tie.Need-take-byte-requires-2
-take-byte-requires-2 c κs = search needs
-
-cast-put-choice : tie.Need-cast-put-choice
-cast-put-choice c = search needs
 
 put-choice-requires : tie.Need-put-choice-requires
 put-choice-requires c κs =
@@ -33,9 +21,6 @@ put-choice-requires c κs =
     let c10 = c6 .before .before .before .before in
     let pre = c10 .before .before .before .before .pre in
     (pre .1, omega (arith, at-take-byte2 .take-byte2 .ensures .small, pre .2), pre .4)
-
-same-length : tie.Need-same-length
-same-length c = search needs
 
 returns-2 : tie.Need-returns-2
 returns-2 c =
@@ -52,13 +37,5 @@ returns-2 c =
 
 pub copy-opt-case-spec : {M : Type 1} → statement M
 copy-opt-case-spec =
-    tie.close
-    (tie.spec
-    take-byte-requires
-    returns
-    put-field-requires
-    take-byte-requires-2
-    cast-put-choice
-    put-choice-requires
-    same-length
-    returns-2)
+    tie.close (tie.spec (λ c κs. search needs) returns (λ c κs. search needs) (λ c κs. search needs) (λ c. search needs) put-choice-requires
+    (λ c. search needs) returns-2)

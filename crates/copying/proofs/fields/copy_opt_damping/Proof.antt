@@ -7,18 +7,9 @@ use borrow.Author.Needs.{needs}
 use Rattle.copying.proofs.fields.copy_opt_damping.Statement.{statement}
 use Rattle.copying.proofs.fields.copy_opt_damping.Tie as tie
 
-take-byte-requires : tie.Need-take-byte-requires
-take-byte-requires c κs = search needs
-
 returns : tie.Need-returns
 unfolding damping
 returns c = is-absent dampingForm damping (c .before .before .take-byte .ensures) (c .if1 .taken) (λ ps. refl)
-
-copy-damping-requires : tie.Need-copy-damping-requires
-copy-damping-requires c κs = search needs
-
-same-length : tie.Need-same-length
-same-length c = search needs
 
 returns-2 : tie.Need-returns-2
 returns-2 c =
@@ -28,5 +19,4 @@ returns-2 c =
     is-present dampingForm damping (at-take-byte .take-byte .ensures) (at-if1 .if1 .left) (at-copy-damping .copy-damping .ensures)
 
 pub copy-opt-damping-spec : {M : Type 1} → statement M
-copy-opt-damping-spec =
-    tie.close (tie.spec take-byte-requires returns copy-damping-requires same-length returns-2)
+copy-opt-damping-spec = tie.close (tie.spec (λ c κs. search needs) returns (λ c κs. search needs) (λ c. search needs) returns-2)

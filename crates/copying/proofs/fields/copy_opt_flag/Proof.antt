@@ -6,23 +6,8 @@ use borrow.Author.Needs.{needs}
 use Rattle.copying.proofs.fields.copy_opt_flag.Statement.{statement}
 use Rattle.copying.proofs.fields.copy_opt_flag.Tie as tie
 
-take-byte-requires : tie.Need-take-byte-requires
-take-byte-requires c κs = search needs
-
 returns : tie.Need-returns
 returns c = λ n e. absent-field n truth flag (c .before .before .take-byte .ensures) (c .if1 .taken)
-
-put-field-requires : tie.Need-put-field-requires
-put-field-requires c κs = search needs
-
-take-flag-requires : tie.Need-take-flag-requires
-take-flag-requires c κs = search needs
-
-put-truth-requires : tie.Need-put-truth-requires
-put-truth-requires c κs = search needs
-
-same-length : tie.Need-same-length
-same-length c = search needs
 
 returns-2 : tie.Need-returns-2
 returns-2 c =
@@ -36,12 +21,5 @@ returns-2 c =
 
 pub copy-opt-flag-spec : {M : Type 1} → statement M
 copy-opt-flag-spec =
-    tie.close
-    (tie.spec
-    take-byte-requires
-    returns
-    put-field-requires
-    take-flag-requires
-    put-truth-requires
-    same-length
-    returns-2)
+    tie.close (tie.spec (λ c κs. search needs) returns (λ c κs. search needs) (λ c κs. search needs) (λ c κs. search needs)
+    (λ c. search needs) returns-2)

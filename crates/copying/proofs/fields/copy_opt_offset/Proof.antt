@@ -11,31 +11,16 @@ use borrow.Author.Needs.{needs}
 use Rattle.copying.proofs.fields.copy_opt_offset.Statement.{statement}
 use Rattle.copying.proofs.fields.copy_opt_offset.Tie as tie
 
-take-byte-requires : tie.Need-take-byte-requires
-take-byte-requires c κs = search needs
-
 returns : tie.Need-returns
 returns c = absent-field "offset" offset (word ▹ word) (c .before .before .take-byte .ensures) (c .if1 .taken)
-
-slice-aggregate-put-field : tie.Need-slice-aggregate-put-field
-slice-aggregate-put-field c = search needs
 
 put-field-requires : tie.Need-put-field-requires
 unfolding wordLike all
 put-field-requires c κs = refl
 
-copy-f32-requires : tie.Need-copy-f32-requires
-copy-f32-requires c κs = search needs
-
 put-pair-requires : tie.Need-put-pair-requires
 unfolding oneOf
 put-pair-requires c κs = (refl, refl)
-
-copy-f32-requires-2 : tie.Need-copy-f32-requires-2
-copy-f32-requires-2 c κs = search needs
-
-same-length : tie.Need-same-length
-same-length c = search needs
 
 returns-2 : tie.Need-returns-2
 unfolding offset
@@ -57,14 +42,5 @@ returns-2 c =
 
 pub copy-opt-offset-spec : {M : Type 1} → statement M
 copy-opt-offset-spec =
-    tie.close
-    (tie.spec
-    take-byte-requires
-    returns
-    slice-aggregate-put-field
-    put-field-requires
-    copy-f32-requires
-    put-pair-requires
-    copy-f32-requires-2
-    same-length
-    returns-2)
+    tie.close (tie.spec (λ c κs. search needs) returns (λ c. search needs) put-field-requires (λ c κs. search needs) put-pair-requires
+    (λ c κs. search needs) (λ c. search needs) returns-2)

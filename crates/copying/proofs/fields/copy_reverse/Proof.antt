@@ -8,25 +8,13 @@ use borrow.Author.Needs.{needs}
 use Rattle.copying.proofs.fields.copy_reverse.Statement.{statement}
 use Rattle.copying.proofs.fields.copy_reverse.Tie as tie
 
-take-flag-requires : tie.Need-take-flag-requires
-take-flag-requires c κs = search needs
-
-slice-aggregate-put-field : tie.Need-slice-aggregate-put-field
-slice-aggregate-put-field c = search needs
-
 put-field-requires : tie.Need-put-field-requires
 unfolding wordLike all
 put-field-requires c κs = refl
 
-slice-aggregate-put-word : tie.Need-slice-aggregate-put-word
-slice-aggregate-put-word c = search needs
-
 put-word-requires : tie.Need-put-word-requires
 unfolding wordLike all
 put-word-requires c κs = refl
-
-same-length : tie.Need-same-length
-same-length c = search needs
 
 returns : tie.Need-returns
 unfolding field truth
@@ -47,13 +35,5 @@ returns-2 c =
 
 pub copy-reverse-spec : {M : Type 1} → statement M
 copy-reverse-spec =
-    tie.close
-    (tie.spec
-    take-flag-requires
-    slice-aggregate-put-field
-    put-field-requires
-    slice-aggregate-put-word
-    put-word-requires
-    same-length
-    returns
-    returns-2)
+    tie.close (tie.spec (λ c κs. search needs) (λ c. search needs) put-field-requires (λ c. search needs) put-word-requires
+    (λ c. search needs) returns returns-2)

@@ -10,9 +10,6 @@ use borrow.Author.Needs.{needs}
 use Rattle.copying.proofs.fields.copy_samples.Statement.{statement}
 use Rattle.copying.proofs.fields.copy_samples.Tie as tie
 
-take-field-requires : tie.Need-take-field-requires
-take-field-requires c κs = search needs
-
 returns : tie.Need-returns
 unfolding field unlessIs
 returns c =
@@ -20,18 +17,9 @@ returns c =
     read-put (λ n. field "samples" u32 (unlessIs 32 n)) (at-take-field .take-field .ensures .reads)
     (called no-piece (λ ps. rw (eq-eqb _ 32 (c .if1 .taken)) refl))
 
-slice-aggregate-put-field : tie.Need-slice-aggregate-put-field
-slice-aggregate-put-field c = search needs
-
 put-field-requires : tie.Need-put-field-requires
 unfolding wordLike all
 put-field-requires c κs = refl
-
-put-count-requires : tie.Need-put-count-requires
-put-count-requires c κs = search needs
-
-same-length : tie.Need-same-length
-same-length c = search needs
 
 returns-2 : tie.Need-returns-2
 unfolding field unlessIs u32
@@ -46,12 +34,5 @@ returns-2 c =
 
 pub copy-samples-spec : {M : Type 1} → statement M
 copy-samples-spec =
-    tie.close
-    (tie.spec
-    take-field-requires
-    returns
-    slice-aggregate-put-field
-    put-field-requires
-    put-count-requires
-    same-length
+    tie.close (tie.spec (λ c κs. search needs) returns (λ c. search needs) put-field-requires (λ c κs. search needs) (λ c. search needs)
     returns-2)

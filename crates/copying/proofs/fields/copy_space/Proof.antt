@@ -13,9 +13,6 @@ use borrow.Author.Needs.{needs}
 use Rattle.copying.proofs.fields.copy_space.Statement.{statement}
 use Rattle.copying.proofs.fields.copy_space.Tie as tie
 
-take-byte-requires : tie.Need-take-byte-requires
-take-byte-requires c κs = search needs
-
 returns : tie.Need-returns
 unfolding field unlessIs
 returns c =
@@ -23,18 +20,9 @@ returns c =
     read-put (λ k. field "space" (choose spaceNames) (unlessIs 0 k)) (at-take-byte .take-byte .ensures .reads)
     (called no-piece (λ ps. rw (eq-eqb _ 0 (c .if1 .taken)) refl))
 
-slice-aggregate-put-field : tie.Need-slice-aggregate-put-field
-slice-aggregate-put-field c = search needs
-
 put-field-requires : tie.Need-put-field-requires
 unfolding wordLike all
 put-field-requires c κs = refl
-
-slice-aggregate-put-choice : tie.Need-slice-aggregate-put-choice
-slice-aggregate-put-choice c = search needs
-
-cast-put-choice : tie.Need-cast-put-choice
-cast-put-choice c = search needs
 
 put-choice-requires : tie.Need-put-choice-requires
 unfolding allWords entries wordLike all
@@ -43,9 +31,6 @@ put-choice-requires c κs =
     let c8 = c4 .before .before .before .before in
     let at-take-byte = c8 .before .before in
     (refl, omega (arith, at-take-byte .take-byte .ensures .small), omega arith)
-
-same-length : tie.Need-same-length
-same-length c = search needs
 
 returns-2 : tie.Need-returns-2
 unfolding field unlessIs entries
@@ -61,14 +46,5 @@ returns-2 c =
 
 pub copy-space-spec : {M : Type 1} → statement M
 copy-space-spec =
-    tie.close
-    (tie.spec
-    take-byte-requires
-    returns
-    slice-aggregate-put-field
-    put-field-requires
-    slice-aggregate-put-choice
-    cast-put-choice
-    put-choice-requires
-    same-length
-    returns-2)
+    tie.close (tie.spec (λ c κs. search needs) returns (λ c. search needs) put-field-requires (λ c. search needs) (λ c. search needs)
+    put-choice-requires (λ c. search needs) returns-2)

@@ -11,22 +11,13 @@ put-mark-requires : tie.Need-put-mark-requires
 unfolding oneOf
 put-mark-requires c κs = refl
 
-copy-f32-requires : tie.Need-copy-f32-requires
-copy-f32-requires c κs = search needs
-
 put-mark-requires-2 : tie.Need-put-mark-requires-2
 unfolding oneOf
 put-mark-requires-2 c κs = refl
 
-copy-f32-requires-2 : tie.Need-copy-f32-requires-2
-copy-f32-requires-2 c κs = search needs
-
 put-mark-requires-3 : tie.Need-put-mark-requires-3
 unfolding oneOf
 put-mark-requires-3 c κs = refl
-
-same-length : tie.Need-same-length
-same-length c = search needs
 
 returns : tie.Need-returns
 returns c =
@@ -42,12 +33,5 @@ returns c =
 
 pub copy-two-in-parens-spec : {M : Type 1} → statement M
 copy-two-in-parens-spec =
-    tie.close
-    (tie.spec
-    put-mark-requires
-    copy-f32-requires
-    put-mark-requires-2
-    copy-f32-requires-2
-    put-mark-requires-3
-    same-length
-    returns)
+    tie.close (tie.spec put-mark-requires (λ c κs. search needs) put-mark-requires-2 (λ c κs. search needs) put-mark-requires-3
+    (λ c. search needs) returns)

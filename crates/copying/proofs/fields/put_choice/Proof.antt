@@ -25,12 +25,6 @@ add-at c =
     let h = here _ _ _ (c .before .loop .inv .1) (omega (arith, pre .1, c .before .loop .inv .0)) in
     omega (arith, h .low, pre .2)
 
-byte-at-requires : tie.Need-byte-at-requires Inv-loop μ-loop
-byte-at-requires c κs = search needs
-
-cast-at : tie.Need-cast-at Inv-loop μ-loop
-cast-at c = search needs
-
 add-at-2 : tie.Need-add-at-2 Inv-loop μ-loop
 add-at-2 c =
     let at-loop = c .before .before in
@@ -51,21 +45,12 @@ loop-again c =
     let h = here _ _ _ (at-loop .loop .inv .1) (omega (arith, start .pre .1, at-loop .loop .inv .0)) in
     (omega arith, rw (c .byte-at .ensures) (h .next))
 
-byte-at-requires-2 : tie.Need-byte-at-requires-2 Inv-loop μ-loop
-byte-at-requires-2 c κs = search needs
-
-cast-size : tie.Need-cast-size Inv-loop μ-loop
-cast-size c = search needs
-
 add-part : tie.Need-add-part Inv-loop μ-loop
 add-part c =
     let at-loop = c .before .before .before in
     let pre = at-loop .before .before .before .pre in
     let h = here _ _ _ (at-loop .loop .inv .1) (omega (arith, pre .1, at-loop .loop .inv .0)) in
     omega (arith, h .low, pre .2)
-
-part-requires : tie.Need-part-requires Inv-loop μ-loop
-part-requires c κs = search needs
 
 put-word-requires : tie.Need-put-word-requires Inv-loop μ-loop
 put-word-requires c κs =
@@ -75,9 +60,6 @@ put-word-requires c κs =
     let h = here _ _ _ (at-loop .loop .inv .1) (omega (arith, pre .1, at-loop .loop .inv .0)) in
     rw (rw (at-byte-at2 .byte-at2 .ensures) at (c .part .ensures) ∙ h .word)
     (word-at _ _ (pre .0) (omega (arith, pre .1, at-loop .loop .inv .0)))
-
-same-length : tie.Need-same-length Inv-loop μ-loop
-same-length c = search needs
 
 returns : tie.Need-returns Inv-loop μ-loop
 returns c =
@@ -96,22 +78,5 @@ returns c =
 
 pub put-choice-spec : {M : Type 1} → statement M
 put-choice-spec =
-    tie.close
-    (tie.spec
-    Inv-loop
-    μ-loop
-    loop-holds
-    add-at
-    byte-at-requires
-    cast-at
-    add-at-2
-    add-k
-    loop-less
-    loop-again
-    byte-at-requires-2
-    cast-size
-    add-part
-    part-requires
-    put-word-requires
-    same-length
-    returns)
+    tie.close (tie.spec Inv-loop μ-loop loop-holds add-at (λ c κs. search needs) (λ c. search needs) add-at-2 add-k loop-less loop-again
+    (λ c κs. search needs) (λ c. search needs) add-part (λ c κs. search needs) put-word-requires (λ c. search needs) returns)

@@ -8,15 +8,9 @@ use borrow.Author.Needs.{needs}
 use Rattle.copying.proofs.fields.put_field.Statement.{statement}
 use Rattle.copying.proofs.fields.put_field.Tie as tie
 
-put-word-requires : tie.Need-put-word-requires
-put-word-requires c κs = search needs
-
 put-mark-requires : tie.Need-put-mark-requires
 unfolding oneOf
 put-mark-requires c κs = refl
-
-same-length : tie.Need-same-length
-same-length c = search needs
 
 returns : tie.Need-returns
 returns c =
@@ -25,4 +19,4 @@ returns c =
     one-piece (aWord _) (at-put-word .put-word .ensures) and one-piece (mark ":") (at-put-mark .put-mark .ensures)
 
 pub put-field-spec : {M : Type 1} → statement M
-put-field-spec = tie.close (tie.spec put-word-requires put-mark-requires same-length returns)
+put-field-spec = tie.close (tie.spec (λ c κs. search needs) put-mark-requires (λ c. search needs) returns)

@@ -10,25 +10,13 @@ use borrow.Author.Needs.{needs}
 use Rattle.copying.proofs.values.copy_array.Statement.{statement}
 use Rattle.copying.proofs.values.copy_array.Tie as tie
 
-take-field-requires : tie.Need-take-field-requires
-take-field-requires c κs = search needs
-
 put-mark-requires : tie.Need-put-mark-requires
 unfolding oneOf
 put-mark-requires c κs = refl
 
-cast-copy-floats : tie.Need-cast-copy-floats
-cast-copy-floats c = search needs
-
-copy-floats-requires : tie.Need-copy-floats-requires
-copy-floats-requires c κs = search needs
-
 put-mark-requires-2 : tie.Need-put-mark-requires-2
 unfolding oneOf
 put-mark-requires-2 c κs = refl
-
-same-length : tie.Need-same-length
-same-length c = search needs
 
 returns : tie.Need-returns
 unfolding value
@@ -45,12 +33,5 @@ returns c =
 
 pub copy-array-spec : {M : Type 1} → statement M
 copy-array-spec =
-    tie.close
-    (tie.spec
-    take-field-requires
-    put-mark-requires
-    cast-copy-floats
-    copy-floats-requires
-    put-mark-requires-2
-    same-length
-    returns)
+    tie.close (tie.spec (λ c κs. search needs) put-mark-requires (λ c. search needs) (λ c κs. search needs) put-mark-requires-2
+    (λ c. search needs) returns)

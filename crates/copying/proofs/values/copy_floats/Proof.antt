@@ -15,18 +15,6 @@ returns : tie.Need-returns
 unfolding floats
 returns c = rw (c .if1 .taken) (none-copied word floats _ _ _ (λ ps. refl))
 
-copy-f32-requires : tie.Need-copy-f32-requires
-copy-f32-requires c κs = search needs
-
-sub-copy-more-floats : tie.Need-sub-copy-more-floats
-sub-copy-more-floats c = search needs
-
-copy-more-floats-requires : tie.Need-copy-more-floats-requires
-copy-more-floats-requires c κs = search needs
-
-same-length : tie.Need-same-length
-same-length c = search needs
-
 returns-2 : tie.Need-returns-2
 unfolding floats
 returns-2 c =
@@ -41,11 +29,4 @@ returns-2 c =
 
 pub copy-floats-spec : {M : Type 1} → statement M
 copy-floats-spec =
-    tie.close
-    (tie.spec
-    returns
-    copy-f32-requires
-    sub-copy-more-floats
-    copy-more-floats-requires
-    same-length
-    returns-2)
+    tie.close (tie.spec returns (λ c κs. search needs) (λ c. search needs) (λ c κs. search needs) (λ c. search needs) returns-2)

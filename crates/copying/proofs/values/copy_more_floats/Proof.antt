@@ -32,9 +32,6 @@ put-mark-requires : tie.Need-put-mark-requires Inv-loop μ-loop
 unfolding oneOf
 put-mark-requires c κs = refl
 
-copy-f32-requires : tie.Need-copy-f32-requires Inv-loop μ-loop
-copy-f32-requires c κs = search needs
-
 add-k : tie.Need-add-k Inv-loop μ-loop
 add-k c = omega arith
 
@@ -54,24 +51,11 @@ loop-again c =
           (in-front (mark ",") (at-put-mark .put-mark .ensures) (at-copy-f32 .copy-f32 .ensures)) (at-loop .loop .inv .2),
     )
 
-same-length : tie.Need-same-length Inv-loop μ-loop
-same-length c = search needs
-
 returns : tie.Need-returns Inv-loop μ-loop
 unfolding moreFloats
 returns c = walk-done _ _ _ _ _ _ _ (λ ps. refl) (c .loop-test .left) (c .before .loop .inv .2)
 
 pub copy-more-floats-spec : {M : Type 1} → statement M
 copy-more-floats-spec =
-    tie.close
-    (tie.spec
-    Inv-loop
-    μ-loop
-    loop-holds
-    put-mark-requires
-    copy-f32-requires
-    add-k
-    loop-less
-    loop-again
-    same-length
+    tie.close (tie.spec Inv-loop μ-loop loop-holds put-mark-requires (λ c κs. search needs) add-k loop-less loop-again (λ c. search needs)
     returns)

@@ -5,18 +5,6 @@ use borrow.Author.Needs.{needs}
 use Rattle.copying.proofs.values.copy_name.Statement.{statement}
 use Rattle.copying.proofs.values.copy_name.Tie as tie
 
-take-span-requires : tie.Need-take-span-requires
-take-span-requires c κs = search needs
-
-part-requires : tie.Need-part-requires
-part-requires c κs = search needs
-
-put-name-requires : tie.Need-put-name-requires
-put-name-requires c κs = search needs
-
-same-length : tie.Need-same-length
-same-length c = search needs
-
 returns : tie.Need-returns
 returns c =
     let at-put-name = c .before .before in
@@ -26,5 +14,4 @@ returns c =
     span-put aName (start .args .text .now) _ (at-take-span .take-span .ensures) (at-part .part .ensures) (at-put-name .put-name .ensures)
 
 pub copy-name-spec : {M : Type 1} → statement M
-copy-name-spec =
-    tie.close (tie.spec take-span-requires part-requires put-name-requires same-length returns)
+copy-name-spec = tie.close (tie.spec (λ c κs. search needs) (λ c κs. search needs) (λ c κs. search needs) (λ c. search needs) returns)

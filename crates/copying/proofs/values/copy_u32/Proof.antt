@@ -7,15 +7,6 @@ use borrow.Author.Needs.{needs}
 use Rattle.copying.proofs.values.copy_u32.Statement.{statement}
 use Rattle.copying.proofs.values.copy_u32.Tie as tie
 
-take-field-requires : tie.Need-take-field-requires
-take-field-requires c κs = search needs
-
-put-count-requires : tie.Need-put-count-requires
-put-count-requires c κs = search needs
-
-same-length : tie.Need-same-length
-same-length c = search needs
-
 returns : tie.Need-returns
 unfolding u32
 returns c =
@@ -24,4 +15,4 @@ returns c =
     read-put u32 (at-take-field .take-field .ensures .reads) (one-piece (aNumeral counted _) (at-put-count .put-count .ensures))
 
 pub copy-u32-spec : {M : Type 1} → statement M
-copy-u32-spec = tie.close (tie.spec take-field-requires put-count-requires same-length returns)
+copy-u32-spec = tie.close (tie.spec (λ c κs. search needs) (λ c κs. search needs) (λ c. search needs) returns)

@@ -8,15 +8,6 @@ use borrow.Author.Needs.{needs}
 use Rattle.copying.proofs.values.copy_value.Statement.{statement}
 use Rattle.copying.proofs.values.copy_value.Tie as tie
 
-take-byte-requires : tie.Need-take-byte-requires
-take-byte-requires c κs = search needs
-
-copy-f32-requires : tie.Need-copy-f32-requires
-copy-f32-requires c κs = search needs
-
-same-length : tie.Need-same-length
-same-length c = search needs
-
 returns : tie.Need-returns
 unfolding value
 returns c =
@@ -25,12 +16,6 @@ returns c =
     let at-take-byte = at-if1 .before .before in
     in-case values splitValue value 0 (at-take-byte .take-byte .ensures .reads) (at-if1 .if1 .taken)
     (renamed (at-copy-f32 .copy-f32 .ensures) (λ x ps. refl))
-
-copy-array-requires : tie.Need-copy-array-requires
-copy-array-requires c κs = search needs
-
-same-length-2 : tie.Need-same-length-2
-same-length-2 c = search needs
 
 returns-2 : tie.Need-returns-2
 returns-2 c =
@@ -42,12 +27,5 @@ returns-2 c =
 
 pub copy-value-spec : {M : Type 1} → statement M
 copy-value-spec =
-    tie.close
-    (tie.spec
-    take-byte-requires
-    copy-f32-requires
-    same-length
-    returns
-    copy-array-requires
-    same-length-2
+    tie.close (tie.spec (λ c κs. search needs) (λ c κs. search needs) (λ c. search needs) returns (λ c κs. search needs) (λ c. search needs)
     returns-2)

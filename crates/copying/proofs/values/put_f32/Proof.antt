@@ -9,12 +9,6 @@ use borrow.Author.Needs.{needs}
 use Rattle.copying.proofs.values.put_f32.Statement.{statement}
 use Rattle.copying.proofs.values.put_f32.Tie as tie
 
-put-float-requires : tie.Need-put-float-requires
-put-float-requires c κs = search needs
-
-same-length : tie.Need-same-length
-same-length c = search needs
-
 returns : tie.Need-returns
 returns c =
     let at-put-float = c .before .before in
@@ -24,12 +18,6 @@ returns c =
 put-mark-requires : tie.Need-put-mark-requires
 unfolding oneOf
 put-mark-requires c κs = refl
-
-put-float-requires-2 : tie.Need-put-float-requires-2
-put-float-requires-2 c κs = search needs
-
-same-length-2 : tie.Need-same-length-2
-same-length-2 c = search needs
 
 returns-2 : tie.Need-returns-2
 returns-2 c =
@@ -41,12 +29,5 @@ returns-2 c =
 
 pub put-f32-spec : {M : Type 1} → statement M
 put-f32-spec =
-    tie.close
-    (tie.spec
-    put-float-requires
-    same-length
-    returns
-    put-mark-requires
-    put-float-requires-2
-    same-length-2
+    tie.close (tie.spec (λ c κs. search needs) (λ c. search needs) returns put-mark-requires (λ c κs. search needs) (λ c. search needs)
     returns-2)

@@ -8,15 +8,9 @@ use borrow.Author.Needs.{needs}
 use Rattle.copying.proofs.values.put_truth.Statement.{statement}
 use Rattle.copying.proofs.values.put_truth.Tie as tie
 
-slice-aggregate-put-word : tie.Need-slice-aggregate-put-word
-slice-aggregate-put-word c = search needs
-
 put-word-requires : tie.Need-put-word-requires
 unfolding wordLike all
 put-word-requires c κs = refl
-
-same-length : tie.Need-same-length
-same-length c = search needs
 
 returns : tie.Need-returns
 unfolding truth
@@ -25,15 +19,9 @@ returns c =
     let at-if1 = at-put-word .before .before .before in
     rw (at-if1 .if1 .taken) (one-piece (spell "true") (at-put-word .put-word .ensures))
 
-slice-aggregate-put-word-2 : tie.Need-slice-aggregate-put-word-2
-slice-aggregate-put-word-2 c = search needs
-
 put-word-requires-2 : tie.Need-put-word-requires-2
 unfolding wordLike all
 put-word-requires-2 c κs = refl
-
-same-length-2 : tie.Need-same-length-2
-same-length-2 c = search needs
 
 returns-2 : tie.Need-returns-2
 unfolding truth
@@ -44,13 +32,5 @@ returns-2 c =
 
 pub put-truth-spec : {M : Type 1} → statement M
 put-truth-spec =
-    tie.close
-    (tie.spec
-    slice-aggregate-put-word
-    put-word-requires
-    same-length
-    returns
-    slice-aggregate-put-word-2
-    put-word-requires-2
-    same-length-2
-    returns-2)
+    tie.close (tie.spec (λ c. search needs) put-word-requires (λ c. search needs) returns (λ c. search needs) put-word-requires-2
+    (λ c. search needs) returns-2)

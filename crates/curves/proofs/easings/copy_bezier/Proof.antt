@@ -9,9 +9,6 @@ use borrow.Author.Needs.{needs}
 use Rattle.curves.proofs.easings.copy_bezier.Statement.{statement}
 use Rattle.curves.proofs.easings.copy_bezier.Tie as tie
 
-slice-aggregate-put-word : tie.Need-slice-aggregate-put-word
-slice-aggregate-put-word c = search needs
-
 put-word-requires : tie.Need-put-word-requires
 unfolding wordLike all
 put-word-requires c κs = refl
@@ -20,29 +17,17 @@ put-mark-requires : tie.Need-put-mark-requires
 unfolding oneOf
 put-mark-requires c κs = refl
 
-copy-f32-requires : tie.Need-copy-f32-requires
-copy-f32-requires c κs = search needs
-
 put-mark-requires-2 : tie.Need-put-mark-requires-2
 unfolding oneOf
 put-mark-requires-2 c κs = refl
-
-copy-f32-requires-2 : tie.Need-copy-f32-requires-2
-copy-f32-requires-2 c κs = search needs
 
 put-mark-requires-3 : tie.Need-put-mark-requires-3
 unfolding oneOf
 put-mark-requires-3 c κs = refl
 
-copy-f32-requires-3 : tie.Need-copy-f32-requires-3
-copy-f32-requires-3 c κs = search needs
-
 put-mark-requires-4 : tie.Need-put-mark-requires-4
 unfolding oneOf
 put-mark-requires-4 c κs = refl
-
-copy-f32-requires-4 : tie.Need-copy-f32-requires-4
-copy-f32-requires-4 c κs = search needs
 
 put-mark-requires-5 : tie.Need-put-mark-requires-5
 unfolding oneOf
@@ -89,18 +74,6 @@ returns c =
 
 pub copy-bezier-spec : {M : Type 1} → statement M
 copy-bezier-spec =
-    tie.close
-    (tie.spec
-    slice-aggregate-put-word
-    put-word-requires
-    put-mark-requires
-    copy-f32-requires
-    put-mark-requires-2
-    copy-f32-requires-2
-    put-mark-requires-3
-    copy-f32-requires-3
-    put-mark-requires-4
-    copy-f32-requires-4
-    put-mark-requires-5
-    same-length
-    returns)
+    tie.close (tie.spec (λ c. search needs) put-word-requires put-mark-requires (λ c κs. search needs) put-mark-requires-2
+    (λ c κs. search needs) put-mark-requires-3 (λ c κs. search needs) put-mark-requires-4 (λ c κs. search needs) put-mark-requires-5
+    same-length returns)

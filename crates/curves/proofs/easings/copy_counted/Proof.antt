@@ -8,22 +8,13 @@ use borrow.Author.Needs.{needs}
 use Rattle.curves.proofs.easings.copy_counted.Statement.{statement}
 use Rattle.curves.proofs.easings.copy_counted.Tie as tie
 
-put-word-requires : tie.Need-put-word-requires
-put-word-requires c κs = search needs
-
 put-mark-requires : tie.Need-put-mark-requires
 unfolding oneOf
 put-mark-requires c κs = refl
 
-copy-u32-requires : tie.Need-copy-u32-requires
-copy-u32-requires c κs = search needs
-
 put-mark-requires-2 : tie.Need-put-mark-requires-2
 unfolding oneOf
 put-mark-requires-2 c κs = refl
-
-same-length : tie.Need-same-length
-same-length c = search needs
 
 returns : tie.Need-returns
 returns c =
@@ -37,11 +28,4 @@ returns c =
 
 pub copy-counted-spec : {M : Type 1} → statement M
 copy-counted-spec =
-    tie.close
-    (tie.spec
-    put-word-requires
-    put-mark-requires
-    copy-u32-requires
-    put-mark-requires-2
-    same-length
-    returns)
+    tie.close (tie.spec (λ c κs. search needs) put-mark-requires (λ c κs. search needs) put-mark-requires-2 (λ c. search needs) returns)

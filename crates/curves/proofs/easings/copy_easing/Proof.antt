@@ -11,37 +11,13 @@ use borrow.Author.Needs.{needs}
 use Rattle.curves.proofs.easings.copy_easing.Statement.{statement}
 use Rattle.curves.proofs.easings.copy_easing.Tie as tie
 
-take-byte-requires : tie.Need-take-byte-requires
-take-byte-requires c κs = search needs
-
-copy-named-requires : tie.Need-copy-named-requires
-copy-named-requires c κs = search needs
-
-copy-bezier-requires : tie.Need-copy-bezier-requires
-copy-bezier-requires c κs = search needs
-
-slice-aggregate-copy-counted : tie.Need-slice-aggregate-copy-counted
-slice-aggregate-copy-counted c = search needs
-
 copy-counted-requires : tie.Need-copy-counted-requires
 unfolding wordLike all
 copy-counted-requires c κs = refl
 
-slice-aggregate-copy-counted-2 : tie.Need-slice-aggregate-copy-counted-2
-slice-aggregate-copy-counted-2 c = search needs
-
 copy-counted-requires-2 : tie.Need-copy-counted-requires-2
 unfolding wordLike all
 copy-counted-requires-2 c κs = refl
-
-copy-rough-requires : tie.Need-copy-rough-requires
-copy-rough-requires c κs = search needs
-
-copy-slow-mo-requires : tie.Need-copy-slow-mo-requires
-copy-slow-mo-requires c κs = search needs
-
-same-length : tie.Need-same-length
-same-length c = search needs
 
 returns : tie.Need-returns
 returns c =
@@ -58,9 +34,6 @@ returns c =
     (at-match .match .keys1)
     (renamed (at-copy-named .copy-named .ensures) (λ x ps. refl))
 
-same-length-2 : tie.Need-same-length-2
-same-length-2 c = search needs
-
 returns-2 : tie.Need-returns-2
 returns-2 c =
     let at-copy-bezier = c .before .before in
@@ -75,9 +48,6 @@ returns-2 c =
     (at-take-byte .take-byte .ensures .reads)
     (at-match .match .keys2)
     (renamed (at-copy-bezier .copy-bezier .ensures) (λ x ps. refl))
-
-same-length-3 : tie.Need-same-length-3
-same-length-3 c = search needs
 
 returns-3 : tie.Need-returns-3
 unfolding easing
@@ -95,9 +65,6 @@ returns-3 c =
     (at-match .match .keys3)
     (renamed (at-copy-counted .copy-counted .ensures) (λ x ps. refl))
 
-same-length-4 : tie.Need-same-length-4
-same-length-4 c = search needs
-
 returns-4 : tie.Need-returns-4
 unfolding easing
 returns-4 c =
@@ -114,9 +81,6 @@ returns-4 c =
     (at-match .match .keys4)
     (renamed (at-copy-counted2 .copy-counted2 .ensures) (λ x ps. refl))
 
-same-length-5 : tie.Need-same-length-5
-same-length-5 c = search needs
-
 returns-5 : tie.Need-returns-5
 returns-5 c =
     let at-copy-rough = c .before .before in
@@ -131,9 +95,6 @@ returns-5 c =
     (at-take-byte .take-byte .ensures .reads)
     (at-match .match .keys5)
     (renamed (at-copy-rough .copy-rough .ensures) (λ x ps. refl))
-
-same-length-6 : tie.Need-same-length-6
-same-length-6 c = search needs
 
 returns-6 : tie.Need-returns-6
 returns-6 c =
@@ -152,26 +113,7 @@ returns-6 c =
 
 pub copy-easing-spec : {M : Type 1} → statement M
 copy-easing-spec =
-    tie.close
-    (tie.spec
-    take-byte-requires
-    copy-named-requires
-    copy-bezier-requires
-    slice-aggregate-copy-counted
-    copy-counted-requires
-    slice-aggregate-copy-counted-2
-    copy-counted-requires-2
-    copy-rough-requires
-    copy-slow-mo-requires
-    same-length
-    returns
-    same-length-2
-    returns-2
-    same-length-3
-    returns-3
-    same-length-4
-    returns-4
-    same-length-5
-    returns-5
-    same-length-6
-    returns-6)
+    tie.close (tie.spec (λ c κs. search needs) (λ c κs. search needs) (λ c κs. search needs) (λ c. search needs) copy-counted-requires
+    (λ c. search needs) copy-counted-requires-2 (λ c κs. search needs) (λ c κs. search needs) (λ c. search needs) returns
+    (λ c. search needs) returns-2 (λ c. search needs) returns-3 (λ c. search needs) returns-4 (λ c. search needs) returns-5
+    (λ c. search needs) returns-6)

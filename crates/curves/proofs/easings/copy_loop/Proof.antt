@@ -11,46 +11,25 @@ use borrow.Author.Needs.{needs}
 use Rattle.curves.proofs.easings.copy_loop.Statement.{statement}
 use Rattle.curves.proofs.easings.copy_loop.Tie as tie
 
-take-byte-requires : tie.Need-take-byte-requires
-take-byte-requires c κs = search needs
-
-slice-aggregate-put-word : tie.Need-slice-aggregate-put-word
-slice-aggregate-put-word c = search needs
-
 put-word-requires : tie.Need-put-word-requires
 unfolding wordLike all
 put-word-requires c κs = refl
-
-slice-aggregate-copy-counted : tie.Need-slice-aggregate-copy-counted
-slice-aggregate-copy-counted c = search needs
 
 copy-counted-requires : tie.Need-copy-counted-requires
 unfolding wordLike all
 copy-counted-requires c κs = refl
 
-slice-aggregate-put-word-2 : tie.Need-slice-aggregate-put-word-2
-slice-aggregate-put-word-2 c = search needs
-
 put-word-requires-2 : tie.Need-put-word-requires-2
 unfolding wordLike all
 put-word-requires-2 c κs = refl
-
-slice-aggregate-put-word-3 : tie.Need-slice-aggregate-put-word-3
-slice-aggregate-put-word-3 c = search needs
 
 put-word-requires-3 : tie.Need-put-word-requires-3
 unfolding wordLike all
 put-word-requires-3 c κs = refl
 
-slice-aggregate-copy-counted-2 : tie.Need-slice-aggregate-copy-counted-2
-slice-aggregate-copy-counted-2 c = search needs
-
 copy-counted-requires-2 : tie.Need-copy-counted-requires-2
 unfolding wordLike all
 copy-counted-requires-2 c κs = refl
-
-same-length : tie.Need-same-length
-same-length c = search needs
 
 returns : tie.Need-returns
 unfolding loopMode
@@ -61,9 +40,6 @@ returns c =
     in-case loops splitLoop loopMode 0 (at-take-byte .take-byte .ensures .reads) (at-match .match .keys1)
     (renamed (nothing-read (one-piece (spell "once") (at-put-word .put-word .ensures))) (λ x ps. refl))
 
-same-length-2 : tie.Need-same-length-2
-same-length-2 c = search needs
-
 returns-2 : tie.Need-returns-2
 unfolding loopMode
 returns-2 c =
@@ -72,9 +48,6 @@ returns-2 c =
     let at-take-byte = at-match .before in
     in-case loops splitLoop loopMode 1 (at-take-byte .take-byte .ensures .reads) (at-match .match .keys2)
     (renamed (at-copy-counted .copy-counted .ensures) (λ x ps. refl))
-
-same-length-3 : tie.Need-same-length-3
-same-length-3 c = search needs
 
 returns-3 : tie.Need-returns-3
 unfolding loopMode
@@ -85,9 +58,6 @@ returns-3 c =
     in-case loops splitLoop loopMode 2 (at-take-byte .take-byte .ensures .reads) (at-match .match .keys3)
     (renamed (nothing-read (one-piece (spell "forever") (at-put-word2 .put-word2 .ensures))) (λ x ps. refl))
 
-same-length-4 : tie.Need-same-length-4
-same-length-4 c = search needs
-
 returns-4 : tie.Need-returns-4
 unfolding loopMode
 returns-4 c =
@@ -96,9 +66,6 @@ returns-4 c =
     let at-take-byte = at-match .before in
     in-case loops splitLoop loopMode 3 (at-take-byte .take-byte .ensures .reads) (at-match .match .keys4)
     (renamed (nothing-read (one-piece (spell "ping_pong") (at-put-word3 .put-word3 .ensures))) (λ x ps. refl))
-
-same-length-5 : tie.Need-same-length-5
-same-length-5 c = search needs
 
 returns-5 : tie.Need-returns-5
 unfolding loopMode
@@ -111,26 +78,7 @@ returns-5 c =
 
 pub copy-loop-spec : {M : Type 1} → statement M
 copy-loop-spec =
-    tie.close
-    (tie.spec
-    take-byte-requires
-    slice-aggregate-put-word
-    put-word-requires
-    slice-aggregate-copy-counted
-    copy-counted-requires
-    slice-aggregate-put-word-2
-    put-word-requires-2
-    slice-aggregate-put-word-3
-    put-word-requires-3
-    slice-aggregate-copy-counted-2
-    copy-counted-requires-2
-    same-length
-    returns
-    same-length-2
-    returns-2
-    same-length-3
-    returns-3
-    same-length-4
-    returns-4
-    same-length-5
-    returns-5)
+    tie.close (tie.spec (λ c κs. search needs) (λ c. search needs) put-word-requires (λ c. search needs) copy-counted-requires
+    (λ c. search needs) put-word-requires-2 (λ c. search needs) put-word-requires-3 (λ c. search needs) copy-counted-requires-2
+    (λ c. search needs) returns (λ c. search needs) returns-2 (λ c. search needs) returns-3 (λ c. search needs) returns-4
+    (λ c. search needs) returns-5)

@@ -14,11 +14,8 @@ put-mark-requires : tie.Need-put-mark-requires
 unfolding oneOf
 put-mark-requires c κs = refl
 
-same-length : tie.Need-same-length
-same-length c = search needs
-
 returns-2 : tie.Need-returns-2
 returns-2 c = rw (c .before .before .before .before .if1 .left) (one-piece (mark ",") (c .before .before .put-mark .ensures))
 
 pub put-comma-spec : {M : Type 1} → statement M
-put-comma-spec = tie.close (tie.spec returns put-mark-requires same-length returns-2)
+put-comma-spec = tie.close (tie.spec returns put-mark-requires (λ c. search needs) returns-2)

@@ -11,15 +11,6 @@ returns c =
     let args = c .before .before .before .args in
     λ n e. omitted (args .first) (n, f32 (args .bits)) (eq-eqb _ _ (c .if1 .taken))
 
-put-pair-name-requires : tie.Need-put-pair-name-requires
-put-pair-name-requires c κs = search needs
-
-put-f32-requires : tie.Need-put-f32-requires
-put-f32-requires c κs = search needs
-
-same-length : tie.Need-same-length
-same-length c = search needs
-
 returns-2 : tie.Need-returns-2
 returns-2 c =
     let at-put-f32 = c .before .before in
@@ -30,5 +21,4 @@ returns-2 c =
     (at-put-f32 .put-f32 .ensures)
 
 pub put-f32-unless-spec : {M : Type 1} → statement M
-put-f32-unless-spec =
-    tie.close (tie.spec returns put-pair-name-requires put-f32-requires same-length returns-2)
+put-f32-unless-spec = tie.close (tie.spec returns (λ c κs. search needs) (λ c κs. search needs) (λ c. search needs) returns-2)

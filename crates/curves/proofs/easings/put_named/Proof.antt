@@ -10,9 +10,6 @@ use borrow.Author.Needs.{needs}
 use Rattle.curves.proofs.easings.put_named.Statement.{statement}
 use Rattle.curves.proofs.easings.put_named.Tie as tie
 
-slice-aggregate-put-word : tie.Need-slice-aggregate-put-word
-slice-aggregate-put-word c = search needs
-
 put-word-requires : tie.Need-put-word-requires
 unfolding wordLike all
 put-word-requires c κs = refl
@@ -20,12 +17,6 @@ put-word-requires c κs = refl
 put-pair-requires : tie.Need-put-pair-requires
 unfolding oneOf
 put-pair-requires c κs = (refl, refl)
-
-put-name-requires : tie.Need-put-name-requires
-put-name-requires c κs = search needs
-
-same-length : tie.Need-same-length
-same-length c = search needs
 
 returns : tie.Need-returns
 unfolding easing
@@ -40,12 +31,6 @@ returns c =
     and one-piece (aName _) (at-put-name .put-name .ensures))
     (λ ps. refl))
 
-put-plain-requires : tie.Need-put-plain-requires
-put-plain-requires c κs = search needs
-
-same-length-2 : tie.Need-same-length-2
-same-length-2 c = search needs
-
 returns-2 : tie.Need-returns-2
 unfolding easing
 returns-2 c =
@@ -55,14 +40,5 @@ returns-2 c =
 
 pub put-named-spec : {M : Type 1} → statement M
 put-named-spec =
-    tie.close
-    (tie.spec
-    slice-aggregate-put-word
-    put-word-requires
-    put-pair-requires
-    put-name-requires
-    same-length
-    returns
-    put-plain-requires
-    same-length-2
-    returns-2)
+    tie.close (tie.spec (λ c. search needs) put-word-requires put-pair-requires (λ c κs. search needs) (λ c. search needs) returns
+    (λ c κs. search needs) (λ c. search needs) returns-2)

@@ -8,18 +8,9 @@ use borrow.Author.Needs.{needs}
 use Rattle.curves.proofs.easings.put_pair_name.Statement.{statement}
 use Rattle.curves.proofs.easings.put_pair_name.Tie as tie
 
-put-comma-requires : tie.Need-put-comma-requires
-put-comma-requires c κs = search needs
-
-put-word-requires : tie.Need-put-word-requires
-put-word-requires c κs = search needs
-
 put-mark-requires : tie.Need-put-mark-requires
 unfolding oneOf
 put-mark-requires c κs = refl
-
-same-length : tie.Need-same-length
-same-length c = search needs
 
 returns : tie.Need-returns
 returns c =
@@ -31,5 +22,4 @@ returns c =
     and one-piece (mark ":") (at-put-mark .put-mark .ensures)
 
 pub put-pair-name-spec : {M : Type 1} → statement M
-put-pair-name-spec =
-    tie.close (tie.spec put-comma-requires put-word-requires put-mark-requires same-length returns)
+put-pair-name-spec = tie.close (tie.spec (λ c κs. search needs) (λ c κs. search needs) put-mark-requires (λ c. search needs) returns)

@@ -14,15 +14,6 @@ returns c =
     let args = c .before .before .before .args in
     λ m e. omitted (args .first) (m, u32 (args .n)) (eq-eqb _ _ (c .if1 .taken))
 
-put-pair-name-requires : tie.Need-put-pair-name-requires
-put-pair-name-requires c κs = search needs
-
-put-count-requires : tie.Need-put-count-requires
-put-count-requires c κs = search needs
-
-same-length : tie.Need-same-length
-same-length c = search needs
-
 returns-2 : tie.Need-returns-2
 unfolding u32
 returns-2 c =
@@ -34,5 +25,4 @@ returns-2 c =
     (one-piece (aNumeral counted (args .n)) (at-put-count .put-count .ensures))
 
 pub put-u32-unless-spec : {M : Type 1} → statement M
-put-u32-unless-spec =
-    tie.close (tie.spec returns put-pair-name-requires put-count-requires same-length returns-2)
+put-u32-unless-spec = tie.close (tie.spec returns (λ c κs. search needs) (λ c κs. search needs) (λ c. search needs) returns-2)

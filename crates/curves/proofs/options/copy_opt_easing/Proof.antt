@@ -10,9 +10,6 @@ use borrow.Author.Needs.{needs}
 use Rattle.curves.proofs.options.copy_opt_easing.Statement.{statement}
 use Rattle.curves.proofs.options.copy_opt_easing.Tie as tie
 
-take-byte-requires : tie.Need-take-byte-requires
-take-byte-requires c κs = search needs
-
 returns : tie.Need-returns
 unfolding field
 returns c =
@@ -21,18 +18,9 @@ returns c =
     is-absent (easingForm _) (λ o. field "easing" easing (optionSense (start .args .text .now) o)) (at-take-byte .take-byte .ensures)
     (c .if1 .taken) (λ ps. refl)
 
-slice-aggregate-put-field : tie.Need-slice-aggregate-put-field
-slice-aggregate-put-field c = search needs
-
 put-field-requires : tie.Need-put-field-requires
 unfolding wordLike all
 put-field-requires c κs = refl
-
-copy-easing-requires : tie.Need-copy-easing-requires
-copy-easing-requires c κs = search needs
-
-same-length : tie.Need-same-length
-same-length c = search needs
 
 returns-2 : tie.Need-returns-2
 unfolding field
@@ -47,12 +35,5 @@ returns-2 c =
 
 pub copy-opt-easing-spec : {M : Type 1} → statement M
 copy-opt-easing-spec =
-    tie.close
-    (tie.spec
-    take-byte-requires
-    returns
-    slice-aggregate-put-field
-    put-field-requires
-    copy-easing-requires
-    same-length
+    tie.close (tie.spec (λ c κs. search needs) returns (λ c. search needs) put-field-requires (λ c κs. search needs) (λ c. search needs)
     returns-2)

@@ -9,24 +9,12 @@ use borrow.Author.Needs.{needs}
 use Rattle.curves.proofs.options.copy_opt_loop.Statement.{statement}
 use Rattle.curves.proofs.options.copy_opt_loop.Tie as tie
 
-take-byte-requires : tie.Need-take-byte-requires
-take-byte-requires c κs = search needs
-
 returns : tie.Need-returns
 returns c = absent-field "loop" loopMode loopForm (c .before .before .take-byte .ensures) (c .if1 .taken)
-
-slice-aggregate-put-field : tie.Need-slice-aggregate-put-field
-slice-aggregate-put-field c = search needs
 
 put-field-requires : tie.Need-put-field-requires
 unfolding wordLike all
 put-field-requires c κs = refl
-
-copy-loop-requires : tie.Need-copy-loop-requires
-copy-loop-requires c κs = search needs
-
-same-length : tie.Need-same-length
-same-length c = search needs
 
 returns-2 : tie.Need-returns-2
 returns-2 c =
@@ -39,12 +27,5 @@ returns-2 c =
 
 pub copy-opt-loop-spec : {M : Type 1} → statement M
 copy-opt-loop-spec =
-    tie.close
-    (tie.spec
-    take-byte-requires
-    returns
-    slice-aggregate-put-field
-    put-field-requires
-    copy-loop-requires
-    same-length
+    tie.close (tie.spec (λ c κs. search needs) returns (λ c. search needs) put-field-requires (λ c κs. search needs) (λ c. search needs)
     returns-2)

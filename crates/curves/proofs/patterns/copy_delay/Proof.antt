@@ -9,27 +9,15 @@ use borrow.Author.Needs.{needs}
 use Rattle.curves.proofs.patterns.copy_delay.Statement.{statement}
 use Rattle.curves.proofs.patterns.copy_delay.Tie as tie
 
-take-byte-requires : tie.Need-take-byte-requires
-take-byte-requires c κs = search needs
-
 returns : tie.Need-returns
 returns c =
     let at-take-byte = c .before .before in
     let start = at-take-byte .before .before .before in
     is-absent word (delayBy (start .args .first)) (at-take-byte .take-byte .ensures) (c .if1 .taken) (λ ps. refl)
 
-slice-aggregate-put-pair-name : tie.Need-slice-aggregate-put-pair-name
-slice-aggregate-put-pair-name c = search needs
-
 put-pair-name-requires : tie.Need-put-pair-name-requires
 unfolding wordLike all
 put-pair-name-requires c κs = refl
-
-copy-f32-requires : tie.Need-copy-f32-requires
-copy-f32-requires c κs = search needs
-
-same-length : tie.Need-same-length
-same-length c = search needs
 
 returns-2 : tie.Need-returns-2
 returns-2 c =
@@ -43,12 +31,5 @@ returns-2 c =
 
 pub copy-delay-spec : {M : Type 1} → statement M
 copy-delay-spec =
-    tie.close
-    (tie.spec
-    take-byte-requires
-    returns
-    slice-aggregate-put-pair-name
-    put-pair-name-requires
-    copy-f32-requires
-    same-length
+    tie.close (tie.spec (λ c κs. search needs) returns (λ c. search needs) put-pair-name-requires (λ c κs. search needs) (λ c. search needs)
     returns-2)

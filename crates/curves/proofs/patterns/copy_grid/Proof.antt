@@ -11,18 +11,6 @@ use borrow.Author.Needs.{needs}
 use Rattle.curves.proofs.patterns.copy_grid.Statement.{statement}
 use Rattle.curves.proofs.patterns.copy_grid.Tie as tie
 
-take-field-requires : tie.Need-take-field-requires
-take-field-requires c κs = search needs
-
-take-field-requires-2 : tie.Need-take-field-requires-2
-take-field-requires-2 c κs = search needs
-
-take-byte-requires : tie.Need-take-byte-requires
-take-byte-requires c κs = search needs
-
-slice-aggregate-put-word : tie.Need-slice-aggregate-put-word
-slice-aggregate-put-word c = search needs
-
 put-word-requires : tie.Need-put-word-requires
 unfolding wordLike all
 put-word-requires c κs = refl
@@ -31,25 +19,13 @@ put-mark-requires : tie.Need-put-mark-requires
 unfolding oneOf
 put-mark-requires c κs = refl
 
-slice-aggregate-put-pair-name : tie.Need-slice-aggregate-put-pair-name
-slice-aggregate-put-pair-name c = search needs
-
 put-pair-name-requires : tie.Need-put-pair-name-requires
 unfolding wordLike all
 put-pair-name-requires c κs = refl
 
-put-count-requires : tie.Need-put-count-requires
-put-count-requires c κs = search needs
-
-slice-aggregate-put-pair-name-2 : tie.Need-slice-aggregate-put-pair-name-2
-slice-aggregate-put-pair-name-2 c = search needs
-
 put-pair-name-requires-2 : tie.Need-put-pair-name-requires-2
 unfolding wordLike all
 put-pair-name-requires-2 c κs = refl
-
-put-count-requires-2 : tie.Need-put-count-requires-2
-put-count-requires-2 c κs = search needs
 
 put-origin-requires : tie.Need-put-origin-requires
 put-origin-requires c κs =
@@ -114,21 +90,6 @@ returns c =
 
 pub copy-grid-spec : {M : Type 1} → statement M
 copy-grid-spec =
-    tie.close
-    (tie.spec
-    take-field-requires
-    take-field-requires-2
-    take-byte-requires
-    slice-aggregate-put-word
-    put-word-requires
-    put-mark-requires
-    slice-aggregate-put-pair-name
-    put-pair-name-requires
-    put-count-requires
-    slice-aggregate-put-pair-name-2
-    put-pair-name-requires-2
-    put-count-requires-2
-    put-origin-requires
-    put-mark-requires-2
-    same-length
-    returns)
+    tie.close (tie.spec (λ c κs. search needs) (λ c κs. search needs) (λ c κs. search needs) (λ c. search needs) put-word-requires
+    put-mark-requires (λ c. search needs) put-pair-name-requires (λ c κs. search needs) (λ c. search needs) put-pair-name-requires-2
+    (λ c κs. search needs) put-origin-requires put-mark-requires-2 same-length returns)

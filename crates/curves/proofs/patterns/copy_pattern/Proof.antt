@@ -11,31 +11,13 @@ use borrow.Author.Needs.{needs}
 use Rattle.curves.proofs.patterns.copy_pattern.Statement.{statement}
 use Rattle.curves.proofs.patterns.copy_pattern.Tie as tie
 
-take-byte-requires : tie.Need-take-byte-requires
-take-byte-requires c κs = search needs
-
-copy-grid-requires : tie.Need-copy-grid-requires
-copy-grid-requires c κs = search needs
-
-copy-random-requires : tie.Need-copy-random-requires
-copy-random-requires c κs = search needs
-
-slice-aggregate-put-word : tie.Need-slice-aggregate-put-word
-slice-aggregate-put-word c = search needs
-
 put-word-requires : tie.Need-put-word-requires
 unfolding wordLike all
 put-word-requires c κs = refl
 
-slice-aggregate-put-word-2 : tie.Need-slice-aggregate-put-word-2
-slice-aggregate-put-word-2 c = search needs
-
 put-word-requires-2 : tie.Need-put-word-requires-2
 unfolding wordLike all
 put-word-requires-2 c κs = refl
-
-same-length : tie.Need-same-length
-same-length c = search needs
 
 returns : tie.Need-returns
 returns c =
@@ -45,9 +27,6 @@ returns c =
     in-case patterns splitPattern pattern 0 (at-take-byte .take-byte .ensures .reads) (at-match .match .keys1)
     (renamed (at-copy-grid .copy-grid .ensures) (λ x ps. refl))
 
-same-length-2 : tie.Need-same-length-2
-same-length-2 c = search needs
-
 returns-2 : tie.Need-returns-2
 returns-2 c =
     let at-copy-random = c .before .before in
@@ -55,9 +34,6 @@ returns-2 c =
     let at-take-byte = at-match .before in
     in-case patterns splitPattern pattern 1 (at-take-byte .take-byte .ensures .reads) (at-match .match .keys2)
     (renamed (at-copy-random .copy-random .ensures) (λ x ps. refl))
-
-same-length-3 : tie.Need-same-length-3
-same-length-3 c = search needs
 
 returns-3 : tie.Need-returns-3
 unfolding pattern
@@ -67,9 +43,6 @@ returns-3 c =
     let at-take-byte = at-match .before in
     in-case patterns splitPattern pattern 2 (at-take-byte .take-byte .ensures .reads) (at-match .match .keys3)
     (renamed (nothing-read (one-piece (spell "center_out") (at-put-word .put-word .ensures))) (λ x ps. refl))
-
-same-length-4 : tie.Need-same-length-4
-same-length-4 c = search needs
 
 returns-4 : tie.Need-returns-4
 unfolding pattern
@@ -82,20 +55,6 @@ returns-4 c =
 
 pub copy-pattern-spec : {M : Type 1} → statement M
 copy-pattern-spec =
-    tie.close
-    (tie.spec
-    take-byte-requires
-    copy-grid-requires
-    copy-random-requires
-    slice-aggregate-put-word
-    put-word-requires
-    slice-aggregate-put-word-2
-    put-word-requires-2
-    same-length
-    returns
-    same-length-2
-    returns-2
-    same-length-3
-    returns-3
-    same-length-4
-    returns-4)
+    tie.close (tie.spec (λ c κs. search needs) (λ c κs. search needs) (λ c κs. search needs) (λ c. search needs) put-word-requires
+    (λ c. search needs) put-word-requires-2 (λ c. search needs) returns (λ c. search needs) returns-2 (λ c. search needs) returns-3
+    (λ c. search needs) returns-4)

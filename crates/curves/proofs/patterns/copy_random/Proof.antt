@@ -11,18 +11,6 @@ use borrow.Author.Needs.{needs}
 use Rattle.curves.proofs.patterns.copy_random.Statement.{statement}
 use Rattle.curves.proofs.patterns.copy_random.Tie as tie
 
-take-field-requires : tie.Need-take-field-requires
-take-field-requires c κs = search needs
-
-take-field-requires-2 : tie.Need-take-field-requires-2
-take-field-requires-2 c κs = search needs
-
-take-field-requires-3 : tie.Need-take-field-requires-3
-take-field-requires-3 c κs = search needs
-
-slice-aggregate-put-word : tie.Need-slice-aggregate-put-word
-slice-aggregate-put-word c = search needs
-
 put-word-requires : tie.Need-put-word-requires
 unfolding wordLike all
 put-word-requires c κs = refl
@@ -31,22 +19,13 @@ put-mark-requires : tie.Need-put-mark-requires
 unfolding oneOf
 put-mark-requires c κs = refl
 
-slice-aggregate-put-u32-unless : tie.Need-slice-aggregate-put-u32-unless
-slice-aggregate-put-u32-unless c = search needs
-
 put-u32-unless-requires : tie.Need-put-u32-unless-requires
 unfolding wordLike all
 put-u32-unless-requires c κs = refl
 
-slice-aggregate-put-f32-unless : tie.Need-slice-aggregate-put-f32-unless
-slice-aggregate-put-f32-unless c = search needs
-
 put-f32-unless-requires : tie.Need-put-f32-unless-requires
 unfolding wordLike all
 put-f32-unless-requires c κs = refl
-
-slice-aggregate-put-f32-unless-2 : tie.Need-slice-aggregate-put-f32-unless-2
-slice-aggregate-put-f32-unless-2 c = search needs
 
 put-f32-unless-requires-2 : tie.Need-put-f32-unless-requires-2
 unfolding wordLike all
@@ -100,20 +79,6 @@ returns c =
 
 pub copy-random-spec : {M : Type 1} → statement M
 copy-random-spec =
-    tie.close
-    (tie.spec
-    take-field-requires
-    take-field-requires-2
-    take-field-requires-3
-    slice-aggregate-put-word
-    put-word-requires
-    put-mark-requires
-    slice-aggregate-put-u32-unless
-    put-u32-unless-requires
-    slice-aggregate-put-f32-unless
-    put-f32-unless-requires
-    slice-aggregate-put-f32-unless-2
-    put-f32-unless-requires-2
-    put-mark-requires-2
-    same-length
-    returns)
+    tie.close (tie.spec (λ c κs. search needs) (λ c κs. search needs) (λ c κs. search needs) (λ c. search needs) put-word-requires
+    put-mark-requires (λ c. search needs) put-u32-unless-requires (λ c. search needs) put-f32-unless-requires (λ c. search needs)
+    put-f32-unless-requires-2 put-mark-requires-2 same-length returns)

@@ -17,15 +17,9 @@ use Rattle.curves.proofs.patterns.put_origin.Tie as tie
 returns : tie.Need-returns
 returns c = omitted false ("origin", choose originNames (c .before .before .args .origin)) (eq-eqb _ _ (c .if1 .taken))
 
-slice-aggregate-put-pair-name : tie.Need-slice-aggregate-put-pair-name
-slice-aggregate-put-pair-name c = search needs
-
 put-pair-name-requires : tie.Need-put-pair-name-requires
 unfolding wordLike all
 put-pair-name-requires c κs = refl
-
-slice-aggregate-put-choice : tie.Need-slice-aggregate-put-choice
-slice-aggregate-put-choice c = search needs
 
 put-choice-requires : tie.Need-put-choice-requires
 unfolding allWords entries wordLike all
@@ -34,9 +28,6 @@ put-choice-requires c κs =
     let c8 = c4 .before .before .before .before in
     let start = c8 .before in
     (refl, omega (arith, start .pre), omega arith)
-
-same-length : tie.Need-same-length
-same-length c = search needs
 
 returns-2 : tie.Need-returns-2
 unfolding entries
@@ -51,12 +42,5 @@ returns-2 c =
 
 pub put-origin-spec : {M : Type 1} → statement M
 put-origin-spec =
-    tie.close
-    (tie.spec
-    returns
-    slice-aggregate-put-pair-name
-    put-pair-name-requires
-    slice-aggregate-put-choice
-    put-choice-requires
-    same-length
+    tie.close (tie.spec returns (λ c. search needs) put-pair-name-requires (λ c. search needs) put-choice-requires (λ c. search needs)
     returns-2)

@@ -16,9 +16,6 @@ abbrev μ-loop : tie.MeasureT-loop
 loop-holds : tie.Need-loop-holds Inv-loop μ-loop
 loop-holds c = (search needs, laws.walk-start word _ _ _)
 
-take-field-requires : tie.Need-take-field-requires Inv-loop μ-loop
-take-field-requires c κs = search needs
-
 add-k : tie.Need-add-k Inv-loop μ-loop
 add-k c = omega arith
 
@@ -34,6 +31,4 @@ returns : tie.Need-returns Inv-loop μ-loop
 returns c = laws.walk-done word _ _ _ _ _ (c .loop-test .left) (c .before .loop .inv .1)
 
 pub skip-words-spec : {M : Type 1} → statement M
-skip-words-spec =
-    tie.close
-    (tie.spec Inv-loop μ-loop loop-holds take-field-requires add-k loop-less loop-again returns)
+skip-words-spec = tie.close (tie.spec Inv-loop μ-loop loop-holds (λ c κs. search needs) add-k loop-less loop-again returns)

@@ -6,17 +6,8 @@ use Rattle.decode.proofs.ReadLaws as laws
 use Rattle.decode.proofs.fields.take_byte.Statement.{statement}
 use Rattle.decode.proofs.fields.take_byte.Tie as tie
 
-shared-slice-read-b : tie.Need-shared-slice-read-b
-shared-slice-read-b c = search needs
-
-add-t10 : tie.Need-add-t10
-add-t10 c = search needs
-
 returns : tie.Need-returns
 returns c = record { reads = laws.byte-got _ _ _ (omega arith) (c .if2 .taken); small = c .if2 .taken }
-
-lost-requires : tie.Need-lost-requires
-lost-requires c κs = search needs
 
 returns-2 : tie.Need-returns-2
 returns-2 c =
@@ -28,4 +19,4 @@ returns-2 c =
     }
 
 pub take-byte-spec : {M : Type 1} → statement M
-take-byte-spec = tie.close (tie.spec shared-slice-read-b add-t10 returns lost-requires returns-2)
+take-byte-spec = tie.close (tie.spec (λ c. search needs) (λ c. search needs) returns (λ c κs. search needs) returns-2)

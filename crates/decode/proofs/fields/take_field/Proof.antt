@@ -18,17 +18,8 @@ Inv-loop s at width v₀ k₀ v k =
 abbrev μ-loop : tie.MeasureT-loop
 μ-loop s at width v₀ k₀ v k = width - k
 
-lost-requires : tie.Need-lost-requires Inv-loop μ-loop
-lost-requires c κs = search needs
-
 returns : tie.Need-returns Inv-loop μ-loop
 returns c = laws.big-lost _ _ (c .before .before .before .args .width) (c .before .if1 .taken) (c .lost .ensures)
-
-sub-if2 : tie.Need-sub-if2 Inv-loop μ-loop
-sub-if2 c = search needs
-
-lost-requires-2 : tie.Need-lost-requires-2 Inv-loop μ-loop
-lost-requires-2 c κs = search needs
 
 returns-2 : tie.Need-returns-2 Inv-loop μ-loop
 returns-2 c = laws.big-short _ _ _ (c .before .before .if1 .left) (c .before .if2 .taken) (c .lost2 .ensures)
@@ -38,9 +29,6 @@ loop-holds c = (omega arith, omega (arith, c .before .if1 .left, c .if2 .left), 
 
 mul-v : tie.Need-mul-v Inv-loop μ-loop
 mul-v c = let l = c .before .loop in omega (arith, laws.room (l .k) (l .v) 0 (omega arith) (l .inv .2) (omega arith))
-
-add-v : tie.Need-add-v Inv-loop μ-loop
-add-v c = search needs
 
 shared-slice-read-v : tie.Need-shared-slice-read-v Inv-loop μ-loop
 shared-slice-read-v c = omega (arith, c .before .loop-test .taken, c .before .before .loop .inv .1)
@@ -60,12 +48,6 @@ add-v-2 c =
     let b : getD (start .args .s .now) i 0 < 256 = omega (arith, c .shared-slice-known2 .given i) in
     omega (arith, laws.room (l .k) (l .v) _ (omega arith) (l .inv .2) b)
 
-add-k : tie.Need-add-k Inv-loop μ-loop
-add-k c = search needs
-
-loop-less : tie.Need-loop-less Inv-loop μ-loop
-loop-less c = search needs
-
 loop-again : tie.Need-loop-again Inv-loop μ-loop
 loop-again c =
     let at-loop = c .before .before in
@@ -76,9 +58,6 @@ loop-again c =
     let h : i < length (start .args .s .now) = omega (arith, c .before .loop-test .taken, l .inv .1) in
     (omega arith, l .inv .1, laws.grow _ _ _ (l .inv .2) b, laws.big-next _ _ _ _ h b (l .inv .3))
 
-add-t6 : tie.Need-add-t6 Inv-loop μ-loop
-add-t6 c = search needs
-
 returns-3 : tie.Need-returns-3 Inv-loop μ-loop
 returns-3 c =
     let l = c .before .loop in
@@ -86,23 +65,5 @@ returns-3 c =
 
 pub take-field-spec : {M : Type 1} → statement M
 take-field-spec =
-    tie.close
-    (tie.spec
-    Inv-loop
-    μ-loop
-    lost-requires
-    returns
-    sub-if2
-    lost-requires-2
-    returns-2
-    loop-holds
-    mul-v
-    add-v
-    shared-slice-read-v
-    cast-v
-    add-v-2
-    add-k
-    loop-less
-    loop-again
-    add-t6
-    returns-3)
+    tie.close (tie.spec Inv-loop μ-loop (λ c κs. search needs) returns (λ c. search needs) (λ c κs. search needs) returns-2 loop-holds mul-v
+    (λ c. search needs) shared-slice-read-v cast-v add-v-2 (λ c. search needs) (λ c. search needs) loop-again (λ c. search needs) returns-3)

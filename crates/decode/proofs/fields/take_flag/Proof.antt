@@ -5,11 +5,8 @@ use Rattle.decode.proofs.ReadLaws as laws
 use Rattle.decode.proofs.fields.take_flag.Statement.{statement}
 use Rattle.decode.proofs.fields.take_flag.Tie as tie
 
-take-byte-requires : tie.Need-take-byte-requires
-take-byte-requires c κs = search needs
-
 returns : tie.Need-returns
 returns c = laws.through _ _ (laws.mapped (λ b. eqb b 1) (c .before .take-byte .ensures .reads))
 
 pub take-flag-spec : {M : Type 1} → statement M
-take-flag-spec = tie.close (tie.spec take-byte-requires returns)
+take-flag-spec = tie.close (tie.spec (λ c κs. search needs) returns)

@@ -6,14 +6,8 @@ use Rattle.decode.proofs.ReadLaws as laws
 use Rattle.decode.proofs.fields.take_float.Statement.{statement}
 use Rattle.decode.proofs.fields.take_float.Tie as tie
 
-take-field-requires : tie.Need-take-field-requires
-take-field-requires c κs = search needs
-
-f32-of-bits-requires : tie.Need-f32-of-bits-requires
-f32-of-bits-requires c κs = search needs
-
 returns : tie.Need-returns
 returns c = laws.seen (c .before .take-field .ensures .reads) (λ a e. ap f32 e ∙ sym (c .f32-of-bits .ensures))
 
 pub take-float-spec : {M : Type 1} → statement M
-take-float-spec = tie.close (tie.spec take-field-requires f32-of-bits-requires returns)
+take-float-spec = tie.close (tie.spec (λ c κs. search needs) (λ c κs. search needs) returns)

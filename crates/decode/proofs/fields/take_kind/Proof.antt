@@ -8,18 +8,6 @@ use Rattle.decode.proofs.ReadLaws as laws
 use Rattle.decode.proofs.fields.take_kind.Statement.{statement}
 use Rattle.decode.proofs.fields.take_kind.Tie as tie
 
-take-byte-requires : tie.Need-take-byte-requires
-take-byte-requires c κs = search needs
-
-take-field-requires : tie.Need-take-field-requires
-take-field-requires c κs = search needs
-
-cast-start : tie.Need-cast-start
-cast-start c = search needs
-
-lost-requires : tie.Need-lost-requires
-lost-requires c κs = search needs
-
 returns : tie.Need-returns
 returns c =
     let at-take-field = c .before .before in
@@ -48,4 +36,5 @@ returns-2 c =
     }
 
 pub take-kind-spec : {M : Type 1} → statement M
-take-kind-spec = tie.close (tie.spec take-byte-requires take-field-requires cast-start lost-requires returns returns-2)
+take-kind-spec =
+    tie.close (tie.spec (λ c κs. search needs) (λ c κs. search needs) (λ c. search needs) (λ c κs. search needs) returns returns-2)

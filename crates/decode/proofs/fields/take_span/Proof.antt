@@ -12,24 +12,6 @@ use Rattle.decode.proofs.ReadLaws as laws
 use Rattle.decode.proofs.fields.take_span.Statement.{statement}
 use Rattle.decode.proofs.fields.take_span.Tie as tie
 
-take-field-requires : tie.Need-take-field-requires
-take-field-requires c κs = search needs
-
-take-field-requires-2 : tie.Need-take-field-requires-2
-take-field-requires-2 c κs = search needs
-
-cast-start : tie.Need-cast-start
-cast-start c = search needs
-
-cast-size : tie.Need-cast-size
-cast-size c = search needs
-
-add-if1 : tie.Need-add-if1
-add-if1 c = search needs
-
-lost-requires : tie.Need-lost-requires
-lost-requires c κs = search needs
-
 returns : tie.Need-returns
 returns c =
     let at-take-field2 = c .before .before .before in
@@ -62,13 +44,5 @@ returns-2 c =
 
 pub take-span-spec : {M : Type 1} → statement M
 take-span-spec =
-    tie.close
-    (tie.spec
-    take-field-requires
-    take-field-requires-2
-    cast-start
-    cast-size
-    add-if1
-    lost-requires
-    returns
-    returns-2)
+    tie.close (tie.spec (λ c κs. search needs) (λ c κs. search needs) (λ c. search needs) (λ c. search needs) (λ c. search needs)
+    (λ c κs. search needs) returns returns-2)

@@ -16,9 +16,6 @@ abbrev μ-loop : tie.MeasureT-loop
 loop-holds : tie.Need-loop-holds Inv-loop μ-loop
 loop-holds c = (search needs, laws.walk-start (entryForm (c .before .args .n)) _ _ _)
 
-take-entry-requires : tie.Need-take-entry-requires Inv-loop μ-loop
-take-entry-requires c κs = search needs
-
 add-k : tie.Need-add-k Inv-loop μ-loop
 add-k c = omega arith
 
@@ -39,6 +36,4 @@ returns : tie.Need-returns Inv-loop μ-loop
 returns c = laws.walk-done (entryForm (c .before .before .before .args .n)) _ _ _ _ _ (c .loop-test .left) (c .before .loop .inv .1)
 
 pub skip-entries-spec : {M : Type 1} → statement M
-skip-entries-spec =
-    tie.close
-    (tie.spec Inv-loop μ-loop loop-holds take-entry-requires add-k loop-less loop-again returns)
+skip-entries-spec = tie.close (tie.spec Inv-loop μ-loop loop-holds (λ c κs. search needs) add-k loop-less loop-again returns)

@@ -6,16 +6,10 @@ use Rattle.decode.proofs.ReadLaws as laws
 use Rattle.decode.proofs.nodes.take_at.Statement.{statement}
 use Rattle.decode.proofs.nodes.take_at.Tie as tie
 
-take-float-requires : tie.Need-take-float-requires
-take-float-requires c κs = search needs
-
-take-flag-requires : tie.Need-take-flag-requires
-take-flag-requires c κs = search needs
-
 returns : tie.Need-returns
 returns c =
     laws.through toAt ofAt (laws.seen (c .before .take-float .ensures & c .take-flag .ensures)
     (λ p e i. record { value = e i .0; relative = e i .1 }))
 
 pub take-at-spec : {M : Type 1} → statement M
-take-at-spec = tie.close (tie.spec take-float-requires take-flag-requires returns)
+take-at-spec = tie.close (tie.spec (λ c κs. search needs) (λ c κs. search needs) returns)

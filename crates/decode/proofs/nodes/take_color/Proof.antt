@@ -6,24 +6,6 @@ use Rattle.decode.proofs.ReadLaws as laws
 use Rattle.decode.proofs.nodes.take_color.Statement.{statement}
 use Rattle.decode.proofs.nodes.take_color.Tie as tie
 
-take-span-requires : tie.Need-take-span-requires
-take-span-requires c κs = search needs
-
-take-span-requires-2 : tie.Need-take-span-requires-2
-take-span-requires-2 c κs = search needs
-
-take-span-requires-3 : tie.Need-take-span-requires-3
-take-span-requires-3 c κs = search needs
-
-take-float-requires : tie.Need-take-float-requires
-take-float-requires c κs = search needs
-
-take-byte-requires : tie.Need-take-byte-requires
-take-byte-requires c κs = search needs
-
-take-opt-easing-requires : tie.Need-take-opt-easing-requires
-take-opt-easing-requires c κs = search needs
-
 returns : tie.Need-returns
 returns c =
     let at-take-opt-easing = c .before .before .before in
@@ -46,12 +28,5 @@ returns c =
 
 pub take-color-spec : {M : Type 1} → statement M
 take-color-spec =
-    tie.close
-    (tie.spec
-    take-span-requires
-    take-span-requires-2
-    take-span-requires-3
-    take-float-requires
-    take-byte-requires
-    take-opt-easing-requires
-    returns)
+    tie.close (tie.spec (λ c κs. search needs) (λ c κs. search needs) (λ c κs. search needs) (λ c κs. search needs) (λ c κs. search needs)
+    (λ c κs. search needs) returns)

@@ -6,15 +6,6 @@ use Rattle.decode.proofs.ReadLaws as laws
 use Rattle.decode.proofs.nodes.take_draw.Statement.{statement}
 use Rattle.decode.proofs.nodes.take_draw.Tie as tie
 
-take-span-requires : tie.Need-take-span-requires
-take-span-requires c κs = search needs
-
-take-float-requires : tie.Need-take-float-requires
-take-float-requires c κs = search needs
-
-take-opt-easing-requires : tie.Need-take-opt-easing-requires
-take-opt-easing-requires c κs = search needs
-
 returns : tie.Need-returns
 returns c =
     let at-take-opt-easing = c .before in
@@ -25,5 +16,4 @@ returns c =
     (λ p e i. record { svg = e i .0; duration = e i .1 .0; easing = e i .1 .1 }))
 
 pub take-draw-spec : {M : Type 1} → statement M
-take-draw-spec =
-    tie.close (tie.spec take-span-requires take-float-requires take-opt-easing-requires returns)
+take-draw-spec = tie.close (tie.spec (λ c κs. search needs) (λ c κs. search needs) (λ c κs. search needs) returns)

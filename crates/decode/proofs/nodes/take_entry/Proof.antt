@@ -8,18 +8,6 @@ use Rattle.decode.proofs.ReadLaws as laws
 use Rattle.decode.proofs.nodes.take_entry.Statement.{statement}
 use Rattle.decode.proofs.nodes.take_entry.Tie as tie
 
-take-time-requires : tie.Need-take-time-requires
-take-time-requires c κs = search needs
-
-take-value-requires : tie.Need-take-value-requires
-take-value-requires c κs = search needs
-
-take-opt-easing-requires : tie.Need-take-opt-easing-requires
-take-opt-easing-requires c κs = search needs
-
-entry-of-requires : tie.Need-entry-of-requires
-entry-of-requires c κs = search needs
-
 returns : tie.Need-returns
 returns c =
     let at-take-value = c .before .before in
@@ -29,5 +17,4 @@ returns c =
     (λ p e. (λ i. entryOf (e i .0 .0) (e i .0 .1) (e i .1 .0) (e i .1 .1)) ∙ sym (c .entry-of .ensures)))
 
 pub take-entry-spec : {M : Type 1} → statement M
-take-entry-spec =
-    tie.close (tie.spec take-time-requires take-value-requires take-opt-easing-requires entry-of-requires returns)
+take-entry-spec = tie.close (tie.spec (λ c κs. search needs) (λ c κs. search needs) (λ c κs. search needs) (λ c κs. search needs) returns)

@@ -5,15 +5,6 @@ use Rattle.decode.proofs.ReadLaws as laws
 use Rattle.decode.proofs.nodes.take_group.Statement.{statement}
 use Rattle.decode.proofs.nodes.take_group.Tie as tie
 
-take-byte-requires : tie.Need-take-byte-requires
-take-byte-requires c κs = search needs
-
-take-field-requires : tie.Need-take-field-requires
-take-field-requires c κs = search needs
-
-cast-t5 : tie.Need-cast-t5
-cast-t5 c = search needs
-
 returns : tie.Need-returns
 returns c = laws.seen (c .before .before .take-byte .ensures .reads & c .before .take-field .ensures .reads) (λ p e i. record {
   mode = e i .0;
@@ -21,4 +12,4 @@ returns c = laws.seen (c .before .before .take-byte .ensures .reads & c .before 
 })
 
 pub take-group-spec : {M : Type 1} → statement M
-take-group-spec = tie.close (tie.spec take-byte-requires take-field-requires cast-t5 returns)
+take-group-spec = tie.close (tie.spec (λ c κs. search needs) (λ c κs. search needs) (λ c. search needs) returns)

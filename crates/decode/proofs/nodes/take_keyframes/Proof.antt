@@ -8,21 +8,6 @@ use Rattle.decode.proofs.ReadLaws as laws
 use Rattle.decode.proofs.nodes.take_keyframes.Statement.{statement}
 use Rattle.decode.proofs.nodes.take_keyframes.Tie as tie
 
-take-span-requires : tie.Need-take-span-requires
-take-span-requires c κs = search needs
-
-take-field-requires : tie.Need-take-field-requires
-take-field-requires c κs = search needs
-
-cast-frames : tie.Need-cast-frames
-cast-frames c = search needs
-
-skip-entries-requires : tie.Need-skip-entries-requires
-skip-entries-requires c κs = search needs
-
-take-opt-loop-requires : tie.Need-take-opt-loop-requires
-take-opt-loop-requires c κs = search needs
-
 returns : tie.Need-returns
 returns c =
     let at-take-opt-loop = c .before in
@@ -39,11 +24,5 @@ returns c =
 
 pub take-keyframes-spec : {M : Type 1} → statement M
 take-keyframes-spec =
-    tie.close
-    (tie.spec
-    take-span-requires
-    take-field-requires
-    cast-frames
-    skip-entries-requires
-    take-opt-loop-requires
+    tie.close (tie.spec (λ c κs. search needs) (λ c κs. search needs) (λ c. search needs) (λ c κs. search needs) (λ c κs. search needs)
     returns)

@@ -6,21 +6,6 @@ use Rattle.decode.proofs.ReadLaws as laws
 use Rattle.decode.proofs.nodes.take_morph.Statement.{statement}
 use Rattle.decode.proofs.nodes.take_morph.Tie as tie
 
-take-span-requires : tie.Need-take-span-requires
-take-span-requires c κs = search needs
-
-take-span-requires-2 : tie.Need-take-span-requires-2
-take-span-requires-2 c κs = search needs
-
-take-field-requires : tie.Need-take-field-requires
-take-field-requires c κs = search needs
-
-take-float-requires : tie.Need-take-float-requires
-take-float-requires c κs = search needs
-
-take-opt-easing-requires : tie.Need-take-opt-easing-requires
-take-opt-easing-requires c κs = search needs
-
 returns : tie.Need-returns
 returns c =
     let at-take-opt-easing = c .before .before in
@@ -34,11 +19,5 @@ returns c =
 
 pub take-morph-spec : {M : Type 1} → statement M
 take-morph-spec =
-    tie.close
-    (tie.spec
-    take-span-requires
-    take-span-requires-2
-    take-field-requires
-    take-float-requires
-    take-opt-easing-requires
+    tie.close (tie.spec (λ c κs. search needs) (λ c κs. search needs) (λ c κs. search needs) (λ c κs. search needs) (λ c κs. search needs)
     returns)

@@ -6,27 +6,6 @@ use Rattle.decode.proofs.ReadLaws as laws
 use Rattle.decode.proofs.nodes.take_path.Statement.{statement}
 use Rattle.decode.proofs.nodes.take_path.Tie as tie
 
-take-span-requires : tie.Need-take-span-requires
-take-span-requires c κs = search needs
-
-take-span-requires-2 : tie.Need-take-span-requires-2
-take-span-requires-2 c κs = search needs
-
-take-float-requires : tie.Need-take-float-requires
-take-float-requires c κs = search needs
-
-take-opt-easing-requires : tie.Need-take-opt-easing-requires
-take-opt-easing-requires c κs = search needs
-
-take-opt-flag-requires : tie.Need-take-opt-flag-requires
-take-opt-flag-requires c κs = search needs
-
-take-opt-range-requires : tie.Need-take-opt-range-requires
-take-opt-range-requires c κs = search needs
-
-take-opt-loop-requires : tie.Need-take-opt-loop-requires
-take-opt-loop-requires c κs = search needs
-
 returns : tie.Need-returns
 returns c =
     let at-take-opt-loop = c .before .before in
@@ -53,13 +32,5 @@ returns c =
 
 pub take-path-spec : {M : Type 1} → statement M
 take-path-spec =
-    tie.close
-    (tie.spec
-    take-span-requires
-    take-span-requires-2
-    take-float-requires
-    take-opt-easing-requires
-    take-opt-flag-requires
-    take-opt-range-requires
-    take-opt-loop-requires
-    returns)
+    tie.close (tie.spec (λ c κs. search needs) (λ c κs. search needs) (λ c κs. search needs) (λ c κs. search needs) (λ c κs. search needs)
+    (λ c κs. search needs) (λ c κs. search needs) returns)

@@ -6,15 +6,6 @@ use Rattle.decode.proofs.ReadLaws as laws
 use Rattle.decode.proofs.nodes.take_preset.Statement.{statement}
 use Rattle.decode.proofs.nodes.take_preset.Tie as tie
 
-take-span-requires : tie.Need-take-span-requires
-take-span-requires c κs = search needs
-
-take-opt-float-requires : tie.Need-take-opt-float-requires
-take-opt-float-requires c κs = search needs
-
-take-opt-easing-requires : tie.Need-take-opt-easing-requires
-take-opt-easing-requires c κs = search needs
-
 returns : tie.Need-returns
 returns c =
     let at-take-opt-easing = c .before in
@@ -25,6 +16,4 @@ returns c =
     (λ p e i. record { name = e i .0; duration = e i .1 .0; easing = e i .1 .1 }))
 
 pub take-preset-spec : {M : Type 1} → statement M
-take-preset-spec =
-    tie.close
-    (tie.spec take-span-requires take-opt-float-requires take-opt-easing-requires returns)
+take-preset-spec = tie.close (tie.spec (λ c κs. search needs) (λ c κs. search needs) (λ c κs. search needs) returns)

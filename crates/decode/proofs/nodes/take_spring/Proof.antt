@@ -6,39 +6,6 @@ use Rattle.decode.proofs.ReadLaws as laws
 use Rattle.decode.proofs.nodes.take_spring.Statement.{statement}
 use Rattle.decode.proofs.nodes.take_spring.Tie as tie
 
-take-span-requires : tie.Need-take-span-requires
-take-span-requires c κs = search needs
-
-take-value-requires : tie.Need-take-value-requires
-take-value-requires c κs = search needs
-
-take-value-requires-2 : tie.Need-take-value-requires-2
-take-value-requires-2 c κs = search needs
-
-take-opt-case-requires : tie.Need-take-opt-case-requires
-take-opt-case-requires c κs = search needs
-
-take-opt-float-requires : tie.Need-take-opt-float-requires
-take-opt-float-requires c κs = search needs
-
-take-opt-float-requires-2 : tie.Need-take-opt-float-requires-2
-take-opt-float-requires-2 c κs = search needs
-
-take-opt-float-requires-3 : tie.Need-take-opt-float-requires-3
-take-opt-float-requires-3 c κs = search needs
-
-take-opt-value-requires : tie.Need-take-opt-value-requires
-take-opt-value-requires c κs = search needs
-
-take-opt-float-requires-4 : tie.Need-take-opt-float-requires-4
-take-opt-float-requires-4 c κs = search needs
-
-take-opt-case-requires-2 : tie.Need-take-opt-case-requires-2
-take-opt-case-requires-2 c κs = search needs
-
-take-opt-damping-requires : tie.Need-take-opt-damping-requires
-take-opt-damping-requires c κs = search needs
-
 returns : tie.Need-returns
 returns c =
     let at-take-opt-damping = c .before in
@@ -76,17 +43,6 @@ returns c =
 
 pub take-spring-spec : {M : Type 1} → statement M
 take-spring-spec =
-    tie.close
-    (tie.spec
-    take-span-requires
-    take-value-requires
-    take-value-requires-2
-    take-opt-case-requires
-    take-opt-float-requires
-    take-opt-float-requires-2
-    take-opt-float-requires-3
-    take-opt-value-requires
-    take-opt-float-requires-4
-    take-opt-case-requires-2
-    take-opt-damping-requires
-    returns)
+    tie.close (tie.spec (λ c κs. search needs) (λ c κs. search needs) (λ c κs. search needs) (λ c κs. search needs) (λ c κs. search needs)
+    (λ c κs. search needs) (λ c κs. search needs) (λ c κs. search needs) (λ c κs. search needs) (λ c κs. search needs)
+    (λ c κs. search needs) returns)

@@ -5,18 +5,6 @@ use Rattle.decode.proofs.ReadLaws as laws
 use Rattle.decode.proofs.nodes.take_stagger.Statement.{statement}
 use Rattle.decode.proofs.nodes.take_stagger.Tie as tie
 
-take-opt-pattern-requires : tie.Need-take-opt-pattern-requires
-take-opt-pattern-requires c κs = search needs
-
-take-opt-float-requires : tie.Need-take-opt-float-requires
-take-opt-float-requires c κs = search needs
-
-take-field-requires : tie.Need-take-field-requires
-take-field-requires c κs = search needs
-
-cast-t8 : tie.Need-cast-t8
-cast-t8 c = search needs
-
 returns : tie.Need-returns
 returns c =
     let at-take-field = c .before in
@@ -27,11 +15,4 @@ returns c =
     (λ p e i. record { pattern = e i .0; delay = e i .1 .0; nodes = e i .1 .1 })
 
 pub take-stagger-spec : {M : Type 1} → statement M
-take-stagger-spec =
-    tie.close
-    (tie.spec
-    take-opt-pattern-requires
-    take-opt-float-requires
-    take-field-requires
-    cast-t8
-    returns)
+take-stagger-spec = tie.close (tie.spec (λ c κs. search needs) (λ c κs. search needs) (λ c κs. search needs) (λ c. search needs) returns)

@@ -6,39 +6,6 @@ use Rattle.decode.proofs.ReadLaws as laws
 use Rattle.decode.proofs.nodes.take_tween.Statement.{statement}
 use Rattle.decode.proofs.nodes.take_tween.Tie as tie
 
-take-span-requires : tie.Need-take-span-requires
-take-span-requires c κs = search needs
-
-take-value-requires : tie.Need-take-value-requires
-take-value-requires c κs = search needs
-
-take-value-requires-2 : tie.Need-take-value-requires-2
-take-value-requires-2 c κs = search needs
-
-take-float-requires : tie.Need-take-float-requires
-take-float-requires c κs = search needs
-
-take-opt-easing-requires : tie.Need-take-opt-easing-requires
-take-opt-easing-requires c κs = search needs
-
-take-opt-float-requires : tie.Need-take-opt-float-requires
-take-opt-float-requires c κs = search needs
-
-take-opt-float-requires-2 : tie.Need-take-opt-float-requires-2
-take-opt-float-requires-2 c κs = search needs
-
-take-opt-loop-requires : tie.Need-take-opt-loop-requires
-take-opt-loop-requires c κs = search needs
-
-take-opt-float-requires-3 : tie.Need-take-opt-float-requires-3
-take-opt-float-requires-3 c κs = search needs
-
-take-opt-word-requires : tie.Need-take-opt-word-requires
-take-opt-word-requires c κs = search needs
-
-take-flag-requires : tie.Need-take-flag-requires
-take-flag-requires c κs = search needs
-
 returns : tie.Need-returns
 returns c =
     let at-take-flag = c .before in
@@ -72,17 +39,6 @@ returns c =
 
 pub take-tween-spec : {M : Type 1} → statement M
 take-tween-spec =
-    tie.close
-    (tie.spec
-    take-span-requires
-    take-value-requires
-    take-value-requires-2
-    take-float-requires
-    take-opt-easing-requires
-    take-opt-float-requires
-    take-opt-float-requires-2
-    take-opt-loop-requires
-    take-opt-float-requires-3
-    take-opt-word-requires
-    take-flag-requires
-    returns)
+    tie.close (tie.spec (λ c κs. search needs) (λ c κs. search needs) (λ c κs. search needs) (λ c κs. search needs) (λ c κs. search needs)
+    (λ c κs. search needs) (λ c κs. search needs) (λ c κs. search needs) (λ c κs. search needs) (λ c κs. search needs)
+    (λ c κs. search needs) returns)

@@ -6,30 +6,6 @@ use Rattle.decode.proofs.ReadLaws as laws
 use Rattle.decode.proofs.nodes.take_waveform.Statement.{statement}
 use Rattle.decode.proofs.nodes.take_waveform.Tie as tie
 
-take-byte-requires : tie.Need-take-byte-requires
-take-byte-requires c κs = search needs
-
-take-opt-float-requires : tie.Need-take-opt-float-requires
-take-opt-float-requires c κs = search needs
-
-take-opt-float-requires-2 : tie.Need-take-opt-float-requires-2
-take-opt-float-requires-2 c κs = search needs
-
-take-opt-float-requires-3 : tie.Need-take-opt-float-requires-3
-take-opt-float-requires-3 c κs = search needs
-
-take-opt-float-requires-4 : tie.Need-take-opt-float-requires-4
-take-opt-float-requires-4 c κs = search needs
-
-take-opt-word-requires : tie.Need-take-opt-word-requires
-take-opt-word-requires c κs = search needs
-
-take-opt-float-requires-5 : tie.Need-take-opt-float-requires-5
-take-opt-float-requires-5 c κs = search needs
-
-take-opt-float-requires-6 : tie.Need-take-opt-float-requires-6
-take-opt-float-requires-6 c κs = search needs
-
 returns : tie.Need-returns
 returns c =
     let at-take-opt-float5 = c .before in
@@ -58,14 +34,5 @@ returns c =
 
 pub take-waveform-spec : {M : Type 1} → statement M
 take-waveform-spec =
-    tie.close
-    (tie.spec
-    take-byte-requires
-    take-opt-float-requires
-    take-opt-float-requires-2
-    take-opt-float-requires-3
-    take-opt-float-requires-4
-    take-opt-word-requires
-    take-opt-float-requires-5
-    take-opt-float-requires-6
-    returns)
+    tie.close (tie.spec (λ c κs. search needs) (λ c κs. search needs) (λ c κs. search needs) (λ c κs. search needs) (λ c κs. search needs)
+    (λ c κs. search needs) (λ c κs. search needs) (λ c κs. search needs) returns)

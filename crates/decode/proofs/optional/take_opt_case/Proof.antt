@@ -7,14 +7,8 @@ use Rattle.decode.proofs.ReadLaws as laws
 use Rattle.decode.proofs.optional.take_opt_case.Statement.{statement}
 use Rattle.decode.proofs.optional.take_opt_case.Tie as tie
 
-take-byte-requires : tie.Need-take-byte-requires
-take-byte-requires c κs = search needs
-
 returns : tie.Need-returns
 returns c = laws.absent (below _) (c .before .before .take-byte .ensures) (c .if1 .taken) refl
-
-take-byte-requires-2 : tie.Need-take-byte-requires-2
-take-byte-requires-2 c κs = search needs
 
 returns-2 : tie.Need-returns-2
 returns-2 c =
@@ -23,4 +17,4 @@ returns-2 c =
     (λ a e i. Present (e i))
 
 pub take-opt-case-spec : {M : Type 1} → statement M
-take-opt-case-spec = tie.close (tie.spec take-byte-requires returns take-byte-requires-2 returns-2)
+take-opt-case-spec = tie.close (tie.spec (λ c κs. search needs) returns (λ c κs. search needs) returns-2)

@@ -7,14 +7,8 @@ use Rattle.decode.proofs.ReadLaws as laws
 use Rattle.decode.proofs.optional.take_opt_loop.Statement.{statement}
 use Rattle.decode.proofs.optional.take_opt_loop.Tie as tie
 
-take-byte-requires : tie.Need-take-byte-requires
-take-byte-requires c κs = search needs
-
 returns : tie.Need-returns
 returns c = laws.absent loopForm (c .before .before .take-byte .ensures) (c .if1 .taken) refl
-
-take-loop-requires : tie.Need-take-loop-requires
-take-loop-requires c κs = search needs
 
 returns-2 : tie.Need-returns-2
 returns-2 c =
@@ -22,4 +16,4 @@ returns-2 c =
     laws.present loopForm (at-take-byte .take-byte .ensures) (c .before .if1 .left) (c .take-loop .ensures) (λ a e i. Present (e i))
 
 pub take-opt-loop-spec : {M : Type 1} → statement M
-take-opt-loop-spec = tie.close (tie.spec take-byte-requires returns take-loop-requires returns-2)
+take-opt-loop-spec = tie.close (tie.spec (λ c κs. search needs) returns (λ c κs. search needs) returns-2)

@@ -9,17 +9,8 @@ use Rattle.decode.proofs.ReadLaws as laws
 use Rattle.decode.proofs.optional.take_opt_range.Statement.{statement}
 use Rattle.decode.proofs.optional.take_opt_range.Tie as tie
 
-take-byte-requires : tie.Need-take-byte-requires
-take-byte-requires c κs = search needs
-
 returns : tie.Need-returns
 returns c = laws.absent (word ▹ word) (c .before .before .take-byte .ensures) (c .if1 .taken) refl
-
-take-float-requires : tie.Need-take-float-requires
-take-float-requires c κs = search needs
-
-take-float-requires-2 : tie.Need-take-float-requires-2
-take-float-requires-2 c κs = search needs
 
 returns-2 : tie.Need-returns-2
 returns-2 c =
@@ -30,6 +21,4 @@ returns-2 c =
     (at-take-float .take-float .ensures & c .take-float2 .ensures) (λ a e i. Present (e i .0) (e i .1))
 
 pub take-opt-range-spec : {M : Type 1} → statement M
-take-opt-range-spec =
-    tie.close
-    (tie.spec take-byte-requires returns take-float-requires take-float-requires-2 returns-2)
+take-opt-range-spec = tie.close (tie.spec (λ c κs. search needs) returns (λ c κs. search needs) (λ c κs. search needs) returns-2)

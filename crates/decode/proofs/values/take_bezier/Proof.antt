@@ -6,18 +6,6 @@ use Rattle.decode.proofs.ReadLaws as laws
 use Rattle.decode.proofs.values.take_bezier.Statement.{statement}
 use Rattle.decode.proofs.values.take_bezier.Tie as tie
 
-take-float-requires : tie.Need-take-float-requires
-take-float-requires c κs = search needs
-
-take-float-requires-2 : tie.Need-take-float-requires-2
-take-float-requires-2 c κs = search needs
-
-take-float-requires-3 : tie.Need-take-float-requires-3
-take-float-requires-3 c κs = search needs
-
-take-float-requires-4 : tie.Need-take-float-requires-4
-take-float-requires-4 c κs = search needs
-
 returns : tie.Need-returns
 returns c =
     let at-take-float3 = c .before in
@@ -28,11 +16,4 @@ returns c =
     (λ p e i. easing.CubicBezier (e i .0) (e i .1 .0) (e i .1 .1 .0) (e i .1 .1 .1))
 
 pub take-bezier-spec : {M : Type 1} → statement M
-take-bezier-spec =
-    tie.close
-    (tie.spec
-    take-float-requires
-    take-float-requires-2
-    take-float-requires-3
-    take-float-requires-4
-    returns)
+take-bezier-spec = tie.close (tie.spec (λ c κs. search needs) (λ c κs. search needs) (λ c κs. search needs) (λ c κs. search needs) returns)

@@ -8,20 +8,11 @@ use Rattle.decode.proofs.ReadLaws as laws
 use Rattle.decode.proofs.values.take_damping.Statement.{statement}
 use Rattle.decode.proofs.values.take_damping.Tie as tie
 
-take-byte-requires : tie.Need-take-byte-requires
-take-byte-requires c κs = search needs
-
-take-float-requires : tie.Need-take-float-requires
-take-float-requires c κs = search needs
-
 returns : tie.Need-returns
 returns c =
     let at-take-byte = c .before .before in
     laws.chosen dampings splitDamping 0 (at-take-byte .take-byte .ensures .reads) (c .if1 .taken) (c .before .take-float .ensures)
     (λ x e i. damping.CriticallyDamped (e i))
-
-take-float-requires-2 : tie.Need-take-float-requires-2
-take-float-requires-2 c κs = search needs
 
 returns-2 : tie.Need-returns-2
 returns-2 c =
@@ -43,12 +34,4 @@ returns-3 c =
     (at-take-float .take-float .ensures & at-take-float2 .take-float2 .ensures) (λ x e i. damping.Underdamped (e i .0) (e i .1))
 
 pub take-damping-spec : {M : Type 1} → statement M
-take-damping-spec =
-    tie.close
-    (tie.spec
-    take-byte-requires
-    take-float-requires
-    returns
-    take-float-requires-2
-    returns-2
-    returns-3)
+take-damping-spec = tie.close (tie.spec (λ c κs. search needs) (λ c κs. search needs) returns (λ c κs. search needs) returns-2 returns-3)

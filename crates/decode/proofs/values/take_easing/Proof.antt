@@ -8,33 +8,6 @@ use Rattle.decode.proofs.ReadLaws as laws
 use Rattle.decode.proofs.values.take_easing.Statement.{statement}
 use Rattle.decode.proofs.values.take_easing.Tie as tie
 
-take-byte-requires : tie.Need-take-byte-requires
-take-byte-requires c κs = search needs
-
-take-named-requires : tie.Need-take-named-requires
-take-named-requires c κs = search needs
-
-take-bezier-requires : tie.Need-take-bezier-requires
-take-bezier-requires c κs = search needs
-
-take-field-requires : tie.Need-take-field-requires
-take-field-requires c κs = search needs
-
-take-field-requires-2 : tie.Need-take-field-requires-2
-take-field-requires-2 c κs = search needs
-
-take-float-requires : tie.Need-take-float-requires
-take-float-requires c κs = search needs
-
-take-field-requires-3 : tie.Need-take-field-requires-3
-take-field-requires-3 c κs = search needs
-
-take-float-requires-2 : tie.Need-take-float-requires-2
-take-float-requires-2 c κs = search needs
-
-take-float-requires-3 : tie.Need-take-float-requires-3
-take-float-requires-3 c κs = search needs
-
 returns : tie.Need-returns
 returns c =
     let at-match = c .before in
@@ -113,20 +86,6 @@ returns-6 c =
 
 pub take-easing-spec : {M : Type 1} → statement M
 take-easing-spec =
-    tie.close
-    (tie.spec
-    take-byte-requires
-    take-named-requires
-    take-bezier-requires
-    take-field-requires
-    take-field-requires-2
-    take-float-requires
-    take-field-requires-3
-    take-float-requires-2
-    take-float-requires-3
-    returns
-    returns-2
-    returns-3
-    returns-4
-    returns-5
-    returns-6)
+    tie.close (tie.spec (λ c κs. search needs) (λ c κs. search needs) (λ c κs. search needs) (λ c κs. search needs) (λ c κs. search needs)
+    (λ c κs. search needs) (λ c κs. search needs) (λ c κs. search needs) (λ c κs. search needs) returns returns-2 returns-3 returns-4
+    returns-5 returns-6)

@@ -9,15 +9,6 @@ use Rattle.decode.proofs.ReadLaws as laws
 use Rattle.decode.proofs.values.take_loop.Statement.{statement}
 use Rattle.decode.proofs.values.take_loop.Tie as tie
 
-take-byte-requires : tie.Need-take-byte-requires
-take-byte-requires c κs = search needs
-
-take-field-requires : tie.Need-take-field-requires
-take-field-requires c κs = search needs
-
-take-field-requires-2 : tie.Need-take-field-requires-2
-take-field-requires-2 c κs = search needs
-
 returns : tie.Need-returns
 returns c =
     laws.chosen loops splitLoop 0 {f = same} (c .before .take-byte .ensures .reads) (c .match .keys1) (laws.nothing _ _) (λ x e. refl)
@@ -45,13 +36,5 @@ returns-5 c =
 
 pub take-loop-spec : {M : Type 1} → statement M
 take-loop-spec =
-    tie.close
-    (tie.spec
-    take-byte-requires
-    take-field-requires
-    take-field-requires-2
-    returns
-    returns-2
-    returns-3
-    returns-4
+    tie.close (tie.spec (λ c κs. search needs) (λ c κs. search needs) (λ c κs. search needs) returns returns-2 returns-3 returns-4
     returns-5)

@@ -6,14 +6,8 @@ use Rattle.decode.proofs.ReadLaws as laws
 use Rattle.decode.proofs.values.take_named.Statement.{statement}
 use Rattle.decode.proofs.values.take_named.Tie as tie
 
-take-flag-requires : tie.Need-take-flag-requires
-take-flag-requires c κs = search needs
-
-take-span-requires : tie.Need-take-span-requires
-take-span-requires c κs = search needs
-
 returns : tie.Need-returns
 returns c = laws.seen (c .before .before .take-flag .ensures & c .before .take-span .ensures) (λ p e i. easing.Named (e i .0) (e i .1))
 
 pub take-named-spec : {M : Type 1} → statement M
-take-named-spec = tie.close (tie.spec take-flag-requires take-span-requires returns)
+take-named-spec = tie.close (tie.spec (λ c κs. search needs) (λ c κs. search needs) returns)

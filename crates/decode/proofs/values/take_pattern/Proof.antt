@@ -10,27 +10,6 @@ use Rattle.decode.proofs.ReadLaws as laws
 use Rattle.decode.proofs.values.take_pattern.Statement.{statement}
 use Rattle.decode.proofs.values.take_pattern.Tie as tie
 
-take-byte-requires : tie.Need-take-byte-requires
-take-byte-requires c κs = search needs
-
-take-field-requires : tie.Need-take-field-requires
-take-field-requires c κs = search needs
-
-take-field-requires-2 : tie.Need-take-field-requires-2
-take-field-requires-2 c κs = search needs
-
-take-byte-requires-2 : tie.Need-take-byte-requires-2
-take-byte-requires-2 c κs = search needs
-
-take-field-requires-3 : tie.Need-take-field-requires-3
-take-field-requires-3 c κs = search needs
-
-take-float-requires : tie.Need-take-float-requires
-take-float-requires c κs = search needs
-
-take-float-requires-2 : tie.Need-take-float-requires-2
-take-float-requires-2 c κs = search needs
-
 returns : tie.Need-returns
 returns c =
     let at-take-field2 = c .before in
@@ -64,16 +43,5 @@ returns-4 c =
 
 pub take-pattern-spec : {M : Type 1} → statement M
 take-pattern-spec =
-    tie.close
-    (tie.spec
-    take-byte-requires
-    take-field-requires
-    take-field-requires-2
-    take-byte-requires-2
-    take-field-requires-3
-    take-float-requires
-    take-float-requires-2
-    returns
-    returns-2
-    returns-3
-    returns-4)
+    tie.close (tie.spec (λ c κs. search needs) (λ c κs. search needs) (λ c κs. search needs) (λ c κs. search needs) (λ c κs. search needs)
+    (λ c κs. search needs) (λ c κs. search needs) returns returns-2 returns-3 returns-4)

@@ -7,12 +7,6 @@ use Rattle.decode.proofs.ReadLaws as laws
 use Rattle.decode.proofs.values.take_time.Statement.{statement}
 use Rattle.decode.proofs.values.take_time.Tie as tie
 
-take-byte-requires : tie.Need-take-byte-requires
-take-byte-requires c κs = search needs
-
-take-float-requires : tie.Need-take-float-requires
-take-float-requires c κs = search needs
-
 returns : tie.Need-returns
 returns c =
     let at-take-float = c .before .before in
@@ -31,4 +25,4 @@ returns-2 c =
     (λ x e i. (false, e i))
 
 pub take-time-spec : {M : Type 1} → statement M
-take-time-spec = tie.close (tie.spec take-byte-requires take-float-requires returns returns-2)
+take-time-spec = tie.close (tie.spec (λ c κs. search needs) (λ c κs. search needs) returns returns-2)

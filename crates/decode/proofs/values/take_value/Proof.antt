@@ -9,26 +9,11 @@ use Rattle.decode.proofs.ReadLaws as laws
 use Rattle.decode.proofs.values.take_value.Statement.{statement}
 use Rattle.decode.proofs.values.take_value.Tie as tie
 
-take-byte-requires : tie.Need-take-byte-requires
-take-byte-requires c κs = search needs
-
-take-float-requires : tie.Need-take-float-requires
-take-float-requires c κs = search needs
-
 returns : tie.Need-returns
 returns c =
     let at-take-byte = c .before .before .before in
     laws.chosen values splitValue 0 (at-take-byte .take-byte .ensures .reads) (c .before .if1 .taken) (c .take-float .ensures)
     (λ x e i. value.Scalar (e i))
-
-take-field-requires : tie.Need-take-field-requires
-take-field-requires c κs = search needs
-
-cast-count : tie.Need-cast-count
-cast-count c = search needs
-
-skip-words-requires : tie.Need-skip-words-requires
-skip-words-requires c κs = search needs
 
 returns-2 : tie.Need-returns-2
 returns-2 c =
@@ -41,12 +26,5 @@ returns-2 c =
 
 pub take-value-spec : {M : Type 1} → statement M
 take-value-spec =
-    tie.close
-    (tie.spec
-    take-byte-requires
-    take-float-requires
-    returns
-    take-field-requires
-    cast-count
-    skip-words-requires
-    returns-2)
+    tie.close (tie.spec (λ c κs. search needs) (λ c κs. search needs) returns (λ c κs. search needs) (λ c. search needs)
+    (λ c κs. search needs) returns-2)

@@ -73,15 +73,4 @@ returns c =
 
 pub move-all-spec : {M : Type 1} → statement M
 move-all-spec =
-    tie.close
-    (tie.spec
-    Inv-loop
-    μ-loop
-    loop-holds
-    move-record-requires
-    loop-less
-    loop-again
-    sub-copy
-    copy-requires
-    same-length
-    returns)
+    tie.close (tie.spec Inv-loop μ-loop loop-holds move-record-requires loop-less loop-again sub-copy copy-requires same-length returns)

@@ -76,15 +76,4 @@ returns c = λ d. last (omega (arith, c .loop-test .left)) (c .before .loop .inv
 
 pub move-frames-spec : {M : Type 1} → statement M
 move-frames-spec =
-    tie.close
-    (tie.spec
-    Inv-loop
-    μ-loop
-    loop-holds
-    take-frame-requires
-    move-frame-requires
-    add-k
-    loop-less
-    loop-again
-    same-length
-    returns)
+    tie.close (tie.spec Inv-loop μ-loop loop-holds take-frame-requires move-frame-requires add-k loop-less loop-again same-length returns)

@@ -13,28 +13,15 @@ move-track-requires c κs =
     let start = at-if1 .before .before .before .before in
     is-track (start .pre) (at-if1 .if1 .taken) .before
 
-same-length : tie.Need-same-length
-same-length c = search needs
-
 returns : tie.Need-returns
 returns c =
     let at-move-track = c .before .before in
     let at-if1 = at-move-track .before .before in
     λ d. let t = is-track d (at-if1 .if1 .taken) in t .same-pair (at-move-track .move-track .ensures (t .before))
 
-take-record-requires : tie.Need-take-record-requires
-take-record-requires c κs = search needs
-
 returns-2 : tie.Need-returns-2
 returns-2 c = λ d. passed-record d (c .before .if1 .left) (c .take-record .ensures)
 
 pub move-record-spec : {M : Type 1} → statement M
 move-record-spec =
-    tie.close
-    (tie.spec
-    shared-slice-read-if1
-    move-track-requires
-    same-length
-    returns
-    take-record-requires
-    returns-2)
+    tie.close (tie.spec shared-slice-read-if1 move-track-requires (λ c. search needs) returns (λ c κs. search needs) returns-2)

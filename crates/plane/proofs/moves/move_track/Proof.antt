@@ -4,29 +4,11 @@ use borrow.Author.Needs.{needs}
 use Rattle.plane.proofs.moves.move_track.Statement.{statement}
 use Rattle.plane.proofs.moves.move_track.Tie as tie
 
-add-take-field : tie.Need-add-take-field
-add-take-field c = search needs
-
-take-field-requires : tie.Need-take-field-requires
-take-field-requires c κs = search needs
-
-add-move-frames : tie.Need-add-move-frames
-add-move-frames c = search needs
-
-cast-move-frames : tie.Need-cast-move-frames
-cast-move-frames c = search needs
-
 move-frames-requires : tie.Need-move-frames-requires
 move-frames-requires c κs =
     let at-take-field = c .before .before in
     let start = at-take-field .before .before .before in
     frames-before (start .pre) (at-take-field .take-field .ensures .reads)
-
-take-opt-loop-requires : tie.Need-take-opt-loop-requires
-take-opt-loop-requires c κs = search needs
-
-same-length : tie.Need-same-length
-same-length c = search needs
 
 returns : tie.Need-returns
 returns c =
@@ -37,13 +19,5 @@ returns c =
 
 pub move-track-spec : {M : Type 1} → statement M
 move-track-spec =
-    tie.close
-    (tie.spec
-    add-take-field
-    take-field-requires
-    add-move-frames
-    cast-move-frames
-    move-frames-requires
-    take-opt-loop-requires
-    same-length
-    returns)
+    tie.close (tie.spec (λ c. search needs) (λ c κs. search needs) (λ c. search needs) (λ c. search needs) move-frames-requires
+    (λ c κs. search needs) (λ c. search needs) returns)

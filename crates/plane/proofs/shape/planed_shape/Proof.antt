@@ -8,16 +8,10 @@ use Rattle.plane.proofs.shape.planed_shape.Tie as tie
 returns : tie.Need-returns
 returns c = planed-too-long _ _ (c .if1 .taken)
 
-pass-sheet-requires : tie.Need-pass-sheet-requires
-pass-sheet-requires c κs = search needs
-
 returns-2 : tie.Need-returns-2
 returns-2 c =
     let at-sheet = c .before .before in
     no-planed _ _ (at-sheet .before .if1 .left) (at-sheet .pass-sheet .ensures) (λ h g. omega (arith, h, c .if2 .taken))
-
-sub-left : tie.Need-sub-left
-sub-left c = search needs
 
 returns-3 : tie.Need-returns-3
 returns-3 c =
@@ -46,6 +40,4 @@ returns-5 c =
     (left-bytes (at-sheet .pass-sheet .result .next) (start .args .s .now) (λ i. omega (arith, known .shared-slice-known .given i)))
 
 pub planed-shape-spec : {M : Type 1} → statement M
-planed-shape-spec =
-    tie.close
-    (tie.spec returns pass-sheet-requires returns-2 sub-left returns-3 returns-4 returns-5)
+planed-shape-spec = tie.close (tie.spec returns (λ c κs. search needs) returns-2 (λ c. search needs) returns-3 returns-4 returns-5)

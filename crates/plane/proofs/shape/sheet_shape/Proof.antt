@@ -8,9 +8,6 @@ use Rattle.plane.proofs.shape.sheet_shape.Tie as tie
 returns : tie.Need-returns
 returns c = sheet-too-long _ _ (c .if1 .taken)
 
-pass-sheet-requires : tie.Need-pass-sheet-requires
-pass-sheet-requires c κs = search needs
-
 returns-2 : tie.Need-returns-2
 returns-2 c =
     let at-sheet = c .before .before in
@@ -39,5 +36,4 @@ returns-3 c =
     sheet-of _ _ (at-sheet .before .if1 .left) (at-sheet .pass-sheet .ensures) (at-if2 .if2 .left) .0
 
 pub sheet-shape-spec : {M : Type 1} → statement M
-sheet-shape-spec =
-    tie.close (tie.spec returns pass-sheet-requires returns-2 mul-t6 sub-t7 returns-3)
+sheet-shape-spec = tie.close (tie.spec returns (λ c κs. search needs) returns-2 mul-t6 sub-t7 returns-3)

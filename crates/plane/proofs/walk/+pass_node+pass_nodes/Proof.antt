@@ -49,9 +49,6 @@ node-calls t = (lost-reads.Asked, lost-reads.Learnt, take-node-reads.Asked, take
 abbrev nodes-calls : ℕ → pass-nodes-lts.Claims
 nodes-calls t = (pass-node-below t, pass-node.Post, wrapping-add-usize-reads.Asked, wrapping-add-usize-reads.Learnt)
 
-pass-node-lost-requires : (t : ℕ) → pass-node-lts.Need-lost-requires (node-calls t) (pass-node-at t) pass-node.Post
-pass-node-lost-requires t c κs = search needs
-
 pass-node-returns : (t : ℕ) → pass-node-lts.Need-returns (node-calls t) (pass-node-at t) pass-node.Post
 pass-node-returns t c =
     let at-if1 = c .before in
@@ -63,15 +60,6 @@ pass-node-returns t c =
 pass-node-take-node-requires : (t : ℕ) → pass-node-lts.Need-take-node-requires (node-calls t) (pass-node-at t) pass-node.Post
 pass-node-take-node-requires t c κs = c .before .before .pre .1
 
-pass-node-enum-told : (t : ℕ) → pass-node-lts.Need-enum-told (node-calls t) (pass-node-at t) pass-node.Post
-pass-node-enum-told t c = search needs
-
-pass-node-enum-known-kind : (t : ℕ) → pass-node-lts.Need-enum-known-kind (node-calls t) (pass-node-at t) pass-node.Post
-pass-node-enum-known-kind t c = search needs
-
-pass-node-lost-requires-2 : (t : ℕ) → pass-node-lts.Need-lost-requires-2 (node-calls t) (pass-node-at t) pass-node.Post
-pass-node-lost-requires-2 t c κs = search needs
-
 pass-node-returns-2 : (t : ℕ) → pass-node-lts.Need-returns-2 (node-calls t) (pass-node-at t) pass-node.Post
 pass-node-returns-2 t c =
     let at-if2 = c .before in
@@ -81,9 +69,6 @@ pass-node-returns-2 t c =
     laws.too-deep (start .args .w) (start .args .n) (start .args .depth) _ (at-if2 .if2 .taken)
     (rw (at-kind .kind .given .1) at (at-take-node .take-node .ensures))
     (c .lost2 .ensures)
-
-pass-node-sub-pass-nodes : (t : ℕ) → pass-node-lts.Need-sub-pass-nodes (node-calls t) (pass-node-at t) pass-node.Post
-pass-node-sub-pass-nodes t c = search needs
 
 pass-node-pass-nodes-requires : (t : ℕ) → pass-node-lts.Need-pass-nodes-requires (node-calls t) (pass-node-at t) pass-node.Post
 pass-node-pass-nodes-requires t c κs =
@@ -139,11 +124,6 @@ pass-nodes-pass-node-requires t c κs =
     let pre = c .before .before .before .pre in
     (omega (arith, pre .0, c .before .loop .inv), pre .1)
 
-pass-nodes-wrapping-add-usize-requires : (t : ℕ)
-    → pass-nodes-lts.Need-wrapping-add-usize-requires (nodes-calls t) (pass-nodes-at t) pass-nodes.Post pass-nodes-Inv-loop
-    pass-nodes-μ-loop
-pass-nodes-wrapping-add-usize-requires t c κs = search needs
-
 pass-nodes-add-k : (t : ℕ)
     → pass-nodes-lts.Need-add-k (nodes-calls t) (pass-nodes-at t) pass-nodes.Post pass-nodes-Inv-loop pass-nodes-μ-loop
 pass-nodes-add-k t c = omega arith
@@ -179,29 +159,11 @@ pass-nodes-returns t c =
     laws.going-done w n (innerOf w n (start .args .depth)) _ _ _ _ _ _ (c .loop-test .left) (at-loop .loop .inv .2) (at-loop .loop .inv .3)
 
 pub +pass-node+pass-nodes-spec : {M : Type 1} → statement M
-+pass-node+pass-nodes-spec = close μ-pass-node μ-pass-nodes (λ t. pass-node-lts.spec (node-calls t)
-    (pass-node-at t)
-    pass-node.Post
-    (pass-node-lost-requires t)
-    (pass-node-returns t)
-    (pass-node-take-node-requires t)
-    (pass-node-enum-told t)
-    (pass-node-enum-known-kind t)
-    (pass-node-lost-requires-2 t)
-    (pass-node-returns-2 t)
-    (pass-node-sub-pass-nodes t)
-    (pass-node-pass-nodes-requires t)
-    (pass-node-returns-3 t)
-    (pass-node-returns-4 t))
-    λ t. pass-nodes-lts.spec (nodes-calls t)
-    (pass-nodes-at t)
-    pass-nodes.Post
-    pass-nodes-Inv-loop
-    pass-nodes-μ-loop
-    (pass-nodes-loop-holds t)
-    (pass-nodes-pass-node-requires t)
-    (pass-nodes-wrapping-add-usize-requires t)
-    (pass-nodes-add-k t)
-    (pass-nodes-loop-less t)
-    (pass-nodes-loop-again t)
-    (pass-nodes-returns t)
++pass-node+pass-nodes-spec =
+    close μ-pass-node μ-pass-nodes
+    (λ t. pass-node-lts.spec (node-calls t) (pass-node-at t) pass-node.Post (λ c κs. search needs) (pass-node-returns t)
+    (pass-node-take-node-requires t) (λ c. search needs) (λ c. search needs) (λ c κs. search needs) (pass-node-returns-2 t)
+    (λ c. search needs) (pass-node-pass-nodes-requires t) (pass-node-returns-3 t) (pass-node-returns-4 t))
+    λ t. pass-nodes-lts.spec (nodes-calls t) (pass-nodes-at t) pass-nodes.Post pass-nodes-Inv-loop pass-nodes-μ-loop
+    (pass-nodes-loop-holds t) (pass-nodes-pass-node-requires t) (λ c κs. search needs) (pass-nodes-add-k t) (pass-nodes-loop-less t)
+    (pass-nodes-loop-again t) (pass-nodes-returns t)

@@ -6,15 +6,6 @@ use borrow.Author.Needs.{needs}
 use Rattle.plane.proofs.walk.pass_sheet.Statement.{statement}
 use Rattle.plane.proofs.walk.pass_sheet.Tie as tie
 
-take-field-requires : tie.Need-take-field-requires
-take-field-requires c κs = search needs
-
-cast-pass-nodes : tie.Need-cast-pass-nodes
-cast-pass-nodes c = search needs
-
-pass-nodes-requires : tie.Need-pass-nodes-requires
-pass-nodes-requires c κs = search needs
-
 returns : tie.Need-returns
 returns c =
     let at-field = c .before .before in
@@ -24,5 +15,4 @@ returns c =
     laws.counted width (forestOf w n (innerOf w n 16)) (at-field .take-field .ensures .reads) (c .pass-nodes .ensures)
 
 pub pass-sheet-spec : {M : Type 1} → statement M
-pass-sheet-spec =
-    tie.close (tie.spec take-field-requires cast-pass-nodes pass-nodes-requires returns)
+pass-sheet-spec = tie.close (tie.spec (λ c κs. search needs) (λ c. search needs) (λ c κs. search needs) returns)

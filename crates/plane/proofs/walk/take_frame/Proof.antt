@@ -7,18 +7,6 @@ use borrow.Author.Needs.{needs}
 use Rattle.plane.proofs.walk.take_frame.Statement.{statement}
 use Rattle.plane.proofs.walk.take_frame.Tie as tie
 
-take-byte-requires : tie.Need-take-byte-requires
-take-byte-requires c κs = search needs
-
-take-field-requires : tie.Need-take-field-requires
-take-field-requires c κs = search needs
-
-take-frame-value-requires : tie.Need-take-frame-value-requires
-take-frame-value-requires c κs = search needs
-
-take-opt-easing-requires : tie.Need-take-opt-easing-requires
-take-opt-easing-requires c κs = search needs
-
 returns : tie.Need-returns
 returns c =
     let at-value = c .before in
@@ -32,11 +20,4 @@ returns c =
     (λ p e i. e i .1 .0))
 
 pub take-frame-spec : {M : Type 1} → statement M
-take-frame-spec =
-    tie.close
-    (tie.spec
-    take-byte-requires
-    take-field-requires
-    take-frame-value-requires
-    take-opt-easing-requires
-    returns)
+take-frame-spec = tie.close (tie.spec (λ c κs. search needs) (λ c κs. search needs) (λ c κs. search needs) (λ c κs. search needs) returns)

@@ -10,12 +10,6 @@ use borrow.Author.Needs.{needs}
 use Rattle.plane.proofs.walk.take_frame_value.Statement.{statement}
 use Rattle.plane.proofs.walk.take_frame_value.Tie as tie
 
-take-byte-requires : tie.Need-take-byte-requires
-take-byte-requires c κs = search needs
-
-take-field-requires : tie.Need-take-field-requires
-take-field-requires c κs = search needs
-
 returns : tie.Need-returns
 returns c =
     let at-if1 = c .before in
@@ -25,15 +19,6 @@ returns c =
     laws.chosen (valuesOf w) (splitValueOf w) 0 (at-take-byte .take-byte .ensures .reads) (at-if1 .if1 .taken)
     (c .take-field .ensures .reads)
     (λ x e. refl)
-
-take-field-requires-2 : tie.Need-take-field-requires-2
-take-field-requires-2 c κs = search needs
-
-cast-count : tie.Need-cast-count
-cast-count c = search needs
-
-skip-words-requires : tie.Need-skip-words-requires
-skip-words-requires c κs = search needs
 
 returns-2 : tie.Need-returns-2
 returns-2 c =
@@ -48,12 +33,5 @@ returns-2 c =
 
 pub take-frame-value-spec : {M : Type 1} → statement M
 take-frame-value-spec =
-    tie.close
-    (tie.spec
-    take-byte-requires
-    take-field-requires
-    returns
-    take-field-requires-2
-    cast-count
-    skip-words-requires
-    returns-2)
+    tie.close (tie.spec (λ c κs. search needs) (λ c κs. search needs) returns (λ c κs. search needs) (λ c. search needs)
+    (λ c κs. search needs) returns-2)

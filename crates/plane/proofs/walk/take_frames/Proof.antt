@@ -19,15 +19,6 @@ loop-holds c =
     let start = c .before in
     (omega arith, omega arith, frames-start (start .args .w) (start .args .n) (start .args .s .now) (start .args .at) (start .args .count))
 
-take-frame-requires : tie.Need-take-frame-requires Inv-loop μ-loop
-take-frame-requires c κs = search needs
-
-numbers-of-requires : tie.Need-numbers-of-requires Inv-loop μ-loop
-numbers-of-requires c κs = search needs
-
-wrapping-add-usize-requires : tie.Need-wrapping-add-usize-requires Inv-loop μ-loop
-wrapping-add-usize-requires c κs = search needs
-
 add-k : tie.Need-add-k Inv-loop μ-loop
 add-k c = omega arith
 
@@ -56,15 +47,5 @@ returns c =
 
 pub take-frames-spec : {M : Type 1} → statement M
 take-frames-spec =
-    tie.close
-    (tie.spec
-    Inv-loop
-    μ-loop
-    loop-holds
-    take-frame-requires
-    numbers-of-requires
-    wrapping-add-usize-requires
-    add-k
-    loop-less
-    loop-again
-    returns)
+    tie.close (tie.spec Inv-loop μ-loop loop-holds (λ c κs. search needs) (λ c κs. search needs) (λ c κs. search needs) add-k loop-less
+    loop-again returns)

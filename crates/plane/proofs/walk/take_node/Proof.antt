@@ -10,24 +10,6 @@ use borrow.Author.Needs.{needs}
 use Rattle.plane.proofs.walk.take_node.Statement.{statement}
 use Rattle.plane.proofs.walk.take_node.Tie as tie
 
-take-kind-requires : tie.Need-take-kind-requires
-take-kind-requires c κs = search needs
-
-take-span-requires : tie.Need-take-span-requires
-take-span-requires c κs = search needs
-
-take-field-requires : tie.Need-take-field-requires
-take-field-requires c κs = search needs
-
-cast-take-frames : tie.Need-cast-take-frames
-cast-take-frames c = search needs
-
-take-frames-requires : tie.Need-take-frames-requires
-take-frames-requires c κs = search needs
-
-take-opt-loop-requires : tie.Need-take-opt-loop-requires
-take-opt-loop-requires c κs = search needs
-
 returns : tie.Need-returns
 returns c =
     let at-frames = c .before in
@@ -45,9 +27,6 @@ returns c =
     & c .take-opt-loop .ensures)
     (λ p e i. e i .1 .0)))
 
-take-record-requires : tie.Need-take-record-requires
-take-record-requires c κs = search needs
-
 returns-2 : tie.Need-returns-2
 returns-2 c =
     let at-if1 = c .before in
@@ -57,14 +36,5 @@ returns-2 c =
 
 pub take-node-spec : {M : Type 1} → statement M
 take-node-spec =
-    tie.close
-    (tie.spec
-    take-kind-requires
-    take-span-requires
-    take-field-requires
-    cast-take-frames
-    take-frames-requires
-    take-opt-loop-requires
-    returns
-    take-record-requires
-    returns-2)
+    tie.close (tie.spec (λ c κs. search needs) (λ c κs. search needs) (λ c κs. search needs) (λ c. search needs) (λ c κs. search needs)
+    (λ c κs. search needs) returns (λ c κs. search needs) returns-2)

@@ -4,14 +4,8 @@ use Rattle.validate.proofs.FrameLaws as frames
 use Rattle.validate.proofs.frames.frames_at.Statement.{statement}
 use Rattle.validate.proofs.frames.frames_at.Tie as tie
 
-take-span-requires : tie.Need-take-span-requires
-take-span-requires c κs = search needs
-
-take-field-requires : tie.Need-take-field-requires
-take-field-requires c κs = search needs
-
 returns : tie.Need-returns
 returns c = frames.frames-at _ (c .before .take-span .ensures) (c .take-field .ensures .reads)
 
 pub frames-at-spec : {M : Type 1} → statement M
-frames-at-spec = tie.close (tie.spec take-span-requires take-field-requires returns)
+frames-at-spec = tie.close (tie.spec (λ c κs. search needs) (λ c κs. search needs) returns)

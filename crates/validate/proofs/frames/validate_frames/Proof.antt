@@ -28,9 +28,6 @@ frames-holds c =
     let args = c .before .before .before .args in
     (omega arith, refl, refl, frames.going-start (args .text .now) (args .s .now) (args .first) (args .count) _)
 
-take-entry-requires : tie.Need-take-entry-requires Inv-loop μ-loop Inv-frames μ-frames
-take-entry-requires c κs = search needs
-
 loop-holds : tie.Need-loop-holds Inv-loop μ-loop Inv-frames μ-frames
 loop-holds c =
     let at-frames = c .before .before .before in
@@ -49,9 +46,6 @@ slice-read-is-duplicate c =
     let at-frames = c4 .before .before in
     let start = at-frames .before .before .before .before in
     omega (arith, start .pre, at-frames .frames .inv)
-
-is-duplicate-requires : tie.Need-is-duplicate-requires Inv-loop μ-loop Inv-frames μ-frames
-is-duplicate-requires c κs = search needs
 
 add-j : tie.Need-add-j Inv-loop μ-loop Inv-frames μ-frames
 add-j c = omega arith
@@ -74,10 +68,6 @@ loop-again c =
           (sym (c .before .is-duplicate .ensures) ∙ c .if1 .left)
           (at-loop .loop .inv .1),
     )
-
-has-unknown-easing-requires :
-    tie.Need-has-unknown-easing-requires Inv-loop μ-loop Inv-frames μ-frames
-has-unknown-easing-requires c κs = search needs
 
 mul-times : tie.Need-mul-times Inv-loop μ-loop Inv-frames μ-frames
 mul-times c =
@@ -122,14 +112,8 @@ frames-again c =
           (omega (arith, start .pre, at-frames .frames .inv .1, at-frames-test .frames-test .taken)),
     )
 
-same-length : tie.Need-same-length Inv-loop μ-loop Inv-frames μ-frames
-same-length c = search needs
-
 returns : tie.Need-returns Inv-loop μ-loop Inv-frames μ-frames
 returns c = rw (c .before .frames .inv .2) (frames.going-done (c .before .frames .inv .3) (c .frames-test .left))
-
-same-length-2 : tie.Need-same-length-2 Inv-loop μ-loop Inv-frames μ-frames
-same-length-2 c = search needs
 
 returns-2 : tie.Need-returns-2 Inv-loop μ-loop Inv-frames μ-frames
 returns-2 c =
@@ -143,9 +127,6 @@ returns-2 c =
     (frames.tried-hit (at-frames .frames .times) _ _ (at-loop-test .loop-test .taken)
     (omega (arith, start .pre, at-frames .frames .inv .0, at-frames .frames .inv .1))
     (sym (c .before .is-duplicate .ensures) ∙ c .if1 .taken) (at-loop .loop .inv .1))
-
-same-length-3 : tie.Need-same-length-3 Inv-loop μ-loop Inv-frames μ-frames
-same-length-3 c = search needs
 
 returns-3 : tie.Need-returns-3 Inv-loop μ-loop Inv-frames μ-frames
 returns-3 c =
@@ -164,30 +145,6 @@ returns-3 c =
 
 pub validate-frames-spec : {M : Type 1} → statement M
 validate-frames-spec =
-    tie.close
-    (tie.spec
-    Inv-loop
-    μ-loop
-    Inv-frames
-    μ-frames
-    frames-holds
-    take-entry-requires
-    loop-holds
-    mul-is-duplicate
-    slice-read-is-duplicate
-    is-duplicate-requires
-    add-j
-    loop-less
-    loop-again
-    has-unknown-easing-requires
-    mul-times
-    slice-write-times
-    add-i
-    frames-less
-    frames-again
-    same-length
-    returns
-    same-length-2
-    returns-2
-    same-length-3
-    returns-3)
+    tie.close (tie.spec Inv-loop μ-loop Inv-frames μ-frames frames-holds (λ c κs. search needs) loop-holds mul-is-duplicate
+    slice-read-is-duplicate (λ c κs. search needs) add-j loop-less loop-again (λ c κs. search needs) mul-times slice-write-times add-i
+    frames-less frames-again (λ c. search needs) returns (λ c. search needs) returns-2 (λ c. search needs) returns-3)

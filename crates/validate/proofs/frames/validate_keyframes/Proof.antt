@@ -8,12 +8,6 @@ use Rattle.validate.proofs.frames.validate_keyframes.Tie as tie
 returns : tie.Need-returns
 returns c = λ x h e. frames.few _ x _ e (c .if1 .taken)
 
-frames-at-requires : tie.Need-frames-at-requires
-frames-at-requires c κs = search needs
-
-short-track-requires : tie.Need-short-track-requires
-short-track-requires c κs = search needs
-
 returns-2 : tie.Need-returns-2
 returns-2 c =
     let at-frames-at = c .before .before in
@@ -28,9 +22,6 @@ returns-2 c =
     (c .short-track .result)
     (at-if1 .if1 .left)
     (c .short-track .ensures)
-
-long-track-requires : tie.Need-long-track-requires
-long-track-requires c κs = search needs
 
 returns-3 : tie.Need-returns-3
 returns-3 c =
@@ -64,12 +55,4 @@ returns-4 c =
 
 pub validate-keyframes-spec : {M : Type 1} → statement M
 validate-keyframes-spec =
-    tie.close
-    (tie.spec
-    returns
-    frames-at-requires
-    short-track-requires
-    returns-2
-    long-track-requires
-    returns-3
-    returns-4)
+    tie.close (tie.spec returns (λ c κs. search needs) (λ c κs. search needs) returns-2 (λ c κs. search needs) returns-3 returns-4)

@@ -4,30 +4,6 @@ use Rattle.validate.proofs.KindLaws as kind-laws
 use Rattle.validate.proofs.kinds.validate_container.Statement.{statement}
 use Rattle.validate.proofs.kinds.validate_container.Tie as tie
 
-take-group-requires : tie.Need-take-group-requires
-take-group-requires c κs = search needs
-
-container-requires : tie.Need-container-requires
-container-requires c κs = search needs
-
-take-stagger-requires : tie.Need-take-stagger-requires
-take-stagger-requires c κs = search needs
-
-validate-stagger-requires : tie.Need-validate-stagger-requires
-validate-stagger-requires c κs = search needs
-
-container-requires-2 : tie.Need-container-requires-2
-container-requires-2 c κs = search needs
-
-take-field-requires : tie.Need-take-field-requires
-take-field-requires c κs = search needs
-
-cast-container : tie.Need-cast-container
-cast-container c = search needs
-
-container-requires-3 : tie.Need-container-requires-3
-container-requires-3 c κs = search needs
-
 returns : tie.Need-returns
 returns c =
     let at-take-group = c .before .before in
@@ -55,16 +31,5 @@ returns-3 c =
 
 pub validate-container-spec : {M : Type 1} → statement M
 validate-container-spec =
-    tie.close
-    (tie.spec
-    take-group-requires
-    container-requires
-    take-stagger-requires
-    validate-stagger-requires
-    container-requires-2
-    take-field-requires
-    cast-container
-    container-requires-3
-    returns
-    returns-2
-    returns-3)
+    tie.close (tie.spec (λ c κs. search needs) (λ c κs. search needs) (λ c κs. search needs) (λ c κs. search needs) (λ c κs. search needs)
+    (λ c κs. search needs) (λ c. search needs) (λ c κs. search needs) returns returns-2 returns-3)

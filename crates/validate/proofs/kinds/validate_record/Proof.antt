@@ -5,12 +5,6 @@ use borrow.Author.Needs.{needs}
 use Rattle.validate.proofs.kinds.validate_record.Statement.{statement}
 use Rattle.validate.proofs.kinds.validate_record.Tie as tie
 
-take-kind-requires : tie.Need-take-kind-requires
-take-kind-requires c κs = search needs
-
-validate-container-requires : tie.Need-validate-container-requires
-validate-container-requires c κs = search needs
-
 validate-leaf-requires : tie.Need-validate-leaf-requires
 validate-leaf-requires c κs =
     let at-take-kind = c .before in (
@@ -25,11 +19,4 @@ returns-2 : tie.Need-returns-2
 returns-2 c = c .validate-leaf .ensures _ _ (c .before .before .take-kind .ensures)
 
 pub validate-record-spec : {M : Type 1} → statement M
-validate-record-spec =
-    tie.close
-    (tie.spec
-    take-kind-requires
-    validate-container-requires
-    validate-leaf-requires
-    returns
-    returns-2)
+validate-record-spec = tie.close (tie.spec (λ c κs. search needs) (λ c κs. search needs) validate-leaf-requires returns returns-2)

@@ -66,13 +66,6 @@ validate-node-returns t c =
     let start = c .before .before .before in
     record { on = (omega arith, start .pre .1 .0); is = λ d x h. no-node (start .args .text .now) _ (c .if1 .taken) d x h }
 
-validate-node-validate-record-requires : (t : ℕ)
-    → validate-node-lts.Need-validate-record-requires (node-calls t) (validate-node-at t) validate-node.Post
-validate-node-validate-record-requires t c κs = search needs
-
-validate-node-enum-known-fault : (t : ℕ) → validate-node-lts.Need-enum-known-fault (node-calls t) (validate-node-at t) validate-node.Post
-validate-node-enum-known-fault t c = search needs
-
 validate-node-returns-2 : (t : ℕ) → validate-node-lts.Need-returns-2 (node-calls t) (validate-node-at t) validate-node.Post
 validate-node-returns-2 t c =
     let at-validate-record = c .before .before .before in
@@ -82,21 +75,12 @@ validate-node-returns-2 t c =
           (opens _ _ _ (rw (c .before .fault .given .1) at (at-validate-record .validate-record .ensures)) d x h);
     }
 
-validate-node-enum-told : (t : ℕ) → validate-node-lts.Need-enum-told (node-calls t) (validate-node-at t) validate-node.Post
-validate-node-enum-told t c = search needs
-
-validate-node-enum-told-2 : (t : ℕ) → validate-node-lts.Need-enum-told-2 (node-calls t) (validate-node-at t) validate-node.Post
-validate-node-enum-told-2 t c = search needs
-
 validate-node-add-t14 : (t : ℕ) → validate-node-lts.Need-add-t14 (node-calls t) (validate-node-at t) validate-node.Post
 validate-node-add-t14 t c =
     let c4 = c .before .before .before .before in
     let at-if1 = c4 .before in
     let start = at-if1 .before .before .before in
     omega (arith, at-if1 .if1 .left, start .pre .1 .0)
-
-validate-node-enum-known-kind : (t : ℕ) → validate-node-lts.Need-enum-known-kind (node-calls t) (validate-node-at t) validate-node.Post
-validate-node-enum-known-kind t c = search needs
 
 validate-node-add-validate-nodes : (t : ℕ)
     → validate-node-lts.Need-add-validate-nodes (node-calls t) (validate-node-at t) validate-node.Post
@@ -168,16 +152,6 @@ validate-nodes-validate-node-requires t c κs =
     let start = c .before .before .before .before in
     (omega (arith, start .pre .0, c .before .loop .inv), (omega (arith, start .pre .1 .0, c .before .loop .inv .1), start .pre .1 .1))
 
-validate-nodes-enum-known-w : (t : ℕ)
-    → validate-nodes-lts.Need-enum-known-w (nodes-calls t) (validate-nodes-at t) validate-nodes.Post validate-nodes-Inv-loop
-    validate-nodes-μ-loop
-validate-nodes-enum-known-w t c = search needs
-
-validate-nodes-enum-told : (t : ℕ)
-    → validate-nodes-lts.Need-enum-told (nodes-calls t) (validate-nodes-at t) validate-nodes.Post validate-nodes-Inv-loop
-    validate-nodes-μ-loop
-validate-nodes-enum-told t c = search needs
-
 validate-nodes-returns : (t : ℕ)
     → validate-nodes-lts.Need-returns (nodes-calls t) (validate-nodes-at t) validate-nodes.Post validate-nodes-Inv-loop
     validate-nodes-μ-loop
@@ -235,33 +209,11 @@ validate-nodes-returns-2 t c =
 
 pub +validate-node+validate-nodes-spec : {M : Type 1} → statement M
 +validate-node+validate-nodes-spec =
-    close μ-validate-node μ-validate-nodes (λ t. validate-node-lts.spec (node-calls t)
-    (validate-node-at t)
-    validate-node.Post
-    (validate-node-returns t)
-    (validate-node-validate-record-requires t)
-    (validate-node-enum-known-fault t)
-    (validate-node-returns-2 t)
-    (validate-node-enum-told t)
-    (validate-node-enum-told-2 t)
-    (validate-node-add-t14 t)
-    (validate-node-enum-known-kind t)
-    (validate-node-add-validate-nodes t)
-    (validate-node-validate-nodes-requires t)
-    (validate-node-returns-3 t)
-    (validate-node-returns-4 t))
-    λ t. validate-nodes-lts.spec
-    (nodes-calls t)
-    (validate-nodes-at t)
-    validate-nodes.Post
-    validate-nodes-Inv-loop
-    validate-nodes-μ-loop
-    (validate-nodes-loop-holds t)
-    (validate-nodes-validate-node-requires t)
-    (validate-nodes-enum-known-w t)
-    (validate-nodes-enum-told t)
-    (validate-nodes-returns t)
-    (validate-nodes-add-k t)
-    (validate-nodes-loop-less t)
-    (validate-nodes-loop-again t)
+    close μ-validate-node μ-validate-nodes
+    (λ t. validate-node-lts.spec (node-calls t) (validate-node-at t) validate-node.Post (validate-node-returns t) (λ c κs. search needs)
+    (λ c. search needs) (validate-node-returns-2 t) (λ c. search needs) (λ c. search needs) (validate-node-add-t14 t) (λ c. search needs)
+    (validate-node-add-validate-nodes t) (validate-node-validate-nodes-requires t) (validate-node-returns-3 t) (validate-node-returns-4 t))
+    λ t. validate-nodes-lts.spec (nodes-calls t) (validate-nodes-at t) validate-nodes.Post validate-nodes-Inv-loop validate-nodes-μ-loop
+    (validate-nodes-loop-holds t) (validate-nodes-validate-node-requires t) (λ c. search needs) (λ c. search needs)
+    (validate-nodes-returns t) (validate-nodes-add-k t) (validate-nodes-loop-less t) (validate-nodes-loop-again t)
     (validate-nodes-returns-2 t)

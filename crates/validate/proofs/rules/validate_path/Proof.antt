@@ -7,21 +7,6 @@ use Rattle.validate.proofs.RuleLaws as rules
 use Rattle.validate.proofs.rules.validate_path.Statement.{statement}
 use Rattle.validate.proofs.rules.validate_path.Tie as tie
 
-is-negative-requires : tie.Need-is-negative-requires
-is-negative-requires c κs = search needs
-
-rule-requires : tie.Need-rule-requires
-rule-requires c κs = search needs
-
-validate-easing-requires : tie.Need-validate-easing-requires
-validate-easing-requires c κs = search needs
-
-some-outside-unit-requires : tie.Need-some-outside-unit-requires
-some-outside-unit-requires c κs = search needs
-
-rule-requires-2 : tie.Need-rule-requires-2
-rule-requires-2 c κs = search needs
-
 returns : tie.Need-returns
 unfolding validatePath
 returns c =
@@ -35,11 +20,5 @@ returns c =
 
 pub validate-path-spec : {M : Type 1} → statement M
 validate-path-spec =
-    tie.close
-    (tie.spec
-    is-negative-requires
-    rule-requires
-    validate-easing-requires
-    some-outside-unit-requires
-    rule-requires-2
+    tie.close (tie.spec (λ c κs. search needs) (λ c κs. search needs) (λ c κs. search needs) (λ c κs. search needs) (λ c κs. search needs)
     returns)

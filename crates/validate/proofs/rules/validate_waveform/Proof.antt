@@ -8,15 +8,6 @@ use Rattle.validate.proofs.RuleLaws as rules
 use Rattle.validate.proofs.rules.validate_waveform.Statement.{statement}
 use Rattle.validate.proofs.rules.validate_waveform.Tie as tie
 
-some-negative-requires : tie.Need-some-negative-requires
-some-negative-requires c κs = search needs
-
-rule-requires : tie.Need-rule-requires
-rule-requires c κs = search needs
-
-rule-requires-2 : tie.Need-rule-requires-2
-rule-requires-2 c κs = search needs
-
 returns : tie.Need-returns
 unfolding validateWaveform
 returns c =
@@ -27,4 +18,4 @@ returns c =
     rules.more _ OutOfRange f1 negative (c .rule2 .ensures)
 
 pub validate-waveform-spec : {M : Type 1} → statement M
-validate-waveform-spec = tie.close (tie.spec some-negative-requires rule-requires rule-requires-2 returns)
+validate-waveform-spec = tie.close (tie.spec (λ c κs. search needs) (λ c κs. search needs) (λ c κs. search needs) returns)
