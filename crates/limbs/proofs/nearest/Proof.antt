@@ -200,12 +200,14 @@ same-length-5 c =
 
 returns-3 : tie.Need-returns-3 Inv-loop μ-loop
 returns-3 c =
-    let at = c .before .before .before .before .before .before .before in
+    let c4 = c .before .before .before .before in
+    let test = c4 .before .before in
+    let at = test .before in
     let w = came at in
     let q = at .loop .q in
     long-nearest _ _ _ q _ _ (w .some) (w .under) (w .below) (w .is) (w .few)
     (⊎-elim (λ w. inr (ltb-false q 8388608 (w .1 .left))) (λ w. inl (omega arith))
-    (c .before .before .before .before .before .before .loop-test .came))
+    (test .loop-test .came))
     (omega arith)
     (omega (arith, c .before .before .whole .ensures))
     (ap not (c .is-zero .ensures (length (at .loop .a)) refl))
