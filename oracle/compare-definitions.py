@@ -21,7 +21,7 @@ use mathlib.Core.List.{List, [], _∷_}
 use mathlib.Core.Path.{_≡_, refl}
 use lib.ListN.{replicate}
 use Rattle.text.specs.Bytes.{bytes, same}
-use Rattle.parser.specs.Reading.{reading}
+use Rattle.reading.specs.Reading.{reading}
 use Rattle.validate.specs.Checking.{checking}
 use Rattle.error.specs.Answer.{checkValues}
 use Rattle.script.specs.Table.{hexBytes, sheetValues, checkRead}

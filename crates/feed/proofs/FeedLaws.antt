@@ -27,7 +27,7 @@ use Rattle.decode.proofs.ReadLaws.{le-or-lt}
 use Rattle.records.specs.Record.{recordForm, recordView}
 use Rattle.records.specs.declared.Kind.{Kind}
 use Rattle.records.proofs.PlaceLaws.{Behind, behind-head, behind-next, behind-last}
-use Rattle.parser.specs.Reading.{reading}
+use Rattle.reading.specs.Reading.{reading}
 use Rattle.validate.specs.Checking.{checking}
 use Rattle.totals.specs.Totals.{firstKindWord, entriesWord, figureLimit, sumOf, over, scripts, added, inWord}
 use Rattle.error.proofs.NumberLaws.{numbered}

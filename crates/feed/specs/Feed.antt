@@ -13,7 +13,7 @@ use Rattle.error.specs.declared.CheckAnswer.{CheckAnswer}
 use Rattle.error.specs.declared.CheckAnswer.the-variants as check
 use Rattle.sheet.specs.Sheet.{Node, Forest, decode}
 use Rattle.sheet.specs.Records.{nodesOf, kindOf, entriesOf}
-use Rattle.parser.specs.Reading.{reading}
+use Rattle.reading.specs.Reading.{reading}
 use Rattle.validate.specs.Checking.{checking}
 use Rattle.totals.specs.Totals.{firstKindWord, entriesWord, scriptLimit, sumOf, over, scripts, added, inWord}
 use Rattle.error.specs.declared.FeedAnswer.{FeedAnswer}

@@ -9,7 +9,7 @@ use Rattle.number.specs.Time.{Key}
 use Rattle.ast.specs.Tree.{Nodes, mapTimes, records}
 use Rattle.sheet.proofs.Laws.{decodes}
 use Rattle.grammar.specs.Grammar.{stored}
-use Rattle.parser.specs.Reading.{tree, parse}
+use Rattle.reading.specs.Reading.{tree, parse}
 use Rattle.limits.proofs.Limits.{parses, parses-fits, parses-small}
 use Rattle.script.proofs.Reading.{sheetOf, accepts}
 use Rattle.fresh.specs.Meaning.{Sense, sense}

@@ -6,7 +6,7 @@ use mathlib.Core.Path.{_≡_}
 use lib.ListN.{length, replicate}
 use Rattle.ast.specs.Tree.{KeyframeTime}
 use Rattle.sheet.specs.Sheet.{Forest, decode}
-use Rattle.parser.specs.Reading.{reading, scratchWords}
+use Rattle.reading.specs.Reading.{reading, scratchWords}
 use Rattle.error.specs.declared.ReadAnswer.the-variants.{Accepted}
 use Rattle.fresh.specs.Meaning.{Sense, sense}
 

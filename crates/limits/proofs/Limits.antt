@@ -19,7 +19,7 @@ use Rattle.sheet.specs.Opening.{foreignFrom, opened, opening}
 use Rattle.sheet.proofs.Laws.{Fits, innerL, decodes}
 use Rattle.grammar.specs.Rule.{Notes, Out, got, refused}
 use Rattle.grammar.specs.Grammar.{stored, block, animatoInput}
-use Rattle.parser.specs.Reading.{Parsed, tree, wrong, unlessLeft, finished, parsed, parse}
+use Rattle.reading.specs.Reading.{Parsed, tree, wrong, unlessLeft, finished, parsed, parse}
 use Rattle.rules.proofs.RunLaws.{Ends, Outcome}
 use Rattle.limits.proofs.NodeLaws.{Several, nodes-run, sized-ok, block-runs, top-small}
 

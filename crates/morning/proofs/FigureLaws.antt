@@ -19,7 +19,7 @@ use Rattle.ast.specs.Tree.{width}
 use Rattle.sheet.specs.Sheet.{Node, decode}
 use Rattle.sheet.specs.Records.{recordOf, recordsOf, nodesOf, allRecords, kindOf, entriesOf}
 use Rattle.sheet.proofs.Flat.{concat, records-are}
-use Rattle.parser.specs.Reading.{reading}
+use Rattle.reading.specs.Reading.{reading}
 use Rattle.validate.specs.Checking.{isList, checking}
 use Rattle.validate.proofs.ListLaws.{unlisted-opened as checking-unlisted}
 use Rattle.script.proofs.OutputLaws.{held}

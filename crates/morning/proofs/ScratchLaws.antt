@@ -9,7 +9,7 @@ use Rattle.error.specs.declared.ReadAnswer.{ReadAnswer}
 use Rattle.error.specs.declared.ReadAnswer.the-variants.{Accepted, Refused}
 use Rattle.error.specs.declared.FeedAnswer.{FeedAnswer}
 use Rattle.error.specs.declared.FeedAnswer.the-variants as answers
-use Rattle.parser.specs.Reading.{reading}
+use Rattle.reading.specs.Reading.{reading}
 use Rattle.script.proofs.ScratchLaws.{SameRead, reading-same}
 use Rattle.totals.specs.Totals.{added}
 use Rattle.feed.specs.Feed.{fed, readOf, whenRead, judgement, sheetNodes, figure, full, feeding}

@@ -35,8 +35,8 @@ use Rattle.error.specs.declared.Refusal.{Refusal}
 use Rattle.error.specs.declared.Refusal.the-variants.{TextTooLong, ScratchTooShort, Leftover, SheetTooShort}
 use Rattle.error.specs.declared.ReadAnswer.{ReadAnswer}
 use Rattle.error.specs.declared.ReadAnswer.the-variants.{Accepted, Refused}
-use Rattle.parser.specs.Reading as reads
-use Rattle.parser.specs.Reading.{wrong, finished, parse, early, reading, scratchWords}
+use Rattle.reading.specs.Reading as reads
+use Rattle.reading.specs.Reading.{wrong, finished, parse, early, reading, scratchWords}
 use Rattle.parser.specs.Means.{treeOf, Encoded, TreeMeans, inputOf, Ended, InputMeans, AllowedMeans, settled, outcome}
 use Rattle.parser.specs.declared.Input.{Input}
 

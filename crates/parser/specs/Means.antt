@@ -18,7 +18,7 @@ use Rattle.error.specs.declared.Refusal.the-variants.{SheetTooShort}
 use Rattle.error.specs.declared.ReadAnswer.{ReadAnswer}
 use Rattle.error.specs.declared.ReadAnswer.the-variants.{Accepted, Refused}
 use Rattle.parser.specs.declared.Input.{Input}
-use Rattle.parser.specs.Reading.{Parsed, tree, wrong, finished}
+use Rattle.reading.specs.Reading.{Parsed, tree, wrong, finished}
 
 -- ---- the grammar: "then 6 to 12 at the first one the Rust meets, then 13"
 

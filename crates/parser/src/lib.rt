@@ -6,7 +6,7 @@ ghost use lib.ListN.{length};
 ghost use Rattle.text.specs.Limits.{textLimit};
 ghost use Rattle.token.specs.Means.{splitOutcome, splitting};
 ghost use Rattle.error.specs.Answer.{readValues};
-ghost use Rattle.parser.specs.Reading.{reading};
+ghost use Rattle.reading.specs.Reading.{reading};
 ghost use Rattle.parser.specs.Means.{inputOf, Ended, InputMeans, AllowedMeans, settled, outcome};
 use blocks::ParsedNodes;
 use cursor::Left;

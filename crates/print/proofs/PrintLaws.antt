@@ -26,7 +26,7 @@ use Rattle.sheet.proofs.Flat.{concat}
 use Rattle.records.proofs.PlaceLaws.{Stands, no-more}
 use Rattle.line.specs.Line.{line}
 use Rattle.line.proofs.LineLaws.{length-line, puts-whole}
-use Rattle.parser.specs.Reading.{reading, scratchWords}
+use Rattle.reading.specs.Reading.{reading, scratchWords}
 use Rattle.validate.specs.Checking.{checking}
 use Rattle.script.specs.Output.{decimalOut, accept, refusal, whenChecked, whenRead, printed}
 use Rattle.script.specs.Output.{output, paged, printing, lineBytes, sheetBytes, pageBytes}

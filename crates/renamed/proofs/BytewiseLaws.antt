@@ -12,7 +12,7 @@ use Rattle.text.specs.Bytes.{part, oneOf, isBlank}
 use Rattle.token.specs.Token.{Kind, name, number, quoted, mark, Token, token, Lexeme, bad, piece, lexeme, cut, cutBy, further, tokensFrom}
 use Rattle.token.specs.Names.{isKeyword, unless, nameOf, quoteOf}
 use Rattle.token.proofs.WholeLaws.{whole-of}
-use Rattle.parser.specs.Reading.{parse}
+use Rattle.reading.specs.Reading.{parse}
 use Rattle.renamed.specs.Words.{Word, aName, aString, insideOf, blanked, shown, Agree}
 use Rattle.renamed.specs.Renaming.{freeBy, Renamed}
 use Rattle.renamed.specs.Bytewise.{sizeOf, Matches, equal, names, strings, AllMatch, Bytewise}

@@ -11,7 +11,7 @@ use Rattle.text.proofs.WordLaws.{same-eq, same-refl}
 use Rattle.number.specs.Number.{Written}
 use Rattle.token.specs.Token.{Kind, name, number, quoted, mark, Token, tokensFrom}
 use Rattle.token.proofs.WholeLaws.{both}
-use Rattle.parser.specs.Reading.{parse}
+use Rattle.reading.specs.Reading.{parse}
 use Rattle.renamed.specs.Words.{Word, aName, aString, kept, freeIn, freeOf, placeOf, shown, Agree}
 use Rattle.renamed.specs.Renaming.{freeBy, Renamed}
 use Rattle.renamed.proofs.StreamLaws.{never}
@@ -328,7 +328,7 @@ unfolding Rattle.text.specs.Bytes.same Rattle.text.specs.Bytes.oneOf Rattle.t
     Rattle.grammar.specs.Values.parseEasing Rattle.grammar.specs.Values.timesMode Rattle.grammar.specs.Values.pingPongMode
     Rattle.grammar.specs.Values.loopModes Rattle.grammar.specs.Values.parseLoopMode Rattle.grammar.specs.Values.easing
     Rattle.grammar.specs.Values.loopMode lib.Ieee.round lib.Ieee.div lib.Ieee.toBits lib.Ieee.ofBits lib.Ieee.lt lib.Ieee.le lib.Ieee.sub
-    Rattle.parser.specs.Reading.parse freeIn freeOf agree every table
+    Rattle.reading.specs.Reading.parse freeIn freeOf agree every table
 lemma = tt
 
 -- every script agrees with itself

@@ -11,7 +11,7 @@ use Rattle.token.proofs.StreamLaws.{split-reads}
 use Rattle.ast.specs.Tree.{Nodes, mapTimes}
 use Rattle.grammar.specs.Rule.{Notes, Out, got}
 use Rattle.grammar.specs.Grammar.{stored, animatoInput}
-use Rattle.parser.specs.Reading.{parse, tree, reading}
+use Rattle.reading.specs.Reading.{parse, tree, reading}
 use Rattle.limits.proofs.Limits.{Parses, parses}
 use Rattle.colors.specs.Css.{namesOf}
 use Rattle.validate.specs.Checking.{answerOf, judged, isList, checking}

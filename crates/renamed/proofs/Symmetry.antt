@@ -7,7 +7,7 @@ use lib.Dec.{eqb}
 use borrow.Author.Tests.{eqb-true, eq-eqb}
 use Rattle.text.specs.Bytes.{oneOf}
 use Rattle.token.specs.Token.{Kind, Token, token, tokensFrom}
-use Rattle.parser.specs.Reading.{reading}
+use Rattle.reading.specs.Reading.{reading}
 use Rattle.error.specs.declared.ReadAnswer.the-variants.{Accepted}
 use Rattle.script.proofs.Reading.{due}
 use Rattle.renamed.specs.Words.{freeOf, shown, Agree}

@@ -8,7 +8,7 @@ use lib.ListN.{drop}
 use Rattle.text.specs.Bytes.{part, oneOf}
 use Rattle.token.specs.Token.{Token, Lexeme, bad, piece, lexeme, place, kind, tokensFrom}
 use Rattle.token.specs.Names.{nameOf, quoteOf}
-use Rattle.parser.specs.Reading.{parse}
+use Rattle.reading.specs.Reading.{parse}
 use Rattle.renamed.specs.Words.{joined, placeOf}
 use Rattle.renamed.specs.Renaming.{freeBy}
 

@@ -27,7 +27,7 @@ use Rattle.sheet.specs.Opening.{opened, opening}
 use Rattle.sheet.proofs.Laws.{decodes}
 use Rattle.sheet.proofs.Flat.{concat, sheet-flat}
 use Rattle.grammar.specs.Grammar.{stored}
-use Rattle.parser.specs.Reading.{reading}
+use Rattle.reading.specs.Reading.{reading}
 use Rattle.limits.proofs.Limits.{parses-fits, parses-small, parses-few, parses-opens}
 use Rattle.validate.specs.Checking.{checking}
 use Rattle.line.specs.Line.{line}

@@ -12,7 +12,7 @@ use Rattle.number.specs.Time.{Key}
 use Rattle.ast.specs.Tree.{Nodes, mapTimes, records}
 use Rattle.sheet.specs.Sheet.{encode}
 use Rattle.grammar.specs.Grammar.{stored}
-use Rattle.parser.specs.Reading.{Parsed, tree, wrong, parse, early, fitting, answered, unlessEarly, reading, scratchWords}
+use Rattle.reading.specs.Reading.{Parsed, tree, wrong, parse, early, fitting, answered, unlessEarly, reading, scratchWords}
 use Rattle.validate.proofs.FrameLaws.{none≢some}
 use Rattle.error.specs.declared.Refusal.{Refusal}
 use Rattle.error.specs.declared.Refusal.the-variants.{TextTooLong, ScratchTooShort, SheetTooShort}

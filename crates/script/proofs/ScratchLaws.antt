@@ -14,7 +14,7 @@ use Rattle.error.specs.declared.ReadAnswer.{ReadAnswer}
 use Rattle.error.specs.declared.ReadAnswer.the-variants.{Accepted, Refused}
 use Rattle.error.specs.declared.LineAnswer.{LineAnswer}
 use Rattle.error.specs.declared.LineAnswer.the-variants as lined
-use Rattle.parser.specs.Reading.{early, unlessEarly, reading}
+use Rattle.reading.specs.Reading.{early, unlessEarly, reading}
 use Rattle.script.specs.Output.{whenRead, printed, lineBytes, pageBytes, paged, printing}
 
 -- what reading leaves in two cases differs in the scratch at most

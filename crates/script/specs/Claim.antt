@@ -12,7 +12,7 @@ use Rattle.number.specs.Time.{Key, FairPercent, AtMost, Within, Far, Equal, Clo
 use Rattle.ast.specs.Tree.{Nodes, KeyframeTime, KeyframeEntry, KeyframeSpec, keyframes, mapTimes, records, preorder}
 use Rattle.sheet.specs.Sheet.{encode, decode}
 use Rattle.grammar.specs.Grammar.{stored}
-use Rattle.parser.specs.Reading.{parse, tree, reading, scratchWords}
+use Rattle.reading.specs.Reading.{parse, tree, reading, scratchWords}
 use Rattle.validate.specs.Rules.{timeOf}
 use Rattle.validate.specs.Checking.{judged, isList, checking}
 use Rattle.error.specs.declared.Refusal.the-variants.{DuplicateTime}

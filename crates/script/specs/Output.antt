@@ -5,7 +5,7 @@ use mathlib.Core.List.{List, [], _∷_, _++_}
 use lib.Dec.{ltb}
 use lib.ListN.{length, take, drop, replicate}
 use Rattle.text.specs.Bytes.{bytes}
-use Rattle.parser.specs.Reading.{reading, scratchWords}
+use Rattle.reading.specs.Reading.{reading, scratchWords}
 use Rattle.validate.specs.Checking.{checking}
 use Rattle.line.specs.Lining.{lining}
 use Rattle.error.specs.Refusal.{numberOf}

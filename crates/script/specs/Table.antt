@@ -6,7 +6,7 @@ use mathlib.Core.List.{List, [], _∷_}
 use lib.Dec.{T, ltb}
 use lib.ListN.{take, replicate}
 use Rattle.text.specs.Bytes.{bytes, same}
-use Rattle.parser.specs.Reading.{reading, scratchWords}
+use Rattle.reading.specs.Reading.{reading, scratchWords}
 use Rattle.validate.specs.Checking.{checking}
 use Rattle.script.specs.Output.{sheetBytes, output}
 use Rattle.error.specs.Answer.{readValues, checkValues}
@@ -163,7 +163,7 @@ unfolding Rattle.text.specs.Bytes.same Rattle.text.specs.Bytes.oneOf Rattle.t
     Rattle.grammar.specs.Values.namedEasing Rattle.grammar.specs.Values.curveOr Rattle.grammar.specs.Values.parseEasing
     Rattle.grammar.specs.Values.timesMode Rattle.grammar.specs.Values.pingPongMode Rattle.grammar.specs.Values.loopModes
     Rattle.grammar.specs.Values.parseLoopMode Rattle.grammar.specs.Values.easing Rattle.grammar.specs.Values.loopMode
-    Rattle.parser.specs.Reading.parse Rattle.parser.specs.Reading.early Rattle.parser.specs.Reading.reading
+    Rattle.reading.specs.Reading.parse Rattle.reading.specs.Reading.early Rattle.reading.specs.Reading.reading
     Rattle.colors.specs.Css.namesOf Rattle.validate.specs.Checking.judged Rattle.validate.specs.Checking.isList
     Rattle.validate.specs.Checking.openingUnder Rattle.validate.specs.Checking.checking Rattle.validate.specs.Rules.negative
     Rattle.validate.specs.Rules.notPositive Rattle.validate.specs.Rules.outsideUnit Rattle.validate.specs.Rules.unknownEasing

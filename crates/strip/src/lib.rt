@@ -1,7 +1,7 @@
 // The operations for C and Rust to link: each answers with one u64 (`packed`).
 ghost use mathlib.Core.Path.{_≡_};
 ghost use Rattle.colors.specs.Css.{coloring};
-ghost use Rattle.parser.specs.Reading.{reading};
+ghost use Rattle.reading.specs.Reading.{reading};
 ghost use Rattle.validate.specs.Checking.{checking};
 ghost use Rattle.line.specs.Lining.{lining};
 ghost use Rattle.convert.specs.Convert.{converting};

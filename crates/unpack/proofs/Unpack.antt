@@ -7,7 +7,7 @@ use mathlib.Core.Path.{_≡_, refl}
 use native.Mathlib.Omega.{arith}
 use lib.IntN.{ℤ}
 use lib.ListN.{take}
-use Rattle.parser.specs.Reading.{reading}
+use Rattle.reading.specs.Reading.{reading}
 use Rattle.validate.specs.Checking.{checking}
 use Rattle.line.specs.Lining.{lining}
 use Rattle.convert.specs.Convert.{converting}

@@ -27,8 +27,8 @@ use Rattle.plane.specs.Planing.{answered as writtenAs}
 use Rattle.wave.specs.Wave.{filled, shifted, drawing}
 use Rattle.grammar.specs.Rule.{Notes, Out, got, refused}
 use Rattle.grammar.specs.Grammar.{stored, animatoInput}
-use Rattle.parser.specs.Reading.{Parsed, tree, wrong, unlessLeft, finished, parsed, parse}
-use Rattle.parser.specs.Reading.{answered, early, unlessEarly, reading, scratchWords}
+use Rattle.reading.specs.Reading.{Parsed, tree, wrong, unlessLeft, finished, parsed, parse}
+use Rattle.reading.specs.Reading.{answered, early, unlessEarly, reading, scratchWords}
 use Rattle.limits.proofs.Limits.{parses-fits, parses-small}
 use Rattle.colors.specs.Css.{namesOf}
 use Rattle.validate.specs.Rules.{validateNodes}

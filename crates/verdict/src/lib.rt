@@ -2,7 +2,7 @@
 ghost use mathlib.Core.Path.{_≡_};
 ghost use lib.ListN.{length};
 ghost use Rattle.parser.specs.Means.{outcome};
-ghost use Rattle.parser.specs.Reading.{reading};
+ghost use Rattle.reading.specs.Reading.{reading};
 ghost use Rattle.verdict.specs.Verdict.{readOf, bothAnswers, verdictValues, Answered, Claims};
 use error::CheckAnswer;
 use error::ReadAnswer;

@@ -1,0 +1,1 @@
+// 01, "Reading": the operation, as a definition.
