@@ -25,10 +25,10 @@ use Rattle.validate.proofs.ListLaws.{unlisted-opened as checking-unlisted}
 use Rattle.script.proofs.OutputLaws.{held}
 use Rattle.totals.specs.Totals.{sumOf, itself, addedFrom, added, inWord}
 use Rattle.error.proofs.NumberLaws.{numbered}
-use Rattle.feed.specs.Feed.{Fed, readOf, whenRead, judgement, numberIn, nodesIn, sheetNodes, nodes, nodeFigure, figure}
-use Rattle.feed.specs.Feed as feed
-use Rattle.feed.specs.Means.{nodesAdd}
-use Rattle.feed.proofs.FeedLaws.{kind-small, in-word-most, nodes-add-long}
+use Rattle.feeding.specs.Feed.{Fed, readOf, whenRead, judgement, numberIn, nodesIn, sheetNodes, nodes, nodeFigure, figure}
+use Rattle.feeding.specs.Feed as feed
+use Rattle.feeding.specs.Means.{nodesAdd}
+use Rattle.feeding.proofs.FeedLaws.{kind-small, in-word-most, nodes-add-long}
 use Rattle.morning.specs.Morning.{under, ofKind, kindCount, entryCount, recordsRead, ifAccepted, acceptCount}
 
 -- ---- one word

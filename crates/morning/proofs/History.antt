@@ -14,7 +14,7 @@ use Rattle.error.specs.declared.Refusal.the-variants.{TooManyScripts}
 use Rattle.totals.specs.Totals.{scriptLimit, figureLimit, emptyTotals, sumOf, over, scripts, added}
 use Rattle.totals.specs.Mean.{nodeRecords}
 use Rattle.totals.proofs.TotalsLaws.{length-added, word-added}
-use Rattle.feed.specs.Feed.{Fed, readOf, judgement, figure, full, feeding}
+use Rattle.feeding.specs.Feed.{Fed, readOf, judgement, figure, full, feeding}
 use Rattle.error.specs.declared.FeedAnswer.{FeedAnswer}
 use Rattle.error.specs.declared.FeedAnswer.the-variants.{Counted, Refused}
 use Rattle.morning.specs.Morning.{after, under, kindCount, entryCount, acceptCount, Morning}

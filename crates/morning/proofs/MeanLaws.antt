@@ -18,7 +18,7 @@ use Rattle.sheet.specs.Sheet.{Node}
 use Rattle.totals.specs.Totals.{scriptLimit, emptyTotals, sumOf}
 use Rattle.totals.specs.Mean.{gcd, fraction, meanOf, mean}
 use Rattle.totals.proofs.MeanLaws.{lowest-terms}
-use Rattle.feed.specs.Feed.{Fed, judgement, numberIn, nodes}
+use Rattle.feeding.specs.Feed.{Fed, judgement, numberIn, nodes}
 use Rattle.morning.specs.Morning.{after, under, ofKind, kindCount, ifAccepted, acceptedCount, entryCount, tracksOf, trackCount}
 use Rattle.morning.specs.Morning.{Figures, MeanIs, Means}
 use Rattle.morning.proofs.FigureLaws.{sum-same}

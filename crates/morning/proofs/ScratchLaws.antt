@@ -12,7 +12,7 @@ use Rattle.error.specs.declared.FeedAnswer.the-variants as answers
 use Rattle.reading.specs.Reading.{reading}
 use Rattle.script.proofs.ScratchLaws.{SameRead, reading-same}
 use Rattle.totals.specs.Totals.{added}
-use Rattle.feed.specs.Feed.{fed, readOf, whenRead, judgement, sheetNodes, figure, full, feeding}
+use Rattle.feeding.specs.Feed.{fed, readOf, whenRead, judgement, sheetNodes, figure, full, feeding}
 
 -- what feeding leaves in two cases differs in the scratch at most
 pub record SameFed (x y : FeedAnswer × List ℕ × List ℕ × List ℕ) : Type 0 where

@@ -20,7 +20,7 @@ use Rattle.sheet.specs.Sheet.{Node}
 use Rattle.sheet.specs.Records.{kindOf, entriesOf}
 use Rattle.totals.specs.Totals.{scriptLimit, figureLimit, emptyTotals, sumOf}
 use Rattle.totals.specs.Mean.{nodeRecords, mean, Lowest}
-use Rattle.feed.specs.Feed.{Fed, readOf, judgement, numberIn, nodes, feeding}
+use Rattle.feeding.specs.Feed.{Fed, readOf, judgement, numberIn, nodes, feeding}
 use Rattle.error.specs.declared.FeedAnswer.the-variants.{Counted, Refused}
 
 -- the totals after some feeds, one after the other

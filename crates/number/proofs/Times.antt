@@ -70,6 +70,11 @@ pub round-error : (s : Bool) (n d k : ℕ) → 0 < d → k ≤ 34 → n ≤ 2 ^ 
     → Off k (record { negative = s; num = n; den = d }) (round binary32 s n d)
 round-error s n d k D K h = off s n d k (grid binary32 n d) (round binary32 s n d) (held s k n d D K h) (within k n d D h)
 
+-- a whole percent's, up to 2 ^ 24: once it is below 2 ^ k
+pub percent-error : (s : Bool) (n k : ℕ) → n ≤ 16777216 → k ≤ 34 → n ≤ 2 ^ k * 100
+    → Off k (record { negative = s; num = n; den = 100 }) (percent s n)
+percent-error s n k N K h = rw (percent-once s n N) (round-error s n 100 k (lit< tt) K h)
+
 -- ---- a key
 pub den-pos : (t : Key) → 0 < writtenTime t .den
 den-pos t = go (t .percent)

@@ -4,6 +4,7 @@ use mathlib.Core.Bool.{Bool, true, false, cond}
 use mathlib.Core.List.{List, [], _++_}
 use mathlib.Core.Option.{none}
 use mathlib.Core.Path.{_≡_, refl, sym, ap, _∙_}
+use native.Mathlib.Nat.{sub-zero}
 use native.Mathlib.Omega.{arith}
 use lib.Dec.{ltb}
 use lib.ListN.{length, replicate}
@@ -46,7 +47,7 @@ module _ (t scratch sheet : List ℕ) (e : early (length t) (length scratch) ≡
   -- "the sheet is .. all zero on a refusal"
   pub sheet-zero : (r : Refusal) (p : ℕ) → reading t scratch sheet .0 ≡ Refused r p → reading t scratch sheet .2 ≡ replicate (length sheet) 0
   sheet-zero r p q =
-      let w = answered (length t) (length sheet) (parse t) in
       ap (λ x. x .2) is-cleared
       ∙ ap (λ (l : List ℕ). l ++ replicate (length sheet - length l) 0)
       (answered-none (length t) (length sheet) (parse t) r p (sym (ap (λ x. x .0) is-cleared) ∙ q))
+      ∙ ap (λ (n : ℕ). replicate n 0) (sub-zero (length sheet))

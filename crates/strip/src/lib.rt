@@ -7,7 +7,7 @@ ghost use Rattle.line.specs.Lining.{lining};
 ghost use Rattle.convert.specs.Convert.{converting};
 ghost use Rattle.script.specs.Output.{printing};
 ghost use Rattle.totals.specs.Mean.{mean};
-ghost use Rattle.feed.specs.Feed.{fed, feeding};
+ghost use Rattle.feeding.specs.Feed.{fed, feeding};
 ghost use Rattle.back.specs.Back.{writing};
 ghost use Rattle.lookup.specs.Lookup.{lookingUp};
 ghost use Rattle.listing.specs.Listing.{listing};

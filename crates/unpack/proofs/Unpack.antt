@@ -37,7 +37,7 @@ use Rattle.packed.proofs.PackedLaws.{refusal-number, refusal-place, refusal-rou
 use Rattle.packed.proofs.PackedLaws.{sheet-records, sheet-rounded, line-number, line-length}
 use Rattle.error.specs.declared.Refusal.the-variants.{TooManyScripts}
 use Rattle.totals.specs.Totals.{added}
-use Rattle.feed.specs.Feed.{Fed, readOf, whenRead, judgement, figure, full, feeding}
+use Rattle.feeding.specs.Feed.{Fed, readOf, whenRead, judgement, figure, full, feeding}
 use Rattle.error.specs.declared.FeedAnswer.{FeedAnswer}
 use Rattle.error.specs.declared.FeedAnswer.the-variants as feed
 use Rattle.unpack.proofs.Within.{ReadWithin, read-within, CheckWithin, check-within, LineWithin, line-within, print-within}

@@ -3,8 +3,8 @@ use Rattle.error.specs.Answer.{feedValues}
 use Rattle.error.proofs.AnswerLaws.{with-values}
 use Rattle.text.specs.Bytes.{at}
 use mathlib.Core.Path.{sym, _∙_}
-use Rattle.feed.proofs.FeedLaws.{words-of, accepted-room, accepted-words, feed-full}
-use Rattle.feed.proofs.FeedLaws.{feed-unread, feed-refused, feed-accepted, is-sheet}
+use Rattle.feeding.proofs.FeedLaws.{words-of, accepted-room, accepted-words, feed-full}
+use Rattle.feeding.proofs.FeedLaws.{feed-unread, feed-refused, feed-accepted, is-sheet}
 use borrow.Author.Needs.{needs}
 use Rattle.feed.proofs.feed.Statement.{statement}
 use Rattle.feed.proofs.feed.Tie as tie

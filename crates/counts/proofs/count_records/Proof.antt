@@ -1,14 +1,14 @@
--- `feed::count_records` meets its contract: the loop keeps what the records that stand from end on still add.
+-- `counts::count_records` meets its contract: the loop keeps what the records that stand from end on still add.
 use Prim.Native.Nat.{_-_}
 use native.Mathlib.Omega.{arith}
 use Rattle.sheet.specs.Sheet.{decode, sheet}
 use lib.ListN.{length}
-use Rattle.feed.specs.Feed.{nodesIn}
-use Rattle.feed.proofs.FeedLaws.{Counting, counting-start, counting-next, counting-long, counting-done}
+use Rattle.feeding.specs.Feed.{nodesIn}
+use Rattle.feeding.proofs.FeedLaws.{Counting, counting-start, counting-next, counting-long, counting-done}
 use Rattle.records.proofs.RecordLaws.{moves}
 use borrow.Author.Needs.{needs}
-use Rattle.feed.proofs.count_records.Statement.{statement}
-use Rattle.feed.proofs.count_records.Tie as tie
+use Rattle.counts.proofs.count_records.Statement.{statement}
+use Rattle.counts.proofs.count_records.Tie as tie
 
 abbrev Inv-loop : tie.InvT-loop
 Inv-loop totals₀ sheet text-len end₀ totals end = Counting text-len sheet (nodesIn (decode text-len sheet)) totals₀ totals end

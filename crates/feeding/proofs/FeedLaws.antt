@@ -33,9 +33,9 @@ use Rattle.totals.specs.Totals.{firstKindWord, entriesWord, figureLimit, sumOf,
 use Rattle.error.proofs.NumberLaws.{numbered}
 use Rattle.totals.proofs.TotalsLaws.{length-added, word-added, added-same, added-twice, added-none, within}
 use Rattle.script.proofs.OutputLaws.{held}
-use Rattle.feed.specs.Feed.{fed, readOf, whenRead, judgement, numberIn, nodesIn}
-use Rattle.feed.specs.Feed.{sheetNodes, ifAccepted, nodes, full, feeding}
-use Rattle.feed.specs.Means.{Words, IsSheet, nodesAdd, judgedAdd}
+use Rattle.feeding.specs.Feed.{fed, readOf, whenRead, judgement, numberIn, nodesIn}
+use Rattle.feeding.specs.Feed.{sheetNodes, ifAccepted, nodes, full, feeding}
+use Rattle.feeding.specs.Means.{Words, IsSheet, nodesAdd, judgedAdd}
 use Rattle.error.specs.declared.FeedAnswer.{FeedAnswer}
 use Rattle.error.specs.declared.FeedAnswer.the-variants.{Counted, Refused}
 

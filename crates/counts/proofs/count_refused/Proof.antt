@@ -1,10 +1,10 @@
--- `feed::count_refused` meets its contract.
+-- `counts::count_refused` meets its contract.
 use Rattle.text.specs.Bytes.{at}
 use mathlib.Core.Path.{refl}
-use Rattle.feed.proofs.FeedLaws.{refused-room}
+use Rattle.feeding.proofs.FeedLaws.{refused-room}
 use borrow.Author.Needs.{needs}
-use Rattle.feed.proofs.count_refused.Statement.{statement}
-use Rattle.feed.proofs.count_refused.Tie as tie
+use Rattle.counts.proofs.count_refused.Statement.{statement}
+use Rattle.counts.proofs.count_refused.Tie as tie
 
 add-requires : tie.Need-add-requires
 add-requires c κs =

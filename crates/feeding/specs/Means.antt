@@ -7,7 +7,7 @@ use lib.ListN.{length, getD}
 use Rattle.sheet.specs.Sheet.{Node, Forest, decode}
 use Rattle.totals.specs.Totals.{figureLimit, sumOf, added, inWord}
 use Rattle.error.specs.declared.CheckAnswer.{CheckAnswer}
-use Rattle.feed.specs.Feed.{nodeFigure, numberIn}
+use Rattle.feeding.specs.Feed.{nodeFigure, numberIn}
 
 -- 60 words, none above the limit but for the script that is being counted
 pub record Words (ws : List ℕ) : Type 0 where

@@ -1,9 +1,9 @@
--- `feed::full` meets its contract.
+-- `counts::full` meets its contract.
 use mathlib.Core.Path.{sym, _∙_}
-use Rattle.feed.proofs.FeedLaws.{full-over, full-count}
+use Rattle.feeding.proofs.FeedLaws.{full-over, full-count}
 use borrow.Author.Needs.{needs}
-use Rattle.feed.proofs.full.Statement.{statement}
-use Rattle.feed.proofs.full.Tie as tie
+use Rattle.counts.proofs.full.Statement.{statement}
+use Rattle.counts.proofs.full.Tie as tie
 
 returns : tie.Need-returns
 returns c = full-over _ (sym (c .before .over-limit .ensures) ∙ c .if1 .taken)
