@@ -14,7 +14,7 @@ use Rattle.records.specs.declared.Kind.{Kind}
 use Rattle.records.specs.declared.Kind.the-variants as kind
 use Rattle.colors.specs.Css.{namesOf}
 use Rattle.error.specs.declared.Refusal.{Refusal}
-use Rattle.validate.specs.Rules.{validateLeaf, validateContainer, validateNodes}
+use Rattle.node_rules.specs.Rules.{validateLeaf, validateContainer, validateNodes}
 use Rattle.places.specs.Stands.{Stands}
 use Rattle.places.proofs.StandLaws.{Opened, plain, boxed, front}
 use Rattle.validate.specs.Walks.{recordFault, Clean, Says, Onward, NodeWalk}
