@@ -16,10 +16,10 @@ use Rattle.ast.specs.Tree.{KeyframeTime, KeyframeEntry, Leaf, Container, sequen
 use Rattle.sheet.specs.Sheet.{Forest, decode}
 use Rattle.sheet.specs.Opening.{shut, decoded, unlessForeign, foreignFrom}
 use Rattle.colors.specs.Css.{namesOf}
-use Rattle.validate.specs.Rules.{given, unknownEasing, timeOf, first, validateTween, validateSpring}
-use Rattle.validate.specs.Rules.{validateFrames, validateKeyframes, validatePath, validateMorph}
-use Rattle.validate.specs.Rules.{validateDraw, validateColor, validateWaveform, validatePresetCall, validateLeaf, validateContainer}
-use Rattle.validate.specs.Rules.{atOrdinal, validateNodes}
+use Rattle.node_rules.specs.Rules.{given, unknownEasing, timeOf, first, validateTween, validateSpring}
+use Rattle.node_rules.specs.Rules.{validateFrames, validateKeyframes, validatePath, validateMorph}
+use Rattle.node_rules.specs.Rules.{validateDraw, validateColor, validateWaveform, validatePresetCall, validateLeaf, validateContainer}
+use Rattle.node_rules.specs.Rules.{atOrdinal, validateNodes}
 use Rattle.validate.specs.Checking.{answerOf, judged, verdict, isList, openingUnder, checking}
 use Rattle.error.specs.Refusal.{numberOf}
 use Rattle.error.specs.declared.Refusal.{Refusal}

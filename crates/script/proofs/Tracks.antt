@@ -16,7 +16,7 @@ use Rattle.ast.specs.Tree.{KeyframeTime, percent, seconds, KeyframeEntry, Keyfr
 use Rattle.ast.specs.Tree.{keyframes, Nodes, leaf, box, mapFrames, mapLeaf, mapTimes, preorder}
 use Rattle.grammar.specs.Grammar.{stored}
 use Rattle.colors.specs.Css.{namesOf}
-use Rattle.validate.specs.Rules.{timeOf}
+use Rattle.node_rules.specs.Rules.{timeOf}
 use Rattle.validate.specs.Checking.{answerOf, judged}
 use Rattle.validate.proofs.FrameLaws.{stamps, none≢some}
 use Rattle.error.specs.declared.Refusal.{Refusal}

@@ -13,7 +13,7 @@ use Rattle.ast.specs.Tree.{Nodes, KeyframeTime, KeyframeEntry, KeyframeSpec, ke
 use Rattle.sheet.specs.Sheet.{encode, decode}
 use Rattle.grammar.specs.Grammar.{stored}
 use Rattle.reading.specs.Reading.{parse, tree, reading, scratchWords}
-use Rattle.validate.specs.Rules.{timeOf}
+use Rattle.node_rules.specs.Rules.{timeOf}
 use Rattle.validate.specs.Checking.{judged, isList, checking}
 use Rattle.error.specs.declared.Refusal.the-variants.{DuplicateTime}
 use Rattle.error.specs.declared.ReadAnswer.{ReadAnswer}

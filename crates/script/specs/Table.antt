@@ -165,13 +165,13 @@ unfolding Rattle.text.specs.Bytes.same Rattle.text.specs.Bytes.oneOf Rattle.t
     Rattle.grammar.specs.Values.parseLoopMode Rattle.grammar.specs.Values.easing Rattle.grammar.specs.Values.loopMode
     Rattle.reading.specs.Reading.parse Rattle.reading.specs.Reading.early Rattle.reading.specs.Reading.reading
     Rattle.colors.specs.Css.namesOf Rattle.validate.specs.Checking.judged Rattle.validate.specs.Checking.isList
-    Rattle.validate.specs.Checking.openingUnder Rattle.validate.specs.Checking.checking Rattle.validate.specs.Rules.negative
-    Rattle.validate.specs.Rules.notPositive Rattle.validate.specs.Rules.outsideUnit Rattle.validate.specs.Rules.unknownEasing
-    Rattle.validate.specs.Rules.first Rattle.validate.specs.Rules.validateTween Rattle.validate.specs.Rules.validateSpring
-    Rattle.validate.specs.Rules.validateFrames Rattle.validate.specs.Rules.validateKeyframes Rattle.validate.specs.Rules.validatePath
-    Rattle.validate.specs.Rules.validateMorph Rattle.validate.specs.Rules.validateDraw Rattle.validate.specs.Rules.validateColor
-    Rattle.validate.specs.Rules.validateWaveform Rattle.validate.specs.Rules.validatePresetCall Rattle.validate.specs.Rules.validateLeaf
-    Rattle.validate.specs.Rules.emptyGrid Rattle.validate.specs.Rules.validateContainer Rattle.validate.specs.Rules.validateNodes
+    Rattle.validate.specs.Checking.openingUnder Rattle.validate.specs.Checking.checking Rattle.node_rules.specs.Rules.negative
+    Rattle.node_rules.specs.Rules.notPositive Rattle.node_rules.specs.Rules.outsideUnit Rattle.node_rules.specs.Rules.unknownEasing
+    Rattle.node_rules.specs.Rules.first Rattle.node_rules.specs.Rules.validateTween Rattle.node_rules.specs.Rules.validateSpring
+    Rattle.node_rules.specs.Rules.validateFrames Rattle.node_rules.specs.Rules.validateKeyframes Rattle.node_rules.specs.Rules.validatePath
+    Rattle.node_rules.specs.Rules.validateMorph Rattle.node_rules.specs.Rules.validateDraw Rattle.node_rules.specs.Rules.validateColor
+    Rattle.node_rules.specs.Rules.validateWaveform Rattle.node_rules.specs.Rules.validatePresetCall Rattle.node_rules.specs.Rules.validateLeaf
+    Rattle.node_rules.specs.Rules.emptyGrid Rattle.node_rules.specs.Rules.validateContainer Rattle.node_rules.specs.Rules.validateNodes
     Rattle.line.specs.Line.hex Rattle.line.specs.Line.total Rattle.line.specs.Line.checkByte Rattle.line.specs.Line.line
     Rattle.line.specs.Lining.lining Rattle.script.specs.Output.decimalOut Rattle.script.specs.Output.refusal
     Rattle.script.specs.Output.accept Rattle.script.specs.Output.lines Rattle.script.specs.Output.output holds every table

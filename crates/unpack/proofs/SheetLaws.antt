@@ -21,7 +21,7 @@ use Rattle.sheet.specs.Opening.{Opened, opened, shut, foreignFrom, unlessForeig
 use Rattle.sheet.specs.Opening as begins
 use Rattle.sheet.proofs.Laws.{Fits, decoded}
 use Rattle.sheet.proofs.Flat.{concat, concat-append, sheet-flat}
-use Rattle.validate.specs.Rules.{validateLeaf, validateContainer, atOrdinal, validateNodes}
+use Rattle.node_rules.specs.Rules.{validateLeaf, validateContainer, atOrdinal, validateNodes}
 use Rattle.validate.specs.Checking.{isList, unlessUnknown, openingUnder}
 use Rattle.error.specs.declared.Refusal.{Refusal}
 use Rattle.error.specs.declared.Refusal.the-variants.{TextTooLong, UnknownList}

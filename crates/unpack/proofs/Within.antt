@@ -31,7 +31,7 @@ use Rattle.reading.specs.Reading.{Parsed, tree, wrong, unlessLeft, finished, pa
 use Rattle.reading.specs.Reading.{answered, early, unlessEarly, reading, scratchWords}
 use Rattle.limits.proofs.Limits.{parses-fits, parses-small}
 use Rattle.colors.specs.Css.{namesOf}
-use Rattle.validate.specs.Rules.{validateNodes}
+use Rattle.node_rules.specs.Rules.{validateNodes}
 use Rattle.validate.specs.Checking.{answerOf, judged, verdict, openingUnder, checking}
 use Rattle.line.specs.Line.{line}
 use Rattle.line.specs.Lining.{ofRecord, ofOpened, lining}

@@ -23,7 +23,7 @@ use Rattle.colors.specs.Css.{namesOf}
 use Rattle.sheet.proofs.Laws as sheet-laws
 use Rattle.decode.proofs.ReadLaws.{le-or-lt}
 use Rattle.opening.proofs.OpenLaws.{Tree, text-first, the-tree, the-refusal}
-use Rattle.validate.specs.Rules.{validateNodes}
+use Rattle.node_rules.specs.Rules.{validateNodes}
 use Rattle.validate.specs.Checking.{answerOf as verdictOf, judged, isList, unlessUnknown, openingUnder, checking}
 use Rattle.places.proofs.StandLaws.{head}
 use Rattle.validate.specs.Means.{InLimit, listAnswer}

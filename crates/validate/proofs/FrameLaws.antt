@@ -25,11 +25,12 @@ use Rattle.error.specs.declared.Refusal.{Refusal}
 use Rattle.error.specs.declared.Refusal.the-variants.{UnknownEasing, DuplicateTime, TooFewFrames}
 use Rattle.codec.proofs.Laws.{inverse, each-lawful}
 use Rattle.sheet.proofs.Laws.{entryL}
-use Rattle.validate.specs.Rules.{given, unknownEasing, first, timeOf, validateFrames, validateKeyframes}
+use Rattle.node_rules.specs.Rules.{given, unknownEasing, first, timeOf, validateFrames, validateKeyframes}
 use Rattle.places.specs.Stands.{Stands}
-use Rattle.validate.specs.Means.{InLimit, Tells, FramesTell, FramesAt, TrackTells}
-use Rattle.validate.specs.declared.faults.Fault.{Fault}
-use Rattle.validate.specs.declared.faults.Fault.the-variants.{None, Is}
+use Rattle.node_rules.specs.Means.{Tells}
+use Rattle.validate.specs.Means.{InLimit, FramesTell, FramesAt, TrackTells}
+use Rattle.node_rules.specs.declared.faults.Fault.{Fault}
+use Rattle.node_rules.specs.declared.faults.Fault.the-variants.{None, Is}
 
 pub none≢some : {A B : Type 0} {a : A} → Prim.Path (Option A) none (some a) → B
 none≢some e = let z : _≡_ {A = ℕ} 0 1 = cc in absurd (omega arith)

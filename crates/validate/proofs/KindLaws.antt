@@ -22,11 +22,11 @@ use Rattle.colors.specs.Css.{namesOf}
 use Rattle.error.specs.declared.Refusal.{Refusal}
 use Rattle.decode.proofs.ReadLaws.{_&_}
 use Rattle.records.proofs.RecordLaws.{made, after, counts, width-blank, of-kind, three-or-four}
-use Rattle.validate.specs.Rules.{validateLeaf, validateContainer}
+use Rattle.node_rules.specs.Rules.{validateLeaf, validateContainer}
 use Rattle.places.specs.Stands.{Stands, ContainerKind}
-use Rattle.validate.specs.Means.{faultOf, StaggerTells}
+use Rattle.node_rules.specs.Means.{faultOf, StaggerTells}
 use Rattle.validate.specs.Walks.{recordView}
-use Rattle.validate.specs.declared.faults.Fault.{Fault}
+use Rattle.node_rules.specs.declared.faults.Fault.{Fault}
 
 -- the same bytes under another view, where what stands there is known too
 pub known : {A X Y : Type 0} {c : Form A} {f : A → X} {g : A → Y} {s : List ℕ} {at m : ℕ} {v : X} {w : Y}

@@ -1,5 +1,3 @@
-pub mod TestLaws
-pub mod RuleLaws
 pub mod FrameLaws
 pub mod KindLaws
 pub mod WalkLaws

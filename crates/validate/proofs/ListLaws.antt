@@ -18,7 +18,7 @@ use Rattle.error.specs.declared.Refusal.the-variants.{UnknownList}
 use Rattle.presets.specs.Colors.{colors}
 use Rattle.colors.specs.Css.{namesOf, cssNames}
 use Rattle.error.specs.declared.CheckAnswer.the-variants.{Refused}
-use Rattle.validate.specs.Rules.{validateNodes}
+use Rattle.node_rules.specs.Rules.{validateNodes}
 use Rattle.validate.specs.Checking.{answerOf, judged, verdict, isList, openingUnder, checking}
 use Rattle.validate.specs.Means.{listAnswer}
 use Rattle.validate.proofs.CheckLaws.{known, first-shut, shut-refused}

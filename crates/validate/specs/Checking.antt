@@ -10,7 +10,7 @@ use Rattle.ast.specs.Tree.{Nodes, KeyframeTime}
 use Rattle.sheet.specs.Sheet.{decode}
 use Rattle.sheet.specs.Opening.{Opened, opened, shut, foreignFrom, unlessForeign, decoded}
 use Rattle.colors.specs.Css.{namesOf}
-use Rattle.validate.specs.Rules.{validateNodes}
+use Rattle.node_rules.specs.Rules.{validateNodes}
 use Rattle.error.specs.declared.Refusal.{Refusal}
 use Rattle.error.specs.declared.Refusal.the-variants.{TextTooLong, UnknownList}
 use Rattle.error.specs.declared.CheckAnswer.{CheckAnswer}

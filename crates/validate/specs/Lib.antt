@@ -1,4 +1,3 @@
-pub mod Rules
 pub mod Checking
 pub mod Means
 pub mod Walks

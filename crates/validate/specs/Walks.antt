@@ -12,10 +12,10 @@ use Rattle.records.specs.Record.{recordForm, kindView}
 use Rattle.records.specs.declared.Kind.{Kind}
 use Rattle.colors.specs.Css.{namesOf}
 use Rattle.error.specs.declared.Refusal.{Refusal}
-use Rattle.validate.specs.Rules.{validateLeaf, validateContainer, validateNodes}
+use Rattle.node_rules.specs.Rules.{validateLeaf, validateContainer, validateNodes}
 use Rattle.places.specs.Stands.{Stands}
-use Rattle.validate.specs.Means.{faultOf}
-use Rattle.validate.specs.declared.faults.Fault.{Fault}
+use Rattle.node_rules.specs.Means.{faultOf}
+use Rattle.node_rules.specs.declared.faults.Fault.{Fault}
 use Rattle.validate.specs.declared.kinds.RecordCheck.{RecordCheck}
 use Rattle.validate.specs.declared.nodes.Walk.{Walk}
 use Rattle.validate.specs.declared.nodes.Walk.the-variants.{Refused, Passed}

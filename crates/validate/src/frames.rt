@@ -4,16 +4,17 @@ ghost use mathlib.Core.Path.{_≡_};
 ghost use lib.ListN.{length};
 ghost use Rattle.number.specs.Time.{near};
 ghost use Rattle.ast.specs.View.{entryView};
-ghost use Rattle.validate.specs.Rules.{given, unknownEasing};
-ghost use Rattle.validate.specs.Means.{InLimit, Tells, FramesTell, FramesAt, TrackTells};
-use crate::faults::Fault;
-use crate::faults::some_unknown;
+ghost use Rattle.node_rules.specs.Rules.{given, unknownEasing};
+ghost use Rattle.node_rules.specs.Means.{Tells};
+ghost use Rattle.validate.specs.Means.{InLimit, FramesTell, FramesAt, TrackTells};
 use ast::KeyframeEntry;
 use ast::KeyframeSpec;
 use decode::fields::take_field;
 use decode::fields::take_span;
 use decode::nodes::take_entry;
 use error::Refusal;
+use node_rules::faults::Fault;
+use node_rules::faults::some_unknown;
 
 // Whether an entry's time is a duplicate of an earlier one. Percent and seconds share one scale.
 fn is_duplicate(earlier: f32, entry: KeyframeEntry) -> bool

@@ -6,11 +6,9 @@ ghost use Rattle.opening.specs.Means.{answerOf, earlier};
 ghost use Rattle.validate.specs.Checking.{openingUnder, checking};
 ghost use Rattle.validate.specs.Means.{listAnswer};
 
-mod faults;
 mod frames;
 mod kinds;
 mod nodes;
-mod rules;
 
 use crate::nodes::Walk;
 use crate::nodes::validate_nodes;

@@ -2,9 +2,9 @@
 ghost use Prim.Native.Nat.{_+_, _≤_};
 ghost use Rattle.validate.specs.Means.{InLimit};
 ghost use Rattle.validate.specs.Walks.{NodeWalk, NodesWalk};
-use crate::faults::Fault;
 use crate::kinds::validate_record;
 use error::Refusal;
+use node_rules::faults::Fault;
 use records::Kind;
 
 pub enum Walk {

@@ -5,7 +5,7 @@ use mathlib.Core.Path.{_≡_, refl, sym, _∙_}
 use native.Mathlib.Omega.{arith}
 use lib.ListN.{length, length-set}
 use borrow.Author.Needs.{needs}
-use Rattle.validate.specs.declared.faults.Fault.the-variants.{None}
+use Rattle.node_rules.specs.declared.faults.Fault.the-variants.{None}
 use Rattle.validate.proofs.FrameLaws as frames
 use Rattle.validate.proofs.frames.validate_frames.Statement.{statement}
 use Rattle.validate.proofs.frames.validate_frames.Tie as tie

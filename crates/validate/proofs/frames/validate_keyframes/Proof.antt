@@ -1,6 +1,6 @@
 -- `validate::frames::validate_keyframes` meets its contract: too few frames, or their first fault.
 use borrow.Author.Needs.{needs}
-use Rattle.validate.specs.declared.faults.Fault.the-variants.{None}
+use Rattle.node_rules.specs.declared.faults.Fault.the-variants.{None}
 use Rattle.validate.proofs.FrameLaws as frames
 use Rattle.validate.proofs.frames.validate_keyframes.Statement.{statement}
 use Rattle.validate.proofs.frames.validate_keyframes.Tie as tie

@@ -1,0 +1,30 @@
+-- `node_rules::rules::validate_draw` meets its contract: rules in the order of the definition's list. Assumes nothing.
+use mathlib.Core.Path.{ap, refl}
+use borrow.Author.Needs.{needs}
+use Rattle.error.specs.declared.Refusal.the-variants.{OutOfRange, UnknownEasing}
+use Rattle.node_rules.specs.Rules.{validateDraw}
+use Rattle.node_rules.proofs.RuleLaws as rules
+use Rattle.node_rules.proofs.rules.validate_draw.Statement.{statement}
+use Rattle.node_rules.proofs.rules.validate_draw.Tie as tie
+
+is-negative-requires : tie.Need-is-negative-requires
+is-negative-requires c κs = search needs
+
+rule-requires : tie.Need-rule-requires
+rule-requires c κs = search needs
+
+validate-easing-requires : tie.Need-validate-easing-requires
+validate-easing-requires c κs = search needs
+
+returns : tie.Need-returns
+unfolding validateDraw
+returns c =
+    let at-is-negative = c .before .before in
+    λ x e.
+    let f1 = rules.one OutOfRange (at-is-negative .is-negative .ensures (x .duration) (ap (λ v. v .duration) e)) (c .before .rule .ensures)
+    in
+    rules.more _ UnknownEasing f1 refl (c .validate-easing .ensures (x .easing) (ap (λ v. v .easing) e))
+
+pub validate-draw-spec : {M : Type 1} → statement M
+validate-draw-spec =
+    tie.close (tie.spec is-negative-requires rule-requires validate-easing-requires returns)

@@ -1,0 +1,53 @@
+-- `node_rules::rules::validate_preset_call` meets its contract: rules in the order of the definition's list. Assumes nothing.
+use mathlib.Core.Path.{ap, refl, sym, _∙_}
+use mathlib.Core.Bool.{not}
+use borrow.Author.Needs.{needs}
+use Rattle.error.specs.declared.Refusal.the-variants.{OutOfRange, UnknownEasing, UnknownPreset}
+use Rattle.presets.specs.Presets.{isPreset}
+use Rattle.text.specs.Bytes.{part}
+use Rattle.node_rules.specs.Rules.{validatePresetCall}
+use Rattle.node_rules.proofs.RuleLaws as rules
+use Rattle.node_rules.proofs.rules.validate_preset_call.Statement.{statement}
+use Rattle.node_rules.proofs.rules.validate_preset_call.Tie as tie
+
+is-known-preset-requires : tie.Need-is-known-preset-requires
+is-known-preset-requires c κs = search needs
+
+rule-requires : tie.Need-rule-requires
+rule-requires c κs = search needs
+
+validate-easing-requires : tie.Need-validate-easing-requires
+validate-easing-requires c κs = search needs
+
+some-negative-requires : tie.Need-some-negative-requires
+some-negative-requires c κs = search needs
+
+rule-requires-2 : tie.Need-rule-requires-2
+rule-requires-2 c κs = search needs
+
+returns : tie.Need-returns
+unfolding validatePresetCall
+returns c =
+    let at-validate-easing = c .before .before in
+    let at-rule = at-validate-easing .before in
+    let at-is-known-preset = at-rule .before in
+    let start = at-is-known-preset .before .before .before in
+    λ x e.
+    let t = start .args .text .now in
+    let f1 = rules.one UnknownPreset
+    (ap not (at-is-known-preset .is-known-preset .ensures ∙ sym (ap (λ v. isPreset (part t (v .name .start) (v .name .size))) e)))
+    (at-rule .rule .ensures)
+    in
+    let f2 = rules.more _ UnknownEasing f1 refl (at-validate-easing .validate-easing .ensures (x .easing) (ap (λ v. v .easing) e)) in
+    rules.more _ OutOfRange f2 (c .before .some-negative .ensures (x .duration) (ap (λ v. v .duration) e)) (c .rule2 .ensures)
+
+pub validate-preset-call-spec : {M : Type 1} → statement M
+validate-preset-call-spec =
+    tie.close
+    (tie.spec
+    is-known-preset-requires
+    rule-requires
+    validate-easing-requires
+    some-negative-requires
+    rule-requires-2
+    returns)
