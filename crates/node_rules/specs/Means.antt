@@ -1,4 +1,4 @@
--- What the answers of rules mean. Contracts cite these. Assumes nothing.
+-- What the answers of rules mean. Contracts cite these.
 use Prim.Native.Nat.{ℕ}
 use mathlib.Core.Option.{Option, none, some}
 use mathlib.Core.Path.{_≡_}

@@ -45,7 +45,8 @@ module _ (t scratch sheet : List ℕ) (e : early (length t) (length scratch) ≡
   scratch-zero = ap (λ x. x .1) is-cleared
 
   -- "the sheet is .. all zero on a refusal"
-  pub sheet-zero : (r : Refusal) (p : ℕ) → reading t scratch sheet .0 ≡ Refused r p → reading t scratch sheet .2 ≡ replicate (length sheet) 0
+  pub sheet-zero : (r : Refusal) (p : ℕ) → reading t scratch sheet .0 ≡ Refused r p
+      → reading t scratch sheet .2 ≡ replicate (length sheet) 0
   sheet-zero r p q =
       ap (λ x. x .2) is-cleared
       ∙ ap (λ (l : List ℕ). l ++ replicate (length sheet - length l) 0)

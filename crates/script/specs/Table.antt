@@ -113,13 +113,12 @@ unfolding Rattle.text.specs.Bytes.same Rattle.text.specs.Bytes.oneOf Rattle.t
     Rattle.number.specs.Number.bits Rattle.number.specs.Number.f32 Rattle.number.specs.Rounded.rounded
     Rattle.number.specs.Rounded.numberRounded Rattle.number.specs.Rounded.timeRounded Rattle.number.specs.Time.storedTime
     Rattle.number.specs.Time.near Rattle.number.specs.Time.anyNear Rattle.number.specs.Time.duplicates Rattle.token.specs.Means.held
-    Rattle.token.specs.Means.splitting
-    Rattle.token.specs.Names.isKeyword Rattle.token.specs.Split.closed Rattle.token.specs.Split.nestMark Rattle.token.specs.Split.step
-    Rattle.token.specs.Split.splitFrom Rattle.token.specs.Split.split Rattle.token.specs.Token.nameAt Rattle.token.specs.Token.pointAt
-    Rattle.token.specs.Token.pastFraction Rattle.token.specs.Token.suffixAt Rattle.token.specs.Token.pastSuffix
-    Rattle.token.specs.Token.clings Rattle.token.specs.Token.placesOf Rattle.token.specs.Token.writtenBy Rattle.token.specs.Token.writtenAt
-    Rattle.token.specs.Token.powerFrom Rattle.token.specs.Token.powerDigits Rattle.token.specs.Token.powerSize
-    Rattle.token.specs.Token.powerBy Rattle.token.specs.Token.powerAt Rattle.token.specs.Token.pastPower
+    Rattle.token.specs.Means.splitting Rattle.token.specs.Names.isKeyword Rattle.token.specs.Split.closed Rattle.token.specs.Split.nestMark
+    Rattle.token.specs.Split.step Rattle.token.specs.Split.splitFrom Rattle.token.specs.Split.split Rattle.token.specs.Token.nameAt
+    Rattle.token.specs.Token.pointAt Rattle.token.specs.Token.pastFraction Rattle.token.specs.Token.suffixAt
+    Rattle.token.specs.Token.pastSuffix Rattle.token.specs.Token.clings Rattle.token.specs.Token.placesOf Rattle.token.specs.Token.writtenBy
+    Rattle.token.specs.Token.writtenAt Rattle.token.specs.Token.powerFrom Rattle.token.specs.Token.powerDigits
+    Rattle.token.specs.Token.powerSize Rattle.token.specs.Token.powerBy Rattle.token.specs.Token.powerAt Rattle.token.specs.Token.pastPower
     Rattle.token.specs.Token.numberBy Rattle.token.specs.Token.numberAt Rattle.token.specs.Token.quotedAt Rattle.token.specs.Token.lexeme
     Rattle.token.specs.Token.cut Rattle.token.specs.Token.tokensFrom Rattle.sheet.specs.Opening.foreignFrom
     Rattle.sheet.specs.Opening.opening Rattle.sheet.specs.Records.allRecords Rattle.sheet.specs.Sheet.encode Rattle.sheet.specs.Sheet.decode
@@ -145,35 +144,35 @@ unfolding Rattle.text.specs.Bytes.same Rattle.text.specs.Bytes.oneOf Rattle.t
     Rattle.grammar.specs.Grammar.parseMorph Rattle.grammar.specs.Grammar.drawFields Rattle.grammar.specs.Grammar.parseDraw
     Rattle.grammar.specs.Grammar.space Rattle.grammar.specs.Grammar.colorFields Rattle.grammar.specs.Grammar.parseColor
     Rattle.grammar.specs.Grammar.unlessNoise Rattle.grammar.specs.Grammar.waveformKind Rattle.grammar.specs.Grammar.waveformFields
-    Rattle.grammar.specs.Grammar.parseWaveform
-    Rattle.grammar.specs.Grammar.parsePresetCall Rattle.grammar.specs.Grammar.parseLabel Rattle.grammar.specs.Grammar.atSign
-    Rattle.grammar.specs.Grammar.parseAt Rattle.grammar.specs.Grammar.leaves Rattle.grammar.specs.Grammar.containers
-    Rattle.grammar.specs.Grammar.beginning Rattle.grammar.specs.Grammar.parseNode Rattle.grammar.specs.Grammar.oneNode
-    Rattle.grammar.specs.Grammar.nodesStep Rattle.grammar.specs.Grammar.block Rattle.grammar.specs.Grammar.animatoInput
-    Rattle.grammar.specs.Rule.weigh Rattle.grammar.specs.Rule.behind Rattle.grammar.specs.Rule.iterate Rattle.grammar.specs.Values.ident
-    Rattle.grammar.specs.Values.string Rattle.grammar.specs.Values.truth Rattle.grammar.specs.Values.parseFloat
-    Rattle.grammar.specs.Values.parseUint Rattle.grammar.specs.Values.parseFloatInParens Rattle.grammar.specs.Values.commaFloat
-    Rattle.grammar.specs.Values.twoFloats Rattle.grammar.specs.Values.parseTwoFloatsInParens Rattle.grammar.specs.Values.parseUintInParens
-    Rattle.grammar.specs.Values.arrayItem Rattle.grammar.specs.Values.arrayItems Rattle.grammar.specs.Values.parseValue
-    Rattle.grammar.specs.Values.number Rattle.grammar.specs.Values.count Rattle.grammar.specs.Values.flag Rattle.grammar.specs.Values.value
-    Rattle.grammar.specs.Values.f32Of Rattle.grammar.specs.Values.commaFloats Rattle.grammar.specs.Values.fourFloats
-    Rattle.grammar.specs.Values.bezierCurve Rattle.grammar.specs.Values.roughFields Rattle.grammar.specs.Values.roughCurve
-    Rattle.grammar.specs.Values.slowMoFields Rattle.grammar.specs.Values.slowMoCurve Rattle.grammar.specs.Values.stepsCurve
-    Rattle.grammar.specs.Values.wiggleCurve Rattle.grammar.specs.Values.curves Rattle.grammar.specs.Values.variantEasing
-    Rattle.grammar.specs.Values.namedEasing Rattle.grammar.specs.Values.curveOr Rattle.grammar.specs.Values.parseEasing
-    Rattle.grammar.specs.Values.timesMode Rattle.grammar.specs.Values.pingPongMode Rattle.grammar.specs.Values.loopModes
-    Rattle.grammar.specs.Values.parseLoopMode Rattle.grammar.specs.Values.easing Rattle.grammar.specs.Values.loopMode
-    Rattle.reading.specs.Reading.parse Rattle.reading.specs.Reading.early Rattle.reading.specs.Reading.reading
-    Rattle.colors.specs.Css.namesOf Rattle.validate.specs.Checking.judged Rattle.validate.specs.Checking.isList
-    Rattle.validate.specs.Checking.openingUnder Rattle.validate.specs.Checking.checking Rattle.node_rules.specs.Rules.negative
-    Rattle.node_rules.specs.Rules.notPositive Rattle.node_rules.specs.Rules.outsideUnit Rattle.node_rules.specs.Rules.unknownEasing
-    Rattle.node_rules.specs.Rules.first Rattle.node_rules.specs.Rules.validateTween Rattle.node_rules.specs.Rules.validateSpring
-    Rattle.node_rules.specs.Rules.validateFrames Rattle.node_rules.specs.Rules.validateKeyframes Rattle.node_rules.specs.Rules.validatePath
-    Rattle.node_rules.specs.Rules.validateMorph Rattle.node_rules.specs.Rules.validateDraw Rattle.node_rules.specs.Rules.validateColor
-    Rattle.node_rules.specs.Rules.validateWaveform Rattle.node_rules.specs.Rules.validatePresetCall Rattle.node_rules.specs.Rules.validateLeaf
-    Rattle.node_rules.specs.Rules.emptyGrid Rattle.node_rules.specs.Rules.validateContainer Rattle.node_rules.specs.Rules.validateNodes
-    Rattle.line.specs.Line.hex Rattle.line.specs.Line.total Rattle.line.specs.Line.checkByte Rattle.line.specs.Line.line
-    Rattle.line.specs.Lining.lining Rattle.script.specs.Output.decimalOut Rattle.script.specs.Output.refusal
-    Rattle.script.specs.Output.accept Rattle.script.specs.Output.lines Rattle.script.specs.Output.output holds every table
-    lib.Ieee.round lib.Ieee.div lib.Ieee.toBits lib.Ieee.ofBits lib.Ieee.lt lib.Ieee.le lib.Ieee.sub
+    Rattle.grammar.specs.Grammar.parseWaveform Rattle.grammar.specs.Grammar.parsePresetCall Rattle.grammar.specs.Grammar.parseLabel
+    Rattle.grammar.specs.Grammar.atSign Rattle.grammar.specs.Grammar.parseAt Rattle.grammar.specs.Grammar.leaves
+    Rattle.grammar.specs.Grammar.containers Rattle.grammar.specs.Grammar.beginning Rattle.grammar.specs.Grammar.parseNode
+    Rattle.grammar.specs.Grammar.oneNode Rattle.grammar.specs.Grammar.nodesStep Rattle.grammar.specs.Grammar.block
+    Rattle.grammar.specs.Grammar.animatoInput Rattle.grammar.specs.Rule.weigh Rattle.grammar.specs.Rule.behind
+    Rattle.grammar.specs.Rule.iterate Rattle.grammar.specs.Values.ident Rattle.grammar.specs.Values.string Rattle.grammar.specs.Values.truth
+    Rattle.grammar.specs.Values.parseFloat Rattle.grammar.specs.Values.parseUint Rattle.grammar.specs.Values.parseFloatInParens
+    Rattle.grammar.specs.Values.commaFloat Rattle.grammar.specs.Values.twoFloats Rattle.grammar.specs.Values.parseTwoFloatsInParens
+    Rattle.grammar.specs.Values.parseUintInParens Rattle.grammar.specs.Values.arrayItem Rattle.grammar.specs.Values.arrayItems
+    Rattle.grammar.specs.Values.parseValue Rattle.grammar.specs.Values.number Rattle.grammar.specs.Values.count
+    Rattle.grammar.specs.Values.flag Rattle.grammar.specs.Values.value Rattle.grammar.specs.Values.f32Of
+    Rattle.grammar.specs.Values.commaFloats Rattle.grammar.specs.Values.fourFloats Rattle.grammar.specs.Values.bezierCurve
+    Rattle.grammar.specs.Values.roughFields Rattle.grammar.specs.Values.roughCurve Rattle.grammar.specs.Values.slowMoFields
+    Rattle.grammar.specs.Values.slowMoCurve Rattle.grammar.specs.Values.stepsCurve Rattle.grammar.specs.Values.wiggleCurve
+    Rattle.grammar.specs.Values.curves Rattle.grammar.specs.Values.variantEasing Rattle.grammar.specs.Values.namedEasing
+    Rattle.grammar.specs.Values.curveOr Rattle.grammar.specs.Values.parseEasing Rattle.grammar.specs.Values.timesMode
+    Rattle.grammar.specs.Values.pingPongMode Rattle.grammar.specs.Values.loopModes Rattle.grammar.specs.Values.parseLoopMode
+    Rattle.grammar.specs.Values.easing Rattle.grammar.specs.Values.loopMode Rattle.reading.specs.Reading.parse
+    Rattle.reading.specs.Reading.early Rattle.reading.specs.Reading.reading Rattle.colors.specs.Css.namesOf
+    Rattle.validate.specs.Checking.judged Rattle.validate.specs.Checking.isList Rattle.validate.specs.Checking.openingUnder
+    Rattle.validate.specs.Checking.checking Rattle.node_rules.specs.Rules.negative Rattle.node_rules.specs.Rules.notPositive
+    Rattle.node_rules.specs.Rules.outsideUnit Rattle.node_rules.specs.Rules.unknownEasing Rattle.node_rules.specs.Rules.first
+    Rattle.node_rules.specs.Rules.validateTween Rattle.node_rules.specs.Rules.validateSpring Rattle.node_rules.specs.Rules.validateFrames
+    Rattle.node_rules.specs.Rules.validateKeyframes Rattle.node_rules.specs.Rules.validatePath Rattle.node_rules.specs.Rules.validateMorph
+    Rattle.node_rules.specs.Rules.validateDraw Rattle.node_rules.specs.Rules.validateColor Rattle.node_rules.specs.Rules.validateWaveform
+    Rattle.node_rules.specs.Rules.validatePresetCall Rattle.node_rules.specs.Rules.validateLeaf Rattle.node_rules.specs.Rules.emptyGrid
+    Rattle.node_rules.specs.Rules.validateContainer Rattle.node_rules.specs.Rules.validateNodes Rattle.line.specs.Line.hex
+    Rattle.line.specs.Line.total Rattle.line.specs.Line.checkByte Rattle.line.specs.Line.line Rattle.line.specs.Lining.lining
+    Rattle.script.specs.Output.decimalOut Rattle.script.specs.Output.refusal Rattle.script.specs.Output.accept
+    Rattle.script.specs.Output.lines Rattle.script.specs.Output.output holds every table lib.Ieee.round lib.Ieee.div
+    lib.Ieee.toBits lib.Ieee.ofBits lib.Ieee.lt lib.Ieee.le lib.Ieee.sub
 lemma = tt

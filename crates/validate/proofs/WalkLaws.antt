@@ -1,4 +1,4 @@
--- The walk over nodes to the first refusal, under a list of colours. Assumes nothing.
+-- The walk over nodes to the first refusal, under a list of colours.
 use Prim.Native.Nat.{ℕ, suc, _+_, _-_, _≤_, _<_}
 use mathlib.Core.List.{List}
 use mathlib.Core.Option.{Option, none, some, Option·some-injective}
@@ -14,7 +14,7 @@ use Rattle.records.specs.declared.Kind.{Kind}
 use Rattle.records.specs.declared.Kind.the-variants as kind
 use Rattle.colors.specs.Css.{namesOf}
 use Rattle.error.specs.declared.Refusal.{Refusal}
-use Rattle.node_rules.specs.Rules.{validateLeaf, validateContainer, validateNodes}
+use Rattle.node_rules.specs.Rules.{validateContainer, validateNodes}
 use Rattle.places.specs.Stands.{Stands}
 use Rattle.places.proofs.StandLaws.{Opened, plain, boxed, front}
 use Rattle.validate.specs.Walks.{recordFault, Clean, Says, Onward, NodeWalk}

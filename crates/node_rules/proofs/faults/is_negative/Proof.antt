@@ -1,4 +1,4 @@
--- `node_rules::faults::is_negative` meets its contract: the literal is the nought of the definitions. Assumes nothing.
+-- `node_rules::faults::is_negative` meets its contract: the literal is the nought of the definitions.
 use Rattle.node_rules.proofs.TestLaws as tests
 use Rattle.node_rules.proofs.faults.is_negative.Statement.{statement}
 use Rattle.node_rules.proofs.faults.is_negative.Tie as tie

@@ -1,4 +1,4 @@
--- `node_rules::faults::is_outside_unit` meets its contract: the two tests in turn. Assumes nothing.
+-- `node_rules::faults::is_outside_unit` meets its contract: the two tests in turn.
 use Rattle.node_rules.proofs.TestLaws as tests
 use Rattle.node_rules.proofs.faults.is_outside_unit.Statement.{statement}
 use Rattle.node_rules.proofs.faults.is_outside_unit.Tie as tie

@@ -1,29 +1,8 @@
--- `node_rules::faults::is_unknown` meets its contract: only a name can be unknown. Assumes nothing.
+-- `node_rules::faults::is_unknown` meets its contract: only a name can be unknown.
 use borrow.Author.Needs.{needs}
 use Rattle.node_rules.proofs.TestLaws as tests
 use Rattle.node_rules.proofs.faults.is_unknown.Statement.{statement}
 use Rattle.node_rules.proofs.faults.is_unknown.Tie as tie
-
-enum-known-easing : tie.Need-enum-known-easing
-enum-known-easing c = search needs
-
-is-named-easing-requires : tie.Need-is-named-easing-requires
-is-named-easing-requires c κs = search needs
-
-enum-told : tie.Need-enum-told
-enum-told c = search needs
-
-enum-told-2 : tie.Need-enum-told-2
-enum-told-2 c = search needs
-
-enum-told-3 : tie.Need-enum-told-3
-enum-told-3 c = search needs
-
-enum-told-4 : tie.Need-enum-told-4
-enum-told-4 c = search needs
-
-enum-told-5 : tie.Need-enum-told-5
-enum-told-5 c = search needs
 
 returns : tie.Need-returns
 returns c = rw (c .before .before .easing .given .1, c .is-named-easing .ensures) (tests.easing-tells _ _)
@@ -45,18 +24,5 @@ returns-6 c = rw (c .enum-told5 .given .1) (tests.easing-tells _ _)
 
 pub is-unknown-spec : {M : Type 1} → statement M
 is-unknown-spec =
-    tie.close
-    (tie.spec
-    enum-known-easing
-    is-named-easing-requires
-    enum-told
-    enum-told-2
-    enum-told-3
-    enum-told-4
-    enum-told-5
-    returns
-    returns-2
-    returns-3
-    returns-4
-    returns-5
-    returns-6)
+    tie.close (tie.spec (λ c. search needs) (λ c κs. search needs) (λ c. search needs) (λ c. search needs) (λ c. search needs)
+    (λ c. search needs) (λ c. search needs) returns returns-2 returns-3 returns-4 returns-5 returns-6)

@@ -1,14 +1,8 @@
--- `node_rules::faults::rule` meets its contract: a fault so far stays; else the rule decides. Assumes nothing.
+-- `node_rules::faults::rule` meets its contract: a fault so far stays; else the rule decides.
 use borrow.Author.Needs.{needs}
 use Rattle.node_rules.proofs.RuleLaws as rules
 use Rattle.node_rules.proofs.faults.rule.Statement.{statement}
 use Rattle.node_rules.proofs.faults.rule.Tie as tie
-
-enum-told : tie.Need-enum-told
-enum-told c = search needs
-
-enum-told-2 : tie.Need-enum-told-2
-enum-told-2 c = search needs
 
 returns : tie.Need-returns
 returns c = rw (c .before .enum-told2 .given .1) (rules.broken _ _ (c .if1 .taken))
@@ -20,4 +14,4 @@ returns-3 : tie.Need-returns-3
 returns-3 c = rw (c .before .enum-told2 .given .1) (rules.held _ _ (c .if1 .left))
 
 pub rule-spec : {M : Type 1} → statement M
-rule-spec = tie.close (tie.spec enum-told enum-told-2 returns returns-2 returns-3)
+rule-spec = tie.close (tie.spec (λ c. search needs) (λ c. search needs) returns returns-2 returns-3)

@@ -1,18 +1,9 @@
--- `node_rules::faults::some_not_positive` meets its contract: absent, or the test of what is present. Assumes nothing.
+-- `node_rules::faults::some_not_positive` meets its contract: absent, or the test of what is present.
 use borrow.Author.Needs.{needs}
 use Rattle.node_rules.specs.Rules.{notPositive}
 use Rattle.node_rules.proofs.TestLaws as tests
 use Rattle.node_rules.proofs.faults.some_not_positive.Statement.{statement}
 use Rattle.node_rules.proofs.faults.some_not_positive.Tie as tie
-
-enum-told : tie.Need-enum-told
-enum-told c = search needs
-
-enum-known-x : tie.Need-enum-known-x
-enum-known-x c = search needs
-
-is-not-positive-requires : tie.Need-is-not-positive-requires
-is-not-positive-requires c κs = search needs
 
 returns : tie.Need-returns
 returns c = rw (c .enum-told .given .1) (tests.float-absent notPositive)
@@ -21,5 +12,4 @@ returns-2 : tie.Need-returns-2
 returns-2 c = rw (c .before .before .x .given .1) (tests.float-present notPositive (c .is-not-positive .ensures))
 
 pub some-not-positive-spec : {M : Type 1} → statement M
-some-not-positive-spec =
-    tie.close (tie.spec enum-told enum-known-x is-not-positive-requires returns returns-2)
+some-not-positive-spec = tie.close (tie.spec (λ c. search needs) (λ c. search needs) (λ c κs. search needs) returns returns-2)

@@ -1,4 +1,4 @@
--- `node_rules::rules::validate_color` meets its contract: rules in the order of the definition's list. Assumes nothing.
+-- `node_rules::rules::validate_color` meets its contract: rules in the order of the definition's list.
 use mathlib.Core.Path.{ap, refl, sym, _∙_}
 use mathlib.Core.Bool.{not}
 use borrow.Author.Needs.{needs}
@@ -10,27 +10,6 @@ use Rattle.node_rules.specs.Rules.{validateColor}
 use Rattle.node_rules.proofs.RuleLaws as rules
 use Rattle.node_rules.proofs.rules.validate_color.Statement.{statement}
 use Rattle.node_rules.proofs.rules.validate_color.Tie as tie
-
-is-negative-requires : tie.Need-is-negative-requires
-is-negative-requires c κs = search needs
-
-rule-requires : tie.Need-rule-requires
-rule-requires c κs = search needs
-
-is-color-requires : tie.Need-is-color-requires
-is-color-requires c κs = search needs
-
-rule-requires-2 : tie.Need-rule-requires-2
-rule-requires-2 c κs = search needs
-
-is-color-requires-2 : tie.Need-is-color-requires-2
-is-color-requires-2 c κs = search needs
-
-rule-requires-3 : tie.Need-rule-requires-3
-rule-requires-3 c κs = search needs
-
-validate-easing-requires : tie.Need-validate-easing-requires
-validate-easing-requires c κs = search needs
 
 returns : tie.Need-returns
 unfolding validateColor
@@ -57,13 +36,5 @@ returns c =
 
 pub validate-color-spec : {M : Type 1} → statement M
 validate-color-spec =
-    tie.close
-    (tie.spec
-    is-negative-requires
-    rule-requires
-    is-color-requires
-    rule-requires-2
-    is-color-requires-2
-    rule-requires-3
-    validate-easing-requires
-    returns)
+    tie.close (tie.spec (λ c κs. search needs) (λ c κs. search needs) (λ c κs. search needs) (λ c κs. search needs) (λ c κs. search needs)
+    (λ c κs. search needs) (λ c κs. search needs) returns)

@@ -1,4 +1,4 @@
--- `node_rules::rules::validate_draw` meets its contract: rules in the order of the definition's list. Assumes nothing.
+-- `node_rules::rules::validate_draw` meets its contract: rules in the order of the definition's list.
 use mathlib.Core.Path.{ap, refl}
 use borrow.Author.Needs.{needs}
 use Rattle.error.specs.declared.Refusal.the-variants.{OutOfRange, UnknownEasing}
@@ -6,15 +6,6 @@ use Rattle.node_rules.specs.Rules.{validateDraw}
 use Rattle.node_rules.proofs.RuleLaws as rules
 use Rattle.node_rules.proofs.rules.validate_draw.Statement.{statement}
 use Rattle.node_rules.proofs.rules.validate_draw.Tie as tie
-
-is-negative-requires : tie.Need-is-negative-requires
-is-negative-requires c κs = search needs
-
-rule-requires : tie.Need-rule-requires
-rule-requires c κs = search needs
-
-validate-easing-requires : tie.Need-validate-easing-requires
-validate-easing-requires c κs = search needs
 
 returns : tie.Need-returns
 unfolding validateDraw
@@ -26,5 +17,4 @@ returns c =
     rules.more _ UnknownEasing f1 refl (c .validate-easing .ensures (x .easing) (ap (λ v. v .easing) e))
 
 pub validate-draw-spec : {M : Type 1} → statement M
-validate-draw-spec =
-    tie.close (tie.spec is-negative-requires rule-requires validate-easing-requires returns)
+validate-draw-spec = tie.close (tie.spec (λ c κs. search needs) (λ c κs. search needs) (λ c κs. search needs) returns)

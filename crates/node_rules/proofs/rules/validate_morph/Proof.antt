@@ -1,4 +1,4 @@
--- `node_rules::rules::validate_morph` meets its contract: rules in the order of the definition's list. Assumes nothing.
+-- `node_rules::rules::validate_morph` meets its contract: rules in the order of the definition's list.
 use mathlib.Core.Path.{ap, refl, sym}
 use lib.Dec.{eqb}
 use borrow.Author.Needs.{needs}
@@ -7,18 +7,6 @@ use Rattle.node_rules.specs.Rules.{validateMorph}
 use Rattle.node_rules.proofs.RuleLaws as rules
 use Rattle.node_rules.proofs.rules.validate_morph.Statement.{statement}
 use Rattle.node_rules.proofs.rules.validate_morph.Tie as tie
-
-is-negative-requires : tie.Need-is-negative-requires
-is-negative-requires c κs = search needs
-
-rule-requires : tie.Need-rule-requires
-rule-requires c κs = search needs
-
-rule-requires-2 : tie.Need-rule-requires-2
-rule-requires-2 c κs = search needs
-
-validate-easing-requires : tie.Need-validate-easing-requires
-validate-easing-requires c κs = search needs
 
 returns : tie.Need-returns
 unfolding validateMorph
@@ -32,5 +20,4 @@ returns c =
 
 pub validate-morph-spec : {M : Type 1} → statement M
 validate-morph-spec =
-    tie.close
-    (tie.spec is-negative-requires rule-requires rule-requires-2 validate-easing-requires returns)
+    tie.close (tie.spec (λ c κs. search needs) (λ c κs. search needs) (λ c κs. search needs) (λ c κs. search needs) returns)

@@ -1,4 +1,4 @@
--- `node_rules::rules::validate_path` meets its contract: rules in the order of the definition's list. Assumes nothing.
+-- `node_rules::rules::validate_path` meets its contract: rules in the order of the definition's list.
 use mathlib.Core.Path.{ap, refl}
 use borrow.Author.Needs.{needs}
 use Rattle.error.specs.declared.Refusal.the-variants.{OutOfRange, UnknownEasing}
@@ -6,21 +6,6 @@ use Rattle.node_rules.specs.Rules.{validatePath}
 use Rattle.node_rules.proofs.RuleLaws as rules
 use Rattle.node_rules.proofs.rules.validate_path.Statement.{statement}
 use Rattle.node_rules.proofs.rules.validate_path.Tie as tie
-
-is-negative-requires : tie.Need-is-negative-requires
-is-negative-requires c κs = search needs
-
-rule-requires : tie.Need-rule-requires
-rule-requires c κs = search needs
-
-validate-easing-requires : tie.Need-validate-easing-requires
-validate-easing-requires c κs = search needs
-
-some-outside-unit-requires : tie.Need-some-outside-unit-requires
-some-outside-unit-requires c κs = search needs
-
-rule-requires-2 : tie.Need-rule-requires-2
-rule-requires-2 c κs = search needs
 
 returns : tie.Need-returns
 unfolding validatePath
@@ -35,11 +20,5 @@ returns c =
 
 pub validate-path-spec : {M : Type 1} → statement M
 validate-path-spec =
-    tie.close
-    (tie.spec
-    is-negative-requires
-    rule-requires
-    validate-easing-requires
-    some-outside-unit-requires
-    rule-requires-2
+    tie.close (tie.spec (λ c κs. search needs) (λ c κs. search needs) (λ c κs. search needs) (λ c κs. search needs) (λ c κs. search needs)
     returns)

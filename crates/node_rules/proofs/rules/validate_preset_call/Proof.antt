@@ -1,4 +1,4 @@
--- `node_rules::rules::validate_preset_call` meets its contract: rules in the order of the definition's list. Assumes nothing.
+-- `node_rules::rules::validate_preset_call` meets its contract: rules in the order of the definition's list.
 use mathlib.Core.Path.{ap, refl, sym, _∙_}
 use mathlib.Core.Bool.{not}
 use borrow.Author.Needs.{needs}
@@ -9,21 +9,6 @@ use Rattle.node_rules.specs.Rules.{validatePresetCall}
 use Rattle.node_rules.proofs.RuleLaws as rules
 use Rattle.node_rules.proofs.rules.validate_preset_call.Statement.{statement}
 use Rattle.node_rules.proofs.rules.validate_preset_call.Tie as tie
-
-is-known-preset-requires : tie.Need-is-known-preset-requires
-is-known-preset-requires c κs = search needs
-
-rule-requires : tie.Need-rule-requires
-rule-requires c κs = search needs
-
-validate-easing-requires : tie.Need-validate-easing-requires
-validate-easing-requires c κs = search needs
-
-some-negative-requires : tie.Need-some-negative-requires
-some-negative-requires c κs = search needs
-
-rule-requires-2 : tie.Need-rule-requires-2
-rule-requires-2 c κs = search needs
 
 returns : tie.Need-returns
 unfolding validatePresetCall
@@ -43,11 +28,5 @@ returns c =
 
 pub validate-preset-call-spec : {M : Type 1} → statement M
 validate-preset-call-spec =
-    tie.close
-    (tie.spec
-    is-known-preset-requires
-    rule-requires
-    validate-easing-requires
-    some-negative-requires
-    rule-requires-2
+    tie.close (tie.spec (λ c κs. search needs) (λ c κs. search needs) (λ c κs. search needs) (λ c κs. search needs) (λ c κs. search needs)
     returns)

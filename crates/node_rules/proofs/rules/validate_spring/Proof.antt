@@ -1,4 +1,4 @@
--- `node_rules::rules::validate_spring` meets its contract: rules in the order of the definition's list. Assumes nothing.
+-- `node_rules::rules::validate_spring` meets its contract: rules in the order of the definition's list.
 use mathlib.Core.Path.{ap}
 use borrow.Author.Needs.{needs}
 use Rattle.error.specs.declared.Refusal.the-variants.{OutOfRange, ValueTypeMismatch}
@@ -6,30 +6,6 @@ use Rattle.node_rules.specs.Rules.{validateSpring}
 use Rattle.node_rules.proofs.RuleLaws as rules
 use Rattle.node_rules.proofs.rules.validate_spring.Statement.{statement}
 use Rattle.node_rules.proofs.rules.validate_spring.Tie as tie
-
-is-mismatched-requires : tie.Need-is-mismatched-requires
-is-mismatched-requires c κs = search needs
-
-rule-requires : tie.Need-rule-requires
-rule-requires c κs = search needs
-
-some-negative-requires : tie.Need-some-negative-requires
-some-negative-requires c κs = search needs
-
-rule-requires-2 : tie.Need-rule-requires-2
-rule-requires-2 c κs = search needs
-
-some-not-positive-requires : tie.Need-some-not-positive-requires
-some-not-positive-requires c κs = search needs
-
-rule-requires-3 : tie.Need-rule-requires-3
-rule-requires-3 c κs = search needs
-
-some-not-positive-requires-2 : tie.Need-some-not-positive-requires-2
-some-not-positive-requires-2 c κs = search needs
-
-rule-requires-4 : tie.Need-rule-requires-4
-rule-requires-4 c κs = search needs
 
 returns : tie.Need-returns
 unfolding validateSpring
@@ -54,14 +30,5 @@ returns c =
 
 pub validate-spring-spec : {M : Type 1} → statement M
 validate-spring-spec =
-    tie.close
-    (tie.spec
-    is-mismatched-requires
-    rule-requires
-    some-negative-requires
-    rule-requires-2
-    some-not-positive-requires
-    rule-requires-3
-    some-not-positive-requires-2
-    rule-requires-4
-    returns)
+    tie.close (tie.spec (λ c κs. search needs) (λ c κs. search needs) (λ c κs. search needs) (λ c κs. search needs) (λ c κs. search needs)
+    (λ c κs. search needs) (λ c κs. search needs) (λ c κs. search needs) returns)

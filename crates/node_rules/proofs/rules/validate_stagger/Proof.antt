@@ -1,4 +1,4 @@
--- `node_rules::rules::validate_stagger` meets its contract: one rule. Assumes nothing.
+-- `node_rules::rules::validate_stagger` meets its contract: one rule.
 use mathlib.Core.Path.{ap}
 use borrow.Author.Needs.{needs}
 use Rattle.error.specs.declared.Refusal.the-variants.{OutOfRange}
@@ -7,15 +7,9 @@ use Rattle.node_rules.proofs.RuleLaws as rules
 use Rattle.node_rules.proofs.rules.validate_stagger.Statement.{statement}
 use Rattle.node_rules.proofs.rules.validate_stagger.Tie as tie
 
-some-empty-grid-requires : tie.Need-some-empty-grid-requires
-some-empty-grid-requires c κs = search needs
-
-rule-requires : tie.Need-rule-requires
-rule-requires c κs = search needs
-
 returns : tie.Need-returns
 unfolding validateContainer
 returns c = λ p d n e. rules.one OutOfRange (c .before .some-empty-grid .ensures p (ap (λ v. v .pattern) e)) (c .rule .ensures)
 
 pub validate-stagger-spec : {M : Type 1} → statement M
-validate-stagger-spec = tie.close (tie.spec some-empty-grid-requires rule-requires returns)
+validate-stagger-spec = tie.close (tie.spec (λ c κs. search needs) (λ c κs. search needs) returns)

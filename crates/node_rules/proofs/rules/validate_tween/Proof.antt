@@ -1,4 +1,4 @@
--- `node_rules::rules::validate_tween` meets its contract: rules in the order of the definition's list. Assumes nothing.
+-- `node_rules::rules::validate_tween` meets its contract: rules in the order of the definition's list.
 use mathlib.Core.Path.{ap, refl}
 use borrow.Author.Needs.{needs}
 use Rattle.error.specs.declared.Refusal.the-variants.{OutOfRange, ValueTypeMismatch, UnknownEasing}
@@ -6,33 +6,6 @@ use Rattle.node_rules.specs.Rules.{validateTween}
 use Rattle.node_rules.proofs.RuleLaws as rules
 use Rattle.node_rules.proofs.rules.validate_tween.Statement.{statement}
 use Rattle.node_rules.proofs.rules.validate_tween.Tie as tie
-
-is-negative-requires : tie.Need-is-negative-requires
-is-negative-requires c κs = search needs
-
-rule-requires : tie.Need-rule-requires
-rule-requires c κs = search needs
-
-is-mismatched-requires : tie.Need-is-mismatched-requires
-is-mismatched-requires c κs = search needs
-
-rule-requires-2 : tie.Need-rule-requires-2
-rule-requires-2 c κs = search needs
-
-validate-easing-requires : tie.Need-validate-easing-requires
-validate-easing-requires c κs = search needs
-
-some-negative-requires : tie.Need-some-negative-requires
-some-negative-requires c κs = search needs
-
-rule-requires-3 : tie.Need-rule-requires-3
-rule-requires-3 c κs = search needs
-
-some-negative-requires-2 : tie.Need-some-negative-requires-2
-some-negative-requires-2 c κs = search needs
-
-rule-requires-4 : tie.Need-rule-requires-4
-rule-requires-4 c κs = search needs
 
 returns : tie.Need-returns
 unfolding validateTween
@@ -57,15 +30,5 @@ returns c =
 
 pub validate-tween-spec : {M : Type 1} → statement M
 validate-tween-spec =
-    tie.close
-    (tie.spec
-    is-negative-requires
-    rule-requires
-    is-mismatched-requires
-    rule-requires-2
-    validate-easing-requires
-    some-negative-requires
-    rule-requires-3
-    some-negative-requires-2
-    rule-requires-4
-    returns)
+    tie.close (tie.spec (λ c κs. search needs) (λ c κs. search needs) (λ c κs. search needs) (λ c κs. search needs) (λ c κs. search needs)
+    (λ c κs. search needs) (λ c κs. search needs) (λ c κs. search needs) (λ c κs. search needs) returns)

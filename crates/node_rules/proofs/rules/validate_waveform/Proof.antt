@@ -1,4 +1,4 @@
--- `node_rules::rules::validate_waveform` meets its contract: rules in the order of the definition's list. Assumes nothing.
+-- `node_rules::rules::validate_waveform` meets its contract: rules in the order of the definition's list.
 use mathlib.Core.Path.{ap, sym}
 use lib.Dec.{eqb}
 use borrow.Author.Needs.{needs}
@@ -7,15 +7,6 @@ use Rattle.node_rules.specs.Rules.{validateWaveform}
 use Rattle.node_rules.proofs.RuleLaws as rules
 use Rattle.node_rules.proofs.rules.validate_waveform.Statement.{statement}
 use Rattle.node_rules.proofs.rules.validate_waveform.Tie as tie
-
-some-negative-requires : tie.Need-some-negative-requires
-some-negative-requires c κs = search needs
-
-rule-requires : tie.Need-rule-requires
-rule-requires c κs = search needs
-
-rule-requires-2 : tie.Need-rule-requires-2
-rule-requires-2 c κs = search needs
 
 returns : tie.Need-returns
 unfolding validateWaveform
@@ -27,4 +18,4 @@ returns c =
     rules.more _ OutOfRange f1 negative (c .rule2 .ensures)
 
 pub validate-waveform-spec : {M : Type 1} → statement M
-validate-waveform-spec = tie.close (tie.spec some-negative-requires rule-requires rule-requires-2 returns)
+validate-waveform-spec = tie.close (tie.spec (λ c κs. search needs) (λ c κs. search needs) (λ c κs. search needs) returns)
