@@ -1,7 +1,7 @@
 -- 02 (f): "a number has no suffix and the fewest digits that read to it, the smallest in size of these".
 -- A number without sign is so many of 10 ^ -40, here called parts. The searches are never computed: proofs/FewestLaws.antt says what they
 -- find.
-use Prim.Native.Nat.{ℕ, zero, suc, _+_, _/_, _%_, _^_}
+use Prim.Native.Nat.{ℕ, zero, suc, _+_, _-_, _/_, _%_, _^_}
 use mathlib.Core.Bool.{Bool, true, false, _&&_, cond}
 use mathlib.Core.List.{List, [], _∷_, _++_}
 use mathlib.Core.Option.{Option, none, some}
@@ -45,7 +45,7 @@ trimmed (suc p) n = cond {A = ℕ × ℕ} (eqb (n % 10) 0) (trimmed p (n / 10)) 
 
 -- n over 10 ^ p
 abbrev pub spelled : ℕ × ℕ → List ℕ × List ℕ
-spelled d = (wholeDigits 39 (d .0 / 10 ^ d .1), lastDigits (d .1) (d .0))
+spelled d = (wholeDigits (wholeLimit - 1) (d .0 / 10 ^ d .1), lastDigits (d .1) (d .0))
 
 -- ---- m parts
 
@@ -71,7 +71,7 @@ smallest b c = leastBelow (λ m. eqb (count m) c && reads b m) limit
 
 -- "the fewest digits that read to it", at most 80
 unfoldable pub fewestDigits : ℕ → Option ℕ
-fewestDigits b = leastBelow (λ c. isSome (smallest b c)) 81
+fewestDigits b = leastBelow (λ c. isSome (smallest b c)) (suc (wholeLimit + placesLimit))
 
 abbrev pub then : Option ℕ → (ℕ → Option ℕ) → Option ℕ
 then none f = none
@@ -92,5 +92,5 @@ each (some n) f = f n
 
 unfoldable pub form : Sort → ℕ → List ℕ × List ℕ
 form float b = each (fewest b) numeral
-form percentage b = each (leastPercent b) (λ n. (wholeDigits 39 n, []))
-form counted n = (wholeDigits 39 n, [])
+form percentage b = each (leastPercent b) (λ n. (wholeDigits (wholeLimit - 1) n, []))
+form counted n = (wholeDigits (wholeLimit - 1) n, [])

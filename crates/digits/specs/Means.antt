@@ -7,6 +7,7 @@ use Rattle.limbs.specs.Limbs.{upTo}
 use mathlib.Core.Path.{_≡_}
 use lib.Ieee.{binary32, round}
 use lib.ListN.{length}
+use Rattle.text.specs.Limits.{wholeLimit}
 use Rattle.number.specs.Number.{bits, percent}
 use Rattle.digits.specs.Fewest.{wholeDigits}
 use Rattle.digits.specs.declared.Middle.{Middle}
@@ -79,7 +80,7 @@ pub record FirstAt (b d r : ℕ) : Type 0 where
 -- ---- how many digits n over 10 ^ p is written with
 
 unfoldable pub long : ℕ → ℕ → ℕ
-long n p = length (wholeDigits 39 (n / 10 ^ p)) + p
+long n p = length (wholeDigits (wholeLimit - 1) (n / 10 ^ p)) + p
 
 -- c is the least number above p such that n has c digits
 pub record Wide (n p c limit : ℕ) : Type 0 where
@@ -93,7 +94,7 @@ pub record Wide (n p c limit : ℕ) : Type 0 where
 -- v over 10 ^ j reads to b, and can be written
 pub record Candidate (b v j : ℕ) : Type 0 where
   pub reads : bitsOf v (10 ^ j) ≡ b
-  pub below : v / 10 ^ j < 10 ^ 40
+  pub below : v / 10 ^ j < 10 ^ wholeLimit
 
 -- n over 10 ^ p has the fewest digits, c, of those with fewer than `places` places, and is the smallest of these
 pub record Leads (b places n p c : ℕ) : Type 0 where
@@ -202,6 +203,6 @@ pub record FirstFloat (b r : ℕ) : Type 0 where
 
 -- r is the least number whose percent has the bits b or more, or 10 ^ 40 where no smaller one has
 pub record FirstPercent (b r : ℕ) : Type 0 where
-  pub top : r ≤ 10 ^ 40
+  pub top : r ≤ 10 ^ wholeLimit
   pub before : (n : ℕ) → n < r → percentBits n < b
-  pub reached : r < 10 ^ 40 → b ≤ percentBits r
+  pub reached : r < 10 ^ wholeLimit → b ≤ percentBits r

@@ -8,7 +8,6 @@ use mathlib.Core.Option.{Option, none, some}
 use lib.Dec.{ltb, eqb}
 use lib.ListN.{length}
 use lib.Ieee.{Float, lt, le}
-use Rattle.text.specs.Bytes.{part}
 use Rattle.text.specs.Words.{orElse}
 use Rattle.number.specs.Number.{f32}
 use Rattle.number.specs.Time.{anyNear}
@@ -16,7 +15,8 @@ use Rattle.easing.specs.Names.{isEasing}
 use Rattle.presets.specs.Colors.{isColor}
 use Rattle.presets.specs.Presets.{isPreset}
 use Rattle.ast.specs.Tree.{
-  Span,
+  noise,
+  spanBytes,
   ValueExpr,
   componentCount,
   EasingSpec,
@@ -95,13 +95,9 @@ abbrev pub given : {A : Type 0} → (A → Bool) → Option A → Bool
 given test none = false
 given test (some a) = test a
 
--- the bytes of a name or a string
-abbrev pub spelled : List ℕ → Span → List ℕ
-spelled t s = part t (s .start) (s .size)
-
 -- validate_easing
 unfoldable pub unknownEasing : List ℕ → EasingSpec → Bool
-unknownEasing t (named variant s) = not (isEasing variant (spelled t s))
+unknownEasing t (named variant s) = not (isEasing variant (spanBytes t s))
 unknownEasing t (cubicBezier a b c d) = false
 unknownEasing t (steps n) = false
 unknownEasing t (wiggle n) = false
@@ -165,17 +161,17 @@ validateDraw t x = first ((negative (x .duration), OutOfRange) ∷ (given (unkno
 -- validate_color
 unfoldable pub validateColor : List String → List ℕ → ColorSpec → Option Refusal
 validateColor names t x = first (
-    (negative (x .duration), OutOfRange) ∷ (not (isColor names (spelled t (x .from))), InvalidColor)
-    ∷ (not (isColor names (spelled t (x .to))), InvalidColor) ∷ (given (unknownEasing t) (x .easing), UnknownEasing) ∷ [])
+    (negative (x .duration), OutOfRange) ∷ (not (isColor names (spanBytes t (x .from))), InvalidColor)
+    ∷ (not (isColor names (spanBytes t (x .to))), InvalidColor) ∷ (given (unknownEasing t) (x .easing), UnknownEasing) ∷ [])
 
 -- validate_waveform; 02 (h): "checking names them as retired", "28 in checking, at that node, before its frequency rule"
 unfoldable pub validateWaveform : WaveformSpec → Option Refusal
-validateWaveform x = first ((eqb (x .kind) 4, NoiseHeld) ∷ (given negative (x .frequency), OutOfRange) ∷ [])
+validateWaveform x = first ((eqb (x .kind) noise, NoiseHeld) ∷ (given negative (x .frequency), OutOfRange) ∷ [])
 
 -- validate_preset_call
 unfoldable pub validatePresetCall : List ℕ → PresetCall → Option Refusal
 validatePresetCall t x = first (
-    (not (isPreset (spelled t (x .name))), UnknownPreset) ∷ (given (unknownEasing t) (x .easing), UnknownEasing)
+    (not (isPreset (spanBytes t (x .name))), UnknownPreset) ∷ (given (unknownEasing t) (x .easing), UnknownEasing)
     ∷ (given negative (x .duration), OutOfRange) ∷ [])
 
 -- validate_node, at a node that holds no others

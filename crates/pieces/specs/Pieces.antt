@@ -82,7 +82,7 @@ wordLike (b ∷ bs) = isLetter b && all isName bs
 abbrev pub nameLike : List ℕ → Bool
 nameLike w = wordLike w && not (isKeyword w)
 
--- the words that begin an easing with parentheses: none of them is an easing's name
+-- the words of the grammar's `curves`, which begin an easing with parentheses: none is an easing's name (`no-curve` in `fresh`)
 abbrev pub curveNames : List String
 curveNames = "cubic_bezier" ∷ "steps" ∷ "wiggle" ∷ "rough" ∷ "slowmo" ∷ []
 

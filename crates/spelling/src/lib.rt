@@ -3,10 +3,11 @@
 ghost use mathlib.Core.Path.{_≡_};
 ghost use mathlib.Core.Bool.{true, cond, not, _&&_};
 ghost use mathlib.Core.List.{List, [], _∷_};
-ghost use Prim.Native.Nat.{ℕ, suc, _+_, _/_, _<_, _^_};
+ghost use Prim.Native.Nat.{ℕ, suc, _+_, _-_, _/_, _<_, _^_};
 ghost use lib.Dec.{leb};
 ghost use lib.ListN.{length};
 ghost use lib.Seq.{sets};
+ghost use Rattle.text.specs.Limits.{wholeLimit};
 ghost use Rattle.text.specs.Means.{passes};
 ghost use Rattle.text.specs.Words.{isOneOf};
 ghost use Rattle.digits.specs.Numeral.{float, percentage, counted, all, fraction};
@@ -240,7 +241,7 @@ fn put_fraction(pen: Pen, out: &mut [u8], places: usize, n: u64) -> Pen
 // A whole number of up to 39 digits.
 fn put_large(pen: Pen, out: &mut [u8], d: Decimal) -> Pen
     requires { ⌜ Large d ⌝ }
-    ensures { λ r. ⌜ pageOf (now (out .exit)) r ≡ putOn (wholeDigits 39 (wholeNumber d)) (pageOf (now (out .entry)) pen) ⌝ }
+    ensures { λ r. ⌜ pageOf (now (out .exit)) r ≡ putOn (wholeDigits (wholeLimit - 1) (wholeNumber d)) (pageOf (now (out .entry)) pen) ⌝ }
 {
     if d.high == 0 {
         let p = put_whole(pen, out, d.middle);
@@ -254,7 +255,7 @@ fn put_large(pen: Pen, out: &mut [u8], d: Decimal) -> Pen
 // The digits before the point: with more than 9 places a zero.
 fn put_front(pen: Pen, out: &mut [u8], d: Decimal) -> Pen
     requires { ⌜ Neat d × Below d ⌝ }
-    ensures { λ r. ⌜ pageOf (now (out .exit)) r ≡ putOn (wholeDigits 39 (wholeNumber d / 10 ^ d .places)) (pageOf (now (out .entry)) pen) ⌝ }
+    ensures { λ r. ⌜ pageOf (now (out .exit)) r ≡ putOn (wholeDigits (wholeLimit - 1) (wholeNumber d / 10 ^ d .places)) (pageOf (now (out .entry)) pen) ⌝ }
 {
     if 9 < d.places {
         return put_whole(pen, out, 0);

@@ -3,16 +3,15 @@ use Prim.Native.Nat.{ℕ}
 use mathlib.Core.Bool.{Bool, cond, _||_}
 use mathlib.Core.List.{List}
 use mathlib.Core.Option.{Option, none, some}
-use lib.Dec.{ltb, eqb}
+use lib.Dec.{eqb}
 use lib.ListN.{length}
-use Rattle.text.specs.Limits.{textLimit}
 use Rattle.ast.specs.Tree.{Nodes, KeyframeTime}
 use Rattle.sheet.specs.Sheet.{decode}
-use Rattle.sheet.specs.Opening.{Opened, opened, shut, foreignFrom, unlessForeign, decoded}
+use Rattle.sheet.specs.Opening.{Opened, opened, shut, decoded, afterText}
 use Rattle.colors.specs.Css.{namesOf}
 use Rattle.node_rules.specs.Rules.{validateNodes}
 use Rattle.error.specs.declared.Refusal.{Refusal}
-use Rattle.error.specs.declared.Refusal.the-variants.{TextTooLong, UnknownList}
+use Rattle.error.specs.declared.Refusal.the-variants.{UnknownList}
 use Rattle.error.specs.declared.CheckAnswer.{CheckAnswer}
 use Rattle.error.specs.declared.CheckAnswer.the-variants.{Accepted, Refused}
 
@@ -38,15 +37,7 @@ unlessUnknown list o = cond (isList list) o (shut UnknownList 0)
 
 -- "1, 2 .., 20 for the whole sheet", and 36 "after 1 and 2"
 unfoldable pub openingUnder : ℕ → List ℕ → List ℕ → Opened
-openingUnder list t sheet =
-    -- 1: the text is too long
-    cond (ltb textLimit (length t)) (shut TextTooLong 0)
-    -- 2: a byte that no script holds
-    (unlessForeign (foreignFrom 0 t)
-    -- 36: the list
-    (unlessUnknown list
-    -- 20: the sheet
-    (decoded (decode (length t) sheet))))
+openingUnder list t sheet = afterText t (unlessUnknown list (decoded (decode (length t) sheet)))
 
 -- "In checking: 1, 2 .., 20 for the whole sheet, then nodes in preorder"
 unfoldable pub checking : ℕ → List ℕ → List ℕ → CheckAnswer
