@@ -1,6 +1,6 @@
 #!/bin/sh
-# Builds the library, tests both of its bindings and runs the examples of docs/LANGUAGE.md. Needs rt, cargo, a C compiler and Python 3; no
-# packages.
+# Builds the library, tests both of its bindings and the program shelfstrip, and runs the examples of docs/LANGUAGE.md. Needs rt, cargo, a
+# C compiler and Python 3; no packages, but shelfstrip is tested only where its libraries are there.
 set -eu
 # cargo's own folder, where the search path leaves it out
 PATH=$PATH:${CARGO_HOME:-${HOME:-/root}/.cargo}/bin
@@ -85,3 +85,9 @@ for arguments in 'lines' 'lookup' 'back back' 'wave 0'; do
 done
 python3 tools/language.py "$out/example"
 echo "C example: 4 passed, each in two ways, 4 fed, 2 counts of rounded numbers, 5 colours, a short scratch, 7 written back, 4 looked up, 3 listed, 2 planed and back, 5 drawn, and 4 that are no mode"
+# shelfstrip, where its libraries are there
+if reason=$(bindings/shelfstrip/crates.sh target/shelfstrip); then
+    bindings/shelfstrip/test.sh
+else
+    echo "shelfstrip: not tested, $reason"
+fi
