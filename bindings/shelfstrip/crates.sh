@@ -27,7 +27,7 @@ while read -r name version checksum; do
 done < "$out/list.new"
 
 if [ ! -d "$out/crates" ] || ! cmp -s "$out/list.new" "$out/list"; then
-    rm -rf "$out/crates"
+    rm -rf "$out/crates" "$out/list"
     mkdir "$out/crates"
     while read -r name version checksum; do
         cp -rL "$debian/$name-$version" "$out/crates/"

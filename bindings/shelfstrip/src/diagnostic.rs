@@ -53,9 +53,11 @@ pub fn show(name: &str, text: &[u8], refused: &Refused, place: Option<Place>) {
     match &line {
         Some((place, line)) => {
             let label = Label::primary((), line.mark.clone());
-            diagnostic = diagnostic.with_labels(vec![match place.record {
-                Some(record) => label.with_message(format!("record {record}")),
-                None => label,
+            diagnostic = diagnostic.with_labels(vec![match (place.record, refusal.number()) {
+                (Some(record), _) => label.with_message(format!("record {record}")),
+                // their place is behind the word, the field or the node that is refused
+                (None, 7 | 9..=11 | 15) => label.with_message("what is refused stands before this"),
+                (None, _) => label,
             }]);
         }
         None => diagnostic = diagnostic.with_notes(vec![name.to_string()]),

@@ -43,11 +43,23 @@ class Figures(HTMLParser):
             self.table[-1][-1] += data.rstrip("\n")
 
 
-def chromium(browser, folder, option):
-    """Runs the browser on the page with an option: what it prints."""
-    fixed = ["--headless", "--no-sandbox", "--disable-gpu", "--hide-scrollbars", "--force-device-scale-factor=1", "--window-size=800,1300"]
-    command = [browser, *fixed, f"--user-data-dir={folder}", option, f"file://{FOLDER}/page.html"]
-    return subprocess.run(command, check=True, stdout=subprocess.PIPE, stderr=subprocess.DEVNULL, timeout=120).stdout.decode()
+# One picture on every machine, nothing fetched, and no shared memory, which a container may lack.
+FIXED = ["--headless", "--no-sandbox", "--disable-gpu", "--disable-dev-shm-usage", "--hide-scrollbars", "--force-device-scale-factor=1"]
+FIXED += ["--force-color-profile=srgb", "--window-size=800,1300", "--no-first-run", "--disable-background-networking"]
+FIXED += ["--disable-component-update", "--disable-sync", "--disable-extensions"]
+
+
+def chromium(browser, room, *arguments):
+    """Runs the browser, a second time if the first fails: what it prints, or None."""
+    for attempt in range(2):
+        command = [browser, *FIXED, f"--user-data-dir={room}/browser-{attempt}", "--dump-dom", *arguments]
+        try:
+            ran = subprocess.run(command, stdout=subprocess.PIPE, stderr=subprocess.DEVNULL, timeout=120)
+        except subprocess.TimeoutExpired:
+            continue
+        if ran.returncode == 0 and ran.stdout:
+            return ran.stdout.decode()
+    return None
 
 
 def mean(fraction):
@@ -118,12 +130,19 @@ def main():
         subprocess.run([*arguments, "--html", f"{FOLDER}/page.html"], cwd=room, stderr=subprocess.DEVNULL)
         told = subprocess.run([*arguments, "--json"], cwd=room, stdout=subprocess.PIPE, stderr=subprocess.DEVNULL)
         assert told.returncode == 2
+        for name in ("page.png", "page.pdf"):
+            if os.path.exists(f"{FOLDER}/{name}"):
+                os.remove(f"{FOLDER}/{name}")
+        drawings = [f"--screenshot={FOLDER}/page.png", f"--print-to-pdf={FOLDER}/page.pdf"]
+        told_page = chromium(browser, room, *drawings, f"file://{FOLDER}/page.html")
+        if told_page is None and chromium(browser, room, "about:blank") is None:
+            print("shelfstrip's page: not drawn, Chromium does not run here")
+            return
+        assert told_page is not None, "Chromium does not draw the page"
         page = Figures()
-        page.feed(chromium(browser, f"{room}/browser", "--dump-dom"))
+        page.feed(told_page)
         compare_figures(page, json.loads(told.stdout))
-        chromium(browser, f"{room}/browser", f"--screenshot={FOLDER}/page.png")
         bars = compare_bars(png.read(f"{FOLDER}/page.png"), page)
-        chromium(browser, f"{room}/browser", f"--print-to-pdf={FOLDER}/page.pdf")
     with open(f"{FOLDER}/page.pdf", "rb") as file:
         assert file.read(5) == b"%PDF-"
     print(f"shelfstrip's page in Chromium: {len(page.figures)} figures, {len(page.tables)} tables and {bars} bars compared")

@@ -49,10 +49,15 @@ fn mean(mean: Option<Fraction>) -> String {
     }
 }
 
+/// The head of a table, which stands on each page in print.
+fn head(cells: &str) -> String {
+    format!("<thead>\n<tr>{cells}</tr>\n</thead>\n")
+}
+
 /// A table of figures with bars, the longest for the largest figure.
 fn bars(id: &str, what: &str, rows: &[(String, u32)]) -> String {
     let largest = rows.iter().map(|row| row.1).max().unwrap_or(0).max(1);
-    let mut table = format!("<table id=\"{id}\">\n<tr><th>{what}</th><th class=\"figure\">Count</th><th></th></tr>\n");
+    let mut table = format!("<table id=\"{id}\">\n{}", head(&format!("<th>{what}</th><th class=\"figure\">Count</th><th></th>")));
     for (name, figure) in rows {
         let bar = match figure {
             0 => String::new(),
@@ -95,7 +100,7 @@ fn refused_scripts(page: &Page) -> String {
             refusal.name()
         )
     };
-    let head = "<tr><th>File</th><th class=\"figure\">Line:column</th><th>Cause</th></tr>\n";
+    let head = head("<th>File</th><th class=\"figure\">Line:column</th><th>Cause</th>");
     let rows: String = page.refused.iter().map(row).collect();
     format!("<h2>Refused scripts</h2>\n<table id=\"refused-scripts\">\n{head}{rows}</table>\n")
 }
@@ -106,7 +111,8 @@ fn uncounted(page: &Page) -> String {
     }
     let row = |(name, reason): (String, String)| format!("<tr><td class=\"file\">{name}</td><td>{reason}</td></tr>\n");
     let rows: String = page.uncounted.iter().map(|each| row((escaped(&each.name), escaped(&each.reason)))).collect();
-    format!("<h2>Files not counted</h2>\n<table id=\"not-counted\">\n<tr><th>File</th><th>Reason</th></tr>\n{rows}</table>\n")
+    let head = head("<th>File</th><th>Reason</th>");
+    format!("<h2>Files not counted</h2>\n<table id=\"not-counted\">\n{head}{rows}</table>\n")
 }
 
 /// A text with the characters escaped that HTML gives a meaning.

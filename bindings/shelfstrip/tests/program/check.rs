@@ -11,7 +11,7 @@ fn shows_a_record_by_its_keyword() {
     let room = Room::new();
     let ran = room.file("a.strip", "at 1;\n  preset fadein").run(["check", "a.strip"]);
     let wanted = "\
-error[24]: UnknownPreset: a preset's name is none
+error[24]: UnknownPreset: an unknown preset
   --> a.strip:2:3
   |
 2 |   preset fadein
@@ -111,7 +111,8 @@ fn shows_every_refusal_of_reading_at_its_place() {
         // the mark is under the place; of what is before it, 60 bytes are shown
         let shown = if place > 60 { "...".len() + 60 } else { place };
         let marked = ran.err.lines().nth(4).unwrap();
-        assert_eq!(marked, format!("  | {}^", " ".repeat(shown)), "{}", ran.err);
+        let told = if matches!(number, 7 | 9..=11 | 15) { " what is refused stands before this" } else { "" };
+        assert_eq!(marked, format!("  | {}^{told}", " ".repeat(shown)), "{}", ran.err);
     }
 }
 

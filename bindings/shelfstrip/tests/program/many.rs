@@ -14,18 +14,23 @@ fn folder() -> (Room, Vec<String>) {
     (room, names)
 }
 
+/// One folder for all three, since making it takes time.
 #[test]
-fn checks_all() {
+fn all_are_checked_counted_and_written_afresh() {
     let (room, names) = folder();
+    checks_all(&room, &names);
+    the_page_tells_what_it_does_not_count(&room, &names);
+    writes_all_afresh(&room, &names);
+}
+
+fn checks_all(room: &Room, names: &[String]) {
     let ran = room.run(["check"].into_iter().chain(names.iter().map(String::as_str)));
     assert_eq!((ran.status, ran.err.matches("error[24]").count()), (1, 5));
     // standard error is no terminal here, and there is no bar on it
     assert!(!ran.err.contains('\r') && !ran.err.contains(" of 4097"), "{}", ran.err);
 }
 
-#[test]
-fn the_page_tells_what_it_does_not_count() {
-    let (room, names) = folder();
+fn the_page_tells_what_it_does_not_count(room: &Room, names: &[String]) {
     let ran = room.run(["morning", "--json"].into_iter().chain(names.iter().map(String::as_str)));
     let page: serde_json::Value = serde_json::from_str(&ran.out).unwrap();
     assert_eq!((ran.status, &page["scripts"], &page["accepted"]), (1, &4_096.into(), &4_091.into()));
@@ -34,9 +39,7 @@ fn the_page_tells_what_it_does_not_count() {
     assert!(ran.err.starts_with("shelfstrip: not counted: 4096.strip: 33 TooManyScripts: "), "{}", ran.err);
 }
 
-#[test]
-fn writes_all_afresh() {
-    let (room, names) = folder();
+fn writes_all_afresh(room: &Room, names: &[String]) {
     let ran = room.run(["fmt", "--write"].into_iter().chain(names.iter().map(String::as_str)));
     assert_eq!((ran.status, ran.err.matches("error[24]").count()), (1, 5));
     assert_eq!(room.names(), names);
