@@ -19,6 +19,9 @@ error[24]: UnknownPreset: an unknown preset
 
 ";
     assert_eq!((ran.status, ran.out.as_str(), ran.err.as_str()), (1, "", wanted));
+    // the repository's README shows it
+    let readme = std::fs::read_to_string(example("../README.md")).unwrap();
+    assert!(readme.contains(&format!("$ shelfstrip check a.strip\n{}", wanted.trim_end())));
 }
 
 #[test]
