@@ -1,6 +1,7 @@
 #!/bin/sh
-# Builds the library, tests both of its bindings and runs the examples of docs/LANGUAGE.md. Needs rt, cargo, a C compiler and Python 3; no
-# packages.
+# Builds the library, tests both of its bindings, the program shelfstrip and an install, and runs the examples of docs/LANGUAGE.md and
+# README.md. Needs rt, cargo, a C compiler and Python 3; no packages, but shelfstrip is tested only where its libraries are there, and what
+# is installed only where pkg-config is.
 set -eu
 # cargo's own folder, where the search path leaves it out
 PATH=$PATH:${CARGO_HOME:-${HOME:-/root}/.cargo}/bin
@@ -81,7 +82,18 @@ for arguments in 'lines' 'lookup' 'back back' 'wave 0'; do
     status=0
     # shellcheck disable=SC2086
     "$out/example" $arguments < /dev/null > "$out/got" 2> "$out/told" || status=$?
-    [ "$status" -eq 2 ] && [ ! -s "$out/got" ] && grep -q '^usage: ' "$out/told"
+    # a line each: the shell ends at the last of a chain of && alone
+    [ "$status" -eq 2 ]
+    [ ! -s "$out/got" ]
+    grep -q '^usage: ' "$out/told"
 done
 python3 tools/language.py "$out/example"
 echo "C example: 4 passed, each in two ways, 4 fed, 2 counts of rounded numbers, 5 colours, a short scratch, 7 written back, 4 looked up, 3 listed, 2 planed and back, 5 drawn, and 4 that are no mode"
+python3 tools/readme.py "$out"
+# shelfstrip, where its libraries are there
+if reason=$(bindings/shelfstrip/crates.sh target/shelfstrip); then
+    bindings/shelfstrip/test.sh
+else
+    echo "shelfstrip: not tested, $reason"
+fi
+bindings/test-install.sh "$out/install"

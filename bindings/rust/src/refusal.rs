@@ -62,9 +62,9 @@ refusals! {
     Unbalanced = 4, "a closer without its opener, or an opener that is not closed";
     TooManyOpen = 5, "a 65th opener while 64 are open";
     Missing = 6, "a name, mark, string, whole number, truth value or delimiter is missing";
-    UnknownKeyword = 7, "a node's keyword is none";
+    UnknownKeyword = 7, "an unknown word for a node, or an unknown field";
     Malformed = 8, "a number or a word that does not go where it stands";
-    UnknownSpringPreset = 9, "a spring's preset is none";
+    UnknownSpringPreset = 9, "an unknown spring preset";
     MissingDuration = 10, "a node that needs a duration has none";
     StaggerGridIncomplete = 11, "a grid without its columns or rows";
     TooManyNested = 12, "a 17th container inside 16 others";
@@ -75,8 +75,8 @@ refusals! {
     NotASheet = 20, "bytes that are no sheet for the text";
     OutOfRange = 21, "a number outside its range";
     ValueTypeMismatch = 22, "two values of different counts of numbers";
-    UnknownEasing = 23, "an easing's name is none";
-    UnknownPreset = 24, "a preset's name is none";
+    UnknownEasing = 23, "an unknown easing";
+    UnknownPreset = 24, "an unknown preset";
     InvalidColor = 25, "a colour that is neither a name nor a `#` form";
     DuplicateTime = 26, "two keyframes of a track at the same time";
     TooFewFrames = 27, "a track of fewer than 2 frames";
