@@ -1,4 +1,6 @@
 pub mod ReadLaws
 pub mod ScriptLaws
-pub mod CheckLaws
 pub mod ReadBack
+pub mod JudgeLaws
+pub mod NoiseLaws
+pub mod Corollaries
