@@ -4,3 +4,6 @@ pub mod ReadBack
 pub mod JudgeLaws
 pub mod NoiseLaws
 pub mod Corollaries
+pub mod PutLaws
+pub mod OmitLaws
+pub mod Omitted
