@@ -7,3 +7,4 @@ pub mod Corollaries
 pub mod PutLaws
 pub mod OmitLaws
 pub mod Omitted
+pub mod OmitTree

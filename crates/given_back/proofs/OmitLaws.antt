@@ -2,7 +2,7 @@
 use Prim.Native.Nat.{ℕ, zero, suc}
 use Prim.Native.String.{String}
 use mathlib.Core.Bool.{Bool, true, false}
-use mathlib.Core.List.{List, [], _∷_}
+use mathlib.Core.List.{List, [], _∷_, _++_}
 use mathlib.Core.Logic.{_≢_}
 use mathlib.Core.Option.{Option, none, some}
 use mathlib.Core.Path.{_≡_, refl, sym, ap, _∙_, subst}
@@ -156,6 +156,17 @@ laid-omits {w = w} {f = f} x = omits w (x .made) (λ d i g us.
     subst (λ (l : List Piece). LeftOut l (w (f .make e) us)) (sym (x .body d us))
     (subst (LeftOut (x .front d (puts (f .slots) (x .writers) v ps))) (sym b)
     (further (x .fronts d) (left-out (f .slots) (x .writers) (x .fair) i v g ps))))
+
+puts-own : (ss : List Slot) (ws : Writers ss) → AllFair ss ws → (v : Values ss) → Puts (puts ss ws v)
+unfolding puts
+puts-own [] ws f v = nothing
+puts-own (s ∷ ss) ws f v = f .0 .own (v .0) ▹ puts-own ss (ws .1) (f .1) (v .1)
+
+pub laid-puts : {X : Type 0} {w : X → Writer} {f : FieldList X} → Laid w f → (d : f .Parts) → Puts (w (f .make d))
+laid-puts {w = w} {f = f} x d =
+    let v : Writer = λ us. x .front d (puts (f .slots) (x .writers) (f .values d) (pieces.mark ";" ∷ us)) in
+    let h : Puts v = x .fronts d ▹ puts-own (f .slots) (x .writers) (x .fair) (f .values d) ▹ one in
+    record { fronts = λ us. x .body d us ∙ h .fronts us ∙ ap (λ (l : List Piece). l ++ us) (sym (x .body d [])) }
 
 -- ---- nodes with a list of fields
 

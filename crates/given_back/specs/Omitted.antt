@@ -1,19 +1,22 @@
 -- 02 (f): "those omitted whose absence reads the same": what has fields, what the absence of each reads to, and that none of those which
 -- are written could be left out. Assumes nothing.
 use Prim.Native.Nat.{ℕ, zero, suc}
-use mathlib.Core.Bool.{Bool, false}
+use mathlib.Core.Bool.{Bool, true, false}
 use mathlib.Core.List.{List, [], _∷_, _++_}
 use mathlib.Core.Logic.{_≢_}
 use mathlib.Core.Option.{Option, none, some}
 use mathlib.Core.Path.{_≡_}
 use Rattle.text.specs.Words.{default}
+use Rattle.digits.specs.Fewest.{form}
 use Rattle.ast.specs.Tree.{ValueExpr, LoopSpec, DampingMode, WaveformSpec, StaggerPatternSpec, grid, random, Container, stagger}
 use Rattle.grammar.specs.Values.{f32Of}
 use Rattle.pieces.specs.Pieces.{Piece}
 use Rattle.fresh.specs.Meaning.{EasingSense, rough, slowMo, FrameSense, TweenSense, SpringSense, TrackSense, PathSense, MorphSense}
 use Rattle.fresh.specs.Meaning.{DrawSense, ColorSense, PresetSense}
 use Rattle.fresh.specs.Meaning.{LeafSense, tween, spring, keyframes, path, morph, draw, color, waveform, preset}
-use Rattle.fresh.specs.Fresh.{Writer, easing, frame, pattern, boxBody, leafBody}
+use Rattle.fresh.specs.Meaning.{Sense, leaf, box}
+use Rattle.fresh.specs.Fresh.{Writer, easing, frame, leafWord, leafBody, pattern, boxWord, boxBody, pieces, script, hasText}
+use Rattle.fresh.specs.Reads.{ReadsTo, Deep}
 
 -- ---- fields
 
@@ -262,13 +265,16 @@ pub record LeftOut (ps qs : List Piece) : Type 0 where
   pub whole : ps ≡ before ++ (first ∷ more ++ behind)
   pub rest : qs ≡ before ++ behind
 
+-- y is another value than x, and its pieces are those of x with some left out
+abbrev pub Shortens : {X : Type 0} → (X → Writer) → X → X → Type 0
+Shortens w x y = (y ≢ x) × ((us : List Piece) → LeftOut (w x us) (w y us))
+
 -- every field that is not what its absence reads to is written, and the pieces without it are those of something else, which has what the
 -- absence reads to: so the absence does not read the same
 abbrev pub Omits : {X : Type 0} → (X → Writer) → FieldList X → Type 0
 Omits w f =
     (d : f .Parts) (i : ℕ) → Given (f .slots) i (f .values d)
-    → let e = f .having d (without (f .slots) i (f .values d)) in
-    (f .make e ≢ f .make d) × ((us : List Piece) → LeftOut (w (f .make d) us) (w (f .make e) us))
+    → Shortens w (f .make d) (f .make (f .having d (without (f .slots) i (f .values d))))
 
 pub record OmitsAll : Type 0 where
   pub of-tweens : Omits leafBody tweens
@@ -286,3 +292,22 @@ pub record OmitsAll : Type 0 where
   pub of-slow-mos : Omits easing slowMos
   pub of-grids : Omits pattern grids
   pub of-randoms : Omits pattern randoms
+
+-- ---- in a tree
+
+-- the tree y is x with a leaf or a container, at any depth, in the place of one of the same kind that has more pieces
+pub data Shorter : Sense → Sense → Type 0 where
+  a-leaf : (l m : LeafSense) (rest : Sense) → leafWord l ≡ leafWord m → Shortens leafBody l m → Shorter (leaf l rest) (leaf m rest)
+  a-box : (b c : Container) (inner rest : Sense) → boxWord b ≡ boxWord c → Shortens boxBody b c
+      → Shorter (box b inner rest) (box c inner rest)
+  behind-leaf : (l : LeafSense) (x y : Sense) → Shorter x y → Shorter (leaf l x) (leaf l y)
+  inside : (b : Container) (x y rest : Sense) → Shorter x y → Shorter (box b x rest) (box b y rest)
+  behind-box : (b : Container) (inner x y : Sense) → Shorter x y → Shorter (box b inner x) (box b inner y)
+
+-- the script of x with these pieces left out is that of y, another tree, and reads to it
+pub record ReadsOtherwise (x y : Sense) : Type 0 where
+  pub shortens : Shortens pieces x y
+  pub reads : ReadsTo (script form y) y
+
+abbrev pub NoneOmitted : Type 0
+NoneOmitted = (x y : Sense) → Shorter x y → Deep 16 x → hasText form x ≡ true → ReadsOtherwise x y
