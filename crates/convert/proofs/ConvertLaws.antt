@@ -1,19 +1,18 @@
 -- Laws of the converter, 02 (h), for every text and every lent sheet.
-use Prim.Native.Nat.{ℕ, zero, suc, _<_}
-use mathlib.Core.Bool.{Bool, true, false, _&&_, cond}
+use Prim.Native.Nat.{ℕ, zero, suc, _+_, _<_}
+use mathlib.Core.Bool.{Bool, true, false, cond}
 use mathlib.Core.List.{List, [], _∷_, _++_, map, map-append}
-use mathlib.Core.Logic.{_⊎_, inl, inr}
 use mathlib.Core.Option.{Option, none, some}
 use mathlib.Core.Path.{_≡_, refl, sym, _∙_, ap, subst⁻¹}
 use native.Mathlib.Omega.{arith}
-use borrow.Author.Tests.{eqb-true}
 use lib.Dec.{eqb, ltb}
-use lib.ListN.{length, getD, set}
+use lib.ListN.{length, length-append}
 use Rattle.text.specs.Limits.{textLimit}
 use Rattle.error.specs.declared.Refusal.{Refusal}
 use Rattle.error.specs.declared.Refusal.the-variants.{TextTooLong}
 use Rattle.error.specs.declared.CheckAnswer.{CheckAnswer}
 use Rattle.error.specs.declared.CheckAnswer.the-variants.{Accepted, Refused}
+use Rattle.error.specs.Answer.{checkValues}
 use Rattle.codec.specs.Codec.{big, opt, eachOut}
 use Rattle.codec.proofs.Laws.{Small}
 use Rattle.ast.specs.Tree as tree
@@ -27,66 +26,20 @@ use Rattle.sheet.proofs.Flat.{concat, inside, sheet-flat}
 use Rattle.opening.specs.declared.Opening.the-variants.{Open, Shut}
 use Rattle.opening.specs.Means.{answerOf}
 use Rattle.opening.proofs.OpenLaws.{the-tree, the-refusal}
-use Rattle.convert.specs.Convert.{waveformKind, triangle, waveAt, holdsNoise}
 use Rattle.ast.specs.Tree.{noise}
+use Rattle.convert.specs.Convert.{waveformKind, triangle, holdsNoise}
 use Rattle.convert.specs.Convert.{convertedRecord, convertedSheet, convertOpened, converting}
 use Rattle.convert.specs.Triangled.{triangledKind, triangledLeaf, triangled}
 use Rattle.convert.specs.Means.{Converts, IsSheet}
-use Rattle.convert.proofs.WalkLaws.{head-stays}
+use Rattle.convert.proofs.WalkLaws.{length-converted, head-stays}
 
--- ---- each byte
+-- ---- as many bytes
 
--- a byte is as it was, or it was noise and is triangle
-abbrev pub Kept : ℕ → ℕ → Type 0
-Kept was now = (now ≡ was) ⊎ ((was ≡ noise) × (now ≡ triangle))
-
--- so each of them, and there are as many
-abbrev AllKept : List ℕ → List ℕ → Type 0
-AllKept [] [] = Unit {0}
-AllKept [] (c ∷ cs) = ⊥
-AllKept (b ∷ bs) [] = ⊥
-AllKept (b ∷ bs) (c ∷ cs) = Kept b c × AllKept bs cs
-
-kept-same : (bs : List ℕ) → AllKept bs bs
-kept-same [] = tt
-kept-same (b ∷ bs) = (inl refl, kept-same bs)
-
-kept-append : (xs ys cs ds : List ℕ) → AllKept xs ys → AllKept cs ds → AllKept (xs ++ cs) (ys ++ ds)
-kept-append [] [] cs ds h g = g
-kept-append [] (b ∷ ys) cs ds h g = absurd h
-kept-append (a ∷ xs) [] cs ds h g = absurd h
-kept-append (a ∷ xs) (b ∷ ys) cs ds h g = (h .0, kept-append xs ys cs ds (h .1) g)
-
-kept-set : (bs : List ℕ) (i : ℕ) → getD bs i 0 ≡ noise → AllKept bs (set bs i triangle)
-kept-set [] i e = tt
-kept-set (b ∷ bs) zero e = (inr (e, refl), kept-same bs)
-kept-set (b ∷ bs) (suc i) e = (inl refl, kept-set bs i e)
-
-kept-record : (r : List ℕ) → AllKept r (convertedRecord r)
-unfolding convertedRecord holdsNoise
-kept-record r = go (eqb (getD r 0 0) waveformKind) (eqb (getD r waveAt 0) noise) refl
-  where
-    go : (a b : Bool) → eqb (getD r waveAt 0) noise ≡ b → AllKept r (cond (a && b) (set r waveAt triangle) r)
-    go true true e = kept-set r waveAt (eqb-true (getD r waveAt 0) noise e)
-    go true false e = kept-same r
-    go false b e = kept-same r
-
-kept-records : (rs : List (List ℕ)) → AllKept (concat rs) (eachOut convertedRecord rs)
-kept-records [] = tt
-kept-records (r ∷ rs) = kept-append r (convertedRecord r) (concat rs) (eachOut convertedRecord rs) (kept-record r) (kept-records rs)
-
-kept-length : (xs ys : List ℕ) → AllKept xs ys → length ys ≡ length xs
-kept-length [] [] h = refl
-kept-length [] (b ∷ ys) h = absurd h
-kept-length (a ∷ xs) [] h = absurd h
-kept-length (a ∷ xs) (b ∷ ys) h = ap suc (kept-length xs ys (h .1))
-
-kept-at : (xs ys : List ℕ) → AllKept xs ys → (i : ℕ) → Kept (getD xs i 0) (getD ys i 0)
-kept-at [] [] h i = inl refl
-kept-at [] (b ∷ ys) h i = absurd h
-kept-at (a ∷ xs) [] h i = absurd h
-kept-at (a ∷ xs) (b ∷ ys) h zero = h .0
-kept-at (a ∷ xs) (b ∷ ys) h (suc i) = kept-at xs ys (h .1) i
+pub records-long : (rs : List (List ℕ)) → length (eachOut convertedRecord rs) ≡ length (concat rs)
+records-long [] = refl
+records-long (r ∷ rs) =
+    length-append (convertedRecord r) (eachOut convertedRecord rs)
+    ∙ (λ i. length-converted r i + records-long rs i) ∙ sym (length-append r (concat rs))
 
 -- ---- the tree with triangle
 
@@ -266,7 +219,7 @@ decoded-opened none ns e = let z : _≡_ {A = ℕ} 0 1 = cc in absurd (omega ari
 decoded-opened (some ms) ns e = let z : ms ≡ ns = cc in ap some z
 
 module _ (t s : List ℕ) (ns : Forest) (o : opening t s ≡ opened ns) where
-  holds-tree : decode (length t) s ≡ some ns
+  pub holds-tree : decode (length t) s ≡ some ns
   holds-tree = decoded-opened (decode (length t) s) ns (sym (opened-text t s ns o s) ∙ o)
 
   -- what the converter leaves
@@ -277,13 +230,12 @@ module _ (t s : List ℕ) (ns : Forest) (o : opening t s ≡ opened ns) where
   within : sheet-laws.Decoded (length t) s ns
   within = sheet-laws.decoded (length t) s ns holds-tree
 
-  is-records : s ≡ concat (allRecords (length t) ns)
+  pub is-records : s ≡ concat (allRecords (length t) ns)
   is-records = within .encodes ∙ sheet-flat (length t) ns (within .fits)
 
-  sheet-kept : AllKept s (converting t s .1)
+  keeps-length : length (converting t s .1) ≡ length s
   unfolding convertedSheet
-  sheet-kept =
-      rw leaves (subst⁻¹ (λ (l : List ℕ). AllKept l (convertedSheet (length t) ns)) is-records (kept-records (allRecords (length t) ns)))
+  keeps-length = rw leaves (records-long (allRecords (length t) ns) ∙ sym (ap length is-records))
 
   -- "one that has triangle in its place": the sheet of the tree with triangle
   pub encodes-triangled : converting t s .1 ≡ encode (length t) (triangled ns)
@@ -295,7 +247,7 @@ module _ (t s : List ℕ) (ns : Forest) (o : opening t s ≡ opened ns) where
   decodes-triangled =
       ap (decode (length t)) encodes-triangled
       ∙ decodes (length t) (triangled ns) (fits-triangled (length t) ns (within .fits))
-      (omega (arith, ap length encodes-triangled, kept-length s (converting t s .1) sheet-kept, within .short))
+      (omega (arith, ap length encodes-triangled, keeps-length, within .short))
 
   pub opens-triangled : opening t (converting t s .1) ≡ opened (triangled ns)
   opens-triangled = opened-text t s ns o (converting t s .1) ∙ ap decoded decodes-triangled
@@ -308,20 +260,23 @@ module _ (t s : List ℕ) where
   unfolding converting
   refused-stays e = ap (convertOpened (length t) s) e
 
-  bytes-kept : AllKept s (converting t s .1)
-  bytes-kept = go (opening t s) refl
-    where
-      go : (o : Opened) → opening t s ≡ o → AllKept s (converting t s .1)
-      go (shut r p) e = rw (refused-stays e) (kept-same s)
-      go (opened ns) e = sheet-kept t s ns e
-
   -- "every other byte equal": as many bytes
   pub as-long : length (converting t s .1) ≡ length s
-  as-long = kept-length s (converting t s .1) bytes-kept
+  as-long = go (opening t s) refl
+    where
+      go : (o : Opened) → opening t s ≡ o → length (converting t s .1) ≡ length s
+      go (shut r p) e = rw (refused-stays e)
+      go (opened ns) e = keeps-length t s ns e
 
-  -- and each is as it was, or was noise and is triangle
-  pub each-byte : (i : ℕ) → Kept (getD s i 0) (getD (converting t s .1) i 0)
-  each-byte i = kept-at s (converting t s .1) bytes-kept i
+  -- what is converted has a tree
+  pub converts : converting t s .0 ≡ Accepted → (ns : Forest) × (opening t s ≡ opened ns)
+  converts e = go (opening t s) refl
+    where
+      go : (o : Opened) → opening t s ≡ o → (ns : Forest) × (opening t s ≡ opened ns)
+      go (shut r p) q =
+          let x : Refused r p ≡ Accepted = ap (λ (x : CheckAnswer × List ℕ). x .0) (sym (refused-stays q)) ∙ e in
+          absurd (let z : _≡_ {A = ℕ} 0 1 = cc in omega arith)
+      go (opened ns) q = (ns, q)
 
   -- "Converting twice equals converting once"
   pub twice : converting t (converting t s .1) ≡ converting t s

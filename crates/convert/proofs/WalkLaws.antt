@@ -53,7 +53,7 @@ module _ (s : List ℕ) (at : ℕ) where
 
 -- ---- a record and what stands behind it
 
-length-converted : (r : List ℕ) → length (convertedRecord r) ≡ length r
+pub length-converted : (r : List ℕ) → length (convertedRecord r) ≡ length r
 unfolding convertedRecord
 length-converted r = go (holdsNoise r)
   where

@@ -1,3 +1,4 @@
 pub mod Convert
 pub mod Triangled
+pub mod Kept
 pub mod Means

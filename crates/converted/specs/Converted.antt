@@ -1,11 +1,14 @@
--- 02 (h), the law on checking a converted sheet.
+-- 02 (h), the laws on checking a converted sheet.
 use Prim.Native.Nat.{ℕ}
 use mathlib.Core.Bool.{true}
 use mathlib.Core.List.{List}
+use mathlib.Core.Logic.{_≢_}
 use mathlib.Core.Path.{_≡_}
 use Rattle.sheet.specs.Sheet.{Forest}
 use Rattle.sheet.specs.Opening.{opened, opening}
 use Rattle.validate.specs.Checking.{judged, isList, checking}
+use Rattle.error.specs.declared.Refusal.the-variants.{NoiseHeld}
+use Rattle.error.specs.declared.CheckAnswer.the-variants.{Accepted, Refused}
 use Rattle.convert.specs.Convert.{converting}
 use Rattle.convert.specs.Triangled.{triangled}
 
@@ -15,3 +18,8 @@ abbrev pub AsWithTriangle : Type 0
 AsWithTriangle =
     (list : ℕ) (t s : List ℕ) (ns : Forest) → isList list ≡ true → opening t s ≡ opened ns
     → checking list t (converting t s .1) ≡ judged list t (triangled ns)
+
+-- what a converted sheet holds is no longer retired: checking it never gives 28, for every text, list and sheet that is converted
+abbrev pub NeverRetired : Type 0
+NeverRetired =
+    (list : ℕ) (t s : List ℕ) (p : ℕ) → converting t s .0 ≡ Accepted → checking list t (converting t s .1) ≢ Refused NoiseHeld p

@@ -1,1 +1,2 @@
+pub mod NoNoise
 pub mod Converted

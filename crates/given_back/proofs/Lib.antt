@@ -1,4 +1,10 @@
 pub mod ReadLaws
 pub mod ScriptLaws
-pub mod CheckLaws
 pub mod ReadBack
+pub mod JudgeLaws
+pub mod NoiseLaws
+pub mod Corollaries
+pub mod PutLaws
+pub mod OmitLaws
+pub mod Omitted
+pub mod OmitTree

@@ -23,11 +23,10 @@ use Rattle.fresh.specs.Meaning.{Sense}
 use Rattle.fresh.specs.Fresh.{script, hasText}
 use Rattle.fresh.specs.Reads.{ReadsTo}
 use Rattle.back.specs.Back.{refusal, fitted, written, senseOf, ofTree, ofVerdict, writing}
-use Rattle.given_back.specs.Given.{Given}
-use Rattle.given_back.specs.ReadBack.{SameTree, ReadBack, NoText, Exactly34}
-use Rattle.given_back.proofs.ReadLaws.{parses-to, reads-to}
-use Rattle.given_back.proofs.ScriptLaws.{script-given, no-text}
-use Rattle.given_back.proofs.CheckLaws.{never-unwritable}
+use Rattle.given_back.specs.ReadBack.{ReadBack, NoText, Exactly34}
+use Rattle.given_back.proofs.ReadLaws.{parses-to, reads-to, given}
+use Rattle.given_back.proofs.ScriptLaws.{script-back, no-text}
+use Rattle.converted.proofs.RefusalLaws.{never-unwritable}
 
 -- ---- answers
 
@@ -67,34 +66,50 @@ stands out u n after e = go (ltb textLimit (length u) || ltb (length out) (lengt
           short = ltb-false textLimit (length u) (or-false (ltb textLimit (length u)) (ltb (length out) (length u)) q);
         }
 
-module _ (t s out : List ℕ) (n : ℕ) (after : List ℕ) where
-  of-tree : (ns : Forest) → decode (length t) s ≡ some ns → written out (senseOf t ns) ≡ (Accepted n, after)
-      → SameTree t s (take n after)
-  of-tree ns d e = go (hasText form (senseOf t ns)) refl e
+-- a pair that writing accepts, and the fresh script u
+pub record Fresh (list : ℕ) (t s u : List ℕ) : Type 0 where
+  pub checks : checking list t s ≡ check.Accepted
+  pub tree : Forest
+  pub decodes : decode (length t) s ≡ some tree
+  pub reads : ReadsTo u (senseOf t tree)
+  pub short : length u ≤ textLimit
+
+module _ (list : ℕ) (t s out : List ℕ) (n : ℕ) (after : List ℕ) where
+  of-tree : checking list t s ≡ check.Accepted → (ns : Forest) → decode (length t) s ≡ some ns
+      → written out (senseOf t ns) ≡ (Accepted n, after) → Fresh list t s (take n after)
+  of-tree c ns d e = go (hasText form (senseOf t ns)) refl e
     where
       go : (b : Bool) → hasText form (senseOf t ns) ≡ b
           → cond {A = Written} b (fitted out (script form (senseOf t ns))) (refusal Unwritable 0 out) ≡ (Accepted n, after)
-          → SameTree t s (take n after)
+          → Fresh list t s (take n after)
       go true q e =
           let x = stands out (script form (senseOf t ns)) n after e in
           record {
+            checks = c;
             tree = ns;
             decodes = d;
-            reads = subst (λ (u : List ℕ). Given u (senseOf t ns)) (sym (x .is)) (script-given t s ns d q (x .short));
+            reads = subst (λ (u : List ℕ). ReadsTo u (senseOf t ns)) (sym (x .is)) (script-back t s ns d q);
+            short = subst (λ (u : List ℕ). length u ≤ textLimit) (sym (x .is)) (x .short);
           }
       go false q e = accepts-not e
 
-pub read-back : ReadBack
-unfolding writing
-read-back list t s out n after e = on (checking list t s) e
-  where
-    at : (o : Option Forest) → decode (length t) s ≡ o → ofTree t out o ≡ (Accepted n, after) → SameTree t s (take n after)
-    at none d e = accepts-not e
-    at (some ns) d e = of-tree t s out n after ns d e
+  pub fresh : writing list t s out ≡ (Accepted n, after) → Fresh list t s (take n after)
+  unfolding writing
+  fresh e = on (checking list t s) refl e
+    where
+      at : checking list t s ≡ check.Accepted → (o : Option Forest) → decode (length t) s ≡ o → ofTree t out o ≡ (Accepted n, after)
+          → Fresh list t s (take n after)
+      at c none d e = accepts-not e
+      at c (some ns) d e = of-tree c ns d e
 
-    on : (v : CheckAnswer) → ofVerdict t s out v ≡ (Accepted n, after) → SameTree t s (take n after)
-    on (check.Refused r p) e = accepts-not e
-    on check.Accepted e = at (decode (length t) s) refl e
+      on : (v : CheckAnswer) → checking list t s ≡ v → ofVerdict t s out v ≡ (Accepted n, after) → Fresh list t s (take n after)
+      on (check.Refused r p) c e = accepts-not e
+      on check.Accepted c e = at c (decode (length t) s) refl e
+
+pub read-back : ReadBack
+read-back list t s out n after e =
+    let f = fresh list t s out n after e in
+    record { tree = f .tree; decodes = f .decodes; reads = given (f .short) (f .reads) }
 
 -- ---- 34
 

@@ -1,17 +1,23 @@
 -- A text that reads to a tree: reading accepts it, if it is short enough, and gives that tree.
-use Prim.Native.Nat.{ℕ, _≤_}
+use Prim.Native.Nat.{ℕ, _-_, _≤_}
 use mathlib.Core.List.{List}
-use mathlib.Core.Path.{_≡_, refl, _∙_}
+use mathlib.Core.Option.{some}
+use mathlib.Core.Path.{_≡_, refl, sym, ap, _∙_}
 use native.Mathlib.Omega.{arith}
-use lib.ListN.{length}
+use lib.ListN.{length, take, replicate}
+use lib.Seq.{take-at}
 use Rattle.text.specs.Limits.{textLimit}
 use Rattle.number.specs.Time.{Key}
 use Rattle.ast.specs.Tree.{Nodes, mapTimes, records}
+use Rattle.sheet.specs.Sheet.{decode}
+use Rattle.sheet.specs.Opening.{opened, opening}
 use Rattle.sheet.proofs.Laws.{decodes}
 use Rattle.grammar.specs.Grammar.{stored}
-use Rattle.reading.specs.Reading.{tree, parse}
-use Rattle.limits.proofs.Limits.{parses, parses-fits, parses-small}
-use Rattle.script.proofs.Reading.{sheetOf, accepts}
+use Rattle.reading.specs.Reading.{tree, parse, reading}
+use Rattle.error.specs.declared.ReadAnswer.{ReadAnswer}
+use Rattle.error.specs.declared.ReadAnswer.the-variants.{Accepted, Refused}
+use Rattle.limits.proofs.Limits.{parses, parses-fits, parses-small, parses-opens}
+use Rattle.script.proofs.Reading.{sheetOf, accepts, due}
 use Rattle.fresh.specs.Meaning.{Sense, sense}
 use Rattle.fresh.specs.Reads.{ReadsTo}
 use Rattle.fresh.proofs.SenseLaws.{stored-same}
@@ -53,4 +59,37 @@ given {u} {x} short r =
       tree = mapTimes stored (r .tree);
       decodes = decodes (length u) (mapTimes stored (r .tree)) (parses-fits u (r .tree) short e) (omega arith);
       same = stored-same stored u (r .tree) ∙ r .same;
+    }
+
+-- ---- what reading gave a text: the sheet of the grammar's tree
+
+pub record Read (t s : List ℕ) : Type 0 where
+  pub nodes : Nodes Key
+  pub count : ℕ
+  pub parses : parse t ≡ tree nodes count
+  pub opens : opening t s ≡ opened (mapTimes stored nodes)
+  pub holds : decode (length t) s ≡ some (mapTimes stored nodes)
+
+abbrev lengthOf : ReadAnswer → ℕ
+lengthOf (Accepted n c k) = n
+lengthOf (Refused r p) = 0
+
+pub was-read : (t scratch room : List ℕ) (n c k : ℕ) → reading t scratch room .0 ≡ Accepted n c k → Read t (take n (reading t scratch room .2))
+was-read t scratch room n c k e =
+    let d = due t scratch room n c k e in
+    let ns = d .0 in
+    let h = d .1 in
+    let bs = sheetOf t ns in
+    let a = accepts t scratch room ns k h in
+    let size : length bs ≡ n = ap lengthOf (ap (λ (r : ReadAnswer × List ℕ × List ℕ). r .0) (sym a) ∙ e) in
+    let is : take n (reading t scratch room .2) ≡ bs =
+    ap (λ (r : ReadAnswer × List ℕ × List ℕ). take n (r .2)) a ∙ take-at bs (replicate (length room - length bs) 0) n size in
+    record {
+      nodes = ns;
+      count = k;
+      parses = h .parses;
+      opens = ap (opening t) is ∙ parses-opens t ns (h .short) (h .parses);
+      holds = ap (decode (length t)) is
+          ∙ decodes (length t) (mapTimes stored ns) (parses-fits t ns (h .short) (h .parses))
+          (omega (arith, parses-small t ns (h .short) (h .parses)));
     }

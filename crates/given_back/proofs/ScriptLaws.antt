@@ -1,12 +1,11 @@
 -- The fresh script of a sheet's tree reads to that tree, and no text does where there is none.
-use Prim.Native.Nat.{ℕ, _≤_}
+use Prim.Native.Nat.{ℕ}
 use mathlib.Core.Bool.{Bool, true, false, true≢false}
 use mathlib.Core.List.{List}
 use mathlib.Core.Logic.{_↔_}
 use mathlib.Core.Option.{some}
 use mathlib.Core.Path.{_≡_, refl, sym, _∙_}
 use lib.ListN.{length}
-use Rattle.text.specs.Limits.{textLimit}
 use Rattle.digits.specs.Fewest.{form}
 use Rattle.ast.specs.Tree.{KeyframeTime}
 use Rattle.sheet.specs.Sheet.{Forest, decode}
@@ -16,8 +15,6 @@ use Rattle.fresh.specs.Fresh.{script, hasText}
 use Rattle.fresh.specs.Reads.{ReadsTo}
 use Rattle.writable.proofs.Nesting.{decoded-nests}
 use Rattle.writable.proofs.Exact.{script-reads, written-exactly}
-use Rattle.given_back.specs.Given.{Given}
-use Rattle.given_back.proofs.ReadLaws.{given}
 
 false-of : (b : Bool) → (b ≡ true → ⊥) → b ≡ false
 false-of true f = absurd (f refl)
@@ -28,8 +25,8 @@ module _ (t s : List ℕ) (ns : Forest) (e : decode (length t) s ≡ some ns) wh
   abbrev meant : Sense
   meant = sense (λ (k : KeyframeTime). k) t ns
 
-  pub script-given : hasText form meant ≡ true → length (script form meant) ≤ textLimit → Given (script form meant) meant
-  script-given h short = given short (script-reads form meant (decoded-nests t (length t) s ns e) h)
+  pub script-back : hasText form meant ≡ true → ReadsTo (script form meant) meant
+  script-back h = script-reads form meant (decoded-nests t (length t) s ns e) h
 
   pub no-text : (hasText form meant ≡ false) ↔ ((u : List ℕ) → ReadsTo u meant → NoExponent u → ⊥)
   no-text =

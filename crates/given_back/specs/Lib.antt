@@ -1,2 +1,4 @@
 pub mod Given
 pub mod ReadBack
+pub mod Corollaries
+pub mod Omitted
