@@ -12,7 +12,6 @@ use Rattle.error.specs.declared.Refusal.{Refusal}
 use Rattle.error.specs.declared.Refusal.the-variants.{TextTooLong}
 use Rattle.error.specs.declared.CheckAnswer.{CheckAnswer}
 use Rattle.error.specs.declared.CheckAnswer.the-variants.{Accepted, Refused}
-use Rattle.error.specs.Answer.{checkValues}
 use Rattle.codec.specs.Codec.{big, opt, eachOut}
 use Rattle.codec.proofs.Laws.{Small}
 use Rattle.ast.specs.Tree as tree

@@ -100,9 +100,12 @@ Quiet p = Gives p NotNoise
 tween-quiet : Quiet parseTween
 unfolding parseTween
 tween-quiet =
-    on ident (λ a. past (the ":")
-    (on parseValue (λ b. past (both "=" ">")
-    (on parseValue (λ c. on (parseFieldList tweenFields []) (λ fs. on (need MissingDuration (lastNumber "duration" fs)) (λ d. gives tt)))))))
+    on ident
+    (λ a. past (the ":")
+    (on parseValue
+    (λ b. past (both "=" ">")
+    (on parseValue
+    (λ c. on (parseFieldList tweenFields []) (λ fs. on (need MissingDuration (lastNumber "duration" fs)) (λ d. gives tt)))))))
 
 spring-quiet : Quiet parseSpring
 unfolding parseSpring

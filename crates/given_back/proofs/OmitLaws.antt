@@ -191,8 +191,11 @@ springs-laid = record {
   made = record { has = λ d v. refl; injective = λ d e q. let z : d ≡ e = cc in ap (springs .values) z };
   writers = field "preset" (choose presetNames) also field "stiffness" f32 also field "damping" f32 also field "mass" f32
       also field "velocity" value also field "epsilon" f32 also field "integrator" (choose integratorNames) also pieces.damping also tt;
-  fair = optional-fair _ _ (choose-puts presetNames) also optional-fair _ _ f32-puts also optional-fair _ _ f32-puts also optional-fair _ _ f32-puts
-      also optional-fair _ _ value-puts also optional-fair _ _ f32-puts also optional-fair _ _ (choose-puts integratorNames) also damping-fair also tt;
+  fair = optional-fair _ _ (choose-puts presetNames) also optional-fair _ _ f32-puts
+      also optional-fair _ _ f32-puts also optional-fair _ _ f32-puts
+      also optional-fair _ _ value-puts also optional-fair _ _ f32-puts
+      also optional-fair _ _ (choose-puts integratorNames)
+      also damping-fair also tt;
   front = λ d us. aName (d .target) ∷ pieces.mark ":" ∷ value (d .from) (pieces.two "=" ">" ∷ value (d .to) us);
   fronts = λ d. one ▹ one ▹ value-puts (d .from) ▹ one ▹ value-puts (d .to);
   body = λ d us. refl;

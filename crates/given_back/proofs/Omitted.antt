@@ -10,7 +10,7 @@ use lib.Dec.{eqb}
 use Rattle.text.specs.Words.{default}
 use Rattle.ast.specs.Tree.{LoopSpec, StaggerPatternSpec}
 use Rattle.grammar.specs.Values.{strengthDefault, pointsDefault, ratioDefault, powerDefault}
-use Rattle.grammar.specs.Grammar.{originDefault, seedDefault, minDefault, maxDefault, samplesDefault, spaceDefault}
+use Rattle.grammar.specs.Grammar.{seedDefault, minDefault, maxDefault}
 use Rattle.pieces.specs.Pieces.{Piece}
 use Rattle.fresh.specs.Meaning.{EasingSense, FrameSense}
 use Rattle.fresh.specs.Fresh as pieces
@@ -21,7 +21,8 @@ use Rattle.given_back.specs.Omitted.{Slot, Values, Differs, Given, witho
 use Rattle.given_back.specs.Omitted.{roughs, slowMos, grids, randoms, LeftOut, OmitsAll}
 use Rattle.given_back.proofs.PutLaws.{Puts, _▹_, one, starts, f32-puts, u32-puts, value-puts, PairPuts, loop-puts, choose-puts}
 use Rattle.given_back.proofs.PutLaws.{easing-some, easing-puts, pattern-puts, time-puts, frame-puts, drops, further}
-use Rattle.given_back.proofs.OmitLaws.{Made, Leaves, omits, field-puts, field-some, laid-omits, tweens-laid, springs-laid, paths-laid}
+use Rattle.given_back.proofs.OmitLaws.{Made, Leaves, omits, field-puts, field-some}
+use Rattle.given_back.proofs.OmitLaws.{laid-omits, tweens-laid, springs-laid, paths-laid}
 use Rattle.given_back.proofs.OmitLaws.{morphs-laid, draws-laid, colors-laid, waveforms-laid}
 
 -- ---- a preset's fields, behind a comma
@@ -151,7 +152,8 @@ more-pairs-left (p ∷ ps) (suc i) v g us = go (omitted (p .absent) (v .0)) (mor
     gs = pairsOf ps (without (slotsOf ps) i (v .1))
 
     go : (b : Bool) → LeftOut (morePairs fs us) (morePairs gs us)
-        → LeftOut (morePairs (pieces.unless b (p .name, p .write (v .0)) fs) us) (morePairs (pieces.unless b (p .name, p .write (v .0)) gs) us)
+        → LeftOut (morePairs (pieces.unless b (p .name, p .write (v .0)) fs) us)
+        (morePairs (pieces.unless b (p .name, p .write (v .0)) gs) us)
     go true x = x
     go false x = further (one ▹ one ▹ one ▹ p .own (v .0)) x
 
@@ -186,7 +188,8 @@ rough-leaves : Leaves easing roughs
 unfolding easing
 rough-leaves d i g us =
     further (one ▹ one)
-    (pairs-left (a-float "strength" (some strengthDefault) ∷ a-count "points" (some pointsDefault) ∷ []) i (d .0, (d .1, tt)) g (mark ")" ∷ us))
+    (pairs-left (a-float "strength" (some strengthDefault) ∷ a-count "points" (some pointsDefault) ∷ []) i (d .0, (d .1, tt)) g
+    (mark ")" ∷ us))
 
 slow-mo-leaves : Leaves easing slowMos
 unfolding easing

@@ -10,7 +10,8 @@ use Rattle.ast.specs.Tree.{KeyframeTime, percent, seconds, StaggerPatternSpec, 
 use Rattle.codec.proofs.Laws.{All}
 use Rattle.pieces.specs.Pieces.{Piece}
 use Rattle.fresh.specs.Meaning.{EasingSense, named, cubicBezier, steps, wiggle, rough, slowMo, FrameSense}
-use Rattle.fresh.specs.Fresh.{Writer, negative, minusIf, signedBy, f32, u32, moreFloats, floats, value, truth, Pair, morePairs, pairs, unless}
+use Rattle.fresh.specs.Fresh.{Writer, negative, minusIf, signedBy, f32, u32, moreFloats}
+use Rattle.fresh.specs.Fresh.{floats, value, truth, Pair, morePairs, pairs, unless}
 use Rattle.fresh.specs.Fresh.{easing, loopMode, choose, offset, time, frameEasing, frame, pattern}
 use Rattle.grammar.specs.Grammar.{originNames}
 use Rattle.rules.proofs.ListLaws.{_also_}

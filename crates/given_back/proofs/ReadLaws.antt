@@ -74,7 +74,8 @@ abbrev lengthOf : ReadAnswer → ℕ
 lengthOf (Accepted n c k) = n
 lengthOf (Refused r p) = 0
 
-pub was-read : (t scratch room : List ℕ) (n c k : ℕ) → reading t scratch room .0 ≡ Accepted n c k → Read t (take n (reading t scratch room .2))
+pub was-read : (t scratch room : List ℕ) (n c k : ℕ) → reading t scratch room .0 ≡ Accepted n c k
+    → Read t (take n (reading t scratch room .2))
 was-read t scratch room n c k e =
     let d = due t scratch room n c k e in
     let ns = d .0 in
