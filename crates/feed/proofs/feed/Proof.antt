@@ -1,6 +1,9 @@
 -- `feed::feed` meets its contract: by cases of what reading and checking answered.
+use Prim.Native.Nat.{ℕ}
+use mathlib.Core.List.{List}
+use Rattle.error.specs.declared.FeedAnswer.{FeedAnswer}
 use Rattle.error.specs.Answer.{feedValues}
-use Rattle.error.proofs.AnswerLaws.{with-values}
+use Rattle.error.proofs.AnswerLaws.{and-values}
 use Rattle.text.specs.Bytes.{at}
 use mathlib.Core.Path.{sym, _∙_}
 use Rattle.feeding.proofs.FeedLaws.{words-of, accepted-room, accepted-words, feed-full}
@@ -9,8 +12,11 @@ use borrow.Author.Needs.{needs}
 use Rattle.feed.proofs.feed.Statement.{statement}
 use Rattle.feed.proofs.feed.Tie as tie
 
+abbrev values : FeedAnswer × List ℕ × List ℕ × List ℕ → List ℕ
+values x = feedValues (x .0)
+
 returns : tie.Need-returns
-returns c = with-values feedValues (feed-full _ _ _ _ _ (sym (c .before .full .ensures) ∙ c .if1 .taken))
+returns c = and-values values (feed-full _ _ _ _ _ (sym (c .before .full .ensures) ∙ c .if1 .taken))
 
 count-refused-requires : tie.Need-count-refused-requires
 count-refused-requires c κs =
@@ -58,7 +64,7 @@ returns-2 c =
     let at-read-and-check = c7 .before .before in
     let at-if1 = at-read-and-check .before .before .before in
     let at-full = at-if1 .before in
-    with-values feedValues (feed-unread _ _ _ _ _
+    and-values values (feed-unread _ _ _ _ _
     (sym (at-full .full .ensures) ∙ at-if1 .if1 .left)
     (rw (at-refusal .refusal .given .1) at (at-read-and-check .read-and-check .ensures .0))
     (c .count-refused .ensures .0)
@@ -72,7 +78,7 @@ returns-3 c =
     let at-read-and-check = c10 .before .before in
     let at-if1 = at-read-and-check .before .before .before in
     let at-full = at-if1 .before in
-    with-values feedValues (feed-refused _ _ _ _ _
+    and-values values (feed-refused _ _ _ _ _
     (sym (at-full .full .ensures) ∙ at-if1 .if1 .left)
     (rw (at-length .length .given .1) at (at-read-and-check .read-and-check .ensures .0))
     (rw (at-length .length .given .1, at-answer .answer .given .1) at (at-read-and-check .read-and-check .ensures .1 .0))
@@ -88,7 +94,7 @@ returns-4 c =
     let at-read-and-check = c13 .before .before in
     let at-if1 = at-read-and-check .before .before .before in
     let at-full = at-if1 .before in
-    with-values feedValues (feed-accepted _ _ _ _ _
+    and-values values (feed-accepted _ _ _ _ _
     (sym (at-full .full .ensures) ∙ at-if1 .if1 .left)
     (rw (at-length .length .given .1) at (at-read-and-check .read-and-check .ensures .0))
     (rw (at-length .length .given .1, at-enum-told .enum-told .given .1) at (at-read-and-check .read-and-check .ensures .1 .0))

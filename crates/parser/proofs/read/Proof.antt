@@ -1,6 +1,9 @@
 -- `parser::read` meets its contract.
+use Prim.Native.Nat.{ℕ}
+use mathlib.Core.List.{List}
+use Rattle.error.specs.declared.ReadAnswer.{ReadAnswer}
 use Rattle.error.specs.Answer.{readValues}
-use Rattle.error.proofs.AnswerLaws.{with-values}
+use Rattle.error.proofs.AnswerLaws.{and-values}
 use Rattle.parser.proofs.ReadLaws.{read-refused, read-tree, split-accepted, split-refused}
 use Rattle.parser.proofs.ReadLaws.{split-zero, too-few, too-long}
 use mathlib.Core.Path.{sym}
@@ -8,16 +11,19 @@ use borrow.Author.Needs.{needs}
 use Rattle.parser.proofs.read.Statement.{statement}
 use Rattle.parser.proofs.read.Tie as tie
 
+abbrev values : ReadAnswer × List ℕ × List ℕ → List ℕ
+values x = readValues (x .0)
+
 returns : tie.Need-returns
 returns c =
     let start = c .before .before .before .before in
-    with-values readValues (sym (too-long (start .args .text .now) (start .args .scratch .now) (start .args .sheet .now) (c .if1 .taken)))
+    and-values values (sym (too-long (start .args .text .now) (start .args .scratch .now) (start .args .sheet .now) (c .if1 .taken)))
 
 returns-2 : tie.Need-returns-2
 returns-2 c =
     let at-if1 = c .before in
     let start = at-if1 .before .before .before .before in
-    with-values readValues
+    and-values values
     (sym (too-few (start .args .text .now) (start .args .scratch .now) (start .args .sheet .now) (at-if1 .if1 .left) (c .if2 .taken)))
 
 returns-3 : tie.Need-returns-3
@@ -36,7 +42,7 @@ returns-3 c =
     let e = split-refused (args .text .now) (args .scratch .now) (judge .last .1 .0) (judge .result) (at-if2 .if2 .left) (judge .ensures) _
     _ (at-refusal .refusal .given .1)
     in
-    with-values readValues
+    and-values values
     (read-refused
     (args .text .now)
     (args .scratch .now)
@@ -67,7 +73,7 @@ returns-4 c =
     let e = split-accepted (args .text .now) (args .scratch .now) (judge .last .1 .0) (judge .result) (at-if2 .if2 .left) (judge .ensures)
     (at-enum-told .enum-told .given .1)
     in
-    with-values readValues
+    and-values values
     (read-tree
     (args .text .now)
     (args .scratch .now)

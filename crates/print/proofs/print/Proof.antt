@@ -1,14 +1,20 @@
 -- `print::print` meets its contract.
+use Prim.Native.Nat.{ℕ}
+use mathlib.Core.List.{List}
+use Rattle.error.specs.declared.LineAnswer.{LineAnswer}
 use Rattle.error.specs.Answer.{lineValues}
-use Rattle.error.proofs.AnswerLaws.{with-values}
+use Rattle.error.proofs.AnswerLaws.{and-values}
 use Rattle.print.proofs.PrintLaws.{page-short, page-unread, page-refused, page-lined}
 use native.Mathlib.Omega.{arith}
 use borrow.Author.Needs.{needs}
 use Rattle.print.proofs.print.Statement.{statement}
 use Rattle.print.proofs.print.Tie as tie
 
+abbrev values : LineAnswer × List ℕ × List ℕ × List ℕ → List ℕ
+values x = lineValues (x .0)
+
 returns : tie.Need-returns
-returns c = with-values lineValues (page-short _ _ _ _ _ (omega arith))
+returns c = and-values values (page-short _ _ _ _ _ (omega arith))
 
 returns-2 : tie.Need-returns-2
 returns-2 c =
@@ -17,7 +23,7 @@ returns-2 c =
     let c9 = at-refusal .before .before .before .before in
     let at-read-and-check = c9 .before .before in
     let at-if1 = at-read-and-check .before .before .before in
-    with-values lineValues (page-unread _ _ _ _ _ (omega (arith, at-if1 .if1 .left))
+    and-values values (page-unread _ _ _ _ _ (omega (arith, at-if1 .if1 .left))
     (rw (at-refusal .refusal .given .1) at (at-read-and-check .read-and-check .ensures .0))
     (at-put-refusal .put-refusal .ensures))
 
@@ -29,7 +35,7 @@ returns-3 c =
     let c12 = at-length .before .before .before .before in
     let at-read-and-check = c12 .before .before in
     let at-if1 = at-read-and-check .before .before .before in
-    with-values lineValues (page-refused _ _ _ _ _ (omega (arith, at-if1 .if1 .left))
+    and-values values (page-refused _ _ _ _ _ (omega (arith, at-if1 .if1 .left))
     (rw (at-length .length .given .1) at (at-read-and-check .read-and-check .ensures .0))
     (rw (at-length .length .given .1, at-answer .answer .given .1) at (at-read-and-check .read-and-check .ensures .1 .0))
     (at-put-refusal2 .put-refusal2 .ensures))
@@ -43,7 +49,7 @@ returns-4 c =
     let c13 = at-length .before .before .before .before in
     let at-read-and-check = c13 .before .before in
     let at-if1 = at-read-and-check .before .before .before in
-    with-values lineValues (page-lined _ _ _ _ _ (omega (arith, at-if1 .if1 .left))
+    and-values values (page-lined _ _ _ _ _ (omega (arith, at-if1 .if1 .left))
     (rw (at-length .length .given .1) at (at-read-and-check .read-and-check .ensures .0))
     (rw (at-length .length .given .1, at-enum-told .enum-told .given .1) at (at-read-and-check .read-and-check .ensures .1 .0))
     (rw (at-part .part .ensures) at (at-put-lines .put-lines .ensures)))
