@@ -274,8 +274,11 @@ validate-nodes-validate-node-requires : (t : ℕ)
     → validate-nodes-lts.Need-validate-node-requires (nodes-calls t) (validate-nodes-at t) validate-nodes.Post validate-nodes-Inv-loop
     validate-nodes-μ-loop
 validate-nodes-validate-node-requires t c κs =
-    let start = c .before .before .before .before in
-    (omega (arith, start .pre .0, c .before .loop .inv .2), (c .before .loop .inv .1, start .pre .1 .1))
+    let inv = c .before .loop .inv in
+    let pre = c .before .before .before .before .pre in (
+      omega (arith, pre .0, inv .2),
+      ((omega (arith, pre .1 .0 .0, inv .1 .0), omega (arith, pre .1 .0 .1, inv .1 .1)), pre .1 .1),
+    )
 
 validate-nodes-earlier-requires : (t : ℕ)
     → validate-nodes-lts.Need-earlier-requires (nodes-calls t) (validate-nodes-at t) validate-nodes.Post validate-nodes-Inv-loop
