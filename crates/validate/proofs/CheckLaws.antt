@@ -2,33 +2,37 @@
 use Prim.Native.Nat.{ℕ, _≤_, _<_}
 use mathlib.Core.Bool.{Bool, true, false, cond}
 use mathlib.Core.List.{List}
+use mathlib.Core.Option.{Option, none, some, Option·some-injective}
 use mathlib.Core.Logic.{⊎-elim}
 use mathlib.Core.Path.{_≡_, refl, sym, _∙_, ap}
 use native.Mathlib.Omega.{arith}
-use lib.ListN.{length}
-use borrow.Author.Tests.{ne-eqb}
+use lib.Dec.{ltb, eqb}
+use lib.ListN.{length, drop}
+use borrow.Author.Tests.{eq-eqb, ne-eqb}
+use Rattle.text.specs.Limits.{textLimit}
+use Rattle.text.specs.Words.{isSome}
 use Rattle.codec.specs.Codec.{big}
-use Rattle.sheet.specs.Sheet.{decode}
-use Rattle.sheet.specs.Opening.{shut, decoded, opening}
-use Rattle.decode.specs.Reads.{Reads, same}
-use Rattle.opening.specs.Means.{answerOf, earlier, textAnswer, bytesAnswer}
+use Rattle.sheet.specs.Sheet.{Forest, forest, inner, decode}
+use Rattle.sheet.specs.Opening.{shut, foreignFrom, unlessForeign, decoded, opening}
+use Rattle.decode.specs.Reads.{Reads, got, bad, same, passed}
+use Rattle.opening.specs.Means.{answerOf, earlier, foreignAnswer, textAnswer, bytesAnswer}
 use Rattle.opening.specs.declared.Opening.{Opening}
 use Rattle.opening.specs.declared.Opening.the-variants.{Open, Shut}
 use Rattle.error.specs.Answer.{checkValues}
 use Rattle.error.specs.declared.Refusal.{Refusal}
-use Rattle.error.specs.declared.Refusal.the-variants.{UnknownList}
+use Rattle.error.specs.declared.Refusal.the-variants.{TextTooLong, NotASheet, UnknownList}
 use Rattle.error.specs.declared.CheckAnswer.{CheckAnswer}
-use Rattle.error.specs.declared.CheckAnswer.the-variants.{Accepted, Refused}
+use Rattle.error.specs.declared.CheckAnswer.the-variants.{Refused}
 use Rattle.colors.specs.Css.{namesOf}
-use Rattle.sheet.proofs.Laws as sheet-laws
-use Rattle.decode.proofs.ReadLaws.{le-or-lt}
+use Rattle.decode.proofs.ReadLaws.{le-or-lt, mapped}
+use Rattle.records.proofs.WalkLaws.{decides}
 use Rattle.opening.proofs.OpenLaws.{Tree, text-first, the-tree, the-refusal}
 use Rattle.node_rules.specs.Rules.{validateNodes}
-use Rattle.validate.specs.Checking.{answerOf as verdictOf, judged, isList, unlessUnknown, openingUnder, checking}
-use Rattle.places.proofs.StandLaws.{head}
+use Rattle.validate.specs.Checking.{answerOf as verdictOf, judged, verdict, isList, unlessUnknown, openingUnder, checking}
+use Rattle.places.specs.Stands.{Stands}
+use Rattle.places.proofs.StandLaws.{none≢some, head}
 use Rattle.validate.specs.Means.{InLimit, listAnswer}
-use Rattle.validate.specs.Walks.{NodesWalk}
-use Rattle.validate.specs.declared.nodes.Walk.the-variants as walk
+use Rattle.validate.specs.Walks.{nodesView}
 
 -- ---- the list
 
@@ -91,20 +95,60 @@ module _ (list : ℕ) (t s : List ℕ) where
     pub its-tree : Tree t s
     its-tree = the-tree t s (o ∙ ap answerOf (known is-list))
 
-    pub short : InLimit s
-    short = sheet-laws.decoded (length t) s (its-tree .nodes) (its-tree .decodes) .short
+  -- what is shut of the text and the list is refused so
+  pub refused-first : {a b : Opening} {r : Refusal} {p : ℕ} → a ≡ textAnswer t → b ≡ listAnswer list → Shut r p ≡ earlier a b
+      → Refused r p ≡ checking list t s
+  refused-first ea eb eo = shut-refused (first-shut ea eb eo refl)
 
-    judges : checking list t s ≡ verdictOf (validateNodes (namesOf list) t 1 (its-tree .nodes))
-    unfolding checking judged
-    judges = rw (known is-list, its-tree .opens)
+  -- where neither is, the bytes decide
+  pub bytes-decide : {a b : Opening} → a ≡ textAnswer t → b ≡ listAnswer list → Open ≡ earlier a b
+      → verdict list t (decoded (decode (length t) s)) ≡ checking list t s
+  unfolding checking openingUnder textAnswer
+  bytes-decide ea eb eo = go (ltb textLimit (length t)) (foreignFrom 0 t) (isList list) (eo ∙ (λ i. earlier (ea i) (eb i)))
+    where
+      go : (b : Bool) (f : Option ℕ) (l : Bool)
+          → Open ≡ earlier (cond b (Shut TextTooLong 0) (foreignAnswer f)) (cond l Open (Shut UnknownList 0))
+          → verdict list t (decoded (decode (length t) s))
+          ≡ verdict list t (cond b (shut TextTooLong 0) (unlessForeign f (cond l (decoded (decode (length t) s)) (shut UnknownList 0))))
+      go false none true e = refl
+      go true f l e = let z : _≡_ {A = ℕ} 0 1 = cc in absurd (omega arith)
+      go false (some i) l e = let z : _≡_ {A = ℕ} 0 1 = cc in absurd (omega arith)
+      go false none false e = let z : _≡_ {A = ℕ} 0 1 = cc in absurd (omega arith)
 
-    module _ {c m : ℕ} (r : Reads (big 2) same s 0 c m) where
-      pub refused : {q : Refusal} {p : ℕ} → NodesWalk list t s m c 1 (walk.Refused q p) → Refused q p ≡ checking list t s
-      refused w = sym (judges ∙ ap verdictOf (w .is 16 (its-tree .nodes) (head (length t) s (its-tree .nodes) (its-tree .decodes) r)))
+-- ---- the bytes
 
-      pub accepted : {next after : ℕ} → NodesWalk list t s m c 1 (walk.Passed next after) → Accepted ≡ checking list t s
-      accepted w =
-          sym (judges ∙ ap verdictOf (w .is 16 (its-tree .nodes) (head (length t) s (its-tree .nodes) (its-tree .decodes) r) .accepted))
+module _ (list : ℕ) (t s : List ℕ) where
+  pub no-sheet : false ≡ isSome (decode (length t) s) → Refused NotASheet 0 ≡ verdict list t (decoded (decode (length t) s))
+  no-sheet e = go (decode (length t) s) e
+    where
+      go : (o : Option Forest) → false ≡ isSome o → Refused NotASheet 0 ≡ verdict list t (decoded o)
+      go none e = refl
+      go (some ns) e = let z : _≡_ {A = ℕ} 0 1 = cc in absurd (omega arith)
+
+  -- the head's count, and the walk over so many nodes
+  module _ (short : InLimit s) {c b : ℕ} (r : Reads (big 2) same s 0 c b) {f : Option (Refusal × ℕ)} {z m : ℕ}
+      (w : Reads {X = Option (Refusal × ℕ) × ℕ} (forest (length t) (inner (length t) 16) c) (nodesView list t 1) s b (f, z) m) where
+    ends : eqb m (length s) ≡ isSome (decode (length t) s)
+    ends = decides (length t) s short r (mapped passed w)
+
+    pub stops : (m ≡ length s → ⊥) → Refused NotASheet 0 ≡ verdict list t (decoded (decode (length t) s))
+    stops n = no-sheet (sym (ne-eqb m (length s) n) ∙ ends)
+
+    pub judges : m ≡ length s → verdictOf f ≡ verdict list t (decoded (decode (length t) s))
+    unfolding judged
+    judges e = go (decode (length t) s) refl (sym (eq-eqb m (length s) e) ∙ ends)
+      where
+        same-nodes : (ns : Forest) (h : Stands (forest (length t) (inner (length t) 16) c) s b ns)
+            → Reads {X = Option (Refusal × ℕ) × ℕ} (forest (length t) (inner (length t) 16) c) (nodesView list t 1) s b (f, z) m
+            → f ≡ validateNodes (namesOf list) t 1 ns
+        same-nodes ns h (got ms e q a l) =
+            let p = Option·some-injective (ms, drop m s) (ns, h .rest) (sym e ∙ h .reads) in
+            sym (λ i. q i .0) ∙ ap (λ (x : Forest × List ℕ). validateNodes (namesOf list) t 1 (x .0)) p
+        same-nodes ns h (bad o n) = none≢some (sym (n (h .within)) ∙ h .reads)
+
+        go : (o : Option Forest) → decode (length t) s ≡ o → true ≡ isSome o → verdictOf f ≡ verdict list t (decoded o)
+        go none d e = let z : _≡_ {A = ℕ} 0 1 = cc in absurd (omega arith)
+        go (some ns) d e = ap verdictOf (same-nodes ns (head (length t) s ns d r) w)
 
 -- ---- what equals checking has its values
 

@@ -1,82 +1,36 @@
--- The search over a track's frames.
+-- The search over a track's frames, and a track. Assumes nothing.
 use Prim.Native.Nat.{ℕ, suc, _+_, _*_, _-_, _≤_, _<_}
 use mathlib.Core.Bool.{Bool, true, false, _||_}
 use mathlib.Core.List.{List, [], _∷_, _++_}
 use mathlib.Core.Option.{Option, none, some, Option·some-injective}
-use mathlib.Core.Path.{_≡_, refl, sym, _∙_, ap}
+use mathlib.Core.Path.{_≡_, refl, sym, _∙_, ap, subst, subst⁻¹}
+use native.Mathlib.Nat.{le-trans}
 use native.Mathlib.Omega.{arith}
 use lib.ListN.{length, length-append, length-drop, take, drop, getD, set, length-set}
-use lib.Seq.{drop-drop, drop-cons, take-add, take-set-le, getD-set-same}
+use lib.Seq.{drop-cons, take-add, take-set-le, getD-set-same}
 use lib.Dec.{lit≤}
 use lib.Ieee.{Float}
 use borrow.Author.Tests.{lt-ltb, le-ltb}
-use Rattle.text.specs.Words.{orElse}
 use Rattle.number.specs.Number.{f32}
 use Rattle.number.specs.Time.{near, anyNear}
-use Rattle.codec.specs.Codec.{Form, andThen, big, each, eachIn, eachOut, opt}
-use Rattle.ast.specs.Tree.{Span, ValueExpr, scalar, array, EasingSpec, KeyframeEntry}
+use Rattle.codec.specs.Codec.{Form, andThen, each, eachIn, eachOut, opt}
+use Rattle.ast.specs.Tree.{ValueExpr, scalar, array, EasingSpec, KeyframeEntry}
 use Rattle.ast.specs.Tree.{KeyframeSpec, KeyframeTime, percent, seconds, LoopSpec}
-use Rattle.ast.specs.View.{timeView, entryView, keyframesView}
+use Rattle.ast.specs.View.{timeView, entryView}
 use Rattle.ast.specs.declared.KeyframeEntry as entries
-use Rattle.ast.specs.declared.KeyframeSpec as tracks
-use Rattle.sheet.specs.Sheet.{spanForm, timeForm, valueForm, easingForm, entryForm, toKeyframes, loopForm}
-use Rattle.decode.specs.Reads.{Reads, got, bad, same}
+use Rattle.sheet.specs.Sheet.{timeForm, valueForm, easingForm, entryForm, keyframesForm, toKeyframes, ofKeyframes, loopForm}
+use Rattle.decode.specs.Reads.{Lost, Reads, got, bad}
 use Rattle.error.specs.declared.Refusal.{Refusal}
 use Rattle.error.specs.declared.Refusal.the-variants.{UnknownEasing, DuplicateTime, TooFewFrames}
 use Rattle.codec.proofs.Laws.{inverse, each-lawful}
 use Rattle.sheet.proofs.Laws.{entryL}
+use Rattle.decode.proofs.ReadLaws.{_&_, seen, through, counted, each-next}
 use Rattle.node_rules.specs.Rules.{given, unknownEasing, first, timeOf, validateFrames, validateKeyframes}
-use Rattle.places.specs.Stands.{Stands}
 use Rattle.node_rules.specs.Means.{Tells}
-use Rattle.validate.specs.Means.{InLimit, FramesTell, FramesAt, TrackTells}
-use Rattle.node_rules.specs.declared.faults.Fault.{Fault}
-use Rattle.node_rules.specs.declared.faults.Fault.the-variants.{None, Is}
+use Rattle.validate.specs.Means.{InLimit, framesView, HeadStands}
 
 pub none≢some : {A B : Type 0} {a : A} → Prim.Path (Option A) none (some a) → B
 none≢some e = let z : _≡_ {A = ℕ} 0 1 = cc in absurd (omega arith)
-
--- ---- a walk over values that stand one after the other
-
-module _ {A : Type 0} (c : Form A) (s : List ℕ) (n : ℕ) (xs : List A) where
-  -- those from k on stand at a
-  abbrev pub Left : ℕ → ℕ → Type 0
-  Left k a = Stands (each c (n - k)) s a (drop k xs)
-
-  pub left-start : (a : ℕ) → Stands (each c n) s a xs → Left 0 a
-  left-start a h = let z : n - 0 ≡ n = omega arith in rw z h
-
-  -- what is read next is the next value
-  pub record Next {X : Type 0} (f : A → X) (v : X) (k b : ℕ) : Type 0 where
-    pub value : A
-    pub list : drop k xs ≡ value ∷ drop (k + 1) xs
-    pub seen : f value ≡ v
-    pub on : Left (k + 1) b
-
-  pub left-next : {X : Type 0} {f : A → X} {v : X} (k a b : ℕ) → k < n → Left k a → Reads c f s a v b → Next f v k b
-  left-next k a b l w (got x e q h r) =
-      let z : n - k ≡ suc (n - (k + 1)) = omega arith in
-      let e₁ : andThen (eachIn (c .read) (n - (k + 1)) (drop b s)) (λ ys cs. some (x ∷ ys, cs)) ≡ some (drop k xs, w .rest) = rw (z, e)
-      at (w .reads)
-      in
-      let (y, o, e₂) = inverse (eachIn (c .read) (n - (k + 1)) (drop b s)) (λ ys cs. some (x ∷ ys, cs)) (drop k xs, w .rest) e₁ in
-      let p = Option·some-injective (x ∷ y .0, y .1) (drop k xs, w .rest) e₂ in
-      let d : drop k xs ≡ x ∷ y .0 = sym (ap (λ (z : List A × List ℕ). z .0) p) in
-      let t : drop (k + 1) xs ≡ y .0 = sym (drop-drop 1 k xs) ∙ ap (drop 1) d in
-      record {
-        value = x;
-        list = d ∙ ap (λ (l : List A). x ∷ l) (sym t);
-        seen = q;
-        on = record { within = r; rest = y .1; reads = o ∙ ap (λ (l : List A). some (l, y .1)) (sym t) };
-      }
-  left-next k a b l w (bad o m) =
-      let z : n - k ≡ suc (n - (k + 1)) = omega arith in
-      none≢some (rw (z, m (w .within)) at (w .reads))
-
-  pub left-end : (k a : ℕ) → n ≤ k → Left k a → drop k xs ≡ []
-  left-end k a l w =
-      let z : n - k ≡ 0 = omega arith in
-      let e : Prim.Path (Option (List A × List ℕ)) (some ([], drop a s)) (some (drop k xs, w .rest)) = rw z at (w .reads) in
-      sym (ap (λ (z : List A × List ℕ). z .0) (Option·some-injective ([], drop a s) (drop k xs, w .rest) e))
 
 -- ---- times
 
@@ -98,14 +52,6 @@ stamp-is x e = sym (time-is (x .time)) ∙ ap (λ v. v .time) e
 abbrev pub stamps : List Entry → List Float
 stamps [] = []
 stamps (x ∷ xs) = stamp x ∷ stamps xs
-
--- one more of some values
-taken-next : (xs : List Entry) (i : ℕ) {x : Entry} {ys : List Entry} → drop i xs ≡ x ∷ ys → take (i + 1) xs ≡ take i xs ++ x ∷ []
-taken-next xs i e = take-add i 1 xs ∙ ap (λ (l : List Entry). take i xs ++ take 1 l) e
-
-stamps-append : (xs ys : List Entry) → stamps (xs ++ ys) ≡ stamps xs ++ stamps ys
-stamps-append [] ys = refl
-stamps-append (x ∷ xs) ys = ap (λ (l : List Float). stamp x ∷ l) (stamps-append xs ys)
 
 any-cons : (time u : Float) (us : List Float) → anyNear time (u ∷ us) ≡ (near u time || anyNear time us)
 unfolding anyNear
@@ -161,145 +107,111 @@ kept-more us i x h =
     ∙ ap (λ (l : List Float). l ++ getD (set us i x) i x ∷ []) (take-set-le i us i x (omega arith))
     ∙ ap (λ (y : Float). take i us ++ y ∷ []) (getD-set-same us i x x h)
 
--- ---- frames that are passed
+-- ---- frames, one after the other
 
-module _ (t s : List ℕ) (n : ℕ) (fs : List Entry) where
+-- what is read first decides, whatever is read behind it
+decided : {A X Y Z : Type 0} {c : Form A} {f : A → X} (j : ℕ) {g : List A → Y} (h : List A → Z) {s : List ℕ} {at b m : ℕ} {v : X} {w : Y}
+    {z : Z}
+    → Reads c f s at v b → Reads (each c (suc j)) g s at w m
+    → ((x : A) (xs : List A) → f x ≡ v → g (x ∷ xs) ≡ w → h (x ∷ xs) ≡ z)
+    → Reads (each c (suc j)) h s at z m
+decided j h r (bad o n) t = bad o n
+decided j h (bad o n) (got fs e q l k) t = none≢some (rw (n (le-trans l k)) at e)
+decided {A} {c = c} j {g = g} h {s} {at} {b} {m} {w = w} {z = z} (got x e p l k) (got fs e′ q l′ k′) t =
+    let e₁ : andThen (eachIn (c .read) j (drop b s)) (λ ys cs. some (x ∷ ys, cs)) ≡ some (fs, drop m s) = rw e at e′ in
+    let (y, o, e₂) = inverse (eachIn (c .read) j (drop b s)) (λ ys cs. some (x ∷ ys, cs)) (fs, drop m s) e₁ in
+    let d : x ∷ y .0 ≡ fs = ap (λ (u : List A × List ℕ). u .0) (Option·some-injective (x ∷ y .0, y .1) (fs, drop m s) e₂) in
+    got fs e′ (subst (λ (l : List A). h l ≡ z) d (t x (y .0) p (subst⁻¹ (λ (l : List A). g l ≡ w) d q))) l′ k′
+
+module _ (t : List ℕ) where
+  -- how many frames there are, and their first fault behind frames of the times `seen`
+  abbrev view : List Float → List Entry → ℕ × Option Refusal
+  view seen fs = (length fs, validateFrames t seen fs)
+
+  no-frames : (seen : List Float) (fs : List Entry) → length fs ≡ 0 → validateFrames t seen fs ≡ none
+  unfolding validateFrames
+  no-frames seen [] e = refl
+  no-frames seen (x ∷ fs) e = absurd (omega arith)
+
+  module _ (seen : List Float) (x : Entry) (fs : List Entry) where
+    near-one : anyNear (stamp x) seen ≡ true → validateFrames t seen (x ∷ fs) ≡ some DuplicateTime
+    unfolding validateFrames first
+    near-one e = rw e
+
+    no-easing : anyNear (stamp x) seen ≡ false → given (unknownEasing t) (x .easing) ≡ true
+        → validateFrames t seen (x ∷ fs) ≡ some UnknownEasing
+    unfolding validateFrames first
+    no-easing e q = rw (e, q)
+
+    no-fault : anyNear (stamp x) seen ≡ false → given (unknownEasing t) (x .easing) ≡ false
+        → validateFrames t seen (x ∷ fs) ≡ validateFrames t (seen ++ stamp x ∷ []) fs
+    unfolding validateFrames first
+    no-fault e q = rw (e, q)
+
+-- ---- what the two loops keep
+
+module _ (t s : List ℕ) (from count : ℕ) where
   abbrev form : Form Entry
   form = entryForm (length t)
 
-  -- the frames before i are passed
-  abbrev pub Passed : ℕ → Type 0
-  Passed i = validateFrames t (stamps (take i fs)) (drop i fs) ≡ validateFrames t [] fs
-
-  no-frames : (us : List Float) → none ≡ validateFrames t us []
-  unfolding validateFrames
-  no-frames us = refl
-
-  pub passed-end : (i a : ℕ) → n ≤ i → Left form s n fs i a → Passed i → none ≡ validateFrames t [] fs
-  passed-end i a l w g =
-      no-frames (stamps (take i fs))
-      ∙ ap (λ (l : List Entry). validateFrames t (stamps (take i fs)) l) (sym (left-end form s n fs i a l w))
-      ∙ g
-
-  module _ (i : ℕ) {v : entries.KeyframeEntry} {b : ℕ} (w : Next form s n fs entryView v i b) where
-    abbrev near-one : Bool
-    near-one = anyNear (stamp (w .value)) (stamps (take i fs))
-
-    abbrev no-easing : Bool
-    no-easing = given (unknownEasing t) (w .value .easing)
-
-    abbrev onward : Option Refusal
-    onward = validateFrames t (stamps (take i fs) ++ stamp (w .value) ∷ []) (drop (i + 1) fs)
-
-    head : validateFrames t (stamps (take i fs)) (drop i fs)
-        ≡ orElse (first ((near-one, DuplicateTime) ∷ (no-easing, UnknownEasing) ∷ [])) onward
-    unfolding validateFrames
-    head = ap (λ (l : List Entry). validateFrames t (stamps (take i fs)) l) (w .list)
-
-    pub passed-near : near-one ≡ true → Passed i → some DuplicateTime ≡ validateFrames t [] fs
-    unfolding first
-    passed-near e g = sym (rw e at head) ∙ g
-
-    pub passed-bad : near-one ≡ false → no-easing ≡ true → Passed i → some UnknownEasing ≡ validateFrames t [] fs
-    unfolding first
-    passed-bad e q g = sym (rw (e, q) at head) ∙ g
-
-    pub passed-next : near-one ≡ false → no-easing ≡ false → Passed i → Passed (i + 1)
-    unfolding first
-    passed-next e q g =
-        ap (λ (l : List Float). validateFrames t l (drop (i + 1) fs))
-        (ap stamps (taken-next fs i (w .list)) ∙ stamps-append (take i fs) (w .value ∷ []))
-        ∙ sym (rw (e, q) at head) ∙ g
-
--- ---- what the two loops keep, whichever frames stand there
-
-module _ (t s : List ℕ) (from count : ℕ) where
-  abbrev Frames : List Entry → Type 0
-  Frames fs = Stands (each (entryForm (length t)) count) s from fs
-
-  -- the frames before i are passed, the one at i stands at a, and the first of the times us are theirs
+  -- i frames are passed, and the first i of the times us are theirs: what is told of those from a on is told of all
   pub record Going (us : List Float) (i a : ℕ) : Type 0 where
-    pub is : (fs : List Entry) → Frames fs → Left (entryForm (length t)) s count fs i a × Passed t s count fs i
-    pub kept : (fs : List Entry) → Frames fs → take i us ≡ stamps (take i fs)
+    pub tells : (m : ℕ) (o : Option Refusal) → Reads (each form (count - i)) (view t (take i us)) s a (count - i, o) m
+        → Reads (each form count) (framesView t) s from (count, o) m
 
   pub going-start : (us : List Float) → Going us 0 from
-  going-start us = record { is = λ fs h. (left-start (entryForm (length t)) s count fs from h, refl); kept = λ fs h. refl }
+  going-start us = record { tells = λ m o r. let e : count - 0 ≡ count = omega arith in rw e at r }
 
-module _ {t s : List ℕ} {from count : ℕ} {us : List Float} where
+module _ {t s : List ℕ} {from count : ℕ} {us : List Float} {i a : ℕ} (g : Going t s from count us i a) where
   -- the frame at i is e
-  module _ {i a b : ℕ} {e : entries.KeyframeEntry} (g : Going t s from count us i a) (l : i < count)
-      (r : Reads (entryForm (length t)) entryView s a e b) where
-    abbrev here : (fs : List Entry) → Frames t s from count fs → Next (entryForm (length t)) s count fs entryView e i b
-    here fs h = left-next (entryForm (length t)) s count fs i a b l (g .is fs h .0) r
+  module _ {b : ℕ} {e : entries.KeyframeEntry} (l : i < count) (r : Reads (entryForm (length t)) entryView s a e b) where
+    -- a fault of the frame at i, whatever stands behind it
+    faulty : {m : ℕ} {o : Refusal} → ((x : Entry) (fs : List Entry) → entryView x ≡ e → validateFrames t (take i us) (x ∷ fs) ≡ some o)
+        → Reads (each (entryForm (length t)) (count - i)) length s a (count - i) m
+        → Reads (each (entryForm (length t)) count) (framesView t) s from (count, some o) m
+    faulty {m} {o} f q =
+        let z : count - i ≡ suc (count - (i + 1)) = omega arith in
+        g .tells m (some o)
+        (rw z (decided (count - (i + 1)) (view t (take i us)) r (rw z at q) (λ x fs h k j. (k j, f x fs h j))))
 
-    abbrev its-stamp : (fs : List Entry) (h : Frames t s from count fs) → stamp (here fs h .value) ≡ e .time
-    its-stamp fs h = stamp-is (here fs h .value) (here fs h .seen)
-
-    -- what the search told is told of the definition's times
-    searched : (fs : List Entry) (h : Frames t s from count fs) {q : Bool} → anyNear (e .time) (take i us) ≡ q
-        → anyNear (stamp (here fs h .value)) (stamps (take i fs)) ≡ q
-    searched fs h z = (λ k. anyNear (its-stamp fs h k) (sym (g .kept fs h) k)) ∙ z
-
-    pub duplicate-found : anyNear (e .time) (take i us) ≡ true → FramesTell t s from count (Is DuplicateTime)
-    duplicate-found z fs h = passed-near t s count fs i (here fs h) (searched fs h z) (g .is fs h .1)
+    pub duplicate-found : {m : ℕ} → anyNear (e .time) (take i us) ≡ true
+        → Reads (each (entryForm (length t)) (count - i)) length s a (count - i) m
+        → Reads (each (entryForm (length t)) count) (framesView t) s from (count, some DuplicateTime) m
+    duplicate-found z q = faulty (λ x fs h. near-one t (take i us) x fs (ap (λ (y : Float). anyNear y (take i us)) (stamp-is x h) ∙ z)) q
 
     -- none was near
     module _ (z : anyNear (e .time) (take i us) ≡ false) {q : Bool}
         (u : Tells entryView (λ x. given (unknownEasing t) (x .easing)) e q) where
-      told : (fs : List Entry) (h : Frames t s from count fs) {o : Bool} → q ≡ o → given (unknownEasing t) (here fs h .value .easing) ≡ o
-      told fs h y = sym (u (here fs h .value) (here fs h .seen)) ∙ y
+      far : (x : Entry) → entryView x ≡ e → anyNear (stamp x) (take i us) ≡ false
+      far x h = ap (λ (y : Float). anyNear y (take i us)) (stamp-is x h) ∙ z
 
-      pub easing-unknown : q ≡ true → FramesTell t s from count (Is UnknownEasing)
-      easing-unknown y fs h = passed-bad t s count fs i (here fs h) (searched fs h z) (told fs h y) (g .is fs h .1)
+      pub easing-unknown : {m : ℕ} → q ≡ true
+          → Reads (each (entryForm (length t)) (count - i)) length s a (count - i) m
+          → Reads (each (entryForm (length t)) count) (framesView t) s from (count, some UnknownEasing) m
+      easing-unknown y p = faulty (λ x fs h. no-easing t (take i us) x fs (far x h) (sym (u x h) ∙ y)) p
 
       pub going-next : q ≡ false → i < length us → Going t s from count (set us i (e .time)) (i + 1) b
       going-next y k = record {
-        is = λ fs h. (here fs h .on, passed-next t s count fs i (here fs h) (searched fs h z) (told fs h y) (g .is fs h .1));
-        kept = λ fs h.
-            kept-more us i (e .time) k
-            ∙ (λ j. g .kept fs h j ++ sym (its-stamp fs h) j ∷ [])
-            ∙ sym (stamps-append (take i fs) (here fs h .value ∷ []))
-            ∙ ap stamps (sym (taken-next fs i (here fs h .list)));
+        tells = λ m o p.
+            let w : count - i ≡ suc (count - (i + 1)) = omega arith in
+            g .tells m o
+            (rw w (each-next (count - (i + 1)) (view t (take i us)) r p (λ x fs h f j. (suc (f j .0), (behind x fs h ∙ (λ j. f j .1)) j))));
       }
+        where
+          behind : (x : Entry) (fs : List Entry) → entryView x ≡ e
+              → validateFrames t (take i us) (x ∷ fs) ≡ validateFrames t (take (i + 1) (set us i (e .time))) fs
+          behind x fs h =
+              no-fault t (take i us) x fs (far x h) (sym (u x h) ∙ y)
+              ∙ ap (λ (y : Float). validateFrames t (take i us ++ y ∷ []) fs) (stamp-is x h)
+              ∙ ap (λ (l : List Float). validateFrames t l fs) (sym (kept-more us i (e .time) k))
 
-  pub going-done : {i a : ℕ} → Going t s from count us i a → count ≤ i → FramesTell t s from count None
-  going-done {i} {a} g l fs h = passed-end t s count fs i a l (g .is fs h .0) (g .is fs h .1)
+  pub going-done : {m : ℕ} → count ≤ i → Reads (each (entryForm (length t)) (count - i)) length s a (count - i) m
+      → Reads (each (entryForm (length t)) count) (framesView t) s from (count, none) m
+  going-done {m} l q =
+      let z : count - i ≡ 0 = omega arith in
+      g .tells m none (seen q (λ fs e j. (e j, no-frames t (take i us) fs (e ∙ z) j)))
 
--- ---- a track
-
--- its frames stand behind its target and their count
-pub frames-at : (n : ℕ) {X : Type 0} {view : Span → X} {s : List ℕ} {at b c m : ℕ} {v : X}
-    → Reads (spanForm n) view s at v b → Reads (big 2) same s b c m
-    → FramesAt n s at m
-frames-at n (bad o k) q x h = none≢some (rw (k (h .within)) at (h .reads))
-frames-at n (got a e i g l) (bad o k) x h = none≢some (rw (e, k l) at (h .reads))
-frames-at n {s = s} {m = m} (got a e i g l) (got c e′ i′ g′ l′) x h =
-    go (each (entryForm n) c .read (drop m s)) refl (rw (e, e′) at (h .reads))
-  where
-    go : (o : Option (List Entry × List ℕ)) → each (entryForm n) c .read (drop m s) ≡ o
-        → andThen (andThen (andThen o (λ fs r. andThen (opt loopForm .read r) (λ mode r. some ((fs, mode), r)))) (λ p r. some ((a, p), r)))
-        (λ z r. some (toKeyframes z, r))
-        ≡ some (x, h .rest)
-        → Stands (each (entryForm n) (length (x .frames))) s m (x .frames)
-    go none p q = none≢some q
-    go (some z) p q = more (opt loopForm .read (z .1)) q
-      where
-        more : (o : Option (Option LoopSpec × List ℕ))
-            → andThen (andThen (andThen o (λ mode r. some ((z .0, mode), r))) (λ p r. some ((a, p), r))) (λ z r. some (toKeyframes z, r))
-            ≡ some (x, h .rest)
-            → Stands (each (entryForm n) (length (x .frames))) s m (x .frames)
-        more none q = none≢some q
-        more (some y) q =
-            let e : z .0 ≡ x .frames = ap (λ (w : KeyframeSpec KeyframeTime × List ℕ). w .0 .frames)
-            (Option·some-injective (toKeyframes (a, (z .0, y .0)), y .1) (x, h .rest) q)
-            in
-            let k : length (z .0) ≡ c = each-lawful (entryForm n) (entryL n .ok) (entryL n .law) c .forth (drop m s) z p .1 .0 in
-            record {
-              within = l′;
-              rest = z .1;
-              reads = ap (λ (j : ℕ). each (entryForm n) j .read (drop m s)) (ap length (sym e) ∙ k)
-                  ∙ p ∙ ap (λ (fs : List Entry). some (fs, z .1)) e;
-            }
+-- ---- how many frames a sheet holds
 
 -- an entry has at least 9 bytes
 entry-bytes : (n : ℕ) (x : Entry) → 9 ≤ length (entryForm n .write x)
@@ -323,33 +235,44 @@ entries-bytes : (n : ℕ) (fs : List Entry) → 9 * length fs ≤ length (eachOu
 entries-bytes n [] = omega arith
 entries-bytes n (x ∷ fs) = rw (length-append (entryForm n .write x)) (let a = entry-bytes n x in let b = entries-bytes n fs in omega arith)
 
--- so a sheet holds at most 7,281
-pub few-frames : (n count : ℕ) {s : List ℕ} {at : ℕ} {fs : List Entry} → Stands (each (entryForm n) count) s at fs → 9 * count ≤ length s
-few-frames n count {s} {at} {fs} h =
-    let (e, k) = each-lawful (entryForm n) (entryL n .ok) (entryL n .law) count .forth (drop at s) (fs, h .rest) (h .reads) in
-    let a = ap length e ∙ length-append (eachOut (entryForm n .write) fs) (h .rest) in
-    let b = entries-bytes n fs in
-    let c = length-drop at s in
-    let d : length fs ≡ count = k .0 in
-    omega arith
+-- no sheet holds more than 7,281: then nothing is read from a lost place on
+pub too-many : (t : List ℕ) {s : List ℕ} {at count a k m : ℕ} {o : Option Refusal} → InLimit s → 7281 < count → Lost s a
+    → Reads (each (entryForm (length t)) k) length s a k m
+    → Reads (each (entryForm (length t)) count) (framesView t) s at (count, o) m
+too-many t {s} {at} {count} {m = m} short many lost r =
+    bad (still lost r) (λ h. go (each (entryForm (length t)) count .read (drop at s)) refl)
+  where
+    still : {A X : Type 0} {c : Form A} {f : A → X} {a : ℕ} {v : X} → Lost s a → Reads c f s a v m → Lost s m
+    still o (got x e q h l) = omega arith
+    still o (bad p n) = p
 
-module _ (t : List ℕ) (x : KeyframeSpec KeyframeTime) (v : tracks.KeyframeSpec) (e : keyframesView x ≡ v) where
-  pub few : v .frames < 2 → some TooFewFrames ≡ validateKeyframes t x
+    go : (o : Option (List Entry × List ℕ)) → each (entryForm (length t)) count .read (drop at s) ≡ o → o ≡ none
+    go none e = refl
+    go (some z) e =
+        let (q, k) = each-lawful (entryForm (length t)) (entryL (length t) .ok) (entryL (length t) .law) count .forth (drop at s) z e in
+        let a = ap length q ∙ length-append (eachOut (entryForm (length t) .write) (z .0)) (z .1) in
+        let b = entries-bytes (length t) (z .0) in
+        let c = length-drop at s in
+        let d : length (z .0) ≡ count = k .0 in
+        absurd (omega arith)
+
+-- ---- a track: its target, its count of frames, the frames, its loop mode
+
+module _ (t : List ℕ) {s : List ℕ} {at count first m k : ℕ} {o : Option Refusal} (h : HeadStands (length t) s at count first)
+    (r : Reads (each (entryForm (length t)) count) (framesView t) s first (count, o) m)
+    {X : Type 0} {f : Option LoopSpec → X} {v : X} (q : Reads (opt loopForm) f s m v k) where
+  track : {p : Option Refusal}
+      → ((x : KeyframeSpec KeyframeTime) → length (x .frames) ≡ count → validateFrames t [] (x .frames) ≡ o → validateKeyframes t x ≡ p)
+      → Reads (keyframesForm (length t)) (validateKeyframes t) s at p k
+  track g =
+      through toKeyframes ofKeyframes
+      (seen (h .targetAt & counted length (each (entryForm (length t))) (h .countAt) r & q)
+      (λ x e. g (toKeyframes x) (λ i. e i .1 .0 .0) (λ i. e i .1 .0 .1)))
+
+  pub few : count < 2 → Reads (keyframesForm (length t)) (validateKeyframes t) s at (some TooFewFrames) k
   unfolding validateKeyframes first
-  few h = let z : length (x .frames) ≡ v .frames = ap (λ w. w .frames) e in rw (z, lt-ltb (v .frames) 2 h)
+  few l = track (λ x e p. rw (e, lt-ltb count 2 l))
 
-  pub enough : 2 ≤ v .frames → validateFrames t [] (x .frames) ≡ validateKeyframes t x
+  pub enough : 2 ≤ count → Reads (keyframesForm (length t)) (validateKeyframes t) s at o k
   unfolding validateKeyframes first
-  enough h = let z : length (x .frames) ≡ v .frames = ap (λ w. w .frames) e in rw (z, le-ltb (v .frames) 2 h)
-
-module _ (t s : List ℕ) (at : ℕ) (v : tracks.KeyframeSpec) {first : ℕ} (f : FramesAt (length t) s at first) where
-  -- the fault of its frames is the track's
-  pub frames-tell : (r : Fault) → 2 ≤ v .frames → FramesTell t s first (v .frames) r → TrackTells t s at v r
-  frames-tell r l g x h e =
-      let k : length (x .frames) ≡ v .frames = ap (λ w. w .frames) e in g (x .frames) (rw k at (f x h)) ∙ enough t x v e l
-
-  -- no sheet holds more than 8,192 frames
-  pub too-many : (r : Fault) → InLimit s → 8192 < v .frames → TrackTells t s at v r
-  too-many r l g x h e =
-      let k : length (x .frames) ≡ v .frames = ap (λ w. w .frames) e in
-      absurd (let z = few-frames (length t) (length (x .frames)) (f x h) in omega arith)
+  enough l = track (λ x e p. rw (e, le-ltb count 2 l) p)

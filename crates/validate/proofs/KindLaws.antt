@@ -4,17 +4,16 @@ use mathlib.Core.List.{List}
 use mathlib.Core.Option.{Option, none}
 use mathlib.Core.Logic.{⊎-elim}
 use mathlib.Core.Path.{_≡_, sym, _∙_, ap}
-use native.Mathlib.Nat.{le-trans}
 use native.Mathlib.Omega.{arith}
 use lib.ListN.{length}
-use Rattle.codec.specs.Codec.{Form, _▹_, below, big, opt}
+use Rattle.codec.specs.Codec.{_▹_, below, big, opt}
 use Rattle.ast.specs.Tree as tree
 use Rattle.ast.specs.Tree.{Leaf, KeyframeTime, single, holding, width}
 use Rattle.ast.specs.View.{groupView, staggerView}
 use Rattle.ast.specs.declared.GroupSpec as groups
 use Rattle.ast.specs.declared.StaggerSpec as staggers
-use Rattle.sheet.specs.Sheet.{word, patternForm}
-use Rattle.decode.specs.Reads.{Reads, got, bad, same, KindAndStart}
+use Rattle.sheet.specs.Sheet.{word, patternForm, keyframesForm}
+use Rattle.decode.specs.Reads.{Reads, same, KindAndStart}
 use Rattle.records.specs.Record.{blank, countForm, recordForm}
 use Rattle.records.specs.declared.Kind.{Kind}
 use Rattle.records.specs.declared.Kind.the-variants as kind
@@ -22,17 +21,11 @@ use Rattle.colors.specs.Css.{namesOf}
 use Rattle.error.specs.declared.Refusal.{Refusal}
 use Rattle.decode.proofs.ReadLaws.{_&_}
 use Rattle.records.proofs.RecordLaws.{made, after, counts, width-blank, of-kind, three-or-four}
-use Rattle.node_rules.specs.Rules.{validateLeaf, validateContainer}
-use Rattle.places.specs.Stands.{Stands, ContainerKind}
+use Rattle.node_rules.specs.Rules.{validateKeyframes, validateLeaf, validateContainer}
+use Rattle.places.specs.Stands.{ContainerKind}
 use Rattle.node_rules.specs.Means.{faultOf, StaggerTells}
 use Rattle.validate.specs.Walks.{recordView}
 use Rattle.node_rules.specs.declared.faults.Fault.{Fault}
-
--- the same bytes under another view, where what stands there is known too
-pub known : {A X Y : Type 0} {c : Form A} {f : A → X} {g : A → Y} {s : List ℕ} {at m : ℕ} {v : X} {w : Y}
-    → Reads c f s at v m → ((a : A) → Stands c s at a → f a ≡ v → w ≡ g a) → Reads c g s at w m
-known (got a e q h l) k = got a e (sym (k a (record { within = le-trans h l; rest = _; reads = e }) q)) h l
-known (bad o n) k = bad o n
 
 -- ---- a leaf
 
@@ -40,6 +33,15 @@ pub leaf-is : (list : ℕ) (t : List ℕ) (p : ℕ) (l : Leaf KeyframeTime) {o :
     → o ≡ validateLeaf (namesOf list) t l
     → Prim.Path (Option Refusal × Kind) (recordView list t (single p l)) (o, kind.Leaf)
 leaf-is list t p l e = λ i. (sym e i, kind.Leaf)
+
+-- a track
+pub track-record : (list : ℕ) (t : List ℕ) {s : List ℕ} {from start at k m : ℕ} {o : Option Refusal}
+    → KindAndStart (length t) s from k start at
+    → k ≡ 2 → Reads (keyframesForm (length t)) (validateKeyframes t) s at o m
+    → Reads {X = Option Refusal × Kind} (recordForm (length t)) (recordView list t) s from (o, kind.Leaf) m
+unfolding validateLeaf
+track-record list t b e r =
+    of-kind 2 b e (b .startAt & r) (λ x h. leaf-is list t (x .0) (tree.keyframes (x .1)) (sym (λ i. h i .1)))
 
 -- ---- a container: its own fields and its count of nodes
 

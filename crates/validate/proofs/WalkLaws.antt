@@ -1,25 +1,28 @@
--- The walk over nodes to the first refusal, under a list of colours.
+-- One walk over nodes: whether they are there, and their first fault, under a list of colours. Assumes nothing.
 use Prim.Native.Nat.{ℕ, suc, _+_, _-_, _≤_, _<_}
 use mathlib.Core.List.{List}
-use mathlib.Core.Option.{Option, none, some, Option·some-injective}
-use mathlib.Core.Path.{_≡_, refl, sym, _∙_, ap, subst}
+use mathlib.Core.Option.{Option, none, some}
+use mathlib.Core.Path.{_≡_, refl, _∙_, ap}
 use native.Mathlib.Nat.{add-zero}
 use native.Mathlib.Numerals.{add-one}
 use native.Mathlib.Omega.{arith}
-use lib.ListN.{length, drop}
+use lib.ListN.{length}
 use Rattle.text.specs.Words.{orElse}
-use Rattle.ast.specs.Tree.{Nodes, Container, box, single, holding, push, records}
-use Rattle.sheet.specs.Sheet.{Node, Forest, forest, inner}
+use Rattle.codec.specs.Codec.{Form}
+use Rattle.ast.specs.Tree.{Nodes, single, holding, push, records}
+use Rattle.sheet.specs.Sheet.{Node, Forest, nodeForm, forest, inner}
+use Rattle.decode.specs.Reads.{Lost, Reads}
+use Rattle.records.specs.Record.{recordForm}
 use Rattle.records.specs.declared.Kind.{Kind}
 use Rattle.records.specs.declared.Kind.the-variants as kind
+use Rattle.records.proofs.RecordLaws.{moves}
+use Rattle.records.proofs.WalkLaws as walks
+use Rattle.records.proofs.WalkLaws.{Single, Holds}
 use Rattle.colors.specs.Css.{namesOf}
 use Rattle.error.specs.declared.Refusal.{Refusal}
-use Rattle.node_rules.specs.Rules.{validateContainer, validateNodes}
-use Rattle.places.specs.Stands.{Stands}
-use Rattle.places.proofs.StandLaws.{Opened, plain, boxed, front}
-use Rattle.validate.specs.Walks.{recordFault, Clean, Says, Onward, NodeWalk}
+use Rattle.node_rules.specs.Rules.{atOrdinal, validateLeaf, validateContainer, validateNodes}
+use Rattle.validate.specs.Walks.{recordView, foundOf, nodesView, Reached, NodeWalk, NodesWalk}
 use Rattle.validate.specs.declared.nodes.Walk.{Walk}
-use Rattle.validate.specs.declared.nodes.Walk.the-variants.{Refused, Passed}
 
 or-none : {A : Type 0} (o : Option A) → orElse o none ≡ o
 or-none none = refl
@@ -29,54 +32,81 @@ or-assoc : {A : Type 0} (x y z : Option A) → orElse (orElse x y) z ≡ orElse 
 or-assoc none y z = refl
 or-assoc (some a) y z = refl
 
--- a walk from a later place
-pub onward : (s : List ℕ) (at m : ℕ) (w : Walk) → length s - m ≤ length s - at → Onward s m w → Onward s at w
-onward s at m (Refused r p) l h = tt
-onward s at m (Passed next after) l h = (omega arith, h .1)
+-- a fault with an ordinal
+abbrev Fault : Type 0
+Fault = Option (Refusal × ℕ)
 
--- ---- what a node's record decides
+-- ---- a node: its record, then the nodes in it
 
-module _ (list : ℕ) (t s : List ℕ) (i : ℕ) {m : ℕ} {x : Node} {rest : List ℕ} where
-  pub refused : {r : Refusal} {k : Kind}
-      → Opened (recordFault list t) (length t) s m (some r) k x rest
-      → validateNodes (namesOf list) t i (push x Nodes.none) ≡ some (r, i)
-  unfolding validateNodes
-  refused (plain j l p q e b w) = rw (p, e)
-  refused (boxed j b ms ns c d p q e g u) = rw (p, e)
+module _ (list : ℕ) (t : List ℕ) (i d : ℕ) where
+  -- of one node
+  abbrev nodeView : Node → Fault × ℕ
+  nodeView x = nodesView list t i (push x Nodes.none)
 
-  pub clean-leaf : Opened (recordFault list t) (length t) s m none kind.Leaf x rest → Clean list t s i (push x Nodes.none) rest m (i + 1)
-  unfolding validateNodes
-  clean-leaf (plain j l p q e b w) = record { accepted = rw (p, e); behind = b; within = w; counted = rw p }
-  clean-leaf (boxed j b ms ns c d p q e g u) = let z : _≡_ {A = ℕ} 0 1 = cc in absurd (omega arith)
+  module _ {s : List ℕ} {at m : ℕ} {o : Option Refusal} where
+    leaf-reads : Reads {X = Option Refusal × Kind} (recordForm (length t)) (recordView list t) s at (o, kind.Leaf) m
+        → Reads {X = Fault × ℕ} (nodeForm (length t) (inner (length t) d)) nodeView s at (atOrdinal i o, i + 1) m
+    unfolding validateNodes
+    leaf-reads r = walks.a-leaf (length t) d r single-is
+      where
+        single-is : (x : Node) → Prim.Path (Option Refusal × Kind) (recordView list t x) (o, kind.Leaf)
+            → Single {Y = Fault × ℕ} nodeView (atOrdinal i o, i + 1) x
+        single-is (single p l) e =
+            let a = or-none (atOrdinal i (validateLeaf (namesOf list) t l)) ∙ ap (λ (v : Option Refusal × Kind). atOrdinal i (v .0)) e in
+            λ j. (a j, i + 1)
+        single-is (holding p k ns) e = let z : _≡_ {A = ℕ} 0 1 = cc (ap (λ (v : Option Refusal × Kind). v .1) e) in absurd (omega arith)
 
-module _ (list : ℕ) (t s : List ℕ) (i : ℕ) (rest : List ℕ) where
-  inside-says : (j : ℕ) (b : Container) (ns : Forest) (w : Walk) → validateContainer b ≡ none
-      → Says list t s (i + 1) ns rest w → Says list t s i (box j b ns Nodes.none) rest w
-  unfolding validateNodes
-  inside-says j b ns (Refused r p) e h = rw (e, or-none, ← add-one) h
-  inside-says j b ns (Passed next after) e h = record {
-    accepted = rw (e, or-none, ← add-one) (h .accepted);
-    behind = h .behind;
-    within = h .within;
-    counted = h .counted ∙ more (records ns);
-  }
-    where
-      more : (r : ℕ) → i + 1 + r ≡ i + suc (r + 0)
-      more r = omega arith
+    -- a node that holds no others, w being its walk
+    pub leaf-walk : {w : Walk} → at < length s → Reached s at i
+        → (foundOf (w .found) ≡ atOrdinal i o) × (w .next ≡ m) × (w .ordinal ≡ i + 1)
+        → Reads {X = Option Refusal × Kind} (recordForm (length t)) (recordView list t) s at (o, kind.Leaf) m → NodeWalk list t s d at i w
+    leaf-walk l h e r = record {
+      reads = rw (e .0, e .1, e .2) (leaf-reads r);
+      on = let k = moves (length t) r l in (omega (arith, k, h, e .1, e .2), omega (arith, l, h, e .2));
+    }
 
-  pub clean-box : {m c : ℕ} {x : Node} (w : Walk) → Opened (recordFault list t) (length t) s m none (kind.Container c) x rest
-      → ((d : ℕ) (ns : Forest) (g : Stands (forest (length t) (inner (length t) d) c) s m ns) → Says list t s (i + 1) ns (g .rest) w)
-      → Says list t s i (push x Nodes.none) rest w
-  clean-box w (plain j l p q e b h) f = let z : _≡_ {A = ℕ} 0 1 = cc in absurd (omega arith)
-  clean-box {m} {c} w (boxed j b ms ns k d p q e g u) f =
-      let z : c ≡ k = cc in
-      let f′ = subst
-      (λ (c : ℕ). (d : ℕ) (ns : Forest) (g : Stands (forest (length t) (inner (length t) d) c) s m ns)
-      → Says list t s (i + 1) ns (g .rest) w)
-      z
-      f
-      in
-      rw p (inside-says j b ns w e (subst (λ (r : List ℕ). Says list t s (i + 1) ns r w) u (f′ d ns g)))
+    module _ {c : ℕ} (r : Reads {X = Option Refusal × Kind} (recordForm (length t)) (recordView list t) s at (o, kind.Container c) m) where
+      -- no container may nest
+      pub deep-walk : {w : Walk} → d ≡ 0 → Reached s at i → Lost s (w .next) × (w .ordinal ≡ i) → NodeWalk list t s d at i w
+      deep-walk {w} e h l = record {
+        reads = walks.too-deep (length t) d {U = ℕ} c (λ ns. 0) 1 e r holds (l .0);
+        on = (omega (arith, h, l), omega (arith, h, l .1));
+      }
+        where
+          holds : (x : Node) → Prim.Path (Option Refusal × Kind) (recordView list t x) (o, kind.Container c)
+              → Holds {U = ℕ} {Y = Fault × ℕ} c (λ ns. 0) 1 nodeView (foundOf (w .found), w .ordinal) x
+          holds (single p l) e = let z : _≡_ {A = ℕ} 0 1 = cc (ap (λ (v : Option Refusal × Kind). v .1) e) in absurd (omega arith)
+          holds (holding p k ns) e = (cc (ap (λ (v : Option Refusal × Kind). v .1) e), λ ms z. absurd (omega arith))
+
+      box-reads : {f : Fault} {z k : ℕ} → 0 < d
+          → Reads {X = Fault × ℕ} (forest (length t) (inner (length t) (d - 1)) c) (nodesView list t (i + 1)) s m (f, z) k
+          → Reads {X = Fault × ℕ} (nodeForm (length t) (inner (length t) d)) nodeView s at (orElse (atOrdinal i o) f, z) k
+      unfolding validateNodes
+      box-reads {f} {z} l q = walks.a-container (length t) d c (nodesView list t (i + 1)) (f, z) l r holds q
+        where
+          more : (n : ℕ) → i + suc (n + 0) ≡ i + 1 + n
+          more n = omega arith
+
+          holds : (x : Node) → Prim.Path (Option Refusal × Kind) (recordView list t x) (o, kind.Container c)
+              → Holds {U = Fault × ℕ} {Y = Fault × ℕ} c (nodesView list t (i + 1)) (f, z) nodeView (orElse (atOrdinal i o) f, z) x
+          holds (single p l) e = let z : _≡_ {A = ℕ} 0 1 = cc (ap (λ (v : Option Refusal × Kind). v .1) e) in absurd (omega arith)
+          holds (holding p k ns) e = (
+            cc (ap (λ (v : Option Refusal × Kind). v .1) e),
+            λ ms h.
+                let a : validateNodes (namesOf list) t (suc i) ms ≡ f = rw add-one at (ap (λ (v : Fault × ℕ). v .0) h) in
+                let b : orElse (atOrdinal i (validateContainer k)) (orElse (validateNodes (namesOf list) t (suc i) ms) none)
+                ≡ orElse (atOrdinal i o) f = ap (λ (u : Fault). orElse (atOrdinal i (validateContainer k)) u) (or-none _ ∙ a)
+                ∙ ap (λ (v : Option Refusal × Kind). orElse (atOrdinal i (v .0)) f) e
+                in
+                let n = more (records ms) ∙ ap (λ (v : Fault × ℕ). v .1) h in
+                λ j. (b j, n j),
+          )
+
+      -- a container, u being the walk over the nodes in it and w its own
+      pub box-walk : {u w : Walk} → 0 < d → NodesWalk list t s (d - 1) m c (i + 1) u
+          → foundOf (w .found) ≡ orElse (atOrdinal i o) (foundOf (u .found)) → w .next ≡ u .next → w .ordinal ≡ u .ordinal
+          → NodeWalk list t s d at i w
+      box-walk {u} l q g a b = record { reads = rw (g, a, b) (box-reads l (q .reads)); on = rw (a, b) (q .on) }
 
 -- ---- nodes beside each other
 
@@ -91,90 +121,46 @@ split list t i (holding p b inside) ns =
     let e : i + suc (records inside + 0) ≡ suc i + records inside = omega arith in
     (rw (e, or-none, or-assoc), omega arith)
 
--- a walk over nodes, of which the first has the ordinal i₀
-module _ (list : ℕ) (t s : List ℕ) (i₀ : ℕ) where
-  -- the last j of ns stand at a, the first of these has the ordinal i, and what a walk says of these it says of ns
-  pub record Left (d j a i : ℕ) (ns : Forest) (rest : List ℕ) : Type 0 where
-    pub nodes : Forest
-    pub stand : Stands (forest (length t) (inner (length t) d) j) s a nodes
-    pub ends : stand .rest ≡ rest
-    pub tells : (w : Walk) → Says list t s i nodes rest w → Says list t s i₀ ns rest w
+-- the first of ordinal i₀, so many from a place on
+module _ (list : ℕ) (t s : List ℕ) (blk : Form Forest) (i₀ at count : ℕ) where
+  -- k nodes are passed, with the first fault f; the one at a has the ordinal i: what is told of those from a on is told of all
+  pub record Going (f : Fault) (a i k : ℕ) : Type 0 where
+    pub tells : (m : ℕ) (g : Fault) (z : ℕ) → Reads {X = Fault × ℕ} (forest (length t) blk (count - k)) (nodesView list t i) s a (g, z) m
+        → Reads {X = Fault × ℕ} (forest (length t) blk count) (nodesView list t i₀) s at (orElse f g, z) m
 
-  left-refused : {d j a i : ℕ} {ns : Forest} {rest : List ℕ} {r : Refusal} {p : ℕ}
-      → Left d (suc j) a i ns rest → NodeWalk list t s a i (Refused r p)
-      → Says list t s i₀ ns rest (Refused r p)
-  left-refused {d} {j} {a} {i} {r = r} {p = p} l w =
-      let f = front (length t) (inner (length t) d) j s a (l .nodes) (l .stand) in
-      l .tells (Refused r p)
-      (ap (λ (ns : Forest). validateNodes (namesOf list) t i ns) (sym (f .these))
-      ∙ split list t i (f .node) (f .others) .0 ∙ rw (w .is d (f .node) (f .stands)))
+  pub going-start : Going none at i₀ 0
+  going-start = record { tells = λ m g z r. let e : count - 0 ≡ count = omega arith in rw e at r }
 
-  left-next : {d j a i : ℕ} {ns : Forest} {rest : List ℕ} {next after : ℕ}
-      → Left d (suc j) a i ns rest → NodeWalk list t s a i (Passed next after)
-      → Left d j next after ns rest
-  left-next {d} {j} {a} {i} {rest = rest} {next = next} {after = after} l w =
-      let f = front (length t) (inner (length t) d) j s a (l .nodes) (l .stand) in
-      let c = w .is d (f .node) (f .stands) in
-      record {
-        nodes = f .others;
-        stand = record {
-          within = c .within;
-          rest = l .stand .rest;
-          reads = ap (λ (r : List ℕ). forest (length t) (inner (length t) d) j .read r) (sym (c .behind)) ∙ f .reads;
-        };
-        ends = l .ends;
-        tells = λ u q. l .tells u
-            (subst (λ (ns : Forest). Says list t s i ns rest u) (f .these) (joined (f .node) (f .others) (c .accepted) (c .counted) u q));
-      }
-    where
-      joined : (x : Node) (others : Forest)
-          → validateNodes (namesOf list) t i (push x Nodes.none) ≡ none
-          → after ≡ i + records (push x Nodes.none)
-          → (u : Walk) → Says list t s after others rest u → Says list t s i (push x others) rest u
-      joined x others e q (Refused r p) h = split list t i x others .0 ∙ rw (e, ← q) h
-      joined x others e q (Passed m k) h = record {
-        accepted = split list t i x others .0 ∙ rw (e, ← q) (h .accepted);
-        behind = h .behind;
-        within = h .within;
-        counted = let y = h .counted in let z = split list t i x others .1 in omega arith;
-      }
+  module _ {f : Fault} {a i k : ℕ} (go : Going f a i k) where
+    pub going-next : {g h : Fault} {b j : ℕ} → k < count
+        → Reads {X = Fault × ℕ} (nodeForm (length t) blk) (λ x. nodesView list t i (push x Nodes.none)) s a (g, j) b
+        → h ≡ orElse f g → Going h b j (k + 1)
+    going-next {g} {h} {b} {j} l r e = record {
+      tells = λ m u z q.
+          let c : count - k ≡ suc (count - (k + 1)) = omega arith in
+          let p = go .tells m (orElse g u) z
+          (rw c (walks.forest-next (length t) blk (count - (k + 1)) r q (λ x rest v w. joined x rest u z v w)))
+          in
+          rw (e, or-assoc) p;
+    }
+      where
+        joined : (x : Node) (rest : Forest) (u : Fault) (z : ℕ)
+            → Prim.Path (Fault × ℕ) (nodesView list t i (push x Nodes.none)) (g, j)
+            → Prim.Path (Fault × ℕ) (nodesView list t j rest) (u, z)
+            → Prim.Path (Fault × ℕ) (nodesView list t i (push x rest)) (orElse g u, z)
+        joined x rest u z v w =
+            let p = split list t i x rest in
+            let n : i + records (push x Nodes.none) ≡ j = λ y. v y .1 in
+            let e₀ : validateNodes (namesOf list) t i (push x rest) ≡ orElse g u =
+            p .0 ∙ (λ y. orElse (v y .0) (validateNodes (namesOf list) t (n y) rest)) ∙ (λ y. orElse g (w y .0)) in
+            let e₁ : j + records rest ≡ z = λ y. w y .1 in
+            let e₂ : i + records (push x rest) ≡ z = let q = p .1 in omega arith in
+            λ y. (e₀ y, e₂ y)
 
-  left-done : {d a i : ℕ} {ns : Forest} {rest : List ℕ} → Left d 0 a i ns rest → Says list t s i₀ ns rest (Passed a i)
-  unfolding validateNodes
-  left-done {a = a} {i = i} {rest = rest} l =
-      let p = Option·some-injective (Nodes.none, drop a s) (l .nodes, l .stand .rest) (l .stand .reads) in
-      l .tells (Passed a i) (over (l .nodes) (λ j. p j .0) (sym (l .ends) ∙ sym (λ j. p j .1)))
-    where
-      over : (ns : Forest) → Nodes.none ≡ ns → rest ≡ drop a s → Clean list t s i ns rest a i
-      over ns e b = rw (← e) (record { accepted = refl; behind = b; within = l .stand .within; counted = sym (add-zero i) })
-
-  -- the walk has come to a behind k of `count` nodes
-  abbrev pub Going : ℕ → ℕ → ℕ → ℕ → ℕ → Type 0
-  Going at count a i k =
-      (d : ℕ) (ns : Forest) (h : Stands (forest (length t) (inner (length t) d) count) s at ns) → Left d (count - k) a i ns (h .rest)
-
-  module _ (at count : ℕ) where
-    pub going-start : Going at count at i₀ 0
-    going-start d ns h =
-        let e : count ≡ count - 0 = omega arith in
-        subst (λ (j : ℕ). Left d j at i₀ ns (h .rest)) e (record { nodes = ns; stand = h; ends = refl; tells = λ w q. q })
-
-    module _ {a i k : ℕ} (g : Going at count a i k) where
-      one-more : k < count
-          → (d : ℕ) (ns : Forest) (h : Stands (forest (length t) (inner (length t) d) count) s at ns)
-          → Left d (suc (count - (k + 1))) a i ns (h .rest)
-      one-more l d ns h =
-          let e : count - k ≡ suc (count - (k + 1)) = omega arith in subst (λ (j : ℕ). Left d j a i ns (h .rest)) e (g d ns h)
-
-      pub going-refused : {r : Refusal} {p : ℕ} → k < count → NodeWalk list t s a i (Refused r p)
-          → (d : ℕ) (ns : Forest) (h : Stands (forest (length t) (inner (length t) d) count) s at ns)
-          → Says list t s i₀ ns (h .rest) (Refused r p)
-      going-refused l w d ns h = left-refused (one-more l d ns h) w
-
-      pub going-next : {next after : ℕ} → k < count → NodeWalk list t s a i (Passed next after) → Going at count next after (k + 1)
-      going-next l w d ns h = left-next (one-more l d ns h) w
-
-      pub going-done : count ≤ k
-          → (d : ℕ) (ns : Forest) (h : Stands (forest (length t) (inner (length t) d) count) s at ns)
-          → Says list t s i₀ ns (h .rest) (Passed a i)
-      going-done l d ns h = let e : count - k ≡ 0 = omega arith in left-done (subst (λ (j : ℕ). Left d j a i ns (h .rest)) e (g d ns h))
+    pub going-done : count ≤ k
+        → Reads {X = Fault × ℕ} (forest (length t) blk count) (nodesView list t i₀) s at (f, i) a
+    unfolding validateNodes
+    going-done l =
+        let c : count - k ≡ 0 = omega arith in
+        let p = go .tells a none (i + 0) (rw c (walks.forest-none (length t) blk (nodesView list t i) s a)) in
+        rw (or-none, add-zero) at p

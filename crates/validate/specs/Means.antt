@@ -2,21 +2,21 @@
 use Prim.Native.Nat.{ℕ, _≤_}
 use mathlib.Core.Bool.{cond}
 use mathlib.Core.List.{List, []}
-use mathlib.Core.Path.{_≡_}
+use mathlib.Core.Option.{Option}
 use lib.ListN.{length}
-use Rattle.codec.specs.Codec.{each}
-use Rattle.ast.specs.Tree.{KeyframeEntry, KeyframeSpec, KeyframeTime}
-use Rattle.ast.specs.View.{keyframesView}
-use Rattle.ast.specs.declared.KeyframeSpec as tracks
-use Rattle.sheet.specs.Sheet.{entryForm, keyframesForm}
+use Rattle.codec.specs.Codec.{big, each}
+use Rattle.ast.specs.Tree.{KeyframeEntry, KeyframeTime}
+use Rattle.sheet.specs.Sheet.{spanForm, entryForm, keyframesForm}
+use Rattle.decode.specs.Reads.{Reads, same, passed}
 use Rattle.opening.specs.declared.Opening.{Opening}
 use Rattle.opening.specs.declared.Opening.the-variants.{Open, Shut}
+use Rattle.error.specs.declared.Refusal.{Refusal}
 use Rattle.error.specs.declared.Refusal.the-variants.{UnknownList}
-use Rattle.places.specs.Stands.{Stands}
 use Rattle.node_rules.specs.Rules.{validateFrames, validateKeyframes}
 use Rattle.node_rules.specs.Means.{faultOf}
-use Rattle.node_rules.specs.declared.faults.Fault.{Fault}
 use Rattle.validate.specs.Checking.{isList}
+use Rattle.validate.specs.declared.frames.FramesCheck.{FramesCheck}
+use Rattle.validate.specs.declared.frames.TrackCheck.{TrackCheck}
 
 -- the answer to a list of colours: 36
 abbrev pub listAnswer : ℕ → Opening
@@ -28,17 +28,22 @@ InLimit s = length s ≤ 65535
 
 -- ---- tracks
 
--- whichever frames stand there, r is their first fault
-abbrev pub FramesTell : List ℕ → List ℕ → ℕ → ℕ → Fault → Type 0
+-- how many frames there are, and their first fault
+abbrev pub framesView : List ℕ → List (KeyframeEntry KeyframeTime) → ℕ × Option Refusal
+framesView t fs = (length fs, validateFrames t [] fs)
+
+-- r tells of `count` frames from a place on, m being the place behind those that are left
+abbrev pub FramesTell : List ℕ → List ℕ → ℕ → ℕ → FramesCheck → Type 0
 FramesTell t s at count r =
-    (fs : List (KeyframeEntry KeyframeTime)) → Stands (each (entryForm (length t)) count) s at fs → faultOf r ≡ validateFrames t [] fs
+    (m : ℕ) → Reads (each (entryForm (length t)) (r .left)) length s (r .at) (r .left) m
+    → Reads (each (entryForm (length t)) count) (framesView t) s at (count, faultOf (r .fault)) m
 
--- the frames of the track that stands at a place stand at r
-abbrev pub FramesAt : ℕ → List ℕ → ℕ → ℕ → Type 0
-FramesAt n s at r =
-    (x : KeyframeSpec KeyframeTime) → Stands (keyframesForm n) s at x → Stands (each (entryForm n) (length (x .frames))) s r (x .frames)
+-- a track's target, then, from `between` on, its count of frames
+pub record HeadStands (n : ℕ) (s : List ℕ) (at count first : ℕ) : Type 0 where
+  pub between : ℕ
+  pub targetAt : Reads (spanForm n) passed s at tt between
+  pub countAt : Reads (big 2) same s between count first
 
--- whichever track stands there, shown as v, r is its fault
-abbrev pub TrackTells : List ℕ → List ℕ → ℕ → tracks.KeyframeSpec → Fault → Type 0
-TrackTells t s at v r =
-    (x : KeyframeSpec KeyframeTime) → Stands (keyframesForm (length t)) s at x → keyframesView x ≡ v → faultOf r ≡ validateKeyframes t x
+-- r tells of the track whose fields stand at a place
+abbrev pub TrackTells : List ℕ → List ℕ → ℕ → TrackCheck → Type 0
+TrackTells t s at r = Reads (keyframesForm (length t)) (validateKeyframes t) s at (faultOf (r .fault)) (r .next)

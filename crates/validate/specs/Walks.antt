@@ -1,9 +1,8 @@
--- What the answers of the walk over nodes mean, under a list of colours. Contracts cite these.
-use Prim.Native.Nat.{ℕ, _+_, _-_, _≤_}
+-- What the answers to records and of the walk over nodes mean, under a list of colours. Contracts cite these. Assumes nothing.
+use Prim.Native.Nat.{ℕ, _+_, _≤_}
 use mathlib.Core.List.{List}
-use mathlib.Core.Option.{Option, none, some}
-use mathlib.Core.Path.{_≡_}
-use lib.ListN.{length, drop}
+use mathlib.Core.Option.{Option}
+use lib.ListN.{length}
 use Rattle.codec.specs.Codec.{Form}
 use Rattle.ast.specs.Tree.{Nodes, single, holding, push, records}
 use Rattle.sheet.specs.Sheet.{Node, Forest, nodeForm, forest, inner}
@@ -12,13 +11,12 @@ use Rattle.records.specs.Record.{recordForm, kindView}
 use Rattle.records.specs.declared.Kind.{Kind}
 use Rattle.colors.specs.Css.{namesOf}
 use Rattle.error.specs.declared.Refusal.{Refusal}
-use Rattle.node_rules.specs.Rules.{validateLeaf, validateContainer, validateNodes}
-use Rattle.places.specs.Stands.{Stands}
+use Rattle.node_rules.specs.Rules.{validateLeaf, validateContainer, atOrdinal, validateNodes}
 use Rattle.node_rules.specs.Means.{faultOf}
 use Rattle.node_rules.specs.declared.faults.Fault.{Fault}
 use Rattle.validate.specs.declared.kinds.RecordCheck.{RecordCheck}
 use Rattle.validate.specs.declared.nodes.Walk.{Walk}
-use Rattle.validate.specs.declared.nodes.Walk.the-variants.{Refused, Passed}
+use Rattle.validate.specs.declared.nodes.FirstFault.{FirstFault}
 
 -- ---- a record
 
@@ -44,30 +42,25 @@ FieldsTell list t s kind at r =
 
 -- ---- nodes
 
--- no refusal in ns, the first of ordinal i; behind them are the place `next` and the ordinal `after`
-pub record Clean (list : ℕ) (t s : List ℕ) (i : ℕ) (ns : Forest) (rest : List ℕ) (next after : ℕ) : Type 0 where
-  pub accepted : validateNodes (namesOf list) t i ns ≡ none
-  pub behind : rest ≡ drop next s
-  pub within : next ≤ length s
-  pub counted : after ≡ i + records ns
+abbrev pub foundOf : FirstFault → Option (Refusal × ℕ)
+foundOf f = atOrdinal (f .ordinal) (faultOf (f .fault))
 
--- what a walk says of nodes ns, the first of ordinal i, and of the bytes behind them
-abbrev pub Says : ℕ → List ℕ → List ℕ → ℕ → Forest → List ℕ → Walk → Type 0
-Says list t s i ns rest (Refused refusal ordinal) = validateNodes (namesOf list) t i ns ≡ some (refusal, ordinal)
-Says list t s i ns rest (Passed next after) = Clean list t s i ns rest next after
+-- the first fault of nodes, the first of ordinal i, and the ordinal of what stands behind them
+abbrev pub nodesView : ℕ → List ℕ → ℕ → Forest → Option (Refusal × ℕ) × ℕ
+nodesView list t i ns = (validateNodes (namesOf list) t i ns, i + records ns)
 
--- it does not go back, and an ordinal is at most one more than the place
-abbrev pub Onward : List ℕ → ℕ → Walk → Type 0
-Onward s at (Refused refusal ordinal) = Unit {0}
-Onward s at (Passed next after) = (length s - next ≤ length s - at) × (after ≤ next + 1)
+-- an ordinal is at most one more than its place, and than the bytes
+abbrev pub Reached : List ℕ → ℕ → ℕ → Type 0
+Reached s at i = (i ≤ at + 1) × (i ≤ length s + 1)
 
--- a walk of whatever stands there in a form, at any depth of nesting
-pub record Walked {A : Type 0} (c : ℕ → Form A) (nodes : A → Forest) (list : ℕ) (t s : List ℕ) (at i : ℕ) (w : Walk) : Type 0 where
-  pub on : Onward s at w
-  pub is : (d : ℕ) (a : A) (h : Stands (c d) s at a) → Says list t s i (nodes a) (h .rest) w
+-- a walk of nodes in a form: they are there, and it tells of them, or they are not
+pub record Walked {A : Type 0} (c : Form A) (nodes : A → Forest) (list : ℕ) (t s : List ℕ) (at i : ℕ) (w : Walk) : Type 0 where
+  pub reads : Reads c (λ a. nodesView list t i (nodes a)) s at (foundOf (w .found), w .ordinal) (w .next)
+  pub on : Reached s (w .next) (w .ordinal)
 
-abbrev pub NodeWalk : ℕ → List ℕ → List ℕ → ℕ → ℕ → Walk → Type 0
-NodeWalk list t s at i w = Walked (λ d. nodeForm (length t) (inner (length t) d)) (λ x. push x Nodes.none) list t s at i w
+-- inside containers of which `depth` more may follow
+abbrev pub NodeWalk : ℕ → List ℕ → List ℕ → ℕ → ℕ → ℕ → Walk → Type 0
+NodeWalk list t s depth at i w = Walked (nodeForm (length t) (inner (length t) depth)) (λ x. push x Nodes.none) list t s at i w
 
-abbrev pub NodesWalk : ℕ → List ℕ → List ℕ → ℕ → ℕ → ℕ → Walk → Type 0
-NodesWalk list t s at count i w = Walked (λ d. forest (length t) (inner (length t) d) count) (λ ns. ns) list t s at i w
+abbrev pub NodesWalk : ℕ → List ℕ → List ℕ → ℕ → ℕ → ℕ → ℕ → Walk → Type 0
+NodesWalk list t s depth at count i w = Walked (forest (length t) (inner (length t) depth) count) (λ ns. ns) list t s at i w

@@ -1,23 +1,16 @@
-// A record: its fields, decoded, by the rules of its kind. For our own crates: bytes of at most a sheet's limit.
-ghost use Prim.Native.Nat.{ℕ};
+// A record that is no track: its fields, decoded, by the rules of its kind. For our own crates: a kind that there is, and that is not a track's.
+ghost use Prim.Native.Nat.{ℕ, _<_};
 ghost use mathlib.Core.List.{List};
 ghost use mathlib.Core.Path.{_≡_};
-ghost use Rattle.decode.specs.Reads.{Reads};
-ghost use Rattle.records.specs.Record.{recordForm};
 ghost use Rattle.records.specs.declared.Kind.the-variants.{Leaf, Container};
-ghost use lib.ListN.{length};
-ghost use Rattle.validate.specs.Means.{InLimit};
-ghost use Rattle.validate.specs.Walks.{recordView, checkView, checkOf, FieldsTell};
+ghost use Rattle.validate.specs.Walks.{checkOf, FieldsTell};
 ghost use Rattle.places.specs.Stands.{LeafKind, ContainerKind};
-use crate::frames::validate_keyframes;
 use decode::fields::take_field;
-use decode::fields::take_kind;
 use decode::fields::take_span;
 use decode::nodes::take_at;
 use decode::nodes::take_color;
 use decode::nodes::take_draw;
 use decode::nodes::take_group;
-use decode::nodes::take_keyframes;
 use decode::nodes::take_morph;
 use decode::nodes::take_path;
 use decode::nodes::take_preset;
@@ -56,7 +49,7 @@ fn leaf(fault: Fault, next: usize) -> RecordCheck
 
 // A leaf of a kind: its fields at a place.
 fn validate_leaf(text: &[u8], s: &[u8], at: usize, kind: u8, list: u32) -> RecordCheck
-    requires { ⌜ LeafKind kind × InLimit (now s) ⌝ }
+    requires { ⌜ LeafKind kind × (kind ≡ 2 → ⊥) ⌝ }
     ensures { λ r. ⌜ FieldsTell list (now (text .entry)) (now (s .entry)) kind at r ⌝ }
 {
     let n = text.len();
@@ -68,10 +61,6 @@ fn validate_leaf(text: &[u8], s: &[u8], at: usize, kind: u8, list: u32) -> Recor
         1 => {
             let x = take_spring(s, at, n);
             leaf(validate_spring(x.v), x.next)
-        }
-        2 => {
-            let x = take_keyframes(s, at, n);
-            leaf(validate_keyframes(text, s, at, x.v), x.next)
         }
         7 => {
             let x = take_path(s, at, n);
@@ -135,15 +124,13 @@ fn validate_container(s: &[u8], at: usize, kind: u8) -> RecordCheck
     }
 }
 
-// The record at a place, without the nodes in it.
-pub fn validate_record(text: &[u8], s: &[u8], at: usize, list: u32) -> RecordCheck
-    requires { ⌜ InLimit (now s) ⌝ }
-    ensures { λ r. ⌜ Reads (recordForm (length (now (text .entry)))) (recordView list (now (text .entry))) (now (s .entry)) at (checkView r) (r .next) ⌝ }
+// The record of a kind, its fields at a place, without the nodes in it.
+pub fn validate_record(text: &[u8], s: &[u8], at: usize, kind: u8, list: u32) -> RecordCheck
+    requires { ⌜ (kind < 15) × (kind ≡ 2 → ⊥) ⌝ }
+    ensures { λ r. ⌜ FieldsTell list (now (text .entry)) (now (s .entry)) kind at r ⌝ }
 {
-    let k = take_kind(s, at, text.len());
-    let kind = k.kind;
     match kind {
-        3..=6 => validate_container(s, k.next, kind),
-        _ => validate_leaf(text, s, k.next, kind, list),
+        3..=6 => validate_container(s, at, kind),
+        _ => validate_leaf(text, s, at, kind, list),
     }
 }

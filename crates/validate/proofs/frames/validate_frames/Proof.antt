@@ -1,6 +1,7 @@
 -- `validate::frames::validate_frames` meets its contract: the outer loop has passed the frames before i and keeps their times, the inner
--- one has tried the first j of these.
+-- one has tried the first j of these; those from a faulty one on are left. Assumes nothing.
 use Prim.Native.Nat.{_-_, _≤_}
+use mathlib.Core.Logic.{⊎-elim}
 use mathlib.Core.Path.{_≡_, refl, sym, _∙_}
 use native.Mathlib.Omega.{arith}
 use lib.ListN.{length, length-set}
@@ -28,6 +29,9 @@ frames-holds c =
     let args = c .before .before .before .args in
     (omega arith, refl, refl, frames.going-start (args .text .now) (args .s .now) (args .first) (args .count) _)
 
+take-entry-requires : tie.Need-take-entry-requires Inv-loop μ-loop Inv-frames μ-frames
+take-entry-requires c κs = search needs
+
 loop-holds : tie.Need-loop-holds Inv-loop μ-loop Inv-frames μ-frames
 loop-holds c =
     let at-frames = c .before .before .before in
@@ -46,6 +50,9 @@ slice-read-is-duplicate c =
     let at-frames = c4 .before .before in
     let start = at-frames .before .before .before .before in
     omega (arith, start .pre, at-frames .frames .inv)
+
+is-duplicate-requires : tie.Need-is-duplicate-requires Inv-loop μ-loop Inv-frames μ-frames
+is-duplicate-requires c κs = search needs
 
 add-j : tie.Need-add-j Inv-loop μ-loop Inv-frames μ-frames
 add-j c = omega arith
@@ -68,6 +75,10 @@ loop-again c =
           (sym (c .before .is-duplicate .ensures) ∙ c .if1 .left)
           (at-loop .loop .inv .1),
     )
+
+has-unknown-easing-requires :
+    tie.Need-has-unknown-easing-requires Inv-loop μ-loop Inv-frames μ-frames
+has-unknown-easing-requires c κs = search needs
 
 mul-times : tie.Need-mul-times Inv-loop μ-loop Inv-frames μ-frames
 mul-times c =
@@ -112,39 +123,53 @@ frames-again c =
           (omega (arith, start .pre, at-frames .frames .inv .1, at-frames-test .frames-test .taken)),
     )
 
+sub-left : tie.Need-sub-left Inv-loop μ-loop Inv-frames μ-frames
+sub-left c = omega (arith, c .before .frames .inv .0)
+
+same-length : tie.Need-same-length Inv-loop μ-loop Inv-frames μ-frames
+same-length c = search needs
+
 returns : tie.Need-returns Inv-loop μ-loop Inv-frames μ-frames
-returns c = rw (c .before .frames .inv .2) (frames.going-done (c .before .frames .inv .3) (c .frames-test .left))
-
-returns-2 : tie.Need-returns-2 Inv-loop μ-loop Inv-frames μ-frames
-returns-2 c =
-    let at-loop-test = c .before .before .before in
-    let at-loop = at-loop-test .before in
-    let at-take-entry = at-loop .before .before in
-    let at-frames-test = at-take-entry .before in
-    let at-frames = at-frames-test .before in
+returns c =
+    let at-frames = c .before in
     let start = at-frames .before .before .before .before in
-    frames.duplicate-found (at-frames .frames .inv .3) (at-frames-test .frames-test .taken) (at-take-entry .take-entry .ensures)
-    (frames.tried-hit (at-frames .frames .times) _ _ (at-loop-test .loop-test .taken)
-    (omega (arith, start .pre, at-frames .frames .inv .0, at-frames .frames .inv .1))
-    (sym (c .before .is-duplicate .ensures) ∙ c .if1 .taken) (at-loop .loop .inv .1))
-
-returns-3 : tie.Need-returns-3 Inv-loop μ-loop Inv-frames μ-frames
-returns-3 c =
-    let at-loop-test = c .before .before in
-    let at-loop = at-loop-test .before in
-    let at-take-entry = at-loop .before .before in
-    let at-frames-test = at-take-entry .before in
-    let at-frames = at-frames-test .before in
-    frames.easing-unknown
-    (at-frames .frames .inv .3)
-    (at-frames-test .frames-test .taken)
-    (at-take-entry .take-entry .ensures)
-    (frames.tried-end (at-frames .frames .times) _ (at-loop-test .loop-test .left) (at-loop .loop .inv .1))
-    (c .before .has-unknown-easing .ensures)
-    (c .if2 .taken)
+    let inv = at-frames .frames .inv in
+    λ m rest.
+    ⊎-elim (λ w. rw (w .1, inv .2) (frames.going-done (inv .3) (w .0 .left) rest))
+    (⊎-elim
+    (λ w. rw (w .8)
+    (frames.duplicate-found (inv .3) (w .0 .taken) (w .1 .ensures)
+    (frames.tried-hit (at-frames .frames .times) _ _ (w .4 .taken) (omega (arith, start .pre, inv .0, inv .1))
+    (sym (w .6 .ensures) ∙ w .7 .taken) (w .3 .inv .1))
+    rest))
+    (λ w. rw (w .7)
+    (frames.easing-unknown (inv .3) (w .0 .taken) (w .1 .ensures)
+    (frames.tried-end (at-frames .frames .times) _ (w .4 .left) (w .3 .inv .1)) (w .5 .ensures) (w .6 .taken) rest)))
+    (c .frames-test .came)
 
 pub validate-frames-spec : {M : Type 1} → statement M
 validate-frames-spec =
-    tie.close (tie.spec Inv-loop μ-loop Inv-frames μ-frames frames-holds (λ c κs. search needs) loop-holds mul-is-duplicate
-    slice-read-is-duplicate (λ c κs. search needs) add-j loop-less loop-again (λ c κs. search needs) mul-times slice-write-times add-i
-    frames-less frames-again (λ c. search needs) returns (λ c. search needs) returns-2 (λ c. search needs) returns-3)
+    tie.close
+    (tie.spec
+    Inv-loop
+    μ-loop
+    Inv-frames
+    μ-frames
+    frames-holds
+    take-entry-requires
+    loop-holds
+    mul-is-duplicate
+    slice-read-is-duplicate
+    is-duplicate-requires
+    add-j
+    loop-less
+    loop-again
+    has-unknown-easing-requires
+    mul-times
+    slice-write-times
+    add-i
+    frames-less
+    frames-again
+    sub-left
+    same-length
+    returns)
