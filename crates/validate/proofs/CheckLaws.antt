@@ -18,10 +18,8 @@ use Rattle.decode.specs.Reads.{Reads, got, bad, same, passed}
 use Rattle.opening.specs.Means.{answerOf, earlier, foreignAnswer, textAnswer, bytesAnswer}
 use Rattle.opening.specs.declared.Opening.{Opening}
 use Rattle.opening.specs.declared.Opening.the-variants.{Open, Shut}
-use Rattle.error.specs.Answer.{checkValues}
 use Rattle.error.specs.declared.Refusal.{Refusal}
 use Rattle.error.specs.declared.Refusal.the-variants.{TextTooLong, NotASheet, UnknownList}
-use Rattle.error.specs.declared.CheckAnswer.{CheckAnswer}
 use Rattle.error.specs.declared.CheckAnswer.the-variants.{Refused}
 use Rattle.colors.specs.Css.{namesOf}
 use Rattle.decode.proofs.ReadLaws.{le-or-lt, mapped}
@@ -151,6 +149,3 @@ module _ (list : ℕ) (t s : List ℕ) where
         go (some ns) d e = ap verdictOf (same-nodes ns (head (length t) s ns d r) w)
 
 -- ---- what equals checking has its values
-
-pub with-values : {x y : CheckAnswer} → x ≡ y → (x ≡ y) × (checkValues x ≡ checkValues y)
-with-values e = (e, ap checkValues e)

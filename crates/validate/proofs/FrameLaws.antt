@@ -1,4 +1,4 @@
--- The search over a track's frames, and a track. Assumes nothing.
+-- The search over a track's frames, and a track.
 use Prim.Native.Nat.{ℕ, suc, _+_, _*_, _-_, _≤_, _<_}
 use mathlib.Core.Bool.{Bool, true, false, _||_}
 use mathlib.Core.List.{List, [], _∷_, _++_}

@@ -1,4 +1,4 @@
--- One walk over nodes: whether they are there, and their first fault, under a list of colours. Assumes nothing.
+-- One walk over nodes: whether they are there, and their first fault, under a list of colours.
 use Prim.Native.Nat.{ℕ, suc, _+_, _-_, _≤_, _<_}
 use mathlib.Core.List.{List}
 use mathlib.Core.Option.{Option, none, some}

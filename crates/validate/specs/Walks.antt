@@ -1,4 +1,4 @@
--- What the answers to records and of the walk over nodes mean, under a list of colours. Contracts cite these. Assumes nothing.
+-- What the answers to records and of the walk over nodes mean, under a list of colours. Contracts cite these.
 use Prim.Native.Nat.{ℕ, _+_, _≤_}
 use mathlib.Core.List.{List}
 use mathlib.Core.Option.{Option}

@@ -1,16 +1,9 @@
 -- `validate::check_bytes` meets its contract: where the walk ends tells whether the bytes are a sheet, and what it found is the verdict.
--- Assumes nothing.
 use native.Mathlib.Omega.{arith}
 use borrow.Author.Needs.{needs}
 use Rattle.validate.proofs.CheckLaws as laws
 use Rattle.validate.proofs.check_bytes.Statement.{statement}
 use Rattle.validate.proofs.check_bytes.Tie as tie
-
-take-field-requires : tie.Need-take-field-requires
-take-field-requires c κs = search needs
-
-cast-validate-nodes : tie.Need-cast-validate-nodes
-cast-validate-nodes c = search needs
 
 validate-nodes-requires : tie.Need-validate-nodes-requires
 validate-nodes-requires c κs = ((omega arith, omega arith), c .before .before .before .before .pre)
@@ -22,12 +15,6 @@ returns c =
     let start = at-take-field .before .before .before in
     laws.stops _ _ _ (start .pre) (at-take-field .take-field .ensures .reads) (at-validate-nodes .validate-nodes .ensures .reads)
     (c .if1 .taken)
-
-enum-told : tie.Need-enum-told
-enum-told c = search needs
-
-enum-known-fault : tie.Need-enum-known-fault
-enum-known-fault c = search needs
 
 returns-2 : tie.Need-returns-2
 returns-2 c =
@@ -54,13 +41,5 @@ returns-3 c =
 
 pub check-bytes-spec : {M : Type 1} → statement M
 check-bytes-spec =
-    tie.close
-    (tie.spec
-    take-field-requires
-    cast-validate-nodes
-    validate-nodes-requires
-    returns
-    enum-told
-    enum-known-fault
-    returns-2
-    returns-3)
+    tie.close (tie.spec (λ c κs. search needs) (λ c. search needs) validate-nodes-requires returns (λ c. search needs) (λ c. search needs)
+    returns-2 returns-3)

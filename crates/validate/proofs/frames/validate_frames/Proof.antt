@@ -1,5 +1,5 @@
 -- `validate::frames::validate_frames` meets its contract: the outer loop has passed the frames before i and keeps their times, the inner
--- one has tried the first j of these; those from a faulty one on are left. Assumes nothing.
+-- one has tried the first j of these; those from a faulty one on are left.
 use Prim.Native.Nat.{_-_, _≤_}
 use mathlib.Core.Logic.{⊎-elim}
 use mathlib.Core.Path.{_≡_, refl, sym, _∙_}
@@ -29,9 +29,6 @@ frames-holds c =
     let args = c .before .before .before .args in
     (omega arith, refl, refl, frames.going-start (args .text .now) (args .s .now) (args .first) (args .count) _)
 
-take-entry-requires : tie.Need-take-entry-requires Inv-loop μ-loop Inv-frames μ-frames
-take-entry-requires c κs = search needs
-
 loop-holds : tie.Need-loop-holds Inv-loop μ-loop Inv-frames μ-frames
 loop-holds c =
     let at-frames = c .before .before .before in
@@ -50,9 +47,6 @@ slice-read-is-duplicate c =
     let at-frames = c4 .before .before in
     let start = at-frames .before .before .before .before in
     omega (arith, start .pre, at-frames .frames .inv)
-
-is-duplicate-requires : tie.Need-is-duplicate-requires Inv-loop μ-loop Inv-frames μ-frames
-is-duplicate-requires c κs = search needs
 
 add-j : tie.Need-add-j Inv-loop μ-loop Inv-frames μ-frames
 add-j c = omega arith
@@ -75,10 +69,6 @@ loop-again c =
           (sym (c .before .is-duplicate .ensures) ∙ c .if1 .left)
           (at-loop .loop .inv .1),
     )
-
-has-unknown-easing-requires :
-    tie.Need-has-unknown-easing-requires Inv-loop μ-loop Inv-frames μ-frames
-has-unknown-easing-requires c κs = search needs
 
 mul-times : tie.Need-mul-times Inv-loop μ-loop Inv-frames μ-frames
 mul-times c =
@@ -126,9 +116,6 @@ frames-again c =
 sub-left : tie.Need-sub-left Inv-loop μ-loop Inv-frames μ-frames
 sub-left c = omega (arith, c .before .frames .inv .0)
 
-same-length : tie.Need-same-length Inv-loop μ-loop Inv-frames μ-frames
-same-length c = search needs
-
 returns : tie.Need-returns Inv-loop μ-loop Inv-frames μ-frames
 returns c =
     let at-frames = c .before in
@@ -149,27 +136,6 @@ returns c =
 
 pub validate-frames-spec : {M : Type 1} → statement M
 validate-frames-spec =
-    tie.close
-    (tie.spec
-    Inv-loop
-    μ-loop
-    Inv-frames
-    μ-frames
-    frames-holds
-    take-entry-requires
-    loop-holds
-    mul-is-duplicate
-    slice-read-is-duplicate
-    is-duplicate-requires
-    add-j
-    loop-less
-    loop-again
-    has-unknown-easing-requires
-    mul-times
-    slice-write-times
-    add-i
-    frames-less
-    frames-again
-    sub-left
-    same-length
-    returns)
+    tie.close (tie.spec Inv-loop μ-loop Inv-frames μ-frames frames-holds (λ c κs. search needs) loop-holds mul-is-duplicate
+    slice-read-is-duplicate (λ c κs. search needs) add-j loop-less loop-again (λ c κs. search needs) mul-times slice-write-times add-i
+    frames-less frames-again sub-left (λ c. search needs) returns)

@@ -1,14 +1,8 @@
--- `validate::frames::validate_keyframes` meets its contract: too few frames, or their first fault. Assumes nothing.
+-- `validate::frames::validate_keyframes` meets its contract: too few frames, or their first fault.
 use borrow.Author.Needs.{needs}
 use Rattle.validate.proofs.FrameLaws as frames
 use Rattle.validate.proofs.frames.validate_keyframes.Statement.{statement}
 use Rattle.validate.proofs.frames.validate_keyframes.Tie as tie
-
-skip-entries-requires : tie.Need-skip-entries-requires
-skip-entries-requires c κs = search needs
-
-take-opt-loop-requires : tie.Need-take-opt-loop-requires
-take-opt-loop-requires c κs = search needs
 
 returns : tie.Need-returns
 returns c =
@@ -21,4 +15,4 @@ returns-2 c =
     λ at first h r. frames.enough _ h (r _ (at-mode .before .skip-entries .ensures)) (at-mode .take-opt-loop .ensures) (c .if1 .left)
 
 pub validate-keyframes-spec : {M : Type 1} → statement M
-validate-keyframes-spec = tie.close (tie.spec skip-entries-requires take-opt-loop-requires returns returns-2)
+validate-keyframes-spec = tie.close (tie.spec (λ c κs. search needs) (λ c κs. search needs) returns returns-2)

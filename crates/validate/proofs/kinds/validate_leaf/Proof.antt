@@ -1,5 +1,4 @@
 -- `validate::kinds::validate_leaf` meets its contract: in each arm the kind is that arm's and the rules are those of its fields.
--- Assumes nothing.
 use mathlib.Core.Path.{refl}
 use borrow.Author.Needs.{needs}
 use Rattle.ast.specs.Tree as tree
@@ -10,90 +9,6 @@ use Rattle.places.proofs.StandLaws.{last-kind}
 use Rattle.validate.proofs.KindLaws as kind-laws
 use Rattle.validate.proofs.kinds.validate_leaf.Statement.{statement}
 use Rattle.validate.proofs.kinds.validate_leaf.Tie as tie
-
-take-tween-requires : tie.Need-take-tween-requires
-take-tween-requires c κs = search needs
-
-validate-tween-requires : tie.Need-validate-tween-requires
-validate-tween-requires c κs = search needs
-
-leaf-requires : tie.Need-leaf-requires
-leaf-requires c κs = search needs
-
-take-spring-requires : tie.Need-take-spring-requires
-take-spring-requires c κs = search needs
-
-validate-spring-requires : tie.Need-validate-spring-requires
-validate-spring-requires c κs = search needs
-
-leaf-requires-2 : tie.Need-leaf-requires-2
-leaf-requires-2 c κs = search needs
-
-take-path-requires : tie.Need-take-path-requires
-take-path-requires c κs = search needs
-
-validate-path-requires : tie.Need-validate-path-requires
-validate-path-requires c κs = search needs
-
-leaf-requires-3 : tie.Need-leaf-requires-3
-leaf-requires-3 c κs = search needs
-
-take-morph-requires : tie.Need-take-morph-requires
-take-morph-requires c κs = search needs
-
-validate-morph-requires : tie.Need-validate-morph-requires
-validate-morph-requires c κs = search needs
-
-leaf-requires-4 : tie.Need-leaf-requires-4
-leaf-requires-4 c κs = search needs
-
-take-draw-requires : tie.Need-take-draw-requires
-take-draw-requires c κs = search needs
-
-validate-draw-requires : tie.Need-validate-draw-requires
-validate-draw-requires c κs = search needs
-
-leaf-requires-5 : tie.Need-leaf-requires-5
-leaf-requires-5 c κs = search needs
-
-take-color-requires : tie.Need-take-color-requires
-take-color-requires c κs = search needs
-
-validate-color-requires : tie.Need-validate-color-requires
-validate-color-requires c κs = search needs
-
-leaf-requires-6 : tie.Need-leaf-requires-6
-leaf-requires-6 c κs = search needs
-
-take-waveform-requires : tie.Need-take-waveform-requires
-take-waveform-requires c κs = search needs
-
-validate-waveform-requires : tie.Need-validate-waveform-requires
-validate-waveform-requires c κs = search needs
-
-leaf-requires-7 : tie.Need-leaf-requires-7
-leaf-requires-7 c κs = search needs
-
-take-preset-requires : tie.Need-take-preset-requires
-take-preset-requires c κs = search needs
-
-validate-preset-call-requires : tie.Need-validate-preset-call-requires
-validate-preset-call-requires c κs = search needs
-
-leaf-requires-8 : tie.Need-leaf-requires-8
-leaf-requires-8 c κs = search needs
-
-take-span-requires : tie.Need-take-span-requires
-take-span-requires c κs = search needs
-
-leaf-requires-9 : tie.Need-leaf-requires-9
-leaf-requires-9 c κs = search needs
-
-take-at-requires : tie.Need-take-at-requires
-take-at-requires c κs = search needs
-
-leaf-requires-10 : tie.Need-leaf-requires-10
-leaf-requires-10 c κs = search needs
 
 returns : tie.Need-returns
 unfolding validateLeaf
@@ -216,43 +131,10 @@ returns-10 c =
 
 pub validate-leaf-spec : {M : Type 1} → statement M
 validate-leaf-spec =
-    tie.close
-    (tie.spec
-    take-tween-requires
-    validate-tween-requires
-    leaf-requires
-    take-spring-requires
-    validate-spring-requires
-    leaf-requires-2
-    take-path-requires
-    validate-path-requires
-    leaf-requires-3
-    take-morph-requires
-    validate-morph-requires
-    leaf-requires-4
-    take-draw-requires
-    validate-draw-requires
-    leaf-requires-5
-    take-color-requires
-    validate-color-requires
-    leaf-requires-6
-    take-waveform-requires
-    validate-waveform-requires
-    leaf-requires-7
-    take-preset-requires
-    validate-preset-call-requires
-    leaf-requires-8
-    take-span-requires
-    leaf-requires-9
-    take-at-requires
-    leaf-requires-10
-    returns
-    returns-2
-    returns-3
-    returns-4
-    returns-5
-    returns-6
-    returns-7
-    returns-8
-    returns-9
-    returns-10)
+    tie.close (tie.spec (λ c κs. search needs) (λ c κs. search needs) (λ c κs. search needs) (λ c κs. search needs) (λ c κs. search needs)
+    (λ c κs. search needs) (λ c κs. search needs) (λ c κs. search needs) (λ c κs. search needs) (λ c κs. search needs)
+    (λ c κs. search needs) (λ c κs. search needs) (λ c κs. search needs) (λ c κs. search needs) (λ c κs. search needs)
+    (λ c κs. search needs) (λ c κs. search needs) (λ c κs. search needs) (λ c κs. search needs) (λ c κs. search needs)
+    (λ c κs. search needs) (λ c κs. search needs) (λ c κs. search needs) (λ c κs. search needs) (λ c κs. search needs)
+    (λ c κs. search needs) (λ c κs. search needs) (λ c κs. search needs) returns returns-2 returns-3 returns-4 returns-5 returns-6 returns-7
+    returns-8 returns-9 returns-10)

@@ -1,5 +1,5 @@
 -- `validate::nodes::validate_node` and `validate_nodes` meet their contracts: bytes left fall; the loop keeps that what is told of
--- the nodes left is told of all. Assumes nothing.
+-- the nodes left is told of all.
 use Prim.Native.Nat.{ℕ, _+_, _*_, _-_, _≤_, _<_}
 use mathlib.Core.Path.{refl}
 use native.Mathlib.Omega.{arith}
@@ -93,10 +93,6 @@ node-calls t = (
 abbrev nodes-calls : ℕ → validate-nodes-lts.Claims
 nodes-calls t = (validate-node-below t, validate-node.Post, earlier-reads.Asked, earlier-reads.Learnt)
 
-validate-node-walk-nowhere-requires : (t : ℕ)
-    → validate-node-lts.Need-walk-nowhere-requires (node-calls t) (validate-node-at t) validate-node.Post
-validate-node-walk-nowhere-requires t c κs = search needs
-
 validate-node-returns : (t : ℕ) → validate-node-lts.Need-returns (node-calls t) (validate-node-at t) validate-node.Post
 validate-node-returns t c =
     let at-if1 = c .before in
@@ -107,22 +103,6 @@ validate-node-returns t c =
       reads = node-end _ (inner _ (start .args .depth)) _ _ (at-if1 .if1 .taken) (l .0);
       on = (omega (arith, h, l), omega (arith, h, l .1));
     }
-
-validate-node-take-kind-requires : (t : ℕ)
-    → validate-node-lts.Need-take-kind-requires (node-calls t) (validate-node-at t) validate-node.Post
-validate-node-take-kind-requires t c κs = search needs
-
-validate-node-take-head-requires : (t : ℕ)
-    → validate-node-lts.Need-take-head-requires (node-calls t) (validate-node-at t) validate-node.Post
-validate-node-take-head-requires t c κs = search needs
-
-validate-node-short-track-requires : (t : ℕ)
-    → validate-node-lts.Need-short-track-requires (node-calls t) (validate-node-at t) validate-node.Post
-validate-node-short-track-requires t c κs = search needs
-
-validate-node-validate-keyframes-requires : (t : ℕ)
-    → validate-node-lts.Need-validate-keyframes-requires (node-calls t) (validate-node-at t) validate-node.Post
-validate-node-validate-keyframes-requires t c κs = search needs
 
 validate-node-walk-leaf-requires : (t : ℕ)
     → validate-node-lts.Need-walk-leaf-requires (node-calls t) (validate-node-at t) validate-node.Post
@@ -143,14 +123,6 @@ validate-node-returns-2 t c =
     walks.leaf-walk _ _ _ (start .args .depth) (at-if1 .if1 .left) (start .pre .1 .0) (c .walk-leaf .ensures)
     (kind-laws.track-record _ _ (at-take-kind .take-kind .ensures) (at-if2 .if2 .taken)
     (c .before .validate-keyframes .ensures _ _ (at-take-head .take-head .ensures) (at-short-track .short-track .ensures)))
-
-validate-node-long-track-requires : (t : ℕ)
-    → validate-node-lts.Need-long-track-requires (node-calls t) (validate-node-at t) validate-node.Post
-validate-node-long-track-requires t c κs = search needs
-
-validate-node-validate-keyframes-requires-2 : (t : ℕ)
-    → validate-node-lts.Need-validate-keyframes-requires-2 (node-calls t) (validate-node-at t) validate-node.Post
-validate-node-validate-keyframes-requires-2 t c κs = search needs
 
 validate-node-walk-leaf-requires-2 : (t : ℕ)
     → validate-node-lts.Need-walk-leaf-requires-2 (node-calls t) (validate-node-at t) validate-node.Post
@@ -178,12 +150,6 @@ validate-node-validate-record-requires t c κs =
     let at-take-kind = c .before .before in
     (at-take-kind .take-kind .ensures .kindAt .small, c .if2 .left)
 
-validate-node-enum-known-kind : (t : ℕ) → validate-node-lts.Need-enum-known-kind (node-calls t) (validate-node-at t) validate-node.Post
-validate-node-enum-known-kind t c = search needs
-
-validate-node-enum-told : (t : ℕ) → validate-node-lts.Need-enum-told (node-calls t) (validate-node-at t) validate-node.Post
-validate-node-enum-told t c = search needs
-
 validate-node-walk-leaf-requires-3 : (t : ℕ)
     → validate-node-lts.Need-walk-leaf-requires-3 (node-calls t) (validate-node-at t) validate-node.Post
 validate-node-walk-leaf-requires-3 t c κs =
@@ -201,10 +167,6 @@ validate-node-returns-4 t c =
     let start = at-if1 .before .before .before in
     walks.leaf-walk _ _ _ (start .args .depth) (at-if1 .if1 .left) (start .pre .1 .0) (c .walk-leaf3 .ensures)
     (rw (at-enum-told .enum-told .given .1) at (at-validate-record .validate-record .ensures _ _ (at-take-kind .take-kind .ensures)))
-
-validate-node-walk-nowhere-requires-2 : (t : ℕ)
-    → validate-node-lts.Need-walk-nowhere-requires-2 (node-calls t) (validate-node-at t) validate-node.Post
-validate-node-walk-nowhere-requires-2 t c κs = search needs
 
 validate-node-returns-5 : (t : ℕ) → validate-node-lts.Need-returns-5 (node-calls t) (validate-node-at t) validate-node.Post
 validate-node-returns-5 t c =
@@ -240,9 +202,6 @@ validate-node-validate-nodes-requires t c κs =
     let m = moves _ (at-validate-record .validate-record .ensures _ _ (at-take-kind .take-kind .ensures)) l in
     (omega (arith, m, l, pre .0), ((omega (arith, m, pre .1 .0 .0), omega (arith, l, pre .1 .0 .0)), pre .1 .1))
 
-validate-node-earlier-requires : (t : ℕ) → validate-node-lts.Need-earlier-requires (node-calls t) (validate-node-at t) validate-node.Post
-validate-node-earlier-requires t c κs = search needs
-
 validate-node-returns-6 : (t : ℕ) → validate-node-lts.Need-returns-6 (node-calls t) (validate-node-at t) validate-node.Post
 validate-node-returns-6 t c =
     let at-validate-nodes = c .before .before in
@@ -274,16 +233,11 @@ validate-nodes-validate-node-requires : (t : ℕ)
     → validate-nodes-lts.Need-validate-node-requires (nodes-calls t) (validate-nodes-at t) validate-nodes.Post validate-nodes-Inv-loop
     validate-nodes-μ-loop
 validate-nodes-validate-node-requires t c κs =
-    let inv = c .before .loop .inv in
-    let pre = c .before .before .before .before .pre in (
+    let pre = c .before .before .before .before .pre in
+    let inv = c .before .loop .inv in (
       omega (arith, pre .0, inv .2),
       ((omega (arith, pre .1 .0 .0, inv .1 .0), omega (arith, pre .1 .0 .1, inv .1 .1)), pre .1 .1),
     )
-
-validate-nodes-earlier-requires : (t : ℕ)
-    → validate-nodes-lts.Need-earlier-requires (nodes-calls t) (validate-nodes-at t) validate-nodes.Post validate-nodes-Inv-loop
-    validate-nodes-μ-loop
-validate-nodes-earlier-requires t c κs = search needs
 
 validate-nodes-add-k : (t : ℕ)
     → validate-nodes-lts.Need-add-k (nodes-calls t) (validate-nodes-at t) validate-nodes.Post validate-nodes-Inv-loop
@@ -318,43 +272,14 @@ validate-nodes-returns t c =
 
 pub +validate-node+validate-nodes-spec : {M : Type 1} → statement M
 +validate-node+validate-nodes-spec =
-    close μ-validate-node μ-validate-nodes (λ t. validate-node-lts.spec (node-calls t)
-    (validate-node-at t)
-    validate-node.Post
-    (validate-node-walk-nowhere-requires t)
-    (validate-node-returns t)
-    (validate-node-take-kind-requires t)
-    (validate-node-take-head-requires t)
-    (validate-node-short-track-requires t)
-    (validate-node-validate-keyframes-requires t)
-    (validate-node-walk-leaf-requires t)
-    (validate-node-returns-2 t)
-    (validate-node-long-track-requires t)
-    (validate-node-validate-keyframes-requires-2 t)
-    (validate-node-walk-leaf-requires-2 t)
-    (validate-node-returns-3 t)
-    (validate-node-validate-record-requires t)
-    (validate-node-enum-known-kind t)
-    (validate-node-enum-told t)
-    (validate-node-walk-leaf-requires-3 t)
-    (validate-node-returns-4 t)
-    (validate-node-walk-nowhere-requires-2 t)
-    (validate-node-returns-5 t)
-    (validate-node-add-validate-nodes t)
-    (validate-node-sub-validate-nodes t)
-    (validate-node-validate-nodes-requires t)
-    (validate-node-earlier-requires t)
-    (validate-node-returns-6 t))
-    λ t. validate-nodes-lts.spec
-    (nodes-calls t)
-    (validate-nodes-at t)
-    validate-nodes.Post
-    validate-nodes-Inv-loop
-    validate-nodes-μ-loop
-    (validate-nodes-loop-holds t)
-    (validate-nodes-validate-node-requires t)
-    (validate-nodes-earlier-requires t)
-    (validate-nodes-add-k t)
-    (validate-nodes-loop-less t)
-    (validate-nodes-loop-again t)
-    (validate-nodes-returns t)
+    close μ-validate-node μ-validate-nodes
+    (λ t. validate-node-lts.spec (node-calls t) (validate-node-at t) validate-node.Post (λ c κs. search needs) (validate-node-returns t)
+    (λ c κs. search needs) (λ c κs. search needs) (λ c κs. search needs) (λ c κs. search needs) (validate-node-walk-leaf-requires t)
+    (validate-node-returns-2 t) (λ c κs. search needs) (λ c κs. search needs) (validate-node-walk-leaf-requires-2 t)
+    (validate-node-returns-3 t) (validate-node-validate-record-requires t) (λ c. search needs) (λ c. search needs)
+    (validate-node-walk-leaf-requires-3 t) (validate-node-returns-4 t) (λ c κs. search needs) (validate-node-returns-5 t)
+    (validate-node-add-validate-nodes t) (validate-node-sub-validate-nodes t) (validate-node-validate-nodes-requires t)
+    (λ c κs. search needs) (validate-node-returns-6 t))
+    λ t. validate-nodes-lts.spec (nodes-calls t) (validate-nodes-at t) validate-nodes.Post validate-nodes-Inv-loop validate-nodes-μ-loop
+    (validate-nodes-loop-holds t) (validate-nodes-validate-node-requires t) (λ c κs. search needs) (validate-nodes-add-k t)
+    (validate-nodes-loop-less t) (validate-nodes-loop-again t) (validate-nodes-returns t)
