@@ -1,8 +1,10 @@
 #!/usr/bin/env python3
-"""Makes crates/shelf/stdin and stdout: 01's shelf tests, but for P13, which is no script, scripts at its limits, and those of examples/. The records
-of the first two are written here by hand from 01 and 02 (a), and their lines follow by the rule of 02 (c); what the examples print is in examples/*.out. Each script ends
-with a byte 0. Run from the repository's root."""
+"""Stores the cases `shelf` (tools/stored.py): 01's shelf tests, but for P13, which is no script, scripts at its limits, and those of
+examples/. The records of the first two are written here by hand from 01 and 02 (a), and their lines follow by the rule of 02 (c); what the
+examples print is in examples/*.out. Run from the repository's root."""
 import glob
+
+import stored
 
 
 def line(record):
@@ -74,5 +76,4 @@ def example(path):
 
 
 cases = SHELF + LIMITS + [too_long()] + [example(path) for path in sorted(glob.glob("examples/*.strip"))]
-open("crates/shelf/stdin", "w").write("".join(text + "\0" for text, _ in cases))
-open("crates/shelf/stdout", "w").write("".join(l + "\n" for _, lines in cases for l in lines))
+stored.store("shelf", [text.encode().hex().upper() for text, _ in cases], [l for _, lines in cases for l in lines])

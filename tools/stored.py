@@ -9,7 +9,7 @@ import os
 import sys
 
 # in the order in which the program answers them
-KINDS = ("sheet", "check", "color", "convert", "line", "script", "feed", "rounded", "back", "book", "scratch", "plane", "wave", "number")
+KINDS = ("sheet", "check", "color", "convert", "line", "script", "feed", "rounded", "back", "book", "scratch", "plane", "wave", "number", "shelf")
 ANSWERS = "crates/cases/stdout"
 
 

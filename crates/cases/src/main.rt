@@ -9,6 +9,7 @@ mod feeding;
 mod lines;
 mod lining;
 mod planes;
+mod printing;
 mod reading;
 mod scratches;
 mod sheets;
@@ -22,8 +23,8 @@ use lines::Fields;
 use text::Found;
 
 // The kinds, each behind its length, in the order in which they are answered.
-const KINDS: [u8; 87] =
-    *b"\x05sheet\x05check\x05color\x07convert\x04line\x06script\x04feed\x07rounded\x04back\x04book\x07scratch\x05plane\x04wave\x06number";
+const KINDS: [u8; 93] =
+    *b"\x05sheet\x05check\x05color\x07convert\x04line\x06script\x04feed\x07rounded\x04back\x04book\x07scratch\x05plane\x04wave\x06number\x05shelf";
 
 // A line has room for a list, a text and a sheet, each of the last two with a byte more than the longest case.
 fn main() {
@@ -164,6 +165,7 @@ fn answer(kind: usize, line: &[u8], fields: Fields, totals: &mut [u32; 60]) {
         10 => scratches::answer(line, fields),
         11 => planes::answer(line, fields),
         12 => waves::answer(line, fields),
-        _ => reading::answer(line, fields),
+        13 => reading::answer(line, fields),
+        _ => printing::answer(line, fields),
     }
 }
