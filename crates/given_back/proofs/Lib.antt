@@ -8,3 +8,4 @@ pub mod PutLaws
 pub mod OmitLaws
 pub mod Omitted
 pub mod OmitTree
+pub mod OmitParts

@@ -2,3 +2,4 @@ pub mod Given
 pub mod ReadBack
 pub mod Corollaries
 pub mod Omitted
+pub mod Parts
