@@ -1,4 +1,4 @@
--- 02 (f): what is left out of an easing, a pattern or a frame is left out of what has it. Assumes nothing.
+-- 02 (f): what is left out of an easing, a pattern or a frame is left out of what has it.
 use Prim.Native.Nat.{ℕ}
 use mathlib.Core.List.{List, [], _∷_, _++_}
 use mathlib.Core.Option.{Option, none, some, Option·some-injective}
@@ -9,7 +9,8 @@ use Rattle.pieces.specs.Pieces.{Piece}
 use Rattle.fresh.specs.Meaning.{EasingSense, FrameSense, LeafSense, tween, spring, keyframes, path, morph, draw, color, waveform, preset}
 use Rattle.fresh.specs.Meaning.{label, at, TrackSense}
 use Rattle.fresh.specs.Fresh as pieces
-use Rattle.fresh.specs.Fresh.{f32, u32, choose, spaceNames, easing, field, unlessIs, frameEasing, frame, moreFrames, commaIf, leafBody}
+use Rattle.fresh.specs.Fresh.{f32, u32, choose, easing, field, unlessIs, frameEasing, frame, moreFrames, commaIf, leafBody}
+use Rattle.grammar.specs.Grammar.{spaceNames}
 use Rattle.fresh.specs.Fresh.{pattern, opening, boxBody}
 use Rattle.given_back.specs.Omitted.{LeftOut, Shortens}
 use Rattle.given_back.specs.Parts.{easingOf, withEasing, track, PartsShorten}

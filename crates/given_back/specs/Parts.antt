@@ -1,4 +1,4 @@
--- 02 (f): what is left out of an easing, a pattern or a frame is left out of what has it. Assumes nothing.
+-- 02 (f): what is left out of an easing, a pattern or a frame is left out of what has it.
 use Prim.Native.Nat.{ℕ}
 use mathlib.Core.List.{List, _∷_, _++_}
 use mathlib.Core.Option.{Option, none, some}
