@@ -2,7 +2,7 @@
 use Prim.Native.Nat.{ℕ, _+_}
 use mathlib.Core.Bool.{true, false}
 use mathlib.Core.List.{List}
-use mathlib.Core.Path.{_≡_, sym, ap, _∙_}
+use mathlib.Core.Path.{_≡_, refl, sym, ap, _∙_}
 use native.Mathlib.Nat.{zero-add}
 use native.Mathlib.Omega.{arith}
 use lib.Dec.{eqb}
@@ -10,9 +10,9 @@ use lib.ListN.{length, take, drop, length-drop}
 use lib.Seq.{take-all}
 use borrow.Author.Tests.{eq-eqb, ne-eqb}
 use Rattle.text.specs.Bytes.{isHex, lowered, run, at, part}
-use Rattle.text.specs.Words.{isSome, find, shorter}
+use Rattle.text.specs.Words.{isSome, words, find, shorter}
 use Rattle.text.proofs.WordLaws.{find-clip}
-use Rattle.presets.specs.Colors.{hexSize, isHexColor, isColorOf}
+use Rattle.presets.specs.Colors.{colors, hexSize, isHexColor, isColorOf}
 
 pub hex-digits : (t : List ℕ) (r : ℕ) → hexSize (length t) ≡ true → r ≡ 0 + run isHex (drop 0 t) → eqb r (length t) ≡ isHexColor t
 unfolding isHexColor
@@ -21,6 +21,11 @@ hex-digits t r h e = rw (h, e, zero-add)
 pub hex-no : (t : List ℕ) → hexSize (length t) ≡ false → false ≡ isHexColor t
 unfolding isHexColor
 hex-no t h = rw h
+
+-- the names are shorter than the 32 bytes that a string is clipped to: one computed test
+pub short : shorter 32 (words colors) ≡ true
+unfolding shorter
+short = refl
 
 module _ (names : List (List ℕ)) (s : List ℕ) (b : ℕ) (e : b ≡ at s 0) where
   pub color-hex : (digits : List ℕ) → b ≡ 35 → digits ≡ part s 1 (length s) → isHexColor digits ≡ isColorOf names s
