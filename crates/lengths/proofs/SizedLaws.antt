@@ -1,4 +1,4 @@
--- Only the words of some lengths count. Assumes nothing.
+-- Only the words of some lengths count.
 use Prim.Native.Nat.{ℕ, suc}
 use Prim.Native.String.{String}
 use mathlib.Core.Bool.{Bool, true, false, cond}

@@ -1,4 +1,4 @@
--- The words of a list whose length passes a test. Assumes nothing.
+-- The words of a list whose length passes a test.
 use Prim.Native.Nat.{ℕ}
 use Prim.Native.String.{String}
 use mathlib.Core.Bool.{Bool, cond}

@@ -1,4 +1,4 @@
--- `easing::is_listed` meets its contract: each way out is for some lengths, and only the names of these count. Assumes nothing.
+-- `easing::is_listed` meets its contract: each way out is for some lengths, and only the names of these count.
 use mathlib.Core.Bool.{_&&_}
 use mathlib.Core.Path.{_∙_}
 use native.Mathlib.Omega.{arith}
@@ -11,20 +11,11 @@ use Rattle.easing.specs.Names.{namedEasings}
 use Rattle.easing.proofs.is_listed.Statement.{statement}
 use Rattle.easing.proofs.is_listed.Tie as tie
 
-is-up-to-12-requires : tie.Need-is-up-to-12-requires
-is-up-to-12-requires c κs = search needs
-
 returns : tie.Need-returns
 returns c = c .is-up-to-12 .ensures ∙ listed (λ n. ltb n 13) namedEasings _ (lt-ltb _ _ (c .before .if1 .taken))
 
-is-of-13-requires : tie.Need-is-of-13-requires
-is-of-13-requires c κs = search needs
-
 returns-2 : tie.Need-returns-2
 returns-2 c = c .is-of-13 .ensures ∙ listed (λ n. eqb n 13) namedEasings _ (eq-eqb _ _ (c .before .if2 .taken))
-
-is-of-14-15-requires : tie.Need-is-of-14-15-requires
-is-of-14-15-requires c κs = search needs
 
 returns-3 : tie.Need-returns-3
 returns-3 c =
@@ -34,14 +25,8 @@ returns-3 c =
     c .is-of-14-15 .ensures
     ∙ listed (λ n. ltb 13 n && ltb n 16) namedEasings w (rw (lt-ltb 13 (length w) (omega arith), lt-ltb (length w) 16 (at-if3 .if3 .taken)))
 
-is-of-16-requires : tie.Need-is-of-16-requires
-is-of-16-requires c κs = search needs
-
 returns-4 : tie.Need-returns-4
 returns-4 c = c .is-of-16 .ensures ∙ listed (λ n. eqb n 16) namedEasings _ (eq-eqb _ _ (c .before .if4 .taken))
-
-is-from-17-requires : tie.Need-is-from-17-requires
-is-from-17-requires c κs = search needs
 
 returns-5 : tie.Need-returns-5
 returns-5 c =
@@ -52,15 +37,5 @@ returns-5 c =
 
 pub is-listed-spec : {M : Type 1} → statement M
 is-listed-spec =
-    tie.close
-    (tie.spec
-    is-up-to-12-requires
-    returns
-    is-of-13-requires
-    returns-2
-    is-of-14-15-requires
-    returns-3
-    is-of-16-requires
-    returns-4
-    is-from-17-requires
-    returns-5)
+    tie.close (tie.spec (λ c κs. search needs) returns (λ c κs. search needs) returns-2 (λ c κs. search needs) returns-3
+    (λ c κs. search needs) returns-4 (λ c κs. search needs) returns-5)

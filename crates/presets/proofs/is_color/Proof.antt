@@ -1,4 +1,4 @@
--- `presets::is_color` meets its contract: each way out is one law of colours; of a name the first 32 bytes decide. Assumes nothing.
+-- `presets::is_color` meets its contract: each way out is one law of colours; of a name the first 32 bytes decide.
 use mathlib.Core.Path.{sym, _∙_}
 use lib.Seq.{length-take-le}
 use borrow.Author.Needs.{needs}
@@ -6,15 +6,6 @@ use Rattle.text.proofs.WriteLaws.{puts-front, puts-fits}
 use Rattle.presets.proofs.ColorLaws.{short, color-hex, color-name}
 use Rattle.presets.proofs.is_color.Statement.{statement}
 use Rattle.presets.proofs.is_color.Tie as tie
-
-byte-at-requires : tie.Need-byte-at-requires
-byte-at-requires c κs = search needs
-
-part-requires : tie.Need-part-requires
-part-requires c κs = search needs
-
-is-hex-color-requires : tie.Need-is-hex-color-requires
-is-hex-color-requires c κs = search needs
 
 returns : tie.Need-returns
 returns c =
@@ -26,12 +17,6 @@ returns c =
     ∙ color-hex _ (start .args .s .now) (at-byte-at .byte-at .result) (at-byte-at .byte-at .ensures) _ (at-if1 .if1 .taken)
     (at-part .part .ensures)
 
-slice-aggregate-lower-into : tie.Need-slice-aggregate-lower-into
-slice-aggregate-lower-into c = search needs
-
-lower-into-requires : tie.Need-lower-into-requires
-lower-into-requires c κs = search needs
-
 array-share-prefix-name : tie.Need-array-share-prefix-name
 array-share-prefix-name c = puts-fits (c .before .lower-into .ensures)
 
@@ -39,9 +24,6 @@ slice-aggregate-is-color-name : tie.Need-slice-aggregate-is-color-name
 slice-aggregate-is-color-name c =
     let lower-into = c .before .before .lower-into in
     sym (length-take-le (lower-into .result) (lower-into .last .1 .0) (puts-fits (lower-into .ensures)))
-
-is-color-name-requires : tie.Need-is-color-name-requires
-is-color-name-requires c κs = search needs
 
 returns-2 : tie.Need-returns-2
 returns-2 c =
@@ -55,15 +37,5 @@ returns-2 c =
 
 pub is-color-spec : {M : Type 1} → statement M
 is-color-spec =
-    tie.close
-    (tie.spec
-    byte-at-requires
-    part-requires
-    is-hex-color-requires
-    returns
-    slice-aggregate-lower-into
-    lower-into-requires
-    array-share-prefix-name
-    slice-aggregate-is-color-name
-    is-color-name-requires
-    returns-2)
+    tie.close (tie.spec (λ c κs. search needs) (λ c κs. search needs) (λ c κs. search needs) returns (λ c. search needs)
+    (λ c κs. search needs) array-share-prefix-name slice-aggregate-is-color-name (λ c κs. search needs) returns-2)

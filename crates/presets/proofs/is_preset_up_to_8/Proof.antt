@@ -1,19 +1,13 @@
--- `presets::is_preset_up_to_8` meets its contract: the table's words are the presets of those lengths, which is computed. Assumes nothing.
+-- `presets::is_preset_up_to_8` meets its contract: the table's words are the presets of those lengths, which is computed.
 use borrow.Author.Needs.{needs}
 use Rattle.text.specs.Words.{entries}
 use Rattle.lengths.specs.Sized.{sized}
 use Rattle.presets.proofs.is_preset_up_to_8.Statement.{statement}
 use Rattle.presets.proofs.is_preset_up_to_8.Tie as tie
 
-slice-aggregate-is-listed : tie.Need-slice-aggregate-is-listed
-slice-aggregate-is-listed c = search needs
-
-is-listed-requires : tie.Need-is-listed-requires
-is-listed-requires c κs = search needs
-
 returns : tie.Need-returns
 unfolding entries sized
 returns c = c .is-listed .ensures
 
 pub is-preset-up-to-8-spec : {M : Type 1} → statement M
-is-preset-up-to-8-spec = tie.close (tie.spec slice-aggregate-is-listed is-listed-requires returns)
+is-preset-up-to-8-spec = tie.close (tie.spec (λ c. search needs) (λ c κs. search needs) returns)
