@@ -21,7 +21,7 @@ pub fn answer(line: &[u8], f: Fields) {
 fn say_sizes(sheet: &[u8], text_len: usize) {
     let mut k: usize = 0;
     while k <= sheet.len() {
-        let size = size_of(records::record_at(sheet, text_len, k));
+        let size = size_of(records::find_record(sheet, text_len, k));
         if size == 0 {
             return;
         }
@@ -35,5 +35,6 @@ fn size_of(r: RecordAt) -> usize {
     match r {
         RecordAt::At { start: _, size } => size,
         RecordAt::Nothing => 0,
+        RecordAt::NoSheet => 0,
     }
 }

@@ -12,19 +12,18 @@ use lib.ListN.{length, getD, drop, getElem?, drop-of-length-le, length-append}
 use lib.Seq.{sets, sets-eq, drop-cons, take-all}
 use borrow.Author.Tests.{leb-true, leb-false, le-leb, lt-leb, le-ltb, lt-ltb}
 use Rattle.error.specs.declared.Refusal.{Refusal}
-use Rattle.error.specs.declared.Refusal.the-variants.{OutputTooShort}
+use Rattle.error.specs.declared.Refusal.the-variants.{NotASheet, OutputTooShort}
 use Rattle.error.specs.declared.LineAnswer.{LineAnswer}
 use Rattle.error.specs.declared.LineAnswer.the-variants.{Accepted, Refused}
 use Rattle.text.specs.Write.{Puts}
 use Rattle.codec.specs.Codec.{big}
 use Rattle.sheet.specs.Sheet.{Forest, decode}
 use Rattle.sheet.specs.Records.{allRecords}
-use Rattle.sheet.specs.Opening.{Opened, opened, shut, opening}
-use Rattle.records.specs.declared.RecordAt.{RecordAt}
-use Rattle.records.specs.Record.{bytesAt, Located}
+use Rattle.sheet.specs.Opening.{Opened, opened, shut, decoded, opening}
+use Rattle.records.specs.Record.{recordIn}
 use Rattle.opening.specs.declared.Opening.the-variants.{Open, Shut}
-use Rattle.opening.specs.Means.{answerOf}
-use Rattle.opening.proofs.OpenLaws.{the-tree, the-refusal}
+use Rattle.opening.specs.Means.{answerOf, textAnswer}
+use Rattle.opening.proofs.OpenLaws.{first-shut, text-open, the-tree, the-refusal}
 use Rattle.line.specs.Line.{digit, hex, total, covered, checkByte, spelled, line}
 use Rattle.line.specs.Lining.{placed, ofRecord, ofOpened, lining}
 
@@ -111,15 +110,25 @@ module _ (i : ℕ) (out r : List ℕ) where
   without-room e =
       let h : length out < length (line r) = omega (arith, length-line r, leb-false (2 * length r + 7) (length out) e) in rw (lt-ltb _ _ h)
 
-module _ (t s : List ℕ) (i : ℕ) (out : List ℕ) where
-  pub refused : {r : Refusal} {p : ℕ} → Shut r p ≡ answerOf (opening t s) → lining t s i out ≡ (Refused r p, out)
-  unfolding lining
-  refused e = rw (the-refusal (opening t s) e)
+-- 20, or what is done with a record or none
+abbrev pub ofFound : ℕ → List ℕ → Option (Option (List ℕ)) → LineAnswer × List ℕ
+ofFound i out none = (Refused NotASheet 0, out)
+ofFound i out (some r) = ofRecord i out r
 
-  -- what is found at the ordinal is lined
-  pub found : {a : RecordAt} → Open ≡ answerOf (opening t s) → Located (length t) s i a → lining t s i out ≡ ofRecord i out (bytesAt a s)
+of-tree : (n i : ℕ) (out : List ℕ) (o : Option Forest) → ofOpened n i out (decoded o) ≡ ofFound i out (recordIn n i o)
+of-tree n i out none = refl
+of-tree n i out (some ns) = refl
+
+module _ (t s : List ℕ) (i : ℕ) (out : List ℕ) where
+  pub refused : {r : Refusal} {p : ℕ} → Shut r p ≡ textAnswer t → lining t s i out ≡ (Refused r p, out)
   unfolding lining
-  found e l = let o = the-tree t s e in rw (o .opens, ← l .is (o .nodes) (o .decodes))
+  refused e = rw (the-refusal (opening t s) (first-shut t s e refl))
+
+  -- 20, or what is found at the ordinal is lined
+  pub found : {f : Option (Option (List ℕ))} → Open ≡ textAnswer t → f ≡ recordIn (length t) i (decode (length t) s)
+      → lining t s i out ≡ ofFound i out f
+  unfolding lining
+  found e l = rw (text-open t s e, l) (of-tree (length t) i out (decode (length t) s))
 
 -- ---- what lining accepts
 

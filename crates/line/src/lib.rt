@@ -10,7 +10,7 @@ ghost use Rattle.line.specs.Lining.{placed, lining};
 use error::LineAnswer;
 use error::Refusal;
 use opening::Opening;
-use opening::open_sheet;
+use opening::open_text;
 use records::RecordAt;
 
 // ---- the check byte
@@ -112,14 +112,18 @@ pub fn line(text: &[u8], sheet: &[u8], ordinal: usize, out: &mut [u8]) -> LineAn
     ensures { λ r. ⌜ (r, now (out .exit)) ≡ lining (now (text .entry)) (now (sheet .entry)) ordinal (now (out .entry)) ⌝ }
     ensures values { λ r. ⌜ lineValues r ≡ lineValues (lining (now (text .entry)) (now (sheet .entry)) ordinal (now (out .entry)) .0) ⌝ }
 {
-    if let Opening::Shut { refusal, place } = open_sheet(text, sheet) {
+    if let Opening::Shut { refusal, place } = open_text(text) {
         return LineAnswer::Refused { refusal, place };
     }
-    match records::record_at(sheet, text.len(), ordinal) {
+    match records::find_record(sheet, text.len(), ordinal) {
         RecordAt::At { start, size } => place_line(text::part(sheet, start, size), ordinal, out),
         RecordAt::Nothing => LineAnswer::Refused {
             refusal: Refusal::NoSuchRecord,
             place: ordinal,
+        },
+        RecordAt::NoSheet => LineAnswer::Refused {
+            refusal: Refusal::NotASheet,
+            place: 0,
         },
     }
 }

@@ -112,6 +112,17 @@ pub first-shut : (t s : List ℕ) {a b : Opening} → a ≡ textAnswer t → b �
 unfolding opening bytesAnswer
 first-shut t s e g = rw (e, g) (text-first t (decoded (decode (length t) s)))
 
+-- behind an open text it is the bytes'
+pub text-open : (t s : List ℕ) → Open ≡ textAnswer t → opening t s ≡ decoded (decode (length t) s)
+unfolding opening textAnswer
+text-open t s e = go (ltb textLimit (length t)) (foreignFrom 0 t) (decoded (decode (length t) s)) e
+  where
+    go : (b : Bool) (f : Option ℕ) (o : Opened) → Open ≡ cond b (Shut TextTooLong 0) (foreignAnswer f)
+        → cond b (shut TextTooLong 0) (unlessForeign f o) ≡ o
+    go true f o e = let z : _≡_ {A = ℕ} 0 1 = cc in absurd (omega arith)
+    go false none o e = refl
+    go false (some i) o e = let z : _≡_ {A = ℕ} 0 1 = cc in absurd (omega arith)
+
 -- ---- what an answer tells
 
 pub record Tree (t s : List ℕ) : Type 0 where

@@ -1,3 +1,4 @@
 pub mod RecordLaws
+pub mod SeekLaws
 pub mod WalkLaws
 pub mod PlaceLaws

@@ -79,7 +79,7 @@ all-alone n (suc d) (box p k ns rest) h = (
       (all-alone n (suc d) rest (h .1)),
 )
 
-alone-records : (n : ℕ) (xs : List Node) → All (AloneAs n) xs → All (Alone n) (map (recordOf n) xs)
+pub alone-records : (n : ℕ) (xs : List Node) → All (AloneAs n) xs → All (Alone n) (map (recordOf n) xs)
 alone-records n [] h = tt
 alone-records n (x ∷ xs) h = ((λ rest. let a = h .0 rest in (a .0, a .1)), alone-records n xs (h .1))
 
@@ -111,7 +111,7 @@ landed {A} c {s = s} {start = start} r rest h e b (bad o k) =
     let x : _≡_ {A = ℕ} 0 1 = cc in
     absurd (omega arith)
 
-drop-next : (rs : List (List ℕ)) (k : ℕ) {r : List ℕ} {qs : List (List ℕ)} → drop k rs ≡ r ∷ qs → drop (k + 1) rs ≡ qs
+pub drop-next : (rs : List (List ℕ)) (k : ℕ) {r : List ℕ} {qs : List (List ℕ)} → drop k rs ≡ r ∷ qs → drop (k + 1) rs ≡ qs
 drop-next rs k {r} {qs} e = sym (drop-drop 1 k rs) ∙ ap (drop 1) e
 
 module _ (n : ℕ) (s : List ℕ) where

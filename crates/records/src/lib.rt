@@ -2,8 +2,8 @@
 ghost use mathlib.Core.Path.{_≡_};
 ghost use Rattle.text.specs.Words.{isSome};
 ghost use Rattle.sheet.specs.Sheet.{nodeForm, forest, inner, decode};
-ghost use Rattle.decode.specs.Reads.{Reads, passed};
-ghost use Rattle.records.specs.Record.{recordForm, recordView, Located};
+ghost use Rattle.decode.specs.Reads.{Reads};
+ghost use Rattle.records.specs.Record.{recordForm, recordView, recordIn, bytesAt, pass, Walks, WalksAll};
 use decode::fields::lost;
 use decode::fields::take_field;
 use decode::fields::take_kind;
@@ -35,10 +35,11 @@ pub struct RecordRead {
     pub next: usize,
 }
 
-// Where a record stands.
+// Where a record stands in a sheet, or that it has no such record, or that the bytes are no sheet.
 pub enum RecordAt {
     At { start: usize, size: usize },
     Nothing,
+    NoSheet,
 }
 
 // A record alone: its kind, its start and its own fields, a container's count of nodes with them.
@@ -107,73 +108,118 @@ pub fn take_record(s: &[u8], at: usize, n: usize) -> RecordRead
     }
 }
 
+// ---- the walk. It looks for a record: so many are left to be passed before it, and `from` is the place behind the last one
+// passed of these, where the record begins once none is left.
+
+// Passes a record that ends at a place.
+fn pass(next: usize, left: &mut usize, from: &mut usize)
+    ensures { λ r. ⌜ (now (left .exit), now (from .exit)) ≡ pass next (now (left .entry)) (now (from .entry)) ⌝ }
+{
+    if *left == 0 {
+        return;
+    }
+    *left -= 1;
+    *from = next;
+}
+
 // Past the node at a place, with the nodes in it, inside containers of which `depth` more may follow.
-fn walk_node(s: &[u8], at: usize, n: usize, depth: usize) -> usize
-    ensures { λ r. ⌜ Reads (nodeForm n (inner n depth)) passed (now (s .entry)) at tt r ⌝ }
+fn walk_node(
+    s: &[u8],
+    at: usize,
+    n: usize,
+    depth: usize,
+    left: &mut usize,
+    from: &mut usize,
+) -> usize
+    ensures { λ r. ⌜ Walks (nodeForm n (inner n depth)) n (now (s .entry)) at (now (left .entry)) (now (from .entry)) r (now (left .exit)) (now (from .exit)) ⌝ }
 {
     if s.len() <= at {
         return lost(s);
     }
     let r = take_record(s, at, n);
+    let next = r.next;
+    pass(next, left, from);
     let kind = r.v;
     match kind {
-        Kind::Leaf => r.next,
+        Kind::Leaf => next,
         Kind::Container(count) => {
             if depth == 0 {
                 return lost(s);
             }
-            walk_nodes(s, r.next, n, depth - 1, count)
+            walk_nodes(s, next, n, depth - 1, count, left, from)
         }
     }
 }
 
 // Past so many nodes.
-fn walk_nodes(s: &[u8], at: usize, n: usize, depth: usize, count: usize) -> usize
-    ensures { λ r. ⌜ Reads (forest n (inner n depth) count) passed (now (s .entry)) at tt r ⌝ }
+fn walk_nodes(
+    s: &[u8],
+    at: usize,
+    n: usize,
+    depth: usize,
+    count: usize,
+    left: &mut usize,
+    from: &mut usize,
+) -> usize
+    ensures { λ r. ⌜ Walks (forest n (inner n depth) count) n (now (s .entry)) at (now (left .entry)) (now (from .entry)) r (now (left .exit)) (now (from .exit)) ⌝ }
 {
     let mut a = at;
     let mut k: usize = 0;
     while k < count {
-        a = walk_node(s, a, n, depth);
+        a = walk_node(s, a, n, depth, left, from);
         k += 1;
     }
     a
+}
+
+// Over bytes as a sheet for a text of so many bytes, the head being the first record.
+fn walk_sheet(bytes: &[u8], text_len: usize, left: &mut usize, from: &mut usize) -> usize
+    ensures { λ r. ⌜ WalksAll «text_len» (now (bytes .entry)) (now (left .entry)) r (now (left .exit)) (now (from .exit)) ⌝ }
+{
+    if 65535 < bytes.len() {
+        return lost(bytes);
+    }
+    let count = take_field(bytes, 0, 2);
+    pass(count.next, left, from);
+    walk_nodes(
+        bytes,
+        count.next,
+        text_len,
+        16,
+        count.v as usize,
+        left,
+        from,
+    )
 }
 
 // Whether bytes are a sheet for a text of so many bytes.
 pub fn is_sheet(bytes: &[u8], text_len: usize) -> bool
     ensures { λ r. ⌜ r ≡ isSome (decode «text_len» (now (bytes .entry))) ⌝ }
 {
-    if 65535 < bytes.len() {
-        return false;
-    }
-    let count = take_field(bytes, 0, 2);
-    let end = walk_nodes(bytes, count.next, text_len, 16, count.v as usize);
-    end == bytes.len()
+    let mut left: usize = 0;
+    let mut from: usize = 0;
+    walk_sheet(bytes, text_len, &mut left, &mut from) == bytes.len()
 }
 
-// Where the record with an ordinal stands in a sheet, the head being 0.
-pub fn record_at(bytes: &[u8], text_len: usize, ordinal: usize) -> RecordAt
-    ensures { λ r. ⌜ Located «text_len» (now (bytes .entry)) ordinal r ⌝ }
+// Whether bytes are a sheet, and where its record with an ordinal stands.
+pub fn find_record(bytes: &[u8], text_len: usize, ordinal: usize) -> RecordAt
+    ensures { λ r. ⌜ bytesAt r (now (bytes .entry)) ≡ recordIn «text_len» ordinal (decode «text_len» (now (bytes .entry))) ⌝ }
 {
-    let head = take_field(bytes, 0, 2);
+    let mut left = ordinal;
     let mut start: usize = 0;
-    let mut end = head.next;
-    let mut k: usize = 0;
-    while k < ordinal {
-        if bytes.len() <= end {
-            return RecordAt::Nothing;
-        }
-        start = end;
-        let r = take_record(bytes, start, text_len);
-        end = r.next;
-        k += 1;
+    let end = walk_sheet(bytes, text_len, &mut left, &mut start);
+    if end != bytes.len() {
+        return RecordAt::NoSheet;
     }
-    if bytes.len() < end {
+    if ordinal == 0 {
+        return RecordAt::At { start: 0, size: 2 };
+    }
+    if bytes.len() <= start {
         return RecordAt::Nothing;
     }
+    let r = take_record(bytes, start, text_len);
     RecordAt::At {
         start,
-        size: end - start,
+        size: r.next - start,
     }
 }

@@ -1,17 +1,10 @@
--- `records::is_sheet` meets its contract: the walk ends where the bytes do just if they decode.
+-- `records::is_sheet` meets its contract: it is what the walk decides.
 use borrow.Author.Needs.{needs}
-use Rattle.records.proofs.WalkLaws as walks
 use Rattle.records.proofs.is_sheet.Statement.{statement}
 use Rattle.records.proofs.is_sheet.Tie as tie
 
 returns : tie.Need-returns
-returns c = walks.too-long _ _ (c .if1 .taken)
-
-returns-2 : tie.Need-returns-2
-returns-2 c =
-    let at-take-field = c .before .before in
-    let at-if1 = at-take-field .before in
-    walks.decides _ _ (at-if1 .if1 .left) (at-take-field .take-field .ensures .reads) (c .walk-nodes .ensures)
+returns c = c .walk-sheet .ensures .decides
 
 pub is-sheet-spec : {M : Type 1} → statement M
-is-sheet-spec = tie.close (tie.spec returns (λ c κs. search needs) (λ c. search needs) (λ c κs. search needs) returns-2)
+is-sheet-spec = tie.close (tie.spec (λ c κs. search needs) returns)
