@@ -11,8 +11,9 @@
  * The floating-point mode is C's default: rounding to nearest, and no denormal taken or stored as zero (on x86-64 neither DAZ nor FTZ is
  * set in MXCSR). In another mode answers may differ: rounding upward, `1%` is stored as 3C23D70B, and not as 3C23D70A.
  *
- * The most stack that was seen for a call, in bytes: strip_order 128,600, strip_lookup 62,904, strip_check, strip_print, strip_feed and
- * strip_write 38,208, of any script, strip_read 18,808, the others 3,256.
+ * The most stack that was seen for a call, in bytes: strip_order 128,600, strip_lookup 62,904, strip_read 18,808. strip_check, strip_print,
+ * strip_feed and strip_write 39,840, of a script with a track of more than 64 frames inside 16 containers; of a script without such a
+ * track strip_check and strip_write 11,856, strip_print and strip_feed 128 more than strip_read. The others 3,256.
  *
  * Each function answers with one number: the refusal's, 0 for accepted, times 2^56, plus a value.
  */
