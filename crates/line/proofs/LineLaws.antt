@@ -8,7 +8,7 @@ use native.Mathlib.Omega.{arith}
 use native.Mathlib.Nat.{zero-add, sub-zero}
 use native.Mathlib.Numerals.{add-one}
 use lib.Dec.{ltb, leb}
-use lib.ListN.{length, getD, drop, getElem?, drop-of-length-le, length-append}
+use lib.ListN.{length, getD, set, drop, getElem?, drop-of-length-le, length-append, length-set}
 use lib.Seq.{sets, sets-eq, drop-cons, take-all}
 use borrow.Author.Tests.{leb-true, leb-false, le-leb, lt-leb, le-ltb, lt-ltb}
 use Rattle.error.specs.declared.Refusal.{Refusal}
@@ -16,6 +16,7 @@ use Rattle.error.specs.declared.Refusal.the-variants.{NotASheet, OutputTooShort
 use Rattle.error.specs.declared.LineAnswer.{LineAnswer}
 use Rattle.error.specs.declared.LineAnswer.the-variants.{Accepted, Refused}
 use Rattle.text.specs.Write.{Puts}
+use Rattle.text.proofs.WriteLaws.{puts-none, puts-one, puts-then}
 use Rattle.codec.specs.Codec.{big}
 use Rattle.sheet.specs.Sheet.{Forest, decode}
 use Rattle.sheet.specs.Records.{allRecords}
@@ -55,6 +56,29 @@ hex-at s i h = rw (add-one, drop-cons s i 0)
 pub hex-end : (s : List ℕ) (i : ℕ) → length s ≤ i → hex (drop i s) ≡ []
 unfolding hex
 hex-end s i h = rw (drop-of-length-le s h)
+
+-- where there is room for all of it: what is written from i on is written from the start
+module _ (out₀ : List ℕ) (at : ℕ) (bs : List ℕ) where
+  abbrev pub Writing : List ℕ → ℕ → Type 0
+  Writing out i = (after : List ℕ) (e : ℕ) → Puts out (at + 2 * i) (hex (drop i bs)) after e → Puts out₀ at (hex bs) after e
+
+  pub writing-start : Writing out₀ 0
+  writing-start after e p = let z : at + 2 * 0 ≡ at = omega arith in rw z at p
+
+  pub writing-next : (out : List ℕ) (i : ℕ) {h l : ℕ} → i < length bs → at + 2 * i + 1 < length out
+      → h ≡ digit (getD bs i 0 / 16) → l ≡ digit (getD bs i 0 % 16) → Writing out i
+      → Writing (set (set out (at + 2 * i) h) (at + 2 * i + 1) l) (i + 1)
+  unfolding hex
+  writing-next out i {h} {l} k m dh dl w after e p =
+      let z : at + 2 * (i + 1) ≡ at + 2 * i + 1 + 1 = omega arith in
+      let q : Puts (set (set out (at + 2 * i) h) (at + 2 * i + 1) l) (at + 2 * i + 1 + 1) (hex (drop (i + 1) bs)) after e = rw z at p in
+      let r = puts-one (set out (at + 2 * i) h) (at + 2 * i + 1) l (rw length-set m) in
+      let u = puts-then (puts-one out (at + 2 * i) h (omega arith)) (puts-then r q) in
+      w after e (rw (hex-at bs i k, ← dh, ← dl) u)
+
+  pub writing-done : (out : List ℕ) (i : ℕ) → length bs ≤ i → i ≤ length bs → Writing out i → Puts out₀ at (hex bs) out (at + 2 * length bs)
+  writing-done out i h l w =
+      let z : i ≡ length bs = omega arith in rw (← z) (w out (at + 2 * i) (rw (hex-end bs i h) (puts-none out (at + 2 * i))))
 
 pub hex-append : (a b : List ℕ) → hex (a ++ b) ≡ hex a ++ hex b
 unfolding hex

@@ -1,8 +1,9 @@
 // Lining: a record of a sheet as a line of hexadecimal.
 ghost use mathlib.Core.List.{[], _∷_};
 ghost use mathlib.Core.Path.{_≡_};
-ghost use Prim.Native.Nat.{_+_, _*_, _%_, _<_};
+ghost use Prim.Native.Nat.{_+_, _*_, _%_, _≤_, _<_};
 ghost use lib.Dec.{leb};
+ghost use lib.ListN.{length};
 ghost use Rattle.text.specs.Write.{Puts};
 ghost use Rattle.line.specs.Line.{digit, hex, total, checkByte, line};
 ghost use Rattle.error.specs.Answer.{lineValues};
@@ -55,8 +56,8 @@ fn put_byte(out: &mut [u8], at: usize, b: u8) -> usize
     text::put(out, next, digit(b % 16))
 }
 
-// Writes some bytes so.
-fn put_bytes(out: &mut [u8], at: usize, bytes: &[u8]) -> usize
+// Writes some bytes so, as far as there is room.
+fn put_clipped(out: &mut [u8], at: usize, bytes: &[u8]) -> usize
     ensures { λ r. ⌜ Puts (now (out .entry)) at (hex (now (bytes .entry))) (now (out .exit)) r ⌝ }
 {
     let mut end = at;
@@ -66,6 +67,36 @@ fn put_bytes(out: &mut [u8], at: usize, bytes: &[u8]) -> usize
         i += 1;
     }
     end
+}
+
+// The same where there is room for all of them, so that the loop is made into vectors.
+fn put_whole(out: &mut [u8], at: usize, bytes: &[u8])
+    requires { ⌜ at + 2 * length (now bytes) ≤ length (now out) ⌝ }
+    ensures { λ r. ⌜ Puts (now (out .entry)) at (hex (now (bytes .entry))) (now (out .exit)) (at + 2 * length (now (bytes .entry))) ⌝ }
+{
+    let mut i = 0;
+    while i < bytes.len() {
+        let b = bytes[i];
+        let high = at + 2 * i;
+        out[high] = digit(b / 16);
+        out[high + 1] = digit(b % 16);
+        i += 1;
+    }
+}
+
+// Writes some bytes so.
+fn put_bytes(out: &mut [u8], at: usize, bytes: &[u8]) -> usize
+    ensures { λ r. ⌜ Puts (now (out .entry)) at (hex (now (bytes .entry))) (now (out .exit)) r ⌝ }
+{
+    let n = bytes.len();
+    if out.len() < at {
+        return at;
+    }
+    if (out.len() - at) / 2 < n {
+        return put_clipped(out, at, bytes);
+    }
+    put_whole(out, at, bytes);
+    at + 2 * n
 }
 
 // Writes a record's line at a place, as far as there is room, and gives the place behind it.
