@@ -27,7 +27,7 @@ def touched_by_field(text):
 
 
 def touched_by_kind(text):
-    return any(name in text for name in MORPH) or any(part in text for part in ("11", "15", "59", "60", "last-kind")) and KIND_COUNT.search(text)
+    return any(name in text for name in MORPH) or KIND_COUNT.search(text)
 
 
 SEARCHES = {"A new field of a node kind": touched_by_field, "A new node kind": touched_by_kind}
