@@ -1,7 +1,7 @@
 #!/bin/sh
-# Builds the library, tests both of its bindings, the program shelfstrip and an install, and runs the examples of docs/LANGUAGE.md and
-# README.md. Needs rt, cargo, a C compiler and Python 3; no packages, but shelfstrip is tested only where its libraries are there, and what
-# is installed only where pkg-config is.
+# Builds the library, tests both of its bindings, the program shelfstrip and an install, and runs the examples of docs/LANGUAGE.md,
+# docs/REFUSALS.md and README.md. Needs rt, cargo, a C compiler and Python 3; no packages, but shelfstrip is tested only where its libraries
+# are there, and what is installed only where pkg-config is.
 set -eu
 # cargo's own folder, where the search path leaves it out
 PATH=$PATH:${CARGO_HOME:-${HOME:-/root}/.cargo}/bin

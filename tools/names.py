@@ -1,7 +1,7 @@
 #!/usr/bin/env python3
 """Finds every name that the documents cite: a definition or law as `crate.File`: `name` or `crate.File.name`, a function or type as
-`crate::name`, a must-fail edit; every edit is cited in docs/REVIEW.md; and README's map has every crate, each behind those that it uses.
-Prints what it does not find. Run from the repository's root."""
+`crate::name`, a must-fail edit; every edit is cited in docs/REVIEW.md; docs/MAP.md has every crate, each behind those that it uses; and
+README's layers are those of docs/MAP.md. Prints what it does not find. Run from the repository's root."""
 import glob, os, re, sys
 from functools import lru_cache
 
@@ -83,15 +83,33 @@ def cited_edits(text):
                     bad.append(f"REVIEW: no edit {name}")
 
 
-def map_order(text):
-    """The crates of README's map, in its order."""
-    rows = text.split("## Map")[1].splitlines()
-    names = [name for row in rows if row.startswith("| `") for name in re.findall(r"`([a-z0-9_]+)`", row.split("|")[1])]
+def map_layers(text):
+    """The layers of docs/MAP.md: each heading, and the crates of its table."""
+    parts = re.split(r"^\*\*(.+?)\*\*.*$", text, flags=re.M)[1:]
+    cells = lambda part: "".join(row.split("|")[1] for row in part.splitlines() if row.startswith("| `"))
+    return [(heading, re.findall(r"`([a-z0-9_]+)`", cells(part))) for heading, part in zip(parts[::2], parts[1::2])]
+
+
+def map_order(layers):
+    """Whether the map has every crate once, each behind those that it uses."""
+    names = [name for _, crates in layers for name in crates]
     for name in sorted(set(CRATES) ^ set(names)):
-        bad.append(f"README's map and crates.txt: {name} stands in one of them alone")
+        bad.append(f"docs/MAP.md and crates.txt: {name} stands in one of them alone")
+    bad.extend(f"docs/MAP.md: {name} stands there more than once" for name in sorted(set(names)) if names.count(name) > 1)
     place = {name: i for i, name in enumerate(names)}
     for name, uses in CRATES.items():
-        bad.extend(f"README's map: {name} stands before {use}, which it uses" for use in uses if place.get(use, -1) > place.get(name, 0))
+        bad.extend(f"docs/MAP.md: {name} stands before {use}, which it uses" for use in uses if place.get(use, -1) > place.get(name, 0))
+
+
+def readme_layers(text, layers):
+    """README's table of layers: those of the map in its order, each with a crate of it; the bindings behind them."""
+    rows = [[cell.strip() for cell in row.split("|")[1:-1]] for row in text.split("## Map")[1].splitlines() if row.startswith("| ")]
+    rows = [row for row in rows if len(row) == 3][1:]
+    if [row[0] for row in rows] != [heading for heading, _ in layers] + ["Bindings"]:
+        bad.append("README's layers are not those of docs/MAP.md")
+    for (heading, _, first), (_, crates) in zip(rows, layers):
+        if first.strip("`") not in crates:
+            bad.append(f"README's layers: {heading} has no crate {first} in docs/MAP.md")
 
 
 for document in DOCUMENTS:
@@ -99,6 +117,8 @@ for document in DOCUMENTS:
     cited_definitions(document, text)
     cited_code(document, text)
 cited_edits(open("docs/REVIEW.md").read())
-map_order(open("README.md").read())
+layers = map_layers(open("docs/MAP.md").read())
+map_order(layers)
+readme_layers(open("README.md").read(), layers)
 print("\n".join(bad) if bad else "documents: every name is there")
 sys.exit(bool(bad))

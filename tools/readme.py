@@ -1,12 +1,13 @@
 #!/usr/bin/env python3
 """Compiles and runs the Rust and the C of README.md and compares what is printed with the block behind each; compares the script and what
-is printed for it with examples/, and runs the scripts of the table of refusals. FOLDER is that of bindings/test.sh, with the C example
-and the Rust crate built. Run from the repository's root. usage: tools/readme.py FOLDER"""
+is printed for it with examples/, and runs the scripts of docs/REFUSALS.md. FOLDER is that of bindings/test.sh, with the C example and
+the Rust crate built. Run from the repository's root. usage: tools/readme.py FOLDER"""
 import os, re, subprocess, sys
 
 OUT = sys.argv[1]
 ARCHIVE = os.path.abspath("target/staticlib")
 README = open("README.md").read()
+REFUSALS = open("docs/REFUSALS.md").read()
 
 
 def blocks():
@@ -38,17 +39,17 @@ def compiled(language, source):
     return program
 
 
-def same(what, got, wanted):
+def same(what, got, wanted, page="README.md"):
     if got != wanted:
-        sys.exit(f"README.md: {what}\nprinted:\n{got}README.md has:\n{wanted}")
+        sys.exit(f"{page}: {what}\nprinted:\n{got}{page} has:\n{wanted}")
 
 
 def refusals():
     """Runs the scripts of the table of refusals: how many. A script that is described and not shown has no code around its whole cell."""
-    rows = re.findall(r"^\| (\d+) \| .* \| `([^`]*)` \| `(refuse [^`]*)` \|$", README, re.M)
+    rows = re.findall(r"^\| (\d+) \| .* \| `([^`]*)` \| `(refuse [^`]*)` \|$", REFUSALS, re.M)
     for number, script, wanted in rows:
         assert wanted.split()[1] == number, wanted
-        same(f"the script of {number}", printed([f"{OUT}/example"], script), wanted + "\n")
+        same(f"the script of {number}", printed([f"{OUT}/example"], script), wanted + "\n", "docs/REFUSALS.md")
     return len(rows)
 
 
@@ -64,7 +65,7 @@ def main():
             same(f"its {language}", printed([compiled(language, source)]), wanted)
             ran.append(language)
     assert ran == ["rust", "c"], ran
-    print(f"README: a script, its Rust and its C, and {refusals()} refusals are as it has them")
+    print(f"README.md and docs/REFUSALS.md: a script, its Rust and its C, and {refusals()} refusals are as they have them")
 
 
 main()
