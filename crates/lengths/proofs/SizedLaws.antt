@@ -14,7 +14,7 @@ use Rattle.lengths.specs.Sized.{sized, among}
 never : {A : Type 0} → false ≡ true → A
 never e = let z : _≡_ {A = ℕ} 0 1 = cc in absurd (omega arith)
 
-find-sized : (p : ℕ → Bool) (ns : List (List ℕ)) (i j : ℕ) (w : List ℕ) → p (length w) ≡ true
+pub find-sized : (p : ℕ → Bool) (ns : List (List ℕ)) (i j : ℕ) (w : List ℕ) → p (length w) ≡ true
     → isSome (find (sized p ns) j w) ≡ isSome (find ns i w)
 unfolding find sized
 find-sized p [] i j w h = refl

@@ -13,27 +13,14 @@ use types.Run.{OneOf}
 use borrow.Author.Tests.{eqb-true, eq-eqb, ne-eqb, ltb-true}
 use Rattle.text.specs.Bytes.{same, oneOf}
 use Rattle.text.specs.Words.{isSome, words, find, shorter}
-use Rattle.text.proofs.WordLaws.{same-lengths, same-eq, same-refl, find-here, find-past, find-long}
+use Rattle.text.proofs.WordLaws.{same-eq, same-refl, find-here, find-past, find-long}
 use Rattle.token.specs.Names.{keywords, isKeyword}
-use Rattle.token.specs.Means.{pack, packs, sized, packedKeywords, longKeywords}
+use Rattle.token.specs.Means.{pack, packs, packedKeywords, longKeywords}
+use Rattle.lengths.specs.Sized.{sized}
+use Rattle.lengths.proofs.SizedLaws.{find-sized}
 use Rattle.token.proofs.WholeLaws.{never, either, both, every, every-in}
 
 -- ---- words of some lengths
-
-find-sized : (p : ℕ → Bool) (ns : List (List ℕ)) (i j : ℕ) (w : List ℕ) → p (length w) ≡ true
-    → isSome (find ns i w) ≡ isSome (find (sized p ns) j w)
-unfolding find sized
-find-sized p [] i j w h = refl
-find-sized p (n ∷ ns) i j w h = go (p (length n)) refl (same w n) refl (λ k. find-sized p ns (suc i) k w h)
-  where
-    go : (a : Bool) → p (length n) ≡ a → (b : Bool)
-        → same w n ≡ b
-        → ((k : ℕ) → isSome (find ns (suc i) w) ≡ isSome (find (sized p ns) k w))
-        → isSome (find (n ∷ ns) i w) ≡ isSome (find (cond a (n ∷ sized p ns) (sized p ns)) j w)
-    go true e true f ih = rw (find-here w n ns i f, find-here w n (sized p ns) j f)
-    go true e false f ih = rw (find-past w n ns i f, find-past w n (sized p ns) j f) (ih (suc j))
-    go false e b f ih =
-        rw (find-past w n ns i (same-lengths w n (λ q. never (sym e ∙ ap p (sym q) ∙ h)))) (ih j)
 
 -- one word
 pub find-last : (w n : List ℕ) (i : ℕ) → same w n ≡ isSome (find (n ∷ []) i w)
@@ -54,7 +41,7 @@ keyword-in : (p : ℕ → Bool) (w : List ℕ) (ms : List (List ℕ)) → p (len
     → sized p ms ≡ sized p (words keywords)
     → isSome (find ms 0 w) ≡ isKeyword w
 unfolding isKeyword
-keyword-in p w ms e h = find-sized p ms 0 0 w e ∙ (rw h) ∙ sym (find-sized p (words keywords) 0 0 w e)
+keyword-in p w ms e h = sym (find-sized p ms 0 0 w e) ∙ (rw h) ∙ find-sized p (words keywords) 0 0 w e
 
 -- those of 8
 pub keyword-eight : (w : List ℕ) → length w ≡ 8 → isSome (find (words longKeywords) 0 w) ≡ isKeyword w
@@ -187,4 +174,4 @@ pub keyword-packed : (p : ℕ → Bool) (w : List ℕ) → p (length w) ≡ true
     → allBytes (sized p (words keywords)) ≡ true
     → Bytes w → (v : ℕ) → v ≡ pack w → oneOf (packedKeywords p) v ≡ isKeyword w
 unfolding isKeyword packedKeywords
-keyword-packed p w h a f v e = rw e (find-packs (sized p (words keywords)) 0 w f a ∙ sym (find-sized p (words keywords) 0 0 w h))
+keyword-packed p w h a f v e = rw e (find-packs (sized p (words keywords)) 0 w f a ∙ find-sized p (words keywords) 0 0 w h)

@@ -7,6 +7,7 @@ use mathlib.Core.Bool.{Bool, true, false, _&&_, not, cond}
 use mathlib.Core.Path.{_≡_}
 use lib.Dec.{ltb, eqb}
 use lib.ListN.{length, getD, take, drop, replicate}
+use Rattle.lengths.specs.Sized.{sized}
 use Rattle.text.specs.Limits.{textLimit, wholeLimit, placesLimit}
 use Rattle.text.specs.Bytes.{run, part, decimal, isDigit}
 use Rattle.text.specs.Words.{words}
@@ -233,11 +234,6 @@ pack (b ∷ w) = pack w * 256 + b
 unfoldable pub packs : List (List ℕ) → List ℕ
 packs [] = []
 packs (w ∷ ws) = pack w ∷ packs ws
-
--- those words whose length passes a test
-unfoldable pub sized : (ℕ → Bool) → List (List ℕ) → List (List ℕ)
-sized p [] = []
-sized p (w ∷ ws) = cond (p (length w)) (w ∷ sized p ws) (sized p ws)
 
 abbrev pub upTo4 : ℕ → Bool
 upTo4 n = ltb n 5

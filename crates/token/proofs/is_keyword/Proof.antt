@@ -4,7 +4,8 @@ use native.Mathlib.Omega.{arith}
 use borrow.Author.Needs.{needs}
 use borrow.Author.Tests.{lt-ltb}
 use lib.ListN.{length}
-use Rattle.token.specs.Means.{sized, upTo4, upTo7}
+use Rattle.lengths.specs.Sized.{sized}
+use Rattle.token.specs.Means.{upTo4, upTo7}
 use Rattle.token.proofs.WholeLaws.{every}
 use Rattle.token.proofs.NameLaws.{allBytes, keyword-packed, keyword-eight, keyword-long}
 use Rattle.token.proofs.is_keyword.Statement.{statement}
