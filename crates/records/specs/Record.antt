@@ -41,7 +41,7 @@ recordView x = (kindView x, kindOf x, entriesOf x)
 
 -- ---- the record with an ordinal
 
--- its bytes in a sheet; no such record; no sheet
+-- what the bytes that a tree was decoded of have at an ordinal: 20, "bytes are no sheet for this text"; 31, "no such record"; the record
 abbrev pub recordIn : ℕ → ℕ → Option Forest → Option (Option (List ℕ))
 recordIn n ordinal none = none
 recordIn n ordinal (some ns) = some (getElem? (allRecords n ns) ordinal)
@@ -54,14 +54,14 @@ bytesAt (At start size) s = some (some (take size (drop start s)))
 
 -- ---- a walk that looks for it
 
--- where the record with an ordinal begins, of records that stand one behind the other; where they end, if there is none
+-- of records that stand one behind the other: where the one with an ordinal begins, or where they end if there is none
 unfoldable pub begins : ℕ → List (List ℕ) → ℕ
 begins zero rs = 0
 begins (suc k) [] = 0
 begins (suc k) (r ∷ rs) = length r + begins k rs
 
--- in the sheet of ns, with so many records left before the one with the ordinal, the record behind the last one counted begins at `from`,
--- and while any are left this is where the walk stands
+-- a walk over the sheet of ns, with so many records left to be passed before the one with the ordinal: `from` is the place behind the last
+-- one counted, and while any are left that is the walk's own place
 pub record Seeks (n : ℕ) (s : List ℕ) (ns : Forest) (ordinal at left from : ℕ) : Type 0 where
   pub last : ℕ
   pub listed : last < length (allRecords n ns)
@@ -73,7 +73,7 @@ pub record Seeks (n : ℕ) (s : List ℕ) (ns : Forest) (ordinal at left from : 
 abbrev pub pass : ℕ → ℕ → ℕ → ℕ × ℕ
 pass next left from = cond (eqb left 0) (left, from) (left - 1, next)
 
--- a walk over what a form reads; in a sheet it goes on looking
+-- a walk over what a form reads; in a sheet, if it was looking for a record before, it is behind
 pub record Walks {A : Type 0} (c : Form A) (n : ℕ) (s : List ℕ) (at left from next left′ from′ : ℕ) : Type 0 where
   pub reads : Reads c passed s at tt next
   pub seeks : (ns : Forest) (ordinal : ℕ) → decode n s ≡ some ns → Seeks n s ns ordinal at left from → Seeks n s ns ordinal next left′ from′
