@@ -158,9 +158,9 @@ module _ (n : ℕ) (s : List ℕ) (ns : Forest) (e : decode n s ≡ some ns) whe
         last-one zero q = omega (arith, k .count)
         last-one (suc l) q = absurd (let z = k .here (omega arith) (omega arith) in omega arith)
 
-  pub head-there : some (take 2 (drop 0 s)) ≡ getElem? (allRecords n ns) 0
+  pub head-there : (o : ℕ) → o ≡ 0 → some (take 2 (drop 0 s)) ≡ getElem? (allRecords n ns) o
   unfolding begins allRecords
-  head-there = this-one n s (allRecords n ns) (stands-at 0 (omega arith)) 0 refl
+  head-there = this-one n s (allRecords n ns) (stands-at 0 (omega arith))
 
 -- ---- a sheet or not
 
@@ -174,16 +174,16 @@ no-walk n s {m = m} h o =
       seeks = λ ns e p. let q : false ≡ true = d ∙ ap isSome e in let z : _≡_ {A = ℕ} 0 1 = cc in absurd (omega arith);
     }
 
-module _ (n : ℕ) (s : List ℕ) {m : ℕ} (d : eqb m (length s) ≡ isSome (decode n s)) where
-  pub no-sheet : (ordinal : ℕ) → (m ≡ length s → ⊥) → none ≡ recordIn n ordinal (decode n s)
-  no-sheet ordinal h = go (decode n s) (sym (ne-eqb m (length s) h) ∙ d)
+module _ {n : ℕ} {s : List ℕ} {ordinal m left from : ℕ} (w : WalksAll n s ordinal m left from) where
+  pub no-sheet : (m ≡ length s → ⊥) → none ≡ recordIn n ordinal (decode n s)
+  no-sheet h = go (decode n s) (sym (ne-eqb m (length s) h) ∙ w .decides)
     where
       go : (o : Option Forest) → false ≡ isSome o → none ≡ recordIn n ordinal o
       go none q = refl
       go (some ns) q = let z : _≡_ {A = ℕ} 0 1 = cc in absurd (omega arith)
 
   pub a-sheet : m ≡ length s → (ns : Forest) × (decode n s ≡ some ns)
-  a-sheet h = go (decode n s) refl (sym (eq-eqb m (length s) h) ∙ d)
+  a-sheet h = go (decode n s) refl (sym (eq-eqb m (length s) h) ∙ w .decides)
     where
       go : (o : Option Forest) → decode n s ≡ o → true ≡ isSome o → (ns : Forest) × (decode n s ≡ some ns)
       go none e q = let z : _≡_ {A = ℕ} 0 1 = cc in absurd (omega arith)
