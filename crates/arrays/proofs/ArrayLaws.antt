@@ -132,7 +132,7 @@ pub array-went : (s b b′ a a′ : List ℕ) (c m u : Cursor) (out f q e n : �
     → Writes b out (1 ∷ []) b′ f
     → (w : Went 0 s b′ a c m (f + 2) q arrayItems (eachOut (word .write)))
     → n ≡ length (w .value)
-    → Writes a f (big 2 .write n) a′ e → Took 0 s m u leave tt → ArrayWent s b a′ c u out n q
+    → Writes a f (big 2 .write n) a′ e → Took 0 s m u (leave 93) tt → ArrayWent s b a′ c u out n q
 array-went s b b′ a a′ c m u out f q e n o w k p l = record {
   xs = w .value;
   count = k;
@@ -163,8 +163,9 @@ left-with : (xs : List ℕ) (o : Out Unit) → after (after o (λ u. give xs)) (
 left-with xs (got u l ts) = refl
 left-with xs (refused r q) = refl
 
-regroup : (o : Out (List ℕ)) → after (after o (λ xs. leave >> give xs)) (λ xs. give (array xs)) ≡ after o (λ xs. leave >> give (array xs))
-regroup (got xs l ts) = left-with xs (leave l ts)
+regroup : (o : Out (List ℕ))
+    → after (after o (λ xs. leave 93 >> give xs)) (λ xs. give (array xs)) ≡ after o (λ xs. leave 93 >> give (array xs))
+regroup (got xs l ts) = left-with xs (leave 93 l ts)
 regroup (refused r q) = refl
 
 -- a value that is an array, and one that is a number

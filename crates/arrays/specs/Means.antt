@@ -53,7 +53,7 @@ ItemsMeans s b a c out (items.Refused r q) = run s c arrayItems ≡ refused r q
 
 -- an array behind its opener, with its closer
 abbrev pub arrayBehind : Rule ValueExpr
-arrayBehind = arrayItems >>= λ xs. leave >> give (array xs)
+arrayBehind = arrayItems >>= λ xs. leave 93 >> give (array xs)
 
 -- up to 3 bytes more than the text pays for: the case and the count
 pub record ArrayWent (s b a : List ℕ) (c m : Cursor) (out n q : ℕ) : Type 0 where

@@ -63,7 +63,7 @@ fn array_value(text: &[u8], sheet: &mut [u8], c: Cursor, out: usize) -> ItemsRea
         ItemsRead::Refused(r, p) => ItemsRead::Refused(r, p),
         ItemsRead::Is(n, end, m) => {
             encode::patch_count(sheet, first, n);
-            ItemsRead::Is(n, end, cursor::leave_group(text, m))
+            ItemsRead::Is(n, end, cursor::leave_group(text, m, b']'))
         }
     }
 }

@@ -234,7 +234,7 @@ module _ {s : List ℕ} {c m : Cursor} (t : Took 1 s c m (theByte 123) tt) (d : 
   inside-refused {r} {q} h = by-suc (λ (j : ℕ). run s c (block j) ≡ refused r q) d z (rw (t .is, h))
 
   pub block-went : {b b₁ a : List ℕ} {count f : ℕ} {u : Siblings} {e : Cursor} → NodesWent s b b₁ m (count + 2) (d - 1) u
-      → Writes b₁ count (big 2 .write (u .width)) a f → Took 0 s (u .next) e leave tt
+      → Writes b₁ count (big 2 .write (u .width)) a f → Took 0 s (u .next) e (leave 125) tt
       → BlockWent s b a c e count (u .end) d (u .records + 1)
   unfolding block
   block-went {b} {b₁} {a} {count} {f} {u} {e} g p l =

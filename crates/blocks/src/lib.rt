@@ -178,7 +178,7 @@ fn parse_block(text: &[u8], sheet: &mut [u8], c: Cursor, count: usize, depth: us
             ParsedNodes::Is(t) => {
                 let n = t.next;
                 encode::patch_count(sheet, count, t.width);
-                ParsedNode::Is(t.end, cursor::leave_group(text, n), t.records + 1)
+                ParsedNode::Is(t.end, cursor::leave_group(text, n, b'}'), t.records + 1)
             }
         },
     }

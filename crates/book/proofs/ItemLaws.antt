@@ -38,7 +38,7 @@ unfolding animatoInput
 body-refused t h = rw (t .is, h)
 
 pub body-went : {s b b₁ a : List ℕ} {c m e : Cursor} {u : Siblings} {k f : ℕ} → Took 1 s c m (theByte 123) tt → NodesWent s b b₁ m 2 16 u
-    → Writes b₁ 0 (big 2 .write (u .width)) a f → Took 0 s (u .next) e leave tt → k ≡ u .next .at
+    → Writes b₁ 0 (big 2 .write (u .width)) a f → Took 0 s (u .next) e (leave 125) tt → k ≡ u .next .at
     → BodyWent s b a c (record { end = k; bytes = u .end; next = e })
 unfolding animatoInput encode
 body-went {s} {m = m} {u = u} {k = k} t g o l p = record {

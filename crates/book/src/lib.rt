@@ -80,7 +80,7 @@ pub fn parse_body(text: &[u8], sheet: &mut [u8], c: Cursor) -> BodyRead
                 BodyRead::Is(Body {
                     end: cursor::place(n),
                     bytes: t.end,
-                    next: cursor::leave_group(text, n),
+                    next: cursor::leave_group(text, n, b'}'),
                 })
             }
         },

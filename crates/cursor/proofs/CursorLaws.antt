@@ -23,7 +23,7 @@ use Rattle.token.specs.Names.{isKeyword, unless, wordOf, nameOf, quoteOf}
 use Rattle.grammar.specs.Values.{truth}
 use Rattle.grammar.specs.Rule.{isWord, seesBytes, word, text, Rule, got, refused, seesByte, seesPair, theByte, bothBytes}
 use Rattle.grammar.specs.Rule.{eatByte, Signed, absent, plain, pointless, seesNumber, seesWhole}
-use Rattle.grammar.specs.Rule.{taken, signed, Pass, halts, closes, goes, closing, depth, weigh, behind, ends, firstOf, leave}
+use Rattle.grammar.specs.Rule.{taken, signed, Pass, halts, closes, goes, closing, depth, weigh, behind, firstOf, leave}
 use Rattle.error.specs.declared.Refusal.{Refusal}
 use Rattle.error.specs.declared.Refusal.the-variants.{Missing}
 use Rattle.cursor.specs.Means.{nothing, leftOf, headOf, Ready, notes, tokens, run, Took}
@@ -422,27 +422,27 @@ module _ (s : List ℕ) (c m : Cursor) (d : ℕ) (w : Leaving s c m d) where
     ready = f .ready;
   }
 
--- leaving at the group's end, and with something left
-pub leave-end : (s : List ℕ) (c m : Cursor) → Ready s c → Follows s c m → ends (tokens s c) ≡ true → Took 0 s c m leave tt
-leave-end s c m r f e = record {
+-- leaving a group by its closer b, and with something left
+pub leave-end : (s : List ℕ) (c m : Cursor) (b : ℕ) → Ready s c → Follows s c m → seesByte b (tokens s c) ≡ true → Took 0 s c m (leave b) tt
+leave-end s c m b r f e = record {
   is = rw (e, f .rest, f .left, f .rounded);
   low = let a = moved-low s c m r f in omega arith;
   ready = f .ready;
 }
 
-pub leave-left : (s : List ℕ) (c m u : Cursor) → Ready s c → Behind s c m
-    → ends (tokens s c) ≡ false → u .at ≡ m .at → headOf u ≡ headOf m
+pub leave-left : (s : List ℕ) (c m u : Cursor) (b : ℕ) → Ready s c → Behind s c m
+    → seesByte b (tokens s c) ≡ false → u .at ≡ m .at → headOf u ≡ headOf m
     → leftOf (u .left) ≡ firstOf (leftOf (c .left)) (c .at) → u .rounded ≡ m .rounded
-    → Took 0 s c u leave tt
-leave-left s c m u r b e i j l k = record {
-  is = rw (e, r .head .place, l, k, b .rounded, i, b .is);
-  low = omega (arith, b .low);
+    → Took 0 s c u (leave b) tt
+leave-left s c m u b r h e i j l k = record {
+  is = rw (e, r .head .place, l, k, h .rounded, i, h .is);
+  low = omega (arith, h .low);
   ready = record {
-    head = rw (j, i) (b .ready .head);
-    high = rw i (b .ready .high);
-    short = b .ready .short;
-    last = rw i (b .ready .last);
-    few = rw (i, k) (b .ready .few);
+    head = rw (j, i) (h .ready .head);
+    high = rw i (h .ready .high);
+    short = h .ready .short;
+    last = rw i (h .ready .last);
+    few = rw (i, k) (h .ready .few);
   };
 }
 

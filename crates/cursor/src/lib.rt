@@ -484,12 +484,12 @@ fn first_of(was: u16, p: u16) -> u16
     p
 }
 
-// Leaves a group: what is left in it is passed over, and noted.
-pub fn leave_group(text: &[u8], c: Cursor) -> Cursor
+// Leaves a group by its closer: what is left in it is passed over, and noted.
+pub fn leave_group(text: &[u8], c: Cursor, closer: u8) -> Cursor
     requires { ⌜ Ready (now text) c ⌝ }
-    ensures { λ r. ⌜ Took 0 (now (text .entry)) c r leave tt ⌝ }
+    ensures { λ r. ⌜ Took 0 (now (text .entry)) c r (leave closer) tt ⌝ }
 {
-    if ends(c) {
+    if sees(c, closer) {
         return advance(text, c);
     }
     let noted = first_of(c.left, c.at);

@@ -4,7 +4,7 @@ use Prim.Native.Nat.{ℕ, zero, suc, _+_, _≤_, _<_}
 use mathlib.Core.Bool.{Bool, true, false}
 use mathlib.Core.List.{List, [], _∷_, _++_, append-assoc}
 use mathlib.Core.Option.{Option, some}
-use mathlib.Core.Path.{_≡_, refl, sym, _∙_}
+use mathlib.Core.Path.{_≡_, refl, sym, _∙_, subst}
 use native.Mathlib.Omega.{arith}
 use lib.Dec.{eqb}
 use borrow.Author.Tests.{eq-eqb}
@@ -13,12 +13,13 @@ use lib.Seq.{drop-drop, drop-append-seam, take-append-seam}
 use Rattle.digits.specs.Numeral.{Sort, counted, written}
 use Rattle.text.specs.Bytes.{part}
 use Rattle.text.specs.Words.{isOneOf}
-use Rattle.token.specs.Token.{mark, Token, place}
+use Rattle.token.specs.Token.{Token, place}
+use Rattle.token.specs.Split.{closer}
 use Rattle.token.specs.Names.{isKeyword}
 use Rattle.error.specs.declared.Refusal.{Refusal}
 use Rattle.grammar.specs.Rule.{Notes, Out, got, Rule, after, give, need, if, _>>=_, _>>_, Next}
 use Rattle.grammar.specs.Rule.{more, done, iterate, repeat, seesByte, skip, theByte, eatByte, bothBytes}
-use Rattle.grammar.specs.Rule.{word, text, signed, seesNumber, seesWhole, isEnd, leave, insideByte}
+use Rattle.grammar.specs.Rule.{word, text, signed, seesNumber, seesWhole, leave, insideByte}
 use Rattle.grammar.specs.Rule.{tally}
 use Rattle.grammar.specs.Rule.{next as following, counted as countedAs}
 use Rattle.pieces.specs.Pieces.{Piece, aWord, aName, aPlain, aNumeral, aString, aMark, aPair}
@@ -389,15 +390,15 @@ module _ {form : Form} {s : List ℕ} where
   -- ---- groups
 
   -- a rule that comes to the group's closer c
-  pub leaves : (c : ℕ) (us : List Piece) → isEnd (mark c) ≡ true → eqb c 0 ≡ false → Reads form s 1 leave (aMark c ∷ us) us (λ u. Unit {0})
+  pub leaves : (c : ℕ) (us : List Piece) → eqb c 0 ≡ false → Reads form s 1 (leave c) (aMark c ∷ us) us (λ u. Unit {0})
   unfolding laid ahead spelt
-  leaves c us e f = one leave (aMark c) us (λ u. Unit {0}) (λ q. tt) (λ l q g. rw (e, f)) (λ q d. tt)
+  leaves c us f = one (leave c) (aMark c) us (λ u. Unit {0}) (λ q. tt) (λ l q g. rw (eq-eqb c c refl, f)) (λ q d. tt)
 
   pub in-group : {A : Type 0} {d : ℕ} {p : Rule A} {ps us : List Piece} {Q : A → Type 0} (b c : ℕ)
-      → eqb b 0 ≡ false → isEnd (mark c) ≡ true → eqb c 0 ≡ false
+      → eqb b 0 ≡ false → c ≡ closer b → eqb c 0 ≡ false
       → Reads form s d p ps (aMark c ∷ us) Q
       → Reads form s 1 (insideByte b p) (aMark b ∷ ps) us Q
-  in-group {ps = ps} {us = us} b c e f g x = and (the-mark b ps e) (then x (λ a r. and (leaves c us f g) (gives r)))
+  in-group {ps = ps} {us = us} b c e f g x = and (the-mark b ps e) (then x (λ a r. and (subst (λ (e : ℕ). Reads form s 1 (leave e) (aMark c ∷ us) us (λ u. Unit {0})) f (leaves c us g)) (gives r)))
 
   -- ---- repetition
 

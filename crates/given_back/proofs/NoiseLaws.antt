@@ -213,7 +213,7 @@ block-quiet : (d : ℕ) → Gives (block d) NoNoise
 unfolding block
 block-quiet zero = record { holds = λ l ts. tests (sees "{") refuses refuses .holds l ts }
 block-quiet (suc d) = record {
-  holds = λ l ts. past (the "{") (then (nodes-quiet (block d) (block-quiet d)) (λ ns q. past leave (gives q))) .holds l ts;
+  holds = λ l ts. past (the "{") (then (nodes-quiet (block d) (block-quiet d)) (λ ns q. past (leave 125) (gives q))) .holds l ts;
 }
 
 pub parses-no-noise : ParsesNoNoise

@@ -13,6 +13,7 @@ use Rattle.text.specs.Words.{isSome, words, find}
 use Rattle.number.specs.Number.{Written}
 use Rattle.token.specs.Token.{Kind, name, number, quoted, mark, Token, token, place, kind, isMark, rest}
 use Rattle.token.specs.Names.{wordOf, nameOf, quoteOf}
+use Rattle.token.specs.Split.{closer}
 use Rattle.error.specs.declared.Refusal.{Refusal}
 use Rattle.error.specs.declared.Refusal.the-variants.{Missing}
 
@@ -234,12 +235,13 @@ abbrev pub noted : Notes → ℕ → Notes
 noted l p = record { leftover = firstOf (l .leftover) p; rounded = l .rounded; bound = l .bound }
 
 -- 01: "tokens left inside a delimiter" are passed over, and the place of the first is kept: a later refusal comes first
-abbrev pub leave : Rule Unit
-leave l ts = cond (ends ts) (got tt l (rest ts)) (got tt (noted l (place ts)) (behind 0 ts))
+-- A group is left by its own closer b. On tokens that nest no other closer ends it (`rules`, NestLaws: `leave-same`).
+abbrev pub leave : ℕ → Rule Unit
+leave b l ts = cond (seesByte b ts) (got tt l (rest ts)) (got tt (noted l (place ts)) (behind 0 ts))
 
 -- a rule inside a group that begins with an opener
 abbrev pub insideByte : {A : Type 0} → ℕ → Rule A → Rule A
-insideByte b p = theByte b >> (p >>= λ a. leave >> give a)
+insideByte b p = theByte b >> (p >>= λ a. leave (closer b) >> give a)
 
 abbrev pub inside : {A : Type 0} → Char → Rule A → Rule A
 inside c p = insideByte (code c) p

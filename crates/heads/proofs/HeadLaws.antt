@@ -119,7 +119,7 @@ float-is : (o : OptF32) (x : Option ℕ) (d r : Float) (b : ℕ) → FloatOr o d
 float-is o x d r b h e q = rw (← e, ← q) (h .is)
 
 module _ (s : List ℕ) (c m n u : Cursor) (f : RandomFields) (o : Took 1 s c m (theByte 40) tt)
-    (h : TookRows RandomHeld randomFields s m n f) (l : Took 0 s n u leave tt) where
+    (h : TookRows RandomHeld randomFields s m n f) (l : Took 0 s n u (leave 41) tt) where
   pub took-random : (k : ℕ) (x y a b : Float) → k ≡ default (optWordOf (f .seed)) 0
       → FloatOr (f .min) a x → FloatOr (f .max) b y → bits a ≡ f32Of 0 1
       → bits b ≡ f32Of 1 10 → Plain a → Plain b

@@ -214,7 +214,7 @@ fn grid_pattern(text: &[u8], c: Cursor) -> PatternRead
         MarkRead::Missing(p) => PatternRead::Refused(Refusal::Missing, p),
         MarkRead::Is(m) => match grid_inside(text, m) {
             PatternRead::Refused(r, p) => PatternRead::Refused(r, p),
-            PatternRead::Is(x, n) => PatternRead::Is(x, cursor::leave_group(text, n)),
+            PatternRead::Is(x, n) => PatternRead::Is(x, cursor::leave_group(text, n, b')')),
         },
     }
 }
@@ -320,7 +320,7 @@ fn random_pattern(text: &[u8], c: Cursor) -> PatternRead
                 let max = float_or(high, 0.1);
                 PatternRead::Is(
                     StaggerPatternSpec::Random { seed, min, max },
-                    cursor::leave_group(text, n),
+                    cursor::leave_group(text, n, b')'),
                 )
             }
         },

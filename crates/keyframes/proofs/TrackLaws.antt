@@ -247,7 +247,7 @@ block-refused s c r q h = rw h
 pub block-went : (s b a a₁ a₂ : List ℕ) (c u : Cursor) (out e q : ℕ) (t : tracks.Track)
     → TrackWent s b a c (out + 2) t → Writes a out (big 2 .write (t .frames)) a₁ e
     → Writes a₁ (t .end) (opt loopForm .write (optLoopOf (t .«loop_mode»))) a₂ q
-    → Took 0 s (t .next) u leave tt → BlockWent s b a₂ c u out q
+    → Took 0 s (t .next) u (leave 125) tt → BlockWent s b a₂ c u out q
 block-went s b a a₁ a₂ c u out e q t w p l v = record {
   value = trackOf (w .frames) t;
   took = record { is = rw (w .took .is, v .is); low = omega (arith, w .took .low, v .low); ready = v .ready };

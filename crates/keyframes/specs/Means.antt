@@ -162,7 +162,7 @@ TrackMeans s b a c out (track.Refused r q) = run s c (repeat trackStep ([], none
 
 -- a track behind its `{`, with its `}`
 abbrev pub trackBehind : Rule Track
-trackBehind = repeat trackStep ([], none) >>= λ t. leave >> give t
+trackBehind = repeat trackStep ([], none) >>= λ t. leave 125 >> give t
 
 -- its bytes: the count, the frames, the loop mode
 abbrev pub trackBytes : ℕ → Track → List ℕ

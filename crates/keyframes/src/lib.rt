@@ -309,7 +309,7 @@ fn track_value(text: &[u8], sheet: &mut [u8], c: Cursor, out: usize) -> NodeRead
             let next = t.next;
             encode::patch_count(sheet, out, t.frames);
             let end = encode::put_opt_loop(sheet, t.end, mode);
-            NodeRead::Is(end, cursor::leave_group(text, next))
+            NodeRead::Is(end, cursor::leave_group(text, next, b'}'))
         }
     }
 }

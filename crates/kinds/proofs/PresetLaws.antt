@@ -49,7 +49,7 @@ module _ {s : List ℕ} {c : Cursor} (r : Ready s c) where
     pub pairs-refused : {a : Refusal} {q : ℕ} → run s m (pairs drawFields) ≡ refused a q → run s c presetPairs ≡ refused a q
     pairs-refused h = rw (e, opened .is, h)
 
-    pub pairs-taken : {n u : Cursor} {x : DrawFields} → DrawListMeans s m (pairs drawFields) (draw.Is x n) → Took 0 s n u leave tt
+    pub pairs-taken : {n u : Cursor} {x : DrawFields} → DrawListMeans s m (pairs drawFields) (draw.Is x n) → Took 0 s n u (leave 41) tt
         → DrawListMeans s c presetPairs (draw.Is x u)
     pairs-taken h v = record {
       fields = h .fields;

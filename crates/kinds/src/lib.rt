@@ -303,7 +303,7 @@ fn preset_pairs(text: &[u8], c: Cursor) -> DrawStep
     }
     match kind_steps::draw_pairs(text, cursor::advance(text, c)) {
         DrawStep::Refused(r, p) => DrawStep::Refused(r, p),
-        DrawStep::Is(f, e) => DrawStep::Is(f, cursor::leave_group(text, e)),
+        DrawStep::Is(f, e) => DrawStep::Is(f, cursor::leave_group(text, e, b')')),
     }
 }
 

@@ -3,7 +3,7 @@ use Prim.Native.Nat.{ℕ, _-_, _≤_, _<_}
 use mathlib.Core.Bool.{Bool, true, false}
 use mathlib.Core.List.{List, [], _++_}
 use mathlib.Core.Option.{none, some}
-use mathlib.Core.Path.{_≡_, refl, sym, ap, _∙_}
+use mathlib.Core.Path.{_≡_, refl, sym, ap, _∙_, subst}
 use native.Mathlib.Omega.{arith}
 use native.Mathlib.Nat.{zero-add, sub-zero}
 use borrow.Author.Tests.{lt-ltb, le-ltb, ltb-false, eqb-true}
@@ -11,21 +11,24 @@ use lib.Dec.{ltb, eqb}
 use lib.ListN.{length, take, replicate}
 use Rattle.text.specs.Limits.{textLimit}
 use Rattle.codec.specs.Codec.{big}
-use Rattle.token.specs.Split.{awaits, Split, unlexed, tokens, split}
-use Rattle.token.specs.Means.{answerOf, splitting, nestsFrom}
+use Rattle.token.specs.Split.{Split, unlexed, tokens, split}
+use Rattle.token.specs.Means.{answerOf, splitting}
 use Rattle.token.specs.Means as lexing
 use Rattle.token.specs.declared.SplitAnswer.{SplitAnswer}
 use Rattle.token.specs.declared.SplitAnswer.the-variants as answer
 use Rattle.token.proofs.StreamLaws.{split-reads}
-use Rattle.token.proofs.NestLaws.{last-end, nests-splits}
-use Rattle.ast.specs.Tree.{width, mapTimes}
+use Rattle.token.proofs.NestLaws.{last-end, fits-splits}
+use Rattle.rules.proofs.NestLaws.{OutNests, input-nests, end-fits}
+use Rattle.number.specs.Time.{Key}
+use Rattle.ast.specs.Tree.{Nodes, width, mapTimes}
 use Rattle.sheet.specs.Sheet.{encode}
 use Rattle.encode.specs.Writes.{Writes}
 use Rattle.encode.proofs.OverLaws.{writes-counted}
 use Rattle.encode.proofs.ClearLaws.{written}
-use Rattle.grammar.specs.Rule.{refused}
+use Rattle.grammar.specs.Rule.{Out, refused}
 use Rattle.grammar.specs.Grammar.{stored, animatoInput}
-use Rattle.cursor.specs.Means.{nothing, leftOf, run, Begins}
+use Rattle.cursor.specs.Means.{nothing, leftOf, notes, run, Begins}
+use Rattle.cursor.specs.Means as cursor
 use Rattle.cursor.specs.declared.Cursor.{Cursor}
 use Rattle.cursor.proofs.CursorLaws.{left-none}
 use Rattle.blocks.specs.Means.{parseNodes, NodesWent}
@@ -37,7 +40,7 @@ use Rattle.error.specs.declared.ReadAnswer.{ReadAnswer}
 use Rattle.error.specs.declared.ReadAnswer.the-variants.{Accepted, Refused}
 use Rattle.reading.specs.Reading as reads
 use Rattle.reading.specs.Reading.{wrong, finished, parse, early, reading, scratchWords}
-use Rattle.parser.specs.Means.{treeOf, Encoded, TreeMeans, inputOf, Ended, InputMeans, AllowedMeans, settled, outcome}
+use Rattle.parser.specs.Means.{treeOf, Encoded, TreeMeans, inputOf, Allowed, InputMeans, settled, outcome}
 use Rattle.parser.specs.declared.Input.{Input}
 
 -- ---- the grammar, from the text's start on
@@ -50,7 +53,7 @@ module _ (t : List ℕ) (c : Cursor) (i : Begins t 0 nothing 0 c) where
   -- a refusal tells nothing of the text's end
   input-wrong : (b a : List ℕ) (r : Refusal) (p : ℕ) (x : Input) → x ≡ inputOf (Refused r p) false
       → treeOf t ≡ wrong r p → InputMeans t b a x
-  input-wrong b a r p x e h = rw e (record { tree = h; ended = λ q. absurd (let z : _≡_ {A = ℕ} 0 1 = cc in omega arith) })
+  input-wrong b a r p x e h = rw e (record { tree = h; allowed = λ q. absurd (let z : _≡_ {A = ℕ} 0 1 = cc in omega arith) })
 
   pub input-refused : {b a : List ℕ} (r : Refusal) (p : ℕ) (x : Input) → x ≡ inputOf (Refused r p) false
       → run t c (parseNodes 16) ≡ refused r p → InputMeans t b a x
@@ -61,10 +64,15 @@ module _ (t : List ℕ) (c : Cursor) (i : Begins t 0 nothing 0 c) where
     pub input-left : (p : ℕ) (x : Input) → x ≡ inputOf (Refused Leftover p) false → leftOf (u .next .left) ≡ some p → InputMeans t b a x
     input-left p x e h = input-wrong _ _ Leftover p x e (input-run ∙ (rw (g .went .took .is, h)))
 
-    -- behind the last node stands the text's end
-    input-ended : (p : ℕ) → p ≡ u .next .at → Ended t (eqb p (length t))
-    input-ended p e q =
-        sym (g .went .took .ready .last) ∙ last-end t (u .next .at) (sym e ∙ eqb-true p (length t) q)
+    -- behind the last node stands the text's end: each token was cut, and with nothing left in a group all nest
+    input-allowed : (p : ℕ) → leftOf (u .next .left) ≡ none → p ≡ u .next .at → Allowed t (eqb p (length t))
+    unfolding animatoInput
+    input-allowed p h e q =
+        let end : u .next .at ≡ length t = sym e ∙ eqb-true p (length t) q in
+        let x = input-nests .run (notes t c) (cursor.tokens t c) in
+        let y = subst (λ (o : Out (Nodes Key)). OutNests 18 (notes t c) (cursor.tokens t c) o) (g .went .took .is) x in
+        let same = y .same h [] (omega arith) in
+        fits-splits t (sym (g .went .took .ready .last) ∙ last-end t (u .next .at) end) (rw (i .is) (same ∙ end-fits t (u .next .at) end))
 
     input-encoded : {a′ : List ℕ} {f : ℕ} → leftOf (u .next .left) ≡ none → Writes a 0 (big 2 .write (u .width)) a′ f
         → Encoded t b a′ (u .end) (u .records) (u .next .rounded)
@@ -80,7 +88,7 @@ module _ (t : List ℕ) (c : Cursor) (i : Begins t 0 nothing 0 c) where
     pub input-done : {a′ : List ℕ} {f : ℕ} (p k : ℕ) → leftOf (u .next .left) ≡ none → Writes a 0 (big 2 .write (u .width)) a′ f
         → p ≡ u .next .at → k ≡ u .next .rounded
         → InputMeans t b a′ (inputOf (Accepted (u .end) (u .records) k) (eqb p (length t)))
-    input-done p k h o e q = record { tree = rw q (input-encoded h o); ended = input-ended p e }
+    input-done p k h o e q = record { tree = rw q (input-encoded h o); allowed = input-allowed p h e }
 
 -- ---- the sheet
 
@@ -120,17 +128,10 @@ tree-settled t s b a (Accepted n k j) z m =
 -- ---- the text rules
 
 module _ (t s : List ℕ) (l : 64 ≤ length s) where
-  -- the delimiters fit, and each token of the text can be cut
-  pub allowed : (s′ : List ℕ) (x : Bool) → Ended t true → x ≡ nestsFrom false (awaits []) t
-      → s′ ≡ replicate (length s) 0 → AllowedMeans t s s′ x
+  pub allowed : (s′ : List ℕ) → answerOf (split t) ≡ answer.Accepted → s′ ≡ replicate (length s) 0
+      → lexing.splitOutcome answer.Accepted s′ ≡ splitting t s
   unfolding splitting
-  allowed s′ true h e z = rw (le-ltb (length s) 64 l, nests-splits t (h refl) (sym e), z)
-  allowed s′ false h e z = tt
-
-  -- what the scratch holds before a pass does not count
-  pub split-same : (s′ : List ℕ) → length s′ ≡ length s → splitting t s′ ≡ splitting t s
-  unfolding splitting
-  split-same s′ e = rw (e, le-ltb (length s) 64 l)
+  allowed s′ h z = rw (le-ltb (length s) 64 l, h, z)
 
 -- the pass over the text, where the scratch is long enough
 module _ (t s s′ : List ℕ) (x : SplitAnswer) (l : scratchWords ≤ length s) (e : lexing.splitOutcome x s′ ≡ splitting t s) where

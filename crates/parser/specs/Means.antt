@@ -1,6 +1,6 @@
 -- What the parts of reading answer. Contracts cite these.
 use Prim.Native.Nat.{ℕ, suc, _-_}
-use mathlib.Core.Bool.{Bool, true, false, cond}
+use mathlib.Core.Bool.{Bool, true, cond}
 use mathlib.Core.List.{List, _++_}
 use mathlib.Core.Option.{none}
 use mathlib.Core.Path.{_≡_}
@@ -8,8 +8,9 @@ use lib.Dec.{ltb}
 use lib.ListN.{length, take, replicate}
 use Rattle.number.specs.Time.{Key}
 use Rattle.token.specs.Token.{tokensFrom}
-use Rattle.token.specs.Means.{lastPlace, splitOutcome, splitting}
-use Rattle.token.specs.declared.SplitAnswer.the-variants as split
+use Rattle.token.specs.Split.{split}
+use Rattle.token.specs.Means.{answerOf}
+use Rattle.token.specs.declared.SplitAnswer.the-variants as told
 use Rattle.ast.specs.Tree.{Nodes, mapTimes, records}
 use Rattle.sheet.specs.Sheet.{encode}
 use Rattle.encode.specs.Writes.{Writes}
@@ -37,25 +38,18 @@ abbrev pub TreeMeans : (t b a : List ℕ) → ReadAnswer → Type 0
 TreeMeans t b a (Accepted n k j) = Encoded t b a n k j
 TreeMeans t b a (Refused r p) = treeOf t ≡ wrong r p
 
--- ---- whether the grammar's tokens are all there are
+-- ---- whether the text rules allow the text
 
 abbrev pub inputOf : ReadAnswer → Bool → Input
 inputOf a whole = record { answer = a; whole = whole }
 
--- where the text was read to its end, each of its tokens can be cut
-abbrev pub Ended : List ℕ → Bool → Type 0
-Ended t whole = whole ≡ true → lastPlace 0 (tokensFrom t 0) ≡ length t
+-- where the text was accepted to its end, the text rules allow it
+abbrev pub Allowed : List ℕ → Bool → Type 0
+Allowed t whole = whole ≡ true → answerOf (split t) ≡ told.Accepted
 
 pub record InputMeans (t b a : List ℕ) (r : Input) : Type 0 where
   pub tree : TreeMeans t b a (r .answer)
-  pub ended : Ended t (r .whole)
-
--- ---- the text rules
-
--- the text rules allow the text, and the scratch is zero; or nothing is said
-abbrev pub AllowedMeans : (t s s′ : List ℕ) → Bool → Type 0
-AllowedMeans t s s′ true = splitOutcome split.Accepted s′ ≡ splitting t s
-AllowedMeans t s s′ false = Unit {0}
+  pub allowed : Allowed t (r .whole)
 
 -- ---- the sheet: "then 14", "zero past its length, and all zero on a refusal"
 

@@ -7,7 +7,7 @@ ghost use Rattle.text.specs.Limits.{textLimit};
 ghost use Rattle.token.specs.Means.{splitOutcome, splitting};
 ghost use Rattle.error.specs.Answer.{readValues};
 ghost use Rattle.reading.specs.Reading.{reading};
-ghost use Rattle.parser.specs.Means.{inputOf, Ended, InputMeans, AllowedMeans, settled, outcome};
+ghost use Rattle.parser.specs.Means.{inputOf, Allowed, InputMeans, settled, outcome};
 use blocks::ParsedNodes;
 use cursor::Left;
 use error::ReadAnswer;
@@ -17,7 +17,7 @@ use token::SplitAnswer;
 // The words that reading asks of a scratch.
 pub const SCRATCH_WORDS: usize = 64;
 
-// What the grammar says of a text, and whether it was read to its end.
+// What the grammar says of a text, and whether it accepted it to its end, with nothing left in a group.
 struct Input {
     answer: ReadAnswer,
     whole: bool,
@@ -60,23 +60,14 @@ fn parse_input(text: &[u8], sheet: &mut [u8]) -> Input
     }
 }
 
-// Whether the text rules allow a text that was read to its end, by its delimiters alone. Of another text it is not known here.
-fn is_allowed(text: &[u8], scratch: &mut [u16], whole: bool) -> bool
-    requires { ⌜ (64 ≤ length (now scratch)) × Ended (now text) whole ⌝ }
-    ensures { λ r. ⌜ AllowedMeans (now (text .entry)) (now (scratch .entry)) (now (scratch .exit)) r ⌝ }
-{
-    if whole {
-        return token::nests(text, scratch);
-    }
-    false
-}
-
-// Judges a text by the text rules. `split`, which cuts it a second time, is asked only where the delimiters do not tell.
+// Judges a text by the text rules. What the grammar takes to the text's end, each group left by its closer, they allow. `split`, which cuts
+// the text a second time, is asked of any other.
 fn judge(text: &[u8], scratch: &mut [u16], whole: bool) -> SplitAnswer
-    requires { ⌜ (length (now text) ≤ textLimit) × (64 ≤ length (now scratch)) × Ended (now text) whole ⌝ }
+    requires { ⌜ (length (now text) ≤ textLimit) × (64 ≤ length (now scratch)) × Allowed (now text) whole ⌝ }
     ensures { λ r. ⌜ splitOutcome r (now (scratch .exit)) ≡ splitting (now (text .entry)) (now (scratch .entry)) ⌝ }
 {
-    if is_allowed(text, scratch, whole) {
+    if whole {
+        token::clear(scratch);
         return SplitAnswer::Accepted;
     }
     token::split(text, scratch)

@@ -14,6 +14,7 @@ use Rattle.text.specs.Bytes.{bytes, part, oneOf, same}
 use Rattle.text.specs.Words.{under, default, find}
 use Rattle.codec.proofs.Laws.{All}
 use Rattle.token.specs.Token.{Kind, name, number, quoted, mark, Token, token, place, kind, isMark, rest}
+use Rattle.token.specs.Split.{closer}
 use Rattle.token.specs.Names.{isKeyword, unless, nameOf, quoteOf}
 use Rattle.error.specs.declared.Refusal.{Refusal}
 use Rattle.grammar.specs.Rule.{Notes, Out, got, refused, Rule, after, give, need, refuse, if, _>>=_, _>>_, ends, skip}
@@ -508,12 +509,12 @@ counts b c = record {
 
 -- ---- groups
 
-pub leaves : {x : Scripts} {H : Type 0} → Alikes x H leave leave (λ a b. Unit {0})
-leaves {x = x} = record {
-  moves = λ l ts h. go l ts h (ends ts);
+pub leaves : {x : Scripts} {H : Type 0} (e : ℕ) → Alikes x H (leave e) (leave e) (λ a b. Unit {0})
+leaves {x = x} e = record {
+  moves = λ l ts h. go l ts h (seesByte e ts);
   twins = λ h l m ts us i c d. subst
-      (λ (b : Bool). Twins x none-free (λ a b. Unit {0}) ts m (out (ends ts) l ts) (out b m us)) (ends-agrees i)
-      (both l m ts us i (ends ts));
+      (λ (b : Bool). Twins x none-free (λ a b. Unit {0}) ts m (out (seesByte e ts) l ts) (out b m us)) (byte-agrees i e)
+      (both l m ts us i (seesByte e ts));
 }
   where
     out : Bool → Notes → List Token → Out Unit
@@ -533,8 +534,8 @@ pub in-group : {A : Type 0} {x : Scripts} {H : Type 0} {p q : Rule A} {P : A →
 in-group {x = x} {H = H} {p = p} {q = q} {E = E} {R = R} b z y =
     then-free E (the-mark b z) (λ a b j h. weaken (λ c k w. omega arith) (within (λ h. h .0) inner))
   where
-    inner : Alike x H (p >>= λ a. leave >> give a) (q >>= λ a. leave >> give a) Any E R
-    inner = then-plain E E y (λ a b. and {f = give a} {g = give b} leaves (gives refl (λ h. h .1)))
+    inner : Alike x H (p >>= λ a. leave (closer b) >> give a) (q >>= λ a. leave (closer b) >> give a) Any E R
+    inner = then-plain E E y (λ a c. and {f = give a} {g = give c} (leaves (closer b)) (gives refl (λ h. h .1)))
 
 -- ---- repetition
 

@@ -8,10 +8,11 @@ use native.Mathlib.Omega.{arith}
 use lib.Dec.{eqb}
 use lib.ListN.{length, getD, drop}
 use borrow.Author.Tests.{eqb-true, eqb-false}
-use Rattle.text.specs.Bytes.{isName, oneOf, among}
+use Rattle.text.specs.Bytes.{isName, among}
 use Rattle.text.proofs.WordLaws.{same-eq}
 use Rattle.number.specs.Number.{Written}
 use Rattle.token.specs.Token.{Kind, name, number, quoted, mark, Token, token, piece, lexeme, tokensFrom, place, kind, isMark, rest}
+use Rattle.token.specs.Split.{closer}
 use Rattle.token.specs.Names.{isKeyword, unless, wordOf, nameOf, quoteOf}
 use Rattle.error.specs.declared.Refusal.{Refusal}
 use Rattle.grammar.specs.Rule.{
@@ -53,8 +54,6 @@ use Rattle.grammar.specs.Rule.{
   passed,
   behind,
   noted,
-  isEnd,
-  ends,
   leave,
   insideByte,
 }
@@ -99,8 +98,8 @@ taken-keeps r absent l ts = tt
 taken-keeps r (plus w) l ts = bare-rest ts
 taken-keeps r (minus w) l ts = λ e. bare-rest (rest ts) (bare-rest ts e)
 
-leave-keeps : (l : Notes) (ts : List Token) → Keeps (leave l ts) (bare ts)
-leave-keeps l ts = go (ends ts)
+leave-keeps : (b : ℕ) (l : Notes) (ts : List Token) → Keeps (leave b l ts) (bare ts)
+leave-keeps b l ts = go (seesByte b ts)
   where
     go : (b : Bool) → Keeps (cond b (got (tt {0}) l (rest ts)) (got (tt {0}) (noted l (place ts)) (behind 0 ts))) (bare ts)
     go true = bare-rest ts
@@ -505,22 +504,17 @@ behind-from s (token p k ∷ ts) q d e h = go (front s q h) (λ m x f g. behind-
         (record { at = q; is = sym f; high = h; post = (omega arith, λ z. never (sym z)) })
     go (next start j n y) ih = by start j n y (ap others (e ∙ y .is)) ih (weigh k d) refl
 
-at-end : (k : Kind) → isMark k 0 ≡ true → isEnd k ≡ true
-unfolding oneOf
-at-end (name w) e = never e
-at-end (number w) e = never e
-at-end (quoted w) e = never e
-at-end (mark b) e = rw e
+-- at the end a reader stays
+behind-end : (d : ℕ) (ts : List Token) → isMark (kind ts) 0 ≡ true → isMark (kind (behind d ts)) 0 ≡ true
+unfolding behind weigh
+behind-end d [] e = refl
+behind-end d (token p (name w) ∷ ts) e = never e
+behind-end d (token p (number w) ∷ ts) e = never e
+behind-end d (token p (quoted w) ∷ ts) e = never e
+behind-end d (token p (mark b) ∷ ts) e = rw (e, e)
 
-not-end : (k : Kind) → isEnd k ≡ false → isMark k 0 ≡ false
-not-end k e = go (isMark k 0) refl
-  where
-    go : (b : Bool) → isMark k 0 ≡ b → b ≡ false
-    go true f = never (sym e ∙ at-end k f)
-    go false f = refl
-
-pub leaves : {s : List ℕ} {q : ℕ} → q ≤ length s → Runs s leave q (λ u m. Left s q m)
-leaves {s = s} {q = q} h = record { run = λ l. by l (ends (tokensFrom s q)) refl; keeps = λ l. leave-keeps l (tokensFrom s q) }
+pub leaves : {s : List ℕ} {q : ℕ} (c : ℕ) → q ≤ length s → Runs s (leave c) q (λ u m. Left s q m)
+leaves {s = s} {q = q} c h = record { run = λ l. by l (seesByte c (tokensFrom s q)); keeps = λ l. leave-keeps c l (tokensFrom s q) }
   where
     passes : (l : Notes) → Front s q → Outcome s (got (tt {0}) l (rest (tokensFrom s q))) (λ u m. Left s q m)
     passes l (over b e) = record { at = q; is = rw e; high = h; post = record { low = omega arith; on = λ f. never (sym f ∙ (rw e)) } }
@@ -528,15 +522,25 @@ leaves {s = s} {q = q} h = record { run = λ l. by l (ends (tokensFrom s q)) ref
         let y = skipped x (no-end x) in
         record { at = start + n; is = y .rest; high = x .high; post = record { low = omega (arith, y .on); on = λ f. y .on } }
 
-    by : (l : Notes) (b : Bool) → ends (tokensFrom s q) ≡ b
+    ahead : (m : ℕ) → behind 0 (tokensFrom s q) ≡ tokensFrom s m → (isMark (kind (tokensFrom s q)) 0 ≡ false → q < m)
+        → (b : Bool) → isMark (kind (tokensFrom s q)) 0 ≡ b
+        → isMark (kind (tokensFrom s m)) 0 ≡ false → q < m
+    ahead m i g true e f = never (sym f ∙ (rw (← i) (behind-end 0 (tokensFrom s q) e)))
+    ahead m i g false e f = g e
+
+    by : (l : Notes) (b : Bool)
         → Outcome s
         (cond b (got (tt {0}) l (rest (tokensFrom s q))) (got (tt {0}) (noted l (place (tokensFrom s q))) (behind 0 (tokensFrom s q))))
         (λ u m. Left s q m)
-    by l true e = passes l (front s q h)
-    by l false e =
+    by l true = passes l (front s q h)
+    by l false =
         let r = behind-from s (tokensFrom s q) q 0 refl h in
-        let z = r .post .1 (not-end (kind (tokensFrom s q)) e) in
-        record { at = r .at; is = r .is; high = r .high; post = record { low = r .post .0; on = λ f. z } }
+        record {
+          at = r .at;
+          is = r .is;
+          high = r .high;
+          post = record { low = r .post .0; on = λ f. ahead (r .at) (r .is) (r .post .1) (isMark (kind (tokensFrom s q)) 0) refl f };
+        }
 
 -- a rule in a group: from start to mid, where the group is left
 pub record Inside {A : Type 0} (s : List ℕ) (R : ℕ → A → ℕ → Type 0) (q : ℕ) (a : A) (m : ℕ) : Type 0 where
@@ -551,7 +555,7 @@ pub in-group-on : {A : Type 0} {s : List ℕ} {q : ℕ} (p : Rule A) (R : ℕ �
 in-group-on p R h b e k =
     and (carries (the-mark h b e))
     (λ m i u x. then (k m i (x .1))
-    (λ a n j y. and (leaves j) (λ o f v z. gives f (record { start = m; mid = n; low = x .0; inner = y; left = z }))))
+    (λ a n j y. and (leaves (closer b) j) (λ o f v z. gives f (record { start = m; mid = n; low = x .0; inner = y; left = z }))))
 
 pub in-group : {A : Type 0} {s : List ℕ} {q : ℕ} (p : Rule A) (R : ℕ → A → ℕ → Type 0) → q ≤ length s → (b : ℕ) → eqb b 0 ≡ false
     → ((m : ℕ) → m ≤ length s → Runs s p m (R m)) → Runs s (insideByte b p) q (Inside s R q)

@@ -1,11 +1,10 @@
 -- What the answers of the code mean. Contracts cite these.
 use Prim.Native.Nat.{ℕ, zero, suc, _+_, _-_, _*_, _^_, _≤_, _<_}
-use mathlib.Core.List.{List, [], _∷_, _++_}
-use Prim.Native.Char.{code}
+use mathlib.Core.List.{List, [], _∷_}
 use Prim.Native.String.{String}
-use mathlib.Core.Bool.{Bool, true, false, _&&_, not, cond}
+use mathlib.Core.Bool.{Bool, true, false, _&&_, cond}
 use mathlib.Core.Path.{_≡_}
-use lib.Dec.{ltb, eqb}
+use lib.Dec.{ltb}
 use lib.ListN.{length, getD, take, drop, replicate}
 use Rattle.lengths.specs.Sized.{sized}
 use Rattle.text.specs.Limits.{textLimit, wholeLimit, placesLimit}
@@ -17,7 +16,7 @@ use Rattle.token.specs.Token.{Kind, name, number, quoted, mark, Token, t
 use Rattle.token.specs.Token.{tokensFrom, place, kind, isMark, rest}
 use Rattle.error.specs.declared.Refusal.{Refusal}
 use Rattle.error.specs.declared.Refusal.the-variants.{BadForm, TooManyDigits, TooManyOpen, ScratchTooShort}
-use Rattle.token.specs.Split.{Nest, unfit, awaits, closer, nestMark, Split, unlexed, tokens, splitFrom, split}
+use Rattle.token.specs.Split.{Nest, unfit, awaits, closer, nest, Split, unlexed, tokens, splitFrom, split}
 use Rattle.token.specs.Names.{keywords}
 use Rattle.token.specs.declared.Number.{Number}
 use Rattle.token.specs.declared.Figures.{Figures}
@@ -34,8 +33,6 @@ use Rattle.token.specs.declared.ShortAnswer.{ShortAnswer}
 use Rattle.token.specs.declared.ShortAnswer.the-variants as short
 use Rattle.token.specs.declared.Turn.{Turn}
 use Rattle.token.specs.declared.Turn.the-variants as turn
-use Rattle.token.specs.declared.Fit.{Fit}
-use Rattle.token.specs.declared.Fit.the-variants as fit
 
 -- ---- a token
 
@@ -185,44 +182,23 @@ splitting t s =
     cond (ltb (length s) 64) (splitOutcome (answer.Refused ScratchTooShort 0) s)
     (splitOutcome (answerOf (split t)) (replicate (length s) 0))
 
--- ---- the delimiters alone, byte by byte: where each token of a text can be cut, it is split if they fit (proofs/NestLaws)
+-- ---- the delimiters alone: where each token of a text can be cut, it is split if they fit, and only then (proofs/NestLaws)
 
--- what a byte makes of the awaited closers; in a string, nothing
-abbrev pub nestByte : Bool → ℕ → Nest → Nest
-nestByte true b x = x
-nestByte false b (unfit r) = unfit r
-nestByte false b (awaits cs) = nestMark b cs
+-- whether no closer is awaited
+abbrev pub noneOpen : Nest → Bool
+noneOpen (unfit r) = false
+noneOpen (awaits []) = true
+noneOpen (awaits (c ∷ cs)) = false
 
--- whether a string is open behind a byte
-abbrev pub quotedBy : Bool → ℕ → Bool
-quotedBy q b = cond (eqb b (code "\"")) (not q) q
+-- what a token makes of the awaited closers
+abbrev pub nestOn : Kind → Nest → Nest
+nestOn k (unfit r) = unfit r
+nestOn k (awaits cs) = nest k cs
 
--- whether nothing is open
-abbrev pub isClosed : Bool → Nest → Bool
-isClosed q (unfit r) = false
-isClosed q (awaits []) = not q
-isClosed q (awaits (c ∷ cs)) = false
-
--- whether the delimiters of a text fit, x being awaited before it, in a string or not
-unfoldable pub nestsFrom : Bool → Nest → List ℕ → Bool
-nestsFrom q x [] = isClosed q x
-nestsFrom q x (b ∷ t) = nestsFrom (quotedBy q b) (nestByte q b x) t
-
--- the bytes from a place to another change nothing, whatever stands behind the text
-pub record Skips (s : List ℕ) (from to : ℕ) : Type 0 where
-  pub same : (q : Bool) (x : Nest) (u : List ℕ) → nestsFrom q x (drop from s ++ u) ≡ nestsFrom q x (drop to s ++ u)
-  pub low : from ≤ to
-  pub high : to ≤ length s
-
--- behind a part of a text stands u, in a string or not, with d closers awaited; y is whether all of them fit
-pub record Leaves (y : Bool) (words u : List ℕ) (q : Bool) (d : ℕ) : Type 0 where
-  pub is : y ≡ nestsFrom q (awaits (held words d)) u
-  pub few : d ≤ 64
-
--- what a part makes of the delimiters, as the code has it
-abbrev pub FitMeans : Bool → List ℕ → List ℕ → Fit → Type 0
-FitMeans y words u fit.Fails = y ≡ false
-FitMeans y words u (fit.Goes q d) = Leaves y words u q d
+-- whether the delimiters of tokens fit, up to the text's end, x being awaited before them
+unfoldable pub fits : Nest → List Token → Bool
+fits x [] = noneOpen x
+fits x (token p k ∷ ts) = cond (isMark k 0) (noneOpen x) (fits (nestOn k x) ts)
 
 -- ---- keywords as numbers
 

@@ -1,11 +1,10 @@
-// Tokens of a text: the one at a place; the pass that judges a whole text by the text rules, and the quicker one over its delimiters alone;
-// the words that are no names. For our own crates: the first two require a text of at most the limit, the third a scratch of 64 words, and
-// what is made of a number that it stands where it was found.
+// Tokens of a text: the one at a place; the pass that judges a whole text by the text rules; the words that are no names. For our own
+// crates: the first two require a text of at most the limit, and what is made of a number that it stands where it was found.
 // A place in a text, a size and a depth have 16 bits, but where a public function takes or gives one. What is given as a usize is narrowed
 // at once, and an index is widened where it stands.
 ghost use mathlib.Core.Path.{_≡_};
 ghost use mathlib.Core.Bool.{true, false, not, _||_};
-ghost use mathlib.Core.List.{List, [], _++_};
+ghost use mathlib.Core.List.{List};
 ghost use Prim.Native.Nat.{ℕ, _+_, _*_, _-_, _^_, _≤_, _<_};
 ghost use lib.ListN.{length, take, drop, replicate};
 ghost use Rattle.number.specs.Number.{nearest, percent};
@@ -13,12 +12,12 @@ ghost use Rattle.number.specs.Answer.{Capped};
 ghost use Rattle.limbs.specs.Means.{Nearest};
 ghost use Rattle.number.specs.Rounded.{fraction, rounded, numberRounded};
 ghost use Rattle.text.specs.Limits.{textLimit};
-ghost use Rattle.text.specs.Bytes.{bytes, run, part, oneOf, among, decimal, isDigit};
+ghost use Rattle.text.specs.Bytes.{run, part, oneOf, among, decimal, isDigit};
 ghost use Rattle.token.specs.Token.{nameAt, pointAt, pastFraction, suffixAt, pastSuffix, clings, placesOf, powerFrom, powerDigits, powerSize, pastPower, numberAt, quotedAt, writtenAt, lexeme};
-ghost use Rattle.token.specs.Split.{awaits, closer, closed, nestMark, nest, ended, split};
+ghost use Rattle.token.specs.Split.{closer, closed, nestMark, nest, ended, split};
 ghost use Rattle.text.specs.Words.{isOneOf};
 ghost use Rattle.token.specs.Names.{isKeyword};
-ghost use Rattle.token.specs.Means.{kindOf, excessOf, Digits, NumberIs, FiguresAre, writtenIn, Known, CutMeans, lexedOf, Lexes, held, afterOpener, DepthMeans, answerOf, wideAnswer, answerFrom, TurnMeans, splitOutcome, splitting, nestByte, quotedBy, isClosed, nestsFrom, Skips, FitMeans, pack, upTo4, upTo7, packedKeywords, longKeywords};
+ghost use Rattle.token.specs.Means.{kindOf, excessOf, Digits, NumberIs, FiguresAre, writtenIn, Known, CutMeans, lexedOf, Lexes, held, afterOpener, DepthMeans, answerOf, wideAnswer, answerFrom, TurnMeans, splitOutcome, splitting, pack, upTo4, upTo7, packedKeywords, longKeywords};
 use error::Refusal;
 use number::Bits;
 use number::Stored;
@@ -664,8 +663,8 @@ fn pass(text: &[u8], words: &mut [u16]) -> ShortAnswer
     }
 }
 
-// A scratch may have more words than 16 bits count.
-fn clear(words: &mut [u16])
+// Zeroes a scratch, which may have more words than 16 bits count.
+pub fn clear(words: &mut [u16])
     ensures { λ _. ⌜ now (words .exit) ≡ replicate (length (now (words .entry))) 0 ⌝ }
 {
     let mut i = 0;
@@ -695,125 +694,6 @@ pub fn split(text: &[u8], scratch: &mut [u16]) -> SplitAnswer
             place: place as usize,
         },
     }
-}
-
-// ---- the delimiters alone, for a text whose tokens are all cut
-
-// Whether a byte is surely no delimiter and no quote: a letter, a digit and most marks are told by one test, a space by a second.
-fn is_plain(b: u8) -> bool
-    ensures { λ r. ⌜ (r ≡ true → oneOf (bytes "\"([{)]}") b ≡ false) ⌝ }
-{
-    let c = b | 32;
-    if (42 <= c) & (c <= 122) {
-        return true;
-    }
-    b == b' '
-}
-
-// The first place from one on whose byte may be a delimiter or a quote.
-fn plain_end(text: &[u8], from: u16) -> u16
-    requires { ⌜ (from ≤ length (now text)) × (length (now text) ≤ textLimit) ⌝ }
-    ensures { λ r. ⌜ Skips (now (text .entry)) from r ⌝ }
-{
-    let mut i = from;
-    while (i as usize) < text.len() {
-        if !is_plain(text[i as usize]) {
-            return i;
-        }
-        i += 1;
-    }
-    i
-}
-
-// Whether a string is open behind a byte.
-fn quoted_by(quoted: bool, b: u8) -> bool
-    ensures { λ r. ⌜ r ≡ quotedBy quoted b ⌝ }
-{
-    if b == b'"' {
-        return !quoted;
-    }
-    quoted
-}
-
-// What a byte makes of the delimiters; in a string, nothing.
-fn nest_byte(quoted: bool, b: u8, words: &mut [u16], depth: u16) -> Depth
-    requires { ⌜ (64 ≤ length (now words)) × (depth ≤ 64) ⌝ }
-    ensures { λ r. ⌜ DepthMeans (nestByte quoted b (awaits (held (now (words .entry)) depth))) (now (words .exit)) r ⌝ }
-{
-    if quoted {
-        return Depth::Open(depth);
-    }
-    nest_mark(b, words, depth)
-}
-
-// What a part of a text makes of the delimiters: they do not fit, or a string is open behind it or not, and so many delimiters.
-enum Fit {
-    Fails,
-    Goes(bool, u16),
-}
-
-// Whether nothing is open.
-fn is_closed(quoted: bool, depth: u16) -> bool
-    ensures { λ r. ⌜ ((s : List ℕ) → r ≡ isClosed quoted (awaits (held s depth))) ⌝ }
-{
-    if depth == 0 {
-        return !quoted;
-    }
-    false
-}
-
-// What a part of a text makes of the delimiters, from within a string or not and with so many open before it.
-fn part_fits(text: &[u8], quoted: bool, words: &mut [u16], depth: u16) -> Fit
-    requires { ⌜ (length (now text) ≤ textLimit) × (64 ≤ length (now words)) × (depth ≤ 64) ⌝ }
-    ensures { λ r. ⌜ ((u : List ℕ) → FitMeans (nestsFrom quoted (awaits (held (now (words .entry)) depth)) (now (text .entry) ++ u)) (now (words .exit)) u r) ⌝ }
-{
-    let mut from: u16 = 0;
-    let mut inside = quoted;
-    let mut count = depth;
-    loop {
-        let at = plain_end(text, from);
-        if text.len() <= at as usize {
-            return Fit::Goes(inside, count);
-        }
-        let b = text[at as usize];
-        match nest_byte(inside, b, words, count) {
-            Depth::Unfit(_) => return Fit::Fails,
-            Depth::Open(d) => {
-                from = at + 1;
-                inside = quoted_by(inside, b);
-                count = d;
-            }
-        }
-    }
-}
-
-// Whether the delimiters of a text fit, likewise. A text over the limit goes by parts, so that 16 bits do for each place.
-fn delimiters_fit(text: &[u8], quoted: bool, words: &mut [u16], depth: u16) -> bool
-    requires { ⌜ (64 ≤ length (now words)) × (depth ≤ 64) ⌝ }
-    ensures { λ r. ⌜ r ≡ nestsFrom quoted (awaits (held (now (words .entry)) depth)) (now (text .entry)) ⌝ }
-{
-    if text.len() <= text::TEXT_LIMIT {
-        return match part_fits(text, quoted, words, depth) {
-            Fit::Fails => false,
-            Fit::Goes(q, d) => is_closed(q, d),
-        };
-    }
-    match part_fits(&text[..text::TEXT_LIMIT], quoted, words, depth) {
-        Fit::Fails => false,
-        Fit::Goes(q, d) => delimiters_fit(&text[text::TEXT_LIMIT..], q, words, d),
-    }
-}
-
-// Whether the delimiters of a text fit: where each of its tokens can be cut, the text rules then allow it. It uses the first 64 words of
-// the scratch, and leaves all of it zero.
-pub fn nests(text: &[u8], scratch: &mut [u16]) -> bool
-    requires { ⌜ 64 ≤ length (now scratch) ⌝ }
-    ensures { λ r. ⌜ r ≡ nestsFrom false (awaits []) (now (text .entry)) ⌝ }
-    ensures zero { λ _. ⌜ now (scratch .exit) ≡ replicate (length (now (scratch .entry))) 0 ⌝ }
-{
-    let r = delimiters_fit(text, false, scratch, 0);
-    clear(scratch);
-    r
 }
 
 // ---- the words that are no names

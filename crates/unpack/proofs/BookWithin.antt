@@ -12,7 +12,7 @@ use Rattle.text.specs.Limits.{textLimit}
 use Rattle.text.specs.Words.{find}
 use Rattle.codec.proofs.Laws.{All}
 use Rattle.token.specs.Token.{Token}
-use Rattle.token.specs.Split.{Split, unlexed, tokens, split}
+use Rattle.token.specs.Split.{Split, unlexed, tokens, split, closer}
 use Rattle.error.specs.declared.Refusal.the-variants.{TextTooLong, NameTwice, TooManyItems, OutputTooShort}
 use Rattle.error.specs.declared.LookupAnswer.{LookupAnswer}
 use Rattle.error.specs.declared.LookupAnswer.the-variants as lookup
@@ -69,8 +69,9 @@ tests {A} {n} {P} test {p} {q} x y = record { run = λ l ts h. go (test ts) l ts
 
 in-group : {A : Type 0} {n : ℕ} (P : A → Type 0) {p : Rule A} (b : ℕ) → Gives n P p → Gives n P (insideByte b p)
 in-group P {p} b x =
-    then {f = λ u. p >>= λ a. leave >>= λ v. give a} (anything (the-mark b))
-    (λ u t. then {f = λ a. leave >>= λ v. give a} x (λ a h. then {f = λ v. give a} (anything leaves) (λ v t. giving P a h)))
+    then {f = λ u. p >>= λ a. leave (closer b) >>= λ v. give a} (anything (the-mark b))
+    (λ u t. then {f = λ a. leave (closer b) >>= λ v. give a} x
+    (λ a h. then {f = λ v. give a} (anything (leaves (closer b))) (λ v t. giving P a h)))
 
 -- ---- an item lies in the text
 

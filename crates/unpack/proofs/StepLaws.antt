@@ -13,6 +13,7 @@ use Rattle.text.specs.Bytes.{bytes, same}
 use Rattle.text.specs.Words.{under, default, find}
 use Rattle.codec.proofs.Laws.{All}
 use Rattle.token.specs.Token.{name, number, quoted, mark, Token, token, place, kind, isMark, rest}
+use Rattle.token.specs.Split.{closer}
 use Rattle.token.specs.Names.{nameOf, quoteOf}
 use Rattle.error.specs.declared.Refusal.{Refusal}
 use Rattle.grammar.specs.Rule.{Notes, Out, got, refused, Rule, after, give, need, refuse, if, _>>=_, _>>_, ends, skip}
@@ -316,8 +317,8 @@ first-near : (n : ℕ) (o : Option ℕ) (p : ℕ) → LeftNear n o → p ≤ n �
 first-near n none p h g = g
 first-near n (some q) p h g = h
 
-pub leaves : {n : ℕ} → Stays n leave
-leaves {n = n} = record { run = λ l ts h. go l ts h (ends ts); adds = λ c l ts. same-count c l ts (ends ts) }
+pub leaves : {n : ℕ} (e : ℕ) → Stays n (leave e)
+leaves {n = n} e = record { run = λ l ts h. go l ts h (seesByte e ts); adds = λ c l ts. same-count c l ts (seesByte e ts) }
   where
     same-count : (c : ℕ) (l : Notes) (ts : List Token) (b : Bool)
         → cond {A = Out Unit} b (got tt (plus c l) (rest ts)) (got tt (noted (plus c l) (place ts)) (behind 0 ts))
@@ -335,7 +336,8 @@ leaves {n = n} = record { run = λ l ts h. go l ts h (ends ts); adds = λ c l ts
     }
 
 pub in-group : {A : Type 0} {n : ℕ} {p : Rule A} (b : ℕ) → Stays n p → Stays n (insideByte b p)
-in-group {p = p} b x = and {f = p >>= λ a. leave >> give a} (the-mark b) (then x (λ a. and {f = give a} leaves gives))
+in-group {p = p} b x =
+    and {f = p >>= λ a. leave (closer b) >> give a} (the-mark b) (then x (λ a. and {f = give a} (leaves (closer b)) gives))
 
 -- ---- repetition
 

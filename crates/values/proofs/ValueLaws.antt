@@ -5,6 +5,7 @@ use mathlib.Core.Path.{_≡_}
 use native.Mathlib.Omega.{arith}
 use Rattle.error.specs.declared.Refusal.{Refusal}
 use Rattle.error.specs.declared.Refusal.the-variants.{Missing}
+use Rattle.token.specs.Split.{closer}
 use Rattle.grammar.specs.Rule.{Rule, refused, theByte, insideByte, leave, _>>_}
 use Rattle.cursor.specs.Means.{run, Took, FloatMeans}
 use Rattle.cursor.specs.declared.Cursor.{Cursor}
@@ -16,11 +17,11 @@ use Rattle.values.specs.declared.PairRead.the-variants as pair
 
 -- a rule inside a group: its opener, the rule, and leaving
 module _ {A : Type 0} (s : List ℕ) (b : ℕ) (p : Rule A) (c m : Cursor) (o : Took 1 s c m (theByte b) tt) where
-  pub inside-took : (n u : Cursor) (x : A) → Took 1 s m n p x → Took 0 s n u leave tt → Took 1 s c u (insideByte b p) x
+  pub inside-took : (n u : Cursor) (x : A) → Took 1 s m n p x → Took 0 s n u (leave (closer b)) tt → Took 1 s c u (insideByte b p) x
   inside-took n u x t l = record { is = rw (o .is, t .is, l .is); low = omega (arith, o .low, t .low, l .low); ready = l .ready }
 
   -- a rule that may take nothing
-  pub inside-any : (n u : Cursor) (x : A) → Took 0 s m n p x → Took 0 s n u leave tt → Took 1 s c u (insideByte b p) x
+  pub inside-any : (n u : Cursor) (x : A) → Took 0 s m n p x → Took 0 s n u (leave (closer b)) tt → Took 1 s c u (insideByte b p) x
   inside-any n u x t l = record { is = rw (o .is, t .is, l .is); low = omega (arith, o .low, t .low, l .low); ready = l .ready }
 
   pub inside-refused : (r : Refusal) (q : ℕ) → run s m p ≡ refused r q → run s c (insideByte b p) ≡ refused r q

@@ -45,7 +45,7 @@ pub fn parse_float_in_parens(text: &[u8], c: Cursor) -> FloatRead
         MarkRead::Missing(p) => FloatRead::Refused(Refusal::Missing, p),
         MarkRead::Is(m) => match cursor::parse_float(text, m) {
             FloatRead::Refused(r, p) => FloatRead::Refused(r, p),
-            FloatRead::Is(x, n) => FloatRead::Is(x, cursor::leave_group(text, n)),
+            FloatRead::Is(x, n) => FloatRead::Is(x, cursor::leave_group(text, n, b')')),
         },
     }
 }
@@ -58,7 +58,7 @@ pub fn uint_in_parens(text: &[u8], c: Cursor) -> UintRead
         MarkRead::Missing(p) => UintRead::Refused(Refusal::Missing, p),
         MarkRead::Is(m) => match cursor::parse_uint(text, m) {
             UintRead::Refused(r, p) => UintRead::Refused(r, p),
-            UintRead::Is(v, n) => UintRead::Is(v, cursor::leave_group(text, n)),
+            UintRead::Is(v, n) => UintRead::Is(v, cursor::leave_group(text, n, b')')),
         },
     }
 }
@@ -95,7 +95,7 @@ pub fn parse_two_floats_in_parens(text: &[u8], c: Cursor) -> PairRead
         MarkRead::Missing(p) => PairRead::Refused(Refusal::Missing, p),
         MarkRead::Is(m) => match two_floats(text, m) {
             PairRead::Refused(r, p) => PairRead::Refused(r, p),
-            PairRead::Is(a, b, n) => PairRead::Is(a, b, cursor::leave_group(text, n)),
+            PairRead::Is(a, b, n) => PairRead::Is(a, b, cursor::leave_group(text, n, b')')),
         },
     }
 }
@@ -136,7 +136,7 @@ fn bezier_curve(text: &[u8], c: Cursor) -> EasingRead
         MarkRead::Missing(p) => EasingRead::Refused(Refusal::Missing, p),
         MarkRead::Is(m) => match four_floats(text, m) {
             EasingRead::Refused(r, p) => EasingRead::Refused(r, p),
-            EasingRead::Is(e, n) => EasingRead::Is(e, cursor::leave_group(text, n)),
+            EasingRead::Is(e, n) => EasingRead::Is(e, cursor::leave_group(text, n, b')')),
         },
     }
 }
@@ -335,7 +335,7 @@ fn rough_curve(text: &[u8], c: Cursor) -> EasingRead
         MarkRead::Is(m) => match rough_fields(text, m) {
             RoughRead::Refused(r, p) => EasingRead::Refused(r, p),
             RoughRead::Is(f, n) => {
-                let next = cursor::leave_group(text, n);
+                let next = cursor::leave_group(text, n, b')');
                 let s = f.strength;
                 let k = f.points;
                 let strength = float_or(s, 0.5);
@@ -356,7 +356,7 @@ fn slow_mo_curve(text: &[u8], c: Cursor) -> EasingRead
         MarkRead::Is(m) => match slow_mo_fields(text, m) {
             SlowMoRead::Refused(r, p) => EasingRead::Refused(r, p),
             SlowMoRead::Is(f, n) => {
-                let next = cursor::leave_group(text, n);
+                let next = cursor::leave_group(text, n, b')');
                 let l = f.linear_ratio;
                 let w = f.power;
                 let linear_ratio = float_or(l, 0.7);
