@@ -10,8 +10,6 @@ OWN = r"Rattle·(\w+?)(?:·specs)?\.specs\.([A-Z]\w*)"
 # In a file of definitions, and in a file of code, with the names that are imported.
 USE = re.compile(rf"^use {OWN}", re.M)
 GHOST_USE = re.compile(rf"^ghost use {OWN}(?:\.\{{([^}}]*)\}}| as ([^;]+))", re.M)
-# A name of a promise that still stands among vocabulary: it puts an answer and the buffers afterwards into a tuple.
-TUPLES = {("parser", "Means"): {"outcome"}}
 
 
 def text_of(path):
@@ -52,7 +50,7 @@ def cited_by_contract(crate, function):
             words = set(re.findall(r"[^\s(){}⌜⌝,.;:]+", contract[0]))
             for owner, file, names, alias in GHOST_USE.findall(text):
                 given = {name.split(" as ")[-1].strip() for name in names.split(",")} | {alias.strip()}
-                if (owner, file) in FILES and words & given - TUPLES.get((owner, file), set()):
+                if (owner, file) in FILES and words & given:
                     yield owner, file
             return
     sys.exit(f"{crate}::{function} is not there")

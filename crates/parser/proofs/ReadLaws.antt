@@ -39,8 +39,8 @@ use Rattle.error.specs.declared.Refusal.the-variants.{TextTooLong, ScratchTooSh
 use Rattle.error.specs.declared.ReadAnswer.{ReadAnswer}
 use Rattle.error.specs.declared.ReadAnswer.the-variants.{Accepted, Refused}
 use Rattle.reading.specs.Reading as reads
-use Rattle.reading.specs.Reading.{wrong, finished, parse, early, reading, scratchWords}
-use Rattle.parser.specs.Means.{treeOf, Encoded, TreeMeans, inputOf, Allowed, InputMeans, settled, outcome}
+use Rattle.reading.specs.Reading.{wrong, finished, parse, early, reading, outcome, scratchWords}
+use Rattle.parser.specs.Means.{treeOf, Encoded, TreeMeans, inputOf, Allowed, InputMeans, settled}
 use Rattle.parser.specs.declared.Input.{Input}
 
 -- ---- the grammar, from the text's start on

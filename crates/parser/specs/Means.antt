@@ -58,9 +58,3 @@ abbrev pub settled : ReadAnswer → List ℕ → ReadAnswer × List ℕ
 settled (Refused r p) bs = (Refused r p, replicate (length bs) 0)
 settled (Accepted n k j) bs =
     cond (ltb (length bs) n) (Refused SheetTooShort 0, replicate (length bs) 0) (Accepted n k j, take n bs ++ replicate (length bs - n) 0)
-
--- ---- the operation
-
--- an answer, and the scratch and the sheet then
-abbrev pub outcome : ReadAnswer → List ℕ → List ℕ → ReadAnswer × List ℕ × List ℕ
-outcome r scratch sheet = (r, scratch, sheet)

@@ -65,6 +65,9 @@ abbrev pub unlessEarly : List ℕ → List ℕ → List ℕ → Option Refusal �
 unlessEarly t scratch sheet (some r) = (Refused r 0, scratch, sheet)
 unlessEarly t scratch sheet none = cleared scratch sheet (answered (length t) (length sheet) (parse t))
 
--- the answer, the scratch and the sheet afterwards
+-- an answer, and the scratch and the sheet afterwards
+abbrev pub outcome : ReadAnswer → List ℕ → List ℕ → ReadAnswer × List ℕ × List ℕ
+outcome r scratch sheet = (r, scratch, sheet)
+
 unfoldable pub reading : List ℕ → List ℕ → List ℕ → ReadAnswer × List ℕ × List ℕ
 reading t scratch sheet = unlessEarly t scratch sheet (early (length t) (length scratch))

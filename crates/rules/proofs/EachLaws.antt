@@ -560,7 +560,7 @@ module _ (P S : ℕ → (A : Type 0) → Rule A → Type 0) (K : Closed P S) whe
         (λ w. begun-each (w .0) (under leaves (w .1)) (under containers (w .1)) (under-found (suc (suc n)) leaves (w .1) (leaf-rows n))
         (under-found (suc (suc n)) containers (w .1) (container-rows n)))
 
-    nodes-each : (ns : Nodes Key) → Q (suc (suc n)) (nodesStep b ns)
+    pub nodes-each : (ns : Nodes Key) → Q (suc (suc n)) (nodesStep b ns)
     unfolding nodesStep oneNode
     nodes-each ns = K .tests ends (K .gives) (K .marks {p = give (more ns)} 59 refl (K .gives) (K .then node-each (λ x. K .gives)))
 

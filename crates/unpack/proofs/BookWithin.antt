@@ -27,8 +27,7 @@ use Rattle.order.proofs.OrderLaws.{listing as is-listing}
 use Rattle.calls.specs.Calls.{calls}
 use Rattle.lookup.specs.Lookup.{itemAt, named, found, inBooks, lookingUp}
 use Rattle.listing.specs.Listing.{put, ordered, listingOf, listing}
-use Rattle.unpack.proofs.StepLaws.{State, LeftNear, OutNear, Stays, place-near, the-mark, leaves, a-word}
-use Rattle.unpack.proofs.RuleLaws.{input-stays}
+use Rattle.rules.proofs.StayLaws.{State, LeftNear, OutNear, Stays, place-near, the-mark, leaves, a-word, input-stays}
 use Rattle.unpack.proofs.Within.{SplitNear, split-near, SplitFew, split-few}
 
 -- ---- what a rule gives

@@ -52,8 +52,7 @@ use Rattle.digits.specs.Fewest.{form}
 use Rattle.fresh.specs.Meaning.{Sense}
 use Rattle.fresh.specs.Fresh.{script, hasText}
 use Rattle.back.specs.Back.{refusal, fitted, written, senseOf, ofTree, ofVerdict, writing}
-use Rattle.unpack.proofs.StepLaws.{Near, LeftNear, OutNear}
-use Rattle.unpack.proofs.RuleLaws.{input-stays}
+use Rattle.rules.proofs.StayLaws.{Near, LeftNear, OutNear, input-stays}
 use Rattle.unpack.proofs.SheetLaws.{sheet-some, Below, nodes-below, Before, foreign-before, Within, opening-within, under-within}
 
 -- ---- reading: a text's tokens, and its refusals 2 to 5

@@ -7,8 +7,7 @@ use lib.ListN.{length, take}
 use Rattle.error.specs.declared.Refusal.{Refusal}
 use Rattle.error.specs.declared.ReadAnswer.the-variants as read
 use Rattle.error.specs.declared.CheckAnswer.{CheckAnswer}
-use Rattle.parser.specs.Means.{outcome}
-use Rattle.reading.specs.Reading.{reading}
+use Rattle.reading.specs.Reading.{reading, outcome}
 use Rattle.validate.specs.Checking.{checking}
 use Rattle.script.proofs.Closed.{claim}
 use Rattle.verdict.specs.Verdict.{Claims, bothAnswers, verdictValues}

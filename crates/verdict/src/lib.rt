@@ -1,8 +1,7 @@
 // Reading a script and checking its sheet, one call after the other.
 ghost use mathlib.Core.Path.{_≡_};
 ghost use lib.ListN.{length};
-ghost use Rattle.parser.specs.Means.{outcome};
-ghost use Rattle.reading.specs.Reading.{reading};
+ghost use Rattle.reading.specs.Reading.{reading, outcome};
 ghost use Rattle.verdict.specs.Verdict.{readOf, bothAnswers, verdictValues, Answered, Claims};
 use error::CheckAnswer;
 use error::ReadAnswer;

@@ -1,27 +1,29 @@
--- Rules refuse at the place of a token, count a number at most for each token, and count it onto what was counted before: the steps of the
--- grammar.
+-- Each rule of the grammar refuses at the place of a token, counts a number at most for each token, and counts it onto what was counted
+-- before.
 use Prim.Native.Nat.{ℕ, zero, suc, _+_, _≤_}
-use Prim.Native.String.{String}
 use mathlib.Core.Bool.{Bool, true, false, cond}
 use mathlib.Core.List.{List, [], _∷_}
 use mathlib.Core.Option.{Option, none, some}
-use mathlib.Core.Path.{_≡_, refl, ap, _∙_}
+use mathlib.Core.Path.{_≡_, refl, sym, ap, _∙_, subst}
 use native.Mathlib.Omega.{arith}
 use lib.ListN.{length}
 use Rattle.number.specs.Number.{Written}
-use Rattle.text.specs.Bytes.{bytes, same}
-use Rattle.text.specs.Words.{under, default, find}
-use Rattle.codec.proofs.Laws.{All}
 use Rattle.token.specs.Token.{name, number, quoted, mark, Token, token, place, kind, isMark, rest}
 use Rattle.token.specs.Split.{closer}
 use Rattle.token.specs.Names.{nameOf, quoteOf}
 use Rattle.error.specs.declared.Refusal.{Refusal}
-use Rattle.grammar.specs.Rule.{Notes, Out, got, refused, Rule, after, give, need, refuse, if, _>>=_, _>>_, ends, skip}
-use Rattle.grammar.specs.Rule.{seesByte, seesPair, theByte, bothBytes, eatByte, found, word}
-use Rattle.grammar.specs.Rule.{text, choiceIn, Signed, plain, negated, seesNumber, tally, counted}
+use Rattle.grammar.specs.Rule.{Notes, Out, got, refused, Rule, after, give, refuse, if, _>>=_, _>>_, skip}
+use Rattle.grammar.specs.Rule.{seesByte, seesBytes, seesPair, seesWhole, theByte, bothBytes, eatByte, found, word}
+use Rattle.grammar.specs.Rule.{text, Signed, plain, negated, seesNumber, tally, counted}
 use Rattle.grammar.specs.Rule.{absent, minus, taken, signed, Pass, halts, closes, goes, weigh, depth, passed}
-use Rattle.grammar.specs.Rule.{behind, firstOf, noted, leave, insideByte, Next, more, done, iterate, repeat, listStep, list}
+use Rattle.grammar.specs.Rule.{behind, firstOf, noted, leave, insideByte, Next, more, done, iterate, repeat}
 use Rattle.grammar.specs.Rule.{next as following}
+use Rattle.grammar.specs.Fields.{Fields, Table, itemOf, oneField, byItem, fieldsStep}
+use Rattle.grammar.specs.Fields as item
+use Rattle.number.specs.Time.{Key}
+use Rattle.ast.specs.Tree.{Nodes}
+use Rattle.grammar.specs.Grammar.{nodesStep, block, animatoInput}
+use Rattle.rules.proofs.EachLaws.{Closed, nodes-each, block-each, input-each}
 
 -- ---- tokens at places up to n
 
@@ -139,33 +141,12 @@ pub and : {A B : Type 0} {n : ℕ} {p : Rule A} {f : Rule B} → Stays n p → S
 and {n = n} {p = p} {f = f} x k =
     record { run = λ l ts h. goes-on n (λ a. f) (λ a. k) (p l ts) (x .run l ts h); adds = then-adds p (λ a. f) (x .adds) (λ a. k .adds) }
 
--- two rules as one, and a third behind them
-regroup : {A B C : Type 0} (n : ℕ) (f : A → Rule B) (g : B → Rule C) (o : Out A)
-    → OutNear n (after o (λ a. f a >>= g)) → OutNear n (after (after o f) g)
-regroup n f g (got a l ts) h = h
-regroup n f g (refused r p) h = h
-
-regroup-same : {A B C : Type 0} (f : A → Rule B) (g : B → Rule C) (o : Out A) → after (after o f) g ≡ after o (λ a. f a >>= g)
-regroup-same f g (got a l ts) = refl
-regroup-same f g (refused r p) = refl
-
-pub grouped : {A B C : Type 0} {n : ℕ} (p : Rule A) (f : A → Rule B) (g : B → Rule C)
-    → Stays n (p >>= λ a. f a >>= g) → Stays n (p >>= f >>= g)
-grouped {n = n} p f g x = record {
-  run = λ l ts h. regroup n f g (p l ts) (x .run l ts h);
-  adds = λ c l ts. rw (regroup-same f g (p (plus c l) ts), regroup-same f g (p l ts)) (x .adds c l ts);
-}
-
-pub conds : {A : Type 0} {n : ℕ} (b : Bool) {p q : Rule A} → Stays n p → Stays n q → Stays n (cond b p q)
+conds : {A : Type 0} {n : ℕ} (b : Bool) {p q : Rule A} → Stays n p → Stays n q → Stays n (cond b p q)
 conds true x y = x
 conds false x y = y
 
 pub tests : {A : Type 0} {n : ℕ} (test : List Token → Bool) {p q : Rule A} → Stays n p → Stays n q → Stays n (if test p q)
 tests test x y = record { run = λ l ts h. conds (test ts) x y .run l ts h; adds = λ c l ts. conds (test ts) x y .adds c l ts }
-
-pub needs : {A : Type 0} {n : ℕ} (r : Refusal) (o : Option A) → Stays n (need r o)
-needs r none = refuses
-needs r (some a) = gives
 
 -- ---- tokens
 
@@ -177,9 +158,6 @@ the-mark b = tests (seesByte b) skips refuses
 
 pub two-marks : {n : ℕ} (b d : ℕ) → Stays n (bothBytes b d)
 two-marks b d = tests (seesPair b d) (and {f = skip} skips skips) refuses
-
-pub eats : {n : ℕ} (b : ℕ) → Stays n (eatByte b)
-eats b = tests (seesByte b) (and {f = give true} skips gives) gives
 
 finds : {A B : Type 0} (n : ℕ) (o : Option A) (f : A → B) (l : Notes) (ts : List Token) → State n l ts → OutNear n (found o f l ts)
 finds n none f l ts h = place-near n ts (h .near)
@@ -200,9 +178,6 @@ a-text {n = n} = record {
   run = λ l ts h. finds n (quoteOf (kind ts)) (λ m. (suc (place ts), m)) l ts h;
   adds = λ c l ts. finds-adds (quoteOf (kind ts)) (λ m. (suc (place ts), m)) c l ts;
 }
-
-pub a-choice : {n : ℕ} (r : Refusal) (ns : List (List ℕ)) → Stays n (choiceIn r ns)
-a-choice r ns = then a-word (λ w. needs r (find ns 0 (w .1)))
 
 takes : (n : ℕ) (r : Refusal) (x : Signed) (l : Notes) (ts : List Token) → State n l ts → OutNear n (taken r x l ts)
 takes n r absent l ts h = place-near n ts (h .near)
@@ -248,10 +223,6 @@ tallies {n = n} {p = p} b x = record {
     few : (b : Bool) (l : Notes) (ts : List Token) → Spare n l ts → tally b l .rounded + length ts ≤ suc n
     few true l ts h = omega (arith, h .few)
     few false l ts h = omega (arith, h .few)
-
-pub conds-too : {A : Type 0} {n : ℕ} (b : Bool) {p q : Rule A} → Spends n p → Spends n q → Spends n (cond b p q)
-conds-too true x y = x
-conds-too false x y = y
 
 -- a mark that may stand there, but not where b holds
 pub eats-too : {A : Type 0} {n : ℕ} {f : Bool → Rule A} (b : Bool) (c : ℕ) → ((x : Bool) → Spends n (f x))
@@ -362,45 +333,59 @@ repeats {n = n} step h a = record {
   adds = λ c l ts. steps-stay n step h (l .bound) a .adds c l ts;
 }
 
-pub lists : {A : Type 0} {n : ℕ} (item : A → Rule A) → ((a : A) → Stays n (item a)) → (a : A) → Stays n (list item a)
-lists item h a = repeats (listStep item) (λ a. tests ends gives (then (h a) (λ b. then (eats 44) (λ c. gives)))) a
+-- ---- each rule of the grammar
 
--- ---- a rule by its word
+equal : {A : Type 0} {n : ℕ} {p q : Rule A} → Stays n p → ((l : Notes) (ts : List Token) → p l ts ≡ q l ts) → Stays n q
+equal {n = n} x e = record {
+  run = λ l ts h. subst (λ (o : Out _). OutNear n o) (e l ts) (x .run l ts h);
+  adds = λ c l ts. sym (e (plus c l) ts) ∙ x .adds c l ts ∙ ap (plusOut c) (e l ts);
+}
 
-abbrev pub Found : {A : Type 0} → ℕ → Option (Rule A) → Type 0
-Found n none = Unit {0}
-Found n (some p) = Stays n p
+by-item : {n : ℕ} (t : Table) (fs : Fields) → Stays n (oneField t fs) → (i : item.Item) → Stays n (byItem i t fs)
+by-item t fs x item.halts = gives
+by-item t fs x item.closes = and {f = give (done fs)} skips gives
+by-item t fs x item.passes = and {f = give (more fs)} skips gives
+by-item t fs x item.starts = x
 
-abbrev pub Rows : {A : Type 0} → ℕ → List (String × Rule A) → Type 0
-Rows n t = All (λ f. Stays n (f .1)) t
+fields : {n : ℕ} (t : Table) (fs : Fields) → Stays n (oneField t fs) → Stays n (fieldsStep t fs)
+unfolding fieldsStep
+fields t fs x = record {
+  run = λ l ts h. by-item t fs x (itemOf (kind ts)) .run l ts h;
+  adds = λ c l ts. by-item t fs x (itemOf (kind ts)) .adds c l ts;
+}
 
-picks : {A : Type 0} (n : ℕ) (b : Bool) (p : Rule A) (o : Option (Rule A))
-    → Stays n p → Found n o
-    → Found {A = A} n (elim b [ true ↦ some p | false ↦ o ])
-picks n true p o x y = x
-picks n false p o x y = y
+module _ (n : ℕ) where
+  abbrev StaysAll : ℕ → (A : Type 0) → Rule A → Type 0
+  StaysAll d A p = Stays n p
 
-pub under-found : {A : Type 0} (n : ℕ) (t : List (String × Rule A)) (w : List ℕ) → Rows n t → Found n (under t w)
-unfolding under
-under-found n [] w h = tt
-under-found n (f ∷ t) w h = picks n (same w (bytes (f .0))) (f .1) (under t w) (h .0) (under-found n t w (h .1))
+  abbrev SpendsAll : ℕ → (A : Type 0) → Rule A → Type 0
+  SpendsAll d A p = Spends n p
 
-needs-rule : {A B : Type 0} (n : ℕ) (r : Refusal) (o : Option (Rule A)) (f : Rule A → Rule B)
-    → Found n o → ((p : Rule A) → Stays n p → Stays n (f p))
-    → Stays n (need r o >>= f)
-needs-rule n r none f x k = record { run = λ l ts h. place-near n ts (h .near); adds = λ c l ts. refl }
-needs-rule n r (some p) f x k = record { run = λ l ts h. k p x .run l ts h; adds = λ c l ts. k p x .adds c l ts }
+  staying : Closed StaysAll SpendsAll
+  staying = record {
+    equal = λ x e. equal x e;
+    gives = gives;
+    refuses = refuses;
+    then = λ x k. then x k;
+    tests = λ test x y. tests test x y;
+    marks = λ {p = p} b e x y. tests (seesByte b) (and {f = p} skips x) y;
+    known = λ {p = p} v x y. tests (seesBytes v) (and {f = p} skips x) y;
+    the-mark = λ b e. the-mark b;
+    two-marks = λ b d e f. two-marks b d;
+    a-word = a-word;
+    a-text = a-text;
+    a-whole = λ r. a-number seesWhole r;
+    a-float = λ r k. a-float n r _ k;
+    tallies = λ b x. tallies b x;
+    refuses-too = refuses-too;
+    eats-too = λ b c e k. eats-too b c k;
+    fields = λ t fs x. fields t fs x;
+    in-group = λ b e x. in-group b x;
+    repeats = λ step h a. repeats step h a;
+  }
 
--- f goes on with the rule that is found
-pub by-word : {A B : Type 0} {n : ℕ} (r : Refusal) (t : List (String × Rule A)) (w : List ℕ) (f : Rule A → Rule B)
-    → Rows n t → ((p : Rule A) → Stays n p → Stays n (f p))
-    → Stays n (need r (under t w) >>= f)
-by-word {n = n} r t w f rows k = needs-rule n r (under t w) f (under-found n t w rows) k
+  pub nodes-stay : (d : ℕ) (ns : Nodes Key) → Stays n (nodesStep (block d) ns)
+  nodes-stay d ns = nodes-each StaysAll SpendsAll staying {n = d} (block d) (block-each StaysAll SpendsAll staying d) ns
 
-or-rule : {A : Type 0} (n : ℕ) (o : Option (Rule A)) (p : Rule A) → Found n o → Stays n p → Stays n (default o p)
-or-rule n none p x y = y
-or-rule n (some q) p x y = x
-
-pub by-word-or : {A : Type 0} {n : ℕ} (t : List (String × Rule A)) (w : List ℕ) (p : Rule A)
-    → Rows n t → Stays n p → Stays n (default (under t w) p)
-by-word-or {n = n} t w p rows x = or-rule n (under t w) p (under-found n t w rows) x
+  pub input-stays : Stays n animatoInput
+  input-stays = input-each StaysAll SpendsAll staying
