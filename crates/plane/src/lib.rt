@@ -1,7 +1,7 @@
 // 02 (k): planes before storage, and their inverse.
 ghost use mathlib.Core.Path.{_≡_};
 ghost use Rattle.error.specs.Answer.{lineValues};
-ghost use Rattle.plane.specs.Planing.{planing, unplaning};
+ghost use Rattle.planed.specs.Planing.{planing, unplaning};
 ghost use Rattle.plane.specs.Carry.{Carries, Carried};
 use crate::moves::move_all;
 use crate::shape::Shape;

@@ -13,18 +13,13 @@ use Rattle.text.specs.Limits.{textLimit}
 use Rattle.sheet.specs.Sheet.{Forest, encode, decode}
 use Rattle.sheet.specs.Opening.{foreignFrom, shut, unlessForeign}
 use Rattle.sheet.proofs.Laws.{decoded}
 use Rattle.planed.specs.Planes.{planed, unplaned}
 use Rattle.planed.proofs.PlanedLaws.{sheet-there-and-back, planed-there-and-back, none-planes, some-planes, length-planed}
 use Rattle.error.specs.declared.Refusal.{Refusal}
 use Rattle.error.specs.declared.Refusal.the-variants.{NotASheet, NotPlaned, TextTooLong, OutputTooShort}
 use Rattle.error.specs.declared.LineAnswer.{LineAnswer}
 use Rattle.error.specs.declared.LineAnswer.the-variants.{Accepted, Refused}
-use Rattle.plane.specs.Planing.{treeOr, openedAs, answered, planing, unplaning}
-
--- a text that neither 1 nor 2 refuses
-pub record Plain (t : List ℕ) : Type 0 where
-  pub short : ltb textLimit (length t) ≡ false
-  pub clean : foreignFrom 0 t ≡ none
+use Rattle.planed.specs.Planing.{treeOr, openedAs, answered, planing, unplaning, Plain, PlanesTo}
 
 -- what an answer that accepts has gone through
 pub record Took (t : List ℕ) (o : Option Forest) (write : Forest → List ℕ) (out : List ℕ) (k : ℕ) (after : List ℕ) : Type 0 where
@@ -105,10 +100,6 @@ back-and-there t bs out lent after k e h =
     ∙ takes t NotASheet (decode n (encode n (w .tree))) (planed n) lent (w .tree) (w .plain) (b .0)
     (subst (λ (l : List ℕ). length l ≤ length lent) (sym (b .1)) h)
     ∙ ap (λ (l : List ℕ). (Accepted (length l), l ++ drop (length l) lent)) (b .1)
-
--- the sheets for a text that plane to those bytes
-abbrev pub PlanesTo : List ℕ → List ℕ → Type 0
-PlanesTo t bs = (s : List ℕ) × (ns : Forest) × (decode (length t) s ≡ some ns) × (planed (length t) ns ≡ bs)
 
 -- "40 exactly if no sheet for that text planes to those bytes"
 pub not-planed-refused : (t bs out : List ℕ) → Plain t → (PlanesTo t bs → ⊥) → unplaning t bs out ≡ (Refused NotPlaned 0, out)

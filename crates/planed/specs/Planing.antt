@@ -1,14 +1,15 @@
 -- 02 (k), "Planes before storage": planing and its inverse, with their output.
 use Prim.Native.Nat.{ℕ}
-use mathlib.Core.Bool.{cond}
+use mathlib.Core.Bool.{false, cond}
 use mathlib.Core.List.{List, _++_}
 use mathlib.Core.Option.{Option, none, some}
+use mathlib.Core.Path.{_≡_}
 use lib.Dec.{ltb}
 use lib.ListN.{length, drop}
 use Rattle.text.specs.Limits.{textLimit}
 use Rattle.sheet.specs.Sheet.{Forest, encode, decode}
 use Rattle.sheet.specs.Opening.{foreignFrom, Opened, opened, shut, unlessForeign}
 use Rattle.planed.specs.Planes.{planed, unplaned}
 use Rattle.error.specs.declared.Refusal.{Refusal}
 use Rattle.error.specs.declared.Refusal.the-variants.{TextTooLong, NotASheet, OutputTooShort, NotPlaned}
 use Rattle.error.specs.declared.LineAnswer.{LineAnswer}
@@ -39,3 +40,14 @@ planing t s out = answered (planed (length t)) out (openedAs t NotASheet (decode
 -- "in the inverse instead 40"
 unfoldable pub unplaning : List ℕ → List ℕ → List ℕ → LineAnswer × List ℕ
 unplaning t bs out = answered (encode (length t)) out (openedAs t NotPlaned (unplaned (length t) bs))
+
+-- ---- 40 "exactly if no sheet for that text planes to those bytes"
+
+-- a text that neither 1 nor 2 refuses
+pub record Plain (t : List ℕ) : Type 0 where
+  pub short : ltb textLimit (length t) ≡ false
+  pub clean : foreignFrom 0 t ≡ none
+
+-- the sheets for a text that plane to those bytes
+abbrev pub PlanesTo : List ℕ → List ℕ → Type 0
+PlanesTo t bs = (s : List ℕ) × (ns : Forest) × (decode (length t) s ≡ some ns) × (planed (length t) ns ≡ bs)

@@ -1,9 +1,9 @@
--- `print::put_refusal` meets its contract.
+-- `page::put_refusal` meets its contract.
 use Rattle.text.proofs.WriteLaws.{puts-then}
 use Rattle.script.specs.Output.{refusal}
 use borrow.Author.Needs.{needs}
-use Rattle.print.proofs.put_refusal.Statement.{statement}
-use Rattle.print.proofs.put_refusal.Tie as tie
+use Rattle.page.proofs.put_refusal.Statement.{statement}
+use Rattle.page.proofs.put_refusal.Tie as tie
 
 returns : tie.Need-returns
 unfolding refusal

@@ -1,17 +1,17 @@
--- `print::put_decimal` meets its contract: it calls itself with a digit fewer.
+-- `page::put_decimal` meets its contract: it calls itself with a digit fewer.
 use borrow.Author.Needs.{needs}
 use native.Mathlib.Omega.{arith}
 use Rattle.text.proofs.WriteLaws.{puts-none, puts-then}
-use Rattle.print.proofs.PrintLaws.{decimal-none, decimal-one, decimal-more}
+use Rattle.page.proofs.PageLaws.{decimal-none, decimal-one, decimal-more}
 use Prim.Native.Nat.{ℕ, _<_}
 use borrow.Fn.Kinds.{In}
 use borrow.Fn.PlainCycle.{Measures, is, falls, and}
-use Rattle.print.proofs.put_decimal.Reads as put-decimal
-use Rattle.print.proofs.put_decimal.Kinds as put-decimal-kinds
-use Rattle.print.proofs.+put_decimal.Lts-put_decimal as put-decimal-lts
+use Rattle.page.proofs.put_decimal.Reads as put-decimal
+use Rattle.page.proofs.put_decimal.Kinds as put-decimal-kinds
+use Rattle.page.proofs.+put_decimal.Lts-put_decimal as put-decimal-lts
 use Rattle.text.proofs.put.Reads as put-reads
-use Rattle.print.proofs.+put_decimal.{statement}
-use Rattle.print.proofs.+put_decimal.Tie.{close}
+use Rattle.page.proofs.+put_decimal.{statement}
+use Rattle.page.proofs.+put_decimal.Tie.{close}
 
 abbrev μ-put-decimal : Measures 1 put-decimal-kinds.ps ℕ
 μ-put-decimal κs a = a .1 .1 .0

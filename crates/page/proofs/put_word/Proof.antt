@@ -1,4 +1,4 @@
--- `print::put_word` meets its contract.
+-- `page::put_word` meets its contract.
 use Prim.Native.Nat.{_-_, ℕ}
 use mathlib.Core.List.{List}
 use mathlib.Core.Path.{refl, _∙_, _≡_}
@@ -6,9 +6,9 @@ use lib.ListN.{drop, length, drop-of-length-le}
 use borrow.Author.Needs.{needs}
 use Rattle.text.specs.Write.{Puts}
 use Rattle.text.proofs.WriteLaws.{puts-none, puts-then}
-use Rattle.print.proofs.PrintLaws.{word-at}
-use Rattle.print.proofs.put_word.Statement.{statement}
-use Rattle.print.proofs.put_word.Tie as tie
+use Rattle.page.proofs.PageLaws.{word-at}
+use Rattle.page.proofs.put_word.Statement.{statement}
+use Rattle.page.proofs.put_word.Tie as tie
 
 abbrev Inv-loop : tie.InvT-loop
 Inv-loop out₀ at word end₀ i₀ out end i =

@@ -1,4 +1,4 @@
--- `print::put_lines` meets its contract: the loop keeps that the record with the ordinal stands from start to end, and that the page has
+-- `page::put_lines` meets its contract: the loop keeps that the record with the ordinal stands from start to end, and that the page has
 -- the lines before it.
 use borrow.Author.Tests.{not-false, not-true}
 use Prim.Native.Nat.{_-_, _≤_}
@@ -11,9 +11,9 @@ use Rattle.sheet.specs.Records.{allRecords}
 use Rattle.sheet.specs.Sheet.{Forest, decode}
 use Rattle.records.proofs.PlaceLaws.{first, next}
 use Rattle.records.proofs.RecordLaws.{moves}
-use Rattle.print.proofs.PrintLaws.{Going, goes, goes-refused, goes-last, goes-on}
-use Rattle.print.proofs.put_lines.Statement.{statement}
-use Rattle.print.proofs.put_lines.Tie as tie
+use Rattle.page.proofs.PageLaws.{Going, goes, goes-refused, goes-last, goes-on}
+use Rattle.page.proofs.put_lines.Statement.{statement}
+use Rattle.page.proofs.put_lines.Tie as tie
 
 abbrev Inv-loop : tie.InvT-loop
 Inv-loop sheet text-len count page₀ start₀ end₀ ordinal₀ at₀ page start end ordinal at =

@@ -1,9 +1,9 @@
--- `print::put_accept` meets its contract.
+-- `page::put_accept` meets its contract.
 use Rattle.text.proofs.WriteLaws.{puts-then}
 use Rattle.script.specs.Output.{accept}
 use borrow.Author.Needs.{needs}
-use Rattle.print.proofs.put_accept.Statement.{statement}
-use Rattle.print.proofs.put_accept.Tie as tie
+use Rattle.page.proofs.put_accept.Statement.{statement}
+use Rattle.page.proofs.put_accept.Tie as tie
 
 returns : tie.Need-returns
 unfolding accept

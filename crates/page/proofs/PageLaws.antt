@@ -32,7 +32,7 @@ use Rattle.script.specs.Output.{decimalOut, accept, refusal, whenChecked, whenR
 use Rattle.script.specs.Output.{output, paged, printing, lineBytes, sheetBytes, pageBytes}
 use Rattle.script.specs.Means.{linesOf}
 use Rattle.script.proofs.OutputLaws.{held, lines-held, printed-small}
-use Rattle.print.specs.Means.{Lines}
+use Rattle.page.specs.Means.{Lines}
 
 -- ---- words and numbers
 
