@@ -1,6 +1,3 @@
-pub mod FrameLaws
-pub mod NodeLaws
-pub mod ShapeLaws
 pub mod MoveLaws
 pub mod GapLaws
 pub mod CarryLaws

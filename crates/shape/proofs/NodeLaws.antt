@@ -21,8 +21,8 @@ use Rattle.records.proofs.RecordLaws.{behind, node-read, countL, recordL}
 use Rattle.sheet.specs.Sheet.{keyframesFormOf, kindsOf, splitNodeOf, nodeFormOf, forestOf, innerOf}
 use Rattle.planed.specs.Planes.{leafNumbers, numbersOf}
 use Rattle.sheet.proofs.Laws.{nodeLOf}
-use Rattle.plane.specs.Means.{wrapped, frameTally, nodeNumbers, nodeTally, tally, recordFormOf, nodeView}
-use Rattle.plane.proofs.FrameLaws.{wrap-none, wrap-sum, wrap-assoc, wrap-small}
+use Rattle.shape.specs.Means.{wrapped, frameTally, nodeNumbers, nodeTally, tally, recordFormOf, nodeView}
+use Rattle.shape.proofs.FrameLaws.{wrap-none, wrap-sum, wrap-assoc, wrap-small}
 
 none≢some : {A B : Type 0} {a : A} → Prim.Path (Option A) none (some a) → B
 none≢some e = let z : _≡_ {A = ℕ} 0 1 = cc in absurd (omega arith)

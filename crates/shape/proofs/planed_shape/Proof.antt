@@ -1,9 +1,9 @@
--- `plane::shape::planed_shape` meets its contract: four bytes a number are left just if the bytes are planed.
+-- `shape::planed_shape` meets its contract: four bytes a number are left just if the bytes are planed.
 use native.Mathlib.Omega.{arith}
-use Rattle.plane.proofs.ShapeLaws.{planed-too-long, planed-of, no-planed, left-bytes}
+use Rattle.shape.proofs.ShapeLaws.{planed-too-long, planed-of, no-planed, left-bytes}
 use borrow.Author.Needs.{needs}
-use Rattle.plane.proofs.shape.planed_shape.Statement.{statement}
-use Rattle.plane.proofs.shape.planed_shape.Tie as tie
+use Rattle.shape.proofs.planed_shape.Statement.{statement}
+use Rattle.shape.proofs.planed_shape.Tie as tie
 
 returns : tie.Need-returns
 returns c = planed-too-long _ _ (c .if1 .taken)

@@ -1,4 +1,4 @@
--- `plane::walk::take_frame_value` meets its contract: one case a position.
+-- `shape::walk::take_frame_value` meets its contract: one case a position.
 use native.Mathlib.Omega.{arith}
 use lib.ListN.{length}
 use mathlib.Core.Path.{refl}
@@ -7,8 +7,8 @@ use Rattle.sheet.specs.Sheet.{word}
 use Rattle.sheet.specs.Sheet.{valuesOf, splitValueOf}
 use Rattle.decode.proofs.ReadLaws as laws
 use borrow.Author.Needs.{needs}
-use Rattle.plane.proofs.walk.take_frame_value.Statement.{statement}
-use Rattle.plane.proofs.walk.take_frame_value.Tie as tie
+use Rattle.shape.proofs.walk.take_frame_value.Statement.{statement}
+use Rattle.shape.proofs.walk.take_frame_value.Tie as tie
 
 returns : tie.Need-returns
 returns c =

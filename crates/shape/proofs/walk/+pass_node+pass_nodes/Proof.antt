@@ -1,25 +1,25 @@
--- `plane::walk::pass_node` and `plane::walk::pass_nodes` meet their contracts: a node is its record and then the nodes in it; bytes left
+-- `shape::walk::pass_node` and `shape::walk::pass_nodes` meet their contracts: a node is its record and then the nodes in it; bytes left
 -- fall from a node to the nodes in it.
 use Prim.Native.Nat.{ℕ, _+_, _*_, _-_, _^_, _≤_, _<_}
 use native.Mathlib.Omega.{arith}
 use lib.ListN.{length}
 use borrow.Author.Needs.{needs}
 use Rattle.sheet.specs.Sheet.{innerOf}
-use Rattle.plane.proofs.FrameLaws.{wrap-lt}
-use Rattle.plane.proofs.NodeLaws as laws
+use Rattle.shape.proofs.FrameLaws.{wrap-lt}
+use Rattle.shape.proofs.NodeLaws as laws
 use borrow.Fn.Kinds.{In}
 use borrow.Fn.PlainCycle.{Measures, is, falls, and}
-use Rattle.plane.proofs.walk.pass_node.Reads as pass-node
-use Rattle.plane.proofs.walk.pass_node.Kinds as pass-node-kinds
-use Rattle.plane.proofs.walk.+pass_node+pass_nodes.Lts-pass_node as pass-node-lts
-use Rattle.plane.proofs.walk.pass_nodes.Reads as pass-nodes
-use Rattle.plane.proofs.walk.pass_nodes.Kinds as pass-nodes-kinds
-use Rattle.plane.proofs.walk.+pass_node+pass_nodes.Lts-pass_nodes as pass-nodes-lts
+use Rattle.shape.proofs.walk.pass_node.Reads as pass-node
+use Rattle.shape.proofs.walk.pass_node.Kinds as pass-node-kinds
+use Rattle.shape.proofs.walk.+pass_node+pass_nodes.Lts-pass_node as pass-node-lts
+use Rattle.shape.proofs.walk.pass_nodes.Reads as pass-nodes
+use Rattle.shape.proofs.walk.pass_nodes.Kinds as pass-nodes-kinds
+use Rattle.shape.proofs.walk.+pass_node+pass_nodes.Lts-pass_nodes as pass-nodes-lts
 use Rattle.decode.proofs.fields.lost.Reads as lost-reads
-use Rattle.plane.proofs.walk.take_node.Reads as take-node-reads
+use Rattle.shape.proofs.walk.take_node.Reads as take-node-reads
 use Rattle.std.proofs.num.wrapping_add_usize.Reads as wrapping-add-usize-reads
-use Rattle.plane.proofs.walk.+pass_node+pass_nodes.{statement}
-use Rattle.plane.proofs.walk.+pass_node+pass_nodes.Tie.{close}
+use Rattle.shape.proofs.walk.+pass_node+pass_nodes.{statement}
+use Rattle.shape.proofs.walk.+pass_node+pass_nodes.Tie.{close}
 
 abbrev μ-pass-node : Measures 1 pass-node-kinds.ps ℕ
 μ-pass-node κs a = 2 * (length (a .0 .now) - a .1 .0)

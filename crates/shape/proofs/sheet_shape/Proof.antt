@@ -1,9 +1,9 @@
--- `plane::shape::sheet_shape` meets its contract: the walk ends where the bytes do just if they are a sheet.
+-- `shape::sheet_shape` meets its contract: the walk ends where the bytes do just if they are a sheet.
 use native.Mathlib.Omega.{arith}
-use Rattle.plane.proofs.ShapeLaws.{sheet-too-long, sheet-of, no-sheet}
+use Rattle.shape.proofs.ShapeLaws.{sheet-too-long, sheet-of, no-sheet}
 use borrow.Author.Needs.{needs}
-use Rattle.plane.proofs.shape.sheet_shape.Statement.{statement}
-use Rattle.plane.proofs.shape.sheet_shape.Tie as tie
+use Rattle.shape.proofs.sheet_shape.Statement.{statement}
+use Rattle.shape.proofs.sheet_shape.Tie as tie
 
 returns : tie.Need-returns
 returns c = sheet-too-long _ _ (c .if1 .taken)

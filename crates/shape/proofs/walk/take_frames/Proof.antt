@@ -1,12 +1,12 @@
--- `plane::walk::take_frames` meets its contract: the loop keeps what is read and counted from the start.
+-- `shape::walk::take_frames` meets its contract: the loop keeps what is read and counted from the start.
 use Prim.Native.Nat.{_+_, _-_, _^_, _≤_, _<_}
 use mathlib.Core.Path.{_∙_, ap}
 use native.Mathlib.Omega.{arith}
 use borrow.Author.Needs.{needs}
-use Rattle.plane.specs.Means.{wrapped}
-use Rattle.plane.proofs.FrameLaws.{Frames, frames-start, frames-next, frames-done, wrap-lt}
-use Rattle.plane.proofs.walk.take_frames.Statement.{statement}
-use Rattle.plane.proofs.walk.take_frames.Tie as tie
+use Rattle.shape.specs.Means.{wrapped}
+use Rattle.shape.proofs.FrameLaws.{Frames, frames-start, frames-next, frames-done, wrap-lt}
+use Rattle.shape.proofs.walk.take_frames.Statement.{statement}
+use Rattle.shape.proofs.walk.take_frames.Tie as tie
 
 abbrev Inv-loop : tie.InvT-loop
 Inv-loop s at n w count k₀ a₀ numbers₀ k a numbers = (k ≤ count) × (numbers < 2 ^ 64) × Frames w n s at count a k numbers

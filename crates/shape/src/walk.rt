@@ -7,7 +7,7 @@ ghost use mathlib.Core.Bool.{cond};
 ghost use Rattle.codec.specs.Codec.{each};
 ghost use Rattle.decode.specs.Reads.{Reads};
 ghost use Rattle.sheet.specs.Sheet.{valueFormOf, entryFormOf, nodeFormOf, forestOf, innerOf, sheetOf};
-ghost use Rattle.plane.specs.Means.{isScalar, scalarFrame, frameTally, nodeTally, tally, recordFormOf, nodeView};
+ghost use Rattle.shape.specs.Means.{isScalar, scalarFrame, frameTally, nodeTally, tally, recordFormOf, nodeView};
 use decode::fields::lost;
 use decode::fields::skip_words;
 use decode::fields::take_byte;

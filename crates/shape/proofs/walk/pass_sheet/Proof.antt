@@ -1,10 +1,10 @@
--- `plane::walk::pass_sheet` meets its contract: the head's count, and so many nodes.
+-- `shape::walk::pass_sheet` meets its contract: the head's count, and so many nodes.
 use Rattle.ast.specs.Tree.{width}
 use Rattle.sheet.specs.Sheet.{forestOf, innerOf}
 use Rattle.decode.proofs.ReadLaws as laws
 use borrow.Author.Needs.{needs}
-use Rattle.plane.proofs.walk.pass_sheet.Statement.{statement}
-use Rattle.plane.proofs.walk.pass_sheet.Tie as tie
+use Rattle.shape.proofs.walk.pass_sheet.Statement.{statement}
+use Rattle.shape.proofs.walk.pass_sheet.Tie as tie
 
 returns : tie.Need-returns
 returns c =

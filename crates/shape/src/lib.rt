@@ -1,8 +1,10 @@
 // Whether bytes are a sheet, or a planed one, and how long its first part is.
 ghost use Rattle.sheet.specs.Sheet.{decode};
 ghost use Rattle.planed.specs.Planes.{unplaned};
-ghost use Rattle.plane.specs.Means.{ShapeMeans};
+ghost use Rattle.shape.specs.Means.{ShapeMeans};
 use crate::walk::pass_sheet;
+
+pub mod walk;
 
 // No sheet; or how many bytes stay of it, and how many numbers are taken.
 pub enum Shape {

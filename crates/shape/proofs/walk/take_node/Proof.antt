@@ -1,14 +1,14 @@
--- `plane::walk::take_node` meets its contract: a track's record, or that of any other kind.
+-- `shape::walk::take_node` meets its contract: a track's record, or that of any other kind.
 use lib.ListN.{length}
 use Rattle.codec.specs.Codec.{each}
 use Rattle.sheet.specs.Sheet.{toKeyframes, ofKeyframes}
 use Rattle.sheet.specs.Sheet.{entryFormOf}
 use Rattle.decode.proofs.ReadLaws.{_&_}
 use Rattle.decode.proofs.ReadLaws as laws
-use Rattle.plane.proofs.NodeLaws.{track-record, plain-record}
+use Rattle.shape.proofs.NodeLaws.{track-record, plain-record}
 use borrow.Author.Needs.{needs}
-use Rattle.plane.proofs.walk.take_node.Statement.{statement}
-use Rattle.plane.proofs.walk.take_node.Tie as tie
+use Rattle.shape.proofs.walk.take_node.Statement.{statement}
+use Rattle.shape.proofs.walk.take_node.Tie as tie
 
 returns : tie.Need-returns
 returns c =

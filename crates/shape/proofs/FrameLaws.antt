@@ -12,7 +12,7 @@ use Rattle.decode.specs.Reads.{Reads, Number, passed}
 use Rattle.decode.proofs.ReadLaws as laws
 use Rattle.sheet.specs.Sheet.{timesOf, splitTimeOf, timeFormOf, entryFormOf}
 use Rattle.planed.specs.Planes.{entryNumbers, valueNumbers, frameNumbers}
-use Rattle.plane.specs.Means.{isScalar, scalarFrame, wrapped, frameTally}
+use Rattle.shape.specs.Means.{isScalar, scalarFrame, wrapped, frameTally}
 
 zero-or-one : (b : ℕ) → b < 2 → (b ≡ 0) ⊎ (b ≡ 1)
 zero-or-one zero h = inl refl

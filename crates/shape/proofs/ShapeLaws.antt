@@ -19,7 +19,7 @@ use Rattle.planed.proofs.FillLaws.{count-filled}
 use Rattle.planed.proofs.TakenLaws.{stays, sheet-long, sheet-room}
 use Rattle.planed.proofs.PlaneLaws.{planes-some, planes-long}
 use Rattle.planed.proofs.PlanedLaws.{planed-front, unplaned-is}
-use Rattle.plane.specs.Means.{wrapped, tally}
+use Rattle.shape.specs.Means.{wrapped, tally}
 
 none≢some : {A B : Type 0} {a : A} → Prim.Path (Option A) none (some a) → B
 none≢some e = let z : _≡_ {A = ℕ} 0 1 = cc in absurd (omega arith)

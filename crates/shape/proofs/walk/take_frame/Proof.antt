@@ -1,11 +1,11 @@
--- `plane::walk::take_frame` meets its contract: one field after the other.
+-- `shape::walk::take_frame` meets its contract: one field after the other.
 use Rattle.sheet.specs.Sheet.{ofEntry, toEntry}
 use Rattle.decode.proofs.ReadLaws.{_&_}
 use Rattle.decode.proofs.ReadLaws as laws
-use Rattle.plane.proofs.FrameLaws.{time-read}
+use Rattle.shape.proofs.FrameLaws.{time-read}
 use borrow.Author.Needs.{needs}
-use Rattle.plane.proofs.walk.take_frame.Statement.{statement}
-use Rattle.plane.proofs.walk.take_frame.Tie as tie
+use Rattle.shape.proofs.walk.take_frame.Statement.{statement}
+use Rattle.shape.proofs.walk.take_frame.Tie as tie
 
 returns : tie.Need-returns
 returns c =
