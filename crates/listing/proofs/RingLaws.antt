@@ -9,7 +9,7 @@ use lib.Dec.{ltb}
 use lib.ListN.{length, drop}
 use Rattle.error.specs.declared.Refusal.the-variants.{RingOfCalls, OutputTooShort}
 use Rattle.book.specs.Book.{Item, held, book}
-use Rattle.order.specs.Order.{order, Ring}
+use Rattle.order.specs.Order.{order, Ring, Listing}
 use Rattle.order.proofs.OrderLaws as order
 use Rattle.calls.specs.Calls.{calls}
 use Rattle.listing.specs.Listing.{put, ordered, listing}
@@ -55,7 +55,7 @@ module _ (t out : List ℕ) (xs : List Item) (e : book t ≡ held xs) where
   -- what is listed: every item once, each behind all it calls, each time the first that is free
   pub record Listed (k : ℕ) (a : List ℕ) : Type 0 where
     pub list : List ℕ
-    pub is : order.Listing (calls t xs) (length xs) list
+    pub is : Listing (calls t xs) (length xs) list
     pub count : k ≡ length list
     pub output : a ≡ list ++ drop (length list) out
 

@@ -13,7 +13,7 @@ use lib.Dec.{eqb}
 use lib.ListN.{length, getD, take, length-append, List·getD-append}
 use lib.Seq.{take-append-le, take-append-seam, getD-append-seam}
 use Rattle.text.specs.Bytes.{oneOf}
-use Rattle.order.specs.Order.{Calls, every, first, free, andThen, listed, order, Chain, one, more, Ring}
+use Rattle.order.specs.Order.{Calls, every, first, free, andThen, listed, order, Listing, Chain, one, more, Ring}
 use Rattle.text.proofs.CaseLaws.{Case, yes!, no!, case}
 use Rattle.order.proofs.CountLaws.{both, clash, every-at, failing, is-first, none-first}
 use Rattle.order.proofs.CountLaws.{tally, tally-none, tally-most, tally-less, tally-full, tally-more}
@@ -144,16 +144,7 @@ module _ (calls : Calls) (n : ℕ) where
 
   -- ---- the listing
 
-  -- 02: "list the items' ordinals, from 0, .. so that each stands after all it calls, the first by place among those free"
-  pub record Listing (l : List ℕ) : Type 0 where
-    pub long : length l ≡ n
-    pub items : (m : ℕ) → m < n → getD l m 0 < n
-    pub all : (i : ℕ) → i < n → oneOf l i ≡ true
-    pub once : (m : ℕ) → m < n → oneOf (take m l) (getD l m 0) ≡ false
-    pub after : (m j : ℕ) → m < n → j < n → calls (getD l m 0) j ≡ true → oneOf (take m l) j ≡ true
-    pub least : (m i : ℕ) → m < n → i < getD l m 0 → free calls n (take m l) i ≡ false
-
-  pub listing : (l : List ℕ) → order calls n ≡ some l → Listing l
+  pub listing : (l : List ℕ) → order calls n ≡ some l → Listing calls n l
   listing l e =
       let s = listed-sound n [] l sound-none e in
       let h : length l ≡ n = omega (arith, s .1) in
@@ -172,13 +163,13 @@ module _ (calls : Calls) (n : ℕ) where
   chain-ends (one a b c) = (a, b)
   chain-ends (more a c x) = (a, chain-ends x .1)
 
-  call-down : {l : List ℕ} → Listing l → {i j : ℕ} → i < n → j < n → calls i j ≡ true → placeIn l j < placeIn l i
+  call-down : {l : List ℕ} → Listing calls n l → {i j : ℕ} → i < n → j < n → calls i j ≡ true → placeIn l j < placeIn l i
   call-down {l} s {i} {j} a b c =
       let p = place-is l i (s .all i a) in
       place-low l (placeIn l i) j
       (s .after (placeIn l i) j (omega (arith, p .0, s .long)) b (subst (λ (k : ℕ). calls k j ≡ true) (sym (p .1)) c))
 
-  chain-down : {l : List ℕ} → Listing l → {i j : ℕ} → Chain calls n i j → placeIn l j < placeIn l i
+  chain-down : {l : List ℕ} → Listing calls n l → {i j : ℕ} → Chain calls n i j → placeIn l j < placeIn l i
   chain-down s (one a b c) = call-down s a b c
   chain-down s (more a c x) = let g = call-down s a (chain-ends x .0) c in omega (arith, chain-down s x)
 

@@ -5,6 +5,7 @@ use mathlib.Core.Bool.{Bool, true, false, _&&_, _||_, not}
 use mathlib.Core.List.{List, [], _∷_, _++_}
 use mathlib.Core.Option.{Option, none, some}
 use mathlib.Core.Path.{_≡_}
+use lib.ListN.{length, take, getD}
 use Rattle.text.specs.Bytes.{oneOf}
 use Rattle.text.specs.Words.{orElse}
 
@@ -45,6 +46,15 @@ listed calls n (suc k) l = andThen (first (free calls n l) n) (λ i. listed call
 -- "list the items' ordinals, from 0, .. so that each stands after all it calls, the first by place among those free"
 abbrev pub order : Calls → ℕ → Option (List ℕ)
 order calls n = listed calls n n []
+
+-- what a listing l of n items is: every item once, each behind all it calls, each time the first that is free
+pub record Listing (calls : Calls) (n : ℕ) (l : List ℕ) : Type 0 where
+  pub long : length l ≡ n
+  pub items : (m : ℕ) → m < n → getD l m 0 < n
+  pub all : (i : ℕ) → i < n → oneOf l i ≡ true
+  pub once : (m : ℕ) → m < n → oneOf (take m l) (getD l m 0) ≡ false
+  pub after : (m j : ℕ) → m < n → j < n → calls (getD l m 0) j ≡ true → oneOf (take m l) j ≡ true
+  pub least : (m i : ℕ) → m < n → i < getD l m 0 → free calls n (take m l) i ≡ false
 
 -- ---- rings: "any chain of calls comes round to its start"
 

@@ -19,9 +19,9 @@ use Rattle.error.specs.declared.Refusal.{Refusal}
 use Rattle.error.specs.declared.Refusal.the-variants.{TextTooLong, NotASheet, NotPlaned, OutputTooShort}
 use Rattle.error.specs.declared.LineAnswer.{LineAnswer}
 use Rattle.error.specs.declared.LineAnswer.the-variants.{Accepted, Refused}
-use Rattle.plane.specs.Planing.{placed, treeOr, openedAs, answered, planing, unplaning}
+use Rattle.planed.specs.Planing.{placed, treeOr, openedAs, answered, planing, unplaning, Plain}
 use Rattle.plane.specs.Carry.{Carries, AllMove}
-use Rattle.plane.proofs.PlaningLaws.{Plain, refuses}
+use Rattle.planed.proofs.PlaningLaws.{refuses}
 
 abbrev Result : Type 0
 Result = LineAnswer × List ℕ

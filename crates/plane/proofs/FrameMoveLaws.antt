@@ -11,7 +11,8 @@ use Rattle.ast.specs.Tree.{ValueExpr, scalar, array, KeyframeTime, percent, sec
 use Rattle.sheet.specs.Sheet.{easingForm}
 use Rattle.sheet.specs.Sheet.{timeFormOf, valueFormOf, entryFormOf}
 use Rattle.planed.specs.Planes.{timeNumber, valueNumbers, entryNumbers}
-use Rattle.plane.specs.Means.{isScalar, scalarFrame, Advances}
+use Rattle.plane.specs.Means.{Advances}
+use Rattle.shape.specs.Means.{isScalar, scalarFrame}
 use Rattle.plane.specs.Carry.{Gap, Side, Done, valueTail, tailOf, InPlanes, FrameMoved}
 use Rattle.plane.proofs.GapLaws.{passes, jumps}
 use Rattle.plane.proofs.CarryLaws.{carried}

@@ -13,7 +13,7 @@ use Rattle.sheet.specs.Sheet.{entryFormOf}
 use Rattle.planed.specs.Planes.{fillValue, fillEntry}
 use Rattle.sheet.proofs.Laws.{entryLOf}
 use Rattle.planed.proofs.TakenLaws.{entry-stays, entry-fits}
-use Rattle.plane.specs.Means.{isScalar, scalarFrame}
+use Rattle.shape.specs.Means.{isScalar, scalarFrame}
 use Rattle.plane.specs.Carry.{Gap}
 
 -- what is read where something stands that is read back (as in records' PlaceLaws)

@@ -1,7 +1,3 @@
-pub mod FrameLaws
-pub mod NodeLaws
-pub mod ShapeLaws
-pub mod PlaningLaws
 pub mod MoveLaws
 pub mod GapLaws
 pub mod CarryLaws

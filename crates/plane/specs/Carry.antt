@@ -13,8 +13,9 @@ use Rattle.sheet.specs.Records.{recordAs, kindOf}
 use Rattle.records.specs.Record.{recordForm}
 use Rattle.planed.specs.Planes.{entryNumbers, frameNumbers, leafNumbers}
 use Rattle.error.specs.declared.LineAnswer.{LineAnswer}
-use Rattle.plane.specs.Means.{scalarFrame, Right, FourBytes}
-use Rattle.plane.specs.Planing.{placed}
+use Rattle.plane.specs.Means.{Right, FourBytes}
+use Rattle.shape.specs.Means.{scalarFrame}
+use Rattle.planed.specs.Planing.{placed}
 
 -- behind b bytes that stay and i numbers: the bytes g in both, then A in the sheet s and B in the planed p; and the numbers C are left
 pub record Gap (s p xs : List ℕ) (b i : ℕ) (g A B C : List ℕ) : Type 0 where

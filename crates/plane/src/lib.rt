@@ -1,20 +1,18 @@
 // 02 (k): planes before storage, and their inverse.
 ghost use mathlib.Core.Path.{_≡_};
 ghost use Rattle.error.specs.Answer.{lineValues};
-ghost use Rattle.plane.specs.Planing.{planing, unplaning};
+ghost use Rattle.planed.specs.Planing.{planing, unplaning};
 ghost use Rattle.plane.specs.Carry.{Carries, Carried};
 use crate::moves::move_all;
-use crate::shape::Shape;
-use crate::shape::planed_shape;
-use crate::shape::sheet_shape;
 use error::LineAnswer;
 use error::Refusal;
 use opening::Opening;
 use opening::open_text;
+use shape::Shape;
+use shape::planed_shape;
+use shape::sheet_shape;
 
 pub mod moves;
-pub mod shape;
-pub mod walk;
 
 // Carries a sheet to its planed form (w is 4), or back (w is 0), if there is room. In src the first part ends at a place.
 fn carry(

@@ -4,3 +4,4 @@ pub mod PlaneLaws
 pub mod PlanedLaws
 pub mod PlainLaws
 pub mod Example
+pub mod PlaningLaws

@@ -11,7 +11,7 @@ ghost use Rattle.feeding.specs.Feed.{fed, feeding};
 ghost use Rattle.back.specs.Back.{writing};
 ghost use Rattle.lookup.specs.Lookup.{lookingUp};
 ghost use Rattle.listing.specs.Listing.{listing};
-ghost use Rattle.plane.specs.Planing.{planing, unplaning};
+ghost use Rattle.planed.specs.Planing.{planing, unplaning};
 ghost use Rattle.wave.specs.Wave.{drawing};
 ghost use Rattle.packed.specs.Packed.{packedCheck, packedLookup, readOutcome, lineOutcome, printOutcome, feedOutcome, meanOutcome, colorOutcome, convertOutcome, orderOutcome, waveOutcome};
 use packed::pack_check;

@@ -15,7 +15,7 @@ use Rattle.script.specs.Output.{pageBytes, printing}
 use Rattle.back.specs.Back.{writing}
 use Rattle.lookup.specs.Lookup.{lookingUp}
 use Rattle.listing.specs.Listing.{listing}
-use Rattle.plane.specs.Planing.{planing, unplaning}
+use Rattle.planed.specs.Planing.{planing, unplaning}
 use Rattle.wave.specs.Wave.{drawing}
 use Rattle.error.specs.Refusal.{numberOf}
 use Rattle.error.specs.declared.ReadAnswer.{ReadAnswer}

@@ -22,8 +22,8 @@ use Rattle.sheet.specs.Opening.{Opened, opened, shut, foreignFrom, unlessForeig
 use Rattle.sheet.proofs.Laws.{decoded}
 use Rattle.planed.specs.Planes.{planed, unplaned}
 use Rattle.planed.proofs.PlanedLaws.{length-planed, unplaned-is}
-use Rattle.plane.specs.Planing.{treeOr, openedAs, planing, unplaning}
-use Rattle.plane.specs.Planing.{answered as writtenAs}
+use Rattle.planed.specs.Planing.{treeOr, openedAs, planing, unplaning}
+use Rattle.planed.specs.Planing.{answered as writtenAs}
 use Rattle.wave.specs.Wave.{filled, shifted, drawing}
 use Rattle.grammar.specs.Rule.{Notes, Out, got, refused}
 use Rattle.grammar.specs.Grammar.{stored, animatoInput}

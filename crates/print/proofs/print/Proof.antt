@@ -4,7 +4,7 @@ use mathlib.Core.List.{List}
 use Rattle.error.specs.declared.LineAnswer.{LineAnswer}
 use Rattle.error.specs.Answer.{lineValues}
 use Rattle.error.proofs.AnswerLaws.{and-values}
-use Rattle.print.proofs.PrintLaws.{page-short, page-unread, page-refused, page-lined}
+use Rattle.page.proofs.PageLaws.{page-short, page-unread, page-refused, page-lined}
 use native.Mathlib.Omega.{arith}
 use borrow.Author.Needs.{needs}
 use Rattle.print.proofs.print.Statement.{statement}

@@ -1,0 +1,3 @@
+pub mod FrameLaws
+pub mod NodeLaws
+pub mod ShapeLaws
