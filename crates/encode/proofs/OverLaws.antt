@@ -1,7 +1,7 @@
 -- Laws of bytes that are written over a list.
 use Prim.Native.Nat.{ℕ, suc, _+_, _≤_}
 use mathlib.Core.List.{List, [], _∷_, _++_}
-use mathlib.Core.Path.{_≡_, refl, sym, ap, _∙_}
+use mathlib.Core.Path.{_≡_, refl, sym, ap, _∙_, subst}
 use native.Mathlib.Omega.{arith}
 use lib.ListN.{length, set, length-append}
 use lib.Seq.{sets, set-set, set-comm, length-sets}
@@ -62,6 +62,9 @@ sets-fill l i xs ys zs =
 
 pub writes-none : (out : List ℕ) (at : ℕ) → Writes out at [] out at
 writes-none out at = record { bytes = refl; place = omega arith }
+
+pub writes-as : {out after : List ℕ} {at end : ℕ} {bs cs : List ℕ} → bs ≡ cs → Writes out at bs after end → Writes out at cs after end
+writes-as {out} {after} {at} {end} e w = subst (λ (z : List ℕ). Writes out at z after end) e w
 
 -- bytes, and others behind them
 pub writes-then : {out mid after : List ℕ} {at m end : ℕ} {bs cs : List ℕ}

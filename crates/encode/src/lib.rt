@@ -4,7 +4,7 @@
 ghost use mathlib.Core.Path.{_≡_};
 ghost use mathlib.Core.Bool.{cond};
 ghost use mathlib.Core.List.{[], _∷_, _++_};
-ghost use Prim.Native.Nat.{ℕ, _+_, _-_, _^_, _<_};
+ghost use Prim.Native.Nat.{ℕ, _+_, _-_, _^_, _≤_, _<_};
 ghost use lib.ListN.{length, take, replicate};
 ghost use Rattle.number.specs.Number.{bits};
 ghost use Rattle.codec.specs.Codec.{big, below, opt, _▹_};
@@ -39,8 +39,8 @@ pub fn put_byte(sheet: &mut [u8], at: usize, b: u8) -> usize
     at + 1
 }
 
-// Writes a whole number in `width` bytes, the highest first.
-pub fn put_field(sheet: &mut [u8], at: usize, width: usize, v: usize) -> usize
+// Writes a whole number in `width` bytes, the highest first, as far as there is room.
+fn put_clipped(sheet: &mut [u8], at: usize, width: usize, v: usize) -> usize
     requires { ⌜ at + width < 2 ^ 34 ⌝ }
     ensures { λ r. ⌜ Writes (now (sheet .entry)) at (big width .write v) (now (sheet .exit)) r ⌝ }
 {
@@ -52,6 +52,32 @@ pub fn put_field(sheet: &mut [u8], at: usize, width: usize, v: usize) -> usize
         w = w / 256;
     }
     at + width
+}
+
+// The same, where there is room.
+fn put_whole(sheet: &mut [u8], at: usize, width: usize, v: usize) -> usize
+    requires { ⌜ (at + width < 2 ^ 34) × (at + width ≤ length (now sheet)) ⌝ }
+    ensures { λ r. ⌜ Writes (now (sheet .entry)) at (big width .write v) (now (sheet .exit)) r ⌝ }
+{
+    let mut k = width;
+    let mut w = v;
+    while 0 < k {
+        k -= 1;
+        sheet[at + k] = (w % 256) as u8;
+        w = w / 256;
+    }
+    at + width
+}
+
+// Writes a whole number in `width` bytes, the highest first: one test of the room.
+pub fn put_field(sheet: &mut [u8], at: usize, width: usize, v: usize) -> usize
+    requires { ⌜ at + width < 2 ^ 34 ⌝ }
+    ensures { λ r. ⌜ Writes (now (sheet .entry)) at (big width .write v) (now (sheet .exit)) r ⌝ }
+{
+    if at + width <= sheet.len() {
+        return put_whole(sheet, at, width, v);
+    }
+    put_clipped(sheet, at, width, v)
 }
 
 // Writes a count over the two bytes that were left for it.
@@ -67,8 +93,7 @@ pub fn put_front(sheet: &mut [u8], at: usize, kind: u8, start: usize) -> usize
     requires { ⌜ at < 2 ^ 33 ⌝ }
     ensures { λ r. ⌜ Writes (now (sheet .entry)) at (kind ∷ big 2 .write start) (now (sheet .exit)) r ⌝ }
 {
-    let next = put_byte(sheet, at, kind);
-    put_field(sheet, next, 2, start)
+    put_field(sheet, at, 3, kind as usize * 65536 + start % 65536)
 }
 
 // A truth value as a byte.
@@ -107,8 +132,7 @@ pub fn put_span(sheet: &mut [u8], at: usize, s: Span) -> usize
     requires { ⌜ at < 2 ^ 33 ⌝ }
     ensures { λ r. ⌜ ((n : ℕ) → Writes (now (sheet .entry)) at (spanForm n .write (of.spanOf s)) (now (sheet .exit)) r) ⌝ }
 {
-    let size_at = put_field(sheet, at, 2, s.start);
-    put_field(sheet, size_at, 2, s.size)
+    put_field(sheet, at, 4, s.start % 65536 * 65536 + s.size % 65536)
 }
 
 // ---- the position of a case, and its fields
@@ -118,8 +142,7 @@ fn put_case_word(sheet: &mut [u8], at: usize, case: u8, v: u32) -> usize
     requires { ⌜ at < 2 ^ 32 ⌝ }
     ensures { λ r. ⌜ Writes (now (sheet .entry)) at (case ∷ word .write v) (now (sheet .exit)) r ⌝ }
 {
-    let next = put_byte(sheet, at, case);
-    put_word(sheet, next, v)
+    put_field(sheet, at, 5, case as usize * 4294967296 + v as usize)
 }
 
 // Writes the position of a case that holds an f32, and that.
@@ -127,8 +150,7 @@ fn put_case_float(sheet: &mut [u8], at: usize, case: u8, x: f32) -> usize
     requires { ⌜ (at < 2 ^ 32) × Plain x ⌝ }
     ensures { λ r. ⌜ Writes (now (sheet .entry)) at (case ∷ word .write (bits x)) (now (sheet .exit)) r ⌝ }
 {
-    let next = put_byte(sheet, at, case);
-    put_float(sheet, next, x)
+    put_case_word(sheet, at, case, number::bits_of(x))
 }
 
 // Writes the position of a case that holds two f32, and those.

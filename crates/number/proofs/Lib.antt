@@ -7,8 +7,9 @@ pub mod Error
 pub mod Gap
 pub mod Scaling
 pub mod Apart
-pub mod Hundredth
 pub mod TwoRoundings
+pub mod Division
+pub mod Hundredth
 pub mod Times
 pub mod Tracks
 pub mod Cases

@@ -16,7 +16,7 @@ use Rattle.number.specs.Rounded.{fraction, rounded}
 use Rattle.number.proofs.Exactly.{same-test, gap-same}
 use Rattle.number.proofs.Round.{under}
 
-twice : (b : Bool) → T (not (not b)) → T b
+pub twice : (b : Bool) → T (not (not b)) → T b
 twice true t = t
 twice false t = t
 
@@ -28,7 +28,7 @@ double false t = t
 no-sum : (x y : ℕ) → 0 < y → x + y ≡ 0 → ⊥
 no-sum x y h e = omega arith
 
-alike : (u s : Bool) (x y : ℕ) → 0 < y → T (eqb (gap u x s y) 0) → (u ≡ s) × (x ≡ y)
+pub alike : (u s : Bool) (x y : ℕ) → 0 < y → T (eqb (gap u x s y) 0) → (u ≡ s) × (x ≡ y)
 alike true true x y h t = (refl, eqb→eq x y (subst T (gap-same true x y) t))
 alike false false x y h t = (refl, eqb→eq x y (subst T (gap-same false x y) t))
 alike true false x y h t = absurd (no-sum x y h (eqb→eq (x + y) 0 t))
@@ -156,7 +156,7 @@ module _ (s : Bool) (n : ℕ) (N : 0 < n) where
       (alike t s (suc m * 1 * 100) (n * 2 ^ suc k) (mul-pos N (down-pos (negsuc k)))
       (twice (eqb (gap t (suc m * 1 * 100) s (n * 2 ^ suc k)) 0) h) .1)
 
-of-value : (x : Float) (s : Bool) (num den : ℕ) → HasValue x s num den → T (not (rounded x (fraction s num den)))
+pub of-value : (x : Float) (s : Bool) (num den : ℕ) → HasValue x s num den → T (not (rounded x (fraction s num den)))
 unfolding rounded
 of-value nan s num den v = absurd v
 of-value (inf t) s num den v = absurd v

@@ -5,6 +5,7 @@ ghost use mathlib.Core.Bool.{Bool, false, not};
 ghost use lib.Dec.{T, eqb};
 ghost use lib.Ieee as Ieee;
 ghost use lib.Ieee.{binary32};
+ghost use lib.Ieee.Exact.{HasValue};
 ghost use lib.Ieee.Nearest.{closest};
 ghost use Rattle.number.specs.Number as Number;
 ghost use Rattle.number.specs.Number.{Written, bits, f32};
@@ -112,14 +113,85 @@ fn nearest_bits(n: u64, d: u64) -> Bits
     }
 }
 
+// 10^places as an f32, which it is exactly.
+fn ten(places: usize) -> f32
+    requires { ⌜ places ≤ 9 ⌝ }
+    ensures { λ r. ⌜ HasValue r false (10 ^ places) 1 ⌝ }
+{
+    match places {
+        0 => 1.0,
+        1 => 10.0,
+        2 => 100.0,
+        3 => 1000.0,
+        4 => 10000.0,
+        5 => 100000.0,
+        6 => 1000000.0,
+        7 => 10000000.0,
+        8 => 100000000.0,
+        _ => 1000000000.0,
+    }
+}
+
+// 5^places.
+fn five(places: usize) -> u32
+    requires { ⌜ places ≤ 9 ⌝ }
+    ensures { λ r. ⌜ r ≡ 5 ^ places ⌝ }
+{
+    match places {
+        0 => 1,
+        1 => 5,
+        2 => 25,
+        3 => 125,
+        4 => 625,
+        5 => 3125,
+        6 => 15625,
+        7 => 78125,
+        8 => 390625,
+        _ => 1953125,
+    }
+}
+
+// The bits of the f32 that is nearest to digits / 10^places. Both are f32 exactly, so that one rounded division gives it; it is the
+// number exactly if 5^places divides the digits.
+fn small_bits(digits: u32, places: usize) -> Bits
+    requires { ⌜ (digits < 2 ^ 24) × (places ≤ 9) ⌝ }
+    ensures bits { λ r. ⌜ r .bits ≡ bits (Ieee.round binary32 false digits (10 ^ places)) ⌝ }
+    ensures rounded { λ r. ⌜ ((s : Bool) → r .rounded ≡ rounded (Ieee.round binary32 s digits (10 ^ places)) (fraction s digits (10 ^ places))) ⌝ }
+{
+    let x = digits as f32;
+    if places == 0 {
+        let bits = f32::to_bits(x);
+        return Bits {
+            bits,
+            rounded: false,
+        };
+    }
+    let value = x / ten(places);
+    let bits = f32::to_bits(value);
+    let rounded = digits % five(places) != 0;
+    Bits { bits, rounded }
+}
+
+// The bits of the f32 that is nearest to digits / 10^places.
+fn unsigned_bits(digits: u64, places: usize) -> Bits
+    requires { ⌜ places ≤ 9 ⌝ }
+    ensures bits { λ r. ⌜ r .bits ≡ bits (Ieee.round binary32 false digits (10 ^ places)) ⌝ }
+    ensures rounded { λ r. ⌜ ((s : Bool) → r .rounded ≡ rounded (Ieee.round binary32 s digits (10 ^ places)) (fraction s digits (10 ^ places))) ⌝ }
+{
+    if digits < 16777216 {
+        return small_bits(digits as u32, places);
+    }
+    let d = ten_to(places);
+    nearest_bits(digits, d)
+}
+
 // The bits of what `decimal` gives. For our own crates: the reader hands over at most 9 places.
 pub fn decimal_bits(negative: bool, digits: u64, places: usize) -> Bits
     requires { ⌜ places ≤ 9 ⌝ }
     ensures bits { λ r. ⌜ r .bits ≡ bits (Ieee.round binary32 negative digits (10 ^ places)) ⌝ }
     ensures rounded { λ r. ⌜ r .rounded ≡ rounded (Ieee.round binary32 negative digits (10 ^ places)) (fraction negative digits (10 ^ places)) ⌝ }
 {
-    let d = ten_to(places);
-    let b = nearest_bits(digits, d);
+    let b = unsigned_bits(digits, places);
     if negative {
         let bits = b.bits + 2147483648;
         return Bits {
@@ -196,11 +268,14 @@ pub fn percent_from(x: Stored, once: Stored) -> Stored
     Stored { value, rounded }
 }
 
-// A whole percent.
+// A whole percent. Up to 2^24 n is an f32 exactly, and n / 100 is rounded once.
 pub fn percent(negative: bool, n: u64) -> Stored
     ensures value { λ r. ⌜ r .value ≡ Number.percent negative n ⌝ }
     ensures rounded { λ r. ⌜ r .rounded ≡ rounded (Number.percent negative n) (fraction negative n 100) ⌝ }
 {
+    if n <= 16777216 {
+        return decimal(negative, n, 2);
+    }
     let x = decimal(negative, n, 0);
     let once = decimal(negative, n, 2);
     percent_from(x, once)

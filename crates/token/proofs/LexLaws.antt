@@ -280,11 +280,6 @@ module _ {t : List ℕ} {w : ℕ} {x : Bool} {e k : ℕ} {z : Bool} {n : ℕ} (p
   pub digits-few : (q : ℕ) → q ≡ placesOf x w e → Digits t → q ≤ 40
   digits-few q g d = rw (places-is, sym g) at (d .places)
 
-  -- the digits before the point, h, and those behind it make one number
-  pub value-is : (h v q : ℕ) → h ≡ decimal 0 (part t 0 w) → v ≡ decimal h (part t (e - q) q) → q ≡ placesOf x w e
-      → v ≡ decimal (decimal 0 (take w t)) (part t (suc w) q)
-  value-is h v q a b g = b ∙ (rw (a, fraction-is t w e q x (p .end) g))
-
   -- with no exponent
   pub written-parts : (v q : ℕ) → k ≡ 0 → q ≡ placesOf x w e → v ≡ decimal (decimal 0 (take w t)) (part t (suc w) q)
       → record { digits = v; places = q; point = x; exponent = false; suffix = z } ≡ writtenAt t

@@ -1,5 +1,6 @@
 pub mod LexLaws
 pub mod WholeLaws
+pub mod ShortLaws
 pub mod TokenLaws
 pub mod SplitLaws
 pub mod NameLaws

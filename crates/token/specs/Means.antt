@@ -20,6 +20,7 @@ use Rattle.token.specs.Split.{Nest, unfit, awaits, closer, nest, Split, 
 use Rattle.token.specs.Names.{keywords}
 use Rattle.token.specs.declared.Number.{Number}
 use Rattle.token.specs.declared.Figures.{Figures}
+use Rattle.token.specs.declared.Run.{Run}
 use Rattle.token.specs.declared.Tok.{Tok}
 use Rattle.token.specs.declared.Tok.the-variants as tok
 use Rattle.token.specs.declared.Cut.{Cut}
@@ -87,6 +88,18 @@ pub record FiguresAre (t : List ℕ) (d : Figures) : Type 0 where
   pub digits : writtenAt t .digits ≡ decimal (decimal 0 (part t 0 (d .w))) (part t (d .from) (d .q)) * 10 ^ d .up
   pub places : writtenAt t .places ≡ d .q + d .down
   pub whole : writtenAt t .point ≡ false → writtenAt t .digits ≡ decimal 0 (part t 0 (d .w))
+
+-- r has digits from a place on, at most so many, read onto a number
+pub record RunIs (t : List ℕ) (seed from most : ℕ) (r : Run) : Type 0 where
+  pub low : from ≤ r .end
+  pub high : r .end ≤ from + most
+  pub digits : r .end - from ≤ run isDigit (drop from t)
+  pub value : r .value ≡ decimal seed (part t from (r .end - from))
+
+-- behind the digits h, those of the fraction if there is a point
+abbrev pub FractionIs : List ℕ → Run → Bool → Run → Type 0
+FractionIs t h true r = RunIs t (h .value) (h .end + 1) 9 r
+FractionIs t h false r = r ≡ h
 
 -- what else is known of a token of n bytes that t begins with; of the end, a mark 0, nothing
 abbrev pub Stands : List ℕ → ℕ → Tok → Type 0

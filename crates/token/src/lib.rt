@@ -17,7 +17,7 @@ ghost use Rattle.token.specs.Token.{nameAt, pointAt, pastFraction, suffi
 ghost use Rattle.token.specs.Split.{closer, closed, nestMark, nest, ended, split};
 ghost use Rattle.text.specs.Words.{isOneOf};
 ghost use Rattle.token.specs.Names.{isKeyword};
-ghost use Rattle.token.specs.Means.{kindOf, excessOf, Digits, NumberIs, FiguresAre, writtenIn, Known, CutMeans, lexedOf, Lexes, held, afterOpener, DepthMeans, answerOf, wideAnswer, answerFrom, TurnMeans, splitOutcome, splitting, pack, upTo4, upTo7, packedKeywords, longKeywords};
+ghost use Rattle.token.specs.Means.{kindOf, excessOf, Digits, NumberIs, FiguresAre, RunIs, FractionIs, writtenIn, Known, CutMeans, lexedOf, Lexes, held, afterOpener, DepthMeans, answerOf, wideAnswer, answerFrom, TurnMeans, splitOutcome, splitting, pack, upTo4, upTo7, packedKeywords, longKeywords};
 use error::Refusal;
 use number::Bits;
 use number::Stored;
@@ -350,8 +350,45 @@ fn stretched(t: &[u8], at: u16, point: bool, suffix: bool) -> Number
     }
 }
 
-// The number that a text begins with, which stands at `at`.
-pub fn number_of(t: &[u8], at: u16) -> Number
+// Digits read onto a number, and the place behind them.
+struct Run {
+    value: u64,
+    end: u16,
+}
+
+// The digits from a place on, at most so many, read onto a number below 10^(19 - most).
+fn digits_from(t: &[u8], seed: u64, from: u16, most: u16) -> Run
+    requires { ⌜ (from ≤ textLimit) × (most ≤ 19) × (seed < 10 ^ (19 - most)) ⌝ }
+    ensures { λ r. ⌜ RunIs (now (t .entry)) seed from most r ⌝ }
+{
+    let stop = from + most;
+    let mut value = seed;
+    let mut i = from;
+    while i < stop {
+        let b = text::byte_at(t, i as usize);
+        if !text::in_class(Class::Digit, b) {
+            return Run { value, end: i };
+        }
+        value = value * 10 + (b - b'0') as u64;
+        i += 1;
+    }
+    Run { value, end: i }
+}
+
+// The digits before a point, if there is one, and those behind it.
+fn fraction_from(t: &[u8], whole: Run, point: bool) -> Run
+    requires { ⌜ RunIs (now t) 0 0 10 whole ⌝ }
+    ensures { λ r. ⌜ FractionIs (now (t .entry)) whole point r ⌝ }
+{
+    if point {
+        let from = whole.end + 1;
+        return digits_from(t, whole.value, from, 9);
+    }
+    whole
+}
+
+// The number that a text begins with, of any digits and with an exponent or not.
+fn wide_number_of(t: &[u8], at: u16) -> Number
     requires { ⌜ Digits (now t) ⌝ }
     ensures { λ r. ⌜ (r .at ≡ at) × NumberIs (now (t .entry)) r ⌝ }
 {
@@ -361,15 +398,29 @@ pub fn number_of(t: &[u8], at: u16) -> Number
     let power = power_size(t, end);
     let stop = past_power(t, end, power);
     let suffix = has_suffix(t, stop);
-    let places = places_of(point, w, end);
     let exponent = 0 < power;
-    if (10 < w) | (9 < places) | exponent {
-        return stretched(t, at, point | exponent, suffix);
+    stretched(t, at, point | exponent, suffix)
+}
+
+// The number that a text begins with, which stands at `at`. Up to 10 digits before a point, and 9 behind it, are read here, unless an
+// `e` follows.
+pub fn number_of(t: &[u8], at: u16) -> Number
+    requires { ⌜ Digits (now t) ⌝ }
+    ensures { λ r. ⌜ (r .at ≡ at) × NumberIs (now (t .entry)) r ⌝ }
+{
+    let whole = digits_from(t, 0, 0, 10);
+    let w = whole.end;
+    let point = has_point(t, w);
+    let all = fraction_from(t, whole, point);
+    let end = all.end;
+    let b = text::byte_at(t, end as usize);
+    if (b == b'e') | (b == b'E') | text::in_class(Class::Digit, b) {
+        return wide_number_of(t, at);
     }
-    let whole = value(t, 0, 0, w);
-    let digits = value(t, whole, end - places, places);
+    let places = places_of(point, w, end);
+    let suffix = b == b's';
     Number {
-        digits,
+        digits: all.value,
         places: places as usize,
         at,
         point,
