@@ -6,7 +6,6 @@ ghost use Rattle.grammar.specs.Grammar.{parseSequence, parseParallel, parseGrou
 ghost use Rattle.cursor.specs.Means.{Ready, spelled};
 ghost use Rattle.arrays.specs.Means.{Room};
 ghost use Rattle.blocks.specs.Means.{HeadMeans, KeywordMeans, BegunMeans, behindWord, leafKindAt, BraceMeans, Counted, BlockMeans, Headed, HeldMeans, Reached, NodeMeans, Standing, StepMeans, NodesMeans};
-use ast::Span;
 use cursor::Cursor;
 use cursor::MarkRead;
 use cursor::WordRead;
@@ -16,11 +15,6 @@ use heads::StaggerRead;
 use nodes::NodeRead;
 
 // ---- the beginning of a node
-
-const LEAVES: [u8; 70] =
-    *b"\x05tween\x06spring\x09keyframes\x04path\x05morph\x04draw\x05color\x08waveform\x06preset\x05label\x02at";
-
-const CONTAINERS: [u8; 32] = *b"\x08sequence\x08parallel\x05group\x07stagger";
 
 // What a keyword begins: a leaf or a container, with its place in the table, or nothing known.
 pub enum Keyword {
@@ -37,16 +31,17 @@ pub enum Begun {
     Refused(Refusal, usize),
 }
 
-fn keyword_of(word: &[u8]) -> Keyword
-    ensures { λ r. ⌜ KeywordMeans (now (word .entry)) r ⌝ }
+// What a place in the list of nodes begins: the leaves stand first.
+fn keyword_of(i: u8) -> Keyword
+    ensures { λ r. ⌜ ((w : List ℕ) → placeIs i ≡ find (listOf nodes) 0 w → KeywordMeans w r) ⌝ }
 {
-    match text::find(&LEAVES, word) {
-        text::Found::At(i) => Keyword::Leaf(i),
-        text::Found::Nothing => match text::find(&CONTAINERS, word) {
-            text::Found::At(i) => Keyword::Container(i),
-            text::Found::Nothing => Keyword::Unknown,
-        },
+    if i == words::NONE {
+        return Keyword::Unknown;
     }
+    if i < 11 {
+        return Keyword::Leaf(i as usize);
+    }
+    Keyword::Container(i as usize - 11)
 }
 
 // The kind of the leaf at a place of its table.
@@ -60,21 +55,21 @@ fn leaf_kind(i: usize) -> u8
     (i + 4) as u8
 }
 
-// Behind the keyword: the front of the node's record is written, and a leaf's fields.
-fn begin_word(text: &[u8], sheet: &mut [u8], word: Span, c: Cursor, out: usize) -> Begun
+// Behind the keyword, of which the place in the list is i: the front of the node's record is written, and a leaf's fields.
+fn begin_word(text: &[u8], sheet: &mut [u8], start: usize, i: u8, c: Cursor, out: usize) -> Begun
     requires { ⌜ Ready (now text) c × Room (now text) (out + 3) ⌝ }
-    ensures { λ r. ⌜ BegunMeans 0 (now (text .entry)) (now (sheet .entry)) (now (sheet .exit)) c out (behindWord (word .start) (spelled (now (text .entry)) word)) r ⌝ }
+    ensures { λ r. ⌜ ((w : List ℕ) → placeIs i ≡ find (listOf nodes) 0 w → BegunMeans 0 (now (text .entry)) (now (sheet .entry)) (now (sheet .exit)) c out (behindWord start w) r) ⌝ }
 {
-    match keyword_of(text::part(text, word.start, word.size)) {
+    match keyword_of(i) {
         Keyword::Leaf(i) => {
-            let at = encode::put_front(sheet, out, leaf_kind(i), word.start);
+            let at = encode::put_front(sheet, out, leaf_kind(i), start);
             match leaves::parse_leaf(text, sheet, c, at, i) {
                 NodeRead::Refused(r, p) => Begun::Refused(r, p),
                 NodeRead::Is(q, m) => Begun::Leaf(q, m),
             }
         }
         Keyword::Container(i) => {
-            let at = encode::put_front(sheet, out, (i + 3) as u8, word.start);
+            let at = encode::put_front(sheet, out, (i + 3) as u8, start);
             Begun::Container(i, at, c)
         }
         Keyword::Unknown => Begun::Refused(Refusal::UnknownKeyword, cursor::place(c)),
@@ -86,10 +81,14 @@ fn begin_node(text: &[u8], sheet: &mut [u8], c: Cursor, out: usize) -> Begun
     requires { ⌜ Ready (now text) c × Room (now text) (out + 3) ⌝ }
     ensures { λ r. ⌜ BegunMeans 1 (now (text .entry)) (now (sheet .entry)) (now (sheet .exit)) c out parseNode r ⌝ }
 {
-    match cursor::word(text, c) {
-        WordRead::Missing(p) => Begun::Refused(Refusal::Missing, p),
-        WordRead::Is(word, m) => begin_word(text, sheet, word, m, out),
+    let i = cursor::listed(text, c, words::NODES);
+    if i == words::NONE {
+        return match cursor::word(text, c) {
+            WordRead::Missing(p) => Begun::Refused(Refusal::Missing, p),
+            WordRead::Is(_, m) => Begun::Refused(Refusal::UnknownKeyword, cursor::place(m)),
+        };
     }
+    begin_word(text, sheet, cursor::place(c), i, cursor::advance(text, c), out)
 }
 
 // ---- what stands before a container's block: its fields. The answer is the place of the count, which is left open.
