@@ -1,16 +1,19 @@
 // A cursor by value over the tokens of a text, and the steps of syn's ParseStream that take one token or a few.
 // The functions are for our own crates: each requires a cursor that stands in the text.
 ghost use mathlib.Core.Path.{_≡_};
+ghost use mathlib.Core.Bool.{true};
+ghost use mathlib.Core.Option.{none};
 ghost use mathlib.Core.List.{List};
 ghost use Prim.Native.Nat.{ℕ, _-_, _≤_, _<_};
 ghost use lib.ListN.{length};
 ghost use Rattle.text.specs.Limits.{textLimit};
-ghost use Rattle.text.specs.Words.{table};
+ghost use Rattle.words.specs.Lists.{listOf};
+ghost use Rattle.words.specs.Keys.{placeIs};
 ghost use Rattle.token.specs.Token.{tokensFrom, isMark};
 ghost use Rattle.token.specs.Means.{kindOf, lastPlace};
 ghost use Rattle.grammar.specs.Rule.{seesByte, seesBytes, seesName, isEnd, ends, theByte, bothBytes, eatByte, word, choiceIn, weigh, firstOf, leave};
 ghost use Rattle.grammar.specs.Values.{parseFloat, parseUint, truth};
-ghost use Rattle.cursor.specs.Means.{nothing, leftOf, leftIs, Ready, Begins, Took, Follows, Behind, tallied, passOf, NumberView, MarkMeans, WordMeans, StringMeans, NumberMeans, FloatMeans, UintMeans, TruthMeans, CaseMeans};
+ghost use Rattle.cursor.specs.Means.{nothing, leftOf, leftIs, Ready, Begins, Took, Follows, Behind, tallied, passOf, NumberView, MarkMeans, WordMeans, StringMeans, NumberMeans, FloatMeans, UintMeans, TruthMeans, CaseMeans, listedIn, noKeywords};
 use ast::Span;
 use error::Refusal;
 use token::Number;
@@ -357,7 +360,7 @@ fn unlisted(text: &[u8], c: Cursor, refusal: Refusal) -> CaseRead
 
 // A name of a list, as its position there. No word of the list is a keyword.
 pub fn choice(text: &[u8], c: Cursor, list: u8, refusal: Refusal) -> CaseRead
-    requires { ⌜ Ready (now text) c × T (noKeywords (listOf list)) ⌝ }
+    requires { ⌜ Ready (now text) c × (noKeywords (listOf list) ≡ true) ⌝ }
     ensures { λ r. ⌜ CaseMeans (now (text .entry)) c (choiceIn refusal (listOf list)) r ⌝ }
 {
     let i = listed(text, c, list);

@@ -3,7 +3,7 @@ use Prim.Native.Nat.{ℕ, zero, suc, _+_, _*_, _-_, _^_, _%_, _≤_, _<_}
 use mathlib.Core.Bool.{Bool, true, false, _&&_, _||_, not, cond}
 use mathlib.Core.List.{List, [], _∷_}
 use mathlib.Core.Logic.{inl, inr}
-use mathlib.Core.Option.{none, some}
+use mathlib.Core.Option.{Option, none, some}
 use mathlib.Core.Path.{_≡_, refl, sym, ap, _∙_, subst}
 use native.Mathlib.Omega.{arith}
 use lib.Dec.{eqb, ltb}
@@ -194,3 +194,13 @@ split-part s at n v rest l h e g =
     let q : drop 8 (part s at n) ≡ take (n - 8) (drop 8 (drop at s)) =
     ap (λ (x : ℕ). drop 8 (take x (drop at s))) k ∙ behind 8 (n - 8) (drop at s) in
     sym (onto-split 8 (part s at n) (omega (arith, part-length s at n h)) ∙ (rw (q, drop-drop, take-take 8 n (drop at s) l, sym e, sym g)))
+
+-- ---- a place, as the code has it
+
+pub place-some : (r : ℕ) {o : Option ℕ} → placeIs r ≡ o → (r ≡ 255 → ⊥) → o ≡ some r
+unfolding placeIs
+place-some r h n = sym h ∙ (rw (ne-eqb r 255 n))
+
+pub place-none : (r : ℕ) {o : Option ℕ} → placeIs r ≡ o → r ≡ 255 → o ≡ none
+unfolding placeIs
+place-none r h e = sym h ∙ (rw (eq-eqb r 255 e))
