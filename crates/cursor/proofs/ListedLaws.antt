@@ -17,7 +17,7 @@ use Rattle.cursor.specs.Means.{Ready, notes, tokens, run, Took, Follows,
 use Rattle.cursor.specs.declared.Cursor.{Cursor}
 use Rattle.cursor.proofs.CursorLaws.{took}
 
-never : {A : Type 0} → false ≡ true → A
+pub never : {A : Type 0} → false ≡ true → A
 never e = let z : _≡_ {A = ℕ} 0 1 = cc in absurd (omega arith)
 
 -- ---- the next token is the word i of a list
@@ -27,7 +27,7 @@ pub record Listed (ns : List (List ℕ)) (k : Kind) (i : ℕ) : Type 0 where
   pub is : k ≡ name word
   pub found : find ns 0 word ≡ some i
 
-none-some : {A : Type 0} {i : ℕ} → none ≡ some i → A
+pub none-some : {A B : Type 0} {x : B} → none ≡ some x → A
 none-some e = never (ap isSome e)
 
 pub listed-word : (ns : List (List ℕ)) (k : Kind) (i : ℕ) → placeIn ns (wordOf k) ≡ some i → Listed ns k i
@@ -58,7 +58,7 @@ module _ {s : List ℕ} {c m : Cursor} (r : Ready s c) (f : Follows s c m) {ns :
 
 -- ---- it is none
 
-unlisted-kind : (k : Kind) (ns : List (List ℕ)) → placeIn ns (wordOf k) ≡ none → isSome (nameOf k) ≡ true
+pub unlisted-kind : (k : Kind) (ns : List (List ℕ)) → placeIn ns (wordOf k) ≡ none → isSome (nameOf k) ≡ true
     → (w : List ℕ) × (nameOf k ≡ some w) × (find ns 0 w ≡ none)
 unlisted-kind (name w) ns e h = go (isKeyword w) refl h
   where
@@ -69,7 +69,14 @@ unlisted-kind (number w) ns e h = never h
 unlisted-kind (quoted n) ns e h = never h
 unlisted-kind (mark b) ns e h = never h
 
-no-name : (k : Kind) → isSome (nameOf k) ≡ false → nameOf k ≡ none
+-- a name is not the text's end
+pub name-no-end : (k : Kind) (w : List ℕ) → nameOf k ≡ some w → isMark k 0 ≡ false
+name-no-end (name v) w e = refl
+name-no-end (number v) w e = refl
+name-no-end (quoted n) w e = refl
+name-no-end (mark b) w e = none-some e
+
+pub no-name : (k : Kind) → isSome (nameOf k) ≡ false → nameOf k ≡ none
 no-name k h = go (nameOf k) h
   where
     go : (o : Option (List ℕ)) → isSome o ≡ false → o ≡ none

@@ -4,10 +4,15 @@ ghost use mathlib.Core.Path.{_≡_};
 ghost use mathlib.Core.List.{List};
 ghost use Prim.Native.Nat.{ℕ};
 ghost use Rattle.token.specs.Means.{kindOf};
+ghost use mathlib.Core.Bool.{true};
+ghost use mathlib.Core.Option.{none};
+ghost use Rattle.text.specs.Words.{find};
 ghost use Rattle.words.specs.Lists.{listOf};
-ghost use Rattle.grammar.specs.Fields.{itemOf, fieldName, Table};
-ghost use Rattle.cursor.specs.Means.{Ready};
-ghost use Rattle.fields.specs.Means.{itemIs, NameMeans, names, HeadMeans, StartMeans, FieldMeans, PairMeans};
+ghost use Rattle.words.specs.Keys.{placeIs};
+ghost use Rattle.token.specs.Token.{tokensFrom};
+ghost use Rattle.grammar.specs.Fields.{itemOf, fieldName, pairName, Table};
+ghost use Rattle.cursor.specs.Means.{Ready, listedIn, noKeywords};
+ghost use Rattle.fields.specs.Means.{itemIs, names, HeadMeans, StartMeans, FieldMeans, PairMeans};
 use cursor::Cursor;
 use cursor::MarkRead;
 use error::Refusal;
@@ -53,6 +58,7 @@ fn item_of(k: Tok) -> Item
 // Behind a name: its `:`, and its place in the list.
 fn after_name(text: &[u8], row: u8, c: Cursor) -> NextField
     requires { ⌜ Ready (now text) c ⌝ }
+    ensures { λ r. ⌜ ((t : Table) (w : List ℕ) → placeIs row ≡ find (names t) 0 w → HeadMeans (now (text .entry)) w c t r) ⌝ }
 {
     match cursor::mark(text, c, b':') {
         MarkRead::Missing(p) => NextField::Refused(Refusal::Missing, p),
@@ -68,6 +74,7 @@ fn after_name(text: &[u8], row: u8, c: Cursor) -> NextField
 // A name that is in no row: it may be no name at all.
 fn unlisted(text: &[u8], c: Cursor) -> NextField
     requires { ⌜ Ready (now text) c ⌝ }
+    ensures { λ r. ⌜ ((t : Table) → listedIn (names t) (tokensFrom (now (text .entry)) (c .at)) ≡ none → StartMeans (now (text .entry)) pairName c t r) ⌝ }
 {
     if cursor::sees_name(text, c) {
         return after_name(text, words::NONE, cursor::advance(text, c));
@@ -78,6 +85,7 @@ fn unlisted(text: &[u8], c: Cursor) -> NextField
 // A field behind which others may follow. `loop`, which is no name elsewhere, is one here.
 fn start_field(text: &[u8], c: Cursor, list: u8) -> NextField
     requires { ⌜ Ready (now text) c ⌝ }
+    ensures { λ r. ⌜ ((t : Table) → names t ≡ listOf list → StartMeans (now (text .entry)) fieldName c t r) ⌝ }
 {
     let row = cursor::listed(text, c, list);
     if row == words::NONE {
@@ -108,9 +116,9 @@ pub fn parse_field_list(text: &[u8], c: Cursor, list: u8) -> NextField
     }
 }
 
-// To the next of the fields in parentheses, which end with the group.
+// To the next of the fields in parentheses, which end with the group. No word of the list is a keyword.
 pub fn next_pair(text: &[u8], c: Cursor, list: u8) -> NextField
-    requires { ⌜ Ready (now text) c ⌝ }
+    requires { ⌜ Ready (now text) c × (noKeywords (listOf list) ≡ true) ⌝ }
     ensures { λ r. ⌜ ((t : Table) → names t ≡ listOf list → PairMeans (now (text .entry)) c t r) ⌝ }
 {
     if cursor::ends(c) {

@@ -204,3 +204,11 @@ place-some r h n = sym h ∙ (rw (ne-eqb r 255 n))
 pub place-none : (r : ℕ) {o : Option ℕ} → placeIs r ≡ o → r ≡ 255 → o ≡ none
 unfolding placeIs
 place-none r h e = sym h ∙ (rw (eq-eqb r 255 e))
+
+pub some-place : {r : ℕ} {o : Option ℕ} → (r ≡ 255 → ⊥) → o ≡ some r → placeIs r ≡ o
+unfolding placeIs
+some-place {r} n e = (rw (ne-eqb r 255 n)) ∙ sym e
+
+pub none-place : {o : Option ℕ} → o ≡ none → placeIs 255 ≡ o
+unfolding placeIs
+none-place e = sym e
