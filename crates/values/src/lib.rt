@@ -12,7 +12,6 @@ use ast::LoopSpec;
 use ast::OptF32;
 use ast::OptU32;
 use ast::Span;
-use cursor::CaseRead;
 use cursor::Cursor;
 use cursor::FloatRead;
 use cursor::MarkRead;
@@ -492,8 +491,14 @@ pub fn parse_loop_mode(text: &[u8], c: Cursor) -> LoopRead
     requires { ⌜ Ready (now text) c ⌝ }
     ensures { λ r. ⌜ LoopMeans (now (text .entry)) c parseLoopMode r ⌝ }
 {
-    match cursor::choice(text, c, words::LOOP_MODES, Refusal::Malformed) {
-        CaseRead::Refused(r, p) => LoopRead::Refused(r, p),
-        CaseRead::Is(i, m) => mode(text, m, i),
+    match cursor::word(text, c) {
+        WordRead::Missing(p) => LoopRead::Refused(Refusal::Missing, p),
+        WordRead::Is(name, m) => {
+            let i = words::find(words::LOOP_MODES, text, name.start, name.size);
+            if i == words::NONE {
+                return LoopRead::Refused(Refusal::Malformed, cursor::place(m));
+            }
+            mode(text, m, i as usize)
+        }
     }
 }
