@@ -76,11 +76,10 @@ pub fn draw_fields(text: &[u8], c: Cursor, earlier: DrawFields) -> DrawStep
     requires { ⌜ Ready (now text) c ⌝ }
     ensures { λ r. ⌜ ((fs : Fields) → AllSay (now (text .entry)) (c .at) (c .at) (drawCells earlier) fs → DrawListMeans (now (text .entry)) c (parseFieldList drawFields fs) r) ⌝ }
 {
-    let rows = words::DRAW_ROWS;
     let mut m = c;
     let mut kept = earlier;
     loop {
-        match fields::parse_field_list(text, m, rows) {
+        match fields::parse_field_list(text, m, words::DRAW_ROWS) {
             NextField::Refused(r, p) => return DrawStep::Refused(r, p),
             NextField::Done(e) => return DrawStep::Is(kept, e),
             NextField::Field(i, v) => match draw_step(text, v, i, kept) {
@@ -99,11 +98,10 @@ pub fn draw_pairs(text: &[u8], c: Cursor) -> DrawStep
     requires { ⌜ Ready (now text) c ⌝ }
     ensures { λ r. ⌜ DrawListMeans (now (text .entry)) c (pairs drawFields) r ⌝ }
 {
-    let rows = words::DRAW_ROWS;
     let mut m = c;
     let mut kept = no_draw_fields();
     loop {
-        match fields::next_pair(text, m, rows) {
+        match fields::next_pair(text, m, words::DRAW_ROWS) {
             NextField::Refused(r, p) => return DrawStep::Refused(r, p),
             NextField::Done(e) => return DrawStep::Is(kept, e),
             NextField::Field(i, v) => match draw_step(text, v, i, kept) {
@@ -171,7 +169,6 @@ pub fn morph_fields(text: &[u8], c: Cursor) -> MorphStep
     requires { ⌜ Ready (now text) c ⌝ }
     ensures { λ r. ⌜ MorphListMeans (now (text .entry)) c r ⌝ }
 {
-    let rows = words::MORPH_ROWS;
     let mut m = c;
     let mut kept = MorphFields {
         samples: OptU32::Absent,
@@ -179,7 +176,7 @@ pub fn morph_fields(text: &[u8], c: Cursor) -> MorphStep
         easing: OptEasing::Absent,
     };
     loop {
-        match fields::parse_field_list(text, m, rows) {
+        match fields::parse_field_list(text, m, words::MORPH_ROWS) {
             NextField::Refused(r, p) => return MorphStep::Refused(r, p),
             NextField::Done(e) => return MorphStep::Is(kept, e),
             NextField::Field(i, v) => match morph_step(text, v, i, kept) {
@@ -242,7 +239,6 @@ pub fn color_fields(text: &[u8], c: Cursor) -> ColorStep
     requires { ⌜ Ready (now text) c ⌝ }
     ensures { λ r. ⌜ ColorListMeans (now (text .entry)) c r ⌝ }
 {
-    let rows = words::COLOR_ROWS;
     let mut m = c;
     let mut kept = ColorFields {
         duration: OptF32::Absent,
@@ -250,7 +246,7 @@ pub fn color_fields(text: &[u8], c: Cursor) -> ColorStep
         easing: OptEasing::Absent,
     };
     loop {
-        match fields::parse_field_list(text, m, rows) {
+        match fields::parse_field_list(text, m, words::COLOR_ROWS) {
             NextField::Refused(r, p) => return ColorStep::Refused(r, p),
             NextField::Done(e) => return ColorStep::Is(kept, e),
             NextField::Field(i, v) => match color_step(text, v, i, kept) {
@@ -352,7 +348,6 @@ pub fn path_fields(text: &[u8], c: Cursor) -> PathStep
     requires { ⌜ Ready (now text) c ⌝ }
     ensures { λ r. ⌜ PathListMeans (now (text .entry)) c r ⌝ }
 {
-    let rows = words::PATH_ROWS;
     let mut m = c;
     let mut kept = PathFields {
         duration: OptF32::Absent,
@@ -362,7 +357,7 @@ pub fn path_fields(text: &[u8], c: Cursor) -> PathStep
         loop_mode: OptLoop::Absent,
     };
     loop {
-        match fields::parse_field_list(text, m, rows) {
+        match fields::parse_field_list(text, m, words::PATH_ROWS) {
             NextField::Refused(r, p) => return PathStep::Refused(r, p),
             NextField::Done(e) => return PathStep::Is(kept, e),
             NextField::Field(i, v) => match path_step(text, v, i, kept) {

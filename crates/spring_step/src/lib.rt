@@ -164,7 +164,6 @@ pub fn spring_fields(text: &[u8], c: Cursor) -> SpringStep
     requires { ⌜ Ready (now text) c ⌝ }
     ensures { λ r. ⌜ SpringListMeans (now (text .entry)) c r ⌝ }
 {
-    let rows = words::SPRING_ROWS;
     let mut m = c;
     let mut kept = SpringFields {
         preset: OptCase::Absent,
@@ -177,7 +176,7 @@ pub fn spring_fields(text: &[u8], c: Cursor) -> SpringStep
         damping_mode: OptDamping::Absent,
     };
     loop {
-        match fields::parse_field_list(text, m, rows) {
+        match fields::parse_field_list(text, m, words::SPRING_ROWS) {
             NextField::Refused(r, p) => return SpringStep::Refused(r, p),
             NextField::Done(e) => return SpringStep::Is(kept, e),
             NextField::Field(i, v) => match spring_step(text, v, i, kept) {

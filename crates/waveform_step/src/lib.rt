@@ -89,7 +89,6 @@ pub fn waveform_fields(text: &[u8], c: Cursor) -> WaveformStep
     requires { ⌜ Ready (now text) c ⌝ }
     ensures { λ r. ⌜ WaveformListMeans (now (text .entry)) c r ⌝ }
 {
-    let rows = words::WAVEFORM_ROWS;
     let mut m = c;
     let mut kept = WaveformFields {
         frequency: OptF32::Absent,
@@ -101,7 +100,7 @@ pub fn waveform_fields(text: &[u8], c: Cursor) -> WaveformStep
         duration: OptF32::Absent,
     };
     loop {
-        match fields::parse_field_list(text, m, rows) {
+        match fields::parse_field_list(text, m, words::WAVEFORM_ROWS) {
             NextField::Refused(r, p) => return WaveformStep::Refused(r, p),
             NextField::Done(e) => return WaveformStep::Is(kept, e),
             NextField::Field(i, v) => match waveform_step(text, v, i, kept) {
