@@ -88,7 +88,14 @@ fn begin_node(text: &[u8], sheet: &mut [u8], c: Cursor, out: usize) -> Begun
             WordRead::Is(_, m) => Begun::Refused(Refusal::UnknownKeyword, cursor::place(m)),
         };
     }
-    begin_word(text, sheet, cursor::place(c), i, cursor::advance(text, c), out)
+    begin_word(
+        text,
+        sheet,
+        cursor::place(c),
+        i,
+        cursor::advance(text, c),
+        out,
+    )
 }
 
 // ---- what stands before a container's block: its fields. The answer is the place of the count, which is left open.

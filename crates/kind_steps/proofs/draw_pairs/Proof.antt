@@ -1,3 +1,7 @@
+use Rattle.text.specs.Bytes.{same}
+use Rattle.text.specs.Words.{find}
+use Rattle.token.specs.Names.{isKeyword}
+use Rattle.cursor.specs.Means.{noKeywords}
 use Rattle.words.specs.Lists.{listOf}
 -- `kind_steps::draw_pairs` meets its contract.
 use Rattle.cells.proofs.StepLaws.{Gathering, pairStep, gathering-start, pairs-refused, pairs-done}
@@ -26,7 +30,8 @@ unfolding last
 loop-holds c = rw (c .no-draw-fields .ensures) (gathering-start (c .before .before .pre) ((refl, tt), ((refl, tt), tt)))
 
 next-pair-requires : tie.Need-next-pair-requires Inv-loop μ-loop
-next-pair-requires c κs = c .loop .inv .listed .ready
+unfolding listOf noKeywords isKeyword find same
+next-pair-requires c κs = (c .loop .inv .listed .ready, refl)
 
 returns : tie.Need-returns Inv-loop μ-loop
 unfolding drawFields listOf
