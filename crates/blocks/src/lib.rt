@@ -1,14 +1,17 @@
 // parser.rs: a node of any kind, and nodes up to a group's end, written into the sheet as they are read.
 // The functions are for our own crates: each requires a cursor that stands in a text of at most 16,384 bytes, and a place that what was read so far can have reached.
 ghost use mathlib.Core.Path.{_≡_};
-ghost use Prim.Native.Nat.{_+_, _<_};
+ghost use Prim.Native.Nat.{ℕ, _+_, _<_};
+ghost use mathlib.Core.List.{List};
+ghost use mathlib.Core.Option.{none, some};
+ghost use Rattle.text.specs.Words.{find};
+ghost use Rattle.token.specs.Token.{tokensFrom};
 ghost use Rattle.grammar.specs.Grammar.{parseSequence, parseParallel, parseGroup, parseStagger, parseNode, block};
-ghost use Rattle.cursor.specs.Means.{Ready, spelled};
+ghost use Rattle.cursor.specs.Means.{Ready, listedIn};
 ghost use Rattle.arrays.specs.Means.{Room};
-ghost use Rattle.blocks.specs.Means.{HeadMeans, KeywordMeans, BegunMeans, behindWord, leafKindAt, BraceMeans, Counted, BlockMeans, Headed, HeldMeans, Reached, NodeMeans, Standing, StepMeans, NodesMeans};
+ghost use Rattle.blocks.specs.Means.{HeadMeans, nodeWords, KeywordMeans, BegunMeans, behindWord, leafKindAt, BraceMeans, Counted, BlockMeans, Headed, HeldMeans, Reached, NodeMeans, Standing, StepMeans, NodesMeans};
 use cursor::Cursor;
 use cursor::MarkRead;
-use cursor::WordRead;
 use error::Refusal;
 use heads::GroupRead;
 use heads::StaggerRead;
@@ -16,11 +19,10 @@ use nodes::NodeRead;
 
 // ---- the beginning of a node
 
-// What a keyword begins: a leaf or a container, with its place in the table, or nothing known.
+// What a keyword begins: a leaf or a container, with its place in the table.
 pub enum Keyword {
     Leaf(usize),
     Container(usize),
-    Unknown,
 }
 
 pub enum Begun {
@@ -31,13 +33,10 @@ pub enum Begun {
     Refused(Refusal, usize),
 }
 
-// What a place in the list of nodes begins: the leaves stand first.
+// What the word at a place of the list begins: the leaves stand first.
 fn keyword_of(i: u8) -> Keyword
-    ensures { λ r. ⌜ ((w : List ℕ) → placeIs i ≡ find (listOf nodes) 0 w → KeywordMeans w r) ⌝ }
+    ensures { λ r. ⌜ ((w : List ℕ) → find nodeWords 0 w ≡ some i → KeywordMeans w r) ⌝ }
 {
-    if i == words::NONE {
-        return Keyword::Unknown;
-    }
     if i < 11 {
         return Keyword::Leaf(i as usize);
     }
@@ -57,8 +56,8 @@ fn leaf_kind(i: usize) -> u8
 
 // Behind the keyword, of which the place in the list is i: the front of the node's record is written, and a leaf's fields.
 fn begin_word(text: &[u8], sheet: &mut [u8], start: usize, i: u8, c: Cursor, out: usize) -> Begun
-    requires { ⌜ Ready (now text) c × Room (now text) (out + 3) ⌝ }
-    ensures { λ r. ⌜ ((w : List ℕ) → placeIs i ≡ find (listOf nodes) 0 w → BegunMeans 0 (now (text .entry)) (now (sheet .entry)) (now (sheet .exit)) c out (behindWord start w) r) ⌝ }
+    requires { ⌜ Ready (now text) c × Room (now text) (out + 3) × ((w : List ℕ) × (find nodeWords 0 w ≡ some i)) ⌝ }
+    ensures { λ r. ⌜ ((w : List ℕ) → find nodeWords 0 w ≡ some i → BegunMeans 0 (now (text .entry)) (now (sheet .entry)) (now (sheet .exit)) c out (behindWord start w) r) ⌝ }
 {
     match keyword_of(i) {
         Keyword::Leaf(i) => {
@@ -72,8 +71,18 @@ fn begin_word(text: &[u8], sheet: &mut [u8], start: usize, i: u8, c: Cursor, out
             let at = encode::put_front(sheet, out, (i + 3) as u8, start);
             Begun::Container(i, at, c)
         }
-        Keyword::Unknown => Begun::Refused(Refusal::UnknownKeyword, cursor::place(c)),
     }
+}
+
+// What is refused where no word of the list stands.
+fn no_node(text: &[u8], c: Cursor) -> Begun
+    requires { ⌜ Ready (now text) c ⌝ }
+    ensures { λ r. ⌜ ((b a : List ℕ) (out : ℕ) → listedIn nodeWords (tokensFrom (now (text .entry)) (c .at)) ≡ none → BegunMeans 1 (now (text .entry)) b a c out parseNode r) ⌝ }
+{
+    if cursor::sees_name(text, c) {
+        return Begun::Refused(Refusal::UnknownKeyword, cursor::place(cursor::advance(text, c)));
+    }
+    Begun::Refused(Refusal::Missing, cursor::place(c))
 }
 
 // A leaf whole, or a container's keyword.
@@ -83,10 +92,7 @@ fn begin_node(text: &[u8], sheet: &mut [u8], c: Cursor, out: usize) -> Begun
 {
     let i = cursor::listed(text, c, words::NODES);
     if i == words::NONE {
-        return match cursor::word(text, c) {
-            WordRead::Missing(p) => Begun::Refused(Refusal::Missing, p),
-            WordRead::Is(_, m) => Begun::Refused(Refusal::UnknownKeyword, cursor::place(m)),
-        };
+        return no_node(text, c);
     }
     begin_word(
         text,
