@@ -2,7 +2,8 @@
 use Prim.Native.Nat.{ℕ, _<_}
 use Prim.Native.String.{String}
 use mathlib.Core.List.{List}
-use mathlib.Core.Option.{some}
+use mathlib.Core.Option.{none, some}
+use mathlib.Core.Bool.{true, false}
 use mathlib.Core.Path.{_≡_}
 use native.Mathlib.Omega.{arith}
 use lib.ListN.{getElem?}
@@ -11,19 +12,22 @@ use Rattle.ast.specs.Tree.{Leaf, Nodes}
 use Rattle.encode.specs.Writes.{Writes}
 use Rattle.encode.proofs.OverLaws.{writes-then}
 use Rattle.error.specs.declared.Refusal.{Refusal}
-use Rattle.error.specs.declared.Refusal.the-variants.{UnknownKeyword}
-use Rattle.grammar.specs.Rule.{refused, Rule, word}
+use Rattle.error.specs.declared.Refusal.the-variants.{UnknownKeyword, Missing}
+use Rattle.grammar.specs.Rule.{refused, Rule, word, seesName}
 use Rattle.grammar.specs.Grammar.{leaves, containers, parseNode}
-use Rattle.cursor.specs.Means.{Ready, run, Took}
+use Rattle.token.specs.Token.{kind}
+use Rattle.cursor.specs.Means.{Ready, run, Took, Follows, tokens, listedIn}
+use Rattle.cursor.proofs.ListedLaws.{unlisted-kind, no-name}
 use Rattle.cursor.specs.declared.Cursor.{Cursor}
 use Rattle.nodes.specs.Means.{leafKind}
 use Rattle.nodes.specs.declared.NodeRead.the-variants as read
 use Rattle.leaves.specs.Means.{LeafAtMeans}
 use Rattle.blocks.specs.Means.{KeywordMeans, behindWord, leafKindAt, containerKindAt, frontBytes, LeafBegun, ContainerBegun}
-use Rattle.blocks.specs.Means.{BegunMeans}
+use Rattle.blocks.specs.Means.{BegunMeans, nodeWords}
 use Rattle.blocks.specs.declared.Keyword.the-variants as keyword
 use Rattle.blocks.specs.declared.Begun.{Begun}
 use Rattle.blocks.specs.declared.Begun.the-variants as begun
+use Rattle.blocks.proofs.NameLaws.{no-node-word}
 use Rattle.blocks.proofs.KindLaws.{the-given, place-low, leaf-kind}
 
 -- ---- behind the keyword
@@ -72,18 +76,20 @@ pub leaf-refused : (s : List ℕ) (c : Cursor) (start : ℕ) (w : List ℕ) (i :
     → (blk : Rule (Nodes Key)) → run s c (behindWord start w blk) ≡ refused r q
 leaf-refused s c start w i r q k h blk = rw (k .2, h (k .0) (k .1))
 
--- "`unknown_keyword`": 7, behind the word
-pub unknown-refused : (s : List ℕ) (c : Cursor) (start : ℕ) (w : List ℕ) → Ready s c → KeywordMeans w keyword.Unknown
-    → (blk : Rule (Nodes Key))
-    → run s c (behindWord start w blk) ≡ refused UnknownKeyword (c .at)
-unknown-refused s c start w r k blk = rw (k, r .head .place)
-
 -- ---- from the keyword on
 
-pub no-keyword : (s : List ℕ) (c : Cursor) (r : Refusal) (q : ℕ) → run s c word ≡ refused r q
-    → (blk : Rule (Nodes Key)) → run s c (parseNode blk) ≡ refused r q
-unfolding parseNode
-no-keyword s c r q h blk = rw h
+-- "`unknown_keyword`": 7, behind the word; and where no name stands
+module _ {s : List ℕ} {c : Cursor} (r : Ready s c) where
+  pub unknown-node : {m : Cursor} → Follows s c m → listedIn nodeWords (tokens s c) ≡ none → seesName (tokens s c) ≡ true
+      → (blk : Rule (Nodes Key)) → run s c (parseNode blk) ≡ refused UnknownKeyword (m .at)
+  unfolding parseNode
+  unknown-node {m} f e h blk =
+      let u = unlisted-kind (kind (tokens s c)) nodeWords e h in
+      rw (u .1, no-node-word (u .0) (u .2), f .rest, f .ready .head .place)
+
+  pub no-name-there : seesName (tokens s c) ≡ false → (blk : Rule (Nodes Key)) → run s c (parseNode blk) ≡ refused Missing (c .at)
+  unfolding parseNode
+  no-name-there h blk = rw (no-name (kind (tokens s c)) h, r .head .place)
 
 pub from-keyword : (s b a : List ℕ) (c m : Cursor) (out p : ℕ) (w : List ℕ) (x : Begun)
     → Took 1 s c m word (p, w) → BegunMeans 0 s b a m out (behindWord p w) x

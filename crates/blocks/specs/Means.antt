@@ -15,7 +15,8 @@ use Rattle.ast.specs.Tree.{width, records, mapLeaf, mapTimes}
 use Rattle.sheet.specs.Sheet.{Node, word, patternForm, nodeForm, forest, inner}
 use Rattle.encode.specs.Writes.{Writes}
 use Rattle.grammar.specs.Rule.{Rule, refused, give, _>>=_, the, more, done, repeat}
-use Rattle.grammar.specs.Grammar.{stored, leaves, containers, aLeaf, aContainer, unknown, beginning, nodeBy, nodesStep, block}
+use Rattle.grammar.specs.Grammar.{stored, leaves, containers, aLeaf, aContainer, beginning, nodeBy, nodesStep, block}
+use Rattle.words.specs.Lists.{listOf}
 use Rattle.cursor.specs.Means.{Ready, run, Took}
 use Rattle.cursor.specs.declared.Cursor.{Cursor}
 use Rattle.arrays.specs.Means.{Went}
@@ -38,11 +39,14 @@ use Rattle.blocks.specs.declared.NodesNext.the-variants as turn
 
 -- ---- the keyword
 
+-- the words that begin a node
+abbrev pub nodeWords : List (List ℕ)
+nodeWords = listOf 0
+
 abbrev pub KeywordMeans : List ℕ → Keyword → Type 0
 KeywordMeans w (keyword.Leaf i) = (row : String × Rule (Leaf Key)) × (getElem? leaves i ≡ some row) × (beginning w ≡ aLeaf (row .1))
 KeywordMeans w (keyword.Container i) =
     (row : String × Rule Container) × (getElem? containers i ≡ some row) × (beginning w ≡ aContainer (row .1))
-KeywordMeans w keyword.Unknown = beginning w ≡ unknown
 
 -- ---- the beginning of a node, whatever the rule for a container's block
 

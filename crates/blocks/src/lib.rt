@@ -1,15 +1,17 @@
 // parser.rs: a node of any kind, and nodes up to a group's end, written into the sheet as they are read.
 // The functions are for our own crates: each requires a cursor that stands in a text of at most 16,384 bytes, and a place that what was read so far can have reached.
 ghost use mathlib.Core.Path.{_≡_};
-ghost use Prim.Native.Nat.{_+_, _<_};
+ghost use Prim.Native.Nat.{ℕ, _+_, _<_};
+ghost use mathlib.Core.List.{List};
+ghost use mathlib.Core.Option.{none, some};
+ghost use Rattle.text.specs.Words.{find};
+ghost use Rattle.token.specs.Token.{tokensFrom};
 ghost use Rattle.grammar.specs.Grammar.{parseSequence, parseParallel, parseGroup, parseStagger, parseNode, block};
-ghost use Rattle.cursor.specs.Means.{Ready, spelled};
+ghost use Rattle.cursor.specs.Means.{Ready, listedIn};
 ghost use Rattle.arrays.specs.Means.{Room};
-ghost use Rattle.blocks.specs.Means.{HeadMeans, KeywordMeans, BegunMeans, behindWord, leafKindAt, BraceMeans, Counted, BlockMeans, Headed, HeldMeans, Reached, NodeMeans, Standing, StepMeans, NodesMeans};
-use ast::Span;
+ghost use Rattle.blocks.specs.Means.{HeadMeans, nodeWords, KeywordMeans, BegunMeans, behindWord, leafKindAt, BraceMeans, Counted, BlockMeans, Headed, HeldMeans, Reached, NodeMeans, Standing, StepMeans, NodesMeans};
 use cursor::Cursor;
 use cursor::MarkRead;
-use cursor::WordRead;
 use error::Refusal;
 use heads::GroupRead;
 use heads::StaggerRead;
@@ -17,16 +19,10 @@ use nodes::NodeRead;
 
 // ---- the beginning of a node
 
-const LEAVES: [u8; 70] =
-    *b"\x05tween\x06spring\x09keyframes\x04path\x05morph\x04draw\x05color\x08waveform\x06preset\x05label\x02at";
-
-const CONTAINERS: [u8; 32] = *b"\x08sequence\x08parallel\x05group\x07stagger";
-
-// What a keyword begins: a leaf or a container, with its place in the table, or nothing known.
+// What a keyword begins: a leaf or a container, with its place in the table.
 pub enum Keyword {
     Leaf(usize),
     Container(usize),
-    Unknown,
 }
 
 pub enum Begun {
@@ -37,16 +33,14 @@ pub enum Begun {
     Refused(Refusal, usize),
 }
 
-fn keyword_of(word: &[u8]) -> Keyword
-    ensures { λ r. ⌜ KeywordMeans (now (word .entry)) r ⌝ }
+// What the word at a place of the list begins: the leaves stand first.
+fn keyword_of(i: u8) -> Keyword
+    ensures { λ r. ⌜ ((w : List ℕ) → find nodeWords 0 w ≡ some i → KeywordMeans w r) ⌝ }
 {
-    match text::find(&LEAVES, word) {
-        text::Found::At(i) => Keyword::Leaf(i),
-        text::Found::Nothing => match text::find(&CONTAINERS, word) {
-            text::Found::At(i) => Keyword::Container(i),
-            text::Found::Nothing => Keyword::Unknown,
-        },
+    if i < 11 {
+        return Keyword::Leaf(i as usize);
     }
+    Keyword::Container(i as usize - 11)
 }
 
 // The kind of the leaf at a place of its table.
@@ -60,25 +54,35 @@ fn leaf_kind(i: usize) -> u8
     (i + 4) as u8
 }
 
-// Behind the keyword: the front of the node's record is written, and a leaf's fields.
-fn begin_word(text: &[u8], sheet: &mut [u8], word: Span, c: Cursor, out: usize) -> Begun
-    requires { ⌜ Ready (now text) c × Room (now text) (out + 3) ⌝ }
-    ensures { λ r. ⌜ BegunMeans 0 (now (text .entry)) (now (sheet .entry)) (now (sheet .exit)) c out (behindWord (word .start) (spelled (now (text .entry)) word)) r ⌝ }
+// Behind the keyword, of which the place in the list is i: the front of the node's record is written, and a leaf's fields.
+fn begin_word(text: &[u8], sheet: &mut [u8], start: usize, i: u8, c: Cursor, out: usize) -> Begun
+    requires { ⌜ Ready (now text) c × Room (now text) (out + 3) × ((w : List ℕ) × (find nodeWords 0 w ≡ some i)) ⌝ }
+    ensures { λ r. ⌜ ((w : List ℕ) → find nodeWords 0 w ≡ some i → BegunMeans 0 (now (text .entry)) (now (sheet .entry)) (now (sheet .exit)) c out (behindWord start w) r) ⌝ }
 {
-    match keyword_of(text::part(text, word.start, word.size)) {
+    match keyword_of(i) {
         Keyword::Leaf(i) => {
-            let at = encode::put_front(sheet, out, leaf_kind(i), word.start);
+            let at = encode::put_front(sheet, out, leaf_kind(i), start);
             match leaves::parse_leaf(text, sheet, c, at, i) {
                 NodeRead::Refused(r, p) => Begun::Refused(r, p),
                 NodeRead::Is(q, m) => Begun::Leaf(q, m),
             }
         }
         Keyword::Container(i) => {
-            let at = encode::put_front(sheet, out, (i + 3) as u8, word.start);
+            let at = encode::put_front(sheet, out, (i + 3) as u8, start);
             Begun::Container(i, at, c)
         }
-        Keyword::Unknown => Begun::Refused(Refusal::UnknownKeyword, cursor::place(c)),
     }
+}
+
+// What is refused where no word of the list stands.
+fn no_node(text: &[u8], c: Cursor) -> Begun
+    requires { ⌜ Ready (now text) c ⌝ }
+    ensures { λ r. ⌜ ((b a : List ℕ) (out : ℕ) → listedIn nodeWords (tokensFrom (now (text .entry)) (c .at)) ≡ none → BegunMeans 1 (now (text .entry)) b a c out parseNode r) ⌝ }
+{
+    if cursor::sees_name(text, c) {
+        return Begun::Refused(Refusal::UnknownKeyword, cursor::place(cursor::advance(text, c)));
+    }
+    Begun::Refused(Refusal::Missing, cursor::place(c))
 }
 
 // A leaf whole, or a container's keyword.
@@ -86,10 +90,18 @@ fn begin_node(text: &[u8], sheet: &mut [u8], c: Cursor, out: usize) -> Begun
     requires { ⌜ Ready (now text) c × Room (now text) (out + 3) ⌝ }
     ensures { λ r. ⌜ BegunMeans 1 (now (text .entry)) (now (sheet .entry)) (now (sheet .exit)) c out parseNode r ⌝ }
 {
-    match cursor::word(text, c) {
-        WordRead::Missing(p) => Begun::Refused(Refusal::Missing, p),
-        WordRead::Is(word, m) => begin_word(text, sheet, word, m, out),
+    let i = cursor::listed(text, c, words::NODES);
+    if i == words::NONE {
+        return no_node(text, c);
     }
+    begin_word(
+        text,
+        sheet,
+        cursor::place(c),
+        i,
+        cursor::advance(text, c),
+        out,
+    )
 }
 
 // ---- what stands before a container's block: its fields. The answer is the place of the count, which is left open.

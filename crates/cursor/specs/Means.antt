@@ -1,7 +1,7 @@
 -- What a cursor is, and what the answers of the functions over it mean, in terms of the grammar's rules. Contracts cite these.
 use Prim.Native.Nat.{ℕ, suc, _+_, _≤_}
-use mathlib.Core.Bool.{Bool, true, false, not, cond}
-use mathlib.Core.List.{List}
+use mathlib.Core.Bool.{Bool, true, false, not, cond, _&&_}
+use mathlib.Core.List.{List, [], _∷_}
 use mathlib.Core.Option.{Option, none, some}
 use mathlib.Core.Path.{_≡_}
 use lib.Dec.{T, eqb}
@@ -9,6 +9,8 @@ use lib.ListN.{length}
 use lib.Ieee.{isNan}
 use Rattle.text.specs.Limits.{textLimit}
 use Rattle.text.specs.Bytes.{part}
+use Rattle.text.specs.Words.{find}
+use Rattle.token.specs.Names.{isKeyword, wordOf}
 use Rattle.number.specs.Number.{Written, bits}
 use Rattle.token.specs.Token.{Token, tokensFrom, place, kind, rest}
 use Rattle.token.specs.Token as numbers
@@ -176,6 +178,21 @@ TruthMeans s c p (truth.Missing q) = run s c p ≡ refused cause.Missing q
 abbrev pub CaseMeans : List ℕ → Cursor → Rule ℕ → CaseRead → Type 0
 CaseMeans s c p (case.Is i m) = Took 1 s c m p i
 CaseMeans s c p (case.Refused r q) = run s c p ≡ refused r q
+
+-- ---- words in lists
+
+abbrev pub placeIn : List (List ℕ) → Option (List ℕ) → Option ℕ
+placeIn ns none = none
+placeIn ns (some w) = find ns 0 w
+
+-- the place of the next token in a list, if it is a word that stands there, a name or a keyword
+abbrev pub listedIn : List (List ℕ) → List Token → Option ℕ
+listedIn ns ts = placeIn ns (wordOf (kind ts))
+
+-- whether no word of a list is a keyword
+unfoldable pub noKeywords : List (List ℕ) → Bool
+noKeywords [] = true
+noKeywords (n ∷ ns) = not (isKeyword n) && noKeywords ns
 
 abbrev pub passOf : Passing → Pass
 passOf passing.Halts = halts

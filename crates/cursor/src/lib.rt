@@ -1,16 +1,19 @@
 // A cursor by value over the tokens of a text, and the steps of syn's ParseStream that take one token or a few.
 // The functions are for our own crates: each requires a cursor that stands in the text.
 ghost use mathlib.Core.Path.{_≡_};
+ghost use mathlib.Core.Bool.{true};
+ghost use mathlib.Core.Option.{none};
 ghost use mathlib.Core.List.{List};
 ghost use Prim.Native.Nat.{ℕ, _-_, _≤_, _<_};
 ghost use lib.ListN.{length};
 ghost use Rattle.text.specs.Limits.{textLimit};
-ghost use Rattle.text.specs.Words.{table};
+ghost use Rattle.words.specs.Lists.{listOf};
+ghost use Rattle.words.specs.Keys.{placeIs};
 ghost use Rattle.token.specs.Token.{tokensFrom, isMark};
 ghost use Rattle.token.specs.Means.{kindOf, lastPlace};
 ghost use Rattle.grammar.specs.Rule.{seesByte, seesBytes, seesName, isEnd, ends, theByte, bothBytes, eatByte, word, choiceIn, weigh, firstOf, leave};
 ghost use Rattle.grammar.specs.Values.{parseFloat, parseUint, truth};
-ghost use Rattle.cursor.specs.Means.{nothing, leftOf, leftIs, Ready, Begins, Took, Follows, Behind, tallied, passOf, NumberView, MarkMeans, WordMeans, StringMeans, NumberMeans, FloatMeans, UintMeans, TruthMeans, CaseMeans};
+ghost use Rattle.cursor.specs.Means.{nothing, leftOf, leftIs, Ready, Begins, Took, Follows, Behind, tallied, passOf, NumberView, MarkMeans, WordMeans, StringMeans, NumberMeans, FloatMeans, UintMeans, TruthMeans, CaseMeans, listedIn, noKeywords};
 use ast::Span;
 use error::Refusal;
 use token::Number;
@@ -215,6 +218,20 @@ pub fn sees_word(text: &[u8], c: Cursor, word: &[u8]) -> bool
     }
 }
 
+// The place of the next token in a list, if it is a word that stands there, a name or a keyword.
+pub fn listed(text: &[u8], c: Cursor, list: u8) -> u8
+    requires { ⌜ Ready (now text) c ⌝ }
+    ensures { λ r. ⌜ placeIs r ≡ listedIn (listOf list) (tokensFrom (now (text .entry)) (c .at)) ⌝ }
+{
+    let k = c.kind;
+    match k {
+        Tok::Name => words::find(list, text, place(c), size(c)),
+        Tok::Mark(_) => words::NONE,
+        Tok::Num => words::NONE,
+        Tok::Quoted => words::NONE,
+    }
+}
+
 // Whether the next token is a name that is no keyword.
 pub fn sees_name(text: &[u8], c: Cursor) -> bool
     requires { ⌜ Ready (now text) c ⌝ }
@@ -330,18 +347,27 @@ pub fn truth(text: &[u8], c: Cursor) -> TruthRead
     TruthRead::Missing(place(c))
 }
 
-// A name among some, as its position there.
-pub fn choice(text: &[u8], c: Cursor, names: &[u8], refusal: Refusal) -> CaseRead
+// What is refused where no word of a list stands.
+fn unlisted(text: &[u8], c: Cursor, refusal: Refusal) -> CaseRead
     requires { ⌜ Ready (now text) c ⌝ }
-    ensures { λ r. ⌜ CaseMeans (now (text .entry)) c (choiceIn refusal (table (now (names .entry)))) r ⌝ }
+    ensures { λ r. ⌜ ((ns : List (List ℕ)) → listedIn ns (tokensFrom (now (text .entry)) (c .at)) ≡ none → CaseMeans (now (text .entry)) c (choiceIn refusal ns) r) ⌝ }
 {
-    match word(text, c) {
-        WordRead::Missing(p) => CaseRead::Refused(Refusal::Missing, p),
-        WordRead::Is(w, m) => match text::find(names, text::part(text, w.start, w.size)) {
-            text::Found::At(i) => CaseRead::Is(i, m),
-            text::Found::Nothing => CaseRead::Refused(refusal, place(m)),
-        },
+    if sees_name(text, c) {
+        return CaseRead::Refused(refusal, place(advance(text, c)));
     }
+    CaseRead::Refused(Refusal::Missing, place(c))
+}
+
+// A name of a list, as its position there. No word of the list is a keyword.
+pub fn choice(text: &[u8], c: Cursor, list: u8, refusal: Refusal) -> CaseRead
+    requires { ⌜ Ready (now text) c × (noKeywords (listOf list) ≡ true) ⌝ }
+    ensures { λ r. ⌜ CaseMeans (now (text .entry)) c (choiceIn refusal (listOf list)) r ⌝ }
+{
+    let i = listed(text, c, list);
+    if i == words::NONE {
+        return unlisted(text, c, refusal);
+    }
+    CaseRead::Is(i as usize, advance(text, c))
 }
 
 // ---- numbers

@@ -1,7 +1,7 @@
 -- Laws of lists of fields, whatever their table.
 use Prim.Native.Nat.{ℕ, zero, suc, _+_, _≤_, _<_, _-_}
 use Prim.Native.String.{String}
-use mathlib.Core.Bool.{Bool, true, false}
+use mathlib.Core.Bool.{Bool, true, false, not, _&&_, _||_}
 use mathlib.Core.List.{List, [], _∷_}
 use mathlib.Core.Option.{Option, none, some, Option·some-injective}
 use mathlib.Core.Path.{_≡_, refl, sym, ap, _∙_, subst}
@@ -11,26 +11,23 @@ use lib.ListN.{length, take, drop, getElem?}
 use Rattle.text.specs.Bytes.{bytes, same, oneOf, part}
 use Rattle.text.specs.Words.{find}
 use Rattle.text.proofs.WordLaws.{find-here, find-past, same-eq}
-use Rattle.token.specs.Token.{Kind, name, number, quoted, mark, kind, isMark}
-use Rattle.token.specs.Names.{wordOf}
-use Rattle.token.specs.Means.{kindOf}
-use Rattle.token.specs.declared.Tok.{Tok}
-use Rattle.token.specs.declared.Tok.the-variants.{Name, Num, Quoted, Mark}
+use Rattle.token.specs.Token.{Kind, name, number, quoted, mark, Token, kind, isMark}
+use Rattle.token.specs.Names.{wordOf, isKeyword}
 use Rattle.error.specs.declared.Refusal.{Refusal}
 use Rattle.error.specs.declared.Refusal.the-variants.{Missing}
-use Rattle.grammar.specs.Rule.{isWord, seesBytes, word, Out, got, refused, after, Rule, Next}
+use Rattle.grammar.specs.Rule.{isWord, seesBytes, seesName, Out, got, refused, after, Rule, Next}
 use Rattle.grammar.specs.Rule.{more, next, iterate, listStep, eat, goOn, give, _>>=_, ends}
 use Rattle.grammar.specs.Fields.{Item, halts, closes, passes, starts, itemOf, Table, Fields, Entry, Content, rowOf}
 use Rattle.grammar.specs.Fields.{fieldHead, fieldValue, fieldName, pairName, entry, oneField, fieldsStep, onePair}
-use Rattle.cursor.specs.Means.{Ready, notes, tokens, run, Took, Follows, WordMeans, spelled}
+use Rattle.cursor.specs.Means.{Ready, notes, tokens, run, Took, Follows, listedIn, noKeywords}
 use Rattle.cursor.specs.declared.Cursor.{Cursor}
-use Rattle.cursor.specs.declared.WordRead.{WordRead}
-use Rattle.cursor.specs.declared.WordRead.the-variants as words
-use Rattle.ast.specs.declared.Span.{Span}
 use Rattle.fields.specs.declared.NextField.{NextField}
 use Rattle.fields.specs.declared.NextField.the-variants as found
 use Rattle.cursor.proofs.CursorLaws.{took, head-moves}
-use Rattle.fields.specs.Means.{NameMeans, HeadMeans, StartMeans, FieldMeans, PairMeans}
+use Rattle.cursor.proofs.ListedLaws.{never, none-some, Listed, took-listed, unlisted-kind, no-name, name-no-end}
+use Rattle.words.specs.Lists.{listOf}
+use Rattle.words.proofs.ListLaws.{everyList, each-list}
+use Rattle.fields.specs.Means.{HeadMeans, StartMeans, FieldMeans, PairMeans}
 use Rattle.fields.specs.Means.{names, headBehind, RowAt, Gives, FieldAt, PairAt}
 
 none≢some : {A B : Type 0} {a : A} → Prim.Path (Option A) none (some a) → B
@@ -78,11 +75,6 @@ row-none-from (f ∷ fs) i w e = row-none-by f fs i w e (λ q. row-none-from fs 
 
 pub row-none : (t : Table) (w : List ℕ) → find (names t) 0 w ≡ none → rowOf t w ≡ none
 row-none t w e = row-none-from t 0 w e
-
--- the code's lookup of a name in a table's words
-pub looked-up : (t : Table) (ws : List (List ℕ)) (w v : List ℕ) (x : Option ℕ)
-    → names t ≡ ws → v ≡ w → x ≡ find ws 0 v → find (names t) 0 w ≡ x
-looked-up t ws w v x e f h = rw (e, ← f) (sym h)
 
 -- ---- a list of fields, from a cursor on
 
@@ -205,45 +197,78 @@ module _ (s : List ℕ) (t : Table) (c : Cursor) (r : Ready s c) where
 
 -- ---- a field's name
 
+-- whether no word of a list is a keyword but `loop`, and that it is so
+unfoldable pub loopAlone : List (List ℕ) → Bool
+loopAlone [] = true
+loopAlone (n ∷ ns) = (not (isKeyword n) || same n (bytes "loop")) && loopAlone ns
+
+pub all-alone : (k : ℕ) → loopAlone (listOf k) ≡ true
+unfolding loopAlone everyList isKeyword find same
+all-alone k = each-list loopAlone k refl refl
+
+loop-or-free : (ns : List (List ℕ)) (j : ℕ) (w : List ℕ) (i : ℕ) → loopAlone ns ≡ true → find ns j w ≡ some i
+    → same w (bytes "loop") ≡ false
+    → isKeyword w ≡ false
+unfolding loopAlone find
+loop-or-free [] j w i h e q = none-some e
+loop-or-free (n ∷ ns) j w i h e q =
+    go (same w n) refl (not (isKeyword n) || same n (bytes "loop")) refl h (λ g f. loop-or-free ns (suc j) w i g f q)
+  where
+    free : (a : Bool) → isKeyword n ≡ a → (not a || same n (bytes "loop")) ≡ true → w ≡ n → isKeyword w ≡ false
+    free true z g p = never (sym (rw (sym p) q) ∙ g)
+    free false z g p = rw p z
+
+    go : (a : Bool) → same w n ≡ a → (b : Bool) → (not (isKeyword n) || same n (bytes "loop")) ≡ b → (b && loopAlone ns) ≡ true
+        → (loopAlone ns ≡ true → find ns (suc j) w ≡ some i → isKeyword w ≡ false)
+        → isKeyword w ≡ false
+    go a p false z g ih = never g
+    go true p true z g ih = free (isKeyword n) refl z (same-eq w n p)
+    go false p true z g ih = ih g (sym (find-past w n ns j p) ∙ e)
+
 word-name : (k : Kind) (v : List ℕ) → isWord (wordOf k) v ≡ true → k ≡ name v
 word-name (name w) v e = ap name (same-eq w v e)
-word-name (number w) v e = absurd (let z : _≡_ {A = ℕ} 0 1 = cc in omega arith)
-word-name (quoted w) v e = absurd (let z : _≡_ {A = ℕ} 0 1 = cc in omega arith)
-word-name (mark b) v e = absurd (let z : _≡_ {A = ℕ} 0 1 = cc in omega arith)
+word-name (number w) v e = never e
+word-name (quoted w) v e = never e
+word-name (mark b) v e = never e
 
-take-same : (n : ℕ) (l : List ℕ) → take (length (take n l)) l ≡ take n l
-take-same zero l = refl
-take-same (suc n) [] = refl
-take-same (suc n) (x ∷ l) = ap {B = List ℕ} (λ t. x ∷ t) (take-same n l)
+module _ {s : List ℕ} {c m : Cursor} (r : Ready s c) (f : Follows s c m) where
+  -- a word of a list
+  module _ {ns : List (List ℕ)} {i : ℕ} (l : Listed ns (kind (tokens s c)) i) where
+    pub took-field : loopAlone ns ≡ true → Took 1 s c m fieldName (l .word)
+    unfolding fieldName pairName
+    took-field h = go (same (l .word) (bytes "loop")) refl
+      where
+        go : (a : Bool) → same (l .word) (bytes "loop") ≡ a → Took 1 s c m fieldName (l .word)
+        go true q = took s c m r f fieldName (l .word) (rw (l .is)) (rw (l .is, q, same-eq (l .word) (bytes "loop") q))
+        go false q =
+            took s c m r f fieldName (l .word) (rw (l .is)) (rw (l .is, q, l .is, loop-or-free ns 0 (l .word) i h (l .found) q))
 
--- the bytes of the head, where it is a word
-head-spelled : (s : List ℕ) (c : Cursor) → Ready s c → (v : List ℕ) → kind (tokens s c) ≡ name v → part s (c .at) (length v) ≡ v
-head-spelled s c r v e = go (c .end - c .at) (c .kind) (sym (r .head .kind) ∙ e)
-  where
-    go : (n : ℕ) (k : Tok) → kindOf (drop (c .at) s) n k ≡ name v → part s (c .at) (length v) ≡ v
-    go n Name q = let w : take n (drop (c .at) s) ≡ v = cc in rw (← w) (take-same n (drop (c .at) s))
-    go n Num q = absurd (let z : _≡_ {A = ℕ} 0 1 = cc in omega arith)
-    go n Quoted q = absurd (let z : _≡_ {A = ℕ} 0 1 = cc in omega arith)
-    go n (Mark b) q = absurd (let z : _≡_ {A = ℕ} 0 1 = cc in omega arith)
+    pub took-pair : noKeywords ns ≡ true → Took 1 s c m pairName (l .word)
+    unfolding pairName
+    took-pair h = let t = took-listed r f l h in record { is = rw (t .is); low = t .low; ready = t .ready }
 
--- `loop` as a field's name
-pub took-loop : (s : List ℕ) (c m : Cursor) (r : Ready s c) (f : Follows s c m)
-    → seesBytes (bytes "loop") (tokens s c) ≡ true
-    → Took 1 s c m fieldName (part s (c .at) 4)
-unfolding fieldName
-took-loop s c m r f e =
-    let k = word-name (kind (tokens s c)) (bytes "loop") e in
-    rw (head-spelled s c r (bytes "loop") k) (took s c m r f fieldName (bytes "loop") (rw k) (rw e))
+  -- `loop`, which is in no row
+  pub took-loop : seesBytes (bytes "loop") (tokens s c) ≡ true → Took 1 s c m fieldName (bytes "loop")
+  unfolding fieldName
+  took-loop e =
+      let k = word-name (kind (tokens s c)) (bytes "loop") e in
+      took s c m r f fieldName (bytes "loop") (rw k) (rw e)
 
-pub took-name : (s : List ℕ) (c m : Cursor) (a : ℕ) (w : List ℕ) → seesBytes (bytes "loop") (tokens s c) ≡ false
-    → Took 1 s c m word (a, w) → Took 1 s c m fieldName w
-unfolding fieldName pairName
-took-name s c m a w e t = record { is = rw (e, t .is); low = t .low; ready = t .ready }
+  -- a name that is in no row
+  pub took-unlisted : (ns : List (List ℕ)) → listedIn ns (tokens s c) ≡ none → seesName (tokens s c) ≡ true
+      → (w : List ℕ) × Took 1 s c m pairName w × (find ns 0 w ≡ none)
+  unfolding pairName
+  took-unlisted ns e h =
+      let u = unlisted-kind (kind (tokens s c)) ns e h in
+      (u .0, took s c m r f pairName (u .0) (name-no-end (kind (tokens s c)) (u .0) (u .1)) (rw (u .1)), u .2)
 
-pub no-name : (s : List ℕ) (c : Cursor) (q : ℕ) → seesBytes (bytes "loop") (tokens s c) ≡ false
-    → run s c word ≡ refused Missing q → run s c fieldName ≡ refused Missing q
-unfolding fieldName pairName
-no-name s c q e h = rw (e, h)
+pub loop-unlisted : (ns : List (List ℕ)) (ts : List Token) → listedIn ns ts ≡ none → seesBytes (bytes "loop") ts ≡ true
+    → find ns 0 (bytes "loop") ≡ none
+loop-unlisted ns ts e h = rw (word-name (kind ts) (bytes "loop") h) at e
+
+pub no-plain : (s : List ℕ) (c : Cursor) → Ready s c → seesName (tokens s c) ≡ false → run s c pairName ≡ refused Missing (c .at)
+unfolding pairName
+no-plain s c r h = rw (no-name (kind (tokens s c)) h, r .head .place)
 
 -- a name, and what stands behind it
 pub head-took : (s : List ℕ) (p : Rule (List ℕ)) (c m u : Cursor) (w : List ℕ) (t : Table) (i : ℕ)
@@ -267,18 +292,22 @@ pub head-missing : (s : List ℕ) (p : Rule (List ℕ)) (c : Cursor) (t : Table)
 unfolding fieldHead
 head-missing s p c t x q h = rw h
 
-pub named : (s : List ℕ) (c : Cursor) (a : WordRead) → seesBytes (bytes "loop") (tokens s c) ≡ false
-    → WordMeans s c a → NameMeans s c fieldName a
-named s c (words.Is x m) e h = took-name s c m (x .start) _ e (h .0)
-named s c (words.Missing q) e h = no-name s c q e h
+-- where `loop` is not seen, a field's name is a name
+pub plain-start : (s : List ℕ) (c : Cursor) (t : Table) (a : NextField) → seesBytes (bytes "loop") (tokens s c) ≡ false
+    → StartMeans s pairName c t a → StartMeans s fieldName c t a
+unfolding fieldHead fieldName
+plain-start s c t (found.Field i u) e h =
+    record { row = h .row; is = h .is; took = record { is = rw e (h .took .is); low = h .took .low; ready = h .took .ready } }
+plain-start s c t (found.Done u) e h = h
+plain-start s c t (found.Refused x q) e h = rw e h
 
 -- the answer behind a name is the answer from the name on
-pub started : (s : List ℕ) (p : Rule (List ℕ)) (c m : Cursor) (x : Span) (t : Table) (a : NextField)
-    → Took 1 s c m p (spelled s x) → HeadMeans s x m t a
+pub started : {s : List ℕ} {p : Rule (List ℕ)} {c m : Cursor} {w : List ℕ} (t : Table) (a : NextField)
+    → Took 1 s c m p w → HeadMeans s w m t a
     → StartMeans s p c t a
-started s p c m x t (found.Field i u) n h = head-took s p c m u (spelled s x) t i n h
-started s p c m x t (found.Done u) n h = h
-started s p c m x t (found.Refused r q) n h = head-refused s p c m (spelled s x) t r q n h
+started {s} {p} {c} {m} {w} t (found.Field i u) n h = head-took s p c m u w t i n h
+started {s} {p} {c} {m} {w} t (found.Done u) n h = h
+started {s} {p} {c} {m} {w} t (found.Refused r q) n h = head-refused s p c m w t r q n h
 
 -- the next of the fields in parentheses, where the group does not end
 pub paired : (s : List ℕ) (t : Table) (c : Cursor) → Ready s c → ends (tokens s c) ≡ false
@@ -286,15 +315,6 @@ pub paired : (s : List ℕ) (t : Table) (c : Cursor) → Ready s c → ends (tok
 paired s t c r e (found.Field i u) h = pairs-field s t c r i u e h
 paired s t c r e (found.Done u) h = absurd h
 paired s t c r e (found.Refused x q) h = pairs-refused s t c r x q e h
-
--- a name as it stands
-pub took-plain : (s : List ℕ) (c m : Cursor) (a : ℕ) (w : List ℕ) → Took 1 s c m word (a, w) → Took 1 s c m pairName w
-unfolding pairName
-took-plain s c m a w t = record { is = rw (t .is); low = t .low; ready = t .ready }
-
-pub no-plain : (s : List ℕ) (c : Cursor) (x : Refusal) (q : ℕ) → run s c word ≡ refused x q → run s c pairName ≡ refused x q
-unfolding pairName
-no-plain s c x q h = rw h
 
 -- a list that was read from c on stands at m
 pub record Passed (s : List ℕ) (c m : Cursor) : Type 0 where

@@ -6,17 +6,14 @@ use mathlib.Core.Option.{some}
 use mathlib.Core.Path.{_≡_}
 use lib.ListN.{length, getElem?}
 use Rattle.text.specs.Bytes.{bytes}
-use Rattle.ast.specs.declared.Span.{Span}
 use Rattle.error.specs.declared.Refusal.the-variants as cause
 use Rattle.grammar.specs.Rule.{Out, got, refused, after, Rule, Next, next}
 use Rattle.grammar.specs.Rule.{iterate, listStep, eat, goOn, _>>=_, _>>_, the, need}
 use Rattle.grammar.specs.Fields as fields
 use Rattle.grammar.specs.Fields.{Table, Fields, Content, rowOf, fieldHead, fieldValue}
 use Rattle.grammar.specs.Fields.{fieldsStep, onePair}
-use Rattle.cursor.specs.Means.{Ready, notes, tokens, run, Took, spelled}
+use Rattle.cursor.specs.Means.{Ready, notes, tokens, run, Took}
 use Rattle.cursor.specs.declared.Cursor.{Cursor}
-use Rattle.cursor.specs.declared.WordRead.{WordRead}
-use Rattle.cursor.specs.declared.WordRead.the-variants as word
 use Rattle.fields.specs.declared.Item.{Item}
 use Rattle.fields.specs.declared.Item.the-variants as item
 use Rattle.fields.specs.declared.NextField.{NextField}
@@ -27,11 +24,6 @@ itemIs item.Halts = fields.halts
 itemIs item.Closes = fields.closes
 itemIs item.Passes = fields.passes
 itemIs item.Starts = fields.starts
-
--- a field's name
-abbrev pub NameMeans : List ℕ → Cursor → Rule (List ℕ) → WordRead → Type 0
-NameMeans s c p (word.Is x m) = Took 1 s c m p (spelled s x)
-NameMeans s c p (word.Missing q) = run s c p ≡ refused cause.Missing q
 
 -- the names of a table
 abbrev pub names : Table → List (List ℕ)
@@ -48,10 +40,10 @@ pub record RowAt (e : ℕ) (s : List ℕ) (c : Cursor) (p : Rule (String × Rule
 abbrev pub headBehind : List ℕ → Table → Rule (String × Rule Content)
 headBehind w t = the ":" >> need cause.UnknownKeyword (rowOf t w)
 
-abbrev pub HeadMeans : List ℕ → Span → Cursor → Table → NextField → Type 0
-HeadMeans s x c t (found.Field i m) = RowAt 1 s c (headBehind (spelled s x) t) t i m
-HeadMeans s x c t (found.Done m) = ⊥
-HeadMeans s x c t (found.Refused r q) = run s c (headBehind (spelled s x) t) ≡ refused r q
+abbrev pub HeadMeans : List ℕ → List ℕ → Cursor → Table → NextField → Type 0
+HeadMeans s w c t (found.Field i m) = RowAt 1 s c (headBehind w t) t i m
+HeadMeans s w c t (found.Done m) = ⊥
+HeadMeans s w c t (found.Refused r q) = run s c (headBehind w t) ≡ refused r q
 
 abbrev pub StartMeans : List ℕ → Rule (List ℕ) → Cursor → Table → NextField → Type 0
 StartMeans s p c t (found.Field i m) = RowAt 1 s c (fieldHead p t) t i m

@@ -4,14 +4,17 @@ ghost use mathlib.Core.Path.{_≡_};
 ghost use mathlib.Core.List.{List};
 ghost use Prim.Native.Nat.{ℕ};
 ghost use Rattle.token.specs.Means.{kindOf};
-ghost use Rattle.text.specs.Words.{table};
-ghost use Rattle.grammar.specs.Fields.{itemOf, fieldName, Table};
-ghost use Rattle.cursor.specs.Means.{Ready};
-ghost use Rattle.fields.specs.Means.{itemIs, NameMeans, names, HeadMeans, StartMeans, FieldMeans, PairMeans};
-use ast::Span;
+ghost use mathlib.Core.Bool.{true};
+ghost use mathlib.Core.Option.{none};
+ghost use Rattle.text.specs.Words.{find};
+ghost use Rattle.words.specs.Lists.{listOf};
+ghost use Rattle.words.specs.Keys.{placeIs};
+ghost use Rattle.token.specs.Token.{tokensFrom};
+ghost use Rattle.grammar.specs.Fields.{itemOf, fieldName, pairName, Table};
+ghost use Rattle.cursor.specs.Means.{Ready, listedIn, noKeywords};
+ghost use Rattle.fields.specs.Means.{itemIs, names, HeadMeans, StartMeans, FieldMeans, PairMeans};
 use cursor::Cursor;
 use cursor::MarkRead;
-use cursor::WordRead;
 use error::Refusal;
 use token::Tok;
 
@@ -52,50 +55,52 @@ fn item_of(k: Tok) -> Item
     }
 }
 
-// The name of a field: `loop`, which is no name elsewhere, or a name.
-fn field_name(text: &[u8], c: Cursor) -> WordRead
+// Behind a name: its `:`, and its place in the list.
+fn after_name(text: &[u8], row: u8, c: Cursor) -> NextField
     requires { ⌜ Ready (now text) c ⌝ }
-    ensures { λ r. ⌜ NameMeans (now (text .entry)) c fieldName r ⌝ }
-{
-    if cursor::sees_word(text, c, b"loop") {
-        let name = Span {
-            start: cursor::place(c),
-            size: 4,
-        };
-        return WordRead::Is(name, cursor::advance(text, c));
-    }
-    cursor::word(text, c)
-}
-
-// Behind a name: its `:`, and its place in the table.
-fn after_name(text: &[u8], name: Span, c: Cursor, rows: &[u8]) -> NextField
-    requires { ⌜ Ready (now text) c ⌝ }
-    ensures { λ r. ⌜ ((t : Table) → names t ≡ table (now (rows .entry)) → HeadMeans (now (text .entry)) name c t r) ⌝ }
+    ensures { λ r. ⌜ ((t : Table) (w : List ℕ) → placeIs row ≡ find (names t) 0 w → HeadMeans (now (text .entry)) w c t r) ⌝ }
 {
     match cursor::mark(text, c, b':') {
         MarkRead::Missing(p) => NextField::Refused(Refusal::Missing, p),
-        MarkRead::Is(m) => match text::find(rows, text::part(text, name.start, name.size)) {
-            text::Found::At(i) => NextField::Field(i, m),
-            text::Found::Nothing => NextField::Refused(Refusal::UnknownKeyword, cursor::place(m)),
-        },
+        MarkRead::Is(m) => {
+            if row == words::NONE {
+                return NextField::Refused(Refusal::UnknownKeyword, cursor::place(m));
+            }
+            NextField::Field(row as usize, m)
+        }
     }
 }
 
-// A field behind which others may follow.
-fn start_field(text: &[u8], c: Cursor, rows: &[u8]) -> NextField
+// A name that is in no row: it may be no name at all.
+fn unlisted(text: &[u8], c: Cursor) -> NextField
     requires { ⌜ Ready (now text) c ⌝ }
-    ensures { λ r. ⌜ ((t : Table) → names t ≡ table (now (rows .entry)) → StartMeans (now (text .entry)) fieldName c t r) ⌝ }
+    ensures { λ r. ⌜ ((t : Table) → listedIn (names t) (tokensFrom (now (text .entry)) (c .at)) ≡ none → StartMeans (now (text .entry)) pairName c t r) ⌝ }
 {
-    match field_name(text, c) {
-        WordRead::Missing(p) => NextField::Refused(Refusal::Missing, p),
-        WordRead::Is(name, m) => after_name(text, name, m, rows),
+    if cursor::sees_name(text, c) {
+        return after_name(text, words::NONE, cursor::advance(text, c));
     }
+    NextField::Refused(Refusal::Missing, cursor::place(c))
+}
+
+// A field behind which others may follow. `loop`, which is no name elsewhere, is one here.
+fn start_field(text: &[u8], c: Cursor, list: u8) -> NextField
+    requires { ⌜ Ready (now text) c ⌝ }
+    ensures { λ r. ⌜ ((t : Table) → names t ≡ listOf list → StartMeans (now (text .entry)) fieldName c t r) ⌝ }
+{
+    let row = cursor::listed(text, c, list);
+    if row == words::NONE {
+        if cursor::sees_word(text, c, b"loop") {
+            return after_name(text, words::NONE, cursor::advance(text, c));
+        }
+        return unlisted(text, c);
+    }
+    after_name(text, row, cursor::advance(text, c))
 }
 
 // To the next field of a list, which ends at the group's end or a `{`, or behind a `;`.
-pub fn parse_field_list(text: &[u8], c: Cursor, rows: &[u8]) -> NextField
+pub fn parse_field_list(text: &[u8], c: Cursor, list: u8) -> NextField
     requires { ⌜ Ready (now text) c ⌝ }
-    ensures { λ r. ⌜ ((t : Table) → names t ≡ table (now (rows .entry)) → FieldMeans (now (text .entry)) c t r) ⌝ }
+    ensures { λ r. ⌜ ((t : Table) → names t ≡ listOf list → FieldMeans (now (text .entry)) c t r) ⌝ }
 {
     let mut m = c;
     loop {
@@ -106,21 +111,22 @@ pub fn parse_field_list(text: &[u8], c: Cursor, rows: &[u8]) -> NextField
             Item::Passes => {
                 m = cursor::advance(text, m);
             }
-            Item::Starts => return start_field(text, m, rows),
+            Item::Starts => return start_field(text, m, list),
         }
     }
 }
 
-// To the next of the fields in parentheses, which end with the group.
-pub fn next_pair(text: &[u8], c: Cursor, rows: &[u8]) -> NextField
-    requires { ⌜ Ready (now text) c ⌝ }
-    ensures { λ r. ⌜ ((t : Table) → names t ≡ table (now (rows .entry)) → PairMeans (now (text .entry)) c t r) ⌝ }
+// To the next of the fields in parentheses, which end with the group. No word of the list is a keyword.
+pub fn next_pair(text: &[u8], c: Cursor, list: u8) -> NextField
+    requires { ⌜ Ready (now text) c × (noKeywords (listOf list) ≡ true) ⌝ }
+    ensures { λ r. ⌜ ((t : Table) → names t ≡ listOf list → PairMeans (now (text .entry)) c t r) ⌝ }
 {
     if cursor::ends(c) {
         return NextField::Done(c);
     }
-    match cursor::word(text, c) {
-        WordRead::Missing(p) => NextField::Refused(Refusal::Missing, p),
-        WordRead::Is(name, m) => after_name(text, name, m, rows),
+    let row = cursor::listed(text, c, list);
+    if row == words::NONE {
+        return unlisted(text, c);
     }
+    after_name(text, row, cursor::advance(text, c))
 }

@@ -44,13 +44,11 @@ pub enum StaggerRead {
 
 // ---- group
 
-const GROUP_MODES: [u8; 18] = *b"\x08sequence\x08parallel";
-
 pub fn parse_group(text: &[u8], c: Cursor) -> GroupRead
     requires { ⌜ Ready (now text) c ⌝ }
     ensures { λ r. ⌜ GroupMeans (now (text .entry)) c r ⌝ }
 {
-    match cursor::choice(text, c, &GROUP_MODES, Refusal::Malformed) {
+    match cursor::choice(text, c, words::GROUP_MODES, Refusal::Malformed) {
         CaseRead::Refused(r, p) => GroupRead::Refused(r, p),
         CaseRead::Is(i, m) => GroupRead::Is(i as u8, m),
     }
@@ -87,20 +85,15 @@ fn float_or(o: OptF32, d: f32) -> f32
 
 // ---- grid
 
-const GRID_ORIGINS: [u8; 73] =
-    *b"\x08top_left\x09top_right\x0bbottom_left\x0cbottom_right\x06center\x03top\x06bottom\x04left\x05right";
-
 pub fn parse_grid_origin(text: &[u8], c: Cursor) -> OriginRead
     requires { ⌜ Ready (now text) c ⌝ }
     ensures { λ r. ⌜ OriginMeans (now (text .entry)) c r ⌝ }
 {
-    match cursor::choice(text, c, &GRID_ORIGINS, Refusal::Malformed) {
+    match cursor::choice(text, c, words::GRID_ORIGINS, Refusal::Malformed) {
         CaseRead::Refused(r, p) => OriginRead::Refused(r, p),
         CaseRead::Is(i, m) => OriginRead::Is(i as u8, m),
     }
 }
-
-const GRID_FIELDS: [u8; 17] = *b"\x04cols\x04rows\x06origin";
 
 // The fields so far.
 pub struct GridFields {
@@ -148,7 +141,7 @@ fn next_grid(text: &[u8], c: Cursor) -> NextField
     requires { ⌜ Ready (now text) c ⌝ }
     ensures { λ r. ⌜ fields.PairMeans (now (text .entry)) c gridFields r ⌝ }
 {
-    fields::next_pair(text, c, &GRID_FIELDS)
+    fields::next_pair(text, c, words::GRID_FIELDS)
 }
 
 fn grid_fields(text: &[u8], c: Cursor) -> GridRead
@@ -221,8 +214,6 @@ fn grid_pattern(text: &[u8], c: Cursor) -> PatternRead
 
 // ---- random
 
-const RANDOM_FIELDS: [u8; 13] = *b"\x04seed\x03min\x03max";
-
 // The fields so far.
 pub struct RandomFields {
     pub seed: OptU32,
@@ -269,7 +260,7 @@ fn next_random(text: &[u8], c: Cursor) -> NextField
     requires { ⌜ Ready (now text) c ⌝ }
     ensures { λ r. ⌜ fields.PairMeans (now (text .entry)) c randomFields r ⌝ }
 {
-    fields::next_pair(text, c, &RANDOM_FIELDS)
+    fields::next_pair(text, c, words::RANDOM_FIELDS)
 }
 
 fn random_fields(text: &[u8], c: Cursor) -> RandomRead
@@ -329,8 +320,6 @@ fn random_pattern(text: &[u8], c: Cursor) -> PatternRead
 
 // ---- stagger
 
-const PATTERNS: [u8; 32] = *b"\x04grid\x06random\x0acenter_out\x08edges_in";
-
 // Behind a pattern's name.
 fn named_pattern(text: &[u8], c: Cursor, i: usize) -> PatternRead
     requires { ⌜ Ready (now text) c ⌝ }
@@ -348,13 +337,11 @@ pub fn parse_stagger_pattern(text: &[u8], c: Cursor) -> PatternRead
     requires { ⌜ Ready (now text) c ⌝ }
     ensures { λ r. ⌜ PatternMeans 1 (now (text .entry)) c parseStaggerPattern r ⌝ }
 {
-    match cursor::choice(text, c, &PATTERNS, Refusal::Malformed) {
+    match cursor::choice(text, c, words::PATTERNS, Refusal::Malformed) {
         CaseRead::Refused(r, p) => PatternRead::Refused(r, p),
         CaseRead::Is(i, m) => named_pattern(text, m, i),
     }
 }
-
-const OPENING_FIELDS: [u8; 14] = *b"\x07pattern\x05delay";
 
 // The fields so far.
 pub struct Opening {
@@ -402,7 +389,7 @@ fn opening_field(text: &[u8], c: Cursor, f: Opening) -> OpeningRead
     requires { ⌜ Ready (now text) c × PlainOpening f ⌝ }
     ensures { λ r. ⌜ OpeningMeans (now (text .entry)) c (oneOpening (openingOf f)) r ⌝ }
 {
-    match cursor::choice(text, c, &OPENING_FIELDS, Refusal::UnknownKeyword) {
+    match cursor::choice(text, c, words::OPENING_FIELDS, Refusal::UnknownKeyword) {
         CaseRead::Refused(r, p) => OpeningRead::Refused(r, p),
         CaseRead::Is(i, m) => opening_value(text, m, f, i),
     }

@@ -27,8 +27,6 @@ use values::PairRead;
 
 // ---- draw
 
-const DRAW_ROWS: [u8; 16] = *b"\x08duration\x06easing";
-
 // What the fields of a draw say.
 pub struct DrawFields {
     pub duration: OptF32,
@@ -78,11 +76,10 @@ pub fn draw_fields(text: &[u8], c: Cursor, earlier: DrawFields) -> DrawStep
     requires { ⌜ Ready (now text) c ⌝ }
     ensures { λ r. ⌜ ((fs : Fields) → AllSay (now (text .entry)) (c .at) (c .at) (drawCells earlier) fs → DrawListMeans (now (text .entry)) c (parseFieldList drawFields fs) r) ⌝ }
 {
-    let rows = DRAW_ROWS;
     let mut m = c;
     let mut kept = earlier;
     loop {
-        match fields::parse_field_list(text, m, &rows) {
+        match fields::parse_field_list(text, m, words::DRAW_ROWS) {
             NextField::Refused(r, p) => return DrawStep::Refused(r, p),
             NextField::Done(e) => return DrawStep::Is(kept, e),
             NextField::Field(i, v) => match draw_step(text, v, i, kept) {
@@ -101,11 +98,10 @@ pub fn draw_pairs(text: &[u8], c: Cursor) -> DrawStep
     requires { ⌜ Ready (now text) c ⌝ }
     ensures { λ r. ⌜ DrawListMeans (now (text .entry)) c (pairs drawFields) r ⌝ }
 {
-    let rows = DRAW_ROWS;
     let mut m = c;
     let mut kept = no_draw_fields();
     loop {
-        match fields::next_pair(text, m, &rows) {
+        match fields::next_pair(text, m, words::DRAW_ROWS) {
             NextField::Refused(r, p) => return DrawStep::Refused(r, p),
             NextField::Done(e) => return DrawStep::Is(kept, e),
             NextField::Field(i, v) => match draw_step(text, v, i, kept) {
@@ -125,8 +121,6 @@ pub fn draw_pairs(text: &[u8], c: Cursor) -> DrawStep
 }
 
 // ---- morph
-
-const MORPH_ROWS: [u8; 24] = *b"\x07samples\x08duration\x06easing";
 
 // What the fields of a morph say.
 pub struct MorphFields {
@@ -175,7 +169,6 @@ pub fn morph_fields(text: &[u8], c: Cursor) -> MorphStep
     requires { ⌜ Ready (now text) c ⌝ }
     ensures { λ r. ⌜ MorphListMeans (now (text .entry)) c r ⌝ }
 {
-    let rows = MORPH_ROWS;
     let mut m = c;
     let mut kept = MorphFields {
         samples: OptU32::Absent,
@@ -183,7 +176,7 @@ pub fn morph_fields(text: &[u8], c: Cursor) -> MorphStep
         easing: OptEasing::Absent,
     };
     loop {
-        match fields::parse_field_list(text, m, &rows) {
+        match fields::parse_field_list(text, m, words::MORPH_ROWS) {
             NextField::Refused(r, p) => return MorphStep::Refused(r, p),
             NextField::Done(e) => return MorphStep::Is(kept, e),
             NextField::Field(i, v) => match morph_step(text, v, i, kept) {
@@ -199,8 +192,6 @@ pub fn morph_fields(text: &[u8], c: Cursor) -> MorphStep
 
 // ---- color
 
-const COLOR_ROWS: [u8; 22] = *b"\x08duration\x05space\x06easing";
-
 // What the fields of a color say.
 pub struct ColorFields {
     pub duration: OptF32,
@@ -212,8 +203,6 @@ pub enum ColorStep {
     Is(ColorFields, Cursor),
     Refused(Refusal, usize),
 }
-
-const SPACES: [u8; 17] = *b"\x06linear\x03lab\x05oklch";
 
 // The value of the field of a row, onto those before it.
 fn color_step(text: &[u8], c: Cursor, row: usize, kept: ColorFields) -> ColorStep
@@ -228,7 +217,7 @@ fn color_step(text: &[u8], c: Cursor, row: usize, kept: ColorFields) -> ColorSte
                 ColorStep::Is(ColorFields { duration, ..kept }, m)
             }
         },
-        1 => match cursor::choice(text, c, &SPACES, Refusal::Malformed) {
+        1 => match cursor::choice(text, c, words::SPACES, Refusal::Malformed) {
             CaseRead::Refused(r, p) => ColorStep::Refused(r, p),
             CaseRead::Is(i, m) => {
                 let space = OptCase::Present(i as u8);
@@ -250,7 +239,6 @@ pub fn color_fields(text: &[u8], c: Cursor) -> ColorStep
     requires { ⌜ Ready (now text) c ⌝ }
     ensures { λ r. ⌜ ColorListMeans (now (text .entry)) c r ⌝ }
 {
-    let rows = COLOR_ROWS;
     let mut m = c;
     let mut kept = ColorFields {
         duration: OptF32::Absent,
@@ -258,7 +246,7 @@ pub fn color_fields(text: &[u8], c: Cursor) -> ColorStep
         easing: OptEasing::Absent,
     };
     loop {
-        match fields::parse_field_list(text, m, &rows) {
+        match fields::parse_field_list(text, m, words::COLOR_ROWS) {
             NextField::Refused(r, p) => return ColorStep::Refused(r, p),
             NextField::Done(e) => return ColorStep::Is(kept, e),
             NextField::Field(i, v) => match color_step(text, v, i, kept) {
@@ -273,8 +261,6 @@ pub fn color_fields(text: &[u8], c: Cursor) -> ColorStep
 }
 
 // ---- path
-
-const PATH_ROWS: [u8; 40] = *b"\x08duration\x06easing\x0bauto_rotate\x06offset\x04loop";
 
 // What the fields of a path say.
 pub struct PathFields {
@@ -362,7 +348,6 @@ pub fn path_fields(text: &[u8], c: Cursor) -> PathStep
     requires { ⌜ Ready (now text) c ⌝ }
     ensures { λ r. ⌜ PathListMeans (now (text .entry)) c r ⌝ }
 {
-    let rows = PATH_ROWS;
     let mut m = c;
     let mut kept = PathFields {
         duration: OptF32::Absent,
@@ -372,7 +357,7 @@ pub fn path_fields(text: &[u8], c: Cursor) -> PathStep
         loop_mode: OptLoop::Absent,
     };
     loop {
-        match fields::parse_field_list(text, m, &rows) {
+        match fields::parse_field_list(text, m, words::PATH_ROWS) {
             NextField::Refused(r, p) => return PathStep::Refused(r, p),
             NextField::Done(e) => return PathStep::Is(kept, e),
             NextField::Field(i, v) => match path_step(text, v, i, kept) {

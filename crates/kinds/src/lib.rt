@@ -215,15 +215,13 @@ fn path_end(
     }
 }
 
-const ALONG: [u8; 6] = *b"\x05along";
-
 pub fn parse_path(text: &[u8], sheet: &mut [u8], c: Cursor, out: usize) -> NodeRead
     requires { ⌜ Ready (now text) c × Room (now text) out ⌝ }
     ensures { λ r. ⌜ LeafMeans (now (text .entry)) (now (sheet .entry)) (now (sheet .exit)) c out parsePath r ⌝ }
 {
     match cursor::word(text, c) {
         WordRead::Missing(p) => NodeRead::Refused(Refusal::Missing, p),
-        WordRead::Is(target, m) => match cursor::choice(text, m, &ALONG, Refusal::Malformed) {
+        WordRead::Is(target, m) => match cursor::choice(text, m, words::ALONG, Refusal::Malformed) {
             CaseRead::Refused(r, p) => NodeRead::Refused(r, p),
             CaseRead::Is(_, n) => match cursor::string(text, n) {
                 WordRead::Missing(p) => NodeRead::Refused(Refusal::Missing, p),
@@ -271,8 +269,6 @@ fn waveform_end(
     }
 }
 
-const WAVEFORMS: [u8; 36] = *b"\x04sine\x08sawtooth\x06square\x08triangle\x05noise";
-
 // The last of them, which reading refuses: 02 (h).
 const NOISE: usize = 4;
 
@@ -280,7 +276,7 @@ pub fn parse_waveform(text: &[u8], sheet: &mut [u8], c: Cursor, out: usize) -> N
     requires { ⌜ Ready (now text) c × Room (now text) out ⌝ }
     ensures { λ r. ⌜ LeafMeans (now (text .entry)) (now (sheet .entry)) (now (sheet .exit)) c out parseWaveform r ⌝ }
 {
-    match cursor::choice(text, c, &WAVEFORMS, Refusal::Malformed) {
+    match cursor::choice(text, c, words::WAVEFORMS, Refusal::Malformed) {
         CaseRead::Refused(r, p) => NodeRead::Refused(r, p),
         CaseRead::Is(i, m) => {
             if i == NOISE {

@@ -15,13 +15,6 @@ use error::Refusal;
 use fields::NextField;
 use values::PairRead;
 
-const SPRING_ROWS: [u8; 99] =
-    *b"\x06preset\x09stiffness\x07damping\x04mass\x08velocity\x07epsilon\x0aintegrator\x11critically_damped\x0aoverdamped\x0bunderdamped";
-
-const PRESETS: [u8; 32] = *b"\x06gentle\x06wobbly\x05stiff\x04slow\x06snappy";
-
-const INTEGRATORS: [u8; 24] = *b"\x13semi_implicit_euler\x03rk4";
-
 // What a spring's fields say. The velocity is the cursor before it.
 pub struct SpringFields {
     pub preset: OptCase,
@@ -113,7 +106,7 @@ fn spring_step(text: &[u8], c: Cursor, row: usize, kept: SpringFields) -> Spring
     ensures { λ r. ⌜ SpringStepMeans (now (text .entry)) c row kept r ⌝ }
 {
     match row {
-        0 => match cursor::choice(text, c, &PRESETS, Refusal::UnknownSpringPreset) {
+        0 => match cursor::choice(text, c, words::SPRING_PRESETS, Refusal::UnknownSpringPreset) {
             CaseRead::Refused(r, p) => SpringStep::Refused(r, p),
             CaseRead::Is(i, m) => {
                 let preset = OptCase::Present(i as u8);
@@ -155,7 +148,7 @@ fn spring_step(text: &[u8], c: Cursor, row: usize, kept: SpringFields) -> Spring
                 SpringStep::Is(SpringFields { epsilon, ..kept }, m)
             }
         },
-        6 => match cursor::choice(text, c, &INTEGRATORS, Refusal::Malformed) {
+        6 => match cursor::choice(text, c, words::INTEGRATORS, Refusal::Malformed) {
             CaseRead::Refused(r, p) => SpringStep::Refused(r, p),
             CaseRead::Is(i, m) => {
                 let integrator = OptCase::Present(i as u8);
@@ -171,7 +164,6 @@ pub fn spring_fields(text: &[u8], c: Cursor) -> SpringStep
     requires { ⌜ Ready (now text) c ⌝ }
     ensures { λ r. ⌜ SpringListMeans (now (text .entry)) c r ⌝ }
 {
-    let rows = SPRING_ROWS;
     let mut m = c;
     let mut kept = SpringFields {
         preset: OptCase::Absent,
@@ -184,7 +176,7 @@ pub fn spring_fields(text: &[u8], c: Cursor) -> SpringStep
         damping_mode: OptDamping::Absent,
     };
     loop {
-        match fields::parse_field_list(text, m, &rows) {
+        match fields::parse_field_list(text, m, words::SPRING_ROWS) {
             NextField::Refused(r, p) => return SpringStep::Refused(r, p),
             NextField::Done(e) => return SpringStep::Is(kept, e),
             NextField::Field(i, v) => match spring_step(text, v, i, kept) {

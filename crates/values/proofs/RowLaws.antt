@@ -107,10 +107,6 @@ under-none-from (f ∷ fs) i w e = under-none-by f fs i w e (λ q. under-none-fr
 pub under-none : {A : Type 0} (t : List (String × A)) (w : List ℕ) → find (wordsOf t) 0 w ≡ none → under t w ≡ none
 under-none t w e = under-none-from t 0 w e
 
--- the code's lookup of a part of the text
-pub looked-up : (ws : List (List ℕ)) (w v : List ℕ) (x : Option ℕ) → v ≡ w → x ≡ find ws 0 v → find ws 0 w ≡ x
-looked-up ws w v x f h = rw (← f) (sym h)
-
 -- a place that has a row is one of the table's
 pub elem-lt : {A : Type 0} (t : List A) (i : ℕ) (x : A) → getElem? t i ≡ some x → i < length t
 elem-lt [] i x e = absurd (let z : _≡_ {A = ℕ} 0 1 = cc in omega arith)

@@ -143,8 +143,6 @@ fn bezier_curve(text: &[u8], c: Cursor) -> EasingRead
 
 // ---- rough
 
-const ROUGH_FIELDS: [u8; 16] = *b"\x08strength\x06points";
-
 // The fields so far.
 pub struct RoughFields {
     pub strength: OptF32,
@@ -191,7 +189,7 @@ fn next_rough(text: &[u8], c: Cursor) -> NextField
     requires { ⌜ Ready (now text) c ⌝ }
     ensures { λ r. ⌜ fields.PairMeans (now (text .entry)) c roughFields r ⌝ }
 {
-    fields::next_pair(text, c, &ROUGH_FIELDS)
+    fields::next_pair(text, c, words::ROUGH_FIELDS)
 }
 
 fn rough_fields(text: &[u8], c: Cursor) -> RoughRead
@@ -224,8 +222,6 @@ fn rough_fields(text: &[u8], c: Cursor) -> RoughRead
 }
 
 // ---- slowmo
-
-const SLOW_MO_FIELDS: [u8; 19] = *b"\x0clinear_ratio\x05power";
 
 // The fields so far.
 pub struct SlowMoFields {
@@ -273,7 +269,7 @@ fn next_slow_mo(text: &[u8], c: Cursor) -> NextField
     requires { ⌜ Ready (now text) c ⌝ }
     ensures { λ r. ⌜ fields.PairMeans (now (text .entry)) c slowMoFields r ⌝ }
 {
-    fields::next_pair(text, c, &SLOW_MO_FIELDS)
+    fields::next_pair(text, c, words::SLOW_MO_FIELDS)
 }
 
 fn slow_mo_fields(text: &[u8], c: Cursor) -> SlowMoRead
@@ -395,8 +391,6 @@ fn wiggle_curve(text: &[u8], c: Cursor) -> EasingRead
     }
 }
 
-const CURVES: [u8; 39] = *b"\x0ccubic_bezier\x05steps\x06wiggle\x05rough\x06slowmo";
-
 // A word that is no curve's: a name, or the one behind `Easing::`.
 fn named_easing(text: &[u8], name: Span, c: Cursor) -> EasingRead
     requires { ⌜ Ready (now text) c × (name .start + name .size ≤ length (now text)) ⌝ }
@@ -433,10 +427,11 @@ fn after_word(text: &[u8], name: Span, c: Cursor) -> EasingRead
     requires { ⌜ Ready (now text) c × (name .start + name .size ≤ length (now text)) ⌝ }
     ensures { λ r. ⌜ NamedMeans (now (text .entry)) c (curveOr (name .start, spelled (now (text .entry)) name)) r ⌝ }
 {
-    match text::find(&CURVES, text::part(text, name.start, name.size)) {
-        text::Found::Nothing => named_easing(text, name, c),
-        text::Found::At(i) => curve(text, c, i),
+    let i = words::find(words::CURVES, text, name.start, name.size);
+    if i == words::NONE {
+        return named_easing(text, name, c);
     }
+    curve(text, c, i as usize)
 }
 
 pub fn parse_easing(text: &[u8], c: Cursor) -> EasingRead
@@ -453,8 +448,6 @@ pub fn parse_easing(text: &[u8], c: Cursor) -> EasingRead
 }
 
 // ---- loop mode
-
-const LOOP_MODES: [u8; 29] = *b"\x04once\x07forever\x09ping_pong\x05times";
 
 // `(n)`, behind `times`.
 fn times_mode(text: &[u8], c: Cursor) -> LoopRead
@@ -500,12 +493,12 @@ pub fn parse_loop_mode(text: &[u8], c: Cursor) -> LoopRead
 {
     match cursor::word(text, c) {
         WordRead::Missing(p) => LoopRead::Refused(Refusal::Missing, p),
-        WordRead::Is(name, m) => match text::find(
-            &LOOP_MODES,
-            text::part(text, name.start, name.size),
-        ) {
-            text::Found::At(i) => mode(text, m, i),
-            text::Found::Nothing => LoopRead::Refused(Refusal::Malformed, cursor::place(m)),
-        },
+        WordRead::Is(name, m) => {
+            let i = words::find(words::LOOP_MODES, text, name.start, name.size);
+            if i == words::NONE {
+                return LoopRead::Refused(Refusal::Malformed, cursor::place(m));
+            }
+            mode(text, m, i as usize)
+        }
     }
 }

@@ -10,9 +10,6 @@ use cursor::UintRead;
 use error::Refusal;
 use fields::NextField;
 
-const WAVEFORM_ROWS: [u8; 62] =
-    *b"\x09frequency\x09amplitude\x05phase\x0aduty_cycle\x04seed\x0asmoothness\x08duration";
-
 // What the fields of a waveform say.
 pub struct WaveformFields {
     pub frequency: OptF32,
@@ -92,7 +89,6 @@ pub fn waveform_fields(text: &[u8], c: Cursor) -> WaveformStep
     requires { ⌜ Ready (now text) c ⌝ }
     ensures { λ r. ⌜ WaveformListMeans (now (text .entry)) c r ⌝ }
 {
-    let rows = WAVEFORM_ROWS;
     let mut m = c;
     let mut kept = WaveformFields {
         frequency: OptF32::Absent,
@@ -104,7 +100,7 @@ pub fn waveform_fields(text: &[u8], c: Cursor) -> WaveformStep
         duration: OptF32::Absent,
     };
     loop {
-        match fields::parse_field_list(text, m, &rows) {
+        match fields::parse_field_list(text, m, words::WAVEFORM_ROWS) {
             NextField::Refused(r, p) => return WaveformStep::Refused(r, p),
             NextField::Done(e) => return WaveformStep::Is(kept, e),
             NextField::Field(i, v) => match waveform_step(text, v, i, kept) {

@@ -33,7 +33,7 @@ abbrev μ-loop : tie.MeasureT-loop
 
 loop-holds : tie.Need-loop-holds Inv-loop μ-loop
 loop-holds c =
-    let start = c .before .before in
+    let start = c .before in
     passed-start (start .args .text .now) (start .args .c) (start .pre)
 
 returns : tie.Need-returns Inv-loop μ-loop
@@ -41,7 +41,7 @@ returns c t e =
     let at-item-of = c .before .before in
     let at-loop = at-item-of .before in
     let loop = at-loop .loop in
-    let args = at-loop .before .before .before .args in (
+    let args = at-loop .before .before .args in (
       loop .inv .ready,
       loop .inv .low,
       λ fs. loop .inv .goes t fs _
@@ -57,7 +57,7 @@ returns-2 c t e =
     let at-item-of = c .before .before .before in
     let at-loop = at-item-of .before in
     let loop = at-loop .loop in
-    let args = at-loop .before .before .before .args in (
+    let args = at-loop .before .before .args in (
       c .advance .ensures .ready,
       (let a = moved-low (args .text .now) (loop .m) (c .advance .result) (loop .inv .ready) (c .advance .ensures) in
           omega (arith, loop .inv .low)),
@@ -74,7 +74,7 @@ loop-less c =
     let at-item-of = c .before .before .before in
     let at-loop = at-item-of .before in
     let loop = at-loop .loop in
-    let args = at-loop .before .before .before .args in
+    let args = at-loop .before .before .args in
     let a = passes-moves (args .text .now) [] (loop .m) (loop .inv .ready) (c .advance2 .result) (c .advance2 .ensures)
     (item (args .text .now) (loop .m) (loop .inv .ready) _ _ (at-item-of .item-of .ensures) (c .before .enum-told3 .given .1))
     in
@@ -85,7 +85,7 @@ loop-again c =
     let at-item-of = c .before .before .before in
     let at-loop = at-item-of .before in
     let loop = at-loop .loop in
-    let args = at-loop .before .before .before .args in
+    let args = at-loop .before .before .args in
     passed-on
     (args .text .now)
     (args .c)
@@ -103,7 +103,7 @@ returns-3 c t e =
     let at-item-of = c .before .before .before in
     let at-loop = at-item-of .before in
     let loop = at-loop .loop in
-    let args = at-loop .before .before .before .args in
+    let args = at-loop .before .before .args in
     passed-field
     (args .text .now)
     t

@@ -1,27 +1,86 @@
--- `fields::start_field` meets its contract.
+use Rattle.cursor.specs.Means.{tokens}
+use Rattle.fields.specs.Means.{names}
+use Rattle.words.proofs.KeyLaws.{some-place, none-place}
 use Rattle.text.specs.Bytes.{at}
-use Rattle.grammar.specs.Fields.{fieldName}
-use Rattle.fields.proofs.FieldLaws.{head-missing, started}
+use mathlib.Core.Path.{sym, ap, _∙_}
+use Rattle.text.specs.Words.{find}
+use Rattle.words.proofs.KeyLaws.{place-some, place-none}
+use Rattle.cursor.proofs.ListedLaws.{listed-word}
+use Rattle.fields.proofs.FieldLaws.{all-alone, took-loop, took-field, loop-unlisted, plain-start, started}
 use borrow.Author.Needs.{needs}
 use Rattle.fields.proofs.start_field.Statement.{statement}
 use Rattle.fields.proofs.start_field.Tie as tie
+use Rattle.fields.proofs.start_field.Reads as reads
+use Rattle.fields.proofs.start_field.Lts as lts
+use Rattle.cursor.proofs.advance.Reads as advance-reads
+use Rattle.cursor.proofs.listed.Reads as listed-reads
+use Rattle.cursor.proofs.sees_word.Reads as sees-word-reads
+use Rattle.fields.proofs.after_name.Reads as after-name-reads
+use Rattle.fields.proofs.unlisted.Reads as unlisted-reads
 
+-- src/lib.rt:90:9
+listed-requires : tie.Need-listed-requires
+listed-requires c κs = search needs
+
+-- src/lib.rt:92:39
+slice-aggregate-sees-word : tie.Need-slice-aggregate-sees-word
+slice-aggregate-sees-word c = search needs
+
+-- src/lib.rt:92:12
+sees-word-requires : tie.Need-sees-word-requires
+sees-word-requires c κs = search needs
+
+-- src/lib.rt:93:50
+advance-requires : tie.Need-advance-requires
+advance-requires c κs = search needs
+
+-- src/lib.rt:93:13
 after-name-requires : tie.Need-after-name-requires
-after-name-requires c κs = (rw (c .before .name .given .1) at (c .before .before .before .field-name .ensures)) .ready
+after-name-requires c κs = search needs
 
+-- src/lib.rt:93:13
 returns : tie.Need-returns
 returns c t e =
-    let at-field-name = c .before .before .before in
-    let args = at-field-name .before .before .before .args in
-    head-missing (args .text .now) fieldName (args .c) t _ _ (rw (c .before .p .given .1) at (at-field-name .field-name .ensures))
+    let n = rw (sym e) at (place-none _ (c .before .before .before .before .before .before .listed .ensures) (c .before .before .before .before .before .if1 .taken)) in
+    let l = sym (c .before .before .before .sees-word .ensures) ∙ c .before .before .if2 .taken in
+    started t (c .after-name .result) (took-loop (c .before .before .before .before .before .before .before .before .pre) (c .before .advance .ensures) l) (c .after-name .ensures t _ (none-place (loop-unlisted (names t) (tokens (c .before .before .before .before .before .before .before .before .args .text .now) (c .before .before .before .before .before .before .before .before .args .c)) n l)))
 
+-- src/lib.rt:95:9
+unlisted-requires : tie.Need-unlisted-requires
+unlisted-requires c κs = search needs
+
+-- src/lib.rt:95:9
 returns-2 : tie.Need-returns-2
 returns-2 c t e =
-    let at-name = c .before .before in
-    let at-field-name = at-name .before .before in
-    let args = at-field-name .before .before .before .args in
-    started (args .text .now) fieldName (args .c) _ _ t (c .after-name .result)
-    (rw (at-name .name .given .1) at (at-field-name .field-name .ensures)) (c .after-name .ensures t e)
+    let n = rw (sym e) at (place-none _ (c .before .before .before .before .before .listed .ensures) (c .before .before .before .before .if1 .taken)) in
+    plain-start (c .before .before .before .before .before .before .before .args .text .now) (c .before .before .before .before .before .before .before .args .c) t (c .unlisted .result) (sym (c .before .before .sees-word .ensures) ∙ c .before .if2 .left) (c .unlisted .ensures t n)
+
+-- src/lib.rt:97:27
+advance-requires-2 : tie.Need-advance-requires-2
+advance-requires-2 c κs = search needs
+
+-- src/lib.rt:97:5
+after-name-requires-2 : tie.Need-after-name-requires-2
+after-name-requires-2 c κs = search needs
+
+-- src/lib.rt:86:1
+returns-3 : tie.Need-returns-3
+returns-3 c t e =
+    let l = listed-word _ _ _ (place-some _ (c .before .before .before .listed .ensures) (c .before .before .if1 .left)) in
+    started t (c .after-name2 .result) (took-field (c .before .before .before .before .before .pre) (c .before .advance2 .ensures) l (all-alone (c .before .before .before .before .before .args .list))) (c .after-name2 .ensures t _ (some-place (c .before .before .if1 .left) (rw e (l .found))))
 
 pub start-field-spec : {M : Type 1} → statement M
-start-field-spec = tie.close (tie.spec (λ c κs. search needs) (λ c. search needs) (λ c. search needs) after-name-requires returns returns-2)
+start-field-spec =
+    tie.close
+    (tie.spec
+    listed-requires
+    slice-aggregate-sees-word
+    sees-word-requires
+    advance-requires
+    after-name-requires
+    returns
+    unlisted-requires
+    returns-2
+    advance-requires-2
+    after-name-requires-2
+    returns-3)

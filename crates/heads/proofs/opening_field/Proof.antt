@@ -1,4 +1,9 @@
-use Rattle.text.specs.Words.{entries}
+use mathlib.Core.Path.{refl}
+use Rattle.text.specs.Bytes.{same}
+use Rattle.text.specs.Words.{find}
+use Rattle.token.specs.Names.{isKeyword}
+use Rattle.words.specs.Lists.{listOf}
+use Rattle.cursor.specs.Means.{noKeywords}
 use Rattle.heads.proofs.StaggerLaws.{named-opening}
 use Rattle.grammar.specs.Grammar.{openingFields}
 use Rattle.heads.specs.Means.{openingOf}
@@ -8,26 +13,30 @@ use borrow.Author.Needs.{needs}
 use Rattle.heads.proofs.opening_field.Statement.{statement}
 use Rattle.heads.proofs.opening_field.Tie as tie
 
+choice-requires : tie.Need-choice-requires
+unfolding listOf noKeywords isKeyword find same
+choice-requires c κs = (c .before .pre .0, refl)
+
 opening-value-requires : tie.Need-opening-value-requires
 opening-value-requires c κs =
     let at-choice = c .before .before .before in
-    let start = at-choice .before .before .before in
+    let start = at-choice .before .before in
     ((rw (c .before .i .given .1) at (at-choice .choice .ensures)) .ready, start .pre .1)
 
 returns : tie.Need-returns
-unfolding openingFields entries
+unfolding openingFields listOf
 returns c =
     let at-choice = c .before .before .before in
-    let args = at-choice .before .before .before .args in
+    let args = at-choice .before .before .args in
     unnamed (args .text .now) (args .c) UnknownKeyword (openingFields (openingOf (args .f))) _ _
     (rw (c .before .r .given .1) at (at-choice .choice .ensures))
 
 returns-2 : tie.Need-returns-2
-unfolding openingFields entries
+unfolding openingFields listOf
 returns-2 c =
     let at-i = c .before .before in
     let at-choice = at-i .before .before in
-    let args = at-choice .before .before .before .args in
+    let args = at-choice .before .before .args in
     named-opening
     (args .text .now)
     (args .c)
@@ -40,5 +49,5 @@ returns-2 c =
 
 pub opening-field-spec : {M : Type 1} → statement M
 opening-field-spec =
-    tie.close (tie.spec (λ c. search needs) (λ c κs. search needs) (λ c. search needs) (λ c. search needs) opening-value-requires returns
+    tie.close (tie.spec choice-requires (λ c. search needs) (λ c. search needs) opening-value-requires returns
     returns-2)

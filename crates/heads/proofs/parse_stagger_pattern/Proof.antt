@@ -1,4 +1,9 @@
-use Rattle.text.specs.Words.{entries}
+use mathlib.Core.Path.{refl}
+use Rattle.text.specs.Bytes.{same}
+use Rattle.text.specs.Words.{find}
+use Rattle.token.specs.Names.{isKeyword}
+use Rattle.words.specs.Lists.{listOf}
+use Rattle.cursor.specs.Means.{noKeywords}
 use Rattle.heads.proofs.HeadLaws.{named-pattern}
 use Rattle.grammar.specs.Grammar.{parseStaggerPattern, patterns}
 use Rattle.heads.proofs.NameLaws.{unnamed}
@@ -7,26 +12,30 @@ use borrow.Author.Needs.{needs}
 use Rattle.heads.proofs.parse_stagger_pattern.Statement.{statement}
 use Rattle.heads.proofs.parse_stagger_pattern.Tie as tie
 
+choice-requires : tie.Need-choice-requires
+unfolding listOf noKeywords isKeyword find same
+choice-requires c κs = (c .before .pre, refl)
+
 named-pattern-requires : tie.Need-named-pattern-requires
 named-pattern-requires c κs = (rw (c .before .i .given .1) at (c .before .before .before .choice .ensures)) .ready
 
 returns : tie.Need-returns
-unfolding parseStaggerPattern patterns entries
+unfolding parseStaggerPattern patterns listOf
 returns c =
     let at-choice = c .before .before .before in
-    let args = at-choice .before .before .before .args in
+    let args = at-choice .before .before .args in
     unnamed (args .text .now) (args .c) Malformed patterns _ _ (rw (c .before .r .given .1) at (at-choice .choice .ensures))
 
 returns-2 : tie.Need-returns-2
-unfolding patterns entries
+unfolding patterns listOf
 returns-2 c =
     let at-i = c .before .before in
     let at-choice = at-i .before .before in
-    let args = at-choice .before .before .before .args in
+    let args = at-choice .before .before .args in
     named-pattern (args .text .now) (args .c) _ _ (c .named-pattern .result) (rw (at-i .i .given .1) at (at-choice .choice .ensures))
     (c .named-pattern .ensures)
 
 pub parse-stagger-pattern-spec : {M : Type 1} → statement M
 parse-stagger-pattern-spec =
-    tie.close (tie.spec (λ c. search needs) (λ c κs. search needs) (λ c. search needs) (λ c. search needs) named-pattern-requires returns
+    tie.close (tie.spec choice-requires (λ c. search needs) (λ c. search needs) named-pattern-requires returns
     returns-2)

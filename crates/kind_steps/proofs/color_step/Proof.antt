@@ -1,10 +1,14 @@
+use Rattle.text.specs.Bytes.{at}
 -- `kind_steps::color_step` meets its contract.
 use Rattle.cells.proofs.StepLaws.{no-float, a-float, no-easing, an-easing, step-refused, a-case, last-row}
 use Rattle.heads.proofs.NameLaws.{choice-below}
 use mathlib.Core.Path.{refl}
 use native.Mathlib.Omega.{arith}
 use Rattle.text.specs.Bytes.{same}
-use Rattle.text.specs.Words.{entries}
+use Rattle.text.specs.Words.{find}
+use Rattle.token.specs.Names.{isKeyword}
+use Rattle.words.specs.Lists.{listOf}
+use Rattle.cursor.specs.Means.{noKeywords}
 use Rattle.error.specs.declared.Refusal.the-variants.{Malformed}
 use Rattle.grammar.specs.Rule.{choice}
 use Rattle.grammar.specs.Fields.{aNumber}
@@ -14,12 +18,39 @@ use borrow.Author.Needs.{needs}
 use Rattle.kind_steps.proofs.color_step.Statement.{statement}
 use Rattle.kind_steps.proofs.color_step.Tie as tie
 
-cast-t32 : tie.Need-cast-t32
-unfolding entries
-cast-t32 c =
-    let at-choice = c .before .before .before in
-    let b = choice-below _ _ _ _ _ _ (rw (c .before .i .given .1) at (at-choice .choice .ensures)) in
+parse-float-requires : tie.Need-parse-float-requires
+parse-float-requires c κs = search needs
+
+enum-known-r : tie.Need-enum-known-r
+enum-known-r c = search needs
+
+enum-known-x : tie.Need-enum-known-x
+enum-known-x c = search needs
+
+choice-requires : tie.Need-choice-requires
+unfolding listOf noKeywords isKeyword find same
+choice-requires c κs = (c .before .before .pre, refl)
+
+enum-known-r-2 : tie.Need-enum-known-r-2
+enum-known-r-2 c = search needs
+
+enum-known-i : tie.Need-enum-known-i
+enum-known-i c = search needs
+
+cast-t29 : tie.Need-cast-t29
+unfolding listOf
+cast-t29 c =
+    let b = choice-below _ _ _ _ _ _ (rw (c .before .i .given .1) at (c .before .before .before .choice .ensures)) in
     omega (arith, b)
+
+parse-easing-requires : tie.Need-parse-easing-requires
+parse-easing-requires c κs = search needs
+
+enum-known-r-3 : tie.Need-enum-known-r-3
+enum-known-r-3 c = search needs
+
+enum-known-x-2 : tie.Need-enum-known-x-2
+enum-known-x-2 c = search needs
 
 returns : tie.Need-returns
 unfolding colorFields
@@ -37,18 +68,18 @@ returns-2 c =
     (rw (c .before .x .given .1) at (at-parse-float .parse-float .ensures))
 
 returns-3 : tie.Need-returns-3
-unfolding colorFields entries space
+unfolding colorFields listOf space
 returns-3 c =
     let at-choice = c .before .before .before in
-    let at-match = at-choice .before .before in
+    let at-match = at-choice .before in
     step-refused 1 "space" (λ l. at-match .match .keys2) (choice Malformed spaceNames) aNumber refl
     (rw (c .before .r2 .given .1) at (at-choice .choice .ensures))
 
 returns-4 : tie.Need-returns-4
-unfolding colorFields same entries space
+unfolding colorFields same listOf space
 returns-4 c =
     let at-choice = c .before .before .before in
-    let at-match = at-choice .before .before in
+    let at-match = at-choice .before in
     a-case 1 "space" (λ l. at-match .match .keys2) (choice Malformed spaceNames) 1 _ refl refl refl
     (rw (c .before .i .given .1) at (at-choice .choice .ensures))
 
@@ -70,6 +101,5 @@ returns-6 c =
 
 pub color-step-spec : {M : Type 1} → statement M
 color-step-spec =
-    tie.close (tie.spec (λ c κs. search needs) (λ c. search needs) (λ c. search needs) (λ c. search needs) (λ c κs. search needs)
-    (λ c. search needs) (λ c. search needs) cast-t32 (λ c κs. search needs) (λ c. search needs) (λ c. search needs) returns returns-2
-    returns-3 returns-4 returns-5 returns-6)
+    tie.close (tie.spec parse-float-requires enum-known-r enum-known-x choice-requires enum-known-r-2 enum-known-i cast-t29
+    parse-easing-requires enum-known-r-3 enum-known-x-2 returns returns-2 returns-3 returns-4 returns-5 returns-6)

@@ -1,0 +1,462 @@
+// Made by tools/words.py. The words of the grammar, in lists: the place of a word in a list, told by its bytes as numbers. For our
+// own crates.
+ghost use mathlib.Core.Path.{_≡_};
+ghost use Prim.Native.Nat.{_+_, _*_, _≤_};
+ghost use lib.ListN.{length};
+ghost use Rattle.text.specs.Bytes.{part};
+ghost use Rattle.text.specs.Words.{find};
+ghost use Rattle.words.specs.Lists.{listOf};
+ghost use Rattle.words.specs.Keys.{keysOf, seek, placeIs};
+use packing::eight;
+use packing::if_equal;
+use packing::if_long;
+use packing::if_word;
+use packing::packed;
+
+mod packing;
+
+// No place.
+pub const NONE: u8 = 255;
+
+// ---- the lists
+
+pub const NODES: u8 = 0;
+
+pub const TWEEN_ROWS: u8 = 1;
+
+pub const SPRING_ROWS: u8 = 2;
+
+pub const WAVEFORM_ROWS: u8 = 3;
+
+pub const DRAW_ROWS: u8 = 4;
+
+pub const MORPH_ROWS: u8 = 5;
+
+pub const COLOR_ROWS: u8 = 6;
+
+pub const PATH_ROWS: u8 = 7;
+
+pub const ROUGH_FIELDS: u8 = 8;
+
+pub const SLOW_MO_FIELDS: u8 = 9;
+
+pub const GRID_FIELDS: u8 = 10;
+
+pub const RANDOM_FIELDS: u8 = 11;
+
+pub const OPENING_FIELDS: u8 = 12;
+
+pub const CURVES: u8 = 13;
+
+pub const LOOP_MODES: u8 = 14;
+
+pub const GROUP_MODES: u8 = 15;
+
+pub const GRID_ORIGINS: u8 = 16;
+
+pub const PATTERNS: u8 = 17;
+
+pub const SPACES: u8 = 18;
+
+pub const WAVEFORMS: u8 = 19;
+
+pub const ALONG: u8 = 20;
+
+pub const SPRING_PRESETS: u8 = 21;
+
+pub const INTEGRATORS: u8 = 22;
+
+// ---- the words of a list of at most 7 bytes, and of 8 to 15
+
+fn short_nodes(v: u64) -> u8
+    ensures { λ r. ⌜ r ≡ seek (keysOf 0) 0 v ⌝ }
+{
+    match v {
+        0x16e65657774 => 0, // tween
+        0x1676e69727073 => 1, // spring
+        0x168746170 => 3, // path
+        0x16870726f6d => 4, // morph
+        0x177617264 => 5, // draw
+        0x1726f6c6f63 => 6, // color
+        0x1746573657270 => 8, // preset
+        0x16c6562616c => 9, // label
+        0x17461 => 10, // at
+        0x170756f7267 => 13, // group
+        0x172656767617473 => 14, // stagger
+        _ => NONE,
+    }
+}
+
+fn short_tween_rows(v: u64) -> u8
+    ensures { λ r. ⌜ r ≡ seek (keysOf 1) 0 v ⌝ }
+{
+    match v {
+        0x1676e69736165 => 1, // easing
+        0x179616c6564 => 2, // delay
+        0x1706f6f6c => 4, // loop
+        0x170616e73 => 5, // snap
+        0x1646e756f72 => 6, // round
+        0x165737265766572 => 7, // reverse
+        _ => NONE,
+    }
+}
+
+fn short_spring_rows(v: u64) -> u8
+    ensures { λ r. ⌜ r ≡ seek (keysOf 2) 0 v ⌝ }
+{
+    match v {
+        0x1746573657270 => 0, // preset
+        0x1676e69706d6164 => 2, // damping
+        0x17373616d => 3, // mass
+        0x16e6f6c69737065 => 5, // epsilon
+        _ => NONE,
+    }
+}
+
+fn short_waveform_rows(v: u64) -> u8
+    ensures { λ r. ⌜ r ≡ seek (keysOf 3) 0 v ⌝ }
+{
+    match v {
+        0x16573616870 => 2, // phase
+        0x164656573 => 4, // seed
+        _ => NONE,
+    }
+}
+
+fn short_morph_rows(v: u64) -> u8
+    ensures { λ r. ⌜ r ≡ seek (keysOf 5) 0 v ⌝ }
+{
+    match v {
+        0x173656c706d6173 => 0, // samples
+        0x1676e69736165 => 2, // easing
+        _ => NONE,
+    }
+}
+
+fn short_color_rows(v: u64) -> u8
+    ensures { λ r. ⌜ r ≡ seek (keysOf 6) 0 v ⌝ }
+{
+    match v {
+        0x16563617073 => 1, // space
+        0x1676e69736165 => 2, // easing
+        _ => NONE,
+    }
+}
+
+fn short_path_rows(v: u64) -> u8
+    ensures { λ r. ⌜ r ≡ seek (keysOf 7) 0 v ⌝ }
+{
+    match v {
+        0x1676e69736165 => 1, // easing
+        0x174657366666f => 3, // offset
+        0x1706f6f6c => 4, // loop
+        _ => NONE,
+    }
+}
+
+fn short_grid_fields(v: u64) -> u8
+    ensures { λ r. ⌜ r ≡ seek (keysOf 10) 0 v ⌝ }
+{
+    match v {
+        0x1736c6f63 => 0, // cols
+        0x173776f72 => 1, // rows
+        0x16e696769726f => 2, // origin
+        _ => NONE,
+    }
+}
+
+fn short_random_fields(v: u64) -> u8
+    ensures { λ r. ⌜ r ≡ seek (keysOf 11) 0 v ⌝ }
+{
+    match v {
+        0x164656573 => 0, // seed
+        0x16e696d => 1, // min
+        0x178616d => 2, // max
+        _ => NONE,
+    }
+}
+
+fn short_opening_fields(v: u64) -> u8
+    ensures { λ r. ⌜ r ≡ seek (keysOf 12) 0 v ⌝ }
+{
+    match v {
+        0x16e726574746170 => 0, // pattern
+        0x179616c6564 => 1, // delay
+        _ => NONE,
+    }
+}
+
+fn short_curves(v: u64) -> u8
+    ensures { λ r. ⌜ r ≡ seek (keysOf 13) 0 v ⌝ }
+{
+    match v {
+        0x17370657473 => 1, // steps
+        0x1656c67676977 => 2, // wiggle
+        0x16867756f72 => 3, // rough
+        0x16f6d776f6c73 => 4, // slowmo
+        _ => NONE,
+    }
+}
+
+fn short_loop_modes(v: u64) -> u8
+    ensures { λ r. ⌜ r ≡ seek (keysOf 14) 0 v ⌝ }
+{
+    match v {
+        0x165636e6f => 0, // once
+        0x172657665726f66 => 1, // forever
+        0x173656d6974 => 3, // times
+        _ => NONE,
+    }
+}
+
+fn short_grid_origins(v: u64) -> u8
+    ensures { λ r. ⌜ r ≡ seek (keysOf 16) 0 v ⌝ }
+{
+    match v {
+        0x17265746e6563 => 4, // center
+        0x1706f74 => 5, // top
+        0x16d6f74746f62 => 6, // bottom
+        0x17466656c => 7, // left
+        0x17468676972 => 8, // right
+        _ => NONE,
+    }
+}
+
+fn short_patterns(v: u64) -> u8
+    ensures { λ r. ⌜ r ≡ seek (keysOf 17) 0 v ⌝ }
+{
+    match v {
+        0x164697267 => 0, // grid
+        0x16d6f646e6172 => 1, // random
+        _ => NONE,
+    }
+}
+
+fn short_spaces(v: u64) -> u8
+    ensures { λ r. ⌜ r ≡ seek (keysOf 18) 0 v ⌝ }
+{
+    match v {
+        0x17261656e696c => 0, // linear
+        0x162616c => 1, // lab
+        0x168636c6b6f => 2, // oklch
+        _ => NONE,
+    }
+}
+
+fn short_waveforms(v: u64) -> u8
+    ensures { λ r. ⌜ r ≡ seek (keysOf 19) 0 v ⌝ }
+{
+    match v {
+        0x1656e6973 => 0, // sine
+        0x1657261757173 => 2, // square
+        0x16573696f6e => 4, // noise
+        _ => NONE,
+    }
+}
+
+fn short_spring_presets(v: u64) -> u8
+    ensures { λ r. ⌜ r ≡ seek (keysOf 21) 0 v ⌝ }
+{
+    match v {
+        0x1656c746e6567 => 0, // gentle
+        0x1796c62626f77 => 1, // wobbly
+        0x16666697473 => 2, // stiff
+        0x1776f6c73 => 3, // slow
+        0x1797070616e73 => 4, // snappy
+        _ => NONE,
+    }
+}
+
+fn long_nodes(v: u64, rest: u64) -> u8
+    requires { ⌜ 1 ≤ rest ⌝ }
+    ensures { λ r. ⌜ r ≡ seek (keysOf 0) 0 (rest * 18446744073709551616 + v) ⌝ }
+{
+    match v {
+        0x656d61726679656b => if_equal(rest, 0x173, 2), // keyframes
+        0x6d726f6665766177 => if_equal(rest, 0x1, 7), // waveform
+        0x65636e6575716573 => if_equal(rest, 0x1, 11), // sequence
+        0x6c656c6c61726170 => if_equal(rest, 0x1, 12), // parallel
+        _ => NONE,
+    }
+}
+
+fn long_tween_rows(v: u64, rest: u64) -> u8
+    requires { ⌜ 1 ≤ rest ⌝ }
+    ensures { λ r. ⌜ r ≡ seek (keysOf 1) 0 (rest * 18446744073709551616 + v) ⌝ }
+{
+    match v {
+        0x6e6f697461727564 => if_equal(rest, 0x1, 0), // duration
+        0x6163735f656d6974 => if_equal(rest, 0x1656c, 3), // time_scale
+        _ => NONE,
+    }
+}
+
+fn long_spring_rows(v: u64, rest: u64) -> u8
+    requires { ⌜ 1 ≤ rest ⌝ }
+    ensures { λ r. ⌜ r ≡ seek (keysOf 2) 0 (rest * 18446744073709551616 + v) ⌝ }
+{
+    match v {
+        0x73656e6666697473 => if_equal(rest, 0x173, 1), // stiffness
+        0x797469636f6c6576 => if_equal(rest, 0x1, 4), // velocity
+        0x7461726765746e69 => if_equal(rest, 0x1726f, 6), // integrator
+        0x706d61647265766f => if_equal(rest, 0x16465, 8), // overdamped
+        0x6d61647265646e75 => if_equal(rest, 0x1646570, 9), // underdamped
+        _ => NONE,
+    }
+}
+
+fn long_waveform_rows(v: u64, rest: u64) -> u8
+    requires { ⌜ 1 ≤ rest ⌝ }
+    ensures { λ r. ⌜ r ≡ seek (keysOf 3) 0 (rest * 18446744073709551616 + v) ⌝ }
+{
+    match v {
+        0x636e657571657266 => if_equal(rest, 0x179, 0), // frequency
+        0x647574696c706d61 => if_equal(rest, 0x165, 1), // amplitude
+        0x6379635f79747564 => if_equal(rest, 0x1656c, 3), // duty_cycle
+        0x656e68746f6f6d73 => if_equal(rest, 0x17373, 5), // smoothness
+        0x6e6f697461727564 => if_equal(rest, 0x1, 6), // duration
+        _ => NONE,
+    }
+}
+
+fn long_path_rows(v: u64, rest: u64) -> u8
+    requires { ⌜ 1 ≤ rest ⌝ }
+    ensures { λ r. ⌜ r ≡ seek (keysOf 7) 0 (rest * 18446744073709551616 + v) ⌝ }
+{
+    match v {
+        0x6e6f697461727564 => if_equal(rest, 0x1, 0), // duration
+        0x746f725f6f747561 => if_equal(rest, 0x1657461, 2), // auto_rotate
+        _ => NONE,
+    }
+}
+
+fn long_group_modes(v: u64, rest: u64) -> u8
+    requires { ⌜ 1 ≤ rest ⌝ }
+    ensures { λ r. ⌜ r ≡ seek (keysOf 15) 0 (rest * 18446744073709551616 + v) ⌝ }
+{
+    match v {
+        0x65636e6575716573 => if_equal(rest, 0x1, 0), // sequence
+        0x6c656c6c61726170 => if_equal(rest, 0x1, 1), // parallel
+        _ => NONE,
+    }
+}
+
+fn long_grid_origins(v: u64, rest: u64) -> u8
+    requires { ⌜ 1 ≤ rest ⌝ }
+    ensures { λ r. ⌜ r ≡ seek (keysOf 16) 0 (rest * 18446744073709551616 + v) ⌝ }
+{
+    match v {
+        0x7466656c5f706f74 => if_equal(rest, 0x1, 0), // top_left
+        0x686769725f706f74 => if_equal(rest, 0x174, 1), // top_right
+        0x6c5f6d6f74746f62 => if_equal(rest, 0x1746665, 2), // bottom_left
+        0x725f6d6f74746f62 => if_equal(rest, 0x174686769, 3), // bottom_right
+        _ => NONE,
+    }
+}
+
+fn long_patterns(v: u64, rest: u64) -> u8
+    requires { ⌜ 1 ≤ rest ⌝ }
+    ensures { λ r. ⌜ r ≡ seek (keysOf 17) 0 (rest * 18446744073709551616 + v) ⌝ }
+{
+    match v {
+        0x6f5f7265746e6563 => if_equal(rest, 0x17475, 2), // center_out
+        0x6e695f7365676465 => if_equal(rest, 0x1, 3), // edges_in
+        _ => NONE,
+    }
+}
+
+fn long_waveforms(v: u64, rest: u64) -> u8
+    requires { ⌜ 1 ≤ rest ⌝ }
+    ensures { λ r. ⌜ r ≡ seek (keysOf 19) 0 (rest * 18446744073709551616 + v) ⌝ }
+{
+    match v {
+        0x68746f6f74776173 => if_equal(rest, 0x1, 1), // sawtooth
+        0x656c676e61697274 => if_equal(rest, 0x1, 3), // triangle
+        _ => NONE,
+    }
+}
+
+// ---- the words of any list
+
+// A word of at most 7 bytes.
+fn short(list: u8, v: u64) -> u8
+    ensures { λ r. ⌜ r ≡ seek (keysOf list) 0 v ⌝ }
+{
+    match list {
+        0 => short_nodes(v),
+        1 => short_tween_rows(v),
+        2 => short_spring_rows(v),
+        3 => short_waveform_rows(v),
+        4 => if_equal(v, 0x1676e69736165, 1), // easing
+        5 => short_morph_rows(v),
+        6 => short_color_rows(v),
+        7 => short_path_rows(v),
+        8 => if_equal(v, 0x173746e696f70, 1), // points
+        9 => if_equal(v, 0x17265776f70, 1), // power
+        10 => short_grid_fields(v),
+        11 => short_random_fields(v),
+        12 => short_opening_fields(v),
+        13 => short_curves(v),
+        14 => short_loop_modes(v),
+        16 => short_grid_origins(v),
+        17 => short_patterns(v),
+        18 => short_spaces(v),
+        19 => short_waveforms(v),
+        20 => if_equal(v, 0x1676e6f6c61, 0), // along
+        21 => short_spring_presets(v),
+        22 => if_equal(v, 0x1346b72, 1), // rk4
+        _ => NONE,
+    }
+}
+
+// A word of 8 to 15 bytes: its first 8, and the others under a 1.
+fn long(list: u8, v: u64, rest: u64) -> u8
+    requires { ⌜ 1 ≤ rest ⌝ }
+    ensures { λ r. ⌜ r ≡ seek (keysOf list) 0 (rest * 18446744073709551616 + v) ⌝ }
+{
+    match list {
+        0 => long_nodes(v, rest),
+        1 => long_tween_rows(v, rest),
+        2 => long_spring_rows(v, rest),
+        3 => long_waveform_rows(v, rest),
+        4 => if_long(v, rest, 0x6e6f697461727564, 0x1, 0), // duration
+        5 => if_long(v, rest, 0x6e6f697461727564, 0x1, 1), // duration
+        6 => if_long(v, rest, 0x6e6f697461727564, 0x1, 0), // duration
+        7 => long_path_rows(v, rest),
+        8 => if_long(v, rest, 0x6874676e65727473, 0x1, 0), // strength
+        9 => if_long(v, rest, 0x725f7261656e696c, 0x16f697461, 0), // linear_ratio
+        13 => if_long(v, rest, 0x65625f6369627563, 0x17265697a, 0), // cubic_bezier
+        14 => if_long(v, rest, 0x6e6f705f676e6970, 0x167, 2), // ping_pong
+        15 => long_group_modes(v, rest),
+        16 => long_grid_origins(v, rest),
+        17 => long_patterns(v, rest),
+        19 => long_waveforms(v, rest),
+        _ => NONE,
+    }
+}
+
+// A word of 16 bytes or more.
+fn longest(list: u8, word: &[u8]) -> u8
+    requires { ⌜ 16 ≤ length (now word) ⌝ }
+    ensures { λ r. ⌜ placeIs r ≡ find (listOf list) 0 (now (word .entry)) ⌝ }
+{
+    match list {
+        2 => if_word(word, b"critically_damped", 7),
+        22 => if_word(word, b"semi_implicit_euler", 0),
+        _ => NONE,
+    }
+}
+
+// The place in a list of the word of n bytes at a place of a text.
+pub fn find(list: u8, text: &[u8], at: usize, n: usize) -> u8
+    requires { ⌜ at + n ≤ length (now text) ⌝ }
+    ensures { λ r. ⌜ placeIs r ≡ find (listOf list) 0 (part (now (text .entry)) at n) ⌝ }
+{
+    if n < 8 {
+        return short(list, packed(text, at, n));
+    }
+    if n < 16 {
+        return long(list, eight(text, at), packed(text, at + 8, n - 8));
+    }
+    longest(list, text::part(text, at, n))
+}
