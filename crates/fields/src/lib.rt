@@ -62,9 +62,9 @@ fn field_name(text: &[u8], c: Cursor) -> WordRead
             start: cursor::place(c),
             size: 4,
         };
-        return WordRead::Is(name, cursor::advance(text, c));
+        return WordRead::Is(name, cursor::hop(text, c, b':'));
     }
-    cursor::word(text, c)
+    cursor::word_before(text, c, b':')
 }
 
 // Behind a name: its `:`, and its place in the table.
@@ -99,7 +99,7 @@ pub fn parse_field_list(text: &[u8], c: Cursor, rows: &[u8]) -> NextField
 {
     let mut m = c;
     loop {
-        let k = m.kind;
+        let k = cursor::kind(m);
         match item_of(k) {
             Item::Halts => return NextField::Done(m),
             Item::Closes => return NextField::Done(cursor::advance(text, m)),
@@ -119,7 +119,7 @@ pub fn next_pair(text: &[u8], c: Cursor, rows: &[u8]) -> NextField
     if cursor::ends(c) {
         return NextField::Done(c);
     }
-    match cursor::word(text, c) {
+    match cursor::word_before(text, c, b':') {
         WordRead::Missing(p) => NextField::Refused(Refusal::Missing, p),
         WordRead::Is(name, m) => after_name(text, name, m, rows),
     }
