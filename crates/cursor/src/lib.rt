@@ -13,9 +13,9 @@ ghost use Rattle.grammar.specs.Values.{parseFloat, parseUint, truth};
 ghost use Rattle.cursor.specs.Means.{nothing, leftOf, leftIs, Ready, Begins, Took, Follows, Behind, tallied, passOf, NumberView, MarkMeans, WordMeans, StringMeans, NumberMeans, FloatMeans, UintMeans, TruthMeans, CaseMeans};
 use ast::Span;
 use error::Refusal;
+use text::Class;
 use token::Number;
 use token::Tok;
-use text::Class;
 
 // The first place where tokens were left inside a delimiter.
 pub enum Left {
@@ -530,7 +530,9 @@ pub fn count(c: Cursor, rounded: bool) -> Cursor
     ensures { λ r. ⌜ r ≡ tallied rounded c ⌝ }
 {
     if rounded {
-        return Cursor { word: c.word + 4294967296 };
+        return Cursor {
+            word: c.word + 4294967296,
+        };
     }
     c
 }

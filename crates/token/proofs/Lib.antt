@@ -1,6 +1,8 @@
 pub mod LexLaws
 pub mod WholeLaws
+pub mod BlankLaws
 pub mod TokenLaws
+pub mod PieceLaws
 pub mod SplitLaws
 pub mod NameLaws
 pub mod StreamLaws

@@ -14,7 +14,6 @@ use Rattle.number.specs.Number.{Written}
 use Rattle.number.specs.Answer.{Capped}
 use Rattle.token.specs.Token.{Kind, name, number, quoted, mark, Token, token, Lexeme, bad, piece, writtenAt, placesAt}
 use Rattle.token.specs.Token.{tokensFrom, place, kind, isMark, rest}
-use Rattle.error.specs.declared.Refusal.{Refusal}
 use Rattle.error.specs.declared.Refusal.the-variants.{TooManyOpen, ScratchTooShort}
 use Rattle.token.specs.Split.{Nest, unfit, awaits, closer, nest, Split, unlexed, tokens, splitFrom, split}
 use Rattle.token.specs.Names.{keywords}
@@ -89,6 +88,11 @@ pub record FiguresAre (t : List ℕ) (d : Figures) : Type 0 where
   pub digits : writtenAt t .digits ≡ decimal (decimal 0 (part t 0 (d .w))) (part t (d .from) (d .q)) * 10 ^ d .up
   pub places : writtenAt t .places ≡ d .q + d .down
   pub whole : writtenAt t .point ≡ false → writtenAt t .digits ≡ decimal 0 (part t 0 (d .w))
+
+-- a token of n bytes; the end where it has none
+abbrev pub headTok : Tok → ℕ → Tok
+headTok k zero = tok.Mark 0
+headTok k (suc n) = k
 
 -- what else is known of a token of n bytes that t begins with; of the end, a mark 0, nothing
 abbrev pub Stands : List ℕ → ℕ → Tok → Type 0

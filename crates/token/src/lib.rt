@@ -521,21 +521,18 @@ fn why(t: &[u8]) -> Refusal
 
 // ---- blanks
 
-// Whether 8 spaces stand at a place: all at once, as one number of 8 bytes.
-fn has_8_spaces(t: &[u8], i: u16) -> bool
-    requires { ⌜ i + 8 ≤ length (now t) ⌝ }
-    ensures { λ r. ⌜ r ≡ true → 8 ≤ run isBlank (drop i (now (t .entry))) ⌝ }
+// Whether 8 spaces stand at a place: a loop of a fixed length, which is made into one comparison.
+fn has_8_spaces(t: &[u8], at: u16) -> bool
+    requires { ⌜ at + 8 ≤ length (now t) ⌝ }
+    ensures { λ r. ⌜ (r ≡ true → 8 ≤ run isBlank (drop at (now (t .entry)))) ⌝ }
 {
-    let i = i as usize;
-    let v = (t[i] as u64)
-        + (t[i + 1] as u64) * 256
-        + (t[i + 2] as u64) * 65536
-        + (t[i + 3] as u64) * 16777216
-        + (t[i + 4] as u64) * 4294967296
-        + (t[i + 5] as u64) * 1099511627776
-        + (t[i + 6] as u64) * 281474976710656
-        + (t[i + 7] as u64) * 72057594037927936;
-    v == 2314885530818453536
+    let mut all = true;
+    let mut n: u16 = 0;
+    while n < 8 {
+        all = all & (t[at as usize + n as usize] == b' ');
+        n += 1;
+    }
+    all
 }
 
 // The end of the blanks from a place on; 8 spaces are passed at once.
