@@ -2,15 +2,18 @@
 // The functions are for our own crates: each requires a cursor that stands in the text.
 ghost use mathlib.Core.Path.{_≡_};
 ghost use mathlib.Core.List.{List};
-ghost use Prim.Native.Nat.{ℕ, _-_, _≤_, _<_};
-ghost use lib.ListN.{length};
+ghost use Prim.Native.Nat.{ℕ, _+_, _-_, _≤_, _<_};
+ghost use lib.ListN.{length, getD};
 ghost use Rattle.text.specs.Limits.{textLimit};
 ghost use Rattle.text.specs.Words.{table};
-ghost use Rattle.token.specs.Token.{tokensFrom, isMark};
-ghost use Rattle.token.specs.Means.{kindOf, lastPlace};
+ghost use Rattle.token.specs.Token.{tokensFrom, isMark, lexeme};
+ghost use Rattle.token.specs.Means.{kindOf, lastPlace, lexemeSize, kindFrom};
+ghost use Rattle.token.specs.declared.Tok.{Tok};
+ghost use Rattle.token.specs.declared.Tok.the-variants.{Mark};
 ghost use Rattle.grammar.specs.Rule.{seesByte, seesBytes, seesName, isEnd, ends, theByte, bothBytes, eatByte, word, choiceIn, weigh, firstOf, leave};
 ghost use Rattle.grammar.specs.Values.{parseFloat, parseUint, truth};
-ghost use Rattle.cursor.specs.Means.{nothing, leftOf, leftIs, Ready, Begins, Took, Follows, Behind, tallied, passOf, NumberView, MarkMeans, WordMeans, StringMeans, NumberMeans, FloatMeans, UintMeans, TruthMeans, CaseMeans};
+ghost use Rattle.cursor.specs.Word.{atOf, endOf, leftAt, roundedOf, codeOf, tokOf, tokCode, notesOf, headWord, noting, tallied};
+ghost use Rattle.cursor.specs.Means.{nothing, leftOf, leftIs, Ready, Begins, Took, Follows, Behind, passOf, NumberView, MarkMeans, WordMeans, StringMeans, NumberMeans, FloatMeans, UintMeans, TruthMeans, CaseMeans};
 use ast::Span;
 use error::Refusal;
 use text::Class;
@@ -196,7 +199,7 @@ fn end_word(notes: u64, at: u16) -> u64
 
 fn mark_word(notes: u64, at: u16, b: u8) -> u64
     requires { ⌜ (notes + 65536 ≤ 140737488355328) × (at < 65535) ⌝ }
-    ensures { λ r. ⌜ r ≡ headWord notes at (Tok.Mark b) 1 ⌝ }
+    ensures { λ r. ⌜ r ≡ headWord notes at (Mark b) 1 ⌝ }
 {
     let end = at + 1;
     b as u64 * 140737488355328 + notes + end as u64
@@ -217,7 +220,7 @@ fn long_word(notes: u64, at: u16, kind: u64, n: u16) -> u64
 // Of the token that t begins with, or the end.
 fn token_word(t: &[u8], notes: u64, at: u16) -> u64
     requires { ⌜ (notes + 65536 ≤ 140737488355328) × (at + length (now t) ≤ textLimit) ⌝ }
-    ensures { λ r. ⌜ r ≡ headWord notes at (kindFrom (Bytes.at (now (t .entry)) 0)) (lexemeSize (lexeme (now (t .entry)))) ⌝ }
+    ensures { λ r. ⌜ r ≡ headWord notes at (kindFrom (getD (now (t .entry)) 0 0)) (lexemeSize (lexeme (now (t .entry)))) ⌝ }
 {
     let b = text::byte_at(t, 0);
     if text::in_class(Class::Letter, b) {
@@ -271,11 +274,11 @@ pub fn advance(text: &[u8], c: Cursor) -> Cursor
 
 // The same, where most often the mark b stands right behind the next token.
 pub fn hop(text: &[u8], c: Cursor, b: u8) -> Cursor
-    requires { ⌜ Ready (now text) c × (among ":;,=>.+-%([{)]}" b ≡ true) ⌝ }
+    requires { ⌜ Ready (now text) c ⌝ }
     ensures { λ r. ⌜ Follows (now (text .entry)) c r ⌝ }
 {
     let e = end(c);
-    if text::byte_at(text, e as usize) == b {
+    if (text::byte_at(text, e as usize) == b) & token::is_mark(b) {
         return Cursor {
             word: mark_word(notes(c), e, b),
         };
@@ -298,7 +301,7 @@ fn is_mark(k: Tok, b: u8) -> bool
 
 // Whether the next token is a mark.
 pub fn sees(c: Cursor, b: u8) -> bool
-    ensures { λ r. ⌜ ((s : List ℕ) → Ready s c → r ≡ seesByte b (tokensFrom s (c .at))) ⌝ }
+    ensures { λ r. ⌜ ((s : List ℕ) → Ready s c → r ≡ seesByte b (tokensFrom s (atOf c))) ⌝ }
 {
     let k = kind(c);
     is_mark(k, b)
@@ -317,7 +320,7 @@ fn is_end(k: Tok) -> bool
 
 // Whether the group or the text ends here.
 pub fn ends(c: Cursor) -> bool
-    ensures { λ r. ⌜ ((s : List ℕ) → Ready s c → r ≡ ends (tokensFrom s (c .at))) ⌝ }
+    ensures { λ r. ⌜ ((s : List ℕ) → Ready s c → r ≡ ends (tokensFrom s (atOf c))) ⌝ }
 {
     let k = kind(c);
     is_end(k)
@@ -326,7 +329,7 @@ pub fn ends(c: Cursor) -> bool
 // Whether the next token is that word, a name or a keyword.
 pub fn sees_word(text: &[u8], c: Cursor, word: &[u8]) -> bool
     requires { ⌜ Ready (now text) c ⌝ }
-    ensures { λ r. ⌜ r ≡ seesBytes (now (word .entry)) (tokensFrom (now (text .entry)) (c .at)) ⌝ }
+    ensures { λ r. ⌜ r ≡ seesBytes (now (word .entry)) (tokensFrom (now (text .entry)) (atOf c)) ⌝ }
 {
     let k = kind(c);
     match k {
@@ -340,7 +343,7 @@ pub fn sees_word(text: &[u8], c: Cursor, word: &[u8]) -> bool
 // Whether the next token is a name that is no keyword.
 pub fn sees_name(text: &[u8], c: Cursor) -> bool
     requires { ⌜ Ready (now text) c ⌝ }
-    ensures { λ r. ⌜ r ≡ seesName (tokensFrom (now (text .entry)) (c .at)) ⌝ }
+    ensures { λ r. ⌜ r ≡ seesName (tokensFrom (now (text .entry)) (atOf c)) ⌝ }
 {
     let k = kind(c);
     match k {
@@ -395,25 +398,25 @@ pub fn eat(text: &[u8], c: Cursor, b: u8) -> Eaten
     }
 }
 
+// The bytes of the next token.
+fn span(c: Cursor) -> Span
+    requires { ⌜ atOf c ≤ endOf c ⌝ }
+    ensures { λ r. ⌜ (r .start ≡ atOf c) × (r .size ≡ endOf c - atOf c) ⌝ }
+{
+    let start = place(c);
+    let size = size(c);
+    Span { start, size }
+}
+
 // A name that is no keyword.
 pub fn word(text: &[u8], c: Cursor) -> WordRead
     requires { ⌜ Ready (now text) c ⌝ }
     ensures { λ r. ⌜ WordMeans (now (text .entry)) c r ⌝ }
 {
-    let k = kind(c);
-    let start = place(c);
-    match k {
-        Tok::Name => {
-            let size = size(c);
-            if token::is_keyword(text::part(text, start, size)) {
-                return WordRead::Missing(start);
-            }
-            WordRead::Is(Span { start, size }, advance(text, c))
-        }
-        Tok::Mark(_) => WordRead::Missing(start),
-        Tok::Num => WordRead::Missing(start),
-        Tok::Quoted => WordRead::Missing(start),
+    if sees_name(text, c) {
+        return WordRead::Is(span(c), advance(text, c));
     }
+    WordRead::Missing(place(c))
 }
 
 // The same, where most often the mark b stands right behind it.
@@ -421,20 +424,10 @@ pub fn word_before(text: &[u8], c: Cursor, b: u8) -> WordRead
     requires { ⌜ Ready (now text) c ⌝ }
     ensures { λ r. ⌜ WordMeans (now (text .entry)) c r ⌝ }
 {
-    let k = kind(c);
-    let start = place(c);
-    match k {
-        Tok::Name => {
-            let size = size(c);
-            if token::is_keyword(text::part(text, start, size)) {
-                return WordRead::Missing(start);
-            }
-            WordRead::Is(Span { start, size }, hop(text, c, b))
-        }
-        Tok::Mark(_) => WordRead::Missing(start),
-        Tok::Num => WordRead::Missing(start),
-        Tok::Quoted => WordRead::Missing(start),
+    if sees_name(text, c) {
+        return WordRead::Is(span(c), hop(text, c, b));
     }
+    WordRead::Missing(place(c))
 }
 
 // A string: what stands between its quotes.
@@ -526,7 +519,7 @@ pub fn number(text: &[u8], c: Cursor) -> NumberRead
 
 // Counts a number that was taken, if it was rounded.
 pub fn count(c: Cursor, rounded: bool) -> Cursor
-    requires { ⌜ c .rounded ≤ textLimit ⌝ }
+    requires { ⌜ roundedOf c ≤ textLimit ⌝ }
     ensures { λ r. ⌜ r ≡ tallied rounded c ⌝ }
 {
     if rounded {
@@ -628,6 +621,15 @@ fn first_of(was: u16, p: u16) -> u16
     p
 }
 
+// A cursor with another place noted.
+fn noting(c: Cursor, left: u16) -> Cursor
+    ensures { λ r. ⌜ r ≡ noting c left ⌝ }
+{
+    Cursor {
+        word: c.word / 4294967296 * 4294967296 + left as u64 * 65536 + c.word % 65536,
+    }
+}
+
 // Leaves a group by its closer: what is left in it is passed over, and noted.
 pub fn leave_group(text: &[u8], c: Cursor, closer: u8) -> Cursor
     requires { ⌜ Ready (now text) c ⌝ }
@@ -637,8 +639,5 @@ pub fn leave_group(text: &[u8], c: Cursor, closer: u8) -> Cursor
         return advance(text, c);
     }
     let left = first_of(noted(c), short_place(c));
-    let m = past_group(text, c);
-    Cursor {
-        word: m.word / 4294967296 * 4294967296 + left as u64 * 65536 + m.word % 65536,
-    }
+    noting(past_group(text, c), left)
 }

@@ -6,12 +6,12 @@ use mathlib.Core.Path.{_≡_, refl, sym, ap, _∙_}
 use native.Mathlib.Omega.{arith}
 use lib.Dec.{ltb, eqb}
 use lib.ListN.{length, getD, drop, length-drop}
-use borrow.Author.Tests.{ltb-true, ltb-false, lt-leb, ne-eqb}
-use Rattle.text.specs.Bytes.{run, oneOf, among, isName, isDigit, isLetter, isInside, isBlank}
+use borrow.Author.Tests.{ltb-true, ltb-false, lt-leb, ne-eqb, eqb-false, not-true}
+use Rattle.text.specs.Bytes.{bytes, run, oneOf, among, isName, isDigit, isLetter, isInside, isBlank}
 use Rattle.text.proofs.ByteLaws.{within-is}
 use Rattle.error.specs.declared.Refusal.{Refusal}
 use Rattle.error.specs.declared.Refusal.the-variants.{BadForm, TooManyDigits}
-use Rattle.token.specs.Token.{Kind, quoted, Lexeme, bad, piece, nameAt, quotedAt, pointAt}
+use Rattle.token.specs.Token.{Kind, quoted, mark, Lexeme, bad, piece, nameAt, quotedAt, pointAt}
 use Rattle.token.specs.Token.{pastFraction, powerSize, pastPower, suffixAt, pastSuffix}
 use Rattle.token.specs.Token.{clings, placesOf, numberAt, lexeme}
 use Rattle.token.specs.Means.{lexemeSize, kindFrom, headTok, Pieces, Lexes}
@@ -19,7 +19,7 @@ use Rattle.token.specs.declared.Tok.{Tok}
 use Rattle.token.specs.declared.Tok.the-variants.{Name, Num, Quoted, Mark}
 use Rattle.token.proofs.LexLaws.{Parts, or-false, name-is, quoted-is, number-clings}
 use Rattle.token.proofs.LexLaws.{number-long, number-written, number-digits, lex-is}
-use Rattle.token.proofs.WholeLaws.{never, neither, whole-of}
+use Rattle.token.proofs.WholeLaws.{never, neither, every, every-in, whole-of}
 use Rattle.token.proofs.TokenLaws.{lexes-end, lexes-bad, lexes-piece}
 
 -- ---- the size of a number, and why there is none
@@ -189,6 +189,59 @@ pub kind-is : (b : ℕ) (x y z : Bool) → isLetter b ≡ x → isDigit b ≡ y 
 unfolding kindFrom
 kind-is b x y z h g k = rw (h, g, k)
 
+-- what a text begins with, by its first byte
+module _ (t : List ℕ) where
+  pub first-name : isLetter (getD t 0 0) ≡ true → (kindFrom (getD t 0 0) ≡ Name) × (lexeme t ≡ nameAt t)
+  first-name h = (kind-is (getD t 0 0) true _ _ h refl refl, lex-is t true _ _ _ h refl refl refl)
+
+  module _ (h : isLetter (getD t 0 0) ≡ false) where
+    pub first-number : isDigit (getD t 0 0) ≡ true → (kindFrom (getD t 0 0) ≡ Num) × (lexeme t ≡ numberAt t)
+    first-number g = (kind-is (getD t 0 0) false true _ h g refl, lex-is t false true _ _ h g refl refl)
+
+    module _ (g : isDigit (getD t 0 0) ≡ false) where
+      pub first-quoted : eqb (getD t 0 0) 34 ≡ true → (kindFrom (getD t 0 0) ≡ Quoted) × (lexeme t ≡ quotedAt t)
+      first-quoted e = (kind-is (getD t 0 0) false false true h g e, lex-is t false false true _ h g e refl)
+
+      module _ (e : eqb (getD t 0 0) 34 ≡ false) where
+        pub first-mark : among ":;,=>.+-%([{)]}" (getD t 0 0) ≡ true
+            → (kindFrom (getD t 0 0) ≡ Mark (getD t 0 0)) × (lexeme t ≡ piece (mark (getD t 0 0)) 1)
+        first-mark f = (kind-is (getD t 0 0) false false false h g e, lex-is t false false false true h g e f)
+
+        pub first-none : among ":;,=>.+-%([{)]}" (getD t 0 0) ≡ false → lexeme t ≡ bad BadForm
+        first-none f = lex-is t false false false false h g e f
+
+-- a mark's byte is of no other class
+module _ (b : ℕ) (h : among ":;,=>.+-%([{)]}" b ≡ true) where
+  no-other : (p : ℕ → Bool) → every (λ (c : ℕ). not (p c)) (bytes ":;,=>.+-%([{)]}") ≡ true → p b ≡ false
+  no-other p e = not-true (p b) (every-in (λ (c : ℕ). not (p c)) (bytes ":;,=>.+-%([{)]}") b e h)
+
+  pub mark-no-letter : isLetter b ≡ false
+  unfolding every oneOf
+  mark-no-letter = no-other isLetter refl
+
+  pub mark-no-digit : isDigit b ≡ false
+  unfolding every oneOf
+  mark-no-digit = no-other isDigit refl
+
+  pub mark-no-quote : eqb b 34 ≡ false
+  unfolding every oneOf
+  mark-no-quote = no-other (λ (c : ℕ). eqb c 34) refl
+
+  pub mark-no-blank : isBlank b ≡ false
+  unfolding every oneOf
+  mark-no-blank = no-other isBlank refl
+
+  pub mark-small : (0 < b) × (b < 256)
+  unfolding every oneOf
+  mark-small =
+      let f = eqb-false b 0 (no-other (λ (c : ℕ). eqb c 0) refl) in
+      let g = ltb-false 255 b (no-other (λ (c : ℕ). ltb 255 c) refl) in
+      (positive b f, omega arith)
+    where
+      positive : (c : ℕ) → (c ≡ 0 → ⊥) → 0 < c
+      positive zero f = absurd (f refl)
+      positive (suc c) f = omega arith
+
 lexeme-piece : (t : List ℕ) → PieceOf t (lexeme t) (kindFrom (getD t 0 0))
 lexeme-piece t =
     go (isLetter (getD t 0 0)) refl (isDigit (getD t 0 0)) refl (eqb (getD t 0 0) 34) refl (among ":;,=>.+-%([{)]}" (getD t 0 0)) refl
@@ -211,6 +264,20 @@ piece-of t n h z = go (lexeme t) refl (lexeme-piece t)
     go : (x : Lexeme) → lexeme t ≡ x → PieceOf t x (kindFrom (getD t 0 0)) → Pieces t (lexeme t) (kindFrom (getD t 0 0)) n
     go (bad r) e p = absurd (let y : n ≡ 0 = rw e at h in omega arith)
     go (piece k m) e p = let y : n ≡ m = rw e at h in rw (e, y) p
+
+-- its bytes stand in the text
+pub size-high : (t : List ℕ) → lexemeSize (lexeme t) ≤ length t
+size-high t = go (lexeme t) refl
+  where
+    go : (x : Lexeme) → lexeme t ≡ x → lexemeSize x ≤ length t
+    go (bad r) e = omega arith
+    go (piece k n) e = whole-of t k n e .high
+
+-- a mark has one byte
+pub mark-piece : (t : List ℕ) (n b : ℕ) → n ≡ lexemeSize (lexeme t) → 0 < n → kindFrom (getD t 0 0) ≡ Mark b
+    → (among ":;,=>.+-%([{)]}" b ≡ true) × (n ≡ 1)
+mark-piece t n b h z e =
+    let p = whole-of t (mark b) n ((rw e at (piece-of t n h z)) .is) in (p .spelled .2, p .spelled .1)
 
 -- no token, for a reason
 pub none-of : (t : List ℕ) (r : Refusal) → 0 ≡ lexemeSize (lexeme t) → ((x : Refusal) → lexeme t ≡ bad x → r ≡ x) → lexeme t ≡ bad r
