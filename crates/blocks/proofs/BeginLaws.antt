@@ -16,6 +16,7 @@ use Rattle.error.specs.declared.Refusal.the-variants.{UnknownKeyword, Missing}
 use Rattle.grammar.specs.Rule.{refused, Rule, word, seesName}
 use Rattle.grammar.specs.Grammar.{leaves, containers, parseNode}
 use Rattle.token.specs.Token.{kind}
+use Rattle.cursor.specs.Word.{atOf}
 use Rattle.cursor.specs.Means.{Ready, run, Took, Follows, tokens, listedIn}
 use Rattle.cursor.proofs.ListedLaws.{unlisted-kind, no-name}
 use Rattle.cursor.specs.declared.Cursor.{Cursor}
@@ -81,13 +82,13 @@ leaf-refused s c start w i r q k h blk = rw (k .2, h (k .0) (k .1))
 -- "`unknown_keyword`": 7, behind the word; and where no name stands
 module _ {s : List ℕ} {c : Cursor} (r : Ready s c) where
   pub unknown-node : {m : Cursor} → Follows s c m → listedIn nodeWords (tokens s c) ≡ none → seesName (tokens s c) ≡ true
-      → (blk : Rule (Nodes Key)) → run s c (parseNode blk) ≡ refused UnknownKeyword (m .at)
+      → (blk : Rule (Nodes Key)) → run s c (parseNode blk) ≡ refused UnknownKeyword (atOf m)
   unfolding parseNode
   unknown-node {m} f e h blk =
       let u = unlisted-kind (kind (tokens s c)) nodeWords e h in
       rw (u .1, no-node-word (u .0) (u .2), f .rest, f .ready .head .place)
 
-  pub no-name-there : seesName (tokens s c) ≡ false → (blk : Rule (Nodes Key)) → run s c (parseNode blk) ≡ refused Missing (c .at)
+  pub no-name-there : seesName (tokens s c) ≡ false → (blk : Rule (Nodes Key)) → run s c (parseNode blk) ≡ refused Missing (atOf c)
   unfolding parseNode
   no-name-there h blk = rw (no-name (kind (tokens s c)) h, r .head .place)
 

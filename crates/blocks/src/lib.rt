@@ -7,6 +7,7 @@ ghost use mathlib.Core.Option.{none, some};
 ghost use Rattle.text.specs.Words.{find};
 ghost use Rattle.token.specs.Token.{tokensFrom};
 ghost use Rattle.grammar.specs.Grammar.{parseSequence, parseParallel, parseGroup, parseStagger, parseNode, block};
+ghost use Rattle.cursor.specs.Word.{atOf};
 ghost use Rattle.cursor.specs.Means.{Ready, listedIn};
 ghost use Rattle.arrays.specs.Means.{Room};
 ghost use Rattle.blocks.specs.Means.{HeadMeans, nodeWords, KeywordMeans, BegunMeans, behindWord, leafKindAt, BraceMeans, Counted, BlockMeans, Headed, HeldMeans, Reached, NodeMeans, Standing, StepMeans, NodesMeans};
@@ -77,7 +78,7 @@ fn begin_word(text: &[u8], sheet: &mut [u8], start: usize, i: u8, c: Cursor, out
 // What is refused where no word of the list stands.
 fn no_node(text: &[u8], c: Cursor) -> Begun
     requires { ⌜ Ready (now text) c ⌝ }
-    ensures { λ r. ⌜ ((b a : List ℕ) (out : ℕ) → listedIn nodeWords (tokensFrom (now (text .entry)) (c .at)) ≡ none → BegunMeans 1 (now (text .entry)) b a c out parseNode r) ⌝ }
+    ensures { λ r. ⌜ ((b a : List ℕ) (out : ℕ) → listedIn nodeWords (tokensFrom (now (text .entry)) (atOf c)) ≡ none → BegunMeans 1 (now (text .entry)) b a c out parseNode r) ⌝ }
 {
     if cursor::sees_name(text, c) {
         return Begun::Refused(Refusal::UnknownKeyword, cursor::place(cursor::advance(text, c)));

@@ -13,6 +13,7 @@ use Rattle.token.specs.Names.{isKeyword, unless, wordOf, nameOf}
 use Rattle.grammar.specs.Rule.{Rule, got, refused, word, seesName, choiceIn}
 use Rattle.error.specs.declared.Refusal.{Refusal}
 use Rattle.error.specs.declared.Refusal.the-variants.{Missing}
+use Rattle.cursor.specs.Word.{atOf}
 use Rattle.cursor.specs.Means.{Ready, notes, tokens, run, Took, Follows, placeIn, listedIn, noKeywords}
 use Rattle.cursor.specs.declared.Cursor.{Cursor}
 use Rattle.cursor.proofs.CursorLaws.{took}
@@ -50,7 +51,7 @@ free-word (n ∷ ns) j w i h e = go (same w n) refl (isKeyword n) refl h (λ g f
     go false q false z g ih = ih g (sym (find-past w n ns j q) ∙ e)
 
 module _ {s : List ℕ} {c m : Cursor} (r : Ready s c) (f : Follows s c m) {ns : List (List ℕ)} {i : ℕ} (l : Listed ns (kind (tokens s c)) i) where
-  pub took-listed : noKeywords ns ≡ true → Took 1 s c m word (c .at, l .word)
+  pub took-listed : noKeywords ns ≡ true → Took 1 s c m word (atOf c, l .word)
   took-listed h = took s c m r f word _ (rw (l .is)) (rw (l .is, free-word ns 0 (l .word) i h (l .found), r .head .place))
 
   pub took-choice : (q : Refusal) → noKeywords ns ≡ true → Took 1 s c m (choiceIn q ns) i
@@ -85,10 +86,10 @@ no-name k h = go (nameOf k) h
 
 module _ {s : List ℕ} {c : Cursor} (r : Ready s c) where
   pub unlisted-name : {m : Cursor} → Follows s c m → (ns : List (List ℕ)) (q : Refusal)
-      → listedIn ns (tokens s c) ≡ none → seesName (tokens s c) ≡ true → run s c (choiceIn q ns) ≡ refused q (m .at)
+      → listedIn ns (tokens s c) ≡ none → seesName (tokens s c) ≡ true → run s c (choiceIn q ns) ≡ refused q (atOf m)
   unlisted-name {m} f ns q e h =
       let u = unlisted-kind (kind (tokens s c)) ns e h in
       rw (u .1, u .2, f .rest, f .ready .head .place)
 
-  pub unlisted-other : (ns : List (List ℕ)) (q : Refusal) → seesName (tokens s c) ≡ false → run s c (choiceIn q ns) ≡ refused Missing (c .at)
+  pub unlisted-other : (ns : List (List ℕ)) (q : Refusal) → seesName (tokens s c) ≡ false → run s c (choiceIn q ns) ≡ refused Missing (atOf c)
   unlisted-other ns q h = rw (no-name (kind (tokens s c)) h, r .head .place)

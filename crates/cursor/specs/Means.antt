@@ -14,13 +14,13 @@ use Rattle.token.specs.Names.{isKeyword, wordOf}
 use Rattle.number.specs.Number.{Written, bits}
 use Rattle.token.specs.Token.{Token, tokensFrom, place, kind, rest}
 use Rattle.token.specs.Token as numbers
-use Rattle.token.specs.Means.{Lexes, Known, writtenIn, lexedOf, lastPlace}
+use Rattle.token.specs.Means.{Lexes, Known, writtenIn, lastPlace}
 use Rattle.token.specs.declared.Number.{Number}
-use Rattle.token.specs.declared.Lexed.{Lexed}
 use Rattle.ast.specs.declared.Span.{Span}
 use Rattle.error.specs.declared.Refusal.the-variants as cause
 use Rattle.grammar.specs.Rule.{Notes, Out, got, refused, Rule, Signed, absent, plus, minus}
-use Rattle.grammar.specs.Rule.{plain, seesNumber, word, text, behind, Pass, halts, closes, goes}
+use Rattle.grammar.specs.Rule.{plain, seesByte, seesNumber, word, text, behind, Pass, halts, closes, goes}
+use Rattle.cursor.specs.Word.{atOf, endOf, leftAt, roundedOf, tokOf}
 use Rattle.cursor.specs.declared.Left.{Left}
 use Rattle.cursor.specs.declared.Left.the-variants as left
 use Rattle.cursor.specs.declared.Cursor.{Cursor}
@@ -57,25 +57,21 @@ abbrev pub leftIs : Left → Option ℕ
 leftIs left.Nothing = none
 leftIs (left.At p) = some p
 
--- the next token
-abbrev pub headOf : Cursor → Lexed
-headOf c = lexedOf (c .at) (c .end) (c .kind)
-
 -- the cursor stands in the text s, of at most the limit, on its next token; the tokens from there on end where those of the text do; no
 -- more numbers are counted than there are bytes behind it
 pub record Ready (s : List ℕ) (c : Cursor) : Type 0 where
-  pub head : Lexes s (c .at) (headOf c)
-  pub high : c .at ≤ length s
+  pub head : Lexes s (atOf c) (atOf c) (endOf c) (tokOf c)
+  pub high : atOf c ≤ length s
   pub short : length s ≤ textLimit
-  pub last : lastPlace 0 (tokensFrom s (c .at)) ≡ lastPlace 0 (tokensFrom s 0)
-  pub few : c .rounded ≤ c .at
+  pub last : lastPlace 0 (tokensFrom s (atOf c)) ≡ lastPlace 0 (tokensFrom s 0)
+  pub few : roundedOf c ≤ atOf c
 
 -- what is noted at a cursor; a repetition takes a byte with each step
 abbrev pub notes : List ℕ → Cursor → Notes
-notes s c = record { leftover = leftOf (c .left); rounded = c .rounded; bound = suc (length s) }
+notes s c = record { leftover = leftOf (leftAt c); rounded = roundedOf c; bound = suc (length s) }
 
 abbrev pub tokens : List ℕ → Cursor → List Token
-tokens s c = tokensFrom s (c .at)
+tokens s c = tokensFrom s (atOf c)
 
 -- what the rule p gives at the cursor c
 abbrev pub run : {A : Type 0} → List ℕ → Cursor → Rule A → Out A
@@ -84,36 +80,32 @@ run s c p = p (notes s c) (tokens s c)
 -- the rule p takes the value a from the cursor c to the cursor m, at least e bytes on
 pub record Took {A : Type 0} (e : ℕ) (s : List ℕ) (c m : Cursor) (p : Rule A) (a : A) : Type 0 where
   pub is : run s c p ≡ got a (notes s m) (tokens s m)
-  pub low : c .at + e ≤ m .at
+  pub low : atOf c + e ≤ atOf m
   pub ready : Ready s m
 
 -- r stands on the first token from `at` on
 pub record Begins (s : List ℕ) (at noted counted : ℕ) (r : Cursor) : Type 0 where
   pub is : tokensFrom s at ≡ tokens s r
-  pub low : at ≤ r .at
-  pub left : r .left ≡ noted
-  pub rounded : r .rounded ≡ counted
+  pub low : at ≤ atOf r
+  pub left : leftAt r ≡ noted
+  pub rounded : roundedOf r ≡ counted
   pub ready : Ready s r
 
 -- m stands behind the head of c
 pub record Follows (s : List ℕ) (c m : Cursor) : Type 0 where
   pub rest : rest (tokens s c) ≡ tokens s m
-  pub at : c .end ≤ m .at
-  pub left : m .left ≡ c .left
-  pub rounded : m .rounded ≡ c .rounded
+  pub at : endOf c ≤ atOf m
+  pub left : leftAt m ≡ leftAt c
+  pub rounded : roundedOf m ≡ roundedOf c
   pub ready : Ready s m
 
 -- m stands behind the closer of the group that c stands in
 pub record Behind (s : List ℕ) (c m : Cursor) : Type 0 where
   pub is : tokens s m ≡ behind 0 (tokens s c)
-  pub low : c .at ≤ m .at
-  pub left : m .left ≡ c .left
-  pub rounded : m .rounded ≡ c .rounded
+  pub low : atOf c ≤ atOf m
+  pub left : leftAt m ≡ leftAt c
+  pub rounded : roundedOf m ≡ roundedOf c
   pub ready : Ready s m
-
--- c with a number counted, if it was rounded
-abbrev pub tallied : Bool → Cursor → Cursor
-tallied b c = record { at = c .at; end = c .end; left = c .left; rounded = cond b (suc (c .rounded)) (c .rounded); kind = c .kind }
 
 -- ---- answers
 
@@ -147,15 +139,20 @@ past true ts = rest (rest ts)
 pub record Numbers (s : List ℕ) (c : Cursor) (b : Bool) (n : Number) (m : Cursor) : Type 0 where
   pub sees : seesNumber (tokens s c) ≡ sign b (writtenIn s n)
   pub past : past b (tokens s c) ≡ tokens s m
-  pub left : m .left ≡ c .left
-  pub rounded : m .rounded ≡ c .rounded
-  pub low : c .at + 1 ≤ m .at
+  pub left : leftAt m ≡ leftAt c
+  pub rounded : roundedOf m ≡ roundedOf c
+  pub low : atOf c + 1 ≤ atOf m
   pub ready : Ready s m
   pub known : Known s n
 
 abbrev pub NumberMeans : List ℕ → Cursor → NumberRead → Type 0
 NumberMeans s c (number.Is b n m) = Numbers s c b n m
 NumberMeans s c (number.Missing q) = (seesNumber (tokens s c) ≡ absent) × (place (tokens s c) ≡ q)
+
+-- m is c, or stands behind the `-` at c
+abbrev pub SignAt : List ℕ → Cursor → Cursor → Bool → Type 0
+SignAt s c m false = (seesByte 45 (tokens s c) ≡ false) × (m ≡ c)
+SignAt s c m true = (seesByte 45 (tokens s c) ≡ true) × Follows s c m
 
 -- the next token as a number
 abbrev pub NumberView : List ℕ → Cursor → NumberSeen → Type 0

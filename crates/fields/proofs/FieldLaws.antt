@@ -19,6 +19,7 @@ use Rattle.grammar.specs.Rule.{isWord, seesBytes, seesName, Out, got, refused, 
 use Rattle.grammar.specs.Rule.{more, next, iterate, listStep, eat, goOn, give, _>>=_, ends}
 use Rattle.grammar.specs.Fields.{Item, halts, closes, passes, starts, itemOf, Table, Fields, Entry, Content, rowOf}
 use Rattle.grammar.specs.Fields.{fieldHead, fieldValue, fieldName, pairName, entry, oneField, fieldsStep, onePair}
+use Rattle.cursor.specs.Word.{atOf}
 use Rattle.cursor.specs.Means.{Ready, notes, tokens, run, Took, Follows, listedIn, noKeywords}
 use Rattle.cursor.specs.declared.Cursor.{Cursor}
 use Rattle.fields.specs.declared.NextField.{NextField}
@@ -95,7 +96,7 @@ not-passes e = let z : _≡_ {A = ℕ} 0 1 = cc in omega arith
 
 -- with some steps left there is one
 pub by-step : {A : Type 0} (step : A → Rule (Next A)) (a : A) (s : List ℕ) (c : Cursor) (out : Out A) → Ready s c
-    → ((k : ℕ) → length s < c .at + suc k → after (step a (notes s c) (tokens s c)) (next (λ b. iterate step k b)) ≡ out)
+    → ((k : ℕ) → length s < atOf c + suc k → after (step a (notes s c) (tokens s c)) (next (λ b. iterate step k b)) ≡ out)
     → Gives step s c a out
 unfolding iterate
 by-step step a s c out r h zero l = absurd (let z = r .high in omega arith)
@@ -112,7 +113,7 @@ module _ (s : List ℕ) (t : Table) (c : Cursor) (r : Ready s c) where
   unfolding fieldsStep
   gives-closes m f e fs = by-step (fieldsStep t) fs s c _ r (λ k l. rw (e, f .rest, f .left, f .rounded))
 
-  pub passes-moves : (m : Cursor) → Follows s c m → itemOf (kind (tokens s c)) ≡ passes → c .at < m .at
+  pub passes-moves : (m : Cursor) → Follows s c m → itemOf (kind (tokens s c)) ≡ passes → atOf c < atOf m
   passes-moves m f e = let a = head-moves s c r (no-halt (kind (tokens s c)) passes e not-passes) in omega (arith, f .at)
 
   pub gives-passes : (m : Cursor) → Follows s c m → itemOf (kind (tokens s c)) ≡ passes
@@ -148,7 +149,7 @@ module _ (s : List ℕ) (t : Table) (c : Cursor) (r : Ready s c) where
   }
 
 -- a field behind what was passed before it
-pub field-behind : (s : List ℕ) (t : Table) (c m : Cursor) → c .at ≤ m .at
+pub field-behind : (s : List ℕ) (t : Table) (c m : Cursor) → atOf c ≤ atOf m
     → ((fs : Fields) (out : Out Fields) → Gives (fieldsStep t) s m fs out → Gives (fieldsStep t) s c fs out)
     → (i : ℕ) (u : Cursor) → FieldAt s m t i u → FieldAt s c t i u
 field-behind s t c m l g i u f = record {
@@ -266,7 +267,7 @@ pub loop-unlisted : (ns : List (List ℕ)) (ts : List Token) → listedIn ns ts 
     → find ns 0 (bytes "loop") ≡ none
 loop-unlisted ns ts e h = rw (word-name (kind ts) (bytes "loop") h) at e
 
-pub no-plain : (s : List ℕ) (c : Cursor) → Ready s c → seesName (tokens s c) ≡ false → run s c pairName ≡ refused Missing (c .at)
+pub no-plain : (s : List ℕ) (c : Cursor) → Ready s c → seesName (tokens s c) ≡ false → run s c pairName ≡ refused Missing (atOf c)
 unfolding pairName
 no-plain s c r h = rw (no-name (kind (tokens s c)) h, r .head .place)
 
@@ -318,7 +319,7 @@ paired s t c r e (found.Refused x q) h = pairs-refused s t c r x q e h
 
 -- a list that was read from c on stands at m
 pub record Passed (s : List ℕ) (c m : Cursor) : Type 0 where
-  pub low : c .at ≤ m .at
+  pub low : atOf c ≤ atOf m
   pub ready : Ready s m
   pub goes : (t : Table) (fs : Fields) (out : Out Fields) → Gives (fieldsStep t) s m fs out → Gives (fieldsStep t) s c fs out
 

@@ -11,6 +11,7 @@ ghost use Rattle.words.specs.Lists.{listOf};
 ghost use Rattle.words.specs.Keys.{placeIs};
 ghost use Rattle.token.specs.Token.{tokensFrom};
 ghost use Rattle.grammar.specs.Fields.{itemOf, fieldName, pairName, Table};
+ghost use Rattle.cursor.specs.Word.{atOf};
 ghost use Rattle.cursor.specs.Means.{Ready, listedIn, noKeywords};
 ghost use Rattle.fields.specs.Means.{itemIs, names, HeadMeans, StartMeans, FieldMeans, PairMeans};
 use cursor::Cursor;
@@ -74,7 +75,7 @@ fn after_name(text: &[u8], row: u8, c: Cursor) -> NextField
 // A name that is in no row: it may be no name at all.
 fn unlisted(text: &[u8], c: Cursor) -> NextField
     requires { ⌜ Ready (now text) c ⌝ }
-    ensures { λ r. ⌜ ((t : Table) → listedIn (names t) (tokensFrom (now (text .entry)) (c .at)) ≡ none → StartMeans (now (text .entry)) pairName c t r) ⌝ }
+    ensures { λ r. ⌜ ((t : Table) → listedIn (names t) (tokensFrom (now (text .entry)) (atOf c)) ≡ none → StartMeans (now (text .entry)) pairName c t r) ⌝ }
 {
     if cursor::sees_name(text, c) {
         return after_name(text, words::NONE, cursor::advance(text, c));
@@ -94,7 +95,7 @@ fn start_field(text: &[u8], c: Cursor, list: u8) -> NextField
         }
         return unlisted(text, c);
     }
-    after_name(text, row, cursor::advance(text, c))
+    after_name(text, row, cursor::hop(text, c, b':'))
 }
 
 // To the next field of a list, which ends at the group's end or a `{`, or behind a `;`.
@@ -104,7 +105,7 @@ pub fn parse_field_list(text: &[u8], c: Cursor, list: u8) -> NextField
 {
     let mut m = c;
     loop {
-        let k = m.kind;
+        let k = cursor::kind(m);
         match item_of(k) {
             Item::Halts => return NextField::Done(m),
             Item::Closes => return NextField::Done(cursor::advance(text, m)),
@@ -128,5 +129,5 @@ pub fn next_pair(text: &[u8], c: Cursor, list: u8) -> NextField
     if row == words::NONE {
         return unlisted(text, c);
     }
-    after_name(text, row, cursor::advance(text, c))
+    after_name(text, row, cursor::hop(text, c, b':'))
 }

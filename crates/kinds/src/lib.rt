@@ -167,7 +167,7 @@ pub fn parse_color(text: &[u8], sheet: &mut [u8], c: Cursor, out: usize) -> Node
     requires { ⌜ Ready (now text) c × Room (now text) out ⌝ }
     ensures { λ r. ⌜ LeafMeans (now (text .entry)) (now (sheet .entry)) (now (sheet .exit)) c out parseColor r ⌝ }
 {
-    match cursor::word(text, c) {
+    match cursor::word_before(text, c, b':') {
         WordRead::Missing(p) => NodeRead::Refused(Refusal::Missing, p),
         WordRead::Is(target, m) => match cursor::mark(text, m, b':') {
             MarkRead::Missing(p) => NodeRead::Refused(Refusal::Missing, p),

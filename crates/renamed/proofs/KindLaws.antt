@@ -288,7 +288,7 @@ module _ {t : List ℕ} {w : ℕ} {x : Bool} {e k : ℕ} {z : Bool} {n : ℕ} (p
           → (b : Bool) → (ltb wholeLimit w || ltb placesLimit (placesOf x w e)) ≡ b
           → Again numberAt t (numberAt t)
       by true h b g = rw (number-clings p h) tt
-      by false h true g = rw (number-long p false h g) tt
+      by false h true g = rw (number-long p h g) tt
       by false h false g =
           let few = neither (ltb wholeLimit w) (ltb placesLimit (placesOf x w e)) g in
           let a = ltb-false wholeLimit w (few .0) in

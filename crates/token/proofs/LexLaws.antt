@@ -12,15 +12,14 @@ use borrow.Author.Tests.{ltb-true, ltb-false, lt-ltb, le-ltb, eqb-true}
 use Rattle.text.specs.Bytes.{run, part, oneOf, among, decimal, isName, isDigit, isLetter, isInside}
 use Rattle.text.proofs.ByteLaws.{run-le, tests, tests-are}
 use Rattle.limbs.proofs.NumberLaws.{ten-fits, ten-positive, digits-small, run-in-at}
-use Rattle.error.specs.declared.Refusal.the-variants.{BadForm}
-use Rattle.token.specs.Token.{name, number, quoted, mark, Lexeme, bad, piece, nameAt, quotedAt, pointAt}
+use Rattle.error.specs.declared.Refusal.the-variants.{BadForm, TooManyDigits}
+use Rattle.token.specs.Token.{name, number, quoted, mark, bad, piece, nameAt, quotedAt, pointAt}
 use Rattle.token.specs.Token.{none, up, down, powerFrom, powerDigits, powerSize, powerBy}
 use Rattle.token.specs.Token.{powerAt, pastPower, isPower, times, over, placesAt}
 use Rattle.token.specs.Token.{pastFraction, suffixAt, pastSuffix, clings, placesOf, writtenBy, numberBy, numberAt, writtenAt, lexeme}
-use Rattle.token.specs.Means.{excessOf, Digits, CutMeans}
-use Rattle.token.specs.declared.Cut.{Cut}
+use Rattle.token.specs.Means.{Digits}
 
-or-false : (x : Bool) → (x || false) ≡ x
+pub or-false : (x : Bool) → (x || false) ≡ x
 or-false true = refl
 or-false false = refl
 
@@ -254,11 +253,11 @@ module _ {t : List ℕ} {w : ℕ} {x : Bool} {e k : ℕ} {z : Bool} {n : ℕ} (p
   unfolding numberBy
   number-clings h = number-is ∙ (rw (some, h))
 
-  pub number-long : (c : Bool) → clings t (not ((x || ltb 0 k) || z)) n ≡ c → (ltb 40 w || ltb 40 (placesOf x w e)) ≡ true
-      → numberAt t ≡ bad (excessOf c)
+  -- "Both: 2"
+  pub number-long : clings t (not ((x || ltb 0 k) || z)) n ≡ false → (ltb 40 w || ltb 40 (placesOf x w e)) ≡ true
+      → numberAt t ≡ bad TooManyDigits
   unfolding numberBy
-  number-long true h g = number-clings h
-  number-long false h g = number-is ∙ (rw (some, h, g))
+  number-long h g = number-is ∙ (rw (some, h, g))
 
   -- the same number, by the text alone
   pub written-is : writtenAt t ≡ writtenBy t w x e (powerAt t e) z
@@ -338,6 +337,3 @@ pub lex-is : (t : List ℕ) (a b c d : Bool) → isLetter (getD t 0 0) ≡ a
     → lexeme t ≡ cond a (nameAt t) (cond b (numberAt t) (cond c (quotedAt t) (cond d (piece (mark (getD t 0 0)) 1) (bad BadForm))))
 unfolding lexeme
 lex-is t a b c d h g k l = rw (h, g, k, l)
-
-pub lex-cut : (t : List ℕ) (x : Lexeme) → lexeme t ≡ x → (r : Cut) → CutMeans t x r → CutMeans t (lexeme t) r
-lex-cut t x e r m = rw e m

@@ -1,7 +1,9 @@
 pub mod LexLaws
 pub mod WholeLaws
 pub mod ShortLaws
+pub mod BlankLaws
 pub mod TokenLaws
+pub mod PieceLaws
 pub mod SplitLaws
 pub mod NameLaws
 pub mod StreamLaws

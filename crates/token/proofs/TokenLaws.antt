@@ -11,7 +11,7 @@ use Rattle.text.specs.Bytes.{run, isBlank}
 use Rattle.text.proofs.ByteLaws.{run-yes, run-no, run-stop}
 use Rattle.error.specs.declared.Refusal.{Refusal}
 use Rattle.token.specs.Token.{Kind, name, number, quoted, mark, Token, token, bad, piece, lexeme, cut, tokensFrom, isMark}
-use Rattle.token.specs.Means.{kindOf, Pieces, lexedOf, Lexes}
+use Rattle.token.specs.Means.{kindOf, Pieces, Lexes}
 use Rattle.token.specs.declared.Tok.{Tok}
 use Rattle.token.specs.declared.Tok.the-variants.{Mark}
 use Rattle.token.proofs.LexLaws.{run-fits}
@@ -107,7 +107,7 @@ module _ (s : List ℕ) (p start : ℕ) (r : start ≡ p + run isBlank (drop p s
   start-high h = omega (arith, run-fits isBlank s p h)
 
   -- no token can be cut at start
-  none-at : p ≤ length s → tokensFrom s start ≡ token start (mark 0) ∷ [] → Lexes s p (lexedOf start start (Mark 0))
+  none-at : p ≤ length s → tokensFrom s start ≡ token start (mark 0) ∷ [] → Lexes s p start start (Mark 0)
   none-at h q′ =
       let q : tokensFrom s p ≡ token start (mark 0) ∷ [] = from-start ∙ q′ in
       record {
@@ -123,10 +123,10 @@ module _ (s : List ℕ) (p start : ℕ) (r : start ≡ p + run isBlank (drop p s
       }
 
   module _ (h : p ≤ length s) where
-    pub lexes-end : length s ≤ start → Lexes s p (lexedOf start start (Mark 0))
+    pub lexes-end : length s ≤ start → Lexes s p start start (Mark 0)
     lexes-end g = none-at h (past-end s start g)
 
-    pub lexes-bad : start < length s → (x : Refusal) → lexeme (drop start s) ≡ bad x → Lexes s p (lexedOf start start (Mark 0))
+    pub lexes-bad : start < length s → (x : Refusal) → lexeme (drop start s) ≡ bad x → Lexes s p start start (Mark 0)
     unfolding tokensFrom
     lexes-bad g x e = none-at h (cut-bad start x (drop start s) (rw length-drop (omega arith)) (past-blanks s p start r g) e)
 
@@ -134,7 +134,7 @@ module _ (s : List ℕ) (p start : ℕ) (r : start ≡ p + run isBlank (drop p s
     pub piece-high : start + n ≤ length s
     piece-high = omega (arith, rw length-drop at (whole-of (drop start s) _ n (m .is) .high))
 
-    pub lexes-piece : Lexes s p (lexedOf start (start + n) k)
+    pub lexes-piece : Lexes s p start (start + n) k
     unfolding tokensFrom
     lexes-piece =
         let x = whole-of (drop start s) _ n (m .is) in

@@ -320,7 +320,7 @@ number-whole t h z = go (run isDigit t) refl (pointAt t (run isDigit t)) refl
             → (b : Bool) → (ltb 40 w || ltb 40 (placesOf x w e)) ≡ b
             → WholeOf t (numberAt t)
         by true p b q = rw (number-clings parts p) tt
-        by false p true q = rw (number-long parts false p q) tt
+        by false p true q = rw (number-long parts p q) tt
         by false p false q =
             let few = neither (ltb 40 w) (ltb 40 (placesOf x w e)) q in
             let a = ltb-false 40 w (few .0) in

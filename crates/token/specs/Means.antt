@@ -4,18 +4,17 @@ use mathlib.Core.List.{List, [], _∷_}
 use Prim.Native.String.{String}
 use mathlib.Core.Bool.{Bool, true, false, _&&_, cond}
 use mathlib.Core.Path.{_≡_}
-use lib.Dec.{ltb}
+use lib.Dec.{ltb, eqb}
 use lib.ListN.{length, getD, take, drop, replicate}
 use Rattle.lengths.specs.Sized.{sized}
 use Rattle.text.specs.Limits.{textLimit, wholeLimit, placesLimit}
-use Rattle.text.specs.Bytes.{run, part, decimal, isDigit}
+use Rattle.text.specs.Bytes.{run, part, decimal, isDigit, isLetter}
 use Rattle.text.specs.Words.{words}
 use Rattle.number.specs.Number.{Written}
 use Rattle.number.specs.Answer.{Capped}
 use Rattle.token.specs.Token.{Kind, name, number, quoted, mark, Token, token, Lexeme, bad, piece, writtenAt, placesAt}
 use Rattle.token.specs.Token.{tokensFrom, place, kind, isMark, rest}
-use Rattle.error.specs.declared.Refusal.{Refusal}
-use Rattle.error.specs.declared.Refusal.the-variants.{BadForm, TooManyDigits, TooManyOpen, ScratchTooShort}
+use Rattle.error.specs.declared.Refusal.the-variants.{TooManyOpen, ScratchTooShort}
 use Rattle.token.specs.Split.{Nest, unfit, awaits, closer, nest, Split, unlexed, tokens, splitFrom, split}
 use Rattle.token.specs.Names.{keywords}
 use Rattle.token.specs.declared.Number.{Number}
@@ -23,9 +22,6 @@ use Rattle.token.specs.declared.Figures.{Figures}
 use Rattle.token.specs.declared.Run.{Run}
 use Rattle.token.specs.declared.Tok.{Tok}
 use Rattle.token.specs.declared.Tok.the-variants as tok
-use Rattle.token.specs.declared.Cut.{Cut}
-use Rattle.token.specs.declared.Cut.the-variants as cut
-use Rattle.token.specs.declared.Lexed.{Lexed}
 use Rattle.token.specs.declared.Depth.{Depth}
 use Rattle.token.specs.declared.Depth.the-variants as depth
 use Rattle.token.specs.declared.SplitAnswer.{SplitAnswer}
@@ -46,9 +42,14 @@ kindOf t n (tok.Mark b) = mark b
 
 -- ---- the token that a text begins with
 
--- what a number with too many digits is refused with: "Both: 2"
-abbrev pub excessOf : Bool → Refusal
-excessOf clings = cond clings BadForm TooManyDigits
+-- how many bytes it has, none where it is no token
+abbrev pub lexemeSize : Lexeme → ℕ
+lexemeSize (bad r) = 0
+lexemeSize (piece k n) = n
+
+-- what it is, if it is a token, by its first byte
+unfoldable pub kindFrom : ℕ → Tok
+kindFrom b = cond (isLetter b) tok.Name (cond (isDigit b) tok.Num (cond (eqb b 34) tok.Quoted (tok.Mark b)))
 
 -- what the digit limits leave of the number that t begins with
 pub record Digits (t : List ℕ) : Type 0 where
@@ -101,6 +102,11 @@ abbrev pub FractionIs : List ℕ → Run → Bool → Run → Type 0
 FractionIs t h true r = RunIs t (h .value) (h .end + 1) 9 r
 FractionIs t h false r = r ≡ h
 
+-- a token of n bytes; the end where it has none
+abbrev pub headTok : Tok → ℕ → Tok
+headTok k zero = tok.Mark 0
+headTok k (suc n) = k
+
 -- what else is known of a token of n bytes that t begins with; of the end, a mark 0, nothing
 abbrev pub Stands : List ℕ → ℕ → Tok → Type 0
 Stands t n tok.Name = Unit {0}
@@ -112,27 +118,19 @@ pub record Pieces (t : List ℕ) (x : Lexeme) (k : Tok) (n : ℕ) : Type 0 where
   pub is : x ≡ piece (kindOf t n k) n
   pub stands : Stands t n k
 
--- the lexeme x of t, as the code has it
-abbrev pub CutMeans : List ℕ → Lexeme → Cut → Type 0
-CutMeans t x (cut.Bad r) = x ≡ bad r
-CutMeans t x (cut.Piece k n) = Pieces t x k n
-
 -- ---- the token at a place
 
-abbrev pub lexedOf : ℕ → ℕ → Tok → Lexed
-lexedOf start end k = record { start = start; end = end; tok = k }
-
--- r is the first of the tokens from `at` on, with its place and the place after it; only the end takes no byte
-pub record Lexes (s : List ℕ) (at : ℕ) (r : Lexed) : Type 0 where
-  pub same : tokensFrom s at ≡ tokensFrom s (r .start)
-  pub kind : kind (tokensFrom s at) ≡ kindOf (drop (r .start) s) (r .end - r .start) (r .tok)
-  pub place : place (tokensFrom s at) ≡ r .start
-  pub rest : rest (tokensFrom s at) ≡ tokensFrom s (r .end)
-  pub low : at ≤ r .start
-  pub some : r .start ≤ r .end
-  pub high : r .end ≤ length s
-  pub moved : isMark (kindOf (drop (r .start) s) (r .end - r .start) (r .tok)) 0 ≡ false → r .start < r .end
-  pub stands : Stands (drop (r .start) s) (r .end - r .start) (r .tok)
+-- a token of the kind k that stands from `start` to `end` is the first of the tokens from `at` on; only the end takes no byte
+pub record Lexes (s : List ℕ) (at start end : ℕ) (k : Tok) : Type 0 where
+  pub same : tokensFrom s at ≡ tokensFrom s start
+  pub kind : kind (tokensFrom s at) ≡ kindOf (drop start s) (end - start) k
+  pub place : place (tokensFrom s at) ≡ start
+  pub rest : rest (tokensFrom s at) ≡ tokensFrom s end
+  pub low : at ≤ start
+  pub some : start ≤ end
+  pub high : end ≤ length s
+  pub moved : isMark (kindOf (drop start s) (end - start) k) 0 ≡ false → start < end
+  pub stands : Stands (drop start s) (end - start) k
 
 -- the place of the last of some tokens, p where there is none; a text's tokens end at its length where each of them can be cut
 unfoldable pub lastPlace : ℕ → List Token → ℕ

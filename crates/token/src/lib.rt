@@ -12,12 +12,13 @@ ghost use Rattle.number.specs.Answer.{Capped};
 ghost use Rattle.limbs.specs.Means.{Nearest};
 ghost use Rattle.number.specs.Rounded.{fraction, rounded, numberRounded};
 ghost use Rattle.text.specs.Limits.{textLimit};
-ghost use Rattle.text.specs.Bytes.{run, part, oneOf, among, decimal, isDigit};
-ghost use Rattle.token.specs.Token.{nameAt, pointAt, pastFraction, suffixAt, pastSuffix, clings, placesOf, powerFrom, powerDigits, powerSize, pastPower, numberAt, quotedAt, writtenAt, lexeme};
+ghost use Rattle.text.specs.Bytes.{run, part, oneOf, among, decimal, isDigit, isBlank};
+ghost use Rattle.token.specs.Token.{nameAt, pointAt, pastFraction, suffixAt, pastSuffix, clings, placesOf, powerFrom, powerDigits, powerSize, pastPower, numberAt, quotedAt, writtenAt, bad, lexeme};
 ghost use Rattle.token.specs.Split.{closer, closed, nestMark, nest, ended, split};
 ghost use Rattle.text.specs.Words.{isOneOf};
 ghost use Rattle.token.specs.Names.{isKeyword};
-ghost use Rattle.token.specs.Means.{kindOf, excessOf, Digits, NumberIs, FiguresAre, RunIs, FractionIs, writtenIn, Known, CutMeans, lexedOf, Lexes, held, afterOpener, DepthMeans, answerOf, wideAnswer, answerFrom, TurnMeans, splitOutcome, splitting, pack, upTo4, upTo7, packedKeywords, longKeywords};
+ghost use Rattle.token.specs.Means.{kindOf, Digits, NumberIs, FiguresAre, RunIs, FractionIs, writtenIn, Known, lexemeSize, kindFrom, held, afterOpener, DepthMeans, answerOf, wideAnswer, answerFrom, TurnMeans, splitOutcome, splitting, pack, upTo4, upTo7, packedKeywords, longKeywords};
+ghost use Rattle.error.specs.declared.Refusal.{Refusal};
 use error::Refusal;
 use number::Bits;
 use number::Stored;
@@ -42,45 +43,32 @@ pub enum Tok {
     Mark(u8),
 }
 
-// What a text begins with: no token, or one and its size.
-enum Cut {
-    Bad(Refusal),
-    Piece(Tok, u16),
-}
+// ---- the token that a text begins with: its size, and 0 where none can be cut
 
-// A token, its place, and the place after it.
-pub struct Lexed {
-    pub start: u16,
-    pub end: u16,
-    pub tok: Tok,
-}
-
-// ---- the token that a text begins with
-
-fn name_at(t: &[u8]) -> Cut
+pub fn name_size(t: &[u8]) -> u16
     requires { ⌜ length (now t) ≤ textLimit ⌝ }
-    ensures { λ r. ⌜ CutMeans (now (t .entry)) (nameAt (now (t .entry))) r ⌝ }
+    ensures { λ r. ⌜ r ≡ lexemeSize (nameAt (now (t .entry))) ⌝ }
 {
     let n = text::run_end(t, 0, Class::NameByte) as u16;
     if text::byte_at(t, n as usize) == b'"' {
-        return Cut::Bad(Refusal::BadForm);
+        return 0;
     }
-    Cut::Piece(Tok::Name, n)
+    n
 }
 
-fn quoted_at(t: &[u8]) -> Cut
+pub fn quoted_size(t: &[u8]) -> u16
     requires { ⌜ length (now t) ≤ textLimit ⌝ }
-    ensures { λ r. ⌜ CutMeans (now (t .entry)) (quotedAt (now (t .entry))) r ⌝ }
+    ensures { λ r. ⌜ r ≡ lexemeSize (quotedAt (now (t .entry))) ⌝ }
 {
     let e = text::run_end(t, 1, Class::Inside) as u16;
     if text::byte_at(t, e as usize) == b'"' {
         let n = e + 1;
         if text::in_class(Class::NameByte, text::byte_at(t, n as usize)) {
-            return Cut::Bad(Refusal::BadForm);
+            return 0;
         }
-        return Cut::Piece(Tok::Quoted, n);
+        return n;
     }
-    Cut::Bad(Refusal::BadForm)
+    0
 }
 
 // Whether a point and a digit stand at w.
@@ -213,21 +201,24 @@ fn value(t: &[u8], seed: u64, from: u16, n: u16) -> u64
     v
 }
 
-// The refusal of a number with too many digits, which may have a bad form too.
-fn excess(clings: bool) -> Refusal
-    ensures { λ r. ⌜ r ≡ excessOf clings ⌝ }
-{
-    if clings {
-        return Refusal::BadForm;
-    }
-    Refusal::TooManyDigits
-}
-
-fn number_at(t: &[u8]) -> Cut
+// Most often only digits stand in a number.
+pub fn number_size(t: &[u8]) -> u16
     requires { ⌜ length (now t) ≤ textLimit ⌝ }
-    ensures { λ r. ⌜ CutMeans (now (t .entry)) (numberAt (now (t .entry))) r ⌝ }
+    ensures { λ r. ⌜ r ≡ lexemeSize (numberAt (now (t .entry))) ⌝ }
 {
     let w = text::run_end(t, 0, Class::Digit) as u16;
+    let b = text::byte_at(t, w as usize);
+    if (b == b'.') | text::in_class(Class::NameByte, b) | (text::WHOLE_LIMIT < w) {
+        return written_size(t, w);
+    }
+    w
+}
+
+// A number with w digits before its point.
+fn written_size(t: &[u8], w: u16) -> u16
+    requires { ⌜ (length (now t) ≤ textLimit) × (w ≡ run isDigit (now t)) ⌝ }
+    ensures { λ r. ⌜ r ≡ lexemeSize (numberAt (now (t .entry))) ⌝ }
+{
     let point = has_point(t, w);
     let end = past_fraction(t, w, point);
     let power = power_size(t, end);
@@ -236,14 +227,10 @@ fn number_at(t: &[u8]) -> Cut
     let n = past_suffix(t, suffix, stop);
     let places = places_of(point, w, end);
     let many = (text::WHOLE_LIMIT < w) | (text::PLACES_LIMIT < places);
-    let clings = clinging(t, point | (0 < power), suffix, n);
-    if many {
-        return Cut::Bad(excess(clings));
+    if many | clinging(t, point | (0 < power), suffix, n) {
+        return 0;
     }
-    if clings {
-        return Cut::Bad(Refusal::BadForm);
-    }
-    Cut::Piece(Tok::Num, n)
+    n
 }
 
 // v and a digit behind it, unless v is above 4,294,967,295.
@@ -496,7 +483,8 @@ pub fn percent_of(text: &[u8], negative: bool, n: Number) -> Stored
     number::percent(negative, n.digits)
 }
 
-fn is_mark(b: u8) -> bool
+// Whether a byte is a mark.
+pub fn is_mark(b: u8) -> bool
     ensures { λ r. ⌜ r ≡ among ":;,=>.+-%([{)]}" b ⌝ }
 {
     (b == b':')
@@ -516,48 +504,118 @@ fn is_mark(b: u8) -> bool
         | (b == b'}')
 }
 
-// The token that a text begins with; no blank stands first.
-fn first(t: &[u8]) -> Cut
+// The size of the token that a text begins with; no blank stands first.
+fn size_of(t: &[u8]) -> u16
     requires { ⌜ length (now t) ≤ textLimit ⌝ }
-    ensures { λ r. ⌜ CutMeans (now (t .entry)) (lexeme (now (t .entry))) r ⌝ }
+    ensures { λ r. ⌜ r ≡ lexemeSize (lexeme (now (t .entry))) ⌝ }
 {
     let b = text::byte_at(t, 0);
     if text::in_class(Class::Letter, b) {
-        return name_at(t);
+        return name_size(t);
     }
     if text::in_class(Class::Digit, b) {
-        return number_at(t);
+        return written_size(t, text::run_end(t, 0, Class::Digit) as u16);
     }
     if b == b'"' {
-        return quoted_at(t);
+        return quoted_size(t);
     }
     if is_mark(b) {
-        return Cut::Piece(Tok::Mark(b), 1);
+        return 1;
     }
-    Cut::Bad(Refusal::BadForm)
+    0
 }
 
-// ---- the token at a place
-
-fn token_at(start: u16, end: u16, tok: Tok) -> Lexed
-    ensures { λ r. ⌜ r ≡ lexedOf start end tok ⌝ }
+// What a token is that begins with a byte.
+fn kind_of(b: u8) -> Tok
+    ensures { λ r. ⌜ r ≡ kindFrom b ⌝ }
 {
-    Lexed { start, end, tok }
+    if text::in_class(Class::Letter, b) {
+        return Tok::Name;
+    }
+    if text::in_class(Class::Digit, b) {
+        return Tok::Num;
+    }
+    if b == b'"' {
+        return Tok::Quoted;
+    }
+    Tok::Mark(b)
 }
 
-// The token at a place, and the place after it. Where none can be cut it is the end.
-pub fn token(text: &[u8], at: usize) -> Lexed
-    requires { ⌜ (at ≤ length (now text)) × (length (now text) ≤ textLimit) ⌝ }
-    ensures { λ r. ⌜ Lexes (now (text .entry)) at r ⌝ }
+// Why a text begins with no number: it has too many digits, unless it has a bad form, too.
+fn why_number(t: &[u8]) -> Refusal
+    requires { ⌜ length (now t) ≤ textLimit ⌝ }
+    ensures { λ r. ⌜ ((x : Refusal) → numberAt (now (t .entry)) ≡ bad x → r ≡ x) ⌝ }
 {
-    let start = text::run_end(text, at, Class::Blank) as u16;
-    if text.len() <= start as usize {
-        return token_at(start, start, Tok::Mark(0));
+    let w = text::run_end(t, 0, Class::Digit) as u16;
+    let point = has_point(t, w);
+    let end = past_fraction(t, w, point);
+    let power = power_size(t, end);
+    let stop = past_power(t, end, power);
+    let suffix = has_suffix(t, stop);
+    let n = past_suffix(t, suffix, stop);
+    if clinging(t, point | (0 < power), suffix, n) {
+        return Refusal::BadForm;
     }
-    match first(&text[start as usize..]) {
-        Cut::Bad(_) => token_at(start, start, Tok::Mark(0)),
-        Cut::Piece(k, n) => token_at(start, start + n, k),
+    Refusal::TooManyDigits
+}
+
+// Why a text begins with no token.
+fn why(t: &[u8]) -> Refusal
+    requires { ⌜ length (now t) ≤ textLimit ⌝ }
+    ensures { λ r. ⌜ ((x : Refusal) → lexeme (now (t .entry)) ≡ bad x → r ≡ x) ⌝ }
+{
+    if text::in_class(Class::Digit, text::byte_at(t, 0)) {
+        return why_number(t);
     }
+    Refusal::BadForm
+}
+
+// ---- blanks
+
+// Whether 8 spaces stand at a place: a loop of a fixed length, which is made into one comparison.
+fn has_8_spaces(t: &[u8], at: u16) -> bool
+    requires { ⌜ at + 8 ≤ length (now t) ⌝ }
+    ensures { λ r. ⌜ (r ≡ true → 8 ≤ run isBlank (drop at (now (t .entry)))) ⌝ }
+{
+    let mut all = true;
+    let mut n: u16 = 0;
+    while n < 8 {
+        all = all & (t[at as usize + n as usize] == b' ');
+        n += 1;
+    }
+    all
+}
+
+// The end of the blanks from a place on; 8 spaces are passed at once.
+fn blanks_end(t: &[u8], from: u16) -> u16
+    requires { ⌜ (from ≤ length (now t)) × (length (now t) ≤ textLimit) ⌝ }
+    ensures { λ r. ⌜ r ≡ from + run isBlank (drop from (now (t .entry))) ⌝ }
+{
+    let mut i = from;
+    while 8 <= t.len() - i as usize {
+        if !has_8_spaces(t, i) {
+            return text::run_end(t, i as usize, Class::Blank) as u16;
+        }
+        i += 8;
+    }
+    text::run_end(t, i as usize, Class::Blank) as u16
+}
+
+// The first place from one on where no blank stands. Most often there is one space or none.
+pub fn past_blanks(t: &[u8], at: u16) -> u16
+    requires { ⌜ (at ≤ length (now t)) × (length (now t) ≤ textLimit) ⌝ }
+    ensures { λ r. ⌜ r ≡ at + run isBlank (drop at (now (t .entry))) ⌝ }
+{
+    let b = text::byte_at(t, at as usize);
+    if b' ' < b {
+        return at;
+    }
+    if b == b' ' {
+        if b' ' < text::byte_at(t, at as usize + 1) {
+            return at + 1;
+        }
+    }
+    blanks_end(t, at)
 }
 
 // ---- the pass over a whole text, with the awaited closers in the first words of the scratch, the innermost last
@@ -680,19 +738,21 @@ fn step(text: &[u8], at: u16, words: &mut [u16], depth: u16) -> Turn
     requires { ⌜ (at ≤ length (now text)) × (length (now text) ≤ textLimit) × (64 ≤ length (now words)) × (depth ≤ 64) ⌝ }
     ensures { λ r. ⌜ TurnMeans (now (text .entry)) at (answerFrom (now (text .entry)) at (held (now (words .entry)) depth)) (now (words .exit)) r ⌝ }
 {
-    let start = text::run_end(text, at as usize, Class::Blank) as u16;
+    let start = past_blanks(text, at);
     if text.len() <= start as usize {
         return Turn::Over(ended(start, depth));
     }
-    match first(&text[start as usize..]) {
-        Cut::Bad(r) => halt(r, start),
-        Cut::Piece(k, n) => match nest(k, words, depth) {
-            Depth::Unfit(r) => halt(r, start),
-            Depth::Open(d) => {
-                let next = start + n;
-                Turn::On(next, d)
-            }
-        },
+    let t = &text[start as usize..];
+    let n = size_of(t);
+    if n == 0 {
+        return halt(why(t), start);
+    }
+    match nest(kind_of(text::byte_at(t, 0)), words, depth) {
+        Depth::Unfit(r) => halt(r, start),
+        Depth::Open(d) => {
+            let next = start + n;
+            Turn::On(next, d)
+        }
     }
 }
 

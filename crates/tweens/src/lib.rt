@@ -33,7 +33,7 @@ fn target_mark(text: &[u8], c: Cursor) -> WordRead
     requires { ⌜ Ready (now text) c ⌝ }
     ensures { λ r. ⌜ TargetMeans (now (text .entry)) c r ⌝ }
 {
-    match cursor::word(text, c) {
+    match cursor::word_before(text, c, b':') {
         WordRead::Missing(p) => WordRead::Missing(p),
         WordRead::Is(target, m) => match cursor::mark(text, m, b':') {
             MarkRead::Missing(p) => WordRead::Missing(p),

@@ -1,33 +1,27 @@
--- `cursor::advance` meets its contract.
-use Rattle.text.specs.Bytes.{at}
-use Rattle.token.specs.Token.{rest}
-use mathlib.Core.Path.{ap, sym, _∙_}
 use native.Mathlib.Omega.{arith}
-use Rattle.token.specs.Token.{tokensFrom}
+use Rattle.text.specs.Bytes.{at}
+use Rattle.cursor.proofs.CursorLaws.{head-last, follows}
 use borrow.Author.Needs.{needs}
-use Rattle.cursor.proofs.CursorLaws.{head-last, head-low}
 use Rattle.cursor.proofs.advance.Statement.{statement}
 use Rattle.cursor.proofs.advance.Tie as tie
 
+-- src/lib.rt:273:27
+end-requires : tie.Need-end-requires
+end-requires c κs = search needs
+
+-- src/lib.rt:273:15
 start-requires : tie.Need-start-requires
 start-requires c κs =
-    let start = c .before .before in (
-      search needs,
-      start .pre .short,
-      rw (c .wide .ensures) (head-last (start .args .text .now) (start .args .c) (start .pre)),
-      omega (arith, c .wide .ensures, start .pre .few, head-low (start .args .text .now) (start .args .c) (start .pre)),
+    let start-2 = c .before .before in (
+      rw (c .end .ensures) (start-2 .pre .head .high),
+      start-2 .pre .short,
+      rw (c .end .ensures) (head-last (start-2 .args .text .now) (start-2 .args .c) (start-2 .pre)),
+      omega (arith, c .end .ensures, start-2 .pre .few, start-2 .pre .head .some),
     )
 
+-- src/lib.rt:268:1
 returns : tie.Need-returns
-returns c =
-    let start = c .before .before .before in
-    record {
-      rest = start .pre .head .rest ∙ ap (tokensFrom (start .args .text .now)) (sym (c .before .wide .ensures)) ∙ c .start .ensures .is;
-      at = omega (arith, c .before .wide .ensures, c .start .ensures .low);
-      left = c .start .ensures .left;
-      rounded = c .start .ensures .rounded;
-      ready = c .start .ensures .ready;
-    }
+returns c = follows (c .before .before .before .pre) (rw (c .before .end .ensures) at (c .start .ensures))
 
 pub advance-spec : {M : Type 1} → statement M
-advance-spec = tie.close (tie.spec (λ c κs. search needs) start-requires returns)
+advance-spec = tie.close (tie.spec end-requires start-requires returns)

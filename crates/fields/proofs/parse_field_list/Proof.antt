@@ -1,4 +1,5 @@
 -- `fields::parse_field_list` meets its contract.
+use Rattle.cursor.specs.Word.{atOf, tokOf}
 use Rattle.cursor.specs.declared.Cursor.{Cursor}
 use mathlib.Core.List.{[]}
 use Rattle.fields.specs.declared.Item.{Item}
@@ -21,7 +22,7 @@ use Rattle.fields.proofs.parse_field_list.Tie as tie
 
 -- what the head of m is to the list
 item : (s : List ℕ) (m : Cursor) (r : Ready s m) (x y : Item)
-    → ((t : List ℕ) (n : ℕ) → itemIs x ≡ itemOf (kindOf t n (m .kind)))
+    → ((t : List ℕ) (n : ℕ) → itemIs x ≡ itemOf (kindOf t n (tokOf m)))
     → x ≡ y → itemOf (kind (tokens s m)) ≡ itemIs y
 item s m r x y h e = ap itemOf (r .head .kind) ∙ sym (h _ _) ∙ ap itemIs e
 
@@ -29,7 +30,7 @@ abbrev Inv-loop : tie.InvT-loop
 Inv-loop text rows m₀ m = Passed text m₀ m
 
 abbrev μ-loop : tie.MeasureT-loop
-μ-loop text rows m₀ m = length text - m .at
+μ-loop text rows m₀ m = length text - atOf m
 
 loop-holds : tie.Need-loop-holds Inv-loop μ-loop
 loop-holds c =

@@ -1,6 +1,7 @@
 use Rattle.text.specs.Bytes.{same}
 use Rattle.text.specs.Words.{find}
 use Rattle.token.specs.Names.{isKeyword}
+use Rattle.cursor.specs.Word.{atOf}
 use Rattle.cursor.specs.Means.{noKeywords}
 use Rattle.words.specs.Lists.{listOf}
 -- `kind_steps::draw_pairs` meets its contract.
@@ -23,7 +24,7 @@ abbrev Inv-loop : tie.InvT-loop
 Inv-loop text m₀ kept₀ m kept = Gathering pairStep text m₀ m drawFields [] (drawCells kept)
 
 abbrev μ-loop : tie.MeasureT-loop
-μ-loop text m₀ kept₀ m kept = length text - m .at
+μ-loop text m₀ kept₀ m kept = length text - atOf m
 
 loop-holds : tie.Need-loop-holds Inv-loop μ-loop
 unfolding last

@@ -1,7 +1,7 @@
 -- `cursor::parse_float` meets its contract.
 use Rattle.text.specs.Bytes.{at}
 use Rattle.error.specs.declared.Refusal.the-variants.{Malformed}
-use Rattle.cursor.proofs.CursorLaws.{counts, took-number}
+use Rattle.cursor.proofs.CursorLaws.{counts, counted, took-number}
 use native.Mathlib.Omega.{arith}
 use Rattle.grammar.specs.Values.{parseFloat}
 use Rattle.number.proofs.Floats.{nearest-number}
@@ -32,10 +32,11 @@ returns-2 c =
     let args = start .args in
     let n = rw (at-negative .negative .given .1) at (at-number .number .ensures) in
     let t = took-number (args .text .now) (args .c) _ _ _ n Malformed in
-    let x = at-float-of .float-of .ensures in (
+    let x = at-float-of .float-of .ensures in
+    let k = counted (args .text .now) _ (n .ready) (at-float-of .float-of .result .rounded) in (
       record {
-        is = rw (t .is, c .count .ensures, x .0, x .1);
-        low = rw (c .count .ensures) (n .low);
+        is = rw (t .is, c .count .ensures, k .at, k .left, k .rounded, x .0, x .1);
+        low = rw (c .count .ensures, k .at) (n .low);
         ready = rw (c .count .ensures)
             (counts (args .text .now) (args .c) _ (start .pre) (n .ready) (n .rounded) (n .low) (at-float-of .float-of .result .rounded));
       },
