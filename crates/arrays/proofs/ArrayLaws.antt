@@ -20,6 +20,7 @@ use Rattle.error.specs.declared.Refusal.the-variants.{Missing}
 use Rattle.grammar.specs.Rule.{leave, theByte, seesByte, skip, refuse, after, give, _>>_}
 use Rattle.grammar.specs.Rule.{Out, got, refused, listStep, eatByte, ends}
 use Rattle.grammar.specs.Values.{parseFloat, arrayItem, arrayItems, parseValue}
+use Rattle.cursor.specs.Word.{atOf}
 use Rattle.cursor.specs.Means.{Ready, notes, tokens, run, Took}
 use Rattle.cursor.specs.declared.Cursor.{Cursor}
 use Rattle.fields.proofs.FieldLaws.{by-step}
@@ -32,7 +33,7 @@ pub record Items (s b a : List ℕ) (c m : Cursor) (out at n : ℕ) : Type 0 whe
   pub listed : Listed (listStep arrayItem) s c m [] xs
   pub count : n ≡ length xs
   pub writes : Writes b out (eachOut (word .write) xs) a at
-  pub paid : at ≤ out + 64 * (m .at - c .at)
+  pub paid : at ≤ out + 64 * (atOf m - atOf c)
 
 pub items-start : (s b : List ℕ) (c : Cursor) (out : ℕ) → Ready s c → Items s b b c c out out 0
 items-start s b c out r = record {
@@ -77,7 +78,7 @@ module _ (s b a : List ℕ) (c m : Cursor) (out at n : ℕ) (i : Items s b a c m
     more-written : Writes b out (eachOut (word .write) (i .xs ++ x ∷ [])) a′ at′
     more-written = rw each-more (writes-then (i .writes) w)
 
-    more-paid : c .at ≤ m .at → m .at + 1 ≤ v .at → v .at ≤ u .at → at′ ≤ out + 64 * (u .at - c .at)
+    more-paid : atOf c ≤ atOf m → atOf m + 1 ≤ atOf v → atOf v ≤ atOf u → at′ ≤ out + 64 * (atOf u - atOf c)
     more-paid p q r = let z = w .place in let y = length-word x in omega (arith, i .paid)
 
     pub items-more : Took 0 s v u (eatByte 44) true → Items s b a′ c u out at′ (n + 1)
@@ -96,7 +97,7 @@ module _ (s b a : List ℕ) (c m : Cursor) (out at n : ℕ) (i : Items s b a c m
       paid = more-paid (i .listed .low) (t .low) (omega (arith, z .low));
     }
 
-    pub items-moves : Took 0 s v u (eatByte 44) true → m .at < u .at
+    pub items-moves : Took 0 s v u (eatByte 44) true → atOf m < atOf u
     items-moves z = omega (arith, t .low, z .low)
 
     pub items-last : Took 0 s v u (eatByte 44) false

@@ -14,6 +14,7 @@ use Rattle.encode.specs.Of.{Plain}
 use Rattle.encode.specs.Writes.{Writes}
 use Rattle.grammar.specs.Rule.{Rule, refused, leave, give, _>>=_, _>>_}
 use Rattle.grammar.specs.Values.{arrayItems, parseValue}
+use Rattle.cursor.specs.Word.{atOf}
 use Rattle.cursor.specs.Means.{run, Took}
 use Rattle.cursor.specs.declared.Cursor.{Cursor}
 use Rattle.arrays.specs.declared.ItemsRead.{ItemsRead}
@@ -44,7 +45,7 @@ pub record Went {A : Type 0} (e : ℕ) (s b a : List ℕ) (c m : Cursor) (out q 
   pub value : A
   pub took : Took e s c m p value
   pub writes : Writes b out (bytes value) a q
-  pub paid : q ≤ out + 64 * (m .at - c .at)
+  pub paid : q ≤ out + 64 * (atOf m - atOf c)
 
 -- the elements of an array
 abbrev pub ItemsMeans : List ℕ → List ℕ → List ℕ → Cursor → ℕ → ItemsRead → Type 0
@@ -61,7 +62,7 @@ pub record ArrayWent (s b a : List ℕ) (c m : Cursor) (out n q : ℕ) : Type 0 
   pub took : Took 0 s c m arrayBehind (array xs)
   pub count : n ≡ length xs
   pub writes : Writes b out (valueForm .write (array xs)) a q
-  pub paid : q ≤ out + 3 + 64 * (m .at - c .at)
+  pub paid : q ≤ out + 3 + 64 * (atOf m - atOf c)
 
 abbrev pub ArrayMeans : List ℕ → List ℕ → List ℕ → Cursor → ℕ → ItemsRead → Type 0
 ArrayMeans s b a c out (items.Is n q m) = ArrayWent s b a c m out n q
@@ -76,7 +77,7 @@ pub record HeldWent (s b a : List ℕ) (c m : Cursor) (out q : ℕ) (v : values.
   pub value : ValueExpr
   pub took : Took 1 s c m parseValue value
   pub held : Held b a out q value v
-  pub paid : q ≤ out + 64 * (m .at - c .at)
+  pub paid : q ≤ out + 64 * (atOf m - atOf c)
 
 abbrev pub HeldMeans : List ℕ → List ℕ → List ℕ → Cursor → ℕ → HeldRead → Type 0
 HeldMeans s b a c out (held.Is v q m) = HeldWent s b a c m out q v

@@ -14,6 +14,7 @@ use Rattle.error.specs.declared.Refusal.{Refusal}
 use Rattle.error.specs.declared.Refusal.the-variants.{UnknownKeyword}
 use Rattle.grammar.specs.Rule.{refused, Rule, word}
 use Rattle.grammar.specs.Grammar.{leaves, containers, parseNode}
+use Rattle.cursor.specs.Word.{atOf}
 use Rattle.cursor.specs.Means.{Ready, run, Took}
 use Rattle.cursor.specs.declared.Cursor.{Cursor}
 use Rattle.nodes.specs.Means.{leafKind}
@@ -75,7 +76,7 @@ leaf-refused s c start w i r q k h blk = rw (k .2, h (k .0) (k .1))
 -- "`unknown_keyword`": 7, behind the word
 pub unknown-refused : (s : List ℕ) (c : Cursor) (start : ℕ) (w : List ℕ) → Ready s c → KeywordMeans w keyword.Unknown
     → (blk : Rule (Nodes Key))
-    → run s c (behindWord start w blk) ≡ refused UnknownKeyword (c .at)
+    → run s c (behindWord start w blk) ≡ refused UnknownKeyword (atOf c)
 unknown-refused s c start w r k blk = rw (k, r .head .place)
 
 -- ---- from the keyword on

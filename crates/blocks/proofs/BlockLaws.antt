@@ -18,6 +18,7 @@ use Rattle.error.specs.declared.Refusal.{Refusal}
 use Rattle.error.specs.declared.Refusal.the-variants.{Missing, TooManyNested}
 use Rattle.grammar.specs.Rule.{Notes, Out, got, Rule, refused, after, give, _>>=_, leave, seesByte, ends, theByte, more, done}
 use Rattle.grammar.specs.Grammar.{stored, containers, aContainer, nodeBy, parseNode, oneNode, nodesStep, block}
+use Rattle.cursor.specs.Word.{atOf}
 use Rattle.cursor.specs.Means.{Ready, tokens, run, Took, Follows}
 use Rattle.cursor.specs.declared.Cursor.{Cursor}
 use Rattle.cursor.proofs.CursorLaws.{took-mark, stays}
@@ -50,7 +51,7 @@ no-brace s c (suc d) q h = rw h
 -- "a 17th container inside 16 others": 12, at "its `{`"
 pub too-deep : (s : List ℕ) (c m : Cursor) (d : ℕ) → Ready s c → Took 1 s c m (theByte 123) tt
     → d ≡ 0
-    → run s c (block d) ≡ refused TooManyNested (c .at)
+    → run s c (block d) ≡ refused TooManyNested (atOf c)
 unfolding block
 too-deep s c m d r t e = rw (e, mark-seen s c m 123 t, r .head .place)
 
@@ -309,10 +310,10 @@ pub record Growing (s b a : List ℕ) (c : Cursor) (out d : ℕ) (t : Siblings) 
   pub listed : Listed (nodesStep (block d)) s c (t .next) Nodes.none nodes
   pub wide : t .width ≡ width nodes
   pub count : t .records ≡ records nodes
-  pub thin : c .at + t .width ≤ t .next .at
-  pub few : c .at + t .records ≤ t .next .at
+  pub thin : atOf c + t .width ≤ atOf (t .next)
+  pub few : atOf c + t .records ≤ atOf (t .next)
   pub writes : Writes b out (nodesBytes (length s) d nodes) a (t .end)
-  pub paid : t .end ≤ out + 64 * (t .next .at - c .at)
+  pub paid : t .end ≤ out + 64 * (atOf (t .next) - atOf c)
 
 pub growing-start : {s : List ℕ} (b : List ℕ) {c : Cursor} (out d : ℕ) → Ready s c
     → Growing s b b c out d (record { end = out; next = c; width = 0; records = 0 })

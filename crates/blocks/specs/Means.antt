@@ -16,6 +16,7 @@ use Rattle.sheet.specs.Sheet.{Node, word, patternForm, nodeForm, forest, inner}
 use Rattle.encode.specs.Writes.{Writes}
 use Rattle.grammar.specs.Rule.{Rule, refused, give, _>>=_, the, more, done, repeat}
 use Rattle.grammar.specs.Grammar.{stored, leaves, containers, aLeaf, aContainer, unknown, beginning, nodeBy, nodesStep, block}
+use Rattle.cursor.specs.Word.{atOf}
 use Rattle.cursor.specs.Means.{Ready, run, Took}
 use Rattle.cursor.specs.declared.Cursor.{Cursor}
 use Rattle.arrays.specs.Means.{Went}
@@ -70,9 +71,9 @@ pub record LeafBegun (e : ℕ) (s b a : List ℕ) (c m : Cursor) (out q : ℕ) (
   pub start : ℕ
   pub value : Leaf Key
   pub took : (blk : Rule (Nodes Key)) → Took e s c m (p blk) (single start value)
-  pub low : c .at + e ≤ m .at
+  pub low : atOf c + e ≤ atOf m
   pub writes : Writes b out (frontBytes (leafKind value) start ++ leafBytes (length s) value) a q
-  pub paid : q + 64 * e ≤ out + 3 + 64 * (m .at - c .at)
+  pub paid : q + 64 * e ≤ out + 3 + 64 * (atOf m - atOf c)
 
 -- the node is the container of row i, whose head is to follow at m; the front of its record is written up to q
 pub record ContainerBegun (e : ℕ) (s b a : List ℕ) (c m : Cursor) (out q i : ℕ) (p : NodeRule) : Type 0 where
@@ -80,7 +81,7 @@ pub record ContainerBegun (e : ℕ) (s b a : List ℕ) (c m : Cursor) (out q i :
   pub found : getElem? containers i ≡ some row
   pub start : ℕ
   pub is : (blk : Rule (Nodes Key)) → run s c (p blk) ≡ run s m (nodeBy blk start (aContainer (row .1)))
-  pub low : c .at + e ≤ m .at
+  pub low : atOf c + e ≤ atOf m
   pub ready : Ready s m
   pub writes : Writes b out (frontBytes (containerKindAt i) start) a q
 
@@ -126,17 +127,17 @@ BraceMeans s c d (brace.Refused r q) = run s c (block d) ≡ refused r q
 -- of a node, the head record left out
 pub record Reached (s : List ℕ) (c : Cursor) (out : ℕ) : Type 0 where
   pub short : length s ≤ textLimit
-  pub low : out ≤ 2 + 64 * c .at
+  pub low : out ≤ 2 + 64 * atOf c
 
 -- of a container's head, its keyword taken and the front of its record written
 pub record Headed (s : List ℕ) (c : Cursor) (out : ℕ) : Type 0 where
   pub short : length s ≤ textLimit
-  pub low : out + 59 ≤ 64 * c .at
+  pub low : out + 59 ≤ 64 * atOf c
 
 -- of the count of the nodes in a block
 pub record Counted (s : List ℕ) (c : Cursor) (count : ℕ) : Type 0 where
   pub short : length s ≤ textLimit
-  pub low : count ≤ 64 * c .at
+  pub low : count ≤ 64 * atOf c
 
 -- ---- nodes
 
@@ -156,7 +157,7 @@ nodesBytes n d ns = forest n (inner n d) (width ns) .write (mapTimes stored ns)
 pub record NodeWent (e : ℕ) (p : Rule (MotionNode Key)) (s b a : List ℕ) (c m : Cursor) (out q d k : ℕ) : Type 0 where
   pub went : Went e s b a c m out q p (nodeBytes (length s) d)
   pub count : k ≡ records (push (went .value) Nodes.none)
-  pub few : c .at + k ≤ m .at
+  pub few : atOf c + k ≤ atOf m
 
 abbrev pub NodeMeans : (e : ℕ) → Rule (MotionNode Key) → (s b a : List ℕ) → Cursor → ℕ → ℕ → ParsedNode → Type 0
 NodeMeans e p s b a c out d (node.Is q m k) = NodeWent e p s b a c m out q d k
@@ -168,8 +169,8 @@ pub record BlockWent (s b a : List ℕ) (c m : Cursor) (count q d k : ℕ) : Typ
   pub took : Took 1 s c m (block d) nodes
   pub writes : Writes b count (inner (length s) d .write (mapTimes stored nodes)) a q
   pub number : k ≡ records nodes + 1
-  pub few : c .at + k ≤ m .at
-  pub paid : q + 62 ≤ count + 64 * (m .at - c .at)
+  pub few : atOf c + k ≤ atOf m
+  pub paid : q + 62 ≤ count + 64 * (atOf m - atOf c)
 
 abbrev pub BlockMeans : (s b a : List ℕ) → Cursor → ℕ → ℕ → ParsedNode → Type 0
 BlockMeans s b a c count d (node.Is q m k) = BlockWent s b a c m count q d k
@@ -190,7 +191,7 @@ heldBytes n d x = headBytes (x .0) ++ inner n d .write (mapTimes stored (x .1))
 pub record HeldWent (p : Rule Container) (s b a : List ℕ) (c m : Cursor) (out q d k : ℕ) : Type 0 where
   pub went : Went 0 s b a c m out q (heldBy p d) (heldBytes (length s) d)
   pub count : k ≡ records (went .value .1) + 1
-  pub few : c .at + k ≤ m .at
+  pub few : atOf c + k ≤ atOf m
 
 abbrev pub HeldMeans : Rule Container → (s b a : List ℕ) → Cursor → ℕ → ℕ → ParsedNode → Type 0
 HeldMeans p s b a c out d (node.Is q m k) = HeldWent p s b a c m out q d k
@@ -202,8 +203,8 @@ HeldMeans p s b a c out d (node.Refused r q) = run s c (heldBy p d) ≡ refused 
 pub record Standing (s : List ℕ) (t : Siblings) : Type 0 where
   pub ready : Ready s (t .next)
   pub reached : Reached s (t .next) (t .end)
-  pub thin : t .width ≤ t .next .at
-  pub few : t .records ≤ t .next .at
+  pub thin : t .width ≤ atOf (t .next)
+  pub few : t .records ≤ atOf (t .next)
 
 -- a step goes on from t to u, whatever nodes ns stand before: it makes them `grown ns`, and writes what that adds
 pub record Stepped (s b a : List ℕ) (d : ℕ) (t u : Siblings) : Type 0 where
@@ -211,12 +212,12 @@ pub record Stepped (s b a : List ℕ) (d : ℕ) (t u : Siblings) : Type 0 where
   pub took : (ns : Nodes Key) → Took 1 s (t .next) (u .next) (nodesStep (block d) ns) (more (grown ns))
   pub wide : (ns : Nodes Key) → width (grown ns) + t .width ≡ width ns + u .width
   pub count : (ns : Nodes Key) → records (grown ns) + t .records ≡ records ns + u .records
-  pub thin : t .next .at + u .width ≤ u .next .at + t .width
-  pub few : t .next .at + u .records ≤ u .next .at + t .records
+  pub thin : atOf (t .next) + u .width ≤ atOf (u .next) + t .width
+  pub few : atOf (t .next) + u .records ≤ atOf (u .next) + t .records
   pub added : List ℕ
   pub bytes : (ns : Nodes Key) → nodesBytes (length s) d (grown ns) ≡ nodesBytes (length s) d ns ++ added
   pub writes : Writes b (t .end) added a (u .end)
-  pub paid : u .end ≤ t .end + 64 * (u .next .at - t .next .at)
+  pub paid : u .end ≤ t .end + 64 * (atOf (u .next) - atOf (t .next))
 
 -- the list ends at t
 pub record Ended (s b a : List ℕ) (d : ℕ) (t u : Siblings) : Type 0 where
@@ -237,7 +238,7 @@ pub record NodesWent (s b a : List ℕ) (c : Cursor) (out d : ℕ) (t : Siblings
   pub went : Went 0 s b a c (t .next) out (t .end) (parseNodes d) (nodesBytes (length s) d)
   pub wide : t .width ≡ width (went .value)
   pub count : t .records ≡ records (went .value)
-  pub few : c .at + t .records ≤ t .next .at
+  pub few : atOf c + t .records ≤ atOf (t .next)
 
 abbrev pub NodesMeans : (s b a : List ℕ) → Cursor → ℕ → ℕ → ParsedNodes → Type 0
 NodesMeans s b a c out d (nodes.Is t) = NodesWent s b a c out d t

@@ -18,6 +18,7 @@ use Rattle.token.specs.declared.SplitAnswer.{SplitAnswer}
 use Rattle.token.specs.declared.SplitAnswer.the-variants as answer
 use Rattle.token.proofs.StreamLaws.{split-reads}
 use Rattle.grammar.specs.Rule.{Notes, Out, got, refused, ends, iterate}
+use Rattle.cursor.specs.Word.{atOf, leftAt, roundedOf}
 use Rattle.cursor.specs.Means.{nothing, leftOf, leftIs, Ready, Begins, notes, run}
 use Rattle.cursor.specs.Means as cursor
 use Rattle.cursor.specs.declared.Cursor.{Cursor}
@@ -35,7 +36,7 @@ pub record Walked (s : List ℕ) (c : Cursor) (n : ℕ) : Type 0 where
   pub list : List Item
   pub is : items (fresh (length s)) (tokensFrom s 0) ≡ iterate itemsStep (suc (length s) - n) list (notes s c) (cursor.tokens s c)
   pub count : n ≡ length list
-  pub low : 3 * n ≤ c .at
+  pub low : 3 * n ≤ atOf c
   pub ready : Ready s c
 
 -- and their rows are written
@@ -43,7 +44,7 @@ pub record Reading (s table : List ℕ) (c : Cursor) (n : ℕ) : Type 0 where
   pub walked : Walked s c n
   pub rows : Rows s table (walked .list)
 
-fresh-notes : (s : List ℕ) (c : Cursor) → c .left ≡ nothing → c .rounded ≡ 0 → notes s c ≡ fresh (length s)
+fresh-notes : (s : List ℕ) (c : Cursor) → leftAt c ≡ nothing → roundedOf c ≡ 0 → notes s c ≡ fresh (length s)
 unfolding leftOf
 fresh-notes s c l r = rw (l, r)
 
@@ -106,10 +107,10 @@ module _ {s : List ℕ} {c : Cursor} {n : ℕ} (w : Walked s c n) where
   )
 
 module _ {s table : List ℕ} {c : Cursor} {n : ℕ} (r : Reading s table c n) where
-  pub reading-left : {p : ℕ} → ends (cursor.tokens s c) ≡ true → leftIs (left.At p) ≡ leftOf (c .left) → itemsOf s ≡ wrong Leftover p
+  pub reading-left : {p : ℕ} → ends (cursor.tokens s c) ≡ true → leftIs (left.At p) ≡ leftOf (leftAt c) → itemsOf s ≡ wrong Leftover p
   reading-left e h = ap finished (walked-done (r .walked) e) ∙ ap (unlessLeft (r .walked .list)) (sym h)
 
-  pub reading-done : ends (cursor.tokens s c) ≡ true → leftIs left.Nothing ≡ leftOf (c .left) → Held s table (itemsOf s) n
+  pub reading-done : ends (cursor.tokens s c) ≡ true → leftIs left.Nothing ≡ leftOf (leftAt c) → Held s table (itemsOf s) n
   reading-done e h = record {
     items = r .walked .list;
     is = ap finished (walked-done (r .walked) e) ∙ ap (unlessLeft (r .walked .list)) (sym h);

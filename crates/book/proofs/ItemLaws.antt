@@ -10,6 +10,7 @@ use Rattle.encode.specs.Writes.{Writes}
 use Rattle.ast.specs.declared.Span.{Span}
 use Rattle.grammar.specs.Rule.{refused, theByte, leave, inside, word}
 use Rattle.grammar.specs.Grammar.{animatoInput}
+use Rattle.cursor.specs.Word.{atOf}
 use Rattle.cursor.specs.Means.{Ready, run, Took, spelled}
 use Rattle.cursor.specs.declared.Cursor.{Cursor}
 use Rattle.blocks.specs.Means.{Reached, parseNodes, NodesWent}
@@ -38,7 +39,7 @@ unfolding animatoInput
 body-refused t h = rw (t .is, h)
 
 pub body-went : {s b b₁ a : List ℕ} {c m e : Cursor} {u : Siblings} {k f : ℕ} → Took 1 s c m (theByte 123) tt → NodesWent s b b₁ m 2 16 u
-    → Writes b₁ 0 (big 2 .write (u .width)) a f → Took 0 s (u .next) e (leave 125) tt → k ≡ u .next .at
+    → Writes b₁ 0 (big 2 .write (u .width)) a f → Took 0 s (u .next) e (leave 125) tt → k ≡ atOf (u .next)
     → BodyWent s b a c (record { end = k; bytes = u .end; next = e })
 unfolding animatoInput encode
 body-went {s} {m = m} {u = u} {k = k} t g o l p = record {
@@ -75,11 +76,11 @@ module _ {s : List ℕ} {c m : Cursor} {w : ℕ × List ℕ} (t : Took 1 s c m w
   no-body u h = rw (t .is, u .is, h)
 
 pub item-went : {s b a : List ℕ} {c m e : Cursor} {x : Span} {y : Body} {p : ℕ} → Took 1 s c m word (x .start, spelled s x)
-    → x .start + x .size ≤ length s → Took 1 s m e (theByte 61) tt → BodyWent s b a e y → p ≡ e .at
+    → x .start + x .size ≤ length s → Took 1 s m e (theByte 61) tt → BodyWent s b a e y → p ≡ atOf e
     → ItemWent s b a c (record { name = x; start = p + 1; body = y })
 unfolding book.item
 item-went {s} {e = e} {x = x} {y = y} {p = p} t f u g h = record {
-  value = record { name = spelled s x; start = suc (e .at); end = y .end; nodes = g .nodes };
+  value = record { name = spelled s x; start = suc (atOf e); end = y .end; nodes = g .nodes };
   took = record {
     is = rw (t .is, u .is, g .took .is, u .ready .head .place);
     low = omega (arith, t .low, u .low, g .took .low);

@@ -13,6 +13,7 @@ use Rattle.ast.specs.Tree.{Nodes, mapTimes}
 use Rattle.encode.specs.Writes.{Writes}
 use Rattle.grammar.specs.Rule.{refused, inside}
 use Rattle.grammar.specs.Grammar.{stored, animatoInput}
+use Rattle.cursor.specs.Word.{atOf}
 use Rattle.cursor.specs.Means.{run, Took, spelled}
 use Rattle.cursor.specs.declared.Cursor.{Cursor}
 use Rattle.sheet.specs.Sheet.{encode}
@@ -35,9 +36,9 @@ pub record BodyWent (s b a : List ℕ) (c : Cursor) (x : Body) : Type 0 where
   pub from : Cursor
   pub to : Cursor
   pub inner : Took 0 s from to animatoInput nodes
-  pub inside : 1 ≤ from .at
+  pub inside : 1 ≤ atOf from
   pub writes : Writes b 0 (encode (length s) (mapTimes stored nodes)) a (x .bytes)
-  pub low : c .at + 1 ≤ x .end
+  pub low : atOf c + 1 ≤ x .end
   pub high : x .end ≤ length s
 
 abbrev pub BodyMeans : (s b a : List ℕ) → Cursor → BodyRead → Type 0
@@ -60,7 +61,7 @@ pub record ItemWent (s b a : List ℕ) (c : Cursor) (x : Item) : Type 0 where
   pub from : Cursor
   pub to : Cursor
   pub inner : Took 0 s from to animatoInput (value .nodes)
-  pub inside : 1 ≤ from .at
+  pub inside : 1 ≤ atOf from
   pub writes : Writes b 0 (encode (length s) (mapTimes stored (value .nodes))) a (x .body .bytes)
 
 abbrev pub ItemMeans : (s b a : List ℕ) → Cursor → ItemRead → Type 0

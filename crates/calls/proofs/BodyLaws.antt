@@ -28,6 +28,7 @@ use Rattle.encode.proofs.ClearLaws.{written}
 use Rattle.encode.proofs.FieldLaws.{length-big}
 use Rattle.grammar.specs.Rule.{Out}
 use Rattle.grammar.specs.Grammar.{stored, block, animatoInput}
+use Rattle.cursor.specs.Word.{atOf}
 use Rattle.cursor.specs.Means.{Took, notes, tokens}
 use Rattle.cursor.specs.declared.Cursor.{Cursor}
 use Rattle.rules.proofs.RunLaws.{Ends, Outcome}
@@ -188,12 +189,12 @@ module _ {t s before m : List ℕ} {v : Book} {i at : ℕ} (g : Noting t s befor
 -- ---- the sheet of a body
 
 module _ {s : List ℕ} (short : length s ≤ textLimit) {c m : Cursor} {ns : Nodes Key} (t : Took 0 s c m animatoInput ns) where
-  several : Ends s (tokens s m) (Several s short (innerL (length s) 16) (block 16) (block-runs s short 16) (c .at) ns)
+  several : Ends s (tokens s m) (Several s short (innerL (length s) 16) (block 16) (block-runs s short 16) (atOf c) ns)
   unfolding animatoInput
   several =
-      subst (λ (o : Out (Nodes Key)). Outcome s o (Several s short (innerL (length s) 16) (block 16) (block-runs s short 16) (c .at)))
+      subst (λ (o : Out (Nodes Key)). Outcome s o (Several s short (innerL (length s) 16) (block 16) (block-runs s short 16) (atOf c)))
       (t .is)
-      (nodes-run s short (innerL (length s) 16) (block 16) (block-runs s short 16) (c .at) (omega (arith, t .low, t .ready .high)) .run
+      (nodes-run s short (innerL (length s) 16) (block 16) (block-runs s short 16) (atOf c) (omega (arith, t .low, t .ready .high)) .run
       (notes s c))
 
   body-fits : Fits (length s) (mapTimes stored ns)
@@ -202,7 +203,7 @@ module _ {s : List ℕ} (short : length s ≤ textLimit) {c m : Cursor} {ns : No
       let w = several in
       sized-ok s short 16 (mapTimes stored ns) (omega (arith, w .high, w .post .count)) (w .post .ok)
 
-  body-small : 1 ≤ c .at → length (encode (length s) (mapTimes stored ns)) ≤ 49152
+  body-small : 1 ≤ atOf c → length (encode (length s) (mapTimes stored ns)) ≤ 49152
   unfolding encode
   body-small h =
       let w = several in

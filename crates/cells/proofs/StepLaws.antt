@@ -42,6 +42,7 @@ use Rattle.grammar.specs.Fields.{Table, Fields, Content, aNumber, aTruth, anEas
 use Rattle.grammar.specs.Fields.{last, fieldsStep, onePair, parseFieldList, pairs}
 use Rattle.grammar.specs.Values.{truth as truthRule, number, count, flag, easing as easingRule, loopMode as loopRule, value as valueRule}
 use Rattle.grammar.specs.Values.{parseValue, parseFloat, parseUint, parseEasing, parseLoopMode}
+use Rattle.cursor.specs.Word.{atOf}
 use Rattle.cursor.specs.Means.{Ready, run, Took}
 use Rattle.cursor.specs.declared.Cursor.{Cursor}
 use Rattle.fields.specs.Means.{FieldAt, FieldMeans, PairAt, PairMeans}
@@ -79,15 +80,15 @@ module _ {s : List ℕ} {c : Cursor} {t : Table} {i : ℕ} (j : ℕ) (n : String
 
   row-took : {p : Rule Content} {m : Cursor} {y : Content} {xs : List Cell} (k : ℕ) (old new : Cell)
       → getElem? t j ≡ some (n, p) → getElem? xs k ≡ some old → quietBut xs k (bytes n) y ≡ true
-      → ((lo : ℕ) (fs : Fields) → lo ≤ c .at → CellSays s lo (m .at) old fs → CellSays s lo (m .at) new ((bytes n, y) ∷ fs))
+      → ((lo : ℕ) (fs : Fields) → lo ≤ atOf c → CellSays s lo (atOf m) old fs → CellSays s lo (atOf m) new ((bytes n, y) ∷ fs))
       → Took 1 s c m p y → StepTook s c m t i xs (set xs k new)
   row-took {p} {m} {y} {xs} k old new e o q u h = record {
     by = λ row g.
         subst (RowTook s c m xs (set xs k new)) (row-at t i j row _ (at (elem-lt t i row g)) e g) (
           y,
           h,
-          λ lo fs b z. put s lo (m .at) (bytes n) y fs xs k old new q o (u lo fs b)
-              (all-wider s lo (c .at) (m .at) (omega (arith, h .low)) fs xs z),
+          λ lo fs b z. put s lo (atOf m) (bytes n) y fs xs k old new q o (u lo fs b)
+              (all-wider s lo (atOf c) (atOf m) (omega (arith, h .low)) fs xs z),
         );
   }
 
@@ -98,7 +99,7 @@ module _ {s : List ℕ} {c : Cursor} {t : Table} {i : ℕ} (j : ℕ) (n : String
 
   step-took : {A : Type 0} (p : Rule A) (f : A → Content) {m : Cursor} {a : A} {xs : List Cell} (k : ℕ) (old new : Cell)
       → getElem? t j ≡ some (n, (p >>= λ a. give (f a))) → getElem? xs k ≡ some old → quietBut xs k (bytes n) (f a) ≡ true
-      → ((lo : ℕ) (fs : Fields) → lo ≤ c .at → CellSays s lo (m .at) old fs → CellSays s lo (m .at) new ((bytes n, f a) ∷ fs))
+      → ((lo : ℕ) (fs : Fields) → lo ≤ atOf c → CellSays s lo (atOf m) old fs → CellSays s lo (atOf m) new ((bytes n, f a) ∷ fs))
       → Took 1 s c m p a → StepTook s c m t i xs (set xs k new)
   step-took p f k old new e o q u h = row-took k old new e o q u (record { is = rw (h .is); low = h .low; ready = h .ready })
 
@@ -205,7 +206,7 @@ module _ {s : List ℕ} {c : Cursor} {t : Table} {i : ℕ} (j : ℕ) (n : String
       → getElem? t j ≡ some (n, valueRule) → getElem? xs k ≡ some (place o)
       → quietBut xs k (bytes n) (aValue v) ≡ true
       → Ready s c → Took 1 s c m parseValue v
-      → length (valueForm .write v) ≤ 64 * (m .at - c .at)
+      → length (valueForm .write v) ≤ 64 * (atOf m - atOf c)
       → StepTook s c m t i xs (set xs k (place (optPlace.Present c)))
   unfolding valueRule last
   a-value {m} k v {o} e z q r h g =
@@ -219,11 +220,11 @@ pub record Gathering (step : Table → Fields → Rule (Next Fields)) (s : List 
     : Type 0 where
   pub fields : Fields
   pub listed : Listed (step t) s c m fs fields
-  pub say : AllSay s (c .at) (m .at) xs fields
+  pub say : AllSay s (atOf c) (atOf m) xs fields
 
 pub gathering-start : {step : Table → Fields → Rule (Next Fields)} {s : List ℕ} {c : Cursor} {t : Table} {fs : Fields}
     {xs : List Cell}
-    → Ready s c → AllSay s (c .at) (c .at) xs fs → Gathering step s c c t fs xs
+    → Ready s c → AllSay s (atOf c) (atOf c) xs fs → Gathering step s c c t fs xs
 gathering-start {step} {s} {c} {t} {fs} r h = record { fields = fs; listed = listed-start (step t) s c fs r; say = h }
 
 -- a field list
@@ -237,7 +238,7 @@ module _ {s : List ℕ} {c m : Cursor} {t : Table} {fs : Fields} {xs : List Cell
   list-done {e} n = record {
     fields = k .fields;
     took = listed-done (fieldsStep t) s c m fs (k .fields) (k .listed) e (n .0) (n .1) (n .2 (k .fields));
-    say = all-wider s (c .at) (m .at) (e .at) (n .1) (k .fields) xs (k .say);
+    say = all-wider s (atOf c) (atOf m) (atOf e) (n .1) (k .fields) xs (k .say);
   }
 
   module _ {i : ℕ} {v : Cursor} (f : FieldAt s m t i v) where
@@ -251,13 +252,13 @@ module _ {s : List ℕ} {c m : Cursor} {t : Table} {fs : Fields} {xs : List Cell
         record {
           fields = (bytes (f .row .0), y .0) ∷ k .fields;
           listed = field-more s t c m v fs (k .fields) (k .listed) i f w (y .0) (y .1);
-          say = y .2 (c .at) (k .fields) (omega (arith, k .listed .low, f .low))
-              (all-wider s (c .at) (m .at) (v .at) (omega (arith, f .low)) (k .fields) xs (k .say));
+          say = y .2 (atOf c) (k .fields) (omega (arith, k .listed .low, f .low))
+              (all-wider s (atOf c) (atOf m) (atOf v) (omega (arith, f .low)) (k .fields) xs (k .say));
         }
 
 -- the loop goes on: behind a value that was taken
 pub list-moves : {s : List ℕ} {m v w : Cursor} {t : Table} {i : ℕ} {xs ys : List Cell} → FieldAt s m t i v → StepTook s v w t i xs ys
-    → Ready s w × (m .at < w .at)
+    → Ready s w × (atOf m < atOf w)
 list-moves f u = let y = u .by (f .row) (f .is) in (y .1 .ready, omega (arith, f .low, y .1 .low))
 
 -- fields in parentheses
@@ -292,12 +293,12 @@ module _ {s : List ℕ} {c m : Cursor} {t : Table} {xs : List Cell} (k : Gatheri
 
     module _ {w e : Cursor} {ys : List Cell} (u : StepTook s v w t i xs ys) where
       say-more : {b : Bool} → Took 0 s w e (eatByte 44) b
-          → AllSay s (c .at) (e .at) ys ((bytes (f .row .0), u .by (f .row) (f .is) .0) ∷ k .fields)
+          → AllSay s (atOf c) (atOf e) ys ((bytes (f .row .0), u .by (f .row) (f .is) .0) ∷ k .fields)
       say-more z =
           let y = u .by (f .row) (f .is) in
-          all-wider s (c .at) (w .at) (e .at) (omega (arith, z .low)) _ ys
-          (y .2 (c .at) (k .fields) (omega (arith, k .listed .low, f .low))
-          (all-wider s (c .at) (m .at) (v .at) (omega (arith, f .low)) (k .fields) xs (k .say)))
+          all-wider s (atOf c) (atOf w) (atOf e) (omega (arith, z .low)) _ ys
+          (y .2 (atOf c) (k .fields) (omega (arith, k .listed .low, f .low))
+          (all-wider s (atOf c) (atOf m) (atOf v) (omega (arith, f .low)) (k .fields) xs (k .say)))
 
       pub pairs-more : Took 0 s w e (eatByte 44) true → Gathering pairStep s c e t [] ys
       pairs-more z =
@@ -315,5 +316,5 @@ module _ {s : List ℕ} {c m : Cursor} {t : Table} {xs : List Cell} (k : Gatheri
           record { fields = _; took = pair-last s t c m v [] (k .fields) (k .listed) i f w e (y .0) (y .1) z; say = say-more z }
 
 pub pairs-moves : {s : List ℕ} {m v w e : Cursor} {t : Table} {i : ℕ} {xs ys : List Cell} {b : Bool} → PairAt s m t i v
-    → StepTook s v w t i xs ys → Took 0 s w e (eatByte 44) b → Ready s e × (m .at < e .at)
+    → StepTook s v w t i xs ys → Took 0 s w e (eatByte 44) b → Ready s e × (atOf m < atOf e)
 pairs-moves f u z = let y = u .by (f .row) (f .is) in (z .ready, omega (arith, f .low, y .1 .low, z .low))

@@ -24,6 +24,7 @@ use Rattle.grammar.specs.Rule.{Rule, refused}
 use Rattle.grammar.specs.Fields as fields
 use Rattle.grammar.specs.Fields.{Table, Fields, Content, lastNumber, lastTruth, lastEasing, lastLoopMode}
 use Rattle.grammar.specs.Fields.{lastValue, lastRange, lastDamping}
+use Rattle.cursor.specs.Word.{atOf}
 use Rattle.cursor.specs.Means.{Ready, run, Took}
 use Rattle.cursor.specs.declared.Cursor.{Cursor}
 use Rattle.cells.specs.declared.OptPlace.{OptPlace}
@@ -47,9 +48,9 @@ pub record ValueAt (s : List ℕ) (lo hi : ℕ) (c : Cursor) (v : ValueExpr) : T
   pub ready : Ready s c
   pub next : Cursor
   pub took : Took 1 s c next parseValue v
-  pub low : lo ≤ c .at
-  pub high : next .at ≤ hi
-  pub paid : length (valueForm .write v) ≤ 64 * (next .at - c .at)
+  pub low : lo ≤ atOf c
+  pub high : atOf next ≤ hi
+  pub paid : length (valueForm .write v) ≤ 64 * (atOf next - atOf c)
 
 -- a value is kept as the cursor before it
 abbrev pub PlaceSays : List ℕ → ℕ → ℕ → OptPlace → Option ValueExpr → Type 0
@@ -78,7 +79,7 @@ AllSay s lo hi (x ∷ xs) fs = CellSays s lo hi x fs × AllSay s lo hi xs fs
 abbrev pub RowTook : List ℕ → Cursor → Cursor → List Cell → List Cell → String × Rule Content → Type 0
 RowTook s c m xs ys row =
     (y : Content) × Took 1 s c m (row .1) y
-    × ((lo : ℕ) (fs : Fields) → lo ≤ c .at → AllSay s lo (c .at) xs fs → AllSay s lo (m .at) ys ((bytes (row .0), y) ∷ fs))
+    × ((lo : ℕ) (fs : Fields) → lo ≤ atOf c → AllSay s lo (atOf c) xs fs → AllSay s lo (atOf m) ys ((bytes (row .0), y) ∷ fs))
 
 -- that of the row i of the table t
 pub record StepTook (s : List ℕ) (c m : Cursor) (t : Table) (i : ℕ) (xs ys : List Cell) : Type 0 where
@@ -92,4 +93,4 @@ pub record StepRefused (s : List ℕ) (c : Cursor) (t : Table) (i : ℕ) (r : Re
 pub record ListTook (s : List ℕ) (c m : Cursor) (p : Rule Fields) (xs : List Cell) : Type 0 where
   pub fields : Fields
   pub took : Took 0 s c m p fields
-  pub say : AllSay s (c .at) (m .at) xs fields
+  pub say : AllSay s (atOf c) (atOf m) xs fields

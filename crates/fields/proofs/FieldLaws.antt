@@ -22,6 +22,7 @@ use Rattle.grammar.specs.Rule.{isWord, seesBytes, word, Out, got, refused, afte
 use Rattle.grammar.specs.Rule.{more, next, iterate, listStep, eat, goOn, give, _>>=_, ends}
 use Rattle.grammar.specs.Fields.{Item, halts, closes, passes, starts, itemOf, Table, Fields, Entry, Content, rowOf}
 use Rattle.grammar.specs.Fields.{fieldHead, fieldValue, fieldName, pairName, entry, oneField, fieldsStep, onePair}
+use Rattle.cursor.specs.Word.{atOf, endOf, tokOf}
 use Rattle.cursor.specs.Means.{Ready, notes, tokens, run, Took, Follows, WordMeans, spelled}
 use Rattle.cursor.specs.declared.Cursor.{Cursor}
 use Rattle.cursor.specs.declared.WordRead.{WordRead}
@@ -103,7 +104,7 @@ not-passes e = let z : _≡_ {A = ℕ} 0 1 = cc in omega arith
 
 -- with some steps left there is one
 pub by-step : {A : Type 0} (step : A → Rule (Next A)) (a : A) (s : List ℕ) (c : Cursor) (out : Out A) → Ready s c
-    → ((k : ℕ) → length s < c .at + suc k → after (step a (notes s c) (tokens s c)) (next (λ b. iterate step k b)) ≡ out)
+    → ((k : ℕ) → length s < atOf c + suc k → after (step a (notes s c) (tokens s c)) (next (λ b. iterate step k b)) ≡ out)
     → Gives step s c a out
 unfolding iterate
 by-step step a s c out r h zero l = absurd (let z = r .high in omega arith)
@@ -120,7 +121,7 @@ module _ (s : List ℕ) (t : Table) (c : Cursor) (r : Ready s c) where
   unfolding fieldsStep
   gives-closes m f e fs = by-step (fieldsStep t) fs s c _ r (λ k l. rw (e, f .rest, f .left, f .rounded))
 
-  pub passes-moves : (m : Cursor) → Follows s c m → itemOf (kind (tokens s c)) ≡ passes → c .at < m .at
+  pub passes-moves : (m : Cursor) → Follows s c m → itemOf (kind (tokens s c)) ≡ passes → atOf c < atOf m
   passes-moves m f e = let a = head-moves s c r (no-halt (kind (tokens s c)) passes e not-passes) in omega (arith, f .at)
 
   pub gives-passes : (m : Cursor) → Follows s c m → itemOf (kind (tokens s c)) ≡ passes
@@ -156,7 +157,7 @@ module _ (s : List ℕ) (t : Table) (c : Cursor) (r : Ready s c) where
   }
 
 -- a field behind what was passed before it
-pub field-behind : (s : List ℕ) (t : Table) (c m : Cursor) → c .at ≤ m .at
+pub field-behind : (s : List ℕ) (t : Table) (c m : Cursor) → atOf c ≤ atOf m
     → ((fs : Fields) (out : Out Fields) → Gives (fieldsStep t) s m fs out → Gives (fieldsStep t) s c fs out)
     → (i : ℕ) (u : Cursor) → FieldAt s m t i u → FieldAt s c t i u
 field-behind s t c m l g i u f = record {
@@ -217,11 +218,11 @@ take-same (suc n) [] = refl
 take-same (suc n) (x ∷ l) = ap {B = List ℕ} (λ t. x ∷ t) (take-same n l)
 
 -- the bytes of the head, where it is a word
-head-spelled : (s : List ℕ) (c : Cursor) → Ready s c → (v : List ℕ) → kind (tokens s c) ≡ name v → part s (c .at) (length v) ≡ v
-head-spelled s c r v e = go (c .end - c .at) (c .kind) (sym (r .head .kind) ∙ e)
+head-spelled : (s : List ℕ) (c : Cursor) → Ready s c → (v : List ℕ) → kind (tokens s c) ≡ name v → part s (atOf c) (length v) ≡ v
+head-spelled s c r v e = go (endOf c - atOf c) (tokOf c) (sym (r .head .kind) ∙ e)
   where
-    go : (n : ℕ) (k : Tok) → kindOf (drop (c .at) s) n k ≡ name v → part s (c .at) (length v) ≡ v
-    go n Name q = let w : take n (drop (c .at) s) ≡ v = cc in rw (← w) (take-same n (drop (c .at) s))
+    go : (n : ℕ) (k : Tok) → kindOf (drop (atOf c) s) n k ≡ name v → part s (atOf c) (length v) ≡ v
+    go n Name q = let w : take n (drop (atOf c) s) ≡ v = cc in rw (← w) (take-same n (drop (atOf c) s))
     go n Num q = absurd (let z : _≡_ {A = ℕ} 0 1 = cc in omega arith)
     go n Quoted q = absurd (let z : _≡_ {A = ℕ} 0 1 = cc in omega arith)
     go n (Mark b) q = absurd (let z : _≡_ {A = ℕ} 0 1 = cc in omega arith)
@@ -229,7 +230,7 @@ head-spelled s c r v e = go (c .end - c .at) (c .kind) (sym (r .head .kind) ∙ 
 -- `loop` as a field's name
 pub took-loop : (s : List ℕ) (c m : Cursor) (r : Ready s c) (f : Follows s c m)
     → seesBytes (bytes "loop") (tokens s c) ≡ true
-    → Took 1 s c m fieldName (part s (c .at) 4)
+    → Took 1 s c m fieldName (part s (atOf c) 4)
 unfolding fieldName
 took-loop s c m r f e =
     let k = word-name (kind (tokens s c)) (bytes "loop") e in
@@ -298,7 +299,7 @@ no-plain s c x q h = rw h
 
 -- a list that was read from c on stands at m
 pub record Passed (s : List ℕ) (c m : Cursor) : Type 0 where
-  pub low : c .at ≤ m .at
+  pub low : atOf c ≤ atOf m
   pub ready : Ready s m
   pub goes : (t : Table) (fs : Fields) (out : Out Fields) → Gives (fieldsStep t) s m fs out → Gives (fieldsStep t) s c fs out
 

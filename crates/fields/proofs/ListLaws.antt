@@ -9,13 +9,14 @@ use Rattle.text.specs.Bytes.{bytes}
 use Rattle.error.specs.declared.Refusal.{Refusal}
 use Rattle.grammar.specs.Rule.{Out, got, refused, Rule, Next, repeat, listStep, eatByte}
 use Rattle.grammar.specs.Fields.{Table, Fields, Content, fieldValue, fieldsStep, onePair}
+use Rattle.cursor.specs.Word.{atOf}
 use Rattle.cursor.specs.Means.{Ready, notes, tokens, run, Took}
 use Rattle.cursor.specs.declared.Cursor.{Cursor}
 use Rattle.fields.specs.Means.{Gives, FieldAt, PairAt}
 
 -- the list that began at c with b stands at m with a: what it gives from there on it gives from c on
 pub record Listed {A : Type 0} (step : A → Rule (Next A)) (s : List ℕ) (c m : Cursor) (b a : A) : Type 0 where
-  pub low : c .at ≤ m .at
+  pub low : atOf c ≤ atOf m
   pub ready : Ready s m
   pub goes : (out : Out A) → Gives step s m a out → Gives step s c b out
 
@@ -31,7 +32,7 @@ module _ {A : Type 0} (step : A → Rule (Next A)) (s : List ℕ) (c m : Cursor)
   pub listed-gives : (out : Out A) → Gives step s m a out → run s c (repeat step b) ≡ out
   listed-gives out g = whole step s c b out (l .goes out g)
 
-  pub listed-done : (e : Cursor) → Ready s e → m .at ≤ e .at
+  pub listed-done : (e : Cursor) → Ready s e → atOf m ≤ atOf e
       → Gives step s m a (got a (notes s e) (tokens s e))
       → Took 0 s c e (repeat step b) a
   listed-done e r h g = record { is = listed-gives _ g; low = omega (arith, l .low); ready = r }
@@ -54,7 +55,7 @@ module _ (s : List ℕ) (t : Table) (c m v : Cursor) (b a : Fields) (l : Listed 
       goes = λ out h. l .goes out (f .goes a out (λ k n. rw (y .is, z .is) (h k (omega (arith, y .low, z .low)))));
     }
 
-    pub pair-moves : Took 0 s w u (eatByte 44) true → m .at < u .at
+    pub pair-moves : Took 0 s w u (eatByte 44) true → atOf m < atOf u
     pair-moves z = omega (arith, f .low, y .low, z .low)
 
     pub pair-last : Took 0 s w u (eatByte 44) false → Took 0 s c u (repeat (listStep (onePair t)) b) ((bytes (f .row .0), x) ∷ a)
@@ -82,5 +83,5 @@ module _ (s : List ℕ) (t : Table) (c m v : Cursor) (b a : Fields) (l : Listed 
       goes = λ out h. l .goes out (f .goes a out (λ k n. rw (y .is) (h k (omega (arith, y .low)))));
     }
 
-    pub field-moves : m .at < w .at
+    pub field-moves : atOf m < atOf w
     field-moves = omega (arith, f .low, y .low)

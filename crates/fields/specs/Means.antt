@@ -13,6 +13,7 @@ use Rattle.grammar.specs.Rule.{iterate, listStep, eat, goOn, _>>=_, _>>_, the, 
 use Rattle.grammar.specs.Fields as fields
 use Rattle.grammar.specs.Fields.{Table, Fields, Content, rowOf, fieldHead, fieldValue}
 use Rattle.grammar.specs.Fields.{fieldsStep, onePair}
+use Rattle.cursor.specs.Word.{atOf}
 use Rattle.cursor.specs.Means.{Ready, notes, tokens, run, Took, spelled}
 use Rattle.cursor.specs.declared.Cursor.{Cursor}
 use Rattle.cursor.specs.declared.WordRead.{WordRead}
@@ -62,33 +63,33 @@ StartMeans s p c t (found.Refused r q) = run s c (fieldHead p t) ≡ refused r q
 
 -- the list that has fs so far gives `out`
 abbrev pub Gives : {A : Type 0} → (A → Rule (Next A)) → List ℕ → Cursor → A → Out A → Type 0
-Gives step s c a out = (k : ℕ) → length s < c .at + k → iterate step k a (notes s c) (tokens s c) ≡ out
+Gives step s c a out = (k : ℕ) → length s < atOf c + k → iterate step k a (notes s c) (tokens s c) ≡ out
 
 -- the value of a row stands at m, and the list goes on behind it: if that gives `out`, so does the list from c
 pub record FieldAt (s : List ℕ) (c : Cursor) (t : Table) (i : ℕ) (m : Cursor) : Type 0 where
   pub row : String × Rule Content
   pub is : getElem? t i ≡ some row
-  pub low : c .at + 1 ≤ m .at
+  pub low : atOf c + 1 ≤ atOf m
   pub ready : Ready s m
   pub goes : (fs : Fields) (out : Out Fields)
-      → ((k : ℕ) → length s < m .at + k → after (run s m (fieldValue row)) (λ e. iterate (fieldsStep t) k (e ∷ fs)) ≡ out)
+      → ((k : ℕ) → length s < atOf m + k → after (run s m (fieldValue row)) (λ e. iterate (fieldsStep t) k (e ∷ fs)) ≡ out)
       → Gives (fieldsStep t) s c fs out
 
 -- parse_field_list
 abbrev pub FieldMeans : List ℕ → Cursor → Table → NextField → Type 0
 FieldMeans s c t (found.Field i m) = FieldAt s c t i m
 FieldMeans s c t (found.Done m) =
-    Ready s m × (c .at ≤ m .at) × ((fs : Fields) → Gives (fieldsStep t) s c fs (got fs (notes s m) (tokens s m)))
+    Ready s m × (atOf c ≤ atOf m) × ((fs : Fields) → Gives (fieldsStep t) s c fs (got fs (notes s m) (tokens s m)))
 FieldMeans s c t (found.Refused r q) = (fs : Fields) → Gives (fieldsStep t) s c fs (refused r q)
 
 -- fields in parentheses: behind a field's value a `,`, and the list goes on, or none, and it ends
 pub record PairAt (s : List ℕ) (c : Cursor) (t : Table) (i : ℕ) (m : Cursor) : Type 0 where
   pub row : String × Rule Content
   pub is : getElem? t i ≡ some row
-  pub low : c .at + 1 ≤ m .at
+  pub low : atOf c + 1 ≤ atOf m
   pub ready : Ready s m
   pub goes : (fs : Fields) (out : Out Fields)
-      → ((k : ℕ) → length s < m .at + k
+      → ((k : ℕ) → length s < atOf m + k
       → after (run s m (fieldValue row)) (λ e. eat "," >>= λ b. next (λ gs. iterate (listStep (onePair t)) k gs) (goOn b (e ∷ fs))) ≡ out)
       → Gives (listStep (onePair t)) s c fs out
 

@@ -21,6 +21,7 @@ use Rattle.grammar.specs.Rule.{Rule, refused, theByte, insideByte, leave, choic
 use Rattle.grammar.specs.Fields.{aNumber, last, pairs}
 use Rattle.grammar.specs.Values.{f32Of}
 use Rattle.grammar.specs.Grammar.{parseGridOrigin, origin, gridFields, randomFields, randomPattern, patterns, parseStaggerPattern}
+use Rattle.cursor.specs.Word.{atOf}
 use Rattle.cursor.specs.Means.{run, Took}
 use Rattle.cursor.specs.declared.Cursor.{Cursor}
 use Rattle.cursor.proofs.CursorLaws.{fewer}
@@ -87,12 +88,12 @@ random-max f x p fs h = record { seed = h .seed; min = h .min; plain-min = h .pl
 -- ---- patterns
 
 module _ (s : List ℕ) (c m : Cursor) (f : GridFields) (h : TookRows GridHeld gridFields s c m f) where
-  pub no-cols : f .cols ≡ optWord.Absent → run s c gridInside ≡ refused StaggerGridIncomplete (m .at)
+  pub no-cols : f .cols ≡ optWord.Absent → run s c gridInside ≡ refused StaggerGridIncomplete (atOf m)
   unfolding gridInside
   no-cols e = rw (h .1 .is, ← h .2 .cols, e, h .1 .ready .head .place)
 
   pub no-rows : (a : ℕ) → f .cols ≡ optWord.Present a → f .rows ≡ optWord.Absent
-      → run s c gridInside ≡ refused StaggerGridIncomplete (m .at)
+      → run s c gridInside ≡ refused StaggerGridIncomplete (atOf m)
   unfolding gridInside
   no-rows a d e = rw (h .1 .is, ← h .2 .cols, d, ← h .2 .rows, e, h .1 .ready .head .place)
 

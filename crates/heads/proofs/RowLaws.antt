@@ -10,6 +10,7 @@ use lib.ListN.{getElem?}
 use Rattle.error.specs.declared.Refusal.{Refusal}
 use Rattle.grammar.specs.Rule.{Rule, refused, listStep, eatByte}
 use Rattle.grammar.specs.Fields.{Table, Fields, Content, onePair, pairs}
+use Rattle.cursor.specs.Word.{atOf}
 use Rattle.cursor.specs.Means.{Ready, run, Took}
 use Rattle.cursor.specs.declared.Cursor.{Cursor}
 use Rattle.fields.specs.Means.{PairMeans, PairAt}
@@ -91,7 +92,7 @@ module _ {F : Type 0} (held : F → Fields → Type 0) (t : Table) (s : List ℕ
           holds = y .2 (k .fields) (k .holds);
         }
 
-        pub value-moves : Took 0 s w u (eatByte 44) true → m .at < u .at
+        pub value-moves : Took 0 s w u (eatByte 44) true → atOf m < atOf u
         value-moves z = let y = h (p .row) (p .is) in pair-moves s t c m v [] (k .fields) (k .listed) i p w u (y .0) (y .1) z
 
         pub value-last : Took 0 s w u (eatByte 44) false → TookRows held t s c u g

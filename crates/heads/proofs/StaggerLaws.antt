@@ -15,6 +15,7 @@ use Rattle.error.specs.declared.Refusal.the-variants.{UnknownKeyword}
 use Rattle.grammar.specs.Rule.{Notes, Out, got, refused, after, Rule, _>>=_, _>>_, give, need}
 use Rattle.grammar.specs.Rule.{seesByte, theByte, eat, eatByte, word, choiceIn, Next, repeat, goOn}
 use Rattle.grammar.specs.Grammar.{Opening, openingFields, openingField, openingStep, parseStagger}
+use Rattle.cursor.specs.Word.{atOf}
 use Rattle.cursor.specs.Means.{Ready, notes, tokens, run, Took}
 use Rattle.cursor.specs.declared.Cursor.{Cursor}
 use Rattle.fields.specs.Means.{Gives}
@@ -83,7 +84,7 @@ field-is s c f = comma-word f (run s c word)
 
 -- the fields that began at c stand at m with f: what they give from there on they give from c on
 pub record Opened (s : List ℕ) (c m : Cursor) (f : Opening) : Type 0 where
-  pub low : c .at ≤ m .at
+  pub low : atOf c ≤ atOf m
   pub ready : Ready s m
   pub goes : (out : Out Opening) → Gives openingStep s m f out → Gives openingStep s c (none, none) out
 
@@ -92,7 +93,7 @@ opened-start s c r = record { low = omega arith; ready = r; goes = λ out h. h }
 
 took-stagger : (s : List ℕ) (c m : Cursor) (f : Opening)
     → run s c (repeat openingStep (none, none)) ≡ got f (notes s m) (tokens s m)
-    → c .at ≤ m .at → Ready s m
+    → atOf c ≤ atOf m → Ready s m
     → Took 0 s c m parseStagger (stagger (f .0) (f .1))
 unfolding parseStagger
 took-stagger s c m f e l r = record { is = rw e; low = omega arith; ready = r }
@@ -122,7 +123,7 @@ module _ (s : List ℕ) (c m : Cursor) (f : Opening) (o : Opened s c m f) where
             (by-step openingStep f s m out (o .ready) (λ k l. rw (e, field-is s m f, y .is, z .is) (h k (omega (arith, y .low, z .low)))));
       }
 
-      pub opened-moves : Took 0 s w u (eatByte 44) true → m .at < u .at
+      pub opened-moves : Took 0 s w u (eatByte 44) true → atOf m < atOf u
       opened-moves z = omega (arith, y .low, z .low)
 
       pub opened-last : Took 0 s w u (eatByte 44) false → Took 0 s c u parseStagger (stagger (x .0) (x .1))

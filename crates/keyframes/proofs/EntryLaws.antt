@@ -24,6 +24,7 @@ use Rattle.error.specs.declared.Refusal.{Refusal}
 use Rattle.grammar.specs.Rule.{Rule, Out, got, refused, after, give, theByte, _>>_}
 use Rattle.grammar.specs.Values.{parseValue}
 use Rattle.grammar.specs.Grammar.{parseKeyframeTime, keyframeEntry}
+use Rattle.cursor.specs.Word.{atOf}
 use Rattle.cursor.specs.Means.{run, Took}
 use Rattle.cursor.specs.declared.Cursor.{Cursor}
 use Rattle.arrays.specs.Means.{Went, Held, HeldWent}
@@ -113,7 +114,7 @@ module _ {s b a a′ : List ℕ} {c m : Cursor} {out end q : ℕ} {e : entries.K
       let y = time-value (w .value) (ap (λ x. x .array) (w .holds)) (ap (λ x. x .value) (w .holds)) (w .held) in
       rw append-nil (rw (append-assoc, w .time, w .easing) at (writes-then y (p .easing (length s))))
 
-  frame-paid : q ≤ out + 64 * (m .at - c .at)
+  frame-paid : q ≤ out + 64 * (atOf m - atOf c)
   frame-paid =
       let i = opt-most (easingForm (length s)) 17 (easing-most (length s)) (optEasingOf (e .easing)) in
       let j = length-time (keyTimeOf (e .percent) (e .time)) in

@@ -20,6 +20,7 @@ use Rattle.token.specs.declared.Number as numbers
 use Rattle.grammar.specs.Rule.{Out, got, refused, give, skip, _>>_, seesByte, seesNumber, seesName, absent, theByte, eatByte}
 use Rattle.grammar.specs.Values.{parseEasing}
 use Rattle.grammar.specs.Grammar.{stored, keyed, parseKeyframeTime}
+use Rattle.cursor.specs.Word.{atOf, roundedOf}
 use Rattle.cursor.specs.Means.{Ready, notes, tokens, run, Took, tallied, Numbers}
 use Rattle.cursor.specs.declared.Cursor.{Cursor}
 use Rattle.cursor.proofs.CursorLaws.{counts, took-number, stays, head-place}
@@ -57,15 +58,15 @@ abbrev countOf : {A : Type 0} → Out A → ℕ
 countOf (got a l ts) = l .rounded
 countOf (refused r q) = 0
 
-sign-counts : (s : List ℕ) (c m : Cursor) (b x : Bool) → Took 0 s c m (percentSign b) x → m .rounded ≡ c .rounded
+sign-counts : (s : List ℕ) (c m : Cursor) (b x : Bool) → Took 0 s c m (percentSign b) x → roundedOf m ≡ roundedOf c
 sign-counts s c m b x t = go b (t .is)
   where
     by : (y : Bool) → cond y (skip >> give true) (give false) (notes s c) (tokens s c) ≡ got x (notes s m) (tokens s m)
-        → m .rounded ≡ c .rounded
+        → roundedOf m ≡ roundedOf c
     by true e = sym (ap countOf e)
     by false e = sym (ap countOf e)
 
-    go : (b : Bool) → percentSign b (notes s c) (tokens s c) ≡ got x (notes s m) (tokens s m) → m .rounded ≡ c .rounded
+    go : (b : Bool) → percentSign b (notes s c) (tokens s c) ≡ got x (notes s m) (tokens s m) → roundedOf m ≡ roundedOf c
     go true e = sym (ap countOf e)
     go false e = by (seesByte 37 (tokens s c)) e
 
@@ -80,7 +81,7 @@ module _ (s : List ℕ) (c m u : Cursor) (negative : Bool) (n : numbers.Number) 
   as-written : Took 0 s m u (percentSign (writtenIn s n .point)) p
   as-written = subst (λ (x : Bool). Took 0 s m u (percentSign x) p) (v .known .is .point) t
 
-  pub percent-suffix : (p && n .suffix) ≡ true → run s c parseKeyframeTime ≡ refused Malformed (u .at)
+  pub percent-suffix : (p && n .suffix) ≡ true → run s c parseKeyframeTime ≡ refused Malformed (atOf u)
   unfolding parseKeyframeTime
   percent-suffix e =
       rw (took-number s c m negative n v Malformed .is, as-written .is, sym (v .known .is .suffix), e, head-place s u (t .ready))
@@ -90,7 +91,7 @@ module _ (s : List ℕ) (c m u : Cursor) (negative : Bool) (n : numbers.Number) 
       → TookTime s c w parseKeyframeTime p x
   unfolding parseKeyframeTime keyed
   took-time e r h {y = y} q z =
-      let far : c .at + 1 ≤ u .at = omega (arith, v .low, t .low) in
+      let far : atOf c + 1 ≤ atOf u = omega (arith, v .low, t .low) in
       record {
         key = keyOf p negative (writtenIn s n);
         took = record {

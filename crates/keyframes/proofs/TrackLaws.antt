@@ -24,6 +24,7 @@ use Rattle.error.specs.declared.Refusal.the-variants.{Missing}
 use Rattle.grammar.specs.Rule.{Rule, refused, Next, more, done, goOn, seesByte, seesBytes, ends, theByte, eatByte, word, leave, repeat}
 use Rattle.grammar.specs.Values.{ident, parseLoopMode}
 use Rattle.grammar.specs.Grammar.{stored, keyframeEntry, Track, trackLoop, trackFrame, trackStep, parseKeyframes}
+use Rattle.cursor.specs.Word.{atOf}
 use Rattle.cursor.specs.Means.{Ready, tokens, run, Took, Follows, spelled}
 use Rattle.cursor.specs.declared.Cursor.{Cursor}
 use Rattle.cursor.proofs.CursorLaws.{took, moved-low}
@@ -175,7 +176,7 @@ pub record Tracked (s b a : List ℕ) (c : Cursor) (out : ℕ) (t : tracks.Track
   pub listed : Listed trackStep s c (t .next) ([], none) (trackOf frames t)
   pub count : t .frames ≡ length frames
   pub writes : Writes b out (framesBytes (length s) frames) a (t .end)
-  pub paid : t .end ≤ out + 64 * (t .next .at - c .at)
+  pub paid : t .end ≤ out + 64 * (atOf (t .next) - atOf c)
 
 pub tracked-start : (s b : List ℕ) (c : Cursor) (out : ℕ) → Ready s c
     → Tracked s b b c out (record { frames = 0; end = out; «loop_mode» = optLoop.Absent; next = c })

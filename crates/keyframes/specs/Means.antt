@@ -20,6 +20,7 @@ use Rattle.encode.specs.Writes.{Writes}
 use Rattle.grammar.specs.Rule.{Rule, got, refused, give, if, sees, seesName, skip, eat, the, leave, repeat, Next, more, done, _>>=_, _>>_}
 use Rattle.grammar.specs.Values.{parseEasing}
 use Rattle.grammar.specs.Grammar.{stored, parseKeyframeTime, keyframeEntry, trackStep, Track}
+use Rattle.cursor.specs.Word.{atOf}
 use Rattle.cursor.specs.Means.{Ready, notes, tokens, run, Took}
 use Rattle.cursor.specs.declared.Cursor.{Cursor}
 use Rattle.arrays.specs.Means.{Held}
@@ -95,7 +96,7 @@ pub record EntryWent (s b a : List ℕ) (c m : Cursor) (out end : ℕ) (e : entr
   pub held : Held b a (out + 5) end (frame .value) value
   pub easing : optEasingOf (e .easing) ≡ frame .easing
   pub plain : PlainEntry e
-  pub paid : end + 18 ≤ out + 64 * (m .at - c .at)
+  pub paid : end + 18 ≤ out + 64 * (atOf m - atOf c)
 
 abbrev pub EntryMeans : List ℕ → List ℕ → List ℕ → Cursor → ℕ → EntryRead → Type 0
 EntryMeans s b a c out (entry.Is e end m) = EntryWent s b a c m out end e
@@ -131,11 +132,11 @@ pub record Stepped (e : ℕ) (s b a : List ℕ) (t u : tracks.Track) (p : Track 
   pub added : List (KeyframeEntry Key)
   pub is : (fs : List (KeyframeEntry Key))
       → run s (t .next) (p (trackOf fs t)) ≡ got (goes (trackOf (fs ++ added) u)) (notes s (u .next)) (tokens s (u .next))
-  pub low : t .next .at + e ≤ u .next .at
+  pub low : atOf (t .next) + e ≤ atOf (u .next)
   pub ready : Ready s (u .next)
   pub count : u .frames ≡ t .frames + length added
   pub writes : Writes b (t .end) (framesBytes (length s) added) a (u .end)
-  pub paid : u .end ≤ t .end + 64 * (u .next .at - t .next .at)
+  pub paid : u .end ≤ t .end + 64 * (atOf (u .next) - atOf (t .next))
 
 abbrev pub StepMeans : List ℕ → List ℕ → List ℕ → tracks.Track → (Track → Rule (Next Track)) → TrackNext → Type 0
 StepMeans s b a t p (turn.More u) = Stepped 1 s b a t u p more
@@ -154,7 +155,7 @@ pub record TrackWent (s b a : List ℕ) (c : Cursor) (out : ℕ) (t : tracks.Tra
   pub took : Took 0 s c (t .next) (repeat trackStep ([], none)) (trackOf frames t)
   pub count : t .frames ≡ length frames
   pub writes : Writes b out (framesBytes (length s) frames) a (t .end)
-  pub paid : t .end ≤ out + 64 * (t .next .at - c .at)
+  pub paid : t .end ≤ out + 64 * (atOf (t .next) - atOf c)
 
 abbrev pub TrackMeans : List ℕ → List ℕ → List ℕ → Cursor → ℕ → TrackRead → Type 0
 TrackMeans s b a c out (track.Is t) = TrackWent s b a c out t
@@ -173,7 +174,7 @@ pub record BlockWent (s b a : List ℕ) (c m : Cursor) (out q : ℕ) : Type 0 wh
   pub value : Track
   pub took : Took 0 s c m trackBehind value
   pub writes : Writes b out (trackBytes (length s) value) a q
-  pub paid : q ≤ out + 8 + 64 * (m .at - c .at)
+  pub paid : q ≤ out + 8 + 64 * (atOf m - atOf c)
 
 abbrev pub BlockMeans : List ℕ → List ℕ → List ℕ → Cursor → ℕ → NodeRead → Type 0
 BlockMeans s b a c out (node.Is q m) = BlockWent s b a c m out q

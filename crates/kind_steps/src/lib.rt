@@ -3,6 +3,7 @@
 ghost use mathlib.Core.Path.{_≡_};
 ghost use Rattle.grammar.specs.Fields.{Fields, parseFieldList, pairs};
 ghost use Rattle.grammar.specs.Grammar.{drawFields};
+ghost use Rattle.cursor.specs.Word.{atOf};
 ghost use Rattle.cursor.specs.Means.{Ready};
 ghost use Rattle.cells.specs.Means.{AllSay};
 ghost use Rattle.kind_steps.specs.Means.{drawCells, noDrawFields, DrawStepMeans, DrawListMeans, MorphStepMeans, MorphListMeans, ColorStepMeans, ColorListMeans, OffsetMeans, PathStepMeans, PathListMeans};
@@ -76,7 +77,7 @@ pub fn no_draw_fields() -> DrawFields
 // The fields at c, onto those that were read before.
 pub fn draw_fields(text: &[u8], c: Cursor, earlier: DrawFields) -> DrawStep
     requires { ⌜ Ready (now text) c ⌝ }
-    ensures { λ r. ⌜ ((fs : Fields) → AllSay (now (text .entry)) (c .at) (c .at) (drawCells earlier) fs → DrawListMeans (now (text .entry)) c (parseFieldList drawFields fs) r) ⌝ }
+    ensures { λ r. ⌜ ((fs : Fields) → AllSay (now (text .entry)) (atOf c) (atOf c) (drawCells earlier) fs → DrawListMeans (now (text .entry)) c (parseFieldList drawFields fs) r) ⌝ }
 {
     let rows = DRAW_ROWS;
     let mut m = c;

@@ -15,6 +15,7 @@ use Rattle.error.specs.declared.Refusal.{Refusal}
 use Rattle.error.specs.declared.Refusal.the-variants.{MissingDuration}
 use Rattle.grammar.specs.Rule.{Rule, refused, give, _>>=_}
 use Rattle.grammar.specs.Fields.{Table, Fields, lastNumber, parseFieldList}
+use Rattle.cursor.specs.Word.{atOf}
 use Rattle.cursor.specs.Means.{run, Took}
 use Rattle.cursor.specs.declared.Cursor.{Cursor}
 use Rattle.nodes.specs.Means.{LeafMeans}
@@ -32,7 +33,7 @@ module _ (s : List ℕ) (c : Cursor) (t : Table) (k : Fields → ℕ → Leaf Ke
 
   module _ {e : Cursor} {xs : List Cell} (h : ListTook s c e (parseFieldList t []) xs) {o : OptF32}
       (d : optFloatOf o ≡ lastNumber "duration" (h .fields)) where
-    pub end-untimed : o ≡ optFloat.Absent → run s c (timedEnd t k) ≡ refused MissingDuration (e .at)
+    pub end-untimed : o ≡ optFloat.Absent → run s c (timedEnd t k) ≡ refused MissingDuration (atOf e)
     end-untimed n = rw (h .took .is, sym d, n, h .took .ready .head .place)
 
     pub end-went : {x : Float} → o ≡ optFloat.Present x → (v : Leaf Key) → k (h .fields) (bits x) ≡ v
@@ -49,7 +50,7 @@ module _ (s : List ℕ) (c : Cursor) (t : Table) (k : Fields → ℕ → Leaf Ke
 module _ (s : List ℕ) (p : Rule (Leaf Key)) (c m : Cursor) (f : Rule (Leaf Key))
     (e : (x : Leaf Key) (u : Cursor) → Took 0 s m u f x → Took 1 s c u p x)
     (d : (r : Refusal) (q : ℕ) → run s m f ≡ refused r q → run s c p ≡ refused r q)
-    (l : c .at + 1 ≤ m .at) where
+    (l : atOf c + 1 ≤ atOf m) where
   pub whole-node : (b a : List ℕ) (out : ℕ) (y : NodeRead) → EndMeans s b a m out f y → LeafMeans s b a c out p y
   whole-node b a out (node.Is q u) w = record {
     value = w .value;
@@ -63,7 +64,7 @@ module _ (s : List ℕ) (p : Rule (Leaf Key)) (c m : Cursor) (f : Rule (Leaf Key
 module _ (s : List ℕ) (p : Rule (Leaf Key)) (c m : Cursor) (f : Rule (Leaf Key))
     (e : (x : Leaf Key) (u : Cursor) → Took 0 s m u f x → Took 0 s c u p x)
     (d : (r : Refusal) (q : ℕ) → run s m f ≡ refused r q → run s c p ≡ refused r q)
-    (l : c .at ≤ m .at) where
+    (l : atOf c ≤ atOf m) where
   pub whole-end : (b a : List ℕ) (out : ℕ) (y : NodeRead) → EndMeans s b a m out f y → EndMeans s b a c out p y
   whole-end b a out (node.Is q u) w = record {
     value = w .value;

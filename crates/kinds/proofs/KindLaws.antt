@@ -13,6 +13,7 @@ use Rattle.grammar.specs.Rule.{Rule, refused, text, word, theByte, bothBytes, c
 use Rattle.grammar.specs.Values.{ident, string}
 use Rattle.grammar.specs.Grammar.{parseDraw, parseMorph, parseColor, parsePath, unlessNoise, waveformKind, parseWaveform}
 use Rattle.grammar.specs.Grammar.{waveformNames}
+use Rattle.cursor.specs.Word.{atOf}
 use Rattle.cursor.specs.Means.{run, Took, spelled}
 use Rattle.cursor.specs.declared.Cursor.{Cursor}
 use Rattle.values.proofs.EasingLaws.{spelled-length}
@@ -146,7 +147,7 @@ module _ (s : List ℕ) (c : Cursor) where
   no-waveform r q h = rw h
 
   module _ (m : Cursor) (i : ℕ) (t : Took 1 s c m anyKind i) where
-    pub noise-refused : i ≡ 4 → run s c parseWaveform ≡ refused NoiseWritten (m .at)
+    pub noise-refused : i ≡ 4 → run s c parseWaveform ≡ refused NoiseWritten (atOf m)
     unfolding parseWaveform waveformKind unlessNoise
     noise-refused e = rw (t .is, eq-eqb i 4 e, t .ready .head .place)
 

@@ -13,6 +13,7 @@ use Rattle.grammar.specs.Rule.{Rule, refused, give, need, _>>=_, _>>_, if, sees
 use Rattle.grammar.specs.Fields.{Table, Fields, lastNumber, lastTruth, lastEasing, lastLoopMode, lastRange, pairs, parseFieldList}
 use Rattle.grammar.specs.Values.{string}
 use Rattle.grammar.specs.Grammar.{drawFields, morphFields, colorFields, pathFields, waveformFields}
+use Rattle.cursor.specs.Word.{atOf}
 use Rattle.cursor.specs.Means.{run, Took}
 use Rattle.cursor.specs.declared.Cursor.{Cursor}
 use Rattle.nodes.specs.Means.{leafBytes}
@@ -26,7 +27,7 @@ pub record EndWent (s b a : List ℕ) (c m : Cursor) (out q : ℕ) (p : Rule (Le
   pub value : Leaf Key
   pub took : Took 0 s c m p value
   pub writes : Writes b out (leafBytes (length s) value) a q
-  pub paid : q ≤ out + 64 + 64 * (m .at - c .at)
+  pub paid : q ≤ out + 64 + 64 * (atOf m - atOf c)
 
 abbrev pub EndMeans : (s b a : List ℕ) → Cursor → ℕ → Rule (Leaf Key) → NodeRead → Type 0
 EndMeans s b a c out p (node.Is q m) = EndWent s b a c m out q p

@@ -27,6 +27,7 @@ use Rattle.encode.proofs.OverLaws.{writes-counted}
 use Rattle.encode.proofs.ClearLaws.{written}
 use Rattle.grammar.specs.Rule.{Out, refused}
 use Rattle.grammar.specs.Grammar.{stored, animatoInput}
+use Rattle.cursor.specs.Word.{atOf, leftAt, roundedOf}
 use Rattle.cursor.specs.Means.{nothing, leftOf, notes, run, Begins}
 use Rattle.cursor.specs.Means as cursor
 use Rattle.cursor.specs.declared.Cursor.{Cursor}
@@ -48,7 +49,7 @@ use Rattle.parser.specs.declared.Input.{Input}
 module _ (t : List ℕ) (c : Cursor) (i : Begins t 0 nothing 0 c) where
   input-run : treeOf t ≡ finished (run t c (parseNodes 16))
   unfolding animatoInput
-  input-run = rw (i .is, left-none (c .left) (i .left), i .rounded)
+  input-run = rw (i .is, left-none (leftAt c) (i .left), i .rounded)
 
   -- a refusal tells nothing of the text's end
   input-wrong : (b a : List ℕ) (r : Refusal) (p : ℕ) (x : Input) → x ≡ inputOf (Refused r p) false
@@ -61,21 +62,21 @@ module _ (t : List ℕ) (c : Cursor) (i : Begins t 0 nothing 0 c) where
 
   module _ {b a : List ℕ} {u : Siblings} (g : NodesWent t b a c 2 16 u) where
     -- "tokens left inside a delimiter": 13, at "the first"
-    pub input-left : (p : ℕ) (x : Input) → x ≡ inputOf (Refused Leftover p) false → leftOf (u .next .left) ≡ some p → InputMeans t b a x
+    pub input-left : (p : ℕ) (x : Input) → x ≡ inputOf (Refused Leftover p) false → leftOf (leftAt (u .next)) ≡ some p → InputMeans t b a x
     input-left p x e h = input-wrong _ _ Leftover p x e (input-run ∙ (rw (g .went .took .is, h)))
 
     -- behind the last node stands the text's end: each token was cut, and with nothing left in a group all nest
-    input-allowed : (p : ℕ) → leftOf (u .next .left) ≡ none → p ≡ u .next .at → Allowed t (eqb p (length t))
+    input-allowed : (p : ℕ) → leftOf (leftAt (u .next)) ≡ none → p ≡ atOf (u .next) → Allowed t (eqb p (length t))
     unfolding animatoInput
     input-allowed p h e q =
-        let end : u .next .at ≡ length t = sym e ∙ eqb-true p (length t) q in
+        let end : atOf (u .next) ≡ length t = sym e ∙ eqb-true p (length t) q in
         let x = input-nests .run (notes t c) (cursor.tokens t c) in
         let y = subst (λ (o : Out (Nodes Key)). OutNests 18 (notes t c) (cursor.tokens t c) o) (g .went .took .is) x in
         let same = y .same h [] (omega arith) in
-        fits-splits t (sym (g .went .took .ready .last) ∙ last-end t (u .next .at) end) (rw (i .is) (same ∙ end-fits t (u .next .at) end))
+        fits-splits t (sym (g .went .took .ready .last) ∙ last-end t (atOf (u .next)) end) (rw (i .is) (same ∙ end-fits t (atOf (u .next)) end))
 
-    input-encoded : {a′ : List ℕ} {f : ℕ} → leftOf (u .next .left) ≡ none → Writes a 0 (big 2 .write (u .width)) a′ f
-        → Encoded t b a′ (u .end) (u .records) (u .next .rounded)
+    input-encoded : {a′ : List ℕ} {f : ℕ} → leftOf (leftAt (u .next)) ≡ none → Writes a 0 (big 2 .write (u .width)) a′ f
+        → Encoded t b a′ (u .end) (u .records) (roundedOf (u .next))
     unfolding encode
     input-encoded h o = record {
       nodes = g .went .value;
@@ -85,8 +86,8 @@ module _ (t : List ℕ) (c : Cursor) (i : Begins t 0 nothing 0 c) where
       count = g .count;
     }
 
-    pub input-done : {a′ : List ℕ} {f : ℕ} (p k : ℕ) → leftOf (u .next .left) ≡ none → Writes a 0 (big 2 .write (u .width)) a′ f
-        → p ≡ u .next .at → k ≡ u .next .rounded
+    pub input-done : {a′ : List ℕ} {f : ℕ} (p k : ℕ) → leftOf (leftAt (u .next)) ≡ none → Writes a 0 (big 2 .write (u .width)) a′ f
+        → p ≡ atOf (u .next) → k ≡ roundedOf (u .next)
         → InputMeans t b a′ (inputOf (Accepted (u .end) (u .records) k) (eqb p (length t)))
     input-done p k h o e q = record { tree = rw q (input-encoded h o); allowed = input-allowed p h e }
 

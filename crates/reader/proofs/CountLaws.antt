@@ -15,6 +15,7 @@ use Rattle.token.specs.Split as tokenized
 use Rattle.token.proofs.WholeLaws.{Fits, whole-of}
 use Rattle.token.proofs.StreamLaws.{split-reads}
 use Rattle.grammar.specs.Rule.{seesByte}
+use Rattle.cursor.specs.Word.{atOf}
 use Rattle.cursor.specs.Means.{Ready, tokens, Follows}
 use Rattle.cursor.specs.declared.Cursor.{Cursor}
 use Rattle.cursor.proofs.CursorLaws.{head-moves}
@@ -72,21 +73,21 @@ one-more (token p k ∷ ts) e = rw e
 -- n tokens stand from c up to m
 pub record Counted (s : List ℕ) (c m : Cursor) (n : ℕ) : Type 0 where
   pub is : n + tokenCount (tokens s m) ≡ tokenCount (tokens s c)
-  pub few : n ≤ m .at
+  pub few : n ≤ atOf m
   pub ready : Ready s m
 
 pub counted-none : (s : List ℕ) (c : Cursor) → Ready s c → Counted s c c 0
 counted-none s c r = record { is = omega arith; few = omega arith; ready = r }
 
 module _ (s : List ℕ) (c m : Cursor) (n : ℕ) (h : Counted s c m n) where
-  pub counted-below : seesByte 0 (tokens s m) ≡ false → m .at < length s
+  pub counted-below : seesByte 0 (tokens s m) ≡ false → atOf m < length s
   counted-below e = let a = head-moves s m (h .ready) e in omega (arith, h .ready .head .high)
 
   pub counted-all : seesByte 0 (tokens s m) ≡ true → n ≡ tokenCount (tokens s c)
   counted-all e = let a = none-left (tokens s m) e in omega (arith, h .is)
 
   module _ (u : Cursor) (f : Follows s m u) (e : seesByte 0 (tokens s m) ≡ false) where
-    pub counted-moves : m .at < u .at
+    pub counted-moves : atOf m < atOf u
     counted-moves = let a = head-moves s m (h .ready) e in omega (arith, f .at)
 
     pub counted-next : Counted s c u (n + 1)

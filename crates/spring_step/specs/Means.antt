@@ -9,6 +9,7 @@ use Rattle.grammar.specs.Rule.{refused}
 use Rattle.grammar.specs.Fields.{parseFieldList}
 use Rattle.grammar.specs.Values.{parseValue}
 use Rattle.grammar.specs.Grammar.{springFields}
+use Rattle.cursor.specs.Word.{atOf}
 use Rattle.cursor.specs.Means.{run, Took}
 use Rattle.cursor.specs.declared.Cursor.{Cursor}
 use Rattle.cells.specs.Means.{Cell, float, case, damping, place, StepTook, StepRefused, ListTook}
@@ -20,7 +21,7 @@ use Rattle.spring_step.specs.declared.PastRead.the-variants as past
 
 -- a number or an array is passed, and its text pays for its bytes
 abbrev pub PastMeans : List ℕ → Cursor → PastRead → Type 0
-PastMeans s c (past.Is m) = (v : ValueExpr) × Took 1 s c m parseValue v × (length (valueForm .write v) ≤ 64 * (m .at - c .at))
+PastMeans s c (past.Is m) = (v : ValueExpr) × Took 1 s c m parseValue v × (length (valueForm .write v) ≤ 64 * (atOf m - atOf c))
 PastMeans s c (past.Refused r q) = run s c parseValue ≡ refused r q
 
 abbrev pub springCells : SpringFields → List Cell

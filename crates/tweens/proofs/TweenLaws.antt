@@ -20,6 +20,7 @@ use Rattle.error.specs.declared.Refusal.the-variants.{MissingDuration}
 use Rattle.grammar.specs.Rule.{Rule, refused, after, give, need, _>>=_}
 use Rattle.grammar.specs.Fields.{Fields, lastNumber, lastEasing, lastLoopMode, ever, parseFieldList}
 use Rattle.grammar.specs.Grammar.{parseTween, tweenFields}
+use Rattle.cursor.specs.Word.{atOf}
 use Rattle.cursor.specs.Means.{run}
 use Rattle.cursor.specs.declared.Cursor.{Cursor}
 use Rattle.arrays.specs.Means.{Went}
@@ -81,7 +82,7 @@ module _ {s b a : List ℕ} {c m : Cursor} {out at : ℕ} (e : EndsWent s b a c 
   tween-no-fields h = tween-run s c ∙ (rw (e .took .is, h))
 
   module _ {u : Cursor} {f : TweenFields} (t : ListTook s m u (parseFieldList tweenFields []) (tweenCells f)) where
-    pub tween-untimed : f .duration ≡ optFloat.Absent → run s c parseTween ≡ refused MissingDuration (u .at)
+    pub tween-untimed : f .duration ≡ optFloat.Absent → run s c parseTween ≡ refused MissingDuration (atOf u)
     tween-untimed d = tween-run s c ∙ (rw (e .took .is, t .took .is, sym (t .say .0 .0), d, t .took .ready .head .place))
 
     module _ {x : Float} (d : f .duration ≡ optFloat.Present x) where

@@ -16,6 +16,7 @@ use Rattle.encode.specs.Writes.{Writes}
 use Rattle.error.specs.declared.Refusal.the-variants.{Missing}
 use Rattle.grammar.specs.Rule.{Rule, refused, give, the, both, _>>=_, _>>_}
 use Rattle.grammar.specs.Values.{ident, parseValue}
+use Rattle.cursor.specs.Word.{atOf}
 use Rattle.cursor.specs.Means.{run, Took}
 use Rattle.cursor.specs.declared.Cursor.{Cursor}
 use Rattle.cursor.specs.declared.WordRead.{WordRead}
@@ -68,7 +69,7 @@ pub record EndsWent (s b a : List ℕ) (c m : Cursor) (out q : ℕ) : Type 0 whe
   pub value : Ends
   pub took : Took 1 s c m theEnds value
   pub writes : Writes b out (endsBytes (length s) value) a q
-  pub paid : q + 64 ≤ out + 64 * (m .at - c .at)
+  pub paid : q + 64 ≤ out + 64 * (atOf m - atOf c)
 
 abbrev pub EndsMeans : List ℕ → List ℕ → List ℕ → Cursor → ℕ → ValueRead → Type 0
 EndsMeans s b a c out (value.Is q m) = EndsWent s b a c m out q

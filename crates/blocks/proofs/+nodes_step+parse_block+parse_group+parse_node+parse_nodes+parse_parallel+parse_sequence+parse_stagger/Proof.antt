@@ -35,6 +35,7 @@ use Rattle.blocks.proofs.begin_node.Reads as begin-node-reads
 use Rattle.blocks.proofs.group_head.Reads as group-head-reads
 use Rattle.blocks.proofs.open_block.Reads as open-block-reads
 use Rattle.blocks.proofs.stagger_head.Reads as stagger-head-reads
+use Rattle.cursor.specs.Word.{atOf}
 use Rattle.cursor.proofs.advance.Reads as advance-reads
 use Rattle.cursor.proofs.ends.Reads as ends-reads
 use Rattle.cursor.proofs.leave_group.Reads as leave-group-reads
@@ -48,28 +49,28 @@ use Rattle.blocks.proofs.+nodes_step+parse_block+parse_group+parse_node
 }
 
 abbrev μ-nodes-step : Measures 2 nodes-step-kinds.ps ℕ
-μ-nodes-step κs a = 4 * (length (a .0 .now) - a .1 .1 .0 .next .at) + 2
+μ-nodes-step κs a = 4 * (length (a .0 .now) - atOf (a .1 .1 .0 .next)) + 2
 
 abbrev μ-parse-block : Measures 2 parse-block-kinds.ps ℕ
-μ-parse-block κs a = 4 * (length (a .0 .now) - a .1 .1 .0 .at) + 3
+μ-parse-block κs a = 4 * (length (a .0 .now) - atOf (a .1 .1 .0)) + 3
 
 abbrev μ-parse-group : Measures 2 parse-group-kinds.ps ℕ
-μ-parse-group κs a = 4 * (length (a .0 .now) - a .1 .1 .0 .at) + 4
+μ-parse-group κs a = 4 * (length (a .0 .now) - atOf (a .1 .1 .0)) + 4
 
 abbrev μ-parse-node : Measures 2 parse-node-kinds.ps ℕ
-μ-parse-node κs a = 4 * (length (a .0 .now) - a .1 .1 .0 .at) + 1
+μ-parse-node κs a = 4 * (length (a .0 .now) - atOf (a .1 .1 .0)) + 1
 
 abbrev μ-parse-nodes : Measures 2 parse-nodes-kinds.ps ℕ
-μ-parse-nodes κs a = 4 * (length (a .0 .now) - a .1 .1 .0 .at) + 3
+μ-parse-nodes κs a = 4 * (length (a .0 .now) - atOf (a .1 .1 .0)) + 3
 
 abbrev μ-parse-parallel : Measures 2 parse-parallel-kinds.ps ℕ
-μ-parse-parallel κs a = 4 * (length (a .0 .now) - a .1 .1 .0 .at) + 4
+μ-parse-parallel κs a = 4 * (length (a .0 .now) - atOf (a .1 .1 .0)) + 4
 
 abbrev μ-parse-sequence : Measures 2 parse-sequence-kinds.ps ℕ
-μ-parse-sequence κs a = 4 * (length (a .0 .now) - a .1 .1 .0 .at) + 4
+μ-parse-sequence κs a = 4 * (length (a .0 .now) - atOf (a .1 .1 .0)) + 4
 
 abbrev μ-parse-stagger : Measures 2 parse-stagger-kinds.ps ℕ
-μ-parse-stagger κs a = 4 * (length (a .0 .now) - a .1 .1 .0 .at) + 4
+μ-parse-stagger κs a = 4 * (length (a .0 .now) - atOf (a .1 .1 .0)) + 4
 
 abbrev nodes-step-at : ℕ → In 2 nodes-step-kinds.ps
 nodes-step-at t =
@@ -475,7 +476,7 @@ abbrev parse-nodes-Inv-loop : of.Lts-parse_nodes.InvT-loop
 parse-nodes-Inv-loop text sheet₀ out depth t₀ sheet t = Growing text sheet₀ sheet (t₀ .next) out depth t
 
 abbrev parse-nodes-μ-loop : of.Lts-parse_nodes.MeasureT-loop
-parse-nodes-μ-loop text sheet₀ out depth t₀ sheet t = length text - t .next .at
+parse-nodes-μ-loop text sheet₀ out depth t₀ sheet t = length text - atOf (t .next)
 
 parse-nodes-loop-holds : (t : ℕ)
     → of.Lts-parse_nodes.Need-loop-holds (parse-nodes-calls t) (parse-nodes-at t) parse-nodes.Post parse-nodes-Inv-loop parse-nodes-μ-loop

@@ -11,12 +11,13 @@ use lib.ListN.{length}
 use Rattle.book.proofs.BookLaws.{Reading, reading-start, reading-left, reading-done, reading-refused, walked-room, reading-more}
 use Rattle.book.proofs.parse_items.Statement.{statement}
 use Rattle.book.proofs.parse_items.Tie as tie
+use Rattle.cursor.specs.Word.{atOf}
 
 abbrev Inv-loop : tie.InvT-loop
 Inv-loop text table₀ sheet₀ c₀ n₀ table sheet c n = (length sheet ≡ 1) × Reading text table c n
 
 abbrev μ-loop : tie.MeasureT-loop
-μ-loop text table₀ sheet₀ c₀ n₀ table sheet c n = length text - c .at
+μ-loop text table₀ sheet₀ c₀ n₀ table sheet c n = length text - atOf c
 
 first-requires : tie.Need-first-requires Inv-loop μ-loop
 first-requires c κs = c .before .before .pre .0

@@ -11,14 +11,14 @@ returns c =
     let at-sees-word = at-if1 .before in
     let start = at-sees-word .before .before .before in
     rw (c .before .place .ensures)
-    (took-loop (start .args .text .now) (start .args .c) (c .advance .result) (start .pre) (c .advance .ensures)
+    (took-loop (start .args .text .now) (start .args .c) (c .hop .result) (start .pre) (c .hop .ensures)
     (sym (at-sees-word .sees-word .ensures) ∙ at-if1 .if1 .taken))
 
 returns-2 : tie.Need-returns-2
 returns-2 c =
     let at-sees-word = c .before .before in
     let args = at-sees-word .before .before .before .args in
-    named (args .text .now) (args .c) (c .word .result) (sym (at-sees-word .sees-word .ensures) ∙ c .before .if1 .left) (c .word .ensures)
+    named (args .text .now) (args .c) (c .word-before .result) (sym (at-sees-word .sees-word .ensures) ∙ c .before .if1 .left) (c .word-before .ensures)
 
 pub field-name-spec : {M : Type 1} → statement M
 field-name-spec =

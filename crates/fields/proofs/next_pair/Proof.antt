@@ -17,12 +17,12 @@ returns c t e =
     )
 
 after-name-requires : tie.Need-after-name-requires
-after-name-requires c κs = (rw (c .before .name .given .1) at (c .before .before .before .word .ensures)) .0 .ready
+after-name-requires c κs = (rw (c .before .name .given .1) at (c .before .before .before .word-before .ensures)) .0 .ready
 
 returns-2 : tie.Need-returns-2
 returns-2 c t e =
-    let at-word = c .before .before .before in
-    let at-if1 = at-word .before in
+    let at-word-before = c .before .before .before in
+    let at-if1 = at-word-before .before in
     let at-ends = at-if1 .before in
     let start = at-ends .before .before .before in
     let args = start .args in
@@ -34,13 +34,13 @@ returns-2 c t e =
     _ _
     (sym (at-ends .ends .ensures (args .text .now) (start .pre)) ∙ at-if1 .if1 .left)
     (head-missing (args .text .now) pairName (args .c) t _ _
-    (no-plain (args .text .now) (args .c) _ _ (rw (c .before .p .given .1) at (at-word .word .ensures))))
+    (no-plain (args .text .now) (args .c) _ _ (rw (c .before .p .given .1) at (at-word-before .word-before .ensures))))
 
 returns-3 : tie.Need-returns-3
 returns-3 c t e =
     let at-name = c .before .before in
-    let at-word = at-name .before .before in
-    let at-if1 = at-word .before in
+    let at-word-before = at-name .before .before in
+    let at-if1 = at-word-before .before in
     let at-ends = at-if1 .before in
     let start = at-ends .before .before .before in
     let args = start .args in
@@ -52,7 +52,7 @@ returns-3 c t e =
     (sym (at-ends .ends .ensures (args .text .now) (start .pre)) ∙ at-if1 .if1 .left)
     (c .after-name .result)
     (started (args .text .now) pairName (args .c) _ _ t (c .after-name .result)
-    (took-plain (args .text .now) (args .c) _ _ _ ((rw (at-name .name .given .1) at (at-word .word .ensures)) .0))
+    (took-plain (args .text .now) (args .c) _ _ _ ((rw (at-name .name .given .1) at (at-word-before .word-before .ensures)) .0))
     (c .after-name .ensures t e))
 
 pub next-pair-spec : {M : Type 1} → statement M

@@ -10,12 +10,13 @@ use borrow.Author.Tests.{not-false, not-true}
 use lib.Dec.{lit<}
 use Rattle.heads.proofs.grid_fields.Statement.{statement}
 use Rattle.heads.proofs.grid_fields.Tie as tie
+use Rattle.cursor.specs.Word.{atOf}
 
 abbrev Inv-loop : tie.InvT-loop
 Inv-loop text m₀ f₀ m f = Kept GridHeld gridFields text m₀ m f
 
 abbrev μ-loop : tie.MeasureT-loop
-μ-loop text m₀ f₀ m f = length text - m .at
+μ-loop text m₀ f₀ m f = length text - atOf m
 
 loop-holds : tie.Need-loop-holds Inv-loop μ-loop
 loop-holds c = kept-start GridHeld gridFields (c .before .args .text .now) (c .before .args .c) _ (c .before .pre) grid-none

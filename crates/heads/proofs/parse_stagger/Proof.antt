@@ -9,12 +9,13 @@ use mathlib.Core.Path.{sym, _∙_}
 use lib.Dec.{lit<}
 use Rattle.heads.proofs.parse_stagger.Statement.{statement}
 use Rattle.heads.proofs.parse_stagger.Tie as tie
+use Rattle.cursor.specs.Word.{atOf}
 
 abbrev Inv-loop : tie.InvT-loop
 Inv-loop text m₀ f₀ m f = Opened text m₀ m (openingOf f) × PlainOpening f
 
 abbrev μ-loop : tie.MeasureT-loop
-μ-loop text m₀ f₀ m f = length text - m .at
+μ-loop text m₀ f₀ m f = length text - atOf m
 
 loop-holds : tie.Need-loop-holds Inv-loop μ-loop
 loop-holds c = (opened-start (c .before .args .text .now) (c .before .args .c) (c .before .pre), (tt, tt))

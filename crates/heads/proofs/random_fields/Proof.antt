@@ -10,12 +10,13 @@ use Rattle.grammar.specs.Grammar.{randomFields}
 use lib.Dec.{lit<}
 use Rattle.heads.proofs.random_fields.Statement.{statement}
 use Rattle.heads.proofs.random_fields.Tie as tie
+use Rattle.cursor.specs.Word.{atOf}
 
 abbrev Inv-loop : tie.InvT-loop
 Inv-loop text m₀ f₀ m f = Kept RandomHeld randomFields text m₀ m f
 
 abbrev μ-loop : tie.MeasureT-loop
-μ-loop text m₀ f₀ m f = length text - m .at
+μ-loop text m₀ f₀ m f = length text - atOf m
 
 loop-holds : tie.Need-loop-holds Inv-loop μ-loop
 loop-holds c = kept-start RandomHeld randomFields (c .before .args .text .now) (c .before .args .c) _ (c .before .pre) random-none

@@ -8,12 +8,13 @@ use borrow.Author.Needs.{needs}
 use native.Mathlib.Omega.{arith}
 use Rattle.keyframes.proofs.track_items.Statement.{statement}
 use Rattle.keyframes.proofs.track_items.Tie as tie
+use Rattle.cursor.specs.Word.{atOf}
 
 abbrev Inv-loop : tie.InvT-loop
 Inv-loop text sheet₀ out t₀ sheet t = Tracked text sheet₀ sheet (t₀ .next) out t
 
 abbrev μ-loop : tie.MeasureT-loop
-μ-loop text sheet₀ out t₀ sheet t = length text - t .next .at
+μ-loop text sheet₀ out t₀ sheet t = length text - atOf (t .next)
 
 loop-holds : tie.Need-loop-holds Inv-loop μ-loop
 loop-holds c =

@@ -2,6 +2,7 @@
 use Rattle.cells.proofs.StepLaws.{Gathering, gathering-start, list-refused, list-done, value-refused, list-more, list-moves}
 use Rattle.cells.specs.Means.{AllSay}
 use Rattle.kind_steps.specs.Means.{drawCells}
+use Rattle.cursor.specs.Word.{atOf}
 use Rattle.cursor.specs.Means.{Ready}
 use mathlib.Core.Path.{refl}
 use Prim.Native.Nat.{_-_}
@@ -17,10 +18,10 @@ use Rattle.kind_steps.proofs.draw_fields.Tie as tie
 abbrev Inv-loop : tie.InvT-loop
 Inv-loop text rows m₀ kept₀ m kept =
     Ready text m
-    × ((fs : Fields) → AllSay text (m₀ .at) (m₀ .at) (drawCells kept₀) fs → Gathering fieldsStep text m₀ m drawFields fs (drawCells kept))
+    × ((fs : Fields) → AllSay text (atOf m₀) (atOf m₀) (drawCells kept₀) fs → Gathering fieldsStep text m₀ m drawFields fs (drawCells kept))
 
 abbrev μ-loop : tie.MeasureT-loop
-μ-loop text rows m₀ kept₀ m kept = length text - m .at
+μ-loop text rows m₀ kept₀ m kept = length text - atOf m
 
 loop-holds : tie.Need-loop-holds Inv-loop μ-loop
 loop-holds c = (c .before .pre, λ fs h. gathering-start (c .before .pre) h)

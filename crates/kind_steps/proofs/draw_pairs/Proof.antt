@@ -14,12 +14,13 @@ use Rattle.grammar.specs.Fields.{last}
 use Rattle.grammar.specs.Grammar.{drawFields}
 use Rattle.kind_steps.proofs.draw_pairs.Statement.{statement}
 use Rattle.kind_steps.proofs.draw_pairs.Tie as tie
+use Rattle.cursor.specs.Word.{atOf}
 
 abbrev Inv-loop : tie.InvT-loop
 Inv-loop text rows m₀ kept₀ m kept = Gathering pairStep text m₀ m drawFields [] (drawCells kept)
 
 abbrev μ-loop : tie.MeasureT-loop
-μ-loop text rows m₀ kept₀ m kept = length text - m .at
+μ-loop text rows m₀ kept₀ m kept = length text - atOf m
 
 loop-holds : tie.Need-loop-holds Inv-loop μ-loop
 unfolding last

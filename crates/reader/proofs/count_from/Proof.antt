@@ -8,12 +8,13 @@ use Rattle.reader.proofs.CountLaws.{Counted, counted-none, counted-belo
 use Rattle.reader.proofs.CountLaws.{counted-moves, counted-next, not-true, not-false}
 use Rattle.reader.proofs.count_from.Statement.{statement}
 use Rattle.reader.proofs.count_from.Tie as tie
+use Rattle.cursor.specs.Word.{atOf}
 
 abbrev Inv-loop : tie.InvT-loop
 Inv-loop text m₀ n₀ m n = Counted text m₀ m n
 
 abbrev μ-loop : tie.MeasureT-loop
-μ-loop text m₀ n₀ m n = length text - m .at
+μ-loop text m₀ n₀ m n = length text - atOf m
 
 loop-holds : tie.Need-loop-holds Inv-loop μ-loop
 loop-holds c = counted-none (c .before .args .text .now) (c .before .args .c) (c .before .pre)

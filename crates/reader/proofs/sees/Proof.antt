@@ -41,6 +41,7 @@ use denote.Exit.{yes}
 use denote.Triple.Clauses.{ensured, lasts}
 use Rattle.token.specs.Token.{tokensFrom}
 use Rattle.grammar.specs.Rule.{seesByte}
+use Rattle.cursor.specs.Word.{atOf}
 use Rattle.cursor.specs.Means.{Ready}
 use Rattle.reader.specs.declared.TokenReader.{TokenReader}
 use Rattle.reader.proofs.TokenReader.Laws as T′
@@ -71,7 +72,7 @@ module _ {M : Type 1} (𝓤 : URA M) (H : Heap 𝓤) (A : Atoms 𝓤) (W : Given
 
   -- what the callee says of its result
   abbrev Means : Bool → Type 0
-  Means n = (s : List ℕ) → Ready s (d .cursor) → n ≡ seesByte b (tokensFrom s (d .cursor .at))
+  Means n = (s : List ℕ) → Ready s (d .cursor) → n ≡ seesByte b (tokensFrom s (atOf (d .cursor)))
 
   abbrev Post : Val → SProp 𝓤
   Post = walkOf 𝓤 H A sees.ended stayed (sees.clauses 𝓤 H A mem run) .post (((κ, tt), (q, tt), tt, (d, (b, tt)), at), tt)

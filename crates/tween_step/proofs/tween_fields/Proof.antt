@@ -12,12 +12,13 @@ use borrow.Author.Needs.{needs}
 use Rattle.text.specs.Words.{entries}
 use Rattle.tween_step.proofs.tween_fields.Statement.{statement}
 use Rattle.tween_step.proofs.tween_fields.Tie as tie
+use Rattle.cursor.specs.Word.{atOf}
 
 abbrev Inv-loop : tie.InvT-loop
 Inv-loop text rows m₀ kept₀ m kept = Gathering fieldsStep text m₀ m tweenFields [] (tweenCells kept)
 
 abbrev μ-loop : tie.MeasureT-loop
-μ-loop text rows m₀ kept₀ m kept = length text - m .at
+μ-loop text rows m₀ kept₀ m kept = length text - atOf m
 
 loop-holds : tie.Need-loop-holds Inv-loop μ-loop
 unfolding last ever

@@ -15,12 +15,13 @@ use Rattle.values.proofs.CurveLaws.{rough-none}
 use Rattle.grammar.specs.Values.{roughFields}
 use Rattle.values.proofs.rough_fields.Statement.{statement}
 use Rattle.values.proofs.rough_fields.Tie as tie
+use Rattle.cursor.specs.Word.{atOf}
 
 abbrev Inv-loop : tie.InvT-loop
 Inv-loop text m₀ f₀ m f = (fs : Fields) × Listed (listStep (onePair roughFields)) text m₀ m [] fs × RoughHeld f fs
 
 abbrev μ-loop : tie.MeasureT-loop
-μ-loop text m₀ f₀ m f = length text - m .at
+μ-loop text m₀ f₀ m f = length text - atOf m
 
 loop-holds : tie.Need-loop-holds Inv-loop μ-loop
 loop-holds c = (

@@ -15,12 +15,13 @@ use Rattle.values.proofs.CurveLaws.{slow-none}
 use Rattle.grammar.specs.Values.{slowMoFields}
 use Rattle.values.proofs.slow_mo_fields.Statement.{statement}
 use Rattle.values.proofs.slow_mo_fields.Tie as tie
+use Rattle.cursor.specs.Word.{atOf}
 
 abbrev Inv-loop : tie.InvT-loop
 Inv-loop text m₀ f₀ m f = (fs : Fields) × Listed (listStep (onePair slowMoFields)) text m₀ m [] fs × SlowMoHeld f fs
 
 abbrev μ-loop : tie.MeasureT-loop
-μ-loop text m₀ f₀ m f = length text - m .at
+μ-loop text m₀ f₀ m f = length text - atOf m
 
 loop-holds : tie.Need-loop-holds Inv-loop μ-loop
 loop-holds c = (
