@@ -50,7 +50,8 @@ free-word (n ∷ ns) j w i h e = go (same w n) refl (isKeyword n) refl h (λ g f
     go true q false z g ih = rw (same-eq w n q) z
     go false q false z g ih = ih g (sym (find-past w n ns j q) ∙ e)
 
-module _ {s : List ℕ} {c m : Cursor} (r : Ready s c) (f : Follows s c m) {ns : List (List ℕ)} {i : ℕ} (l : Listed ns (kind (tokens s c)) i) where
+module _ {s : List ℕ} {c m : Cursor} (r : Ready s c) (f : Follows s c m) {ns : List (List ℕ)} {i : ℕ}
+    (l : Listed ns (kind (tokens s c)) i) where
   pub took-listed : noKeywords ns ≡ true → Took 1 s c m word (atOf c, l .word)
   took-listed h = took s c m r f word _ (rw (l .is)) (rw (l .is, free-word ns 0 (l .word) i h (l .found), r .head .place))
 
@@ -91,5 +92,6 @@ module _ {s : List ℕ} {c : Cursor} (r : Ready s c) where
       let u = unlisted-kind (kind (tokens s c)) ns e h in
       rw (u .1, u .2, f .rest, f .ready .head .place)
 
-  pub unlisted-other : (ns : List (List ℕ)) (q : Refusal) → seesName (tokens s c) ≡ false → run s c (choiceIn q ns) ≡ refused Missing (atOf c)
+  pub unlisted-other : (ns : List (List ℕ)) (q : Refusal) → seesName (tokens s c) ≡ false
+      → run s c (choiceIn q ns) ≡ refused Missing (atOf c)
   unlisted-other ns q h = rw (no-name (kind (tokens s c)) h, r .head .place)
