@@ -80,7 +80,10 @@ fn no_node(text: &[u8], c: Cursor) -> Begun
     ensures { λ r. ⌜ ((b a : List ℕ) (out : ℕ) → listedIn nodeWords (tokensFrom (now (text .entry)) (c .at)) ≡ none → BegunMeans 1 (now (text .entry)) b a c out parseNode r) ⌝ }
 {
     if cursor::sees_name(text, c) {
-        return Begun::Refused(Refusal::UnknownKeyword, cursor::place(cursor::advance(text, c)));
+        return Begun::Refused(
+            Refusal::UnknownKeyword,
+            cursor::place(cursor::advance(text, c)),
+        );
     }
     Begun::Refused(Refusal::Missing, cursor::place(c))
 }
