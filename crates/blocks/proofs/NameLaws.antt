@@ -2,7 +2,7 @@
 use Prim.Native.Nat.{ℕ, zero, suc, _+_, _-_, _≤_, _<_}
 use mathlib.Core.Bool.{Bool, true, false}
 use mathlib.Core.List.{List, [], _∷_, _++_}
-use mathlib.Core.Logic.{_⊎_, inl, inr}
+use mathlib.Core.Logic.{_⊎_, inl, inr, ⊎-elim}
 use mathlib.Core.Option.{Option, none, some, Option·some-injective}
 use mathlib.Core.Path.{_≡_, refl, sym, ap, _∙_, subst}
 use native.Mathlib.Omega.{arith}
@@ -11,6 +11,8 @@ use Rattle.text.specs.Bytes.{same}
 use Rattle.text.specs.Words.{find, under}
 use Rattle.text.proofs.WordLaws.{find-here, find-past}
 use Rattle.words.specs.Lists.{listOf}
+use Rattle.token.specs.Names.{isKeyword}
+use Rattle.cursor.specs.Means.{noKeywords}
 use Rattle.grammar.specs.Grammar.{leaves, containers, unknown, beginning}
 use Rattle.heads.specs.Means.{namesOf}
 use Rattle.heads.proofs.NameLaws.{none≢some, under-row, under-none}
@@ -46,26 +48,26 @@ shift-none (n ∷ ns) k m w e = go (same w n) refl (λ q. shift-none ns (suc k) 
     go true q ih = none≢some (sym e ∙ find-here w n ns k q)
     go false q ih = find-past w n ns m q ∙ ih (sym (find-past w n ns k q) ∙ e)
 
-in-front : (as bs : List (List ℕ)) (k j : ℕ) (w : List ℕ) → find as k w ≡ some j → find (as ++ bs) k w ≡ some j
+in-front : (xs bs : List (List ℕ)) (k j : ℕ) (w : List ℕ) → find xs k w ≡ some j → find (xs ++ bs) k w ≡ some j
 unfolding find
 in-front [] bs k j w e = none≢some e
-in-front (n ∷ as) bs k j w e = go (same w n) refl (λ q. in-front as bs (suc k) j w q)
+in-front (n ∷ xs) bs k j w e = go (same w n) refl (λ q. in-front xs bs (suc k) j w q)
   where
-    go : (b : Bool) → same w n ≡ b → (find as (suc k) w ≡ some j → find (as ++ bs) (suc k) w ≡ some j) → find (n ∷ (as ++ bs)) k w ≡ some j
-    go true q ih = find-here w n (as ++ bs) k q ∙ sym (find-here w n as k q) ∙ e
-    go false q ih = find-past w n (as ++ bs) k q ∙ ih (sym (find-past w n as k q) ∙ e)
+    go : (b : Bool) → same w n ≡ b → (find xs (suc k) w ≡ some j → find (xs ++ bs) (suc k) w ≡ some j) → find (n ∷ (xs ++ bs)) k w ≡ some j
+    go true q ih = find-here w n (xs ++ bs) k q ∙ sym (find-here w n xs k q) ∙ e
+    go false q ih = find-past w n (xs ++ bs) k q ∙ ih (sym (find-past w n xs k q) ∙ e)
 
-behind : (as bs : List (List ℕ)) (k : ℕ) (w : List ℕ) → find as k w ≡ none → find (as ++ bs) k w ≡ find bs (k + length as) w
+behind : (xs bs : List (List ℕ)) (k : ℕ) (w : List ℕ) → find xs k w ≡ none → find (xs ++ bs) k w ≡ find bs (k + length xs) w
 unfolding find
 behind [] bs k w e = let z : k ≡ k + 0 = omega arith in ap (λ (x : ℕ). find bs x w) z
-behind (n ∷ as) bs k w e = go (same w n) refl (λ q. behind as bs (suc k) w q)
+behind (n ∷ xs) bs k w e = go (same w n) refl (λ q. behind xs bs (suc k) w q)
   where
-    go : (b : Bool) → same w n ≡ b → (find as (suc k) w ≡ none → find (as ++ bs) (suc k) w ≡ find bs (suc k + length as) w)
-        → find (n ∷ (as ++ bs)) k w ≡ find bs (k + suc (length as)) w
-    go true q ih = none≢some (sym e ∙ find-here w n as k q)
+    go : (b : Bool) → same w n ≡ b → (find xs (suc k) w ≡ none → find (xs ++ bs) (suc k) w ≡ find bs (suc k + length xs) w)
+        → find (n ∷ (xs ++ bs)) k w ≡ find bs (k + suc (length xs)) w
+    go true q ih = none≢some (sym e ∙ find-here w n xs k q)
     go false q ih =
-        let z : suc k + length as ≡ k + suc (length as) = omega arith in
-        find-past w n (as ++ bs) k q ∙ ih (sym (find-past w n as k q) ∙ e) ∙ ap (λ (x : ℕ). find bs x w) z
+        let z : suc k + length xs ≡ k + suc (length xs) = omega arith in
+        find-past w n (xs ++ bs) k q ∙ ih (sym (find-past w n xs k q) ∙ e) ∙ ap (λ (x : ℕ). find bs x w) z
 
 -- ---- the list of nodes
 
@@ -105,7 +107,7 @@ module _ (w : List ℕ) (e : find (namesOf leaves) 0 w ≡ none) where
       (omega arith, container-word (i - 11) (q ∙ ap {B = Option ℕ} some z))
 
 -- what the word at i begins
-pub node-word : (w : List ℕ) (i : ℕ) → find nodeWords 0 w ≡ some i
+node-word : (w : List ℕ) (i : ℕ) → find nodeWords 0 w ≡ some i
     → ((i < 11) × KeywordMeans w (keyword.Leaf i)) ⊎ ((11 ≤ i) × KeywordMeans w (keyword.Container (i - 11)))
 node-word w i f = go (find (namesOf leaves) 0 w) refl
   where
@@ -126,3 +128,15 @@ no-node-word w f = go (find (namesOf leaves) 0 w) refl
     go (some j) e =
         let q = in-front (namesOf leaves) (namesOf containers) 0 j w e in
         none≢some (sym f ∙ ap (λ (ns : List (List ℕ)). find ns 0 w) split-words ∙ q)
+
+module _ (w : List ℕ) (i : ℕ) (f : find nodeWords 0 w ≡ some i) where
+  pub leaf-of : i < 11 → KeywordMeans w (keyword.Leaf i)
+  leaf-of l = ⊎-elim (λ x. x .1) (λ y. absurd (omega (arith, y .0))) (node-word w i f)
+
+  pub container-of : 11 ≤ i → KeywordMeans w (keyword.Container (i - 11))
+  container-of l = ⊎-elim (λ x. absurd (omega (arith, x .0))) (λ y. y .1) (node-word w i f)
+
+-- none of them is a keyword of Rust
+pub nodes-free : noKeywords nodeWords ≡ true
+unfolding listOf noKeywords isKeyword find same
+nodes-free = refl
