@@ -6,9 +6,14 @@ use Rattle.text.specs.Words.{words}
 
 abbrev pub lists : List (List (List ℕ))
 lists =
-    words ("tween" ∷ "spring" ∷ "keyframes" ∷ "path" ∷ "morph" ∷ "draw" ∷ "color" ∷ "waveform" ∷ "preset" ∷ "label" ∷ "at" ∷ "sequence" ∷ "parallel" ∷ "group" ∷ "stagger" ∷ [])
+    words ("tween" ∷ "spring" ∷ "keyframes" ∷ "path" ∷ "morph"
+    ∷ "draw" ∷ "color" ∷ "waveform" ∷ "preset" ∷ "label"
+    ∷ "at" ∷ "sequence" ∷ "parallel" ∷ "group" ∷ "stagger"
+    ∷ [])
     ∷ words ("duration" ∷ "easing" ∷ "delay" ∷ "time_scale" ∷ "loop" ∷ "snap" ∷ "round" ∷ "reverse" ∷ [])
-    ∷ words ("preset" ∷ "stiffness" ∷ "damping" ∷ "mass" ∷ "velocity" ∷ "epsilon" ∷ "integrator" ∷ "critically_damped" ∷ "overdamped" ∷ "underdamped" ∷ [])
+    ∷ words ("preset" ∷ "stiffness" ∷ "damping" ∷ "mass" ∷ "velocity"
+    ∷ "epsilon" ∷ "integrator" ∷ "critically_damped" ∷ "overdamped"
+    ∷ "underdamped" ∷ [])
     ∷ words ("frequency" ∷ "amplitude" ∷ "phase" ∷ "duty_cycle" ∷ "seed" ∷ "smoothness" ∷ "duration" ∷ [])
     ∷ words ("duration" ∷ "easing" ∷ [])
     ∷ words ("samples" ∷ "duration" ∷ "easing" ∷ [])

@@ -27,7 +27,11 @@ place-requires c κs = search needs
 
 -- src/lib.rt:67:17
 returns : tie.Need-returns
-returns c t w e = let m = rw (c .before .before .before .m .given .1) at (c .before .before .before .before .before .mark .ensures) in rw (m .is, row-none t w (place-none _ e (c .before .if1 .taken)), m .ready .head .place, c .place .ensures)
+returns c t w e =
+    let at-m = c .before .before .before in
+    let at-mark = at-m .before .before in
+    let m = rw (at-m .m .given .1) at (at-mark .mark .ensures) in
+    rw (m .is, row-none t w (place-none _ e (c .before .if1 .taken)), m .ready .head .place, c .place .ensures)
 
 -- src/lib.rt:59:1
 returns-2 : tie.Need-returns-2
@@ -41,6 +45,4 @@ returns-3 c t w e =
     record { row = f .row; is = f .is; took = record { is = rw (m .is, f .under); low = m .low; ready = m .ready } }
 
 pub after-name-spec : {M : Type 1} → statement M
-after-name-spec =
-    tie.close
-    (tie.spec mark-requires enum-known-p enum-known-m place-requires returns returns-2 returns-3)
+after-name-spec = tie.close (tie.spec mark-requires enum-known-p enum-known-m place-requires returns returns-2 returns-3)
