@@ -1,19 +1,19 @@
 -- Laws of words in lists: a word of a list at a cursor, and none.
-use Prim.Native.Nat.{ℕ, suc, _+_}
-use mathlib.Core.Bool.{Bool, true, false, not, cond, _&&_}
+use Prim.Native.Nat.{ℕ, suc}
+use mathlib.Core.Bool.{Bool, true, false, not, _&&_}
 use mathlib.Core.List.{List, [], _∷_}
 use mathlib.Core.Option.{Option, none, some}
-use mathlib.Core.Path.{_≡_, refl, sym, ap, _∙_, subst}
+use mathlib.Core.Path.{_≡_, refl, sym, ap, _∙_}
 use native.Mathlib.Omega.{arith}
 use Rattle.text.specs.Bytes.{same}
 use Rattle.text.specs.Words.{isSome, find}
-use Rattle.text.proofs.WordLaws.{same-eq, find-here, find-past}
-use Rattle.token.specs.Token.{Kind, name, number, quoted, mark, kind, place, isMark}
+use Rattle.text.proofs.WordLaws.{same-eq, find-past}
+use Rattle.token.specs.Token.{Kind, name, number, quoted, mark, kind, isMark}
 use Rattle.token.specs.Names.{isKeyword, unless, wordOf, nameOf}
-use Rattle.grammar.specs.Rule.{Rule, got, refused, word, seesName, choiceIn}
+use Rattle.grammar.specs.Rule.{refused, word, seesName, choiceIn}
 use Rattle.error.specs.declared.Refusal.{Refusal}
 use Rattle.error.specs.declared.Refusal.the-variants.{Missing}
-use Rattle.cursor.specs.Means.{Ready, notes, tokens, run, Took, Follows, placeIn, listedIn, noKeywords}
+use Rattle.cursor.specs.Means.{Ready, tokens, run, Took, Follows, placeIn, listedIn, noKeywords}
 use Rattle.cursor.specs.declared.Cursor.{Cursor}
 use Rattle.cursor.proofs.CursorLaws.{took}
 
@@ -49,7 +49,8 @@ free-word (n ∷ ns) j w i h e = go (same w n) refl (isKeyword n) refl h (λ g f
     go true q false z g ih = rw (same-eq w n q) z
     go false q false z g ih = ih g (sym (find-past w n ns j q) ∙ e)
 
-module _ {s : List ℕ} {c m : Cursor} (r : Ready s c) (f : Follows s c m) {ns : List (List ℕ)} {i : ℕ} (l : Listed ns (kind (tokens s c)) i) where
+module _ {s : List ℕ} {c m : Cursor} (r : Ready s c) (f : Follows s c m) {ns : List (List ℕ)} {i : ℕ}
+    (l : Listed ns (kind (tokens s c)) i) where
   pub took-listed : noKeywords ns ≡ true → Took 1 s c m word (c .at, l .word)
   took-listed h = took s c m r f word _ (rw (l .is)) (rw (l .is, free-word ns 0 (l .word) i h (l .found), r .head .place))
 
@@ -90,5 +91,6 @@ module _ {s : List ℕ} {c : Cursor} (r : Ready s c) where
       let u = unlisted-kind (kind (tokens s c)) ns e h in
       rw (u .1, u .2, f .rest, f .ready .head .place)
 
-  pub unlisted-other : (ns : List (List ℕ)) (q : Refusal) → seesName (tokens s c) ≡ false → run s c (choiceIn q ns) ≡ refused Missing (c .at)
+  pub unlisted-other : (ns : List (List ℕ)) (q : Refusal) → seesName (tokens s c) ≡ false
+      → run s c (choiceIn q ns) ≡ refused Missing (c .at)
   unlisted-other ns q h = rw (no-name (kind (tokens s c)) h, r .head .place)

@@ -1,10 +1,9 @@
 -- Laws of words as numbers: a word's number tells the word, and its place among a list's numbers is the word's place in the list.
 use Prim.Native.Nat.{ℕ, zero, suc, _+_, _*_, _-_, _^_, _%_, _≤_, _<_}
-use mathlib.Core.Bool.{Bool, true, false, _&&_, _||_, not, cond}
+use mathlib.Core.Bool.{Bool, true, false, _&&_, cond}
 use mathlib.Core.List.{List, [], _∷_}
-use mathlib.Core.Logic.{inl, inr}
 use mathlib.Core.Option.{Option, none, some}
-use mathlib.Core.Path.{_≡_, refl, sym, ap, _∙_, subst}
+use mathlib.Core.Path.{_≡_, refl, sym, ap, _∙_}
 use native.Mathlib.Omega.{arith}
 use lib.Dec.{eqb, ltb}
 use lib.ListN.{length, getD, take, drop, length-drop}
@@ -12,10 +11,9 @@ use lib.Seq.{drop-cons, drop-drop, getD-take, getD-drop, take-nil, take-take, le
 use native.Mathlib.Nat.{pow-suc, pow-le-pow-right, mul-assoc, one-mul, zero-add, mod-one, mod-lt, mod-eq-of-lt}
 use lib.Pow.{pow-add}
 use lib.Arith.{mod-mul, digits-div, digits-mod}
-use types.Run.{OneOf}
-use borrow.Author.Tests.{eqb-true, eq-eqb, ne-eqb, ltb-true}
+use borrow.Author.Tests.{eq-eqb, ne-eqb, ltb-true}
 use Rattle.text.specs.Bytes.{same, part}
-use Rattle.text.specs.Words.{words, find}
+use Rattle.text.specs.Words.{find}
 use Rattle.text.proofs.WordLaws.{same-eq, same-refl, find-here, find-past}
 use Rattle.words.specs.Keys.{onto, pack, packs, seek, placeIs}
 
@@ -123,7 +121,12 @@ onto-least (suc n) [] f h = absurd (omega arith)
 onto-least (suc n) (b ∷ w) f h =
     let y = onto 0 w in
     let k : b < 256 = f 0 (omega arith) in
-    rw (pow-suc, mod-mul (y * 256 + b) {m = 256 ^ n} {c = 256} (power-some n) (omega arith), digits-div y {m = 256} k, digits-mod y {m = 256} k)
+    rw (
+      pow-suc,
+      mod-mul (y * 256 + b) {m = 256 ^ n} {c = 256} (power-some n) (omega arith),
+      digits-div y {m = 256} k,
+      digits-mod y {m = 256} k,
+    )
     (least-more (y % 256 ^ n) (256 ^ n) (pack (take n w)) b (onto-least n w (bytes-tail b w f) (omega arith)))
 
 -- those and the others
@@ -177,7 +180,8 @@ module _ (s : List ℕ) (at n : ℕ) (h : at + n ≤ length s) where
   part-length = length-take-le n (drop at s) (omega (arith, length-drop at s))
 
   pub part-bytes : Bytes s → Bytes (part s at n)
-  part-bytes f = λ j l. let g : j < n = omega (arith, part-length) in rw (getD-take n (drop at s) j 0 g, getD-drop) (f (at + j) (omega arith))
+  part-bytes f =
+      λ j l. let g : j < n = omega (arith, part-length) in rw (getD-take n (drop at s) j 0 g, getD-drop) (f (at + j) (omega arith))
 
 -- the first n of 8 bytes
 pub least-part : (s : List ℕ) (at n v : ℕ) → at + 8 ≤ length s → n ≤ 7 → Bytes s → v ≡ onto 0 (part s at 8)
@@ -187,7 +191,8 @@ least-part s at n v h l f e =
     (onto-least n (part s at 8) (part-bytes s at 8 h f) (omega (arith, part-length s at 8 h)))
 
 -- 8 bytes and the others
-pub split-part : (s : List ℕ) (at n v rest : ℕ) → 8 ≤ n → at + n ≤ length s → v ≡ onto 0 (part s at 8) → rest ≡ pack (part s (at + 8) (n - 8))
+pub split-part : (s : List ℕ) (at n v rest : ℕ) → 8 ≤ n → at + n ≤ length s
+    → v ≡ onto 0 (part s at 8) → rest ≡ pack (part s (at + 8) (n - 8))
     → rest * 18446744073709551616 + v ≡ pack (part s at n)
 split-part s at n v rest l h e g =
     let k : n ≡ 8 + (n - 8) = omega arith in

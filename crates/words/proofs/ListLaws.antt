@@ -3,7 +3,7 @@ use Prim.Native.Nat.{ℕ, zero, suc, _+_, _*_, _%_, _/_, _≤_, _<_}
 use mathlib.Core.Bool.{Bool, true, false, _&&_, _||_, not, cond}
 use mathlib.Core.List.{List, [], _∷_}
 use mathlib.Core.Option.{none, some}
-use mathlib.Core.Path.{_≡_, refl, sym, ap, _∙_, subst}
+use mathlib.Core.Path.{_≡_, refl, sym, _∙_}
 use native.Mathlib.Omega.{arith}
 use native.Mathlib.Nat.{div-add-mod'}
 use lib.Arith.{digits-div, digits-mod}
@@ -12,7 +12,7 @@ use lib.ListN.{length, getD}
 use borrow.Author.Tests.{eqb-true, eq-eqb, ne-eqb, lt-ltb, le-ltb, leb-true}
 use Rattle.text.specs.Bytes.{same, oneOf}
 use Rattle.text.specs.Words.{find, shorter}
-use Rattle.text.proofs.WordLaws.{same-eq, same-refl, find-here, find-past, find-long}
+use Rattle.text.proofs.WordLaws.{same-eq, find-past, find-long}
 use Rattle.words.specs.Lists.{lists, listOf}
 use Rattle.words.specs.Keys.{pack, packs, keysOf, seek, placeIs}
 use Rattle.words.proofs.KeyLaws.{never, both, every, Bytes, allBytes, seek-find}
@@ -96,9 +96,12 @@ module _ (ms : List ℕ) (v rest : ℕ) (l : v < limb) where
       go : (a : Bool) → eqb rest (m / limb) ≡ a → r ≡ cond a i 255 → r ≡ seek ms 0 (rest * limb + v)
       go true q z = z ∙ (rw (eqb-true rest (m / limb) q, e, div-add-mod' m limb) (sym f))
       go false q z =
-          z ∙ sym (absent (alone m) ms 0 (rest * limb + v) h (rw (digits-mod rest {m = limb} l, digits-div rest {m = limb} l, q, sym e, eq-eqb v v refl)))
+          z
+          ∙ sym (absent (alone m) ms 0 (rest * limb + v) h
+          (rw (digits-mod rest {m = limb} l, digits-div rest {m = limb} l, q, sym e, eq-eqb v v refl)))
 
-  none-of-long : (ks : List ℕ) → every (longIn ks) ms ≡ true → oneOf ks v ≡ false → 1 ≤ rest → rest < limb → 255 ≡ seek ms 0 (rest * limb + v)
+  none-of-long : (ks : List ℕ) → every (longIn ks) ms ≡ true → oneOf ks v ≡ false
+      → 1 ≤ rest → rest < limb → 255 ≡ seek ms 0 (rest * limb + v)
   unfolding longIn
   none-of-long ks h e z b =
       sym (absent (longIn ks) ms 0 (rest * limb + v) h
@@ -181,7 +184,9 @@ unfoldable pub longestIs : List ℕ → List (List ℕ) → Bool
 longestIs u [] = true
 longestIs u (n ∷ ns) = (ltb (length n) 16 || same n u) && longestIs u ns
 
-lacks : (u : List ℕ) (ns : List (List ℕ)) (i : ℕ) (w : List ℕ) → longestIs u ns ≡ true → 16 ≤ length w → same w u ≡ false → find ns i w ≡ none
+lacks : (u : List ℕ) (ns : List (List ℕ)) (i : ℕ) (w : List ℕ)
+    → longestIs u ns ≡ true → 16 ≤ length w → same w u ≡ false
+    → find ns i w ≡ none
 unfolding longestIs find
 lacks u [] i w h l e = refl
 lacks u (n ∷ ns) i w h l e =

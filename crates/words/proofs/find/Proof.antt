@@ -1,8 +1,6 @@
 -- `words::find` meets its contract: a word is told by its length and its number.
-use mathlib.Core.Path.{_≡_, refl, sym, ap, _∙_}
 use native.Mathlib.Omega.{arith}
 use borrow.Author.Needs.{needs}
-use Rattle.words.specs.Lists.{listOf}
 use Rattle.words.proofs.KeyLaws.{pack-some, part-length, part-bytes, split-part}
 use Rattle.words.proofs.ListLaws.{key-found}
 use Rattle.words.proofs.find.Statement.{statement}
@@ -13,7 +11,8 @@ returns c =
     let at-known = c .before .before .before in
     let start = at-known .before in
     let args = start .args in
-    key-found (args .list) _ _ _ (part-bytes (args .text .now) (args .at) (args .n) (start .pre) (λ j l. omega (arith, at-known .shared-slice-known .given j)))
+    key-found (args .list) _ _ _
+    (part-bytes (args .text .now) (args .at) (args .n) (start .pre) (λ j l. omega (arith, at-known .shared-slice-known .given j)))
     (c .before .packed .ensures) (c .short .ensures)
 
 long-requires : tie.Need-long-requires
@@ -21,18 +20,19 @@ long-requires c κs = rw (c .packed2 .ensures) (pack-some _)
 
 returns-2 : tie.Need-returns-2
 returns-2 c =
-    let at-if1 = c .before .before .before .before in
-    let at-known = at-if1 .before in
+    let at-eight = c .before .before in
+    let at-known = at-eight .before .before .before in
     let start = at-known .before in
     let args = start .args in
-    key-found (args .list) _ _ _ (part-bytes (args .text .now) (args .at) (args .n) (start .pre) (λ j l. omega (arith, at-known .shared-slice-known .given j)))
-    (split-part (args .text .now) (args .at) (args .n) _ _ (omega arith) (start .pre) (c .before .before .eight .ensures) (c .before .packed2 .ensures))
+    key-found (args .list) _ _ _
+    (part-bytes (args .text .now) (args .at) (args .n) (start .pre) (λ j l. omega (arith, at-known .shared-slice-known .given j)))
+    (split-part (args .text .now) (args .at) (args .n) _ _ (omega arith) (start .pre) (at-eight .eight .ensures)
+    (c .before .packed2 .ensures))
     (c .long .ensures)
 
 longest-requires : tie.Need-longest-requires
 longest-requires c κs =
-    let at-if1 = c .before .before in
-    let start = at-if1 .before .before in
+    let start = c .before .before .before .before in
     let args = start .args in
     rw (c .part .ensures) (omega (arith, part-length (args .text .now) (args .at) (args .n) (start .pre)))
 
@@ -41,5 +41,5 @@ returns-3 c = rw (c .before .part .ensures) at (c .longest .ensures)
 
 pub find-spec : {M : Type 1} → statement M
 find-spec =
-    tie.close (tie.spec (λ c κs. search needs) (λ c κs. search needs) returns (λ c κs. search needs) (λ c. search needs) (λ c κs. search needs)
-    long-requires returns-2 (λ c κs. search needs) longest-requires returns-3)
+    tie.close (tie.spec (λ c κs. search needs) (λ c κs. search needs) returns (λ c κs. search needs) (λ c. search needs)
+    (λ c κs. search needs) long-requires returns-2 (λ c κs. search needs) longest-requires returns-3)

@@ -12,16 +12,22 @@ use Rattle.words.proofs.long_patterns.Tie as tie
 
 returns : tie.Need-returns
 unfolding listOf keysOf packs onto seek every alone
-returns c = long-at (keysOf 17) (c .before .before .args .v) (c .before .before .args .rest) (omega arith) (pack (bytes "center_out")) 2 _ (c .before .match .keys1) (c .if-equal .ensures) refl refl
+returns c =
+    let args = c .before .before .args in
+    long-at (keysOf 17) (args .v) (args .rest) (omega arith) (pack (bytes "center_out")) 2 _ (c .before .match .keys1)
+    (c .if-equal .ensures) refl refl
 
 returns-2 : tie.Need-returns-2
 unfolding listOf keysOf packs onto seek every alone
-returns-2 c = long-at (keysOf 17) (c .before .before .args .v) (c .before .before .args .rest) (omega arith) (pack (bytes "edges_in")) 3 _ (c .before .match .keys2) (c .if-equal2 .ensures) refl refl
+returns-2 c =
+    let args = c .before .before .args in
+    long-at (keysOf 17) (args .v) (args .rest) (omega arith) (pack (bytes "edges_in")) 3 _ (c .before .match .keys2) (c .if-equal2 .ensures)
+    refl refl
 
 returns-3 : tie.Need-returns-3
 unfolding listOf keysOf packs onto seek every oneOf longIn longs
-returns-3 c = no-long (keysOf 17) (c .before .args .v) (c .before .args .rest) (omega arith) refl (c .match .rest) (c .before .pre) (omega arith)
+returns-3 c =
+    no-long (keysOf 17) (c .before .args .v) (c .before .args .rest) (omega arith) refl (c .match .rest) (c .before .pre) (omega arith)
 
 pub long-patterns-spec : {M : Type 1} → statement M
-long-patterns-spec =
-    tie.close (tie.spec (λ c κs. search needs) (λ c κs. search needs) returns returns-2 returns-3)
+long-patterns-spec = tie.close (tie.spec (λ c κs. search needs) (λ c κs. search needs) returns returns-2 returns-3)

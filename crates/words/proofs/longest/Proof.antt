@@ -12,15 +12,25 @@ use Rattle.words.proofs.longest.Tie as tie
 
 returns : tie.Need-returns
 unfolding listOf longestIs find same
-returns c = let start = c .before .before .before .before in list-at _ 2 _ _ (c .before .before .match .keys1) (one-longest (listOf 2) (start .args .word .now) (bytes "critically_damped") 7 _ (c .if-word .ensures) (start .pre) refl refl (omega arith))
+returns c =
+    let at-match = c .before .before in
+    let start = at-match .before .before in
+    list-at _ 2 _ _ (at-match .match .keys1) (one-longest (listOf 2) (start .args .word .now) (bytes "critically_damped") 7 _
+    (c .if-word .ensures) (start .pre) refl refl (omega arith))
 
 returns-2 : tie.Need-returns-2
 unfolding listOf longestIs find same
-returns-2 c = let start = c .before .before .before .before in list-at _ 22 _ _ (c .before .before .match .keys2) (one-longest (listOf 22) (start .args .word .now) (bytes "semi_implicit_euler") 0 _ (c .if-word2 .ensures) (start .pre) refl refl (omega arith))
+returns-2 c =
+    let at-match = c .before .before in
+    let start = at-match .before .before in
+    list-at _ 22 _ _ (at-match .match .keys2) (one-longest (listOf 22) (start .args .word .now) (bytes "semi_implicit_euler") 0 _
+    (c .if-word2 .ensures) (start .pre) refl refl (omega arith))
 
 returns-3 : tie.Need-returns-3
 unfolding listOf everyList shorter oneOf
-returns-3 c = let start = c .before .before in no-longest (22 ∷ 2 ∷ []) (start .args .list) (c .match .rest) (start .args .word .now) refl (start .pre)
+returns-3 c =
+    let start = c .before .before in
+    no-longest (22 ∷ 2 ∷ []) (start .args .list) (c .match .rest) (start .args .word .now) refl (start .pre)
 
 pub longest-spec : {M : Type 1} → statement M
 longest-spec =

@@ -25,7 +25,10 @@ returns-4 c = by-number _ 3 _ _ (c .before .match .keys4) (c .short-waveform-row
 
 returns-5 : tie.Need-returns-5
 unfolding listOf keysOf packs onto seek every oneOf shortIn
-returns-5 c = by-number _ 4 _ _ (c .before .match .keys5) (c .if-equal .ensures ∙ one-key (keysOf 4) (c .before .before .args .v) (pack (bytes "easing")) 1 refl refl (omega arith))
+returns-5 c =
+    let start = c .before .before in
+    by-number _ 4 _ _ (c .before .match .keys5) (c .if-equal .ensures ∙ one-key (keysOf 4) (start .args .v) (pack (bytes "easing")) 1 refl
+    refl (omega arith))
 
 returns-6 : tie.Need-returns-6
 returns-6 c = by-number _ 5 _ _ (c .before .match .keys6) (c .short-morph-rows .ensures)
@@ -38,11 +41,17 @@ returns-8 c = by-number _ 7 _ _ (c .before .match .keys8) (c .short-path-rows .e
 
 returns-9 : tie.Need-returns-9
 unfolding listOf keysOf packs onto seek every oneOf shortIn
-returns-9 c = by-number _ 8 _ _ (c .before .match .keys9) (c .if-equal2 .ensures ∙ one-key (keysOf 8) (c .before .before .args .v) (pack (bytes "points")) 1 refl refl (omega arith))
+returns-9 c =
+    let start = c .before .before in
+    by-number _ 8 _ _ (c .before .match .keys9) (c .if-equal2 .ensures ∙ one-key (keysOf 8) (start .args .v) (pack (bytes "points")) 1 refl
+    refl (omega arith))
 
 returns-10 : tie.Need-returns-10
 unfolding listOf keysOf packs onto seek every oneOf shortIn
-returns-10 c = by-number _ 9 _ _ (c .before .match .keys10) (c .if-equal3 .ensures ∙ one-key (keysOf 9) (c .before .before .args .v) (pack (bytes "power")) 1 refl refl (omega arith))
+returns-10 c =
+    let start = c .before .before in
+    by-number _ 9 _ _ (c .before .match .keys10) (c .if-equal3 .ensures ∙ one-key (keysOf 9) (start .args .v) (pack (bytes "power")) 1 refl
+    refl (omega arith))
 
 returns-11 : tie.Need-returns-11
 returns-11 c = by-number _ 10 _ _ (c .before .match .keys11) (c .short-grid-fields .ensures)
@@ -73,18 +82,26 @@ returns-19 c = by-number _ 19 _ _ (c .before .match .keys19) (c .short-waveforms
 
 returns-20 : tie.Need-returns-20
 unfolding listOf keysOf packs onto seek every oneOf shortIn
-returns-20 c = by-number _ 20 _ _ (c .before .match .keys20) (c .if-equal4 .ensures ∙ one-key (keysOf 20) (c .before .before .args .v) (pack (bytes "along")) 0 refl refl (omega arith))
+returns-20 c =
+    let start = c .before .before in
+    by-number _ 20 _ _ (c .before .match .keys20) (c .if-equal4 .ensures ∙ one-key (keysOf 20) (start .args .v) (pack (bytes "along")) 0
+    refl refl (omega arith))
 
 returns-21 : tie.Need-returns-21
 returns-21 c = by-number _ 21 _ _ (c .before .match .keys21) (c .short-spring-presets .ensures)
 
 returns-22 : tie.Need-returns-22
 unfolding listOf keysOf packs onto seek every oneOf shortIn
-returns-22 c = by-number _ 22 _ _ (c .before .match .keys22) (c .if-equal5 .ensures ∙ one-key (keysOf 22) (c .before .before .args .v) (pack (bytes "rk4")) 1 refl refl (omega arith))
+returns-22 c =
+    let start = c .before .before in
+    by-number _ 22 _ _ (c .before .match .keys22) (c .if-equal5 .ensures ∙ one-key (keysOf 22) (start .args .v) (pack (bytes "rk4")) 1 refl
+    refl (omega arith))
 
 returns-23 : tie.Need-returns-23
 unfolding listOf packs onto every oneOf shortIn noShort everyList
-returns-23 c = no-short (22 ∷ 21 ∷ 20 ∷ 19 ∷ 18 ∷ 17 ∷ 16 ∷ 14 ∷ 13 ∷ 12 ∷ 11 ∷ 10 ∷ 9 ∷ 8 ∷ 7 ∷ 6 ∷ 5 ∷ 4 ∷ 3 ∷ 2 ∷ 1 ∷ 0 ∷ []) (c .before .args .list) (c .match .rest) (c .before .args .v) refl (omega arith)
+returns-23 c =
+    no-short (22 ∷ 21 ∷ 20 ∷ 19 ∷ 18 ∷ 17 ∷ 16 ∷ 14 ∷ 13 ∷ 12 ∷ 11 ∷ 10 ∷ 9 ∷ 8 ∷ 7 ∷ 6 ∷ 5 ∷ 4 ∷ 3 ∷ 2 ∷ 1 ∷ 0 ∷ [])
+    (c .before .args .list) (c .match .rest) (c .before .args .v) refl (omega arith)
 
 pub short-spec : {M : Type 1} → statement M
 short-spec =

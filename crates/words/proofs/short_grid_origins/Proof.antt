@@ -34,5 +34,4 @@ unfolding listOf keysOf packs onto seek every oneOf shortIn shorts
 returns-6 c = no-key (keysOf 16) (c .before .args .v) refl (c .match .rest) (omega arith)
 
 pub short-grid-origins-spec : {M : Type 1} → statement M
-short-grid-origins-spec =
-    tie.close (tie.spec returns returns-2 returns-3 returns-4 returns-5 returns-6)
+short-grid-origins-spec = tie.close (tie.spec returns returns-2 returns-3 returns-4 returns-5 returns-6)

@@ -38,5 +38,4 @@ unfolding listOf keysOf packs onto seek every oneOf shortIn shorts
 returns-7 c = no-key (keysOf 1) (c .before .args .v) refl (c .match .rest) (omega arith)
 
 pub short-tween-rows-spec : {M : Type 1} → statement M
-short-tween-rows-spec =
-    tie.close (tie.spec returns returns-2 returns-3 returns-4 returns-5 returns-6 returns-7)
+short-tween-rows-spec = tie.close (tie.spec returns returns-2 returns-3 returns-4 returns-5 returns-6 returns-7)

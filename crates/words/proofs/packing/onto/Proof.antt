@@ -1,10 +1,10 @@
 -- `words::packing::onto` meets its contract; the last n - k bytes are packed.
 use Prim.Native.Nat.{_+_, _-_, _^_, _≤_, _<_}
-use mathlib.Core.Path.{_≡_, refl, sym, ap, _∙_}
+use mathlib.Core.Path.{_≡_, sym}
 use native.Mathlib.Nat.{sub-self, sub-zero, add-zero}
 use native.Mathlib.Omega.{arith}
 use borrow.Author.Needs.{needs}
-use lib.ListN.{length, getD}
+use lib.ListN.{getD}
 use Rattle.text.specs.Bytes.{part}
 use Rattle.words.specs.Keys.{onto}
 use Rattle.words.proofs.KeyLaws.{onto-end, onto-more, onto-room, onto-fits}
@@ -29,27 +29,31 @@ mul-v c =
 
 cast-v : tie.Need-cast-v Inv-loop μ-loop
 cast-v c =
-    let loop = c .before .before .loop in
-    let args = c .before .before .before .args in
+    let at-loop = c .before .before in
+    let loop = at-loop .loop in
+    let args = at-loop .before .args in
     omega (arith, c .shared-slice-known .given (args .at + (loop .k - 1)))
 
 add-v-2 : tie.Need-add-v-2 Inv-loop μ-loop
 add-v-2 c =
-    let loop = c .before .before .loop in
-    let args = c .before .before .before .args in
+    let at-loop = c .before .before in
+    let loop = at-loop .loop in
+    let args = at-loop .before .args in
     omega
     (arith, onto-room (loop .v) (loop .k) (omega arith) (loop .inv .1), c .shared-slice-known .given (args .at + (loop .k - 1)))
 
 loop-again : tie.Need-loop-again Inv-loop μ-loop
 loop-again c =
-    let loop = c .before .before .loop in
-    let start = c .before .before .before in
+    let at-loop = c .before .before in
+    let loop = at-loop .loop in
+    let start = at-loop .before in
     let args = start .args in
     let s = args .text .now in
     let b : getD s (args .at + (loop .k - 1)) 0 < 256 = omega (arith, c .shared-slice-known .given (args .at + (loop .k - 1))) in (
       omega arith,
       onto-fits (loop .v) (loop .k) (omega arith) (loop .inv .1) _ b (omega (arith, start .pre)),
-      rw (sym (loop .inv .2)) at (sym (onto-more (args .top) s (args .at) (args .n) (loop .k) (omega arith) (loop .inv .0) (start .pre .0))),
+      rw (sym (loop .inv .2))
+          at (sym (onto-more (args .top) s (args .at) (args .n) (loop .k) (omega arith) (loop .inv .0) (start .pre .0))),
     )
 
 returns : tie.Need-returns Inv-loop μ-loop

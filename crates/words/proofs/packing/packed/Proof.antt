@@ -20,7 +20,8 @@ returns-2 c =
     let start = at-known .before in
     let args = start .args in
     c .least .ensures
-    ∙ least-part (args .text .now) (args .at) (args .n) _ (omega arith) (start .pre .1) (λ j l. omega (arith, at-known .shared-slice-known .given j))
+    ∙ least-part (args .text .now) (args .at) (args .n) _ (omega arith) (start .pre .1)
+    (λ j l. omega (arith, at-known .shared-slice-known .given j))
     (c .before .eight .ensures)
 
 pub packed-spec : {M : Type 1} → statement M
