@@ -11,20 +11,8 @@ use Rattle.blocks.proofs.BeginLaws.{from-keyword}
 use Rattle.blocks.proofs.begin_node.Statement.{statement}
 use Rattle.blocks.proofs.begin_node.Tie as tie
 
-listed-requires : tie.Need-listed-requires
-listed-requires c κs = search needs
-
-no-node-requires : tie.Need-no-node-requires
-no-node-requires c κs = search needs
-
 returns : tie.Need-returns
 returns c = c .no-node .ensures _ _ _ (place-none _ (c .before .before .listed .ensures) (c .before .if1 .taken))
-
-place-requires : tie.Need-place-requires
-place-requires c κs = search needs
-
-advance-requires : tie.Need-advance-requires
-advance-requires c κs = search needs
 
 begin-word-requires : tie.Need-begin-word-requires
 begin-word-requires c κs =
@@ -35,9 +23,6 @@ begin-word-requires c κs =
     (place-some _ (at-listed .listed .ensures) (at-if1 .if1 .left))
     in
     (c .advance .ensures .ready, start .pre .1, (l .word, l .found))
-
-same-length : tie.Need-same-length
-same-length c = search needs
 
 returns-2 : tie.Need-returns-2
 returns-2 c =
@@ -65,4 +50,5 @@ returns-2 c =
 
 pub begin-node-spec : {M : Type 1} → statement M
 begin-node-spec =
-    tie.close (tie.spec listed-requires no-node-requires returns place-requires advance-requires begin-word-requires same-length returns-2)
+    tie.close (tie.spec (λ c κs. search needs) (λ c κs. search needs) returns (λ c κs. search needs) (λ c κs. search needs)
+    begin-word-requires (λ c. search needs) returns-2)

@@ -8,11 +8,8 @@ use Rattle.blocks.proofs.keyword_of.Tie as tie
 returns : tie.Need-returns
 returns c w e = leaf-of w _ e (c .if1 .taken)
 
-sub-t5 : tie.Need-sub-t5
-sub-t5 c = search needs
-
 returns-2 : tie.Need-returns-2
 returns-2 c w e = container-of w _ e (omega arith)
 
 pub keyword-of-spec : {M : Type 1} → statement M
-keyword-of-spec = tie.close (tie.spec returns sub-t5 returns-2)
+keyword-of-spec = tie.close (tie.spec returns (λ c. search needs) returns-2)

@@ -5,15 +5,6 @@ use borrow.Author.Needs.{needs}
 use Rattle.blocks.proofs.no_node.Statement.{statement}
 use Rattle.blocks.proofs.no_node.Tie as tie
 
-sees-name-requires : tie.Need-sees-name-requires
-sees-name-requires c κs = search needs
-
-advance-requires : tie.Need-advance-requires
-advance-requires c κs = search needs
-
-place-requires : tie.Need-place-requires
-place-requires c κs = search needs
-
 returns : tie.Need-returns
 returns c b a out e blk =
     let at-if1 = c .before .before in
@@ -22,9 +13,6 @@ returns c b a out e blk =
     rw (c .place .ensures)
     (unknown-node (start .pre) (c .before .advance .ensures) e (sym (at-sees-name .sees-name .ensures) ∙ at-if1 .if1 .taken) blk)
 
-place-requires-2 : tie.Need-place-requires-2
-place-requires-2 c κs = search needs
-
 returns-2 : tie.Need-returns-2
 returns-2 c b a out e blk =
     let at-sees-name = c .before .before in
@@ -32,4 +20,5 @@ returns-2 c b a out e blk =
     rw (c .place2 .ensures) (no-name-there (start .pre) (sym (at-sees-name .sees-name .ensures) ∙ c .before .if1 .left) blk)
 
 pub no-node-spec : {M : Type 1} → statement M
-no-node-spec = tie.close (tie.spec sees-name-requires advance-requires place-requires returns place-requires-2 returns-2)
+no-node-spec =
+    tie.close (tie.spec (λ c κs. search needs) (λ c κs. search needs) (λ c κs. search needs) returns (λ c κs. search needs) returns-2)

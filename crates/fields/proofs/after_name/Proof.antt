@@ -6,18 +6,6 @@ use borrow.Author.Needs.{needs}
 use Rattle.fields.proofs.after_name.Statement.{statement}
 use Rattle.fields.proofs.after_name.Tie as tie
 
-mark-requires : tie.Need-mark-requires
-mark-requires c κs = search needs
-
-enum-known-p : tie.Need-enum-known-p
-enum-known-p c = search needs
-
-enum-known-m : tie.Need-enum-known-m
-enum-known-m c = search needs
-
-place-requires : tie.Need-place-requires
-place-requires c κs = search needs
-
 returns : tie.Need-returns
 returns c t w e =
     let at-m = c .before .before .before in
@@ -35,4 +23,5 @@ returns-3 c t w e =
     record { row = f .row; is = f .is; took = record { is = rw (m .is, f .under); low = m .low; ready = m .ready } }
 
 pub after-name-spec : {M : Type 1} → statement M
-after-name-spec = tie.close (tie.spec mark-requires enum-known-p enum-known-m place-requires returns returns-2 returns-3)
+after-name-spec =
+    tie.close (tie.spec (λ c κs. search needs) (λ c. search needs) (λ c. search needs) (λ c κs. search needs) returns returns-2 returns-3)

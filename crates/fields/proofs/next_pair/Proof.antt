@@ -9,9 +9,6 @@ use borrow.Author.Needs.{needs}
 use Rattle.fields.proofs.next_pair.Statement.{statement}
 use Rattle.fields.proofs.next_pair.Tie as tie
 
-ends-requires : tie.Need-ends-requires
-ends-requires c κs = search needs
-
 returns : tie.Need-returns
 returns c t e =
     let start = c .before .before .before in (
@@ -19,12 +16,6 @@ returns c t e =
       pairs-end (start .args .text .now) t (start .args .c) (start .pre .0)
           (sym (c .before .ends .ensures (start .args .text .now) (start .pre .0)) ∙ c .if1 .taken),
     )
-
-listed-requires : tie.Need-listed-requires
-listed-requires c κs = search needs
-
-unlisted-requires : tie.Need-unlisted-requires
-unlisted-requires c κs = search needs
 
 returns-2 : tie.Need-returns-2
 returns-2 c t e =
@@ -42,12 +33,6 @@ returns-2 c t e =
     (c .unlisted .result)
     (c .unlisted .ensures t n)
 
-advance-requires : tie.Need-advance-requires
-advance-requires c κs = search needs
-
-after-name-requires : tie.Need-after-name-requires
-after-name-requires c κs = search needs
-
 returns-3 : tie.Need-returns-3
 returns-3 c t e =
     let at-if2 = c .before .before in
@@ -64,4 +49,5 @@ returns-3 c t e =
 
 pub next-pair-spec : {M : Type 1} → statement M
 next-pair-spec =
-    tie.close (tie.spec ends-requires returns listed-requires unlisted-requires returns-2 advance-requires after-name-requires returns-3)
+    tie.close (tie.spec (λ c κs. search needs) returns (λ c κs. search needs) (λ c κs. search needs) returns-2 (λ c κs. search needs)
+    (λ c κs. search needs) returns-3)

@@ -11,21 +11,6 @@ use borrow.Author.Needs.{needs}
 use Rattle.fields.proofs.start_field.Statement.{statement}
 use Rattle.fields.proofs.start_field.Tie as tie
 
-listed-requires : tie.Need-listed-requires
-listed-requires c κs = search needs
-
-slice-aggregate-sees-word : tie.Need-slice-aggregate-sees-word
-slice-aggregate-sees-word c = search needs
-
-sees-word-requires : tie.Need-sees-word-requires
-sees-word-requires c κs = search needs
-
-advance-requires : tie.Need-advance-requires
-advance-requires c κs = search needs
-
-after-name-requires : tie.Need-after-name-requires
-after-name-requires c κs = search needs
-
 returns : tie.Need-returns
 returns c t e =
     let at-if2 = c .before .before in
@@ -38,9 +23,6 @@ returns c t e =
     started t (c .after-name .result) (took-loop (start-2 .pre) (c .before .advance .ensures) l)
     (c .after-name .ensures t _ (none-place (loop-unlisted (names t) (tokens (start-2 .args .text .now) (start-2 .args .c)) n l)))
 
-unlisted-requires : tie.Need-unlisted-requires
-unlisted-requires c κs = search needs
-
 returns-2 : tie.Need-returns-2
 returns-2 c t e =
     let at-sees-word = c .before .before in
@@ -50,12 +32,6 @@ returns-2 c t e =
     let n = rw (sym e) at (place-none _ (at-listed .listed .ensures) (at-if1 .if1 .taken)) in
     plain-start (args .text .now) (args .c) t (c .unlisted .result) (sym (at-sees-word .sees-word .ensures) ∙ c .before .if2 .left)
     (c .unlisted .ensures t n)
-
-advance-requires-2 : tie.Need-advance-requires-2
-advance-requires-2 c κs = search needs
-
-after-name-requires-2 : tie.Need-after-name-requires-2
-after-name-requires-2 c κs = search needs
 
 returns-3 : tie.Need-returns-3
 returns-3 c t e =
@@ -68,5 +44,5 @@ returns-3 c t e =
 
 pub start-field-spec : {M : Type 1} → statement M
 start-field-spec =
-    tie.close (tie.spec listed-requires slice-aggregate-sees-word sees-word-requires advance-requires after-name-requires returns
-    unlisted-requires returns-2 advance-requires-2 after-name-requires-2 returns-3)
+    tie.close (tie.spec (λ c κs. search needs) (λ c. search needs) (λ c κs. search needs) (λ c κs. search needs) (λ c κs. search needs)
+    returns (λ c κs. search needs) returns-2 (λ c κs. search needs) (λ c κs. search needs) returns-3)

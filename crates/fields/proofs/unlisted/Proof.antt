@@ -8,15 +8,6 @@ use borrow.Author.Needs.{needs}
 use Rattle.fields.proofs.unlisted.Statement.{statement}
 use Rattle.fields.proofs.unlisted.Tie as tie
 
-sees-name-requires : tie.Need-sees-name-requires
-sees-name-requires c κs = search needs
-
-advance-requires : tie.Need-advance-requires
-advance-requires c κs = search needs
-
-after-name-requires : tie.Need-after-name-requires
-after-name-requires c κs = search needs
-
 returns : tie.Need-returns
 returns c t e =
     let at-if1 = c .before .before in
@@ -26,9 +17,6 @@ returns c t e =
     (sym (at-sees-name .sees-name .ensures) ∙ at-if1 .if1 .taken)
     in
     started t (c .after-name .result) (u .1) (c .after-name .ensures t (u .0) (none-place (u .2)))
-
-place-requires : tie.Need-place-requires
-place-requires c κs = search needs
 
 returns-2 : tie.Need-returns-2
 returns-2 c t e =
@@ -40,4 +28,5 @@ returns-2 c t e =
     (no-plain (args .text .now) (args .c) (start .pre) (sym (at-sees-name .sees-name .ensures) ∙ c .before .if1 .left)))
 
 pub unlisted-spec : {M : Type 1} → statement M
-unlisted-spec = tie.close (tie.spec sees-name-requires advance-requires after-name-requires returns place-requires returns-2)
+unlisted-spec =
+    tie.close (tie.spec (λ c κs. search needs) (λ c κs. search needs) (λ c κs. search needs) returns (λ c κs. search needs) returns-2)

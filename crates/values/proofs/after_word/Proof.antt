@@ -8,12 +8,6 @@ use borrow.Author.Needs.{needs}
 use Rattle.values.proofs.after_word.Statement.{statement}
 use Rattle.values.proofs.after_word.Tie as tie
 
-find-requires : tie.Need-find-requires
-find-requires c κs = search needs
-
-named-easing-requires : tie.Need-named-easing-requires
-named-easing-requires c κs = search needs
-
 returns : tie.Need-returns
 unfolding curves listOf
 returns c =
@@ -21,12 +15,6 @@ returns c =
     let args = at-find .before .before .args in
     let u = under-none curves _ (place-none _ (at-find .find .ensures) (c .before .if1 .taken)) in
     no-curve (args .text .now) (args .c) _ (c .named-easing .result) u (c .named-easing .ensures)
-
-cast-curve : tie.Need-cast-curve
-cast-curve c = search needs
-
-curve-requires : tie.Need-curve-requires
-curve-requires c κs = search needs
 
 returns-2 : tie.Need-returns-2
 unfolding curves listOf
@@ -37,4 +25,5 @@ returns-2 c =
     some-curve (args .text .now) (args .c) _ (u .row .1) (c .curve .result) (u .under) (c .curve .ensures (u .row) (u .is))
 
 pub after-word-spec : {M : Type 1} → statement M
-after-word-spec = tie.close (tie.spec find-requires named-easing-requires returns cast-curve curve-requires returns-2)
+after-word-spec =
+    tie.close (tie.spec (λ c κs. search needs) (λ c κs. search needs) returns (λ c. search needs) (λ c κs. search needs) returns-2)

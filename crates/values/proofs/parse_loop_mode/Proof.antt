@@ -9,20 +9,8 @@ use borrow.Author.Needs.{needs}
 use Rattle.values.proofs.parse_loop_mode.Statement.{statement}
 use Rattle.values.proofs.parse_loop_mode.Tie as tie
 
-word-requires : tie.Need-word-requires
-word-requires c κs = search needs
-
-enum-known-p : tie.Need-enum-known-p
-enum-known-p c = search needs
-
-enum-known-name : tie.Need-enum-known-name
-enum-known-name c = search needs
-
 find-requires : tie.Need-find-requires
 find-requires c κs = (rw (c .before .name .given .1) at (c .before .before .before .word .ensures)) .1
-
-place-requires : tie.Need-place-requires
-place-requires c κs = search needs
 
 returns : tie.Need-returns
 unfolding parseLoopMode loopModes listOf
@@ -32,9 +20,6 @@ returns c =
     let w = rw (at-name .name .given .1) at (at-word .word .ensures) in
     let u = under-none loopModes _ (place-none _ (c .before .before .find .ensures) (c .before .if1 .taken)) in
     rw (w .0 .is, u, w .0 .ready .head .place, c .place .ensures)
-
-cast-mode : tie.Need-cast-mode
-cast-mode c = search needs
 
 mode-requires : tie.Need-mode-requires
 mode-requires c κs =
@@ -59,5 +44,5 @@ returns-3 c =
 
 pub parse-loop-mode-spec : {M : Type 1} → statement M
 parse-loop-mode-spec =
-    tie.close (tie.spec word-requires enum-known-p enum-known-name find-requires place-requires returns cast-mode mode-requires returns-2
-    returns-3)
+    tie.close (tie.spec (λ c κs. search needs) (λ c. search needs) (λ c. search needs) find-requires (λ c κs. search needs) returns
+    (λ c. search needs) mode-requires returns-2 returns-3)
