@@ -1,7 +1,7 @@
 #!/usr/bin/env python3
 """Writes the lists of the grammar's words as code: crates/words/src/lib.rt, the definition specs/Lists.antt and the proofs of the
 its functions. With --check it says which of these files are not what it writes. Run from the repository's root."""
-import glob, os, sys
+import os, re, sys
 
 LISTS = {
     "NODES": "tween spring keyframes path morph draw color waveform preset label at sequence parallel group stagger",
@@ -185,8 +185,19 @@ pub fn find(list: u8, text: &[u8], at: usize, n: usize) -> u8
 """
 
 
+def joined(names):
+    """Words of a list, in lines of at most 120 characters."""
+    rows = [names[0]]
+    for name in [*names[1:], "[]"]:
+        if len(rows[-1]) + len(name) > 100:
+            rows.append(f"∷ {name}")
+        else:
+            rows[-1] += f" ∷ {name}"
+    return "\n    ".join(rows)
+
+
 def definition():
-    rows = "\n    ∷ ".join("words (" + " ∷ ".join(f'"{w}"' for w in l.words) + " ∷ [])" for l in ALL)
+    rows = "\n    ∷ ".join("words (" + joined([f'"{w}"' for w in l.words]) + ")" for l in ALL)
     return f"""-- Made by tools/words.py. The lists of the grammar's words, by their numbers.
 use Prim.Native.Nat.{{ℕ}}
 use mathlib.Core.List.{{List, [], _∷_}}
@@ -222,16 +233,29 @@ def proof(function, about, uses, answers, calls):
         "",
     ]
     for k, (unfolding, term) in enumerate(answers, 1):
-        lines += [f"{number_of(k)} : tie.Need-{number_of(k)}", *([f"unfolding {unfolding}"] if unfolding else []), f"{number_of(k)} c = {term}", ""]
-    lines += [f"pub {spec} : {{M : Type 1}} → statement M", f"{spec} ="]
-    words, row = ["tie.close", "(tie.spec"] + (calls if isinstance(calls, list) else ["(λ c κs. search needs)"] * calls) + [number_of(k) for k in range(1, len(answers) + 1)], "   "
-    words[-1] += ")"
-    for word in words:
-        if len(row) + 1 + len(word) > 140:
+        lines += [f"{number_of(k)} : tie.Need-{number_of(k)}", *([f"unfolding {unfolding}"] if unfolding else []), *laid(f"{number_of(k)} c =", term), ""]
+    lines += [f"pub {spec} : {{M : Type 1}} → statement M"]
+    parts = (calls if isinstance(calls, list) else ["(λ c κs. search needs)"] * calls) + [number_of(k) for k in range(1, len(answers) + 1)]
+    parts[-1] += ")"
+    return "\n".join(lines + laid(f"{spec} =", ["tie.close", "(tie.spec", *parts])) + "\n"
+
+
+def laid(head, term):
+    """A clause in lines of at most 140 characters: on one line, or its `let`s and then its words."""
+    if isinstance(term, str):
+        *lets, term = term.split(" in ")
+        parts = re.findall(r"\([^()]*\)\)*|[^ ]+", term)
+    else:
+        lets, parts = [], term
+    if not lets and len(f"{head} {' '.join(parts)}") <= 140:
+        return [f"{head} {' '.join(parts)}"]
+    lines, row = [head, *(f"    {bound} in" for bound in lets)], "   "
+    for part in parts:
+        if len(row) + 1 + len(part) > 140:
             lines.append(row)
             row = "   "
-        row += " " + word
-    return "\n".join(lines + [row]) + "\n"
+        row += " " + part
+    return lines + [row]
 
 
 KEYS = "use Rattle.words.specs.Lists.{listOf}\nuse Rattle.words.specs.Keys.{%s}"
@@ -256,7 +280,7 @@ def long_proof(l):
     answers = [
         (
             f"{TABLE} every alone",
-            f'long-at (keysOf {l.number}) (c .before .before .args .v) (c .before .before .args .rest) (omega arith) (pack (bytes "{w}")) {i} _'
+            f'let args = c .before .before .args in long-at (keysOf {l.number}) (args .v) (args .rest) (omega arith) (pack (bytes "{w}")) {i} _'
             f" (c .before .match .keys{k}) (c .if-equal{k if k > 1 else ''} .ensures) refl refl",
         )
         for k, (i, w) in enumerate(l.long, 1)
@@ -294,8 +318,8 @@ def any_short_proof():
             answers.append(("", f"{front} (c .short-{l.name.lower().replace('_', '-')} .ensures)"))
             continue
         ones, (i, w) = ones + 1, l.short[0]
-        one = f'one-key (keysOf {l.number}) (c .before .before .args .v) (pack (bytes "{w}")) {i} refl refl (omega arith)'
-        answers.append((f"{TABLE} every oneOf shortIn", f"{front} (c .{call('if-equal', ones)} .ensures ∙ {one})"))
+        one = f'one-key (keysOf {l.number}) (start .args .v) (pack (bytes "{w}")) {i} refl refl (omega arith)'
+        answers.append((f"{TABLE} every oneOf shortIn", f"let start = c .before .before in {front} (c .{call('if-equal', ones)} .ensures ∙ {one})"))
     none = f"no-short ({numbers(rows)}) (c .before .args .list) (c .match .rest) (c .before .args .v) refl (omega arith)"
     answers.append(("listOf packs onto every oneOf shortIn noShort everyList", none))
     uses = [
@@ -325,8 +349,8 @@ def any_long_proof():
         ))
     answers.append((
         "listOf packs onto every oneOf longIn noLong everyList",
-        f"let args = c .before .args in no-long-word ({numbers(rows)}) (args .list) (c .match .rest) (args .v) (args .rest) refl (omega arith) (c .before .pre)"
-        " (omega arith)",
+        f"let start = c .before in let args = start .args in no-long-word ({numbers(rows)}) (args .list) (c .match .rest) (args .v) (args .rest) refl"
+        " (omega arith) (start .pre) (omega arith)",
     ))
     uses = [
         "use mathlib.Core.List.{[], _∷_}",
@@ -346,7 +370,7 @@ def any_longest_proof():
         i, w = l.longest[0]
         answers.append((
             "listOf longestIs find same",
-            f'let start = c .before .before .before .before in list-at _ {l.number} _ _ (c .before .before .match .keys{k}) (one-longest (listOf {l.number})'
+            f'let at-match = c .before .before in let start = at-match .before .before in list-at _ {l.number} _ _ (at-match .match .keys{k}) (one-longest (listOf {l.number})'
             f" (start .args .word .now) (bytes \"{w}\") {i} _ (c .{call('if-word', k)} .ensures) (start .pre) refl refl (omega arith))",
         ))
     answers.append((

@@ -1,5 +1,5 @@
 -- Laws of lists of fields, whatever their table.
-use Prim.Native.Nat.{ℕ, zero, suc, _+_, _≤_, _<_, _-_}
+use Prim.Native.Nat.{ℕ, zero, suc, _+_, _≤_, _<_}
 use Prim.Native.String.{String}
 use mathlib.Core.Bool.{Bool, true, false, not, _&&_, _||_}
 use mathlib.Core.List.{List, [], _∷_}
@@ -7,8 +7,8 @@ use mathlib.Core.Option.{Option, none, some, Option·some-injective}
 use mathlib.Core.Path.{_≡_, refl, sym, ap, _∙_, subst}
 use native.Mathlib.Omega.{arith}
 use lib.Dec.{eqb}
-use lib.ListN.{length, take, drop, getElem?}
-use Rattle.text.specs.Bytes.{bytes, same, oneOf, part}
+use lib.ListN.{length, getElem?}
+use Rattle.text.specs.Bytes.{bytes, same, oneOf}
 use Rattle.text.specs.Words.{find}
 use Rattle.text.proofs.WordLaws.{find-here, find-past, same-eq}
 use Rattle.token.specs.Token.{Kind, name, number, quoted, mark, Token, kind, isMark}

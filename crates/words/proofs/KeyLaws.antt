@@ -1,10 +1,9 @@
 -- Laws of words as numbers: a word's number tells the word, and its place among a list's numbers is the word's place in the list.
 use Prim.Native.Nat.{ℕ, zero, suc, _+_, _*_, _-_, _^_, _%_, _≤_, _<_}
-use mathlib.Core.Bool.{Bool, true, false, _&&_, _||_, not, cond}
+use mathlib.Core.Bool.{Bool, true, false, _&&_, cond}
 use mathlib.Core.List.{List, [], _∷_}
-use mathlib.Core.Logic.{inl, inr}
 use mathlib.Core.Option.{Option, none, some}
-use mathlib.Core.Path.{_≡_, refl, sym, ap, _∙_, subst}
+use mathlib.Core.Path.{_≡_, refl, sym, ap, _∙_}
 use native.Mathlib.Omega.{arith}
 use lib.Dec.{eqb, ltb}
 use lib.ListN.{length, getD, take, drop, length-drop}
@@ -12,10 +11,9 @@ use lib.Seq.{drop-cons, drop-drop, getD-take, getD-drop, take-nil, take-take, le
 use native.Mathlib.Nat.{pow-suc, pow-le-pow-right, mul-assoc, one-mul, zero-add, mod-one, mod-lt, mod-eq-of-lt}
 use lib.Pow.{pow-add}
 use lib.Arith.{mod-mul, digits-div, digits-mod}
-use types.Run.{OneOf}
-use borrow.Author.Tests.{eqb-true, eq-eqb, ne-eqb, ltb-true}
+use borrow.Author.Tests.{eq-eqb, ne-eqb, ltb-true}
 use Rattle.text.specs.Bytes.{same, part}
-use Rattle.text.specs.Words.{words, find}
+use Rattle.text.specs.Words.{find}
 use Rattle.text.proofs.WordLaws.{same-eq, same-refl, find-here, find-past}
 use Rattle.words.specs.Keys.{onto, pack, packs, seek, placeIs}
 

@@ -3,7 +3,7 @@ use Prim.Native.Nat.{ℕ, zero, suc, _+_, _*_, _%_, _/_, _≤_, _<_}
 use mathlib.Core.Bool.{Bool, true, false, _&&_, _||_, not, cond}
 use mathlib.Core.List.{List, [], _∷_}
 use mathlib.Core.Option.{none, some}
-use mathlib.Core.Path.{_≡_, refl, sym, ap, _∙_, subst}
+use mathlib.Core.Path.{_≡_, refl, sym, _∙_}
 use native.Mathlib.Omega.{arith}
 use native.Mathlib.Nat.{div-add-mod'}
 use lib.Arith.{digits-div, digits-mod}
@@ -12,7 +12,7 @@ use lib.ListN.{length, getD}
 use borrow.Author.Tests.{eqb-true, eq-eqb, ne-eqb, lt-ltb, le-ltb, leb-true}
 use Rattle.text.specs.Bytes.{same, oneOf}
 use Rattle.text.specs.Words.{find, shorter}
-use Rattle.text.proofs.WordLaws.{same-eq, same-refl, find-here, find-past, find-long}
+use Rattle.text.proofs.WordLaws.{same-eq, find-past, find-long}
 use Rattle.words.specs.Lists.{lists, listOf}
 use Rattle.words.specs.Keys.{pack, packs, keysOf, seek, placeIs}
 use Rattle.words.proofs.KeyLaws.{never, both, every, Bytes, allBytes, seek-find}

@@ -6,14 +6,11 @@ use Rattle.text.specs.Words.{words}
 
 abbrev pub lists : List (List (List ℕ))
 lists =
-    words ("tween" ∷ "spring" ∷ "keyframes" ∷ "path" ∷ "morph"
-    ∷ "draw" ∷ "color" ∷ "waveform" ∷ "preset" ∷ "label"
-    ∷ "at" ∷ "sequence" ∷ "parallel" ∷ "group" ∷ "stagger"
-    ∷ [])
+    words ("tween" ∷ "spring" ∷ "keyframes" ∷ "path" ∷ "morph" ∷ "draw" ∷ "color" ∷ "waveform" ∷ "preset"
+    ∷ "label" ∷ "at" ∷ "sequence" ∷ "parallel" ∷ "group" ∷ "stagger" ∷ [])
     ∷ words ("duration" ∷ "easing" ∷ "delay" ∷ "time_scale" ∷ "loop" ∷ "snap" ∷ "round" ∷ "reverse" ∷ [])
-    ∷ words ("preset" ∷ "stiffness" ∷ "damping" ∷ "mass" ∷ "velocity"
-    ∷ "epsilon" ∷ "integrator" ∷ "critically_damped" ∷ "overdamped"
-    ∷ "underdamped" ∷ [])
+    ∷ words ("preset" ∷ "stiffness" ∷ "damping" ∷ "mass" ∷ "velocity" ∷ "epsilon" ∷ "integrator"
+    ∷ "critically_damped" ∷ "overdamped" ∷ "underdamped" ∷ [])
     ∷ words ("frequency" ∷ "amplitude" ∷ "phase" ∷ "duty_cycle" ∷ "seed" ∷ "smoothness" ∷ "duration" ∷ [])
     ∷ words ("duration" ∷ "easing" ∷ [])
     ∷ words ("samples" ∷ "duration" ∷ "easing" ∷ [])
@@ -27,7 +24,8 @@ lists =
     ∷ words ("cubic_bezier" ∷ "steps" ∷ "wiggle" ∷ "rough" ∷ "slowmo" ∷ [])
     ∷ words ("once" ∷ "forever" ∷ "ping_pong" ∷ "times" ∷ [])
     ∷ words ("sequence" ∷ "parallel" ∷ [])
-    ∷ words ("top_left" ∷ "top_right" ∷ "bottom_left" ∷ "bottom_right" ∷ "center" ∷ "top" ∷ "bottom" ∷ "left" ∷ "right" ∷ [])
+    ∷ words ("top_left" ∷ "top_right" ∷ "bottom_left" ∷ "bottom_right" ∷ "center" ∷ "top" ∷ "bottom" ∷ "left"
+    ∷ "right" ∷ [])
     ∷ words ("grid" ∷ "random" ∷ "center_out" ∷ "edges_in" ∷ [])
     ∷ words ("linear" ∷ "lab" ∷ "oklch" ∷ [])
     ∷ words ("sine" ∷ "sawtooth" ∷ "square" ∷ "triangle" ∷ "noise" ∷ [])

@@ -1,22 +1,15 @@
+-- `blocks::keyword_of` meets its contract.
 use native.Mathlib.Omega.{arith}
 use Rattle.blocks.proofs.NameLaws.{leaf-of, container-of}
 use borrow.Author.Needs.{needs}
 use Rattle.blocks.proofs.keyword_of.Statement.{statement}
 use Rattle.blocks.proofs.keyword_of.Tie as tie
-use Rattle.blocks.proofs.keyword_of.Reads as reads
-use Rattle.blocks.proofs.keyword_of.Lts as lts
 
--- src/lib.rt:41:9
 returns : tie.Need-returns
 returns c w e = leaf-of w _ e (c .if1 .taken)
 
--- src/lib.rt:43:24
-sub-t5 : tie.Need-sub-t5
-sub-t5 c = search needs
-
--- src/lib.rt:37:1
 returns-2 : tie.Need-returns-2
 returns-2 c w e = container-of w _ e (omega arith)
 
 pub keyword-of-spec : {M : Type 1} → statement M
-keyword-of-spec = tie.close (tie.spec returns sub-t5 returns-2)
+keyword-of-spec = tie.close (tie.spec returns (λ c. search needs) returns-2)

@@ -1,6 +1,6 @@
 use Rattle.cursor.proofs.CursorLaws.{head-told}
 -- `cursor::listed` meets its contract.
-use mathlib.Core.Path.{refl, _∙_}
+use mathlib.Core.Path.{_∙_}
 use borrow.Author.Needs.{needs}
 use Rattle.words.specs.Keys.{placeIs}
 use Rattle.cursor.proofs.listed.Statement.{statement}

@@ -1,3 +1,4 @@
+-- `heads::next_random` meets its contract.
 use Rattle.text.specs.Bytes.{same}
 use Rattle.text.specs.Words.{find}
 use Rattle.token.specs.Names.{isKeyword}
@@ -5,7 +6,6 @@ use Rattle.words.specs.Lists.{listOf}
 use Rattle.cursor.specs.Means.{noKeywords}
 use Rattle.grammar.specs.Grammar.{randomFields}
 use mathlib.Core.Path.{refl}
-use borrow.Author.Needs.{needs}
 use Rattle.heads.proofs.next_random.Statement.{statement}
 use Rattle.heads.proofs.next_random.Tie as tie
 

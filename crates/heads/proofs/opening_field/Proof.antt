@@ -1,3 +1,4 @@
+-- `heads::opening_field` meets its contract.
 use mathlib.Core.Path.{refl}
 use Rattle.text.specs.Bytes.{same}
 use Rattle.text.specs.Words.{find}
@@ -48,6 +49,4 @@ returns-2 c =
     (c .opening-value .ensures)
 
 pub opening-field-spec : {M : Type 1} → statement M
-opening-field-spec =
-    tie.close (tie.spec choice-requires (λ c. search needs) (λ c. search needs) opening-value-requires returns
-    returns-2)
+opening-field-spec = tie.close (tie.spec choice-requires (λ c. search needs) (λ c. search needs) opening-value-requires returns returns-2)

@@ -1,3 +1,4 @@
+-- `heads::parse_grid_origin` meets its contract.
 use mathlib.Core.Path.{refl}
 use Rattle.text.specs.Bytes.{same}
 use Rattle.text.specs.Words.{find}
@@ -37,5 +38,4 @@ returns-2 c =
     (t, choice-below (args .text .now) (args .c) _ Malformed _ _ t)
 
 pub parse-grid-origin-spec : {M : Type 1} → statement M
-parse-grid-origin-spec =
-    tie.close (tie.spec choice-requires (λ c. search needs) (λ c. search needs) cast-t10 returns returns-2)
+parse-grid-origin-spec = tie.close (tie.spec choice-requires (λ c. search needs) (λ c. search needs) cast-t10 returns returns-2)

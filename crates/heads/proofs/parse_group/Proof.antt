@@ -1,3 +1,4 @@
+-- `heads::parse_group` meets its contract.
 use mathlib.Core.Path.{refl}
 use Rattle.text.specs.Bytes.{same}
 use Rattle.text.specs.Words.{find}
@@ -37,5 +38,4 @@ returns-2 c =
     (record { is = rw (t .is); low = t .low; ready = t .ready }, choice-below (args .text .now) (args .c) _ Malformed _ _ t)
 
 pub parse-group-spec : {M : Type 1} → statement M
-parse-group-spec =
-    tie.close (tie.spec choice-requires (λ c. search needs) (λ c. search needs) cast-t10 returns returns-2)
+parse-group-spec = tie.close (tie.spec choice-requires (λ c. search needs) (λ c. search needs) cast-t10 returns returns-2)

@@ -1,3 +1,4 @@
+-- `heads::parse_stagger_pattern` meets its contract.
 use mathlib.Core.Path.{refl}
 use Rattle.text.specs.Bytes.{same}
 use Rattle.text.specs.Words.{find}
@@ -37,5 +38,4 @@ returns-2 c =
 
 pub parse-stagger-pattern-spec : {M : Type 1} → statement M
 parse-stagger-pattern-spec =
-    tie.close (tie.spec choice-requires (λ c. search needs) (λ c. search needs) named-pattern-requires returns
-    returns-2)
+    tie.close (tie.spec choice-requires (λ c. search needs) (λ c. search needs) named-pattern-requires returns returns-2)

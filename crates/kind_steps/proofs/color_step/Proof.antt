@@ -1,5 +1,5 @@
-use Rattle.text.specs.Bytes.{at}
 -- `kind_steps::color_step` meets its contract.
+use Rattle.text.specs.Bytes.{at}
 use Rattle.cells.proofs.StepLaws.{no-float, a-float, no-easing, an-easing, step-refused, a-case, last-row}
 use Rattle.heads.proofs.NameLaws.{choice-below}
 use mathlib.Core.Path.{refl}
@@ -18,39 +18,15 @@ use borrow.Author.Needs.{needs}
 use Rattle.kind_steps.proofs.color_step.Statement.{statement}
 use Rattle.kind_steps.proofs.color_step.Tie as tie
 
-parse-float-requires : tie.Need-parse-float-requires
-parse-float-requires c κs = search needs
-
-enum-known-r : tie.Need-enum-known-r
-enum-known-r c = search needs
-
-enum-known-x : tie.Need-enum-known-x
-enum-known-x c = search needs
-
 choice-requires : tie.Need-choice-requires
 unfolding listOf noKeywords isKeyword find same
 choice-requires c κs = (c .before .before .pre, refl)
-
-enum-known-r-2 : tie.Need-enum-known-r-2
-enum-known-r-2 c = search needs
-
-enum-known-i : tie.Need-enum-known-i
-enum-known-i c = search needs
 
 cast-t29 : tie.Need-cast-t29
 unfolding listOf
 cast-t29 c =
     let b = choice-below _ _ _ _ _ _ (rw (c .before .i .given .1) at (c .before .before .before .choice .ensures)) in
     omega (arith, b)
-
-parse-easing-requires : tie.Need-parse-easing-requires
-parse-easing-requires c κs = search needs
-
-enum-known-r-3 : tie.Need-enum-known-r-3
-enum-known-r-3 c = search needs
-
-enum-known-x-2 : tie.Need-enum-known-x-2
-enum-known-x-2 c = search needs
 
 returns : tie.Need-returns
 unfolding colorFields
@@ -101,5 +77,6 @@ returns-6 c =
 
 pub color-step-spec : {M : Type 1} → statement M
 color-step-spec =
-    tie.close (tie.spec parse-float-requires enum-known-r enum-known-x choice-requires enum-known-r-2 enum-known-i cast-t29
-    parse-easing-requires enum-known-r-3 enum-known-x-2 returns returns-2 returns-3 returns-4 returns-5 returns-6)
+    tie.close (tie.spec (λ c κs. search needs) (λ c. search needs) (λ c. search needs) choice-requires (λ c. search needs)
+    (λ c. search needs) cast-t29 (λ c κs. search needs) (λ c. search needs) (λ c. search needs) returns returns-2 returns-3 returns-4
+    returns-5 returns-6)

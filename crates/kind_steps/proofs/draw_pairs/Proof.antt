@@ -1,10 +1,10 @@
+-- `kind_steps::draw_pairs` meets its contract.
 use Rattle.text.specs.Bytes.{same}
 use Rattle.text.specs.Words.{find}
 use Rattle.token.specs.Names.{isKeyword}
 use Rattle.cursor.specs.Word.{atOf}
 use Rattle.cursor.specs.Means.{noKeywords}
 use Rattle.words.specs.Lists.{listOf}
--- `kind_steps::draw_pairs` meets its contract.
 use Rattle.cells.proofs.StepLaws.{Gathering, pairStep, gathering-start, pairs-refused, pairs-done}
 use Rattle.cells.proofs.StepLaws.{pairs-value-refused, pairs-more, pairs-last, pairs-moves}
 use Rattle.kind_steps.specs.Means.{drawCells}
@@ -113,6 +113,6 @@ loop-again c =
 
 pub draw-pairs-spec : {M : Type 1} → statement M
 draw-pairs-spec =
-    tie.close (tie.spec Inv-loop μ-loop (λ c κs. search needs) loop-holds next-pair-requires (λ c. search needs) returns
-    (λ c. search needs) returns-2 (λ c. search needs) draw-step-requires (λ c. search needs) returns-3 (λ c. search needs) eat-requires
-    returns-4 loop-less loop-again)
+    tie.close (tie.spec Inv-loop μ-loop (λ c κs. search needs) loop-holds next-pair-requires (λ c. search needs) returns (λ c. search needs)
+    returns-2 (λ c. search needs) draw-step-requires (λ c. search needs) returns-3 (λ c. search needs) eat-requires returns-4 loop-less
+    loop-again)

@@ -1,6 +1,6 @@
+-- `kinds::parse_path` meets its contract.
 use Rattle.text.specs.Bytes.{at}
 use mathlib.Core.Path.{refl}
--- `kinds::parse_path` meets its contract.
 use Rattle.text.specs.Bytes.{same}
 use Rattle.text.specs.Words.{find}
 use Rattle.token.specs.Names.{isKeyword}
@@ -11,33 +11,12 @@ use borrow.Author.Needs.{needs}
 use Rattle.kinds.proofs.parse_path.Statement.{statement}
 use Rattle.kinds.proofs.parse_path.Tie as tie
 
-word-requires : tie.Need-word-requires
-word-requires c κs = search needs
-
-enum-known-p : tie.Need-enum-known-p
-enum-known-p c = search needs
-
-enum-known-target : tie.Need-enum-known-target
-enum-known-target c = search needs
-
 choice-requires : tie.Need-choice-requires
 unfolding listOf noKeywords isKeyword find same
 choice-requires c κs = ((rw (c .before .target .given .1) at (c .before .before .before .word .ensures)) .0 .ready, refl)
 
-enum-known-r : tie.Need-enum-known-r
-enum-known-r c = search needs
-
-enum-known-n : tie.Need-enum-known-n
-enum-known-n c = search needs
-
 string-requires : tie.Need-string-requires
 string-requires c κs = (rw (c .before .n .given .1) at (c .before .before .before .choice .ensures)) .ready
-
-enum-known-p-2 : tie.Need-enum-known-p-2
-enum-known-p-2 c = search needs
-
-enum-known-svg : tie.Need-enum-known-svg
-enum-known-svg c = search needs
 
 path-end-requires : tie.Need-path-end-requires
 path-end-requires c κs =
@@ -85,9 +64,6 @@ returns-3 c =
     _
     (rw (c .before .p2 .given .1) at (at-string .string .ensures))
 
-same-length : tie.Need-same-length
-same-length c = search needs
-
 returns-4 : tie.Need-returns-4
 unfolding listOf
 returns-4 c =
@@ -116,5 +92,6 @@ returns-4 c =
 
 pub parse-path-spec : {M : Type 1} → statement M
 parse-path-spec =
-    tie.close (tie.spec word-requires enum-known-p enum-known-target choice-requires enum-known-r enum-known-n string-requires
-    enum-known-p-2 enum-known-svg path-end-requires returns returns-2 returns-3 same-length returns-4)
+    tie.close (tie.spec (λ c κs. search needs) (λ c. search needs) (λ c. search needs) choice-requires (λ c. search needs)
+    (λ c. search needs) string-requires (λ c. search needs) (λ c. search needs) path-end-requires returns returns-2 returns-3
+    (λ c. search needs) returns-4)

@@ -1,5 +1,5 @@
-use mathlib.Core.Path.{refl}
 -- `kinds::parse_waveform` meets its contract.
+use mathlib.Core.Path.{refl}
 use Rattle.error.specs.declared.Refusal.the-variants.{Malformed}
 use Rattle.text.specs.Bytes.{same}
 use Rattle.text.specs.Words.{find}
@@ -16,15 +16,6 @@ use Rattle.kinds.proofs.parse_waveform.Tie as tie
 choice-requires : tie.Need-choice-requires
 unfolding listOf noKeywords isKeyword find same
 choice-requires c κs = (c .before .before .pre .0, refl)
-
-enum-known-r : tie.Need-enum-known-r
-enum-known-r c = search needs
-
-enum-known-i : tie.Need-enum-known-i
-enum-known-i c = search needs
-
-place-requires : tie.Need-place-requires
-place-requires c κs = search needs
 
 returns : tie.Need-returns
 unfolding listOf
@@ -58,9 +49,6 @@ returns-2 c =
     let args = at-choice .before .before .before .args in
     no-waveform (args .text .now) (args .c) _ _ (rw (c .before .r .given .1) at (at-choice .choice .ensures))
 
-same-length : tie.Need-same-length
-same-length c = search needs
-
 returns-3 : tie.Need-returns-3
 unfolding listOf
 returns-3 c =
@@ -74,5 +62,5 @@ returns-3 c =
 
 pub parse-waveform-spec : {M : Type 1} → statement M
 parse-waveform-spec =
-    tie.close (tie.spec choice-requires enum-known-r enum-known-i place-requires returns cast-waveform-end waveform-end-requires returns-2
-    same-length returns-3)
+    tie.close (tie.spec choice-requires (λ c. search needs) (λ c. search needs) (λ c κs. search needs) returns cast-waveform-end
+    waveform-end-requires returns-2 (λ c. search needs) returns-3)

@@ -1,5 +1,5 @@
-use Rattle.words.specs.Lists.{listOf}
 -- `spring_step::spring_fields` meets its contract.
+use Rattle.words.specs.Lists.{listOf}
 use Rattle.cells.proofs.StepLaws.{Gathering, gathering-start, list-refused, list-done, value-refused, list-more, list-moves}
 use Rattle.spring_step.specs.Means.{springCells}
 use mathlib.Core.Path.{refl}
@@ -80,6 +80,5 @@ loop-again c =
 
 pub spring-fields-spec : {M : Type 1} → statement M
 spring-fields-spec =
-    tie.close (tie.spec Inv-loop μ-loop loop-holds parse-field-list-requires (λ c. search needs) returns
-    (λ c. search needs) returns-2 (λ c. search needs) spring-step-requires (λ c. search needs) returns-3 (λ c. search needs) loop-less
-    loop-again)
+    tie.close (tie.spec Inv-loop μ-loop loop-holds parse-field-list-requires (λ c. search needs) returns (λ c. search needs) returns-2
+    (λ c. search needs) spring-step-requires (λ c. search needs) returns-3 (λ c. search needs) loop-less loop-again)

@@ -1,5 +1,5 @@
-use Rattle.text.specs.Bytes.{at}
 -- `spring_step::spring_step` meets its contract.
+use Rattle.text.specs.Bytes.{at}
 use Rattle.cells.proofs.StepLaws.{no-float, a-float, step-refused, a-case, no-value, a-value, past}
 use Rattle.heads.proofs.NameLaws.{choice-below}
 use mathlib.Core.Path.{refl}
@@ -22,72 +22,15 @@ choice-requires : tie.Need-choice-requires
 unfolding listOf noKeywords isKeyword find same
 choice-requires c κs = (c .before .before .pre, refl)
 
-enum-known-r : tie.Need-enum-known-r
-enum-known-r c = search needs
-
-enum-known-i : tie.Need-enum-known-i
-enum-known-i c = search needs
-
 cast-t43 : tie.Need-cast-t43
 unfolding listOf
 cast-t43 c =
     let b = choice-below _ _ _ _ _ _ (rw (c .before .i .given .1) at (c .before .before .before .choice .ensures)) in
     omega (arith, b)
 
-parse-float-requires : tie.Need-parse-float-requires
-parse-float-requires c κs = search needs
-
-enum-known-r-2 : tie.Need-enum-known-r-2
-enum-known-r-2 c = search needs
-
-enum-known-x : tie.Need-enum-known-x
-enum-known-x c = search needs
-
-parse-float-requires-2 : tie.Need-parse-float-requires-2
-parse-float-requires-2 c κs = search needs
-
-enum-known-r-3 : tie.Need-enum-known-r-3
-enum-known-r-3 c = search needs
-
-enum-known-x-2 : tie.Need-enum-known-x-2
-enum-known-x-2 c = search needs
-
-parse-float-requires-3 : tie.Need-parse-float-requires-3
-parse-float-requires-3 c κs = search needs
-
-enum-known-r-4 : tie.Need-enum-known-r-4
-enum-known-r-4 c = search needs
-
-enum-known-x-3 : tie.Need-enum-known-x-3
-enum-known-x-3 c = search needs
-
-past-value-requires : tie.Need-past-value-requires
-past-value-requires c κs = search needs
-
-enum-known-r-5 : tie.Need-enum-known-r-5
-enum-known-r-5 c = search needs
-
-enum-known-m : tie.Need-enum-known-m
-enum-known-m c = search needs
-
-parse-float-requires-4 : tie.Need-parse-float-requires-4
-parse-float-requires-4 c κs = search needs
-
-enum-known-r-6 : tie.Need-enum-known-r-6
-enum-known-r-6 c = search needs
-
-enum-known-x-4 : tie.Need-enum-known-x-4
-enum-known-x-4 c = search needs
-
 choice-requires-2 : tie.Need-choice-requires-2
 unfolding listOf noKeywords isKeyword find same
 choice-requires-2 c κs = (c .before .before .pre, refl)
-
-enum-known-r-7 : tie.Need-enum-known-r-7
-enum-known-r-7 c = search needs
-
-enum-known-i-2 : tie.Need-enum-known-i-2
-enum-known-i-2 c = search needs
 
 cast-t105 : tie.Need-cast-t105
 unfolding listOf
@@ -209,13 +152,11 @@ returns-14 c =
     a-case 6 "integrator" (λ l. at-match .match .keys7) (choice Malformed integratorNames) 6 _ refl refl refl
     (rw (c .before .i2 .given .1) at (at-choice2 .choice2 .ensures))
 
-returns-15 : tie.Need-returns-15
-returns-15 c = search needs
-
 pub spring-step-spec : {M : Type 1} → statement M
 spring-step-spec =
-    tie.close (tie.spec choice-requires enum-known-r enum-known-i cast-t43 parse-float-requires enum-known-r-2 enum-known-x
-    parse-float-requires-2 enum-known-r-3 enum-known-x-2 parse-float-requires-3 enum-known-r-4 enum-known-x-3 past-value-requires
-    enum-known-r-5 enum-known-m parse-float-requires-4 enum-known-r-6 enum-known-x-4 choice-requires-2 enum-known-r-7 enum-known-i-2
-    cast-t105 damping-step-requires returns returns-2 returns-3 returns-4 returns-5 returns-6 returns-7 returns-8 returns-9 returns-10
-    returns-11 returns-12 returns-13 returns-14 returns-15)
+    tie.close (tie.spec choice-requires (λ c. search needs) (λ c. search needs) cast-t43 (λ c κs. search needs) (λ c. search needs)
+    (λ c. search needs) (λ c κs. search needs) (λ c. search needs) (λ c. search needs) (λ c κs. search needs) (λ c. search needs)
+    (λ c. search needs) (λ c κs. search needs) (λ c. search needs) (λ c. search needs) (λ c κs. search needs) (λ c. search needs)
+    (λ c. search needs) choice-requires-2 (λ c. search needs) (λ c. search needs) cast-t105 damping-step-requires returns returns-2
+    returns-3 returns-4 returns-5 returns-6 returns-7 returns-8 returns-9 returns-10 returns-11 returns-12 returns-13 returns-14
+    (λ c. search needs))

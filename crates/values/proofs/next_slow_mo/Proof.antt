@@ -1,3 +1,4 @@
+-- `values::next_slow_mo` meets its contract.
 use mathlib.Core.Path.{refl}
 use Rattle.grammar.specs.Values.{slowMoFields}
 use Rattle.text.specs.Bytes.{same}
@@ -7,16 +8,11 @@ use Rattle.words.specs.Lists.{listOf}
 use Rattle.cursor.specs.Means.{noKeywords}
 use Rattle.values.proofs.next_slow_mo.Statement.{statement}
 use Rattle.values.proofs.next_slow_mo.Tie as tie
-use Rattle.values.proofs.next_slow_mo.Reads as reads
-use Rattle.values.proofs.next_slow_mo.Lts as lts
-use Rattle.fields.proofs.next_pair.Reads as next-pair-reads
 
--- src/lib.rt:272:5
 next-pair-requires : tie.Need-next-pair-requires
 unfolding listOf noKeywords isKeyword find same
 next-pair-requires c κs = (c .before .pre, refl)
 
--- src/lib.rt:268:1
 returns : tie.Need-returns
 unfolding slowMoFields listOf
 returns c = c .next-pair .ensures slowMoFields refl

@@ -1,5 +1,5 @@
-use Rattle.words.specs.Lists.{listOf}
 -- `waveform_step::waveform_fields` meets its contract.
+use Rattle.words.specs.Lists.{listOf}
 use Rattle.cells.proofs.StepLaws.{Gathering, gathering-start, list-refused, list-done, value-refused, list-more, list-moves}
 use Rattle.waveform_step.specs.Means.{waveformCells}
 use mathlib.Core.Path.{refl}
@@ -81,6 +81,5 @@ loop-again c =
 
 pub waveform-fields-spec : {M : Type 1} → statement M
 waveform-fields-spec =
-    tie.close (tie.spec Inv-loop μ-loop loop-holds parse-field-list-requires (λ c. search needs) returns
-    (λ c. search needs) returns-2 (λ c. search needs) waveform-step-requires (λ c. search needs) returns-3 (λ c. search needs) loop-less
-    loop-again)
+    tie.close (tie.spec Inv-loop μ-loop loop-holds parse-field-list-requires (λ c. search needs) returns (λ c. search needs) returns-2
+    (λ c. search needs) waveform-step-requires (λ c. search needs) returns-3 (λ c. search needs) loop-less loop-again)

@@ -1,8 +1,6 @@
 -- `words::find` meets its contract: a word is told by its length and its number.
-use mathlib.Core.Path.{_≡_, refl, sym, ap, _∙_}
 use native.Mathlib.Omega.{arith}
 use borrow.Author.Needs.{needs}
-use Rattle.words.specs.Lists.{listOf}
 use Rattle.words.proofs.KeyLaws.{pack-some, part-length, part-bytes, split-part}
 use Rattle.words.proofs.ListLaws.{key-found}
 use Rattle.words.proofs.find.Statement.{statement}

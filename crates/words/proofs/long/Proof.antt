@@ -27,25 +27,22 @@ returns-5 : tie.Need-returns-5
 unfolding listOf keysOf packs onto seek every oneOf alone longIn
 returns-5 c =
     let start = c .before .before in
-    by-number _ 4 _ _ (c .before .match .keys5)
-    (one-long (keysOf 4) (start .args .v) (start .args .rest) (omega arith) (pack (bytes "duration")) 0 _ (c .if-long .ensures) refl refl
-    refl (start .pre) (omega arith))
+    by-number _ 4 _ _ (c .before .match .keys5) (one-long (keysOf 4) (start .args .v) (start .args .rest) (omega arith) (pack
+    (bytes "duration")) 0 _ (c .if-long .ensures) refl refl refl (start .pre) (omega arith))
 
 returns-6 : tie.Need-returns-6
 unfolding listOf keysOf packs onto seek every oneOf alone longIn
 returns-6 c =
     let start = c .before .before in
-    by-number _ 5 _ _ (c .before .match .keys6)
-    (one-long (keysOf 5) (start .args .v) (start .args .rest) (omega arith) (pack (bytes "duration")) 1 _ (c .if-long2 .ensures) refl refl
-    refl (start .pre) (omega arith))
+    by-number _ 5 _ _ (c .before .match .keys6) (one-long (keysOf 5) (start .args .v) (start .args .rest) (omega arith) (pack
+    (bytes "duration")) 1 _ (c .if-long2 .ensures) refl refl refl (start .pre) (omega arith))
 
 returns-7 : tie.Need-returns-7
 unfolding listOf keysOf packs onto seek every oneOf alone longIn
 returns-7 c =
     let start = c .before .before in
-    by-number _ 6 _ _ (c .before .match .keys7)
-    (one-long (keysOf 6) (start .args .v) (start .args .rest) (omega arith) (pack (bytes "duration")) 0 _ (c .if-long3 .ensures) refl refl
-    refl (start .pre) (omega arith))
+    by-number _ 6 _ _ (c .before .match .keys7) (one-long (keysOf 6) (start .args .v) (start .args .rest) (omega arith) (pack
+    (bytes "duration")) 0 _ (c .if-long3 .ensures) refl refl refl (start .pre) (omega arith))
 
 returns-8 : tie.Need-returns-8
 returns-8 c = by-number _ 7 _ _ (c .before .match .keys8) (c .long-path-rows .ensures)
@@ -54,33 +51,29 @@ returns-9 : tie.Need-returns-9
 unfolding listOf keysOf packs onto seek every oneOf alone longIn
 returns-9 c =
     let start = c .before .before in
-    by-number _ 8 _ _ (c .before .match .keys9)
-    (one-long (keysOf 8) (start .args .v) (start .args .rest) (omega arith) (pack (bytes "strength")) 0 _ (c .if-long4 .ensures) refl refl
-    refl (start .pre) (omega arith))
+    by-number _ 8 _ _ (c .before .match .keys9) (one-long (keysOf 8) (start .args .v) (start .args .rest) (omega arith) (pack
+    (bytes "strength")) 0 _ (c .if-long4 .ensures) refl refl refl (start .pre) (omega arith))
 
 returns-10 : tie.Need-returns-10
 unfolding listOf keysOf packs onto seek every oneOf alone longIn
 returns-10 c =
     let start = c .before .before in
-    by-number _ 9 _ _ (c .before .match .keys10)
-    (one-long (keysOf 9) (start .args .v) (start .args .rest) (omega arith) (pack (bytes "linear_ratio")) 0 _ (c .if-long5 .ensures) refl
-    refl refl (start .pre) (omega arith))
+    by-number _ 9 _ _ (c .before .match .keys10) (one-long (keysOf 9) (start .args .v) (start .args .rest) (omega arith) (pack
+    (bytes "linear_ratio")) 0 _ (c .if-long5 .ensures) refl refl refl (start .pre) (omega arith))
 
 returns-11 : tie.Need-returns-11
 unfolding listOf keysOf packs onto seek every oneOf alone longIn
 returns-11 c =
     let start = c .before .before in
-    by-number _ 13 _ _ (c .before .match .keys11)
-    (one-long (keysOf 13) (start .args .v) (start .args .rest) (omega arith) (pack (bytes "cubic_bezier")) 0 _ (c .if-long6 .ensures) refl
-    refl refl (start .pre) (omega arith))
+    by-number _ 13 _ _ (c .before .match .keys11) (one-long (keysOf 13) (start .args .v) (start .args .rest) (omega arith) (pack
+    (bytes "cubic_bezier")) 0 _ (c .if-long6 .ensures) refl refl refl (start .pre) (omega arith))
 
 returns-12 : tie.Need-returns-12
 unfolding listOf keysOf packs onto seek every oneOf alone longIn
 returns-12 c =
     let start = c .before .before in
-    by-number _ 14 _ _ (c .before .match .keys12)
-    (one-long (keysOf 14) (start .args .v) (start .args .rest) (omega arith) (pack (bytes "ping_pong")) 2 _ (c .if-long7 .ensures) refl
-    refl refl (start .pre) (omega arith))
+    by-number _ 14 _ _ (c .before .match .keys12) (one-long (keysOf 14) (start .args .v) (start .args .rest) (omega arith) (pack
+    (bytes "ping_pong")) 2 _ (c .if-long7 .ensures) refl refl refl (start .pre) (omega arith))
 
 returns-13 : tie.Need-returns-13
 returns-13 c = by-number _ 15 _ _ (c .before .match .keys13) (c .long-group-modes .ensures)
@@ -99,16 +92,8 @@ unfolding listOf packs onto every oneOf longIn noLong everyList
 returns-17 c =
     let start = c .before in
     let args = start .args in
-    no-long-word
-    (19 ∷ 17 ∷ 16 ∷ 15 ∷ 14 ∷ 13 ∷ 9 ∷ 8 ∷ 7 ∷ 6 ∷ 5 ∷ 4 ∷ 3 ∷ 2 ∷ 1 ∷ 0 ∷ [])
-    (args .list)
-    (c .match .rest)
-    (args .v)
-    (args .rest)
-    refl
-    (omega arith)
-    (start .pre)
-    (omega arith)
+    no-long-word (19 ∷ 17 ∷ 16 ∷ 15 ∷ 14 ∷ 13 ∷ 9 ∷ 8 ∷ 7 ∷ 6 ∷ 5 ∷ 4 ∷ 3 ∷ 2 ∷ 1 ∷ 0 ∷ []) (args .list) (c .match .rest) (args .v)
+    (args .rest) refl (omega arith) (start .pre) (omega arith)
 
 pub long-spec : {M : Type 1} → statement M
 long-spec =

@@ -14,60 +14,28 @@ returns : tie.Need-returns
 unfolding listOf keysOf packs onto seek every alone
 returns c =
     let args = c .before .before .args in
-    long-at
-    (keysOf 0)
-    (args .v)
-    (args .rest)
-    (omega arith)
-    (pack (bytes "keyframes"))
-    2 _
-    (c .before .match .keys1)
-    (c .if-equal .ensures)
+    long-at (keysOf 0) (args .v) (args .rest) (omega arith) (pack (bytes "keyframes")) 2 _ (c .before .match .keys1) (c .if-equal .ensures)
     refl refl
 
 returns-2 : tie.Need-returns-2
 unfolding listOf keysOf packs onto seek every alone
 returns-2 c =
     let args = c .before .before .args in
-    long-at
-    (keysOf 0)
-    (args .v)
-    (args .rest)
-    (omega arith)
-    (pack (bytes "waveform"))
-    7 _
-    (c .before .match .keys2)
-    (c .if-equal2 .ensures)
+    long-at (keysOf 0) (args .v) (args .rest) (omega arith) (pack (bytes "waveform")) 7 _ (c .before .match .keys2) (c .if-equal2 .ensures)
     refl refl
 
 returns-3 : tie.Need-returns-3
 unfolding listOf keysOf packs onto seek every alone
 returns-3 c =
     let args = c .before .before .args in
-    long-at
-    (keysOf 0)
-    (args .v)
-    (args .rest)
-    (omega arith)
-    (pack (bytes "sequence"))
-    11 _
-    (c .before .match .keys3)
-    (c .if-equal3 .ensures)
+    long-at (keysOf 0) (args .v) (args .rest) (omega arith) (pack (bytes "sequence")) 11 _ (c .before .match .keys3) (c .if-equal3 .ensures)
     refl refl
 
 returns-4 : tie.Need-returns-4
 unfolding listOf keysOf packs onto seek every alone
 returns-4 c =
     let args = c .before .before .args in
-    long-at
-    (keysOf 0)
-    (args .v)
-    (args .rest)
-    (omega arith)
-    (pack (bytes "parallel"))
-    12 _
-    (c .before .match .keys4)
-    (c .if-equal4 .ensures)
+    long-at (keysOf 0) (args .v) (args .rest) (omega arith) (pack (bytes "parallel")) 12 _ (c .before .match .keys4) (c .if-equal4 .ensures)
     refl refl
 
 returns-5 : tie.Need-returns-5

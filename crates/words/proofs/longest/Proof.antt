@@ -15,18 +15,16 @@ unfolding listOf longestIs find same
 returns c =
     let at-match = c .before .before in
     let start = at-match .before .before in
-    list-at _ 2 _ _ (at-match .match .keys1)
-    (one-longest (listOf 2) (start .args .word .now) (bytes "critically_damped") 7 _ (c .if-word .ensures) (start .pre) refl refl
-    (omega arith))
+    list-at _ 2 _ _ (at-match .match .keys1) (one-longest (listOf 2) (start .args .word .now) (bytes "critically_damped") 7 _
+    (c .if-word .ensures) (start .pre) refl refl (omega arith))
 
 returns-2 : tie.Need-returns-2
 unfolding listOf longestIs find same
 returns-2 c =
     let at-match = c .before .before in
     let start = at-match .before .before in
-    list-at _ 22 _ _ (at-match .match .keys2)
-    (one-longest (listOf 22) (start .args .word .now) (bytes "semi_implicit_euler") 0 _ (c .if-word2 .ensures) (start .pre) refl refl
-    (omega arith))
+    list-at _ 22 _ _ (at-match .match .keys2) (one-longest (listOf 22) (start .args .word .now) (bytes "semi_implicit_euler") 0 _
+    (c .if-word2 .ensures) (start .pre) refl refl (omega arith))
 
 returns-3 : tie.Need-returns-3
 unfolding listOf everyList shorter oneOf

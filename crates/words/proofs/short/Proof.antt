@@ -27,8 +27,8 @@ returns-5 : tie.Need-returns-5
 unfolding listOf keysOf packs onto seek every oneOf shortIn
 returns-5 c =
     let start = c .before .before in
-    by-number _ 4 _ _ (c .before .match .keys5)
-    (c .if-equal .ensures ∙ one-key (keysOf 4) (start .args .v) (pack (bytes "easing")) 1 refl refl (omega arith))
+    by-number _ 4 _ _ (c .before .match .keys5) (c .if-equal .ensures ∙ one-key (keysOf 4) (start .args .v) (pack (bytes "easing")) 1 refl
+    refl (omega arith))
 
 returns-6 : tie.Need-returns-6
 returns-6 c = by-number _ 5 _ _ (c .before .match .keys6) (c .short-morph-rows .ensures)
@@ -43,15 +43,15 @@ returns-9 : tie.Need-returns-9
 unfolding listOf keysOf packs onto seek every oneOf shortIn
 returns-9 c =
     let start = c .before .before in
-    by-number _ 8 _ _ (c .before .match .keys9)
-    (c .if-equal2 .ensures ∙ one-key (keysOf 8) (start .args .v) (pack (bytes "points")) 1 refl refl (omega arith))
+    by-number _ 8 _ _ (c .before .match .keys9) (c .if-equal2 .ensures ∙ one-key (keysOf 8) (start .args .v) (pack (bytes "points")) 1 refl
+    refl (omega arith))
 
 returns-10 : tie.Need-returns-10
 unfolding listOf keysOf packs onto seek every oneOf shortIn
 returns-10 c =
     let start = c .before .before in
-    by-number _ 9 _ _ (c .before .match .keys10)
-    (c .if-equal3 .ensures ∙ one-key (keysOf 9) (start .args .v) (pack (bytes "power")) 1 refl refl (omega arith))
+    by-number _ 9 _ _ (c .before .match .keys10) (c .if-equal3 .ensures ∙ one-key (keysOf 9) (start .args .v) (pack (bytes "power")) 1 refl
+    refl (omega arith))
 
 returns-11 : tie.Need-returns-11
 returns-11 c = by-number _ 10 _ _ (c .before .match .keys11) (c .short-grid-fields .ensures)
@@ -84,8 +84,8 @@ returns-20 : tie.Need-returns-20
 unfolding listOf keysOf packs onto seek every oneOf shortIn
 returns-20 c =
     let start = c .before .before in
-    by-number _ 20 _ _ (c .before .match .keys20)
-    (c .if-equal4 .ensures ∙ one-key (keysOf 20) (start .args .v) (pack (bytes "along")) 0 refl refl (omega arith))
+    by-number _ 20 _ _ (c .before .match .keys20) (c .if-equal4 .ensures ∙ one-key (keysOf 20) (start .args .v) (pack (bytes "along")) 0
+    refl refl (omega arith))
 
 returns-21 : tie.Need-returns-21
 returns-21 c = by-number _ 21 _ _ (c .before .match .keys21) (c .short-spring-presets .ensures)
@@ -94,8 +94,8 @@ returns-22 : tie.Need-returns-22
 unfolding listOf keysOf packs onto seek every oneOf shortIn
 returns-22 c =
     let start = c .before .before in
-    by-number _ 22 _ _ (c .before .match .keys22)
-    (c .if-equal5 .ensures ∙ one-key (keysOf 22) (start .args .v) (pack (bytes "rk4")) 1 refl refl (omega arith))
+    by-number _ 22 _ _ (c .before .match .keys22) (c .if-equal5 .ensures ∙ one-key (keysOf 22) (start .args .v) (pack (bytes "rk4")) 1 refl
+    refl (omega arith))
 
 returns-23 : tie.Need-returns-23
 unfolding listOf packs onto every oneOf shortIn noShort everyList

@@ -1,5 +1,4 @@
 -- `words::packing::if_long` meets its contract.
-use mathlib.Core.Path.{_∙_}
 use borrow.Author.Needs.{needs}
 use borrow.Author.Tests.{eq-eqb, ne-eqb}
 use Rattle.words.proofs.packing.if_long.Statement.{statement}

@@ -1,10 +1,10 @@
 -- `words::packing::onto` meets its contract; the last n - k bytes are packed.
 use Prim.Native.Nat.{_+_, _-_, _^_, _≤_, _<_}
-use mathlib.Core.Path.{_≡_, refl, sym, ap, _∙_}
+use mathlib.Core.Path.{_≡_, sym}
 use native.Mathlib.Nat.{sub-self, sub-zero, add-zero}
 use native.Mathlib.Omega.{arith}
 use borrow.Author.Needs.{needs}
-use lib.ListN.{length, getD}
+use lib.ListN.{getD}
 use Rattle.text.specs.Bytes.{part}
 use Rattle.words.specs.Keys.{onto}
 use Rattle.words.proofs.KeyLaws.{onto-end, onto-more, onto-room, onto-fits}
