@@ -20,10 +20,10 @@ use Rattle.token.specs.declared.Number as numbers
 use Rattle.grammar.specs.Rule.{Out, got, refused, give, skip, _>>_, seesByte, seesNumber, seesName, absent, theByte, eatByte}
 use Rattle.grammar.specs.Values.{parseEasing}
 use Rattle.grammar.specs.Grammar.{stored, keyed, parseKeyframeTime}
-use Rattle.cursor.specs.Word.{atOf, roundedOf}
-use Rattle.cursor.specs.Means.{Ready, notes, tokens, run, Took, tallied, Numbers}
+use Rattle.cursor.specs.Word.{atOf, roundedOf, tallied}
+use Rattle.cursor.specs.Means.{Ready, notes, tokens, run, Took, Numbers}
 use Rattle.cursor.specs.declared.Cursor.{Cursor}
-use Rattle.cursor.proofs.CursorLaws.{counts, took-number, stays, head-place}
+use Rattle.cursor.proofs.CursorLaws.{counts, counted, took-number, stays, head-place}
 use Rattle.keyframes.specs.Means.{percentSign, keyOf, Stores, TookTime, keyMark, easingIf}
 
 -- ---- a key's time
@@ -92,6 +92,7 @@ module _ (s : List ℕ) (c m u : Cursor) (negative : Bool) (n : numbers.Number) 
   unfolding parseKeyframeTime keyed
   took-time e r h {y = y} q z =
       let far : atOf c + 1 ≤ atOf u = omega (arith, v .low, t .low) in
+      let k = counted s u (t .ready) y in
       record {
         key = keyOf p negative (writtenIn s n);
         took = record {
@@ -100,9 +101,12 @@ module _ (s : List ℕ) (c m u : Cursor) (negative : Bool) (n : numbers.Number) 
             as-written .is,
             subst (λ (x : Bool). (p && x) ≡ false) (v .known .is .suffix) e,
             z,
+            k .at,
+            k .left,
+            k .rounded,
             sym q,
           );
-          low = rw z far;
+          low = rw (z, k .at) far;
           ready = rw z (counts s c u r (t .ready) (sign-counts s m u (n .point) p t ∙ v .rounded) far y);
         };
         stores = h;

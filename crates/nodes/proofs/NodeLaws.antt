@@ -20,9 +20,10 @@ use Rattle.error.specs.declared.Refusal.the-variants.{Missing, Malformed}
 use Rattle.grammar.specs.Rule.{refused, text, theByte, eatByte, seesNumber, absent}
 use Rattle.grammar.specs.Values.{string}
 use Rattle.grammar.specs.Grammar.{parseLabel, atSign, turned, parseAt}
-use Rattle.cursor.specs.Means.{run, tokens, Took, tallied, Numbers}
+use Rattle.cursor.specs.Word.{tallied}
+use Rattle.cursor.specs.Means.{run, tokens, Took, Numbers}
 use Rattle.cursor.specs.declared.Cursor.{Cursor}
-use Rattle.cursor.proofs.CursorLaws.{took-number}
+use Rattle.cursor.proofs.CursorLaws.{counted, took-number}
 use Rattle.arrays.specs.Means.{Went}
 use Rattle.nodes.specs.Means.{leafBytes, signs}
 use Rattle.token.specs.Token.{place}
@@ -74,13 +75,14 @@ module _ (s : List ℕ) (c m : Cursor) where
     unfolding parseAt
     at-went g? k e n d y v j u w z =
         let r = took-number s m _ _ _ v Malformed in
+        let h = counted s e (v .ready) y in
         let x = bits (nearest (cond i (not g?) g?) (writtenIn s k)) in
         record {
           value = at (record { value = x; relative = p });
-          took = record { is = rw (t .is, r .is, sym j, u .is); low = omega (arith, t .low, r .low, u .low); ready = u .ready };
+          took = record { is = rw (t .is, r .is, sym j, rw (h .at, h .left, h .rounded) at (u .is)); low = omega (arith, t .low, r .low, u .low, h .at); ready = u .ready };
           writes = writes-then w z;
           paid = let a2 = w .place in
               let a3 = z .place in
               let l = length-word x in
-              omega (arith, t .low, r .low, u .low);
+              omega (arith, t .low, r .low, u .low, h .at);
         }

@@ -6,7 +6,7 @@ use Rattle.kinds.proofs.parse_color.Statement.{statement}
 use Rattle.kinds.proofs.parse_color.Tie as tie
 
 mark-requires : tie.Need-mark-requires
-mark-requires c κs = ((rw (c .before .target .given .1) at (c .before .before .before .word .ensures)) .0 .ready, omega arith)
+mark-requires c κs = ((rw (c .before .target .given .1) at (c .before .before .before .word-before .ensures)) .0 .ready, omega arith)
 
 color-strings-requires : tie.Need-color-strings-requires
 color-strings-requires c κs =
@@ -18,18 +18,18 @@ color-strings-requires c κs =
 
 returns : tie.Need-returns
 returns c =
-    let at-word = c .before .before .before in
-    let args = at-word .before .before .before .args in
-    color-no-target (args .text .now) (args .c) _ (rw (c .before .p .given .1) at (at-word .word .ensures))
+    let at-word-before = c .before .before .before in
+    let args = at-word-before .before .before .before .args in
+    color-no-target (args .text .now) (args .c) _ (rw (c .before .p .given .1) at (at-word-before .word-before .ensures))
 
 returns-2 : tie.Need-returns-2
 returns-2 c =
     let at-mark = c .before .before .before in
     let at-target = at-mark .before .before in
-    let at-word = at-target .before .before in
-    let args = at-word .before .before .before .args in
+    let at-word-before = at-target .before .before in
+    let args = at-word-before .before .before .before .args in
     color-no-colon (args .text .now) (args .c) _ (at-target .target .given .0 .0)
-    ((rw (at-target .target .given .1) at (at-word .word .ensures)) .0) _ (rw (c .before .p2 .given .1) at (at-mark .mark .ensures))
+    ((rw (at-target .target .given .1) at (at-word-before .word-before .ensures)) .0) _ (rw (c .before .p2 .given .1) at (at-mark .mark .ensures))
 
 returns-3 : tie.Need-returns-3
 returns-3 c =
@@ -37,9 +37,9 @@ returns-3 c =
     let at-n = at-color-strings .before .before .before in
     let at-mark = at-n .before .before in
     let at-target = at-mark .before .before in
-    let at-word = at-target .before .before in
-    let args = at-word .before .before .before .args in
-    let w = rw (at-target .target .given .1) at (at-word .word .ensures) in
+    let at-word-before = at-target .before .before in
+    let args = at-word-before .before .before .before .args in
+    let w = rw (at-target .target .given .1) at (at-word-before .word-before .ensures) in
     color-node
     (args .text .now)
     (args .c)
