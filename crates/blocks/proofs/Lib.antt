@@ -1,3 +1,4 @@
+pub mod LeafLaws
 pub mod NameLaws
 pub mod KindLaws
 pub mod HeadLaws

@@ -21,7 +21,7 @@ use Rattle.cursor.specs.Word.{atOf, endOf}
 use Rattle.cursor.specs.Means.{Ready, run, Took}
 use Rattle.cursor.specs.declared.Cursor.{Cursor}
 use Rattle.arrays.specs.Means.{Went}
-use Rattle.nodes.specs.Means.{leafKind, leafBytes}
+use Rattle.nodes.specs.Means.{leafKind, leafBytes, LeafMeans}
 use Rattle.nodes.specs.declared.NodeRead.{NodeRead}
 use Rattle.nodes.specs.declared.NodeRead.the-variants as head
 use Rattle.blocks.specs.declared.Keyword.{Keyword}
@@ -48,6 +48,11 @@ abbrev pub KeywordMeans : List ℕ → Keyword → Type 0
 KeywordMeans w (keyword.Leaf i) = (row : String × Rule (Leaf Key)) × (getElem? leaves i ≡ some row) × (beginning w ≡ aLeaf (row .1))
 KeywordMeans w (keyword.Container i) =
     (row : String × Rule Container) × (getElem? containers i ≡ some row) × (beginning w ≡ aContainer (row .1))
+
+-- ---- a leaf by the rule at a place of the table
+
+pub record LeafAtMeans (s b a : List ℕ) (c : Cursor) (out i : ℕ) (r : NodeRead) : Type 0 where
+  pub by : (row : String × Rule (Leaf Key)) → getElem? leaves i ≡ some row → LeafMeans s b a c out (row .1) r
 
 -- ---- the beginning of a node, whatever the rule for a container's block
 

@@ -11,12 +11,15 @@ ghost use Rattle.cursor.specs.Word.{atOf};
 ghost use Rattle.cursor.specs.Means.{Ready, listedIn};
 ghost use Rattle.arrays.specs.Means.{Room};
 ghost use Rattle.blocks.specs.Means.{HeadMeans, nodeWords, KeywordMeans, BegunMeans, behindWord, leafKindAt, BraceMeans, Counted, BlockMeans, Headed, HeldMeans, Reached, NodeMeans, Standing, StepMeans, NodesMeans};
+use crate::leaves::parse_leaf;
 use cursor::Cursor;
 use cursor::MarkRead;
 use error::Refusal;
 use heads::GroupRead;
 use heads::StaggerRead;
 use nodes::NodeRead;
+
+pub mod leaves;
 
 // ---- the beginning of a node
 
@@ -63,7 +66,7 @@ fn begin_word(text: &[u8], sheet: &mut [u8], start: usize, i: u8, c: Cursor, out
     match keyword_of(i) {
         Keyword::Leaf(i) => {
             let at = encode::put_front(sheet, out, leaf_kind(i), start);
-            match leaves::parse_leaf(text, sheet, c, at, i) {
+            match parse_leaf(text, sheet, c, at, i) {
                 NodeRead::Refused(r, p) => Begun::Refused(r, p),
                 NodeRead::Is(q, m) => Begun::Leaf(q, m),
             }

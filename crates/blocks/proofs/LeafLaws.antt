@@ -14,7 +14,7 @@ use Rattle.grammar.specs.Grammar.{leaves, parseAt}
 use Rattle.cursor.specs.declared.Cursor.{Cursor}
 use Rattle.nodes.specs.Means.{LeafMeans}
 use Rattle.nodes.specs.declared.NodeRead.{NodeRead}
-use Rattle.leaves.specs.Means.{LeafAtMeans}
+use Rattle.blocks.specs.Means.{LeafAtMeans}
 
 none≢some : {A B : Type 0} {a : A} → Prim.Path (Option A) none (some a) → B
 none≢some e = absurd (let z : _≡_ {A = ℕ} 0 1 = cc in omega arith)
@@ -37,19 +37,20 @@ ten i h = go i 10 h
         up (inl e) = inl (omega (arith, e))
         up (inr l) = inr (omega (arith, l))
 
-module _ (s b a : List ℕ) (c : Cursor) (out : ℕ) (r : NodeRead) where
+module _ {s b a : List ℕ} {c : Cursor} {out i : ℕ} {r : NodeRead} where
   -- the row at a known place
-  pub row-at : (i k : ℕ) (row : String × Rule (Leaf Key)) → getElem? leaves k ≡ some row
+  pub row-at : (k : ℕ) (row : String × Rule (Leaf Key)) → getElem? leaves k ≡ some row
       → i ≡ k → LeafMeans s b a c out (row .1) r → LeafAtMeans s b a c out i r
-  row-at i k row g e h other f =
-      subst (λ (x : String × Rule (Leaf Key)). LeafMeans s b a c out (x .1) r)
-      (Option·some-injective row other (sym g ∙ subst (λ (n : ℕ). getElem? leaves n ≡ some other) e f)) h
+  row-at k row g e h = record {
+    by = λ other f. subst (λ (x : String × Rule (Leaf Key)). LeafMeans s b a c out (x .1) r)
+        (Option·some-injective row other (sym g ∙ subst (λ (n : ℕ). getElem? leaves n ≡ some other) e f)) h;
+  }
 
   -- the last row, behind which there is none
-  pub last-row : (i : ℕ) → 10 ≤ i → LeafMeans s b a c out parseAt r → LeafAtMeans s b a c out i r
+  pub last-row : 10 ≤ i → LeafMeans s b a c out parseAt r → LeafAtMeans s b a c out i r
   unfolding leaves
-  last-row i l h other f = go (ten i l)
+  last-row l h = go (ten i l)
     where
-      go : (i ≡ 10) ⊎ (11 ≤ i) → LeafMeans s b a c out (other .1) r
-      go (inl e) = row-at i 10 ("at", parseAt) refl e h other f
-      go (inr m) = none≢some (sym (past leaves i m) ∙ f)
+      go : (i ≡ 10) ⊎ (11 ≤ i) → LeafAtMeans s b a c out i r
+      go (inl e) = row-at 10 ("at", parseAt) refl e h
+      go (inr m) = record { by = λ other f. none≢some (sym (past leaves i m) ∙ f) }

@@ -1,8 +1,7 @@
-// A leaf of any kind, by its place in the grammar's table of leaves. For our own crates: it requires a cursor that stands in a text of
-// at most 16,384 bytes, and a place below 2^30.
+// A leaf of any kind, by its place in the grammar's table of leaves.
 ghost use Rattle.cursor.specs.Means.{Ready};
 ghost use Rattle.arrays.specs.Means.{Room};
-ghost use Rattle.leaves.specs.Means.{LeafAtMeans};
+ghost use Rattle.blocks.specs.Means.{LeafAtMeans};
 use cursor::Cursor;
 use nodes::NodeRead;
 
