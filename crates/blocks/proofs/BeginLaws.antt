@@ -1,14 +1,12 @@
 -- The beginning of a node: its keyword, and what stands behind it.
 use Prim.Native.Nat.{ℕ, _<_}
-use Prim.Native.String.{String}
 use mathlib.Core.List.{List}
-use mathlib.Core.Option.{none, some}
+use mathlib.Core.Option.{none}
 use mathlib.Core.Bool.{true, false}
 use mathlib.Core.Path.{_≡_}
 use native.Mathlib.Omega.{arith}
-use lib.ListN.{getElem?}
 use Rattle.number.specs.Time.{Key}
-use Rattle.ast.specs.Tree.{Leaf, Nodes}
+use Rattle.ast.specs.Tree.{Nodes}
 use Rattle.encode.specs.Writes.{Writes}
 use Rattle.encode.proofs.OverLaws.{writes-then}
 use Rattle.error.specs.declared.Refusal.{Refusal}

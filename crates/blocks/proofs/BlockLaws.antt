@@ -18,7 +18,7 @@ use Rattle.error.specs.declared.Refusal.{Refusal}
 use Rattle.error.specs.declared.Refusal.the-variants.{Missing, TooManyNested}
 use Rattle.grammar.specs.Rule.{Notes, Out, got, Rule, refused, after, give, _>>=_, leave, seesByte, ends, theByte, more, done}
 use Rattle.grammar.specs.Grammar.{stored, containers, aContainer, nodeBy, parseNode, oneNode, nodesStep, block}
-use Rattle.cursor.specs.Word.{atOf, endOf}
+use Rattle.cursor.specs.Word.{atOf}
 use Rattle.cursor.specs.Means.{Ready, tokens, run, Took, Follows}
 use Rattle.cursor.specs.declared.Cursor.{Cursor}
 use Rattle.cursor.proofs.CursorLaws.{took-mark, stays}
@@ -236,10 +236,10 @@ module _ {s : List ℕ} {c m : Cursor} (t : Took 1 s c m (theByte 123) tt) (d : 
 
   pub block-went : {b b₁ a : List ℕ} {count f : ℕ} {u : Siblings} {e : Cursor} → NodesWent s b b₁ m (count + 2) (d - 1) u
       → Writes b₁ count (big 2 .write (u .width)) a f → Took 0 s (u .next) e (leave 125) tt
-      → BlockWent s b a c e count (endOf u) d (u .records + 1)
+      → BlockWent s b a c e count (u .end) d (u .records + 1)
   unfolding block
   block-went {b} {b₁} {a} {count} {f} {u} {e} g p l =
-      by-suc (λ (j : ℕ). BlockWent s b a c e count (endOf u) j (u .records + 1)) d z
+      by-suc (λ (j : ℕ). BlockWent s b a c e count (u .end) j (u .records + 1)) d z
       (record {
         nodes = g .went .value;
         took = record {

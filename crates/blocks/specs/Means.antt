@@ -17,7 +17,7 @@ use Rattle.encode.specs.Writes.{Writes}
 use Rattle.grammar.specs.Rule.{Rule, refused, give, _>>=_, the, more, done, repeat}
 use Rattle.grammar.specs.Grammar.{stored, leaves, containers, aLeaf, aContainer, beginning, nodeBy, nodesStep, block}
 use Rattle.words.specs.Lists.{listOf}
-use Rattle.cursor.specs.Word.{atOf, endOf}
+use Rattle.cursor.specs.Word.{atOf}
 use Rattle.cursor.specs.Means.{Ready, run, Took}
 use Rattle.cursor.specs.declared.Cursor.{Cursor}
 use Rattle.arrays.specs.Means.{Went}
@@ -225,8 +225,8 @@ pub record Stepped (s b a : List ℕ) (d : ℕ) (t u : Siblings) : Type 0 where
   pub few : atOf (t .next) + u .records ≤ atOf (u .next) + t .records
   pub added : List ℕ
   pub bytes : (ns : Nodes Key) → nodesBytes (length s) d (grown ns) ≡ nodesBytes (length s) d ns ++ added
-  pub writes : Writes b (t .end) added a (endOf u)
-  pub paid : endOf u ≤ t .end + 64 * (atOf (u .next) - atOf (t .next))
+  pub writes : Writes b (t .end) added a (u .end)
+  pub paid : u .end ≤ t .end + 64 * (atOf (u .next) - atOf (t .next))
 
 -- the list ends at t
 pub record Ended (s b a : List ℕ) (d : ℕ) (t u : Siblings) : Type 0 where

@@ -10,7 +10,7 @@ use Rattle.encode.specs.Writes.{Writes}
 use Rattle.ast.specs.declared.Span.{Span}
 use Rattle.grammar.specs.Rule.{refused, theByte, leave, inside, word}
 use Rattle.grammar.specs.Grammar.{animatoInput}
-use Rattle.cursor.specs.Word.{atOf, endOf}
+use Rattle.cursor.specs.Word.{atOf}
 use Rattle.cursor.specs.Means.{Ready, run, Took, spelled}
 use Rattle.cursor.specs.declared.Cursor.{Cursor}
 use Rattle.blocks.specs.Means.{Reached, parseNodes, NodesWent}
@@ -40,7 +40,7 @@ body-refused t h = rw (t .is, h)
 
 pub body-went : {s b b₁ a : List ℕ} {c m e : Cursor} {u : Siblings} {k f : ℕ} → Took 1 s c m (theByte 123) tt → NodesWent s b b₁ m 2 16 u
     → Writes b₁ 0 (big 2 .write (u .width)) a f → Took 0 s (u .next) e (leave 125) tt → k ≡ atOf (u .next)
-    → BodyWent s b a c (record { end = k; bytes = endOf u; next = e })
+    → BodyWent s b a c (record { end = k; bytes = u .end; next = e })
 unfolding animatoInput encode
 body-went {s} {m = m} {u = u} {k = k} t g o l p = record {
   nodes = g .went .value;

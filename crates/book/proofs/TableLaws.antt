@@ -16,7 +16,6 @@ use Rattle.text.proofs.CaseLaws.{Case, yes!, no!, case}
 use Rattle.book.specs.Book.{Item, names, repeated}
 use Rattle.book.specs.Means.{Same, Row, Rows, rowed}
 use Rattle.book.specs.declared.Item as code
-use Rattle.cursor.specs.Word.{endOf}
 
 -- ---- truth values
 
@@ -121,7 +120,7 @@ rows-more {s} {t} {xs} {x} {y} {k} r m e h = record {
           ) (m .name);
           start = rowed-2 t k (x .name .start) (x .name .size) (x .start) (x .body .end - x .start) room ∙ m .start;
           size = rowed-3 t k (x .name .start) (x .name .size) (x .start) (x .body .end - x .start) room
-              ∙ (let p = m .start in let q = endOf m in rw (p, q));
+              ∙ (let p = m .start in let q = m .end in rw (p, q));
         }))
 
 -- ---- names

@@ -24,7 +24,7 @@ use Rattle.error.specs.declared.Refusal.the-variants.{Missing}
 use Rattle.grammar.specs.Rule.{Rule, refused, Next, more, done, goOn, seesByte, seesBytes, ends, theByte, eatByte, word, leave, repeat}
 use Rattle.grammar.specs.Values.{ident, parseLoopMode}
 use Rattle.grammar.specs.Grammar.{stored, keyframeEntry, Track, trackLoop, trackFrame, trackStep, parseKeyframes}
-use Rattle.cursor.specs.Word.{atOf, endOf}
+use Rattle.cursor.specs.Word.{atOf}
 use Rattle.cursor.specs.Means.{Ready, tokens, run, Took, Follows, spelled}
 use Rattle.cursor.specs.declared.Cursor.{Cursor}
 use Rattle.cursor.proofs.CursorLaws.{took, moved-low}
@@ -205,8 +205,8 @@ module _ (s b a : List ℕ) (c : Cursor) (out : ℕ) (t : tracks.Track) (i : Tra
 
   module _ (a′ : List ℕ) (u : tracks.Track) where
     all-written : (added : List (KeyframeEntry Key))
-        → Writes a (t .end) (framesBytes (length s) added) a′ (endOf u)
-        → Writes b out (framesBytes (length s) (i .frames ++ added)) a′ (endOf u)
+        → Writes a (t .end) (framesBytes (length s) added) a′ (u .end)
+        → Writes b out (framesBytes (length s) (i .frames ++ added)) a′ (u .end)
     all-written added w = rw (frames-append (length s) (i .frames) added) (writes-then (i .writes) w)
 
     pub tracked-more : Stepped 1 s a a′ t u trackStep more → Tracked s b a′ c out u

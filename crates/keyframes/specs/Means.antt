@@ -20,7 +20,7 @@ use Rattle.encode.specs.Writes.{Writes}
 use Rattle.grammar.specs.Rule.{Rule, got, refused, give, if, sees, seesName, skip, eat, the, leave, repeat, Next, more, done, _>>=_, _>>_}
 use Rattle.grammar.specs.Values.{parseEasing}
 use Rattle.grammar.specs.Grammar.{stored, parseKeyframeTime, keyframeEntry, trackStep, Track}
-use Rattle.cursor.specs.Word.{atOf, endOf}
+use Rattle.cursor.specs.Word.{atOf}
 use Rattle.cursor.specs.Means.{Ready, notes, tokens, run, Took}
 use Rattle.cursor.specs.declared.Cursor.{Cursor}
 use Rattle.arrays.specs.Means.{Held}
@@ -135,8 +135,8 @@ pub record Stepped (e : ℕ) (s b a : List ℕ) (t u : tracks.Track) (p : Track 
   pub low : atOf (t .next) + e ≤ atOf (u .next)
   pub ready : Ready s (u .next)
   pub count : u .frames ≡ t .frames + length added
-  pub writes : Writes b (t .end) (framesBytes (length s) added) a (endOf u)
-  pub paid : endOf u ≤ t .end + 64 * (atOf (u .next) - atOf (t .next))
+  pub writes : Writes b (t .end) (framesBytes (length s) added) a (u .end)
+  pub paid : u .end ≤ t .end + 64 * (atOf (u .next) - atOf (t .next))
 
 abbrev pub StepMeans : List ℕ → List ℕ → List ℕ → tracks.Track → (Track → Rule (Next Track)) → TrackNext → Type 0
 StepMeans s b a t p (turn.More u) = Stepped 1 s b a t u p more

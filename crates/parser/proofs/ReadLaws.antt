@@ -27,7 +27,7 @@ use Rattle.encode.proofs.OverLaws.{writes-counted}
 use Rattle.encode.proofs.ClearLaws.{written}
 use Rattle.grammar.specs.Rule.{Out, refused}
 use Rattle.grammar.specs.Grammar.{stored, animatoInput}
-use Rattle.cursor.specs.Word.{atOf, endOf, leftAt, roundedOf}
+use Rattle.cursor.specs.Word.{atOf, leftAt, roundedOf}
 use Rattle.cursor.specs.Means.{nothing, leftOf, notes, run, Begins}
 use Rattle.cursor.specs.Means as cursor
 use Rattle.cursor.specs.declared.Cursor.{Cursor}
@@ -76,7 +76,7 @@ module _ (t : List ℕ) (c : Cursor) (i : Begins t 0 nothing 0 c) where
         fits-splits t (sym (g .went .took .ready .last) ∙ last-end t (atOf (u .next)) end) (rw (i .is) (same ∙ end-fits t (atOf (u .next)) end))
 
     input-encoded : {a′ : List ℕ} {f : ℕ} → leftOf (leftAt (u .next)) ≡ none → Writes a 0 (big 2 .write (u .width)) a′ f
-        → Encoded t b a′ (endOf u) (u .records) (roundedOf (u .next))
+        → Encoded t b a′ (u .end) (u .records) (roundedOf (u .next))
     unfolding encode
     input-encoded h o = record {
       nodes = g .went .value;
@@ -88,7 +88,7 @@ module _ (t : List ℕ) (c : Cursor) (i : Begins t 0 nothing 0 c) where
 
     pub input-done : {a′ : List ℕ} {f : ℕ} (p k : ℕ) → leftOf (leftAt (u .next)) ≡ none → Writes a 0 (big 2 .write (u .width)) a′ f
         → p ≡ atOf (u .next) → k ≡ roundedOf (u .next)
-        → InputMeans t b a′ (inputOf (Accepted (endOf u) (u .records) k) (eqb p (length t)))
+        → InputMeans t b a′ (inputOf (Accepted (u .end) (u .records) k) (eqb p (length t)))
     input-done p k h o e q = record { tree = rw q (input-encoded h o); allowed = input-allowed p h e }
 
 -- ---- the sheet
