@@ -170,8 +170,8 @@ unfolding Rattle.text.specs.Bytes.same Rattle.text.specs.Bytes.oneOf Rattle.t
     Rattle.node_rules.specs.Rules.validateKeyframes Rattle.node_rules.specs.Rules.validatePath Rattle.node_rules.specs.Rules.validateMorph
     Rattle.node_rules.specs.Rules.validateDraw Rattle.node_rules.specs.Rules.validateColor Rattle.node_rules.specs.Rules.validateWaveform
     Rattle.node_rules.specs.Rules.validatePresetCall Rattle.node_rules.specs.Rules.validateLeaf Rattle.node_rules.specs.Rules.emptyGrid
-    Rattle.node_rules.specs.Rules.validateContainer Rattle.node_rules.specs.Rules.validateNodes Rattle.line.specs.Line.hex
-    Rattle.line.specs.Line.total Rattle.line.specs.Line.checkByte Rattle.line.specs.Line.line Rattle.line.specs.Lining.lining
+    Rattle.node_rules.specs.Rules.validateContainer Rattle.node_rules.specs.Rules.validateNodes Rattle.lining.specs.Line.hex
+    Rattle.lining.specs.Line.total Rattle.lining.specs.Line.checkByte Rattle.lining.specs.Line.line Rattle.lining.specs.Lining.lining
     Rattle.script.specs.Output.decimalOut Rattle.script.specs.Output.refusal Rattle.script.specs.Output.accept
     Rattle.script.specs.Output.lines Rattle.script.specs.Output.output holds every table lib.Ieee.round lib.Ieee.div
     lib.Ieee.toBits lib.Ieee.ofBits lib.Ieee.lt lib.Ieee.le lib.Ieee.sub

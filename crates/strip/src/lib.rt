@@ -3,7 +3,7 @@ ghost use mathlib.Core.Path.{_≡_};
 ghost use Rattle.colors.specs.Css.{coloring};
 ghost use Rattle.reading.specs.Reading.{reading};
 ghost use Rattle.validate.specs.Checking.{checking};
-ghost use Rattle.line.specs.Lining.{lining};
+ghost use Rattle.lining.specs.Lining.{lining};
 ghost use Rattle.convert.specs.Convert.{converting};
 ghost use Rattle.script.specs.Output.{printing};
 ghost use Rattle.totals.specs.Mean.{mean};

@@ -1,6 +1,6 @@
 -- Each promise of the front page, by one application.
 use mathlib.Core.Path.{ap}
-use Rattle.line.proofs.CheckLaws.{lined}
+use Rattle.lining.proofs.CheckLaws.{lined}
 use Rattle.script.specs.Table.{lemma}
 use Rattle.script.proofs.Closed.{demand3}
 use Rattle.script.proofs.ScratchLaws.{reading-same}

@@ -12,8 +12,8 @@ use Rattle.ast.specs.Tree.{Nodes, mapTimes}
 use Rattle.sheet.specs.Sheet.{encode}
 use Rattle.grammar.specs.Grammar.{stored}
 use Rattle.reading.specs.Reading.{tree, parse, reading, scratchWords}
-use Rattle.line.specs.Lining.{lining}
-use Rattle.line.specs.ReadBack.{Lined}
+use Rattle.lining.specs.Lining.{lining}
+use Rattle.lining.specs.ReadBack.{Lined}
 use Rattle.script.specs.Claim.{Demand3}
 use Rattle.script.specs.Output.{sheetBytes}
 use Rattle.script.specs.Table.{every, table}

@@ -9,7 +9,7 @@ use lib.IntN.{ℤ}
 use lib.ListN.{take}
 use Rattle.reading.specs.Reading.{reading}
 use Rattle.validate.specs.Checking.{checking}
-use Rattle.line.specs.Lining.{lining}
+use Rattle.lining.specs.Lining.{lining}
 use Rattle.convert.specs.Convert.{converting}
 use Rattle.script.specs.Output.{pageBytes, printing}
 use Rattle.back.specs.Back.{writing}

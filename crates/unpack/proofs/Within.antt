@@ -33,9 +33,9 @@ use Rattle.limits.proofs.Limits.{parses-fits, parses-small}
 use Rattle.colors.specs.Css.{namesOf}
 use Rattle.node_rules.specs.Rules.{validateNodes}
 use Rattle.validate.specs.Checking.{answerOf, judged, verdict, openingUnder, checking}
-use Rattle.line.specs.Line.{line}
-use Rattle.line.specs.Lining.{ofRecord, ofOpened, lining}
-use Rattle.line.proofs.LineLaws.{length-line}
+use Rattle.lining.specs.Line.{line}
+use Rattle.lining.specs.Lining.{ofRecord, ofOpened, lining}
+use Rattle.lining.proofs.LineLaws.{length-line}
 use Rattle.convert.specs.Convert.{convertOpened, converting}
 use Rattle.script.specs.Output.{printed, paged, pageBytes, lineBytes, printing}
 use Rattle.script.proofs.OutputLaws.{records-same, printed-small}

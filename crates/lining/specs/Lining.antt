@@ -7,7 +7,7 @@ use lib.Dec.{ltb}
 use lib.ListN.{length, drop, getElem?}
 use Rattle.sheet.specs.Records.{allRecords}
 use Rattle.sheet.specs.Opening.{Opened, opened, shut, opening}
-use Rattle.line.specs.Line.{line}
+use Rattle.lining.specs.Line.{line}
 use Rattle.error.specs.declared.Refusal.the-variants.{NoSuchRecord, OutputTooShort}
 use Rattle.error.specs.declared.LineAnswer.{LineAnswer}
 use Rattle.error.specs.declared.LineAnswer.the-variants.{Accepted, Refused}

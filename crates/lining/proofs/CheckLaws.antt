@@ -8,12 +8,12 @@ use lib.ListN.{length, getD, set, take, drop, length-set}
 use lib.Seq.{take-append-seam}
 use Rattle.error.specs.declared.LineAnswer.the-variants.{Accepted}
 use Rattle.codec.proofs.Laws.{All}
-use Rattle.line.specs.Line.{hex, total, covered, checkByte, spelled, line}
-use Rattle.line.specs.Lining.{lining}
-use Rattle.line.specs.ReadBack.{Spells, Lined}
-use Rattle.line.proofs.LineLaws.{given}
-use Rattle.line.proofs.ByteLaws.{Byte, all-append, all-at, Recorded, recorded}
-use Rattle.line.proofs.BackLaws.{hex-back}
+use Rattle.lining.specs.Line.{hex, total, covered, checkByte, spelled, line}
+use Rattle.lining.specs.Lining.{lining}
+use Rattle.lining.specs.ReadBack.{Spells, Lined}
+use Rattle.lining.proofs.LineLaws.{given}
+use Rattle.lining.proofs.ByteLaws.{Byte, all-append, all-at, Recorded, recorded}
+use Rattle.lining.proofs.BackLaws.{hex-back}
 
 total-append : (a b : List ℕ) → total (a ++ b) ≡ total a + total b
 unfolding total

@@ -10,7 +10,7 @@ use lib.ListN.{length, getD, set, take, getElem?}
 use Rattle.text.specs.Bytes.{bytes}
 use Rattle.sheet.specs.Sheet.{Forest, decode}
 use Rattle.sheet.specs.Records.{allRecords}
-use Rattle.line.specs.Line.{total}
+use Rattle.lining.specs.Line.{total}
 
 -- ---- 01: "A line is hexadecimal, capitals, then LF"
 

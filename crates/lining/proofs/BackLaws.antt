@@ -1,18 +1,18 @@
 -- The digits of some bytes, read back, are those bytes.
-use Prim.Native.Nat.{ℕ, zero, suc, _+_, _*_, _/_, _%_, _≤_, _<_}
+use Prim.Native.Nat.{ℕ, zero, suc, _+_, _*_, _/_, _%_, _<_}
 use mathlib.Core.Bool.{Bool, true, false}
 use mathlib.Core.List.{List, [], _∷_}
 use mathlib.Core.Logic.{_⊎_, inl, inr}
 use mathlib.Core.Option.{Option, none, some}
 use mathlib.Core.Path.{_≡_, refl, ap, _∙_}
 use native.Mathlib.Omega.{arith}
+use native.Mathlib.Nat.{eq-or-lt-of-le}
 use lib.Dec.{eqb}
 use borrow.Author.Tests.{eqb-true}
 use Rattle.codec.proofs.Laws.{All}
-use Rattle.decode.proofs.ReadLaws.{le-or-lt}
-use Rattle.line.specs.Line.{digit, hex}
-use Rattle.line.specs.ReadBack.{placeFrom, valueOf, readBack}
-use Rattle.line.proofs.ByteLaws.{Byte}
+use Rattle.lining.specs.Line.{digit, hex}
+use Rattle.lining.specs.ReadBack.{placeFrom, valueOf, readBack}
+use Rattle.lining.proofs.ByteLaws.{Byte}
 
 -- ---- a digit: all sixteen are tried
 
@@ -24,12 +24,12 @@ every p (suc n) = elim (p n) [ true ↦ every p n | false ↦ false ]
 passes : (p : ℕ → Bool) (n : ℕ) → every p n ≡ true → (i : ℕ) → i < n → p i ≡ true
 unfolding every
 passes p zero e i h = absurd (omega arith)
-passes p (suc n) e i h = by (p n) refl e (le-or-lt n i) (passes p n)
+passes p (suc n) e i h = by (p n) refl e (eq-or-lt-of-le (omega arith)) (passes p n)
   where
-    by : (b : Bool) → p n ≡ b → elim b [ true ↦ every p n | false ↦ false ] ≡ true → (n ≤ i) ⊎ (i < n)
+    by : (b : Bool) → p n ≡ b → elim b [ true ↦ every p n | false ↦ false ] ≡ true → (i ≡ n) ⊎ (i < n)
         → (every p n ≡ true → (i : ℕ) → i < n → p i ≡ true) → p i ≡ true
     by false q e o r = let z : _≡_ {A = ℕ} 0 1 = cc in absurd (omega arith)
-    by true q e (inl l) r = let k : i ≡ n = omega arith in ap p k ∙ q
+    by true q e (inl k) r = ap p k ∙ q
     by true q e (inr l) r = r e i l
 
 abbrev is : ℕ → Option ℕ → Bool
