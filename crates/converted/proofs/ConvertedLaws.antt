@@ -12,9 +12,9 @@ use Rattle.sheet.specs.Sheet.{Forest}
 use Rattle.validate.specs.Checking.{verdict, checking}
 use Rattle.validate.proofs.CheckLaws.{known}
 use Rattle.ast.specs.Tree.{noise}
-use Rattle.convert.specs.Convert.{triangle, converting}
-use Rattle.convert.specs.Triangled.{triangledKind, triangledLeaf, triangled}
-use Rattle.convert.proofs.ConvertLaws.{converts, decodes-triangled, opens-triangled}
+use Rattle.converting.specs.Convert.{triangle, converting}
+use Rattle.converting.specs.Triangled.{triangledKind, triangledLeaf, triangled}
+use Rattle.converting.proofs.ConvertLaws.{converts, decodes-triangled, opens-triangled}
 use Rattle.converted.specs.NoNoise.{EachLeaf, NotNoise, NoNoise}
 use Rattle.converted.specs.Converted.{AsWithTriangle, NeverRetired}
 use Rattle.converted.proofs.RefusalLaws.{never-noise}

@@ -4,7 +4,7 @@ ghost use Rattle.colors.specs.Css.{coloring};
 ghost use Rattle.reading.specs.Reading.{reading};
 ghost use Rattle.validate.specs.Checking.{checking};
 ghost use Rattle.lining.specs.Lining.{lining};
-ghost use Rattle.convert.specs.Convert.{converting};
+ghost use Rattle.converting.specs.Convert.{converting};
 ghost use Rattle.script.specs.Output.{printing};
 ghost use Rattle.totals.specs.Mean.{mean};
 ghost use Rattle.feeding.specs.Feed.{fed, feeding};

@@ -9,8 +9,8 @@ use Rattle.morning.proofs.History.{morning}
 use Rattle.morning.proofs.MeanLaws.{means}
 use Rattle.given_back.proofs.ReadBack.{read-back, exactly-34}
 use Rattle.given_back.proofs.Corollaries.{never-unwritable, accepted-again, reads-no-noise}
-use Rattle.convert.proofs.KeptLaws.{kept}
-use Rattle.convert.proofs.ConvertLaws.{twice}
+use Rattle.converting.proofs.KeptLaws.{kept}
+use Rattle.converting.proofs.ConvertLaws.{twice}
 use Rattle.converted.proofs.ConvertedLaws.{as-with-triangle, never-retired}
 use Rattle.listing.proofs.RingLaws.{ring-refused, refused-ring, listed}
 use Rattle.planed.proofs.PlaningLaws.{there-and-back, back-and-there, not-planed-refused, refused-not-planed}

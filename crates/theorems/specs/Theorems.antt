@@ -22,8 +22,8 @@ use Rattle.feeding.specs.Feed.{Fed}
 use Rattle.morning.specs.Morning.{Morning, Means}
 use Rattle.given_back.specs.ReadBack.{ReadBack, Exactly34}
 use Rattle.given_back.specs.Corollaries.{NeverUnwritable, AcceptedAgain, ReadsNoNoise}
-use Rattle.convert.specs.Convert.{converting}
-use Rattle.convert.specs.Kept.{Kept}
+use Rattle.converting.specs.Convert.{converting}
+use Rattle.converting.specs.Kept.{Kept}
 use Rattle.converted.specs.Converted.{AsWithTriangle, NeverRetired}
 use Rattle.order.specs.Order.{Ring, Listing}
 use Rattle.book.specs.Book.{Item, held, book}

@@ -10,7 +10,7 @@ use lib.ListN.{take}
 use Rattle.reading.specs.Reading.{reading}
 use Rattle.validate.specs.Checking.{checking}
 use Rattle.lining.specs.Lining.{lining}
-use Rattle.convert.specs.Convert.{converting}
+use Rattle.converting.specs.Convert.{converting}
 use Rattle.script.specs.Output.{pageBytes, printing}
 use Rattle.back.specs.Back.{writing}
 use Rattle.lookup.specs.Lookup.{lookingUp}

@@ -36,7 +36,7 @@ use Rattle.validate.specs.Checking.{answerOf, judged, verdict, openingUnder, ch
 use Rattle.lining.specs.Line.{line}
 use Rattle.lining.specs.Lining.{ofRecord, ofOpened, lining}
 use Rattle.lining.proofs.LineLaws.{length-line}
-use Rattle.convert.specs.Convert.{convertOpened, converting}
+use Rattle.converting.specs.Convert.{convertOpened, converting}
 use Rattle.script.specs.Output.{printed, paged, pageBytes, lineBytes, printing}
 use Rattle.script.proofs.OutputLaws.{records-same, printed-small}
 use Rattle.error.specs.declared.Refusal.{Refusal}

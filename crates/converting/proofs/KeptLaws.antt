@@ -5,6 +5,7 @@ use mathlib.Core.List.{List, [], _∷_, _++_}
 use mathlib.Core.Logic.{_⊎_, inl, inr, ⊎-elim}
 use mathlib.Core.Path.{_≡_, refl, sym, _∙_, ap, subst}
 use native.Mathlib.Omega.{arith}
+use native.Mathlib.Nat.{eq-zero-or-pos}
 use borrow.Author.Tests.{eqb-true, eqb-false}
 use lib.Dec.{eqb}
 use lib.ListN.{length, getD, set, length-append, List·getD-append}
@@ -18,12 +19,11 @@ use Rattle.sheet.specs.Sheet.{Forest}
 use Rattle.sheet.specs.Records.{recordOf, recordsOf, allRecords}
 use Rattle.sheet.specs.Opening.{opened, opening}
 use Rattle.sheet.proofs.Flat.{concat}
-use Rattle.decode.proofs.ReadLaws.{le-or-lt}
+use Rattle.opened.proofs.OpenedLaws.{holds-tree}
 use Rattle.ast.specs.Tree.{noise}
-use Rattle.convert.specs.Convert.{waveformKind, triangle, waveAt, holdsNoise, convertedRecord, convertedSheet, converting}
-use Rattle.convert.specs.Kept.{NoiseAt, Kept}
-use Rattle.convert.proofs.WalkLaws.{length-converted}
-use Rattle.convert.proofs.ConvertLaws.{holds-tree, leaves, is-records, as-long, converts}
+use Rattle.converting.specs.Convert.{waveformKind, triangle, waveAt, holdsNoise, convertedRecord, convertedSheet, converting}
+use Rattle.converting.specs.Kept.{NoiseAt, Kept}
+use Rattle.converting.proofs.ConvertLaws.{length-converted, leaves, is-records, as-long, converts}
 
 -- ---- a record
 
@@ -83,7 +83,7 @@ Byte rs i = (getD (eachOut convertedRecord rs) i 0 ≡ getD (concat rs) i 0) ⊎
 
 each-of : (rs : List (List ℕ)) (i : ℕ) → Byte rs i
 each-of [] i = inl refl
-each-of (r ∷ rs) i = ⊎-elim (λ h. behind h (each-of rs (i - length r))) here (le-or-lt (length r) i)
+each-of (r ∷ rs) i = ⊎-elim (λ z. behind (omega (arith, z)) (each-of rs (i - length r))) (λ p. here (omega (arith, p))) (eq-zero-or-pos (length r - i))
   where
     all : List ℕ
     all = eachOut convertedRecord rs

@@ -2,14 +2,12 @@
 use Prim.Native.Nat.{ℕ, zero, suc, _+_, _<_}
 use mathlib.Core.Bool.{Bool, true, false, cond}
 use mathlib.Core.List.{List, [], _∷_, _++_, map, map-append}
-use mathlib.Core.Option.{Option, none, some}
+use mathlib.Core.Option.{some}
 use mathlib.Core.Path.{_≡_, refl, sym, _∙_, ap, subst⁻¹}
 use native.Mathlib.Omega.{arith}
-use lib.Dec.{eqb, ltb}
-use lib.ListN.{length, length-append}
-use Rattle.text.specs.Limits.{textLimit}
+use lib.Dec.{eqb}
+use lib.ListN.{length, set, length-set, length-append}
 use Rattle.error.specs.declared.Refusal.{Refusal}
-use Rattle.error.specs.declared.Refusal.the-variants.{TextTooLong}
 use Rattle.error.specs.declared.CheckAnswer.{CheckAnswer}
 use Rattle.error.specs.declared.CheckAnswer.the-variants.{Accepted, Refused}
 use Rattle.codec.specs.Codec.{big, opt, eachOut}
@@ -18,21 +16,25 @@ use Rattle.ast.specs.Tree as tree
 use Rattle.ast.specs.Tree.{Nodes, KeyframeTime, Leaf, Container, leaf, box, single, holding, width}
 use Rattle.sheet.specs.Sheet.{word, patternForm, Forest, encode, decode}
 use Rattle.sheet.specs.Records.{recordOf, recordsOf, allRecords}
-use Rattle.sheet.specs.Opening.{foreignFrom, Opened, opened, shut, decoded, unlessForeign, opening}
+use Rattle.sheet.specs.Opening.{Opened, opened, shut, decoded, opening}
 use Rattle.sheet.proofs.Laws as sheet-laws
 use Rattle.sheet.proofs.Laws.{nodeL, innerL, OkNodes, Fits, decodes}
 use Rattle.sheet.proofs.Flat.{concat, inside, sheet-flat}
-use Rattle.opening.specs.declared.Opening.the-variants.{Open, Shut}
-use Rattle.opening.specs.Means.{answerOf}
-use Rattle.opening.proofs.OpenLaws.{the-tree, the-refusal}
 use Rattle.ast.specs.Tree.{noise}
-use Rattle.convert.specs.Convert.{waveformKind, triangle, holdsNoise}
-use Rattle.convert.specs.Convert.{convertedRecord, convertedSheet, convertOpened, converting}
-use Rattle.convert.specs.Triangled.{triangledKind, triangledLeaf, triangled}
-use Rattle.convert.specs.Means.{Converts, IsSheet}
-use Rattle.convert.proofs.WalkLaws.{length-converted, head-stays}
+use Rattle.opened.proofs.OpenedLaws.{opened-text, holds-tree}
+use Rattle.converting.specs.Convert.{waveformKind, triangle, holdsNoise}
+use Rattle.converting.specs.Convert.{waveAt, convertedRecord, convertedSheet, convertOpened, converting}
+use Rattle.converting.specs.Triangled.{triangledKind, triangledLeaf, triangled}
 
 -- ---- as many bytes
+
+pub length-converted : (r : List ℕ) → length (convertedRecord r) ≡ length r
+unfolding convertedRecord
+length-converted r = go (holdsNoise r)
+  where
+    go : (b : Bool) → length (cond b (set r waveAt triangle) r) ≡ length r
+    go true = length-set r waveAt triangle
+    go false = refl
 
 pub records-long : (rs : List (List ℕ)) → length (eachOut convertedRecord rs) ≡ length (concat rs)
 records-long [] = refl
@@ -137,6 +139,15 @@ each-out : (rs : List (List ℕ)) → eachOut convertedRecord rs ≡ concat (map
 each-out [] = refl
 each-out (r ∷ rs) = ap (λ (l : List ℕ). convertedRecord r ++ l) (each-out rs)
 
+-- the head has no such byte
+pub head-stays : (k : ℕ) → convertedRecord (big 2 .write k) ≡ big 2 .write k
+unfolding convertedRecord
+head-stays k = go (holdsNoise (big 2 .write k))
+  where
+    go : (b : Bool) → cond b (big 2 .write k) (big 2 .write k) ≡ big 2 .write k
+    go true = refl
+    go false = refl
+
 -- the converted sheet is that of the tree with triangle
 sheet-converted : (n : ℕ) (ns : Forest) → convertedSheet n ns ≡ concat (allRecords n (triangled ns))
 unfolding convertedSheet allRecords
@@ -191,43 +202,14 @@ fits-triangled n ns h = (subst⁻¹ (Small 2) (same-width ns) (h .0), nodes-fine
 
 -- ---- an opened sheet
 
--- a text that is not refused
-opened-text : (t s : List ℕ) (ns : Forest) → opening t s ≡ opened ns → (x : List ℕ) → opening t x ≡ decoded (decode (length t) x)
-unfolding opening
-opened-text t s ns e x = long (ltb textLimit (length t)) refl e
-  where
-    no : {r : Refusal} {p : ℕ} {A : Type 0} → shut r p ≡ opened ns → A
-    no q = let z : _≡_ {A = ℕ} 0 1 = cc in absurd (omega arith)
-
-    foreign : (f : Option ℕ) → foreignFrom 0 t ≡ f → ltb textLimit (length t) ≡ false
-        → unlessForeign f (decoded (decode (length t) s)) ≡ opened ns
-        → cond (ltb textLimit (length t)) (shut TextTooLong 0) (unlessForeign (foreignFrom 0 t) (decoded (decode (length t) x)))
-        ≡ decoded (decode (length t) x)
-    foreign none f l q = rw (l, f) refl
-    foreign (some i) f l q = no q
-
-    long : (b : Bool) → ltb textLimit (length t) ≡ b
-        → cond b (shut TextTooLong 0) (unlessForeign (foreignFrom 0 t) (decoded (decode (length t) s))) ≡ opened ns
-        → cond (ltb textLimit (length t)) (shut TextTooLong 0) (unlessForeign (foreignFrom 0 t) (decoded (decode (length t) x)))
-        ≡ decoded (decode (length t) x)
-    long true l q = no q
-    long false l q = foreign (foreignFrom 0 t) refl l q
-
-decoded-opened : (o : Option Forest) (ns : Forest) → decoded o ≡ opened ns → o ≡ some ns
-decoded-opened none ns e = let z : _≡_ {A = ℕ} 0 1 = cc in absurd (omega arith)
-decoded-opened (some ms) ns e = let z : ms ≡ ns = cc in ap some z
-
 module _ (t s : List ℕ) (ns : Forest) (o : opening t s ≡ opened ns) where
-  pub holds-tree : decode (length t) s ≡ some ns
-  holds-tree = decoded-opened (decode (length t) s) ns (sym (opened-text t s ns o s) ∙ o)
-
   -- what the converter leaves
   pub leaves : converting t s ≡ (Accepted, convertedSheet (length t) ns)
   unfolding converting
   leaves = ap (convertOpened (length t) s) o
 
   within : sheet-laws.Decoded (length t) s ns
-  within = sheet-laws.decoded (length t) s ns holds-tree
+  within = sheet-laws.decoded (length t) s ns (holds-tree t s ns o)
 
   pub is-records : s ≡ concat (allRecords (length t) ns)
   is-records = within .encodes ∙ sheet-flat (length t) ns (within .fits)
@@ -291,17 +273,3 @@ module _ (t s : List ℕ) where
           ∙ ap (λ (ms : Forest). concat (allRecords n ms)) (triangled-twice ns)
           ∙ sym (sheet-converted n ns))
           ∙ sym (leaves t s ns e)
-
--- ---- the operation's ways out
-
-module _ (t s : List ℕ) where
-  pub is-refused : {r : Refusal} {p : ℕ} → Shut r p ≡ answerOf (opening t s) → (Refused r p, s) ≡ converting t s
-  is-refused e = sym (refused-stays t s (the-refusal (opening t s) e))
-
-  pub is-sheet : Open ≡ answerOf (opening t s) → IsSheet (length t) s
-  is-sheet e = let o = the-tree t s e in record { tree = o .nodes; decodes = o .decodes }
-
-  pub is-converted : {after : List ℕ} → Open ≡ answerOf (opening t s) → Converts (length t) s after → (Accepted, after) ≡ converting t s
-  is-converted e h =
-      let o = the-tree t s e in
-      ap (λ (l : List ℕ). (Accepted, l)) (h (o .nodes) (o .decodes)) ∙ sym (leaves t s (o .nodes) (o .opens))

@@ -10,7 +10,7 @@ use Rattle.ast.specs.Tree.{WaveformSpec, waveform, single}
 use Rattle.sheet.specs.Sheet.{Forest, decode}
 use Rattle.sheet.specs.Records.{recordOf, allRecords}
 use Rattle.ast.specs.Tree.{noise}
-use Rattle.convert.specs.Convert.{triangle, waveAt}
+use Rattle.converting.specs.Convert.{triangle, waveAt}
 
 -- the place i in the sheet of a tree, for a text of n bytes, is the kind of a waveform, which is noise: some records stand in front of the
 -- waveform's own, and the byte is the one of its record that has the kind

@@ -22,7 +22,7 @@ use Rattle.ast.specs.Tree.{
   box,
 }
 use Rattle.ast.specs.Tree.{noise}
-use Rattle.convert.specs.Convert.{triangle}
+use Rattle.converting.specs.Convert.{triangle}
 
 -- triangle for noise, any other kind as it is
 abbrev pub triangledKind : ℕ → ℕ
