@@ -12,7 +12,7 @@ use Rattle.given_back.proofs.Corollaries.{never-unwritable, accepted-again, rea
 use Rattle.converting.proofs.KeptLaws.{kept}
 use Rattle.converting.proofs.ConvertLaws.{twice}
 use Rattle.converted.proofs.ConvertedLaws.{as-with-triangle, never-retired}
-use Rattle.listing.proofs.RingLaws.{ring-refused, refused-ring, listed}
+use Rattle.books.proofs.RingLaws.{ring-refused, refused-ring, listed}
 use Rattle.planed.proofs.PlaningLaws.{there-and-back, back-and-there, not-planed-refused, refused-not-planed}
 use Rattle.wave.proofs.TableLaws.{rises, squares}
 use Rattle.renamed.proofs.Renamed.{renaming}

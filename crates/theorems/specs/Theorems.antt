@@ -26,9 +26,9 @@ use Rattle.converting.specs.Convert.{converting}
 use Rattle.converting.specs.Kept.{Kept}
 use Rattle.converted.specs.Converted.{AsWithTriangle, NeverRetired}
 use Rattle.order.specs.Order.{Ring, Listing}
-use Rattle.book.specs.Book.{Item, held, book}
-use Rattle.calls.specs.Calls.{calls}
-use Rattle.listing.specs.Listing.{listing}
+use Rattle.books.specs.Book.{Item, held, book}
+use Rattle.books.specs.Calls.{calls}
+use Rattle.books.specs.Listing.{listing}
 use Rattle.planed.specs.Planing.{planing, unplaning, Plain, PlanesTo}
 use Rattle.wave.specs.Table as wave
 use Rattle.renamed.specs.Renaming.{Renamed, Renaming}

@@ -13,8 +13,8 @@ use Rattle.lining.specs.Lining.{lining}
 use Rattle.converting.specs.Convert.{converting}
 use Rattle.script.specs.Output.{pageBytes, printing}
 use Rattle.back.specs.Back.{writing}
-use Rattle.lookup.specs.Lookup.{lookingUp}
-use Rattle.listing.specs.Listing.{listing}
+use Rattle.books.specs.Lookup.{lookingUp}
+use Rattle.books.specs.Listing.{listing}
 use Rattle.planed.specs.Planing.{planing, unplaning}
 use Rattle.wave.specs.Wave.{drawing}
 use Rattle.error.specs.Refusal.{numberOf}

@@ -5,9 +5,9 @@ use mathlib.Core.List.{List, _++_}
 use mathlib.Core.Option.{Option, none, some}
 use lib.Dec.{ltb}
 use lib.ListN.{length, drop}
-use Rattle.book.specs.Book.{Book, held, wrong, book}
+use Rattle.books.specs.Book.{Book, held, wrong, book}
 use Rattle.order.specs.Order.{order}
-use Rattle.calls.specs.Calls.{calls}
+use Rattle.books.specs.Calls.{calls}
 use Rattle.error.specs.declared.Refusal.the-variants.{RingOfCalls, OutputTooShort}
 use Rattle.error.specs.declared.OrderAnswer.{OrderAnswer}
 use Rattle.error.specs.declared.OrderAnswer.the-variants as order

@@ -5,7 +5,7 @@ use mathlib.Core.Option.{Option, none, some}
 use lib.ListN.{getElem?}
 use Rattle.text.specs.Bytes.{part}
 use Rattle.text.specs.Words.{find}
-use Rattle.book.specs.Book.{Item, Book, held, wrong, names, book}
+use Rattle.books.specs.Book.{Item, Book, held, wrong, names, book}
 use Rattle.error.specs.declared.Refusal.the-variants.{NoSuchItem}
 use Rattle.error.specs.declared.LookupAnswer.{LookupAnswer}
 use Rattle.error.specs.declared.LookupAnswer.the-variants as lookup

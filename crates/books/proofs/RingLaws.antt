@@ -8,11 +8,11 @@ use native.Mathlib.Omega.{arith}
 use lib.Dec.{ltb}
 use lib.ListN.{length, drop}
 use Rattle.error.specs.declared.Refusal.the-variants.{RingOfCalls, OutputTooShort}
-use Rattle.book.specs.Book.{Item, held, book}
+use Rattle.books.specs.Book.{Item, held, book}
 use Rattle.order.specs.Order.{order, Ring, Listing}
 use Rattle.order.proofs.OrderLaws as order
-use Rattle.calls.specs.Calls.{calls}
-use Rattle.listing.specs.Listing.{put, ordered, listing}
+use Rattle.books.specs.Calls.{calls}
+use Rattle.books.specs.Listing.{put, ordered, listing}
 use Rattle.error.specs.declared.OrderAnswer.{OrderAnswer}
 use Rattle.error.specs.declared.OrderAnswer.the-variants as answer
 
