@@ -15,7 +15,7 @@ use Rattle.text.specs.Limits.{textLimit}
 use Rattle.digits.specs.Fewest.{form}
 use Rattle.ast.specs.Tree.{KeyframeTime}
 use Rattle.sheet.specs.Sheet.{Forest, decode}
-use Rattle.validate.specs.Checking.{checking}
+use Rattle.checking.specs.Checking.{checking}
 use Rattle.fresh.specs.Meaning.{Sense, sense}
 use Rattle.fresh.specs.Fresh.{script, hasText}
 

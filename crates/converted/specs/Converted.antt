@@ -6,7 +6,7 @@ use mathlib.Core.Logic.{_≢_}
 use mathlib.Core.Path.{_≡_}
 use Rattle.sheet.specs.Sheet.{Forest}
 use Rattle.sheet.specs.Opening.{opened, opening}
-use Rattle.validate.specs.Checking.{judged, isList, checking}
+use Rattle.checking.specs.Checking.{judged, isList, checking}
 use Rattle.error.specs.declared.Refusal.the-variants.{NoiseHeld}
 use Rattle.error.specs.declared.CheckAnswer.the-variants.{Accepted, Refused}
 use Rattle.converting.specs.Convert.{converting}

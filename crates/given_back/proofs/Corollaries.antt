@@ -14,8 +14,8 @@ use Rattle.sheet.specs.Sheet.{Forest, decode}
 use Rattle.sheet.specs.Opening.{shut, decoded, unlessForeign, foreignFrom}
 use Rattle.grammar.specs.Grammar.{stored}
 use Rattle.reading.specs.Reading.{Parsed, tree, wrong, reading}
-use Rattle.validate.specs.Checking.{judged, verdict, isList, openingUnder, checking}
-use Rattle.validate.proofs.ListLaws.{listed}
+use Rattle.checking.specs.Checking.{judged, verdict, isList, openingUnder, checking}
+use Rattle.checking.proofs.ListLaws.{listed}
 use Rattle.error.specs.declared.Refusal.{Refusal}
 use Rattle.error.specs.declared.Refusal.the-variants.{TextTooLong, UnknownList}
 use Rattle.error.specs.declared.CheckAnswer.the-variants as check

@@ -12,7 +12,7 @@ use lib.Seq.{take-at}
 use Rattle.text.specs.Limits.{textLimit}
 use Rattle.digits.specs.Fewest.{form}
 use Rattle.sheet.specs.Sheet.{Forest, decode}
-use Rattle.validate.specs.Checking.{checking}
+use Rattle.checking.specs.Checking.{checking}
 use Rattle.error.specs.declared.Refusal.{Refusal}
 use Rattle.error.specs.declared.Refusal.the-variants.{Unwritable, ScriptTooLong}
 use Rattle.error.specs.declared.CheckAnswer.{CheckAnswer}

@@ -9,7 +9,7 @@ use Rattle.number.specs.Time.{Key}
 use Rattle.ast.specs.Tree.{Nodes}
 use Rattle.sheet.specs.Sheet.{Forest, decode}
 use Rattle.reading.specs.Reading.{tree, parse, reading}
-use Rattle.validate.specs.Checking.{checking}
+use Rattle.checking.specs.Checking.{checking}
 use Rattle.error.specs.declared.Refusal.the-variants.{NoiseHeld, Unwritable}
 use Rattle.error.specs.declared.ReadAnswer.the-variants as read
 use Rattle.error.specs.declared.CheckAnswer.the-variants as check

@@ -9,7 +9,7 @@ use Rattle.ast.specs.Tree.{Nodes}
 use Rattle.sheet.specs.Sheet.{Forest, decode}
 use Rattle.grammar.specs.Grammar.{stored}
 use Rattle.reading.specs.Reading.{Parsed, parse}
-use Rattle.validate.specs.Checking.{checking}
+use Rattle.checking.specs.Checking.{checking}
 use Rattle.error.specs.declared.Refusal.the-variants.{Unwritable}
 use Rattle.error.specs.declared.CheckAnswer.the-variants as check
 use Rattle.error.specs.declared.LineAnswer.the-variants.{Accepted, Refused}

@@ -28,7 +28,7 @@ use Rattle.lining.specs.Line.{line}
 use Rattle.lining.proofs.LineLaws.{length-line}
 use Rattle.line.proofs.PutLaws.{puts-whole}
 use Rattle.reading.specs.Reading.{reading, scratchWords}
-use Rattle.validate.specs.Checking.{checking}
+use Rattle.checking.specs.Checking.{checking}
 use Rattle.script.specs.Output.{decimalOut, accept, refusal, whenChecked, whenRead, printed}
 use Rattle.script.specs.Output.{output, paged, printing, lineBytes, sheetBytes, pageBytes}
 use Rattle.script.specs.Means.{linesOf}

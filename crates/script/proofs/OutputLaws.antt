@@ -29,7 +29,7 @@ use Rattle.sheet.proofs.Flat.{concat, sheet-flat}
 use Rattle.grammar.specs.Grammar.{stored}
 use Rattle.reading.specs.Reading.{reading}
 use Rattle.limits.proofs.Limits.{parses-fits, parses-small, parses-few, parses-opens}
-use Rattle.validate.specs.Checking.{checking}
+use Rattle.checking.specs.Checking.{checking}
 use Rattle.lining.specs.Line.{line}
 use Rattle.lining.specs.Lining.{placed, lining}
 use Rattle.lining.proofs.LineLaws.{length-line}

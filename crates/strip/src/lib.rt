@@ -2,7 +2,7 @@
 ghost use mathlib.Core.Path.{_≡_};
 ghost use Rattle.colors.specs.Css.{coloring};
 ghost use Rattle.reading.specs.Reading.{reading};
-ghost use Rattle.validate.specs.Checking.{checking};
+ghost use Rattle.checking.specs.Checking.{checking};
 ghost use Rattle.lining.specs.Lining.{lining};
 ghost use Rattle.converting.specs.Convert.{converting};
 ghost use Rattle.script.specs.Output.{printing};

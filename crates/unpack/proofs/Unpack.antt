@@ -8,7 +8,7 @@ use native.Mathlib.Omega.{arith}
 use lib.IntN.{ℤ}
 use lib.ListN.{take}
 use Rattle.reading.specs.Reading.{reading}
-use Rattle.validate.specs.Checking.{checking}
+use Rattle.checking.specs.Checking.{checking}
 use Rattle.lining.specs.Lining.{lining}
 use Rattle.converting.specs.Convert.{converting}
 use Rattle.script.specs.Output.{pageBytes, printing}

@@ -31,8 +31,8 @@ use Rattle.reading.specs.Reading.{Parsed, tree, wrong, unlessLeft, finished, pa
 use Rattle.reading.specs.Reading.{answered, early, unlessEarly, reading, scratchWords}
 use Rattle.limits.proofs.Limits.{parses-fits, parses-small}
 use Rattle.colors.specs.Css.{namesOf}
-use Rattle.node_rules.specs.Rules.{validateNodes}
-use Rattle.validate.specs.Checking.{answerOf, judged, verdict, openingUnder, checking}
+use Rattle.checking.specs.Rules.{validateNodes}
+use Rattle.checking.specs.Checking.{answerOf, judged, verdict, openingUnder, checking}
 use Rattle.lining.specs.Line.{line}
 use Rattle.lining.specs.Lining.{ofRecord, ofOpened, lining}
 use Rattle.lining.proofs.LineLaws.{length-line}

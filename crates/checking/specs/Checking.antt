@@ -9,7 +9,7 @@ use Rattle.ast.specs.Tree.{Nodes, KeyframeTime}
 use Rattle.sheet.specs.Sheet.{decode}
 use Rattle.sheet.specs.Opening.{Opened, opened, shut, decoded, afterText}
 use Rattle.colors.specs.Css.{namesOf}
-use Rattle.node_rules.specs.Rules.{validateNodes}
+use Rattle.checking.specs.Rules.{validateNodes}
 use Rattle.error.specs.declared.Refusal.{Refusal}
 use Rattle.error.specs.declared.Refusal.the-variants.{UnknownList}
 use Rattle.error.specs.declared.CheckAnswer.{CheckAnswer}

@@ -1,11 +1,13 @@
--- Rules in order: one more rule is one more test of the list.
+-- Rules in order: one more rule is one more test of the list. And a test that compares counts.
+use Prim.Native.Nat.{ℕ}
 use mathlib.Core.Bool.{Bool, true, false}
 use mathlib.Core.List.{List, [], _∷_, _++_}
 use mathlib.Core.Option.{Option, none, some}
 use mathlib.Core.Path.{_≡_, refl, sym, _∙_}
 use Rattle.text.specs.Words.{orElse}
 use Rattle.error.specs.declared.Refusal.{Refusal}
-use Rattle.node_rules.specs.Rules.{first}
+use Rattle.ast.specs.Tree.{scalar, array}
+use Rattle.checking.specs.Rules.{first, mismatched}
 
 first-append : (cs ds : List (Bool × Refusal)) → first (cs ++ ds) ≡ orElse (first cs) (first ds)
 unfolding first
@@ -34,3 +36,10 @@ module _ (b : Bool) (r : Refusal) where
   pub held : b ≡ false → none ≡ first ((b, r) ∷ [])
   unfolding first
   held e = rw e
+
+-- ---- 01: "comparing .. counts", not kinds
+
+-- a number and an array of one are as many, though of two kinds; arrays of one and of two are not, though of one kind
+pub counts-compared : (x y z : ℕ)
+    → (mismatched (scalar x) (array (y ∷ [])) ≡ false) × (mismatched (array (y ∷ [])) (array (y ∷ z ∷ [])) ≡ true)
+counts-compared x y z = (refl, refl)
