@@ -21,7 +21,7 @@ use Rattle.error.specs.declared.Refusal.the-variants.{TextTooLong, UnknownList}
 use Rattle.error.specs.declared.CheckAnswer.the-variants as check
 use Rattle.fresh.specs.Meaning.{sense}
 use Rattle.fresh.proofs.SenseLaws.{stored-same}
-use Rattle.back.specs.Back.{senseOf}
+use Rattle.writing.specs.Back.{senseOf}
 use Rattle.converted.specs.NoNoise.{EachLeaf, NotNoise, NoNoise}
 use Rattle.converted.proofs.RefusalLaws.{never-noise}
 use Rattle.given_back.specs.Corollaries.{NeverUnwritable, AcceptedAgain, ReadsNoNoise}

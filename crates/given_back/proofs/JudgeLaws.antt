@@ -28,7 +28,7 @@ use Rattle.error.specs.declared.Refusal.the-variants.{UnknownPreset, InvalidCol
 use Rattle.fresh.specs.Meaning.{EasingSense, named, cubicBezier, steps, wiggle, rough, slowMo, FrameSense}
 use Rattle.fresh.specs.Meaning.{LeafSense, tween, spring, keyframes, path, morph, draw, color, waveform, preset, label, at}
 use Rattle.fresh.specs.Meaning.{Sense, noNodes, leaf, box, optionSense, framesSense, leafSense}
-use Rattle.back.specs.Back.{senseOf}
+use Rattle.writing.specs.Back.{senseOf}
 
 abbrev same : KeyframeTime → KeyframeTime
 same k = k

@@ -16,7 +16,7 @@ use Rattle.error.specs.declared.CheckAnswer.the-variants as check
 use Rattle.error.specs.declared.LineAnswer.the-variants.{Accepted, Refused}
 use Rattle.rules.specs.Bare.{NoExponent}
 use Rattle.converted.specs.NoNoise.{NoNoise}
-use Rattle.back.specs.Back.{writing}
+use Rattle.writing.specs.Back.{writing}
 
 -- (f): a text without exponents, with the sheet that reading gave for it, is never 34, whatever the list and the buffers
 abbrev pub NeverUnwritable : Type 0

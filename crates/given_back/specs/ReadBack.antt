@@ -15,7 +15,7 @@ use Rattle.error.specs.declared.CheckAnswer.the-variants as check
 use Rattle.error.specs.declared.LineAnswer.the-variants.{Accepted, Refused}
 use Rattle.rules.specs.Bare.{NoExponent}
 use Rattle.fresh.specs.Meaning.{sense}
-use Rattle.back.specs.Back.{senseOf, writing}
+use Rattle.writing.specs.Back.{senseOf, writing}
 use Rattle.given_back.specs.Given.{Given}
 
 -- the sheet s of the text t, and the one that reading the text u gives, hold the same tree

@@ -8,7 +8,7 @@ ghost use Rattle.converting.specs.Convert.{converting};
 ghost use Rattle.script.specs.Output.{printing};
 ghost use Rattle.totals.specs.Mean.{mean};
 ghost use Rattle.feeding.specs.Feed.{fed, feeding};
-ghost use Rattle.back.specs.Back.{writing};
+ghost use Rattle.writing.specs.Back.{writing};
 ghost use Rattle.books.specs.Lookup.{lookingUp};
 ghost use Rattle.books.specs.Listing.{listing};
 ghost use Rattle.planed.specs.Planing.{planing, unplaning};

@@ -12,7 +12,7 @@ use Rattle.checking.specs.Checking.{checking}
 use Rattle.lining.specs.Lining.{lining}
 use Rattle.converting.specs.Convert.{converting}
 use Rattle.script.specs.Output.{pageBytes, printing}
-use Rattle.back.specs.Back.{writing}
+use Rattle.writing.specs.Back.{writing}
 use Rattle.books.specs.Lookup.{lookingUp}
 use Rattle.books.specs.Listing.{listing}
 use Rattle.planed.specs.Planing.{planing, unplaning}

@@ -51,7 +51,7 @@ use Rattle.error.specs.declared.LineAnswer.the-variants as lines
 use Rattle.digits.specs.Fewest.{form}
 use Rattle.fresh.specs.Meaning.{Sense}
 use Rattle.fresh.specs.Fresh.{script, hasText}
-use Rattle.back.specs.Back.{refusal, fitted, written, senseOf, ofTree, ofVerdict, writing}
+use Rattle.writing.specs.Back.{refusal, fitted, written, senseOf, ofTree, ofVerdict, writing}
 use Rattle.rules.proofs.StayLaws.{Near, LeftNear, OutNear, input-stays}
 use Rattle.unpack.proofs.SheetLaws.{sheet-some, Below, nodes-below, Before, foreign-before, Within, opening-within, under-within}
 
