@@ -12,7 +12,7 @@ ghost use Rattle.writing.specs.Back.{writing};
 ghost use Rattle.books.specs.Lookup.{lookingUp};
 ghost use Rattle.books.specs.Listing.{listing};
 ghost use Rattle.planed.specs.Planing.{planing, unplaning};
-ghost use Rattle.wave.specs.Wave.{drawing};
+ghost use Rattle.drawing.specs.Wave.{drawing};
 ghost use Rattle.packed.specs.Packed.{packedCheck, packedLookup, readOutcome, lineOutcome, printOutcome, feedOutcome, meanOutcome, colorOutcome, convertOutcome, orderOutcome, waveOutcome};
 use packed::pack_check;
 use packed::pack_color;

@@ -14,7 +14,7 @@ use Rattle.converting.proofs.ConvertLaws.{twice}
 use Rattle.converted.proofs.ConvertedLaws.{as-with-triangle, never-retired}
 use Rattle.books.proofs.RingLaws.{ring-refused, refused-ring, listed}
 use Rattle.planed.proofs.PlaningLaws.{there-and-back, back-and-there, not-planed-refused, refused-not-planed}
-use Rattle.wave.proofs.TableLaws.{rises, squares}
+use Rattle.drawing.proofs.TableLaws.{rises, squares}
 use Rattle.renamed.proofs.Renamed.{renaming}
 use Rattle.renamed.proofs.BytewiseLaws.{bytewise}
 use Rattle.theorems.specs.Theorems.{Theorems}

@@ -30,7 +30,7 @@ use Rattle.books.specs.Book.{Item, held, book}
 use Rattle.books.specs.Calls.{calls}
 use Rattle.books.specs.Listing.{listing}
 use Rattle.planed.specs.Planing.{planing, unplaning, Plain, PlanesTo}
-use Rattle.wave.specs.Table as wave
+use Rattle.drawing.specs.Table as wave
 use Rattle.renamed.specs.Renaming.{Renamed, Renaming}
 use Rattle.renamed.specs.Bytewise.{Bytewise}
 use Rattle.error.specs.declared.Refusal.the-variants.{RingOfCalls, NotPlaned}

@@ -16,7 +16,7 @@ use Rattle.writing.specs.Back.{writing}
 use Rattle.books.specs.Lookup.{lookingUp}
 use Rattle.books.specs.Listing.{listing}
 use Rattle.planed.specs.Planing.{planing, unplaning}
-use Rattle.wave.specs.Wave.{drawing}
+use Rattle.drawing.specs.Wave.{drawing}
 use Rattle.error.specs.Refusal.{numberOf}
 use Rattle.error.specs.declared.ReadAnswer.{ReadAnswer}
 use Rattle.error.specs.declared.ReadAnswer.the-variants as read

@@ -24,7 +24,7 @@ use Rattle.planed.specs.Planes.{planed, unplaned}
 use Rattle.planed.proofs.PlanedLaws.{length-planed, unplaned-is}
 use Rattle.planed.specs.Planing.{treeOr, openedAs, planing, unplaning}
 use Rattle.planed.specs.Planing.{answered as writtenAs}
-use Rattle.wave.specs.Wave.{filled, shifted, drawing}
+use Rattle.drawing.specs.Wave.{filled, shifted, drawing}
 use Rattle.grammar.specs.Rule.{Notes, Out, got, refused}
 use Rattle.grammar.specs.Grammar.{stored, animatoInput}
 use Rattle.reading.specs.Reading.{Parsed, tree, wrong, unlessLeft, finished, parsed, parse}

@@ -7,8 +7,8 @@ use Prim.Native.Nat.{ℕ, zero, suc, _+_, _*_, _-_, _<_, _≤_}
 use native.Mathlib.Nat.{le-of-suc-le-suc}
 use lib.Dec.{T, leb, leb→le}
 use lib.ListN.{length, getD}
-use Rattle.wave.specs.Table.{table}
-use Rattle.wave.proofs.Every.{both, every, at, both-left, both-right}
+use Rattle.drawing.specs.Table.{table}
+use Rattle.drawing.proofs.Every.{both, every, at, both-left, both-right}
 
 abbrev under : ℕ → ℕ → Bool
 under k x = leb x 32767

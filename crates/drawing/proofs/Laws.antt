@@ -10,11 +10,11 @@ use lib.IntN.{ℤ, pos, negsuc, negℤ, natAbs, _-ℤ_, negℤ-negℤ, +ℤ-idl,
 use lib.ListN.{length, getD, set}
 use mathlib.Core.Logic.{_⊎_, inl, inr, ⊎-elim}
 use Rattle.error.specs.declared.CheckAnswer.{CheckAnswer}
-use Rattle.wave.specs.Table.{table}
+use Rattle.drawing.specs.Table.{table}
 use lib.Seq.{getD-set-same, getD-set-other}
-use Rattle.wave.specs.Wave.{sineAt, triangleAt, quarterOf, folded, mirrored, sawtooth, square, height, filled, shifted, drawing}
-use Rattle.wave.proofs.WaveLaws as laws
-use Rattle.wave.proofs.WaveLaws.{either}
+use Rattle.drawing.specs.Wave.{sineAt, triangleAt, quarterOf, folded, mirrored, sawtooth, square, height, filled, shifted, drawing}
+use Rattle.drawing.proofs.WaveLaws as laws
+use Rattle.drawing.proofs.WaveLaws.{either}
 
 -- ---- range
 

@@ -5,7 +5,7 @@ use mathlib.Core.List.{List}
 use lib.Dec.{eqb, ltb, leb}
 use lib.IntN.{ℤ, pos, _-ℤ_}
 use lib.ListN.{length, getD, set}
-use Rattle.wave.specs.Table.{table}
+use Rattle.drawing.specs.Table.{table}
 use Rattle.error.specs.declared.Refusal.the-variants as cause
 use Rattle.error.specs.declared.CheckAnswer.{CheckAnswer}
 use Rattle.error.specs.declared.CheckAnswer.the-variants as answer
