@@ -34,10 +34,10 @@ use Rattle.sheet.specs.Sheet.{Forest, decode}
 use Rattle.codec.specs.Codec.{big}
 use Rattle.decode.specs.Reads.{Reads, same}
 use Rattle.error.specs.declared.Refusal.{Refusal}
-use Rattle.validate.specs.Checking.{verdict, openingUnder, checking}
+use Rattle.checking.specs.Checking.{verdict, openingUnder, checking}
 use Rattle.validate.proofs.CheckLaws.{its-tree}
 use Rattle.places.proofs.StandLaws.{head}
-use Rattle.back.specs.Back.{refusal, written, senseOf, writing}
+use Rattle.writing.specs.Back.{refusal, written, senseOf, writing}
 use Rattle.preorder.specs.Copy.{NodesPut}
 
 -- ---- the bytes of pieces, each with a blank behind it

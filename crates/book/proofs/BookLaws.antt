@@ -23,8 +23,8 @@ use Rattle.cursor.specs.Means.{nothing, leftOf, leftIs, Ready, Begins, notes, r
 use Rattle.cursor.specs.Means as cursor
 use Rattle.cursor.specs.declared.Cursor.{Cursor}
 use Rattle.cursor.specs.declared.Left.the-variants as left
-use Rattle.book.specs.Book.{Item, item, itemsStep, items, Book, held, wrong, unlessLeft, finished}
-use Rattle.book.specs.Book.{fresh, parsed, written, names, repeated, settled, itemLimit, book}
+use Rattle.books.specs.Book.{Item, item, itemsStep, items, Book, held, wrong, unlessLeft, finished}
+use Rattle.books.specs.Book.{fresh, parsed, written, names, repeated, settled, itemLimit, book}
 use Rattle.book.specs.Means.{ItemWent, Rows, rowed, Held, itemsOf}
 use Rattle.book.specs.declared.Item as code
 use Rattle.book.proofs.TableLaws.{rows-none, rows-more}

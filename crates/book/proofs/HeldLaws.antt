@@ -12,7 +12,7 @@ use Rattle.text.specs.Means.{placeOf}
 use Rattle.text.specs.declared.Found.{Found}
 use Rattle.text.proofs.WordLaws.{find-here, find-past}
 use Rattle.text.proofs.CaseLaws.{Case, yes!, no!, case}
-use Rattle.book.specs.Book.{Item, Book, held, names, itemLimit, book}
+use Rattle.books.specs.Book.{Item, Book, held, names, itemLimit, book}
 use Rattle.book.specs.Means.{Rows, Held}
 use Rattle.book.proofs.TableLaws.{names-long}
 use Rattle.book.proofs.BookLaws.{given}

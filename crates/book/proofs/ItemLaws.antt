@@ -20,7 +20,7 @@ use Rattle.codec.specs.Codec.{big}
 use Rattle.ast.specs.Tree.{width}
 use Rattle.sheet.specs.Sheet.{encode}
 use Rattle.blocks.specs.declared.Siblings.{Siblings}
-use Rattle.book.specs.Book as book
+use Rattle.books.specs.Book as book
 use Rattle.book.specs.Means.{BodyWent, ItemWent}
 use Rattle.book.specs.declared.Body.{Body}
 

@@ -13,7 +13,7 @@ use Rattle.text.specs.Bytes.{same, part}
 use Rattle.text.specs.Words.{isSome, find}
 use Rattle.text.proofs.WordLaws.{same-eq, same-refl, find-here, find-past}
 use Rattle.text.proofs.CaseLaws.{Case, yes!, no!, case}
-use Rattle.book.specs.Book.{Item, names, repeated}
+use Rattle.books.specs.Book.{Item, names, repeated}
 use Rattle.book.specs.Means.{Same, Row, Rows, rowed}
 use Rattle.book.specs.declared.Item as code
 

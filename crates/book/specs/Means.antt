@@ -17,7 +17,7 @@ use Rattle.cursor.specs.Word.{atOf}
 use Rattle.cursor.specs.Means.{run, Took, spelled}
 use Rattle.cursor.specs.declared.Cursor.{Cursor}
 use Rattle.sheet.specs.Sheet.{encode}
-use Rattle.book.specs.Book as book
+use Rattle.books.specs.Book as book
 use Rattle.book.specs.declared.Body.{Body}
 use Rattle.book.specs.declared.BodyRead.{BodyRead}
 use Rattle.book.specs.declared.BodyRead.the-variants as body

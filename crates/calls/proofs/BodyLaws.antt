@@ -33,10 +33,10 @@ use Rattle.cursor.specs.Means.{Took, notes, tokens}
 use Rattle.cursor.specs.declared.Cursor.{Cursor}
 use Rattle.rules.proofs.RunLaws.{Ends, Outcome}
 use Rattle.limits.proofs.NodeLaws.{Several, nodes-run, sized-ok, block-runs}
-use Rattle.book.specs.Book.{Item, Book, held, names}
+use Rattle.books.specs.Book.{Item, Book, held, names}
 use Rattle.book.specs.Means.{ItemWent}
 use Rattle.book.specs.declared.Item as item
-use Rattle.calls.specs.Calls.{presets, ordinals}
+use Rattle.books.specs.Calls.{presets, ordinals}
 use Rattle.calls.specs.Means.{mark, marks, namedBy, RecordHere, Sheet}
 use Rattle.calls.proofs.MarkLaws.{mark-is, marks-append, ordinals-append}
 use Rattle.calls.proofs.NodeLaws.{spoken, presets-are, SpanOk, all-spans, record-here}

@@ -13,13 +13,13 @@ use Rattle.grammar.specs.Rule.{refused}
 use Rattle.grammar.specs.Grammar.{stored}
 use Rattle.cursor.specs.Means.{nothing, Begins, run}
 use Rattle.cursor.specs.declared.Cursor.{Cursor}
-use Rattle.book.specs.Book.{Item, item, held, names, book}
+use Rattle.books.specs.Book.{Item, item, held, names, book}
 use Rattle.book.specs.Means.{ItemWent, Held}
 use Rattle.book.specs.declared.Item as code
 use Rattle.book.proofs.TableLaws.{names-long}
 use Rattle.book.proofs.HeldLaws.{held-same, few-items}
 use Rattle.book.proofs.BookLaws.{Walked, walked-start, Given, given, never-refused, next-item}
-use Rattle.calls.specs.Calls.{presets, ordinals, calls}
+use Rattle.books.specs.Calls.{presets, ordinals, calls}
 use Rattle.calls.specs.Means.{marks, Sheet, Filled}
 use Rattle.calls.proofs.MarkLaws.{ordinals-low, filled-none, filled-more}
 use Rattle.calls.proofs.NodeLaws.{presets-same}

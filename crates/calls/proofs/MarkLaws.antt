@@ -12,10 +12,10 @@ use lib.Seq.{getD-set-same, getD-set-other}
 use Rattle.text.specs.Bytes.{oneOf}
 use Rattle.text.specs.Words.{find}
 use Rattle.text.proofs.CaseLaws.{Case, yes!, no!, case}
-use Rattle.book.specs.Book.{Item}
+use Rattle.books.specs.Book.{Item}
 use Rattle.book.proofs.HeldLaws.{find-low}
 use Rattle.order.specs.Means.{callsIn}
-use Rattle.calls.specs.Calls.{with, ordinals, calls}
+use Rattle.books.specs.Calls.{with, ordinals, calls}
 use Rattle.calls.specs.Means.{mark, marks, Filled}
 
 -- ---- one mark

@@ -17,7 +17,7 @@ use Rattle.sheet.specs.Records.{recordOf, nodesOf, kindOf}
 use Rattle.sheet.proofs.Laws.{spanL, nodeL, innerL, OkNodes}
 use Rattle.sheet.proofs.Flat.{concat, inside}
 use Rattle.records.proofs.PlaceLaws.{Behind}
-use Rattle.calls.specs.Calls.{named, presets}
+use Rattle.books.specs.Calls.{named, presets}
 use Rattle.calls.specs.Means.{namedBy, RecordHere}
 
 -- the names of some nodes

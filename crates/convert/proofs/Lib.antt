@@ -1,3 +1,1 @@
 pub mod WalkLaws
-pub mod ConvertLaws
-pub mod KeptLaws

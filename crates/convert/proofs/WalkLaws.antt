@@ -1,4 +1,4 @@
--- The walk of the converter: a record is changed, and those behind it are as they were.
+-- The walk of the converter: a record is changed, and those behind it are as they were. Then the operation's ways out.
 use Prim.Native.Nat.{ℕ, _+_, _≤_, _<_}
 use mathlib.Core.Bool.{Bool, true, false, cond}
 use mathlib.Core.List.{List, [], _∷_, _++_, map, append-assoc, append-nil}
@@ -8,7 +8,7 @@ use native.Mathlib.Nat.{add-zero, sub-zero}
 use native.Mathlib.Omega.{arith}
 use borrow.Author.Tests.{ne-eqb}
 use lib.Dec.{eqb}
-use lib.ListN.{length, getD, take, drop, set, length-append, length-drop, length-set, take-append-drop, List·getD-append}
+use lib.ListN.{length, getD, take, drop, set, length-append, length-drop, take-append-drop, List·getD-append}
 use lib.Seq.{getD-drop, length-take-le, take-all, take-at, drop-at, set-append-left, take-set-le, drop-set-add}
 use Rattle.codec.specs.Codec.{big, eachOut}
 use Rattle.ast.specs.Tree as tree
@@ -18,8 +18,15 @@ use Rattle.sheet.specs.Records.{recordOf, nodesOf, allRecords}
 use Rattle.sheet.proofs.Flat.{concat, records-are}
 use Rattle.decode.specs.Reads.{Reads, same}
 use Rattle.records.proofs.PlaceLaws.{Behind, behind-head, behind-next, behind-last, first, this-one}
+use Rattle.opening.specs.declared.Opening.the-variants.{Open, Shut}
+use Rattle.opening.specs.Means.{answerOf}
+use Rattle.opening.proofs.OpenLaws.{the-tree, the-refusal}
+use Rattle.error.specs.declared.Refusal.{Refusal}
+use Rattle.error.specs.declared.CheckAnswer.the-variants.{Accepted, Refused}
+use Rattle.sheet.specs.Opening.{opening}
 use Rattle.ast.specs.Tree.{noise}
-use Rattle.convert.specs.Convert.{waveformKind, triangle, waveAt, holdsNoise, convertedRecord, convertedSheet}
+use Rattle.converting.specs.Convert.{waveformKind, triangle, waveAt, holdsNoise, convertedRecord, convertedSheet, converting}
+use Rattle.converting.proofs.ConvertLaws.{length-converted, head-stays, leaves, refused-stays}
 use Rattle.convert.specs.Means.{IsSheet, PassesRecord, Converts}
 
 -- ---- a record at a place
@@ -53,14 +60,6 @@ module _ (s : List ℕ) (at : ℕ) where
 
 -- ---- a record and what stands behind it
 
-pub length-converted : (r : List ℕ) → length (convertedRecord r) ≡ length r
-unfolding convertedRecord
-length-converted r = go (holdsNoise r)
-  where
-    go : (b : Bool) → length (cond b (set r waveAt triangle) r) ≡ length r
-    go true = length-set r waveAt triangle
-    go false = refl
-
 -- what stands behind it is as it was
 front : (r q : List ℕ) → 4 ≤ length r → convertedRecord (r ++ q) ≡ convertedRecord r ++ q
 unfolding convertedRecord holdsNoise
@@ -73,15 +72,6 @@ front r q h =
     (go (holdsNoise r))
   where
     go : (b : Bool) → cond b (set r waveAt triangle ++ q) (r ++ q) ≡ cond b (set r waveAt triangle) r ++ q
-    go true = refl
-    go false = refl
-
--- the head has no such byte
-pub head-stays : (k : ℕ) → convertedRecord (big 2 .write k) ≡ big 2 .write k
-unfolding convertedRecord
-head-stays k = go (holdsNoise (big 2 .write k))
-  where
-    go : (b : Bool) → cond b (big 2 .write k) (big 2 .write k) ≡ big 2 .write k
     go true = refl
     go false = refl
 
@@ -202,3 +192,17 @@ walked-next {n} {before} {s} {after} {end} {next} x h p e =
               ∙ x .whole;
           same-size = kept ∙ x .same-size;
         }
+
+-- ---- the operation's ways out
+
+module _ (t s : List ℕ) where
+  pub is-refused : {r : Refusal} {p : ℕ} → Shut r p ≡ answerOf (opening t s) → (Refused r p, s) ≡ converting t s
+  is-refused e = sym (refused-stays t s (the-refusal (opening t s) e))
+
+  pub is-sheet : Open ≡ answerOf (opening t s) → IsSheet (length t) s
+  is-sheet e = let o = the-tree t s e in record { tree = o .nodes; decodes = o .decodes }
+
+  pub is-converted : {after : List ℕ} → Open ≡ answerOf (opening t s) → Converts (length t) s after → (Accepted, after) ≡ converting t s
+  is-converted e h =
+      let o = the-tree t s e in
+      ap (λ (l : List ℕ). (Accepted, l)) (h (o .nodes) (o .decodes)) ∙ sym (leaves t s (o .nodes) (o .opens))

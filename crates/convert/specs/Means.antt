@@ -7,7 +7,7 @@ use Rattle.sheet.specs.Sheet.{Forest, decode}
 use Rattle.decode.specs.Reads.{Reads}
 use Rattle.records.specs.Record.{recordForm, recordView}
 use Rattle.records.specs.declared.Kind.{Kind}
-use Rattle.convert.specs.Convert.{convertedSheet}
+use Rattle.converting.specs.Convert.{convertedSheet}
 
 -- the bytes are a sheet for a text of n bytes
 pub record IsSheet (n : ℕ) (s : List ℕ) : Type 0 where

@@ -4,7 +4,7 @@ ghost use mathlib.Core.Path.{_≡_};
 ghost use Prim.Native.Nat.{_+_, _<_};
 ghost use lib.ListN.{length, take, drop};
 ghost use Rattle.error.specs.Answer.{checkValues};
-ghost use Rattle.convert.specs.Convert.{holdsNoise, convertedRecord, converting};
+ghost use Rattle.converting.specs.Convert.{holdsNoise, convertedRecord, converting};
 ghost use Rattle.convert.specs.Means.{IsSheet, PassesRecord, Converts};
 use decode::fields::take_field;
 use error::CheckAnswer;

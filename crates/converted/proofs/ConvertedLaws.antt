@@ -9,19 +9,19 @@ use borrow.Author.Tests.{eqb-false}
 use lib.Dec.{eqb}
 use Rattle.ast.specs.Tree.{KeyframeTime, Leaf, Nodes}
 use Rattle.sheet.specs.Sheet.{Forest}
-use Rattle.validate.specs.Checking.{verdict, checking}
-use Rattle.validate.proofs.CheckLaws.{known}
+use Rattle.checking.specs.Checking.{verdict, checking}
+use Rattle.checking.proofs.ListLaws.{known}
 use Rattle.ast.specs.Tree.{noise}
-use Rattle.convert.specs.Convert.{triangle, converting}
-use Rattle.convert.specs.Triangled.{triangledKind, triangledLeaf, triangled}
-use Rattle.convert.proofs.ConvertLaws.{converts, decodes-triangled, opens-triangled}
+use Rattle.converting.specs.Convert.{triangle, converting}
+use Rattle.converting.specs.Triangled.{triangledKind, triangledLeaf, triangled}
+use Rattle.converting.proofs.ConvertLaws.{converts, decodes-triangled, opens-triangled}
 use Rattle.converted.specs.NoNoise.{EachLeaf, NotNoise, NoNoise}
 use Rattle.converted.specs.Converted.{AsWithTriangle, NeverRetired}
 use Rattle.converted.proofs.RefusalLaws.{never-noise}
 
 pub as-with-triangle : AsWithTriangle
 unfolding checking
-as-with-triangle list t s ns l o = ap (verdict list t) (known list t (converting t s .1) l ∙ opens-triangled t s ns o)
+as-with-triangle list t s ns l o = ap (verdict list t) (known t (converting t s .1) list l ∙ opens-triangled t s ns o)
 
 -- ---- the tree with triangle holds no noise
 

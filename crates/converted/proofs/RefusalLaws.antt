@@ -19,11 +19,11 @@ use Rattle.ast.specs.Tree.{KeyframeTime, KeyframeEntry, Leaf, Container, sequen
 use Rattle.sheet.specs.Sheet.{Forest, decode}
 use Rattle.sheet.specs.Opening.{shut, decoded, unlessForeign, foreignFrom}
 use Rattle.colors.specs.Css.{namesOf}
-use Rattle.node_rules.specs.Rules.{given, unknownEasing, negative, timeOf, first, validateTween, validateSpring}
-use Rattle.node_rules.specs.Rules.{validateFrames, validateKeyframes, validatePath, validateMorph}
-use Rattle.node_rules.specs.Rules.{validateDraw, validateColor, validateWaveform, validatePresetCall, validateLeaf, validateContainer}
-use Rattle.node_rules.specs.Rules.{atOrdinal, validateNodes}
-use Rattle.validate.specs.Checking.{answerOf, judged, verdict, isList, openingUnder, checking}
+use Rattle.checking.specs.Rules.{given, unknownEasing, negative, timeOf, first, validateTween, validateSpring}
+use Rattle.checking.specs.Rules.{validateFrames, validateKeyframes, validatePath, validateMorph}
+use Rattle.checking.specs.Rules.{validateDraw, validateColor, validateWaveform, validatePresetCall, validateLeaf, validateContainer}
+use Rattle.checking.specs.Rules.{atOrdinal, validateNodes}
+use Rattle.checking.specs.Checking.{answerOf, judged, verdict, isList, openingUnder, checking}
 use Rattle.error.specs.Refusal.{numberOf}
 use Rattle.error.specs.declared.Refusal.{Refusal}
 use Rattle.error.specs.declared.Refusal.the-variants.{TextTooLong, OutOfRange, UnknownEasing, DuplicateTime, TooFewFrames}

@@ -6,11 +6,11 @@ use mathlib.Core.Logic.{_≢_}
 use mathlib.Core.Path.{_≡_}
 use Rattle.sheet.specs.Sheet.{Forest}
 use Rattle.sheet.specs.Opening.{opened, opening}
-use Rattle.validate.specs.Checking.{judged, isList, checking}
+use Rattle.checking.specs.Checking.{judged, isList, checking}
 use Rattle.error.specs.declared.Refusal.the-variants.{NoiseHeld}
 use Rattle.error.specs.declared.CheckAnswer.the-variants.{Accepted, Refused}
-use Rattle.convert.specs.Convert.{converting}
-use Rattle.convert.specs.Triangled.{triangled}
+use Rattle.converting.specs.Convert.{converting}
+use Rattle.converting.specs.Triangled.{triangled}
 
 -- "Checking a converted sheet answers, under either list, as the checking rules do for the tree with triangle": ns is the tree of the sheet
 -- s that was lent, for a text that 1 and 2 do not refuse

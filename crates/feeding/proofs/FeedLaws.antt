@@ -28,7 +28,7 @@ use Rattle.records.specs.Record.{recordForm, recordView}
 use Rattle.records.specs.declared.Kind.{Kind}
 use Rattle.records.proofs.PlaceLaws.{Behind, behind-head, behind-next, behind-last}
 use Rattle.reading.specs.Reading.{reading}
-use Rattle.validate.specs.Checking.{checking}
+use Rattle.checking.specs.Checking.{checking}
 use Rattle.totals.specs.Totals.{firstKindWord, entriesWord, figureLimit, sumOf, over, scripts, added, inWord}
 use Rattle.error.proofs.NumberLaws.{numbered}
 use Rattle.totals.proofs.TotalsLaws.{length-added, word-added, added-same, added-twice, added-none, within}

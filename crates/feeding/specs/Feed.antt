@@ -14,7 +14,7 @@ use Rattle.error.specs.declared.CheckAnswer.the-variants as check
 use Rattle.sheet.specs.Sheet.{Node, Forest, decode}
 use Rattle.sheet.specs.Records.{nodesOf, kindOf, entriesOf}
 use Rattle.reading.specs.Reading.{reading}
-use Rattle.validate.specs.Checking.{checking}
+use Rattle.checking.specs.Checking.{checking}
 use Rattle.totals.specs.Totals.{firstKindWord, entriesWord, scriptLimit, sumOf, over, scripts, added, inWord}
 use Rattle.error.specs.declared.FeedAnswer.{FeedAnswer}
 use Rattle.error.specs.declared.FeedAnswer.the-variants.{Counted, Refused}

@@ -14,14 +14,14 @@ use Rattle.sheet.specs.Sheet.{Forest, decode}
 use Rattle.sheet.specs.Opening.{shut, decoded, unlessForeign, foreignFrom}
 use Rattle.grammar.specs.Grammar.{stored}
 use Rattle.reading.specs.Reading.{Parsed, tree, wrong, reading}
-use Rattle.validate.specs.Checking.{judged, verdict, isList, openingUnder, checking}
-use Rattle.validate.proofs.ListLaws.{listed}
+use Rattle.checking.specs.Checking.{judged, verdict, isList, openingUnder, checking}
+use Rattle.checking.proofs.ListLaws.{listed}
 use Rattle.error.specs.declared.Refusal.{Refusal}
 use Rattle.error.specs.declared.Refusal.the-variants.{TextTooLong, UnknownList}
 use Rattle.error.specs.declared.CheckAnswer.the-variants as check
 use Rattle.fresh.specs.Meaning.{sense}
 use Rattle.fresh.proofs.SenseLaws.{stored-same}
-use Rattle.back.specs.Back.{senseOf}
+use Rattle.writing.specs.Back.{senseOf}
 use Rattle.converted.specs.NoNoise.{EachLeaf, NotNoise, NoNoise}
 use Rattle.converted.proofs.RefusalLaws.{never-noise}
 use Rattle.given_back.specs.Corollaries.{NeverUnwritable, AcceptedAgain, ReadsNoNoise}

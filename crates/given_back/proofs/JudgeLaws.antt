@@ -17,18 +17,18 @@ use Rattle.presets.specs.Presets.{isPreset}
 use Rattle.ast.specs.Tree.{EasingSpec, KeyframeTime, KeyframeEntry, Leaf, Nodes, records}
 use Rattle.sheet.specs.Sheet.{Forest}
 use Rattle.colors.specs.Css.{namesOf}
-use Rattle.node_rules.specs.Rules.{negative, notPositive, outsideUnit, given, unknownEasing, mismatched, first, timeOf}
-use Rattle.node_rules.specs.Rules.{validateTween, validateSpring, validateFrames, validateKeyframes, validatePath, validateMorph}
-use Rattle.node_rules.specs.Rules.{validateDraw, validateColor, validateWaveform, validatePresetCall, validateLeaf, validateContainer}
-use Rattle.node_rules.specs.Rules.{atOrdinal, validateNodes}
-use Rattle.validate.specs.Checking.{answerOf, judged}
+use Rattle.checking.specs.Rules.{negative, notPositive, outsideUnit, given, unknownEasing, mismatched, first, timeOf}
+use Rattle.checking.specs.Rules.{validateTween, validateSpring, validateFrames, validateKeyframes, validatePath, validateMorph}
+use Rattle.checking.specs.Rules.{validateDraw, validateColor, validateWaveform, validatePresetCall, validateLeaf, validateContainer}
+use Rattle.checking.specs.Rules.{atOrdinal, validateNodes}
+use Rattle.checking.specs.Checking.{answerOf, judged}
 use Rattle.error.specs.declared.Refusal.{Refusal}
 use Rattle.error.specs.declared.Refusal.the-variants.{OutOfRange, ValueTypeMismatch, UnknownEasing}
 use Rattle.error.specs.declared.Refusal.the-variants.{UnknownPreset, InvalidColor, DuplicateTime, TooFewFrames}
 use Rattle.fresh.specs.Meaning.{EasingSense, named, cubicBezier, steps, wiggle, rough, slowMo, FrameSense}
 use Rattle.fresh.specs.Meaning.{LeafSense, tween, spring, keyframes, path, morph, draw, color, waveform, preset, label, at}
 use Rattle.fresh.specs.Meaning.{Sense, noNodes, leaf, box, optionSense, framesSense, leafSense}
-use Rattle.back.specs.Back.{senseOf}
+use Rattle.writing.specs.Back.{senseOf}
 
 abbrev same : KeyframeTime → KeyframeTime
 same k = k

@@ -12,7 +12,7 @@ use lib.Seq.{take-at}
 use Rattle.text.specs.Limits.{textLimit}
 use Rattle.digits.specs.Fewest.{form}
 use Rattle.sheet.specs.Sheet.{Forest, decode}
-use Rattle.validate.specs.Checking.{checking}
+use Rattle.checking.specs.Checking.{checking}
 use Rattle.error.specs.declared.Refusal.{Refusal}
 use Rattle.error.specs.declared.Refusal.the-variants.{Unwritable, ScriptTooLong}
 use Rattle.error.specs.declared.CheckAnswer.{CheckAnswer}
@@ -22,7 +22,7 @@ use Rattle.error.specs.declared.LineAnswer.the-variants.{Accepted, Refused}
 use Rattle.fresh.specs.Meaning.{Sense}
 use Rattle.fresh.specs.Fresh.{script, hasText}
 use Rattle.fresh.specs.Reads.{ReadsTo}
-use Rattle.back.specs.Back.{refusal, fitted, written, senseOf, ofTree, ofVerdict, writing}
+use Rattle.writing.specs.Back.{refusal, fitted, written, senseOf, ofTree, ofVerdict, writing}
 use Rattle.given_back.specs.ReadBack.{ReadBack, NoText, Exactly34}
 use Rattle.given_back.proofs.ReadLaws.{parses-to, reads-to, given}
 use Rattle.given_back.proofs.ScriptLaws.{script-back, no-text}

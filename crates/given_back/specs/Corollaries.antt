@@ -9,14 +9,14 @@ use Rattle.number.specs.Time.{Key}
 use Rattle.ast.specs.Tree.{Nodes}
 use Rattle.sheet.specs.Sheet.{Forest, decode}
 use Rattle.reading.specs.Reading.{tree, parse, reading}
-use Rattle.validate.specs.Checking.{checking}
+use Rattle.checking.specs.Checking.{checking}
 use Rattle.error.specs.declared.Refusal.the-variants.{NoiseHeld, Unwritable}
 use Rattle.error.specs.declared.ReadAnswer.the-variants as read
 use Rattle.error.specs.declared.CheckAnswer.the-variants as check
 use Rattle.error.specs.declared.LineAnswer.the-variants.{Accepted, Refused}
 use Rattle.rules.specs.Bare.{NoExponent}
 use Rattle.converted.specs.NoNoise.{NoNoise}
-use Rattle.back.specs.Back.{writing}
+use Rattle.writing.specs.Back.{writing}
 
 -- (f): a text without exponents, with the sheet that reading gave for it, is never 34, whatever the list and the buffers
 abbrev pub NeverUnwritable : Type 0

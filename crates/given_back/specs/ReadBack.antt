@@ -9,13 +9,13 @@ use Rattle.ast.specs.Tree.{Nodes}
 use Rattle.sheet.specs.Sheet.{Forest, decode}
 use Rattle.grammar.specs.Grammar.{stored}
 use Rattle.reading.specs.Reading.{Parsed, parse}
-use Rattle.validate.specs.Checking.{checking}
+use Rattle.checking.specs.Checking.{checking}
 use Rattle.error.specs.declared.Refusal.the-variants.{Unwritable}
 use Rattle.error.specs.declared.CheckAnswer.the-variants as check
 use Rattle.error.specs.declared.LineAnswer.the-variants.{Accepted, Refused}
 use Rattle.rules.specs.Bare.{NoExponent}
 use Rattle.fresh.specs.Meaning.{sense}
-use Rattle.back.specs.Back.{senseOf, writing}
+use Rattle.writing.specs.Back.{senseOf, writing}
 use Rattle.given_back.specs.Given.{Given}
 
 -- the sheet s of the text t, and the one that reading the text u gives, hold the same tree

@@ -1,4 +1,1 @@
-pub mod LineLaws
-pub mod ByteLaws
-pub mod BackLaws
-pub mod CheckLaws
+pub mod PutLaws

@@ -10,15 +10,15 @@ use lib.ListN.{length, take, drop, set, getD}
 use lib.Seq.{length-take-le, paste-suc}
 use Rattle.error.specs.declared.Refusal.{Refusal}
 use Rattle.error.specs.declared.Refusal.the-variants.{RingOfCalls, OutputTooShort}
-use Rattle.book.specs.Book.{wrong, book}
+use Rattle.books.specs.Book.{wrong, book}
 use Rattle.book.specs.Means.{Held}
 use Rattle.order.specs.Order.{order}
 use Rattle.order.specs.Means.{callsIn, Square, listOf}
 use Rattle.order.proofs.SameLaws.{order-same}
-use Rattle.calls.specs.Calls.{calls}
+use Rattle.books.specs.Calls.{calls}
 use Rattle.calls.specs.Means.{Filled}
 use Rattle.book.proofs.HeldLaws.{few-items}
-use Rattle.listing.specs.Listing.{put, listingOf, listing}
+use Rattle.books.specs.Listing.{put, listingOf, listing}
 use Rattle.error.specs.declared.OrderAnswer.{OrderAnswer}
 use Rattle.error.specs.declared.OrderAnswer.the-variants as answer
 

@@ -8,10 +8,10 @@ use lib.ListN.{length, getD, getElem?}
 use Rattle.text.specs.Words.{find}
 use Rattle.error.specs.declared.Refusal.{Refusal}
 use Rattle.error.specs.declared.Refusal.the-variants.{NoSuchItem}
-use Rattle.book.specs.Book.{Item, Book, held, wrong, names, book}
+use Rattle.books.specs.Book.{Item, Book, held, wrong, names, book}
 use Rattle.book.specs.Means.{Held}
 use Rattle.book.proofs.HeldLaws.{found-low}
-use Rattle.lookup.specs.Lookup.{named, found, inBooks, lookingUp}
+use Rattle.books.specs.Lookup.{named, found, inBooks, lookingUp}
 use Rattle.lookup.specs.Means.{placed, looked}
 use Rattle.lookup.specs.declared.Place.{Place}
 use Rattle.lookup.specs.declared.Place.the-variants as place

@@ -2,8 +2,8 @@
 use Prim.Native.Nat.{ℕ, _-_}
 use mathlib.Core.List.{List}
 use mathlib.Core.Option.{Option, none, some}
-use Rattle.book.specs.Book.{Item, Book, held, wrong}
-use Rattle.lookup.specs.Lookup.{named}
+use Rattle.books.specs.Book.{Item, Book, held, wrong}
+use Rattle.books.specs.Lookup.{named}
 use Rattle.lookup.specs.declared.Place.{Place}
 use Rattle.lookup.specs.declared.Place.the-variants as place
 

@@ -1,8 +1,8 @@
 // 02 (i): a name looked up in two books, the store's and the chain's.
 ghost use mathlib.Core.Path.{_≡_};
 ghost use Rattle.error.specs.Answer.{lookupValues};
-ghost use Rattle.book.specs.Book.{book as Book·book};
-ghost use Rattle.lookup.specs.Lookup.{lookingUp, lent};
+ghost use Rattle.books.specs.Book.{book as Book·book};
+ghost use Rattle.books.specs.Lookup.{lookingUp, lent};
 ghost use Rattle.lookup.specs.Means.{looked};
 use book::BookRead;
 use error::LookupAnswer;

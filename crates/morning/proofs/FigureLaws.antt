@@ -20,8 +20,8 @@ use Rattle.sheet.specs.Sheet.{Node, decode}
 use Rattle.sheet.specs.Records.{recordOf, recordsOf, nodesOf, allRecords, kindOf, entriesOf}
 use Rattle.sheet.proofs.Flat.{concat, records-are}
 use Rattle.reading.specs.Reading.{reading}
-use Rattle.validate.specs.Checking.{isList, checking}
-use Rattle.validate.proofs.ListLaws.{unlisted-opened as checking-unlisted}
+use Rattle.checking.specs.Checking.{isList, checking}
+use Rattle.checking.proofs.ListLaws.{unlisted-opened as checking-unlisted}
 use Rattle.script.proofs.OutputLaws.{held}
 use Rattle.totals.specs.Totals.{sumOf, itself, addedFrom, added, inWord}
 use Rattle.error.proofs.NumberLaws.{numbered}

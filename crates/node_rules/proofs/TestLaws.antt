@@ -22,7 +22,7 @@ use Rattle.ast.specs.declared.OptPattern.the-variants as optPattern
 use Rattle.ast.specs.declared.OptF32.the-variants as optFloat
 use Rattle.ast.specs.declared.OptRange.the-variants as optRange
 use Rattle.ast.specs.declared.OptEasing.the-variants as optEasing
-use Rattle.node_rules.specs.Rules.{nought, one, negative, notPositive, outsideUnit, given, unknownEasing, mismatched, emptyGrid}
+use Rattle.checking.specs.Rules.{nought, one, negative, notPositive, outsideUnit, given, unknownEasing, mismatched, emptyGrid}
 use Rattle.node_rules.specs.Means.{Tells}
 
 -- ---- numbers

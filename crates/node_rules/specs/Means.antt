@@ -6,7 +6,7 @@ use Rattle.ast.specs.Tree.{StaggerPatternSpec, stagger}
 use Rattle.ast.specs.View.{staggerView}
 use Rattle.ast.specs.declared.StaggerSpec as staggers
 use Rattle.error.specs.declared.Refusal.{Refusal}
-use Rattle.node_rules.specs.Rules.{validateContainer}
+use Rattle.checking.specs.Rules.{validateContainer}
 use Rattle.node_rules.specs.declared.faults.Fault.{Fault}
 use Rattle.node_rules.specs.declared.faults.Fault.the-variants.{None, Is}
 

@@ -24,10 +24,11 @@ use Rattle.text.proofs.WriteLaws.{puts-then}
 use Rattle.sheet.specs.Records.{allRecords}
 use Rattle.sheet.proofs.Flat.{concat}
 use Rattle.records.proofs.PlaceLaws.{Stands, no-more}
-use Rattle.line.specs.Line.{line}
-use Rattle.line.proofs.LineLaws.{length-line, puts-whole}
+use Rattle.lining.specs.Line.{line}
+use Rattle.lining.proofs.LineLaws.{length-line}
+use Rattle.line.proofs.PutLaws.{puts-whole}
 use Rattle.reading.specs.Reading.{reading, scratchWords}
-use Rattle.validate.specs.Checking.{checking}
+use Rattle.checking.specs.Checking.{checking}
 use Rattle.script.specs.Output.{decimalOut, accept, refusal, whenChecked, whenRead, printed}
 use Rattle.script.specs.Output.{output, paged, printing, lineBytes, sheetBytes, pageBytes}
 use Rattle.script.specs.Means.{linesOf}

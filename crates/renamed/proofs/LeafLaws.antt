@@ -17,8 +17,8 @@ use Rattle.number.specs.Rounded.{numberRounded, timeRounded}
 use Rattle.number.specs.Time.{Key}
 use Rattle.token.specs.Token.{Token, kind, isMark}
 use Rattle.ast.specs.Tree.{Leaf, KeyframeEntry, mapFrames, mapLeaf}
-use Rattle.node_rules.specs.Rules.{validateTween, validateSpring, validateFrames, validateKeyframes, validatePath}
-use Rattle.node_rules.specs.Rules.{validateMorph, validateDraw, validateColor, validateWaveform, validatePresetCall, validateLeaf}
+use Rattle.checking.specs.Rules.{validateTween, validateSpring, validateFrames, validateKeyframes, validatePath}
+use Rattle.checking.specs.Rules.{validateMorph, validateDraw, validateColor, validateWaveform, validatePresetCall, validateLeaf}
 use Rattle.error.specs.declared.Refusal.the-variants.{UnknownKeyword, Malformed, UnknownSpringPreset}
 use Rattle.error.specs.declared.Refusal.the-variants.{MissingDuration, StaggerGridIncomplete}
 use Rattle.grammar.specs.Rule.{Notes, Out, got, refused, Rule, give, need, if}

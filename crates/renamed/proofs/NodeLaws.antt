@@ -12,7 +12,7 @@ use Rattle.text.specs.Words.{under}
 use Rattle.number.specs.Time.{Key}
 use Rattle.token.specs.Token.{Token, kind, rest, isMark}
 use Rattle.ast.specs.Tree.{Leaf, Container, Nodes, leaf, box, MotionNode, single, holding, push, records, mapTimes}
-use Rattle.node_rules.specs.Rules.{validateNodes}
+use Rattle.checking.specs.Rules.{validateNodes}
 use Rattle.error.specs.declared.Refusal.the-variants.{TooManyNested, Missing}
 use Rattle.grammar.specs.Rule.{Notes, Out, got, refused, Rule, after, give, refuse, if, _>>=_, _>>_, skip, sees, seesByte, ends}
 use Rattle.grammar.specs.Rule.{Next, more, done, iterate, repeat}

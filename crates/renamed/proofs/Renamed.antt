@@ -14,7 +14,7 @@ use Rattle.grammar.specs.Grammar.{stored, animatoInput}
 use Rattle.reading.specs.Reading.{parse, tree, reading}
 use Rattle.limits.proofs.Limits.{Parses, parses}
 use Rattle.colors.specs.Css.{namesOf}
-use Rattle.validate.specs.Checking.{answerOf, judged, isList, checking}
+use Rattle.checking.specs.Checking.{answerOf, judged, isList, checking}
 use Rattle.error.specs.declared.ReadAnswer.{ReadAnswer}
 use Rattle.error.specs.declared.ReadAnswer.the-variants.{Accepted, Refused}
 use Rattle.script.proofs.Reading.{due}

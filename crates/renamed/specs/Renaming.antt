@@ -6,7 +6,7 @@ use mathlib.Core.Path.{_≡_}
 use lib.ListN.{take}
 use Rattle.token.specs.Token.{tokensFrom}
 use Rattle.reading.specs.Reading.{Parsed, tree, wrong, parse, reading}
-use Rattle.validate.specs.Checking.{isList, checking}
+use Rattle.checking.specs.Checking.{isList, checking}
 use Rattle.error.specs.declared.ReadAnswer.the-variants.{Accepted}
 use Rattle.renamed.specs.Words.{freeOf, Agree}
 

@@ -15,9 +15,10 @@ use Rattle.text.specs.Words.{orElse}
 use Rattle.number.specs.Number.{f32}
 use Rattle.number.specs.Time.{anyNear, duplicates}
 use Rattle.ast.specs.Tree.{KeyframeTime, KeyframeEntry, KeyframeSpec, Leaf, keyframes, Container, Nodes, leaf, box, records, preorder}
-use Rattle.node_rules.specs.Rules.{timeOf, given, unknownEasing, first, validateFrames, validateKeyframes}
-use Rattle.node_rules.specs.Rules.{validateLeaf, validateContainer, atOrdinal, validateNodes}
-use Rattle.validate.proofs.FrameLaws.{stamps, none≢some}
+use Rattle.checking.specs.Rules.{timeOf, given, unknownEasing, first, validateFrames, validateKeyframes}
+use Rattle.checking.specs.Rules.{validateLeaf, validateContainer, atOrdinal, validateNodes}
+use Rattle.checking.proofs.FrameLaws.{stamps}
+use Rattle.rules.proofs.ListLaws.{none≢some}
 use Rattle.error.specs.declared.Refusal.{Refusal}
 use Rattle.error.specs.declared.Refusal.the-variants.{DuplicateTime, UnknownEasing, TooFewFrames}
 

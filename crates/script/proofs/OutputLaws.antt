@@ -29,10 +29,10 @@ use Rattle.sheet.proofs.Flat.{concat, sheet-flat}
 use Rattle.grammar.specs.Grammar.{stored}
 use Rattle.reading.specs.Reading.{reading}
 use Rattle.limits.proofs.Limits.{parses-fits, parses-small, parses-few, parses-opens}
-use Rattle.validate.specs.Checking.{checking}
-use Rattle.line.specs.Line.{line}
-use Rattle.line.specs.Lining.{placed, lining}
-use Rattle.line.proofs.LineLaws.{length-line}
+use Rattle.checking.specs.Checking.{checking}
+use Rattle.lining.specs.Line.{line}
+use Rattle.lining.specs.Lining.{placed, lining}
+use Rattle.lining.proofs.LineLaws.{length-line}
 use Rattle.script.specs.Output.{decimalOut, refusal, accept, lineThen, lines, whenChecked, whenRead, printed, sheetBytes, pageBytes}
 use Rattle.script.specs.Means.{linesOf}
 use Rattle.script.proofs.Reading.{sheetOf, accepts, due}

@@ -16,9 +16,10 @@ use Rattle.ast.specs.Tree.{KeyframeTime, percent, seconds, KeyframeEntry, Keyfr
 use Rattle.ast.specs.Tree.{keyframes, Nodes, leaf, box, mapFrames, mapLeaf, mapTimes, preorder}
 use Rattle.grammar.specs.Grammar.{stored}
 use Rattle.colors.specs.Css.{namesOf}
-use Rattle.node_rules.specs.Rules.{timeOf}
-use Rattle.validate.specs.Checking.{answerOf, judged}
-use Rattle.validate.proofs.FrameLaws.{stamps, none≢some}
+use Rattle.checking.specs.Rules.{timeOf}
+use Rattle.checking.specs.Checking.{answerOf, judged}
+use Rattle.checking.proofs.FrameLaws.{stamps}
+use Rattle.rules.proofs.ListLaws.{none≢some}
 use Rattle.error.specs.declared.Refusal.{Refusal}
 use Rattle.error.specs.declared.Refusal.the-variants.{DuplicateTime}
 use Rattle.error.specs.declared.CheckAnswer.the-variants.{Accepted, Refused}

@@ -16,7 +16,7 @@ use Rattle.sheet.specs.Opening.{foreignFrom}
 use Rattle.sheet.proofs.Laws.{Fits, decodes}
 use Rattle.grammar.specs.Grammar.{stored}
 use Rattle.reading.specs.Reading.{tree, parse, reading}
-use Rattle.validate.specs.Checking.{judged, isList, openingUnder, checking}
+use Rattle.checking.specs.Checking.{judged, isList, openingUnder, checking}
 use Rattle.error.specs.declared.ReadAnswer.{ReadAnswer}
 use Rattle.error.specs.declared.ReadAnswer.the-variants as read
 use Rattle.error.specs.declared.CheckAnswer.{CheckAnswer}

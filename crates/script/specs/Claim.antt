@@ -13,8 +13,8 @@ use Rattle.ast.specs.Tree.{Nodes, KeyframeTime, KeyframeEntry, KeyframeSpec, ke
 use Rattle.sheet.specs.Sheet.{encode, decode}
 use Rattle.grammar.specs.Grammar.{stored}
 use Rattle.reading.specs.Reading.{parse, tree, reading, scratchWords}
-use Rattle.node_rules.specs.Rules.{timeOf}
-use Rattle.validate.specs.Checking.{judged, isList, checking}
+use Rattle.checking.specs.Rules.{timeOf}
+use Rattle.checking.specs.Checking.{judged, isList, checking}
 use Rattle.error.specs.declared.Refusal.the-variants.{DuplicateTime}
 use Rattle.error.specs.declared.ReadAnswer.{ReadAnswer}
 use Rattle.error.specs.declared.ReadAnswer.the-variants as read

@@ -5,7 +5,7 @@ use mathlib.Core.List.{List, [], _∷_, _++_}
 use lib.Dec.{ltb}
 use lib.ListN.{length}
 use Rattle.error.specs.declared.Refusal.the-variants.{OutputTooShort}
-use Rattle.line.specs.Line.{line}
+use Rattle.lining.specs.Line.{line}
 use Rattle.script.specs.Output.{refusal, accept}
 
 -- the lines of the records rs from the ordinal i on, each with so much room, then `accept N`

@@ -6,8 +6,8 @@ use lib.Dec.{ltb}
 use lib.ListN.{length, take, drop, replicate}
 use Rattle.text.specs.Bytes.{bytes}
 use Rattle.reading.specs.Reading.{reading, scratchWords}
-use Rattle.validate.specs.Checking.{checking}
-use Rattle.line.specs.Lining.{lining}
+use Rattle.checking.specs.Checking.{checking}
+use Rattle.lining.specs.Lining.{lining}
 use Rattle.error.specs.Refusal.{numberOf}
 use Rattle.error.specs.declared.Refusal.{Refusal}
 use Rattle.error.specs.declared.Refusal.the-variants.{OutputTooShort}

@@ -7,7 +7,7 @@ use lib.Dec.{T, ltb}
 use lib.ListN.{take, replicate}
 use Rattle.text.specs.Bytes.{bytes, same}
 use Rattle.reading.specs.Reading.{reading, scratchWords}
-use Rattle.validate.specs.Checking.{checking}
+use Rattle.checking.specs.Checking.{checking}
 use Rattle.script.specs.Output.{sheetBytes, output}
 use Rattle.error.specs.Answer.{readValues, checkValues}
 use Rattle.error.specs.declared.ReadAnswer.{ReadAnswer}
@@ -163,15 +163,15 @@ unfolding Rattle.text.specs.Bytes.same Rattle.text.specs.Bytes.oneOf Rattle.t
     Rattle.grammar.specs.Values.pingPongMode Rattle.grammar.specs.Values.loopModes Rattle.grammar.specs.Values.parseLoopMode
     Rattle.grammar.specs.Values.easing Rattle.grammar.specs.Values.loopMode Rattle.reading.specs.Reading.parse
     Rattle.reading.specs.Reading.early Rattle.reading.specs.Reading.reading Rattle.colors.specs.Css.namesOf
-    Rattle.validate.specs.Checking.judged Rattle.validate.specs.Checking.isList Rattle.validate.specs.Checking.openingUnder
-    Rattle.validate.specs.Checking.checking Rattle.node_rules.specs.Rules.negative Rattle.node_rules.specs.Rules.notPositive
-    Rattle.node_rules.specs.Rules.outsideUnit Rattle.node_rules.specs.Rules.unknownEasing Rattle.node_rules.specs.Rules.first
-    Rattle.node_rules.specs.Rules.validateTween Rattle.node_rules.specs.Rules.validateSpring Rattle.node_rules.specs.Rules.validateFrames
-    Rattle.node_rules.specs.Rules.validateKeyframes Rattle.node_rules.specs.Rules.validatePath Rattle.node_rules.specs.Rules.validateMorph
-    Rattle.node_rules.specs.Rules.validateDraw Rattle.node_rules.specs.Rules.validateColor Rattle.node_rules.specs.Rules.validateWaveform
-    Rattle.node_rules.specs.Rules.validatePresetCall Rattle.node_rules.specs.Rules.validateLeaf Rattle.node_rules.specs.Rules.emptyGrid
-    Rattle.node_rules.specs.Rules.validateContainer Rattle.node_rules.specs.Rules.validateNodes Rattle.line.specs.Line.hex
-    Rattle.line.specs.Line.total Rattle.line.specs.Line.checkByte Rattle.line.specs.Line.line Rattle.line.specs.Lining.lining
+    Rattle.checking.specs.Checking.judged Rattle.checking.specs.Checking.isList Rattle.checking.specs.Checking.openingUnder
+    Rattle.checking.specs.Checking.checking Rattle.checking.specs.Rules.negative Rattle.checking.specs.Rules.notPositive
+    Rattle.checking.specs.Rules.outsideUnit Rattle.checking.specs.Rules.unknownEasing Rattle.checking.specs.Rules.first
+    Rattle.checking.specs.Rules.validateTween Rattle.checking.specs.Rules.validateSpring Rattle.checking.specs.Rules.validateFrames
+    Rattle.checking.specs.Rules.validateKeyframes Rattle.checking.specs.Rules.validatePath Rattle.checking.specs.Rules.validateMorph
+    Rattle.checking.specs.Rules.validateDraw Rattle.checking.specs.Rules.validateColor Rattle.checking.specs.Rules.validateWaveform
+    Rattle.checking.specs.Rules.validatePresetCall Rattle.checking.specs.Rules.validateLeaf Rattle.checking.specs.Rules.emptyGrid
+    Rattle.checking.specs.Rules.validateContainer Rattle.checking.specs.Rules.validateNodes Rattle.lining.specs.Line.hex
+    Rattle.lining.specs.Line.total Rattle.lining.specs.Line.checkByte Rattle.lining.specs.Line.line Rattle.lining.specs.Lining.lining
     Rattle.script.specs.Output.decimalOut Rattle.script.specs.Output.refusal Rattle.script.specs.Output.accept
     Rattle.script.specs.Output.lines Rattle.script.specs.Output.output holds every table lib.Ieee.round lib.Ieee.div
     lib.Ieee.toBits lib.Ieee.ofBits lib.Ieee.lt lib.Ieee.le lib.Ieee.sub

@@ -1,6 +1,6 @@
 -- Each promise of the front page, by one application.
 use mathlib.Core.Path.{ap}
-use Rattle.line.proofs.CheckLaws.{lined}
+use Rattle.lining.proofs.CheckLaws.{lined}
 use Rattle.script.specs.Table.{lemma}
 use Rattle.script.proofs.Closed.{demand3}
 use Rattle.script.proofs.ScratchLaws.{reading-same}
@@ -9,12 +9,12 @@ use Rattle.morning.proofs.History.{morning}
 use Rattle.morning.proofs.MeanLaws.{means}
 use Rattle.given_back.proofs.ReadBack.{read-back, exactly-34}
 use Rattle.given_back.proofs.Corollaries.{never-unwritable, accepted-again, reads-no-noise}
-use Rattle.convert.proofs.KeptLaws.{kept}
-use Rattle.convert.proofs.ConvertLaws.{twice}
+use Rattle.converting.proofs.KeptLaws.{kept}
+use Rattle.converting.proofs.ConvertLaws.{twice}
 use Rattle.converted.proofs.ConvertedLaws.{as-with-triangle, never-retired}
-use Rattle.listing.proofs.RingLaws.{ring-refused, refused-ring, listed}
+use Rattle.books.proofs.RingLaws.{ring-refused, refused-ring, listed}
 use Rattle.planed.proofs.PlaningLaws.{there-and-back, back-and-there, not-planed-refused, refused-not-planed}
-use Rattle.wave.proofs.TableLaws.{rises, squares}
+use Rattle.drawing.proofs.TableLaws.{rises, squares}
 use Rattle.renamed.proofs.Renamed.{renaming}
 use Rattle.renamed.proofs.BytewiseLaws.{bytewise}
 use Rattle.theorems.specs.Theorems.{Theorems}

@@ -12,8 +12,8 @@ use Rattle.ast.specs.Tree.{Nodes, mapTimes}
 use Rattle.sheet.specs.Sheet.{encode}
 use Rattle.grammar.specs.Grammar.{stored}
 use Rattle.reading.specs.Reading.{tree, parse, reading, scratchWords}
-use Rattle.line.specs.Lining.{lining}
-use Rattle.line.specs.ReadBack.{Lined}
+use Rattle.lining.specs.Lining.{lining}
+use Rattle.lining.specs.ReadBack.{Lined}
 use Rattle.script.specs.Claim.{Demand3}
 use Rattle.script.specs.Output.{sheetBytes}
 use Rattle.script.specs.Table.{every, table}
@@ -22,15 +22,15 @@ use Rattle.feeding.specs.Feed.{Fed}
 use Rattle.morning.specs.Morning.{Morning, Means}
 use Rattle.given_back.specs.ReadBack.{ReadBack, Exactly34}
 use Rattle.given_back.specs.Corollaries.{NeverUnwritable, AcceptedAgain, ReadsNoNoise}
-use Rattle.convert.specs.Convert.{converting}
-use Rattle.convert.specs.Kept.{Kept}
+use Rattle.converting.specs.Convert.{converting}
+use Rattle.converting.specs.Kept.{Kept}
 use Rattle.converted.specs.Converted.{AsWithTriangle, NeverRetired}
 use Rattle.order.specs.Order.{Ring, Listing}
-use Rattle.book.specs.Book.{Item, held, book}
-use Rattle.calls.specs.Calls.{calls}
-use Rattle.listing.specs.Listing.{listing}
+use Rattle.books.specs.Book.{Item, held, book}
+use Rattle.books.specs.Calls.{calls}
+use Rattle.books.specs.Listing.{listing}
 use Rattle.planed.specs.Planing.{planing, unplaning, Plain, PlanesTo}
-use Rattle.wave.specs.Table as wave
+use Rattle.drawing.specs.Table as wave
 use Rattle.renamed.specs.Renaming.{Renamed, Renaming}
 use Rattle.renamed.specs.Bytewise.{Bytewise}
 use Rattle.error.specs.declared.Refusal.the-variants.{RingOfCalls, NotPlaned}

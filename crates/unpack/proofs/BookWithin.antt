@@ -20,13 +20,13 @@ use Rattle.error.specs.declared.OrderAnswer.{OrderAnswer}
 use Rattle.error.specs.declared.OrderAnswer.the-variants as order
 use Rattle.grammar.specs.Rule.{Notes, Out, got, refused, Rule, after, give, if, _>>=_, ends, leave, insideByte, Next, more, done, iterate}
 use Rattle.grammar.specs.Rule.{next as following}
-use Rattle.book.specs.Book.{Item, here, body, item, itemsStep, items, Book, held, wrong, unlessLeft, finished, fresh, parsed, written}
-use Rattle.book.specs.Book.{names, repeated, itemLimit, settled, book}
+use Rattle.books.specs.Book.{Item, here, body, item, itemsStep, items, Book, held, wrong, unlessLeft, finished, fresh, parsed, written}
+use Rattle.books.specs.Book.{names, repeated, itemLimit, settled, book}
 use Rattle.order.specs.Order as listed
 use Rattle.order.proofs.OrderLaws.{listing as is-listing}
-use Rattle.calls.specs.Calls.{calls}
-use Rattle.lookup.specs.Lookup.{itemAt, named, found, inBooks, lookingUp}
-use Rattle.listing.specs.Listing.{put, ordered, listingOf, listing}
+use Rattle.books.specs.Calls.{calls}
+use Rattle.books.specs.Lookup.{itemAt, named, found, inBooks, lookingUp}
+use Rattle.books.specs.Listing.{put, ordered, listingOf, listing}
 use Rattle.rules.proofs.StayLaws.{State, LeftNear, OutNear, Stays, place-near, the-mark, leaves, a-word, input-stays}
 use Rattle.unpack.proofs.Within.{SplitNear, split-near, SplitFew, split-few}
 

@@ -21,8 +21,8 @@ use Rattle.sheet.specs.Opening.{Opened, opened, shut, foreignFrom, unlessForeig
 use Rattle.sheet.specs.Opening as begins
 use Rattle.sheet.proofs.Laws.{Fits, decoded}
 use Rattle.sheet.proofs.Flat.{concat, concat-append, sheet-flat}
-use Rattle.node_rules.specs.Rules.{validateLeaf, validateContainer, atOrdinal, validateNodes}
-use Rattle.validate.specs.Checking.{isList, unlessUnknown, openingUnder}
+use Rattle.checking.specs.Rules.{validateLeaf, validateContainer, atOrdinal, validateNodes}
+use Rattle.checking.specs.Checking.{isList, unlessUnknown, openingUnder}
 use Rattle.error.specs.declared.Refusal.{Refusal}
 use Rattle.error.specs.declared.Refusal.the-variants.{TextTooLong, UnknownList}
 

@@ -8,15 +8,15 @@ use native.Mathlib.Omega.{arith}
 use lib.IntN.{ℤ}
 use lib.ListN.{take}
 use Rattle.reading.specs.Reading.{reading}
-use Rattle.validate.specs.Checking.{checking}
-use Rattle.line.specs.Lining.{lining}
-use Rattle.convert.specs.Convert.{converting}
+use Rattle.checking.specs.Checking.{checking}
+use Rattle.lining.specs.Lining.{lining}
+use Rattle.converting.specs.Convert.{converting}
 use Rattle.script.specs.Output.{pageBytes, printing}
-use Rattle.back.specs.Back.{writing}
-use Rattle.lookup.specs.Lookup.{lookingUp}
-use Rattle.listing.specs.Listing.{listing}
+use Rattle.writing.specs.Back.{writing}
+use Rattle.books.specs.Lookup.{lookingUp}
+use Rattle.books.specs.Listing.{listing}
 use Rattle.planed.specs.Planing.{planing, unplaning}
-use Rattle.wave.specs.Wave.{drawing}
+use Rattle.drawing.specs.Wave.{drawing}
 use Rattle.error.specs.Refusal.{numberOf}
 use Rattle.error.specs.declared.ReadAnswer.{ReadAnswer}
 use Rattle.error.specs.declared.ReadAnswer.the-variants as read

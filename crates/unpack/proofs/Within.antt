@@ -24,19 +24,19 @@ use Rattle.planed.specs.Planes.{planed, unplaned}
 use Rattle.planed.proofs.PlanedLaws.{length-planed, unplaned-is}
 use Rattle.planed.specs.Planing.{treeOr, openedAs, planing, unplaning}
 use Rattle.planed.specs.Planing.{answered as writtenAs}
-use Rattle.wave.specs.Wave.{filled, shifted, drawing}
+use Rattle.drawing.specs.Wave.{filled, shifted, drawing}
 use Rattle.grammar.specs.Rule.{Notes, Out, got, refused}
 use Rattle.grammar.specs.Grammar.{stored, animatoInput}
 use Rattle.reading.specs.Reading.{Parsed, tree, wrong, unlessLeft, finished, parsed, parse}
 use Rattle.reading.specs.Reading.{answered, early, unlessEarly, reading, scratchWords}
 use Rattle.limits.proofs.Limits.{parses-fits, parses-small}
 use Rattle.colors.specs.Css.{namesOf}
-use Rattle.node_rules.specs.Rules.{validateNodes}
-use Rattle.validate.specs.Checking.{answerOf, judged, verdict, openingUnder, checking}
-use Rattle.line.specs.Line.{line}
-use Rattle.line.specs.Lining.{ofRecord, ofOpened, lining}
-use Rattle.line.proofs.LineLaws.{length-line}
-use Rattle.convert.specs.Convert.{convertOpened, converting}
+use Rattle.checking.specs.Rules.{validateNodes}
+use Rattle.checking.specs.Checking.{answerOf, judged, verdict, openingUnder, checking}
+use Rattle.lining.specs.Line.{line}
+use Rattle.lining.specs.Lining.{ofRecord, ofOpened, lining}
+use Rattle.lining.proofs.LineLaws.{length-line}
+use Rattle.converting.specs.Convert.{convertOpened, converting}
 use Rattle.script.specs.Output.{printed, paged, pageBytes, lineBytes, printing}
 use Rattle.script.proofs.OutputLaws.{records-same, printed-small}
 use Rattle.error.specs.declared.Refusal.{Refusal}
@@ -51,7 +51,7 @@ use Rattle.error.specs.declared.LineAnswer.the-variants as lines
 use Rattle.digits.specs.Fewest.{form}
 use Rattle.fresh.specs.Meaning.{Sense}
 use Rattle.fresh.specs.Fresh.{script, hasText}
-use Rattle.back.specs.Back.{refusal, fitted, written, senseOf, ofTree, ofVerdict, writing}
+use Rattle.writing.specs.Back.{refusal, fitted, written, senseOf, ofTree, ofVerdict, writing}
 use Rattle.rules.proofs.StayLaws.{Near, LeftNear, OutNear, input-stays}
 use Rattle.unpack.proofs.SheetLaws.{sheet-some, Below, nodes-below, Before, foreign-before, Within, opening-within, under-within}
 

@@ -13,7 +13,7 @@ use Rattle.text.specs.Limits.{textLimit}
 use Rattle.text.specs.Words.{isSome}
 use Rattle.codec.specs.Codec.{big}
 use Rattle.sheet.specs.Sheet.{Forest, forest, inner, decode}
-use Rattle.sheet.specs.Opening.{shut, foreignFrom, unlessForeign, decoded, opening}
+use Rattle.sheet.specs.Opening.{shut, foreignFrom, unlessForeign, decoded}
 use Rattle.decode.specs.Reads.{Reads, got, bad, same, passed}
 use Rattle.opening.specs.Means.{answerOf, earlier, foreignAnswer, textAnswer, bytesAnswer}
 use Rattle.opening.specs.declared.Opening.{Opening}
@@ -25,8 +25,9 @@ use Rattle.colors.specs.Css.{namesOf}
 use Rattle.decode.proofs.ReadLaws.{le-or-lt, mapped}
 use Rattle.records.proofs.WalkLaws.{decides}
 use Rattle.opening.proofs.OpenLaws.{Tree, text-first, the-tree, the-refusal}
-use Rattle.node_rules.specs.Rules.{validateNodes}
-use Rattle.validate.specs.Checking.{answerOf as verdictOf, judged, verdict, isList, unlessUnknown, openingUnder, checking}
+use Rattle.checking.specs.Rules.{validateNodes}
+use Rattle.checking.specs.Checking.{answerOf as verdictOf, judged, verdict, isList, unlessUnknown, openingUnder, checking}
+use Rattle.checking.proofs.ListLaws.{known}
 use Rattle.places.specs.Stands.{Stands}
 use Rattle.places.proofs.StandLaws.{none≢some, head}
 use Rattle.validate.specs.Means.{InLimit, listAnswer}
@@ -75,11 +76,6 @@ module _ (list : ℕ) (t s : List ℕ) where
   unfolding checking
   shut-refused e = rw (the-refusal (openingUnder list t s) e)
 
-  -- under one of the two lists
-  pub known : isList list ≡ true → openingUnder list t s ≡ opening t s
-  unfolding openingUnder opening
-  known e = rw e
-
   module _ (o : Open ≡ answerOf (openingUnder list t s)) where
     is-list : isList list ≡ true
     is-list = go (textAnswer t) (isList list) refl (o ∙ sym in-order)
@@ -91,7 +87,7 @@ module _ (list : ℕ) (t s : List ℕ) where
         go (Shut r p) false q e = let z : _≡_ {A = ℕ} 0 1 = cc in absurd (omega arith)
 
     pub its-tree : Tree t s
-    its-tree = the-tree t s (o ∙ ap answerOf (known is-list))
+    its-tree = the-tree t s (o ∙ ap answerOf (known t s list is-list))
 
   -- what is shut of the text and the list is refused so
   pub refused-first : {a b : Opening} {r : Refusal} {p : ℕ} → a ≡ textAnswer t → b ≡ listAnswer list → Shut r p ≡ earlier a b

@@ -14,7 +14,7 @@ use borrow.Author.Tests.{lt-ltb, le-ltb}
 use Rattle.number.specs.Number.{f32}
 use Rattle.number.specs.Time.{near, anyNear}
 use Rattle.codec.specs.Codec.{Form, andThen, each, eachIn, eachOut, opt}
-use Rattle.ast.specs.Tree.{ValueExpr, scalar, array, EasingSpec, KeyframeEntry}
+use Rattle.ast.specs.Tree.{ValueExpr, scalar, array, EasingSpec}
 use Rattle.ast.specs.Tree.{KeyframeSpec, KeyframeTime, percent, seconds, LoopSpec}
 use Rattle.ast.specs.View.{timeView, entryView}
 use Rattle.ast.specs.declared.KeyframeEntry as entries
@@ -25,20 +25,13 @@ use Rattle.error.specs.declared.Refusal.the-variants.{UnknownEasing, DuplicateT
 use Rattle.codec.proofs.Laws.{inverse, each-lawful}
 use Rattle.sheet.proofs.Laws.{entryL}
 use Rattle.decode.proofs.ReadLaws.{_&_, seen, through, counted, each-next}
-use Rattle.node_rules.specs.Rules.{given, unknownEasing, first, timeOf, validateFrames, validateKeyframes}
+use Rattle.checking.specs.Rules.{given, unknownEasing, first, timeOf, validateFrames, validateKeyframes}
+use Rattle.checking.proofs.FrameLaws.{Entry, stamp}
 use Rattle.node_rules.specs.Means.{Tells}
+use Rattle.places.proofs.StandLaws.{none≢some}
 use Rattle.validate.specs.Means.{InLimit, framesView, HeadStands}
 
-pub none≢some : {A B : Type 0} {a : A} → Prim.Path (Option A) none (some a) → B
-none≢some e = let z : _≡_ {A = ℕ} 0 1 = cc in absurd (omega arith)
-
 -- ---- times
-
-abbrev Entry : Type 0
-Entry = KeyframeEntry KeyframeTime
-
-abbrev pub stamp : Entry → Float
-stamp x = f32 (timeOf (x .time))
 
 -- percent and seconds share one scale
 time-is : (x : KeyframeTime) → timeView x .1 ≡ f32 (timeOf x)
@@ -48,10 +41,6 @@ time-is (seconds x) = refl
 -- what is seen of an entry has its time
 stamp-is : (x : Entry) {v : entries.KeyframeEntry} → entryView x ≡ v → stamp x ≡ v .time
 stamp-is x e = sym (time-is (x .time)) ∙ ap (λ v. v .time) e
-
-abbrev pub stamps : List Entry → List Float
-stamps [] = []
-stamps (x ∷ xs) = stamp x ∷ stamps xs
 
 any-cons : (time u : Float) (us : List Float) → anyNear time (u ∷ us) ≡ (near u time || anyNear time us)
 unfolding anyNear

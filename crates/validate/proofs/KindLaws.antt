@@ -21,7 +21,7 @@ use Rattle.colors.specs.Css.{namesOf}
 use Rattle.error.specs.declared.Refusal.{Refusal}
 use Rattle.decode.proofs.ReadLaws.{_&_}
 use Rattle.records.proofs.RecordLaws.{made, after, counts, width-blank, of-kind, three-or-four}
-use Rattle.node_rules.specs.Rules.{validateKeyframes, validateLeaf, validateContainer}
+use Rattle.checking.specs.Rules.{validateKeyframes, validateLeaf, validateContainer}
 use Rattle.places.specs.Stands.{ContainerKind}
 use Rattle.node_rules.specs.Means.{faultOf, StaggerTells}
 use Rattle.validate.specs.Walks.{recordView}

@@ -2,4 +2,3 @@ pub mod FrameLaws
 pub mod KindLaws
 pub mod WalkLaws
 pub mod CheckLaws
-pub mod ListLaws

@@ -20,7 +20,7 @@ use Rattle.records.proofs.WalkLaws as walks
 use Rattle.records.proofs.WalkLaws.{Single, Holds}
 use Rattle.colors.specs.Css.{namesOf}
 use Rattle.error.specs.declared.Refusal.{Refusal}
-use Rattle.node_rules.specs.Rules.{atOrdinal, validateLeaf, validateContainer, validateNodes}
+use Rattle.checking.specs.Rules.{atOrdinal, validateLeaf, validateContainer, validateNodes}
 use Rattle.validate.specs.Walks.{recordView, foundOf, nodesView, Reached, NodeWalk, NodesWalk}
 use Rattle.validate.specs.declared.nodes.Walk.{Walk}
 

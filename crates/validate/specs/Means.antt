@@ -12,9 +12,9 @@ use Rattle.opening.specs.declared.Opening.{Opening}
 use Rattle.opening.specs.declared.Opening.the-variants.{Open, Shut}
 use Rattle.error.specs.declared.Refusal.{Refusal}
 use Rattle.error.specs.declared.Refusal.the-variants.{UnknownList}
-use Rattle.node_rules.specs.Rules.{validateFrames, validateKeyframes}
+use Rattle.checking.specs.Rules.{validateFrames, validateKeyframes}
 use Rattle.node_rules.specs.Means.{faultOf}
-use Rattle.validate.specs.Checking.{isList}
+use Rattle.checking.specs.Checking.{isList}
 use Rattle.validate.specs.declared.frames.FramesCheck.{FramesCheck}
 use Rattle.validate.specs.declared.frames.TrackCheck.{TrackCheck}
 

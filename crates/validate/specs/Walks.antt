@@ -11,7 +11,7 @@ use Rattle.records.specs.Record.{recordForm, kindView}
 use Rattle.records.specs.declared.Kind.{Kind}
 use Rattle.colors.specs.Css.{namesOf}
 use Rattle.error.specs.declared.Refusal.{Refusal}
-use Rattle.node_rules.specs.Rules.{validateLeaf, validateContainer, atOrdinal, validateNodes}
+use Rattle.checking.specs.Rules.{validateLeaf, validateContainer, atOrdinal, validateNodes}
 use Rattle.node_rules.specs.Means.{faultOf}
 use Rattle.node_rules.specs.declared.faults.Fault.{Fault}
 use Rattle.validate.specs.declared.kinds.RecordCheck.{RecordCheck}

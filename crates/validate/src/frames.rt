@@ -5,7 +5,7 @@ ghost use mathlib.Core.Path.{_≡_};
 ghost use lib.ListN.{length};
 ghost use Rattle.number.specs.Time.{near};
 ghost use Rattle.ast.specs.View.{entryView};
-ghost use Rattle.node_rules.specs.Rules.{given, unknownEasing};
+ghost use Rattle.checking.specs.Rules.{given, unknownEasing};
 ghost use Rattle.node_rules.specs.Means.{Tells};
 ghost use Rattle.validate.specs.Means.{InLimit, HeadStands, FramesTell, TrackTells};
 use ast::KeyframeEntry;

@@ -6,7 +6,7 @@ ghost use Rattle.error.specs.Answer.{checkValues};
 ghost use Rattle.sheet.specs.Sheet.{decode};
 ghost use Rattle.sheet.specs.Opening.{decoded};
 ghost use Rattle.opening.specs.Means.{earlier};
-ghost use Rattle.validate.specs.Checking.{verdict, checking};
+ghost use Rattle.checking.specs.Checking.{verdict, checking};
 ghost use Rattle.validate.specs.Means.{listAnswer, InLimit};
 
 mod frames;

@@ -8,7 +8,7 @@ use Rattle.error.specs.declared.Refusal.{Refusal}
 use Rattle.error.specs.declared.ReadAnswer.the-variants as read
 use Rattle.error.specs.declared.CheckAnswer.{CheckAnswer}
 use Rattle.reading.specs.Reading.{reading, outcome}
-use Rattle.validate.specs.Checking.{checking}
+use Rattle.checking.specs.Checking.{checking}
 use Rattle.script.proofs.Closed.{claim}
 use Rattle.verdict.specs.Verdict.{Claims, bothAnswers, verdictValues}
 use Rattle.verdict.specs.declared.Verdict.the-variants.{Unread, Checked}

@@ -8,7 +8,7 @@ use Rattle.error.specs.Answer.{readValues, checkValues}
 use Rattle.error.specs.declared.ReadAnswer.{ReadAnswer}
 use Rattle.error.specs.declared.ReadAnswer.the-variants as read
 use Rattle.error.specs.declared.CheckAnswer.{CheckAnswer}
-use Rattle.validate.specs.Checking.{isList, checking}
+use Rattle.checking.specs.Checking.{isList, checking}
 use Rattle.script.specs.Claim.{Claim}
 use Rattle.verdict.specs.declared.Verdict.{Verdict}
 use Rattle.verdict.specs.declared.Verdict.the-variants.{Unread, Checked}

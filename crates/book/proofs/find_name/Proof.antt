@@ -10,7 +10,7 @@ use native.Mathlib.Omega.{arith}
 use borrow.Author.Needs.{needs}
 use lib.ListN.{length, take, drop}
 use Rattle.text.specs.Words.{find}
-use Rattle.book.specs.Book.{Item, names}
+use Rattle.books.specs.Book.{Item, names}
 use Rattle.book.specs.Means.{Rows}
 use Rattle.book.proofs.TableLaws.{row-name, names-long, search-here, search-past, search-end}
 use Rattle.book.proofs.find_name.Statement.{statement}

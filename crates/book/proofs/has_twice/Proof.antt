@@ -7,7 +7,7 @@ use mathlib.Core.List.{List}
 use mathlib.Core.Path.{_≡_, refl, sym, _∙_}
 use native.Mathlib.Omega.{arith}
 use lib.ListN.{length, take}
-use Rattle.book.specs.Book.{Item, names, repeated}
+use Rattle.books.specs.Book.{Item, names, repeated}
 use Rattle.book.specs.Means.{Rows}
 use Rattle.book.proofs.TableLaws.{twice-at, not-twice-at, never-twice}
 use Rattle.book.proofs.has_twice.Statement.{statement}

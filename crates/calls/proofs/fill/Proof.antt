@@ -1,6 +1,6 @@
 -- `calls::fill` meets its contract.
 use Rattle.text.specs.Bytes.{at}
-use Rattle.calls.specs.Calls.{calls}
+use Rattle.books.specs.Calls.{calls}
 use Rattle.sheet.specs.Sheet.{sheet}
 use Rattle.text.specs.Words.{table}
 use Rattle.grammar.specs.Rule.{text}

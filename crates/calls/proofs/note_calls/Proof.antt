@@ -1,6 +1,6 @@
 -- `calls::note_calls` meets its contract.
 use Rattle.text.specs.Bytes.{at}
-use Rattle.calls.specs.Calls.{calls}
+use Rattle.books.specs.Calls.{calls}
 use Rattle.sheet.specs.Sheet.{sheet}
 use Rattle.text.specs.Words.{table}
 use Rattle.grammar.specs.Rule.{text}
@@ -10,7 +10,7 @@ use native.Mathlib.Omega.{arith}
 use borrow.Author.Needs.{needs}
 use lib.ListN.{length}
 use Rattle.records.proofs.RecordLaws.{moves}
-use Rattle.book.specs.Book.{book}
+use Rattle.books.specs.Book.{book}
 use Rattle.calls.proofs.BodyLaws.{Noting, noting-start, noting-next, noting-done}
 use Rattle.calls.proofs.note_calls.Statement.{statement}
 use Rattle.calls.proofs.note_calls.Tie as tie

@@ -1,5 +1,5 @@
 -- `calls::note_record` meets its contract.
-use Rattle.book.specs.Book.{names}
+use Rattle.books.specs.Book.{names}
 use Rattle.calls.proofs.BodyLaws.{no-call, a-call}
 use borrow.Author.Needs.{needs}
 use Rattle.calls.proofs.note_record.Statement.{statement}

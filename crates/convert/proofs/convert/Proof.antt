@@ -3,7 +3,7 @@ use Rattle.error.specs.Answer.{checkValues}
 use Rattle.error.proofs.AnswerLaws.{with-values}
 use mathlib.Core.Path.{sym, _∙_}
 use borrow.Author.Needs.{needs}
-use Rattle.convert.proofs.ConvertLaws.{is-refused, is-sheet, is-converted}
+use Rattle.convert.proofs.WalkLaws.{is-refused, is-sheet, is-converted}
 use Rattle.convert.proofs.convert.Statement.{statement}
 use Rattle.convert.proofs.convert.Tie as tie
 

@@ -1,7 +1,7 @@
 -- `line::check_byte` meets its contract: what is subtracted from zero gives zero with the sum.
 use native.Mathlib.Omega.{arith}
 use borrow.Author.Needs.{needs}
-use Rattle.line.proofs.LineLaws.{total-covered, check-is}
+use Rattle.lining.proofs.LineLaws.{total-covered, check-is}
 use Rattle.line.proofs.check_byte.Statement.{statement}
 use Rattle.line.proofs.check_byte.Tie as tie
 

@@ -3,7 +3,7 @@ use Prim.Native.Nat.{_*_, _+_}
 use mathlib.Core.Path.{sym}
 use native.Mathlib.Omega.{arith}
 use borrow.Author.Tests.{lt-leb}
-use Rattle.line.proofs.LineLaws.{room-for}
+use Rattle.line.proofs.PutLaws.{room-for}
 use Rattle.line.proofs.has_room.Statement.{statement}
 use Rattle.line.proofs.has_room.Tie as tie
 

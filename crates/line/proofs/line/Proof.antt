@@ -3,7 +3,7 @@ use Rattle.error.specs.Answer.{lineValues}
 use Rattle.error.proofs.AnswerLaws.{with-values}
 use mathlib.Core.Path.{_∙_, sym}
 use borrow.Author.Needs.{needs}
-use Rattle.line.proofs.LineLaws.{found, refused}
+use Rattle.line.proofs.PutLaws.{found, refused}
 use Rattle.line.proofs.line.Statement.{statement}
 use Rattle.line.proofs.line.Tie as tie
 

@@ -1,7 +1,7 @@
 -- `line::place_line` meets its contract: with room the line is written, without it nothing is.
 use mathlib.Core.Path.{sym, _∙_}
 use borrow.Author.Needs.{needs}
-use Rattle.line.proofs.LineLaws.{with-room, without-room}
+use Rattle.line.proofs.PutLaws.{with-room, without-room}
 use Rattle.line.proofs.place_line.Statement.{statement}
 use Rattle.line.proofs.place_line.Tie as tie
 

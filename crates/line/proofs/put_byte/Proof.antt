@@ -1,6 +1,6 @@
 -- `line::put_byte` meets its contract: two digits, one behind the other.
 use borrow.Author.Needs.{needs}
-use Rattle.line.specs.Line.{hex}
+use Rattle.lining.specs.Line.{hex}
 use Rattle.text.proofs.WriteLaws.{puts-then}
 use Rattle.line.proofs.put_byte.Statement.{statement}
 use Rattle.line.proofs.put_byte.Tie as tie

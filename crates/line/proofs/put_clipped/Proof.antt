@@ -5,8 +5,8 @@ use mathlib.Core.Path.{refl, _∙_, _≡_}
 use lib.ListN.{drop, length}
 use borrow.Author.Needs.{needs}
 use Rattle.text.specs.Write.{Puts}
-use Rattle.line.specs.Line.{hex}
-use Rattle.line.proofs.LineLaws.{hex-at, hex-end}
+use Rattle.lining.specs.Line.{hex}
+use Rattle.lining.proofs.LineLaws.{hex-at, hex-end}
 use Rattle.text.proofs.WriteLaws.{puts-none, puts-then}
 use Rattle.line.proofs.put_clipped.Statement.{statement}
 use Rattle.line.proofs.put_clipped.Tie as tie

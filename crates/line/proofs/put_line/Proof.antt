@@ -1,6 +1,6 @@
 -- `line::put_line` meets its contract: the parts of a line, one behind the other.
 use borrow.Author.Needs.{needs}
-use Rattle.line.proofs.LineLaws.{line-parts}
+use Rattle.lining.proofs.LineLaws.{line-parts}
 use Rattle.text.proofs.WriteLaws.{puts-then}
 use Rattle.line.proofs.put_line.Statement.{statement}
 use Rattle.line.proofs.put_line.Tie as tie

@@ -4,7 +4,7 @@ use mathlib.Core.Path.{_≡_, refl}
 use native.Mathlib.Omega.{arith}
 use lib.ListN.{length, length-set}
 use borrow.Author.Needs.{needs}
-use Rattle.line.proofs.LineLaws.{Writing, writing-start, writing-next, writing-done}
+use Rattle.line.proofs.PutLaws.{Writing, writing-start, writing-next, writing-done}
 use Rattle.line.proofs.put_whole.Statement.{statement}
 use Rattle.line.proofs.put_whole.Tie as tie
 

@@ -4,8 +4,8 @@ use mathlib.Core.Path.{_≡_}
 use native.Mathlib.Omega.{arith}
 use lib.ListN.{drop, length}
 use borrow.Author.Needs.{needs}
-use Rattle.line.specs.Line.{total}
-use Rattle.line.proofs.LineLaws.{total-at, total-end}
+use Rattle.lining.specs.Line.{total}
+use Rattle.lining.proofs.LineLaws.{total-at, total-end}
 use Rattle.line.proofs.total.Statement.{statement}
 use Rattle.line.proofs.total.Tie as tie
 

@@ -1,5 +1,6 @@
 -- `wave::mirror` meets its contract.
-use Rattle.wave.proofs.WaveLaws as laws
+use Rattle.drawing.proofs.WaveLaws as laws
+use Rattle.wave.proofs.FillLaws as filling
 use mathlib.Core.Path.{refl, sym, _∙_}
 use borrow.Author.Needs.{needs}
 use Rattle.wave.proofs.mirror.Statement.{statement}
@@ -9,7 +10,7 @@ returns : tie.Need-returns
 returns c =
     let at-fold = c .before .before in
     let at-if1 = at-fold .before in
-    laws.given (c .less .result) (c .less .ok) ∙ c .less .ensures
+    filling.given (c .less .result) (c .less .ok) ∙ c .less .ensures
     ∙ (rw (c .before .quarter .ensures .0, at-fold .fold .ensures .0) refl)
     ∙ sym (laws.up _ _ (at-if1 .if1 .taken))
 
@@ -17,7 +18,7 @@ returns-2 : tie.Need-returns-2
 returns-2 c =
     let at-fold2 = c .before .before in
     let at-if1 = at-fold2 .before in
-    laws.given (c .less2 .result) (c .less2 .ok) ∙ c .less2 .ensures
+    filling.given (c .less2 .result) (c .less2 .ok) ∙ c .less2 .ensures
     ∙ (rw (c .before .quarter2 .ensures .0, at-fold2 .fold2 .ensures .0) refl)
     ∙ sym (laws.down _ _ (at-if1 .if1 .left))
 

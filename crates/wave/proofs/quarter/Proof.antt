@@ -1,5 +1,5 @@
 -- `wave::quarter` meets its contract.
-use Rattle.wave.proofs.WaveLaws as laws
+use Rattle.drawing.proofs.WaveLaws as laws
 use mathlib.Core.Path.{sym, _∙_}
 use borrow.Author.Needs.{needs}
 use Rattle.wave.proofs.quarter.Statement.{statement}

@@ -2,7 +2,8 @@
 use Rattle.error.specs.Answer.{checkValues}
 use Rattle.error.proofs.AnswerLaws.{with-values}
 use mathlib.Core.Path.{sym}
-use Rattle.wave.proofs.WaveLaws as laws
+use Rattle.drawing.proofs.WaveLaws as laws
+use Rattle.wave.proofs.FillLaws as filling
 use borrow.Author.Needs.{needs}
 use Rattle.wave.proofs.wave.Statement.{statement}
 use Rattle.wave.proofs.wave.Tie as tie
@@ -22,7 +23,7 @@ returns-4 c =
     let at-if3 = c .before .before .before in
     let at-if1 = at-if3 .before .before in
     with-values checkValues
-    (laws.accepts _ _ _ _ (at-if1 .if1 .left) (at-if3 .before .if2 .left) (at-if3 .if3 .left) (c .before .draw .ensures))
+    (filling.accepts _ _ _ _ (at-if1 .if1 .left) (at-if3 .before .if2 .left) (at-if3 .if3 .left) (c .before .draw .ensures))
 
 pub wave-spec : {M : Type 1} → statement M
 wave-spec = tie.close (tie.spec returns returns-2 returns-3 (λ c κs. search needs) (λ c. search needs) returns-4)

@@ -1,6 +1,6 @@
 -- `node_rules::faults::rule` meets its contract: a fault so far stays; else the rule decides.
 use borrow.Author.Needs.{needs}
-use Rattle.node_rules.proofs.RuleLaws as rules
+use Rattle.checking.proofs.RuleLaws as rules
 use Rattle.node_rules.proofs.faults.rule.Statement.{statement}
 use Rattle.node_rules.proofs.faults.rule.Tie as tie
 

@@ -1,6 +1,6 @@
 -- `node_rules::faults::some_negative` meets its contract: absent, or the test of what is present.
 use borrow.Author.Needs.{needs}
-use Rattle.node_rules.specs.Rules.{negative}
+use Rattle.checking.specs.Rules.{negative}
 use Rattle.node_rules.proofs.TestLaws as tests
 use Rattle.node_rules.proofs.faults.some_negative.Statement.{statement}
 use Rattle.node_rules.proofs.faults.some_negative.Tie as tie

@@ -1,6 +1,6 @@
 -- `node_rules::faults::some_not_positive` meets its contract: absent, or the test of what is present.
 use borrow.Author.Needs.{needs}
-use Rattle.node_rules.specs.Rules.{notPositive}
+use Rattle.checking.specs.Rules.{notPositive}
 use Rattle.node_rules.proofs.TestLaws as tests
 use Rattle.node_rules.proofs.faults.some_not_positive.Statement.{statement}
 use Rattle.node_rules.proofs.faults.some_not_positive.Tie as tie

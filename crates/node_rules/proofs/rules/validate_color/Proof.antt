@@ -6,8 +6,8 @@ use Rattle.error.specs.declared.Refusal.the-variants.{OutOfRange, UnknownEasing
 use Rattle.presets.specs.Colors.{isColor}
 use Rattle.colors.specs.Css.{namesOf}
 use Rattle.text.specs.Bytes.{part}
-use Rattle.node_rules.specs.Rules.{validateColor}
-use Rattle.node_rules.proofs.RuleLaws as rules
+use Rattle.checking.specs.Rules.{validateColor}
+use Rattle.checking.proofs.RuleLaws as rules
 use Rattle.node_rules.proofs.rules.validate_color.Statement.{statement}
 use Rattle.node_rules.proofs.rules.validate_color.Tie as tie
 

@@ -2,8 +2,8 @@
 use mathlib.Core.Path.{ap, refl}
 use borrow.Author.Needs.{needs}
 use Rattle.error.specs.declared.Refusal.the-variants.{OutOfRange, UnknownEasing}
-use Rattle.node_rules.specs.Rules.{validateDraw}
-use Rattle.node_rules.proofs.RuleLaws as rules
+use Rattle.checking.specs.Rules.{validateDraw}
+use Rattle.checking.proofs.RuleLaws as rules
 use Rattle.node_rules.proofs.rules.validate_draw.Statement.{statement}
 use Rattle.node_rules.proofs.rules.validate_draw.Tie as tie
 

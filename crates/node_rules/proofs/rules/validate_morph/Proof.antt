@@ -3,8 +3,8 @@ use mathlib.Core.Path.{ap, refl, sym}
 use lib.Dec.{eqb}
 use borrow.Author.Needs.{needs}
 use Rattle.error.specs.declared.Refusal.the-variants.{OutOfRange, UnknownEasing}
-use Rattle.node_rules.specs.Rules.{validateMorph}
-use Rattle.node_rules.proofs.RuleLaws as rules
+use Rattle.checking.specs.Rules.{validateMorph}
+use Rattle.checking.proofs.RuleLaws as rules
 use Rattle.node_rules.proofs.rules.validate_morph.Statement.{statement}
 use Rattle.node_rules.proofs.rules.validate_morph.Tie as tie
 

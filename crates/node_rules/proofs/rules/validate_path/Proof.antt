@@ -2,8 +2,8 @@
 use mathlib.Core.Path.{ap, refl}
 use borrow.Author.Needs.{needs}
 use Rattle.error.specs.declared.Refusal.the-variants.{OutOfRange, UnknownEasing}
-use Rattle.node_rules.specs.Rules.{validatePath}
-use Rattle.node_rules.proofs.RuleLaws as rules
+use Rattle.checking.specs.Rules.{validatePath}
+use Rattle.checking.proofs.RuleLaws as rules
 use Rattle.node_rules.proofs.rules.validate_path.Statement.{statement}
 use Rattle.node_rules.proofs.rules.validate_path.Tie as tie
 

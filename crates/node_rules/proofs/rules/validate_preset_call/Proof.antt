@@ -5,8 +5,8 @@ use borrow.Author.Needs.{needs}
 use Rattle.error.specs.declared.Refusal.the-variants.{OutOfRange, UnknownEasing, UnknownPreset}
 use Rattle.presets.specs.Presets.{isPreset}
 use Rattle.text.specs.Bytes.{part}
-use Rattle.node_rules.specs.Rules.{validatePresetCall}
-use Rattle.node_rules.proofs.RuleLaws as rules
+use Rattle.checking.specs.Rules.{validatePresetCall}
+use Rattle.checking.proofs.RuleLaws as rules
 use Rattle.node_rules.proofs.rules.validate_preset_call.Statement.{statement}
 use Rattle.node_rules.proofs.rules.validate_preset_call.Tie as tie
 

@@ -2,8 +2,8 @@
 use mathlib.Core.Path.{ap}
 use borrow.Author.Needs.{needs}
 use Rattle.error.specs.declared.Refusal.the-variants.{OutOfRange, ValueTypeMismatch}
-use Rattle.node_rules.specs.Rules.{validateSpring}
-use Rattle.node_rules.proofs.RuleLaws as rules
+use Rattle.checking.specs.Rules.{validateSpring}
+use Rattle.checking.proofs.RuleLaws as rules
 use Rattle.node_rules.proofs.rules.validate_spring.Statement.{statement}
 use Rattle.node_rules.proofs.rules.validate_spring.Tie as tie
 

@@ -2,8 +2,8 @@
 use mathlib.Core.Path.{ap}
 use borrow.Author.Needs.{needs}
 use Rattle.error.specs.declared.Refusal.the-variants.{OutOfRange}
-use Rattle.node_rules.specs.Rules.{validateContainer}
-use Rattle.node_rules.proofs.RuleLaws as rules
+use Rattle.checking.specs.Rules.{validateContainer}
+use Rattle.checking.proofs.RuleLaws as rules
 use Rattle.node_rules.proofs.rules.validate_stagger.Statement.{statement}
 use Rattle.node_rules.proofs.rules.validate_stagger.Tie as tie
 

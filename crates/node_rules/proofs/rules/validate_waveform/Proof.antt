@@ -3,8 +3,8 @@ use mathlib.Core.Path.{ap, sym}
 use lib.Dec.{eqb}
 use borrow.Author.Needs.{needs}
 use Rattle.error.specs.declared.Refusal.the-variants.{OutOfRange, NoiseHeld}
-use Rattle.node_rules.specs.Rules.{validateWaveform}
-use Rattle.node_rules.proofs.RuleLaws as rules
+use Rattle.checking.specs.Rules.{validateWaveform}
+use Rattle.checking.proofs.RuleLaws as rules
 use Rattle.node_rules.proofs.rules.validate_waveform.Statement.{statement}
 use Rattle.node_rules.proofs.rules.validate_waveform.Tie as tie
 

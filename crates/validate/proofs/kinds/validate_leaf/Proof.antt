@@ -4,7 +4,7 @@ use borrow.Author.Needs.{needs}
 use Rattle.ast.specs.Tree as tree
 use Rattle.decode.proofs.ReadLaws.{_&_}
 use Rattle.records.proofs.RecordLaws.{of-kind}
-use Rattle.node_rules.specs.Rules.{validateLeaf}
+use Rattle.checking.specs.Rules.{validateLeaf}
 use Rattle.places.proofs.StandLaws.{last-kind}
 use Rattle.validate.proofs.KindLaws as kind-laws
 use Rattle.validate.proofs.kinds.validate_leaf.Statement.{statement}

@@ -1,0 +1,3 @@
+pub mod RuleLaws
+pub mod ListLaws
+pub mod FrameLaws

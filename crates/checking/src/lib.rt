@@ -1,0 +1,1 @@
+// 01, "Checking": validate.rs's rules and the operation, as definitions.

@@ -1,0 +1,1 @@
+// 02 (h), "Noise goes": the converter, as a definition.

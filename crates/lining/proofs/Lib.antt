@@ -1,0 +1,4 @@
+pub mod ByteLaws
+pub mod BackLaws
+pub mod CheckLaws
+pub mod LineLaws

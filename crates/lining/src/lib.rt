@@ -1,0 +1,1 @@
+// 01, "Lining", and 02 (c): the operation, as a definition.

@@ -1,0 +1,1 @@
+// 02 (f), "Give me the script back": writing, as a definition.
