@@ -1,15 +1,14 @@
 -- The totals after at most 4,096 feeds.
-use Prim.Native.Nat.{ℕ, suc, _+_, _*_, _≤_, _<_}
+use Prim.Native.Nat.{ℕ, suc, _+_, _*_, _-_, _≤_, _<_}
 use mathlib.Core.Bool.{true, false}
 use mathlib.Core.List.{List, [], _∷_, _++_, append-nil}
 use mathlib.Core.Logic.{_⊎_, inl, inr}
 use mathlib.Core.Path.{_≡_, refl, sym, ap, _∙_}
-use native.Mathlib.Nat.{suc-mul}
+use native.Mathlib.Nat.{suc-mul, eq-zero-or-pos}
 use native.Mathlib.Omega.{arith}
 use lib.ListN.{length, getD, length-append, length-replicate, getD-replicate, List·getD-eq-default}
 use lib.Seq.{append-snoc}
 use borrow.Author.Tests.{le-ltb, lt-leb}
-use Rattle.decode.proofs.ReadLaws.{le-or-lt}
 use Rattle.error.specs.declared.Refusal.the-variants.{TooManyScripts}
 use Rattle.totals.specs.Totals.{scriptLimit, figureLimit, emptyTotals, sumOf, over, scripts, added}
 use Rattle.totals.specs.Mean.{nodeRecords}
@@ -55,11 +54,11 @@ empty = record { long = length-replicate {A = ℕ} 60 0; words = λ i h. getD-re
 
 module _ {xs : List Fed} {ws : List ℕ} (s : So xs ws) where
   word-most : length xs ≤ scriptLimit → (i : ℕ) → getD ws i 0 ≤ figureLimit
-  word-most h i = go (le-or-lt 60 i)
+  word-most h i = go (eq-zero-or-pos (60 - i))
     where
-      go : (60 ≤ i) ⊎ (i < 60) → getD ws i 0 ≤ figureLimit
-      go (inl l) = rw (List·getD-eq-default ws 0 {n = i} (omega (arith, s .long))) (omega arith)
-      go (inr l) = omega (arith, s .words i l, sum-most (figure i) 65535 (figure-small i) xs)
+      go : (60 - i ≡ 0) ⊎ (0 < 60 - i) → getD ws i 0 ≤ figureLimit
+      go (inl z) = rw (List·getD-eq-default ws 0 {n = i} (omega (arith, z, s .long))) (omega arith)
+      go (inr z) = omega (arith, s .words i (omega (arith, z)), sum-most (figure i) 65535 (figure-small i) xs)
 
   open-for : length xs < scriptLimit → full ws ≡ false
   open-for h =

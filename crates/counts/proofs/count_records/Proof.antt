@@ -4,7 +4,7 @@ use native.Mathlib.Omega.{arith}
 use Rattle.sheet.specs.Sheet.{decode, sheet}
 use lib.ListN.{length}
 use Rattle.feeding.specs.Feed.{nodesIn}
-use Rattle.feeding.proofs.FeedLaws.{Counting, counting-start, counting-next, counting-long, counting-done}
+use Rattle.counts.proofs.WalkLaws.{Counting, counting-start, counting-next, counting-long, counting-done}
 use Rattle.records.proofs.RecordLaws.{moves}
 use borrow.Author.Needs.{needs}
 use Rattle.counts.proofs.count_records.Statement.{statement}
