@@ -12,6 +12,15 @@ mark-requires c κs = let t = rw (c .before .name .given .1) at (c .before .befo
 parse-body-requires : tie.Need-parse-body-requires
 parse-body-requires c κs = let t = rw (c .before .before .brace .given .1) at (c .before .before .before .before .mark .ensures) in t .ready
 
+add-t23 : tie.Need-add-t23
+add-t23 c =
+    let c4 = c .before .before .before .before in
+    let c8 = c4 .before .before .before .before in
+    let at-brace = c8 .before in
+    let at-mark = at-brace .before .before in
+    let b = rw (at-brace .brace .given .1) at (at-mark .mark .ensures) in
+    omega (arith, c .place .ensures, b .ready .high, b .ready .short)
+
 returns : tie.Need-returns
 returns c =
     let at-word = c .before .before .before in
@@ -53,5 +62,5 @@ returns-4 c =
 pub parse-item-spec : {M : Type 1} → statement M
 parse-item-spec =
     tie.close (tie.spec (λ c κs. search needs) (λ c. search needs) (λ c. search needs) mark-requires (λ c. search needs) (λ c. search needs)
-    parse-body-requires (λ c. search needs) (λ c. search needs) (λ c κs. search needs) (λ c. search needs) returns returns-2
-    (λ c. search needs) returns-3 (λ c. search needs) returns-4)
+    parse-body-requires (λ c. search needs) (λ c. search needs) (λ c κs. search needs) add-t23 returns returns-2 (λ c. search needs)
+    returns-3 (λ c. search needs) returns-4)
