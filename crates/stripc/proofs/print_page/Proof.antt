@@ -1,7 +1,7 @@
 -- `stripc::print_page` meets its contract.
 use mathlib.Core.Path.{sym}
 use lib.Seq.{length-take-le}
-use Rattle.print.proofs.PrintLaws.{printed-fits}
+use Rattle.page.proofs.PageLaws.{printed-fits}
 use borrow.Author.Needs.{needs}
 use Rattle.stripc.proofs.print_page.Statement.{statement}
 use Rattle.stripc.proofs.print_page.Tie as tie
