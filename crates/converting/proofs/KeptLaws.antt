@@ -83,7 +83,8 @@ Byte rs i = (getD (eachOut convertedRecord rs) i 0 ≡ getD (concat rs) i 0) ⊎
 
 each-of : (rs : List (List ℕ)) (i : ℕ) → Byte rs i
 each-of [] i = inl refl
-each-of (r ∷ rs) i = ⊎-elim (λ z. behind (omega (arith, z)) (each-of rs (i - length r))) (λ p. here (omega (arith, p))) (eq-zero-or-pos (length r - i))
+each-of (r ∷ rs) i =
+    ⊎-elim (λ z. behind (omega (arith, z)) (each-of rs (i - length r))) (λ p. here (omega (arith, p))) (eq-zero-or-pos (length r - i))
   where
     all : List ℕ
     all = eachOut convertedRecord rs
