@@ -1,20 +1,20 @@
 -- Laws of words in lists: a word of a list at a cursor, and none.
-use Prim.Native.Nat.{ℕ, suc, _+_}
-use mathlib.Core.Bool.{Bool, true, false, not, cond, _&&_}
+use Prim.Native.Nat.{ℕ, suc}
+use mathlib.Core.Bool.{Bool, true, false, not, _&&_}
 use mathlib.Core.List.{List, [], _∷_}
 use mathlib.Core.Option.{Option, none, some}
-use mathlib.Core.Path.{_≡_, refl, sym, ap, _∙_, subst}
+use mathlib.Core.Path.{_≡_, refl, sym, ap, _∙_}
 use native.Mathlib.Omega.{arith}
 use Rattle.text.specs.Bytes.{same}
 use Rattle.text.specs.Words.{isSome, find}
-use Rattle.text.proofs.WordLaws.{same-eq, find-here, find-past}
-use Rattle.token.specs.Token.{Kind, name, number, quoted, mark, kind, place, isMark}
+use Rattle.text.proofs.WordLaws.{same-eq, find-past}
+use Rattle.token.specs.Token.{Kind, name, number, quoted, mark, kind, isMark}
 use Rattle.token.specs.Names.{isKeyword, unless, wordOf, nameOf}
-use Rattle.grammar.specs.Rule.{Rule, got, refused, word, seesName, choiceIn}
+use Rattle.grammar.specs.Rule.{refused, word, seesName, choiceIn}
 use Rattle.error.specs.declared.Refusal.{Refusal}
 use Rattle.error.specs.declared.Refusal.the-variants.{Missing}
 use Rattle.cursor.specs.Word.{atOf}
-use Rattle.cursor.specs.Means.{Ready, notes, tokens, run, Took, Follows, placeIn, listedIn, noKeywords}
+use Rattle.cursor.specs.Means.{Ready, tokens, run, Took, Follows, placeIn, listedIn, noKeywords}
 use Rattle.cursor.specs.declared.Cursor.{Cursor}
 use Rattle.cursor.proofs.CursorLaws.{took}
 

@@ -115,7 +115,7 @@ fn code(c: Cursor) -> u64
     c.word / 140737488355328
 }
 
-// The place of the next token.
+// The place of the next token, in 16 bits.
 fn short_place(c: Cursor) -> u16
     ensures { λ r. ⌜ r ≡ atOf c ⌝ }
 {
@@ -138,6 +138,7 @@ fn size(c: Cursor) -> usize
     (end(c) - short_place(c)) as usize
 }
 
+// The place of the next token.
 pub fn place(c: Cursor) -> usize
     ensures { λ r. ⌜ r ≡ atOf c ⌝ }
 {
@@ -168,13 +169,14 @@ pub fn rounded(c: Cursor) -> usize
     (c.word / 4294967296 % 32768) as usize
 }
 
-// The first place where tokens were left, or that nothing was.
+// The first place where tokens were left, 65,535 for none.
 fn noted(c: Cursor) -> u16
     ensures { λ r. ⌜ r ≡ leftAt c ⌝ }
 {
     (c.word / 65536 % 65536) as u16
 }
 
+// The first place where tokens were left.
 pub fn leftover(c: Cursor) -> Left
     ensures { λ r. ⌜ leftIs r ≡ leftOf (leftAt c) ⌝ }
 {

@@ -398,7 +398,9 @@ module _ {form : Form} {s : List ℕ} where
       → eqb b 0 ≡ false → c ≡ closer b → eqb c 0 ≡ false
       → Reads form s d p ps (aMark c ∷ us) Q
       → Reads form s 1 (insideByte b p) (aMark b ∷ ps) us Q
-  in-group {ps = ps} {us = us} b c e f g x = and (the-mark b ps e) (then x (λ a r. and (subst (λ (e : ℕ). Reads form s 1 (leave e) (aMark c ∷ us) us (λ u. Unit {0})) f (leaves c us g)) (gives r)))
+  in-group {ps = ps} {us = us} b c e f g x =
+      and (the-mark b ps e)
+      (then x (λ a r. and (subst (λ (e : ℕ). Reads form s 1 (leave e) (aMark c ∷ us) us (λ u. Unit {0})) f (leaves c us g)) (gives r)))
 
   -- ---- repetition
 

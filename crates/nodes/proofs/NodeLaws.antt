@@ -79,7 +79,11 @@ module _ (s : List ℕ) (c m : Cursor) where
         let x = bits (nearest (cond i (not g?) g?) (writtenIn s k)) in
         record {
           value = at (record { value = x; relative = p });
-          took = record { is = rw (t .is, r .is, sym j, rw (h .at, h .left, h .rounded) at (u .is)); low = omega (arith, t .low, r .low, u .low, h .at); ready = u .ready };
+          took = record {
+            is = rw (t .is, r .is, sym j, rw (h .at, h .left, h .rounded) at (u .is));
+            low = omega (arith, t .low, r .low, u .low, h .at);
+            ready = u .ready;
+          };
           writes = writes-then w z;
           paid = let a2 = w .place in
               let a3 = z .place in

@@ -73,7 +73,8 @@ module _ (t : List ℕ) (c : Cursor) (i : Begins t 0 nothing 0 c) where
         let x = input-nests .run (notes t c) (cursor.tokens t c) in
         let y = subst (λ (o : Out (Nodes Key)). OutNests 18 (notes t c) (cursor.tokens t c) o) (g .went .took .is) x in
         let same = y .same h [] (omega arith) in
-        fits-splits t (sym (g .went .took .ready .last) ∙ last-end t (atOf (u .next)) end) (rw (i .is) (same ∙ end-fits t (atOf (u .next)) end))
+        fits-splits t (sym (g .went .took .ready .last) ∙ last-end t (atOf (u .next)) end)
+        (rw (i .is) (same ∙ end-fits t (atOf (u .next)) end))
 
     input-encoded : {a′ : List ℕ} {f : ℕ} → leftOf (leftAt (u .next)) ≡ none → Writes a 0 (big 2 .write (u .width)) a′ f
         → Encoded t b a′ (u .end) (u .records) (roundedOf (u .next))

@@ -342,7 +342,8 @@ module _ (P S : ℕ → (A : Type 0) → Rule A → Type 0) (K : Closed P S) whe
 
   tween-rows : (n : ℕ) → Rows (suc n) tweenFields
   unfolding tweenFields
-  tween-rows n = number-row also easing-row also number-row also number-row also loop-row also number-row also count-row also flag-row also tt
+  tween-rows n =
+      number-row also easing-row also number-row also number-row also loop-row also number-row also count-row also flag-row also tt
 
   tween-each : {n : ℕ} → Q (suc n) parseTween
   unfolding parseTween
@@ -515,8 +516,11 @@ module _ (P S : ℕ → (A : Type 0) → Rule A → Type 0) (K : Closed P S) whe
   preset-each : {n : ℕ} → Q (suc (suc n)) parsePresetCall
   unfolding parsePresetCall
   preset-each {n} =
-      K .then ident-each (λ w. K .then (K .tests (sees "(") (K .in-group 40 refl (pairs-each drawFields (draw-rows n))) (K .gives)) (λ fs.
-      K .then (K .marks {p = parseFieldList drawFields fs} 44 refl (fields-each drawFields (draw-rows (suc n)) fs) (K .gives)) (λ gs. K .gives)))
+      K .then ident-each
+      (λ w. K .then (K .tests (sees "(") (K .in-group 40 refl (pairs-each drawFields (draw-rows n))) (K .gives))
+      (λ fs.
+      K .then (K .marks {p = parseFieldList drawFields fs} 44 refl (fields-each drawFields (draw-rows (suc n)) fs) (K .gives))
+      (λ gs. K .gives)))
 
   label-each : {n : ℕ} → Q n parseLabel
   unfolding parseLabel

@@ -192,7 +192,8 @@ onward x y = record {
   same = λ e cs h. x .same (y .clean e) cs h ∙ y .same e cs h;
 }
 
-out-onward : {A : Type 0} {n : ℕ} {l m : Notes} {ts us : List Token} (o : Out A) → Between n l ts m us → OutNests n m us o → OutNests n l ts o
+out-onward : {A : Type 0} {n : ℕ} {l m : Notes} {ts us : List Token} (o : Out A)
+    → Between n l ts m us → OutNests n m us o → OutNests n l ts o
 out-onward (got a k vs) x y = onward x y
 out-onward (refused r p) x y = tt
 

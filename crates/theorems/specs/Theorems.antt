@@ -1,4 +1,5 @@
--- The front page: what 01 and 02 promise beyond the equation of each operation with its definition, each promise with its sentence in front.
+-- The front page: what 01 and 02 promise beyond the equation of each operation with its definition, each promise with its sentence in
+-- front.
 -- The equations stand at the operations; crates/strip/src/lib.rt has them all. proofs/Theorems.antt proves each promise by one application.
 use Prim.Native.Nat.{ℕ, suc, _+_, _*_, _-_, _≤_, _<_}
 use mathlib.Core.List.{List, _++_}

@@ -1,5 +1,6 @@
-// Tokens of a text: the one at a place; the pass that judges a whole text by the text rules; the words that are no names. For our own
-// crates: the first two require a text of at most the limit, and what is made of a number that it stands where it was found.
+// Tokens of a text: the size of the one that a text begins with, and the blanks before one; the pass that judges a whole text by the text
+// rules; the words that are no names. For our own crates: all but the last require a text of at most the limit, and what is made of a
+// number that it stands where it was found.
 // A place in a text, a size and a depth have 16 bits, but where a public function takes or gives one. What is given as a usize is narrowed
 // at once, and an index is widened where it stands.
 ghost use mathlib.Core.Path.{_≡_};

@@ -3,7 +3,6 @@ use Rattle.text.specs.Bytes.{at}
 use Rattle.error.specs.declared.Refusal.the-variants.{Malformed}
 use Rattle.cursor.proofs.CursorLaws.{counts, counted, took-number, signed-number, signed-none, head-place}
 use native.Mathlib.Omega.{arith}
-use mathlib.Core.Path.{sym, _∙_}
 use Rattle.grammar.specs.Values.{parseFloat}
 use Rattle.number.proofs.Floats.{nearest-number}
 use borrow.Author.Needs.{needs}

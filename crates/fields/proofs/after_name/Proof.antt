@@ -4,10 +4,6 @@ use Rattle.fields.proofs.FieldLaws.{row-found, row-none}
 use borrow.Author.Needs.{needs}
 use Rattle.fields.proofs.after_name.Statement.{statement}
 use Rattle.fields.proofs.after_name.Tie as tie
-use Rattle.fields.proofs.after_name.Reads as reads
-use Rattle.fields.proofs.after_name.Lts as lts
-use Rattle.cursor.proofs.mark.Reads as mark-reads
-use Rattle.cursor.proofs.place.Reads as place-reads
 
 -- src/lib.rt:63:11
 mark-requires : tie.Need-mark-requires

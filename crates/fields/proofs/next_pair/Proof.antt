@@ -1,19 +1,12 @@
-use Rattle.words.proofs.KeyLaws.{some-place, none-place}
+use Rattle.words.proofs.KeyLaws.{some-place}
 use Rattle.text.specs.Bytes.{at}
-use mathlib.Core.Path.{refl, sym, ap, _∙_}
+use mathlib.Core.Path.{refl, sym, _∙_}
 use Rattle.words.proofs.KeyLaws.{place-some, place-none}
 use Rattle.cursor.proofs.ListedLaws.{listed-word}
 use Rattle.fields.proofs.FieldLaws.{took-pair, started, paired, pairs-end}
 use borrow.Author.Needs.{needs}
 use Rattle.fields.proofs.next_pair.Statement.{statement}
 use Rattle.fields.proofs.next_pair.Tie as tie
-use Rattle.fields.proofs.next_pair.Reads as reads
-use Rattle.fields.proofs.next_pair.Lts as lts
-use Rattle.cursor.proofs.advance.Reads as advance-reads
-use Rattle.cursor.proofs.ends.Reads as ends-reads
-use Rattle.cursor.proofs.listed.Reads as listed-reads
-use Rattle.fields.proofs.after_name.Reads as after-name-reads
-use Rattle.fields.proofs.unlisted.Reads as unlisted-reads
 
 -- src/lib.rt:124:8
 ends-requires : tie.Need-ends-requires

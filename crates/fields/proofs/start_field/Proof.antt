@@ -2,21 +2,13 @@ use Rattle.cursor.specs.Means.{tokens}
 use Rattle.fields.specs.Means.{names}
 use Rattle.words.proofs.KeyLaws.{some-place, none-place}
 use Rattle.text.specs.Bytes.{at}
-use mathlib.Core.Path.{sym, ap, _∙_}
-use Rattle.text.specs.Words.{find}
+use mathlib.Core.Path.{sym, _∙_}
 use Rattle.words.proofs.KeyLaws.{place-some, place-none}
 use Rattle.cursor.proofs.ListedLaws.{listed-word}
 use Rattle.fields.proofs.FieldLaws.{all-alone, took-loop, took-field, loop-unlisted, plain-start, started}
 use borrow.Author.Needs.{needs}
 use Rattle.fields.proofs.start_field.Statement.{statement}
 use Rattle.fields.proofs.start_field.Tie as tie
-use Rattle.fields.proofs.start_field.Reads as reads
-use Rattle.fields.proofs.start_field.Lts as lts
-use Rattle.cursor.proofs.advance.Reads as advance-reads
-use Rattle.cursor.proofs.listed.Reads as listed-reads
-use Rattle.cursor.proofs.sees_word.Reads as sees-word-reads
-use Rattle.fields.proofs.after_name.Reads as after-name-reads
-use Rattle.fields.proofs.unlisted.Reads as unlisted-reads
 
 -- src/lib.rt:90:9
 listed-requires : tie.Need-listed-requires

@@ -1,18 +1,11 @@
-use Rattle.words.proofs.KeyLaws.{some-place, none-place}
+use Rattle.words.proofs.KeyLaws.{none-place}
 use mathlib.Core.Path.{sym, _∙_}
 use Rattle.grammar.specs.Fields.{pairName}
-use Rattle.words.specs.Keys.{placeIs}
 use Rattle.fields.specs.Means.{names}
 use Rattle.fields.proofs.FieldLaws.{took-unlisted, no-plain, head-missing, started}
 use borrow.Author.Needs.{needs}
 use Rattle.fields.proofs.unlisted.Statement.{statement}
 use Rattle.fields.proofs.unlisted.Tie as tie
-use Rattle.fields.proofs.unlisted.Reads as reads
-use Rattle.fields.proofs.unlisted.Lts as lts
-use Rattle.cursor.proofs.advance.Reads as advance-reads
-use Rattle.cursor.proofs.place.Reads as place-reads
-use Rattle.cursor.proofs.sees_name.Reads as sees-name-reads
-use Rattle.fields.proofs.after_name.Reads as after-name-reads
 
 -- src/lib.rt:79:8
 sees-name-requires : tie.Need-sees-name-requires

@@ -29,7 +29,8 @@ returns-2 c =
     let at-word-before = at-target .before .before in
     let args = at-word-before .before .before .before .args in
     color-no-colon (args .text .now) (args .c) _ (at-target .target .given .0 .0)
-    ((rw (at-target .target .given .1) at (at-word-before .word-before .ensures)) .0) _ (rw (c .before .p2 .given .1) at (at-mark .mark .ensures))
+    ((rw (at-target .target .given .1) at (at-word-before .word-before .ensures)) .0) _
+    (rw (c .before .p2 .given .1) at (at-mark .mark .ensures))
 
 returns-3 : tie.Need-returns-3
 returns-3 c =
