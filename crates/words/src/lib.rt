@@ -1,16 +1,16 @@
-// Made by tools/words.py. The words of the grammar, in lists: the place of a word in a list, told by its bytes as numbers. For our
-// own crates.
+// Made by tools/words.py. The words of the grammar and the names that checking knows, in lists: the place of a word in a list, told by
+// its bytes as numbers. For our own crates.
 ghost use mathlib.Core.Path.{_≡_};
 ghost use Prim.Native.Nat.{_+_, _*_, _≤_};
 ghost use lib.ListN.{length};
 ghost use Rattle.text.specs.Bytes.{part};
-ghost use Rattle.text.specs.Words.{find};
+ghost use Rattle.text.specs.Words.{isSome, find};
 ghost use Rattle.words.specs.Lists.{listOf};
 ghost use Rattle.words.specs.Keys.{keysOf, seek, placeIs};
 use packing::eight;
 use packing::if_equal;
 use packing::if_long;
-use packing::if_word;
+use packing::if_longest;
 use packing::packed;
 
 mod packing;
@@ -66,7 +66,13 @@ pub const SPRING_PRESETS: u8 = 21;
 
 pub const INTEGRATORS: u8 = 22;
 
-// ---- the words of a list of at most 7 bytes, and of 8 to 15
+pub const EASINGS: u8 = 23;
+
+pub const PRESETS: u8 = 24;
+
+pub const COLORS: u8 = 25;
+
+// ---- the words of a list of at most 7 bytes, of 8 to 15, and of 16 to 23
 
 fn short_nodes(v: u64) -> u8
     ensures { λ r. ⌜ r ≡ seek (keysOf 0) 0 v ⌝ }
@@ -267,6 +273,49 @@ fn short_spring_presets(v: u64) -> u8
     }
 }
 
+fn short_presets(v: u64) -> u8
+    ensures { λ r. ⌜ r ≡ seek (keysOf 24) 0 v ⌝ }
+{
+    match v {
+        0x16e695f65646166 => 0, // fade_in
+        0x1656b616873 => 19, // shake
+        0x1656c67676977 => 20, // wiggle
+        0x174616f6c66 => 22, // float
+        0x172656d6d696873 => 23, // shimmer
+        _ => NONE,
+    }
+}
+
+fn short_colors(v: u64) -> u8
+    ensures { λ r. ⌜ r ≡ seek (keysOf 25) 0 v ⌝ }
+{
+    match v {
+        0x16b63616c62 => 0, // black
+        0x16574696877 => 1, // white
+        0x1646572 => 2, // red
+        0x16e65657267 => 3, // green
+        0x165756c62 => 4, // blue
+        0x1776f6c6c6579 => 5, // yellow
+        0x16e617963 => 6, // cyan
+        0x161746e6567616d => 7, // magenta
+        0x179617267 => 8, // gray
+        0x179657267 => 9, // grey
+        0x165676e61726f => 10, // orange
+        0x1656c70727570 => 11, // purple
+        0x16b6e6970 => 12, // pink
+        0x16e776f7262 => 13, // brown
+        0x1656d696c => 14, // lime
+        0x16c616574 => 15, // teal
+        0x17976616e => 16, // navy
+        0x16e6f6f72616d => 17, // maroon
+        0x16576696c6f => 18, // olive
+        0x17265766c6973 => 19, // silver
+        0x161757161 => 20, // aqua
+        0x161697368637566 => 21, // fuchsia
+        _ => NONE,
+    }
+}
+
 fn long_nodes(v: u64, rest: u64) -> u8
     requires { ⌜ 1 ≤ rest ⌝ }
     ensures { λ r. ⌜ r ≡ seek (keysOf 0) 0 (rest * 18446744073709551616 + v) ⌝ }
@@ -376,6 +425,125 @@ fn long_waveforms(v: u64, rest: u64) -> u8
     }
 }
 
+// Behind `ease_in_`.
+fn long_easings_ease_in(rest: u64) -> u8
+    requires { ⌜ 1 ≤ rest ⌝ }
+    ensures { λ r. ⌜ r ≡ seek (keysOf 23) 0 (rest * 18446744073709551616 + 6876549539486196069) ⌝ }
+{
+    match rest {
+        0x164617571 => 1, // ease_in_quad
+        0x16369627563 => 4, // ease_in_cubic
+        0x17472617571 => 7, // ease_in_quart
+        0x1746e697571 => 10, // ease_in_quint
+        0x1656e6973 => 13, // ease_in_sine
+        0x16f707865 => 16, // ease_in_expo
+        0x163726963 => 19, // ease_in_circ
+        0x16b636162 => 22, // ease_in_back
+        0x163697473616c65 => 25, // ease_in_elastic
+        0x165636e756f62 => 28, // ease_in_bounce
+        _ => NONE,
+    }
+}
+
+// Behind `ease_out`.
+fn long_easings_ease_out(rest: u64) -> u8
+    requires { ⌜ 1 ≤ rest ⌝ }
+    ensures { λ r. ⌜ r ≡ seek (keysOf 23) 0 (rest * 18446744073709551616 + 8391735936189423973) ⌝ }
+{
+    match rest {
+        0x1646175715f => 2, // ease_out_quad
+        0x163696275635f => 5, // ease_out_cubic
+        0x174726175715f => 8, // ease_out_quart
+        0x1746e6975715f => 11, // ease_out_quint
+        0x1656e69735f => 14, // ease_out_sine
+        0x16f7078655f => 17, // ease_out_expo
+        0x1637269635f => 20, // ease_out_circ
+        0x16b6361625f => 23, // ease_out_back
+        0x165636e756f625f => 29, // ease_out_bounce
+        _ => NONE,
+    }
+}
+
+fn long_easings(v: u64, rest: u64) -> u8
+    requires { ⌜ 1 ≤ rest ⌝ }
+    ensures { λ r. ⌜ r ≡ seek (keysOf 23) 0 (rest * 18446744073709551616 + v) ⌝ }
+{
+    match v {
+        0x5f6e695f65736165 => long_easings_ease_in(rest), // ease_in_
+        0x74756f5f65736165 => long_easings_ease_out(rest), // ease_out
+        _ => NONE,
+    }
+}
+
+// Behind `loading_`.
+fn long_presets_loading(rest: u64) -> u8
+    requires { ⌜ 1 ≤ rest ⌝ }
+    ensures { λ r. ⌜ r ≡ seek (keysOf 24) 0 (rest * 18446744073709551616 + 6874584755139080044) ⌝ }
+{
+    match rest {
+        0x165736c7570 => 17, // loading_pulse
+        0x165766177 => 18, // loading_wave
+        _ => NONE,
+    }
+}
+
+fn long_presets(v: u64, rest: u64) -> u8
+    requires { ⌜ 1 ≤ rest ⌝ }
+    ensures { λ r. ⌜ r ≡ seek (keysOf 24) 0 (rest * 18446744073709551616 + v) ⌝ }
+{
+    match v {
+        0x74756f5f65646166 => if_equal(rest, 0x1, 1), // fade_out
+        0x6e695f6564696c73 => if_equal(rest, 0x1, 2), // slide_in
+        0x756f5f6564696c73 => if_equal(rest, 0x174, 3), // slide_out
+        0x6e695f656c616373 => if_equal(rest, 0x1, 4), // scale_in
+        0x756f5f656c616373 => if_equal(rest, 0x174, 5), // scale_out
+        0x695f65636e756f62 => if_equal(rest, 0x16e, 6), // bounce_in
+        0x6f5f65636e756f62 => if_equal(rest, 0x17475, 7), // bounce_out
+        0x6e655f6c61646f6d => if_equal(rest, 0x1726574, 8), // modal_enter
+        0x78655f6c61646f6d => if_equal(rest, 0x17469, 9), // modal_exit
+        0x6f5f726577617264 => if_equal(rest, 0x16e6570, 10), // drawer_open
+        0x635f726577617264 => if_equal(rest, 0x165736f6c, 11), // drawer_close
+        0x6e655f7473616f74 => if_equal(rest, 0x1726574, 12), // toast_enter
+        0x78655f7473616f74 => if_equal(rest, 0x17469, 13), // toast_exit
+        0x746e655f65676170 => if_equal(rest, 0x17265, 14), // page_enter
+        0x6978655f65676170 => if_equal(rest, 0x174, 15), // page_exit
+        0x5f676e6964616f6c => long_presets_loading(rest), // loading_
+        0x6165627472616568 => if_equal(rest, 0x174, 21), // heartbeat
+        _ => NONE,
+    }
+}
+
+// Behind `ease_in_`.
+fn longest_easings_ease_in(rest: u64, last: u64) -> u8
+    requires { ⌜ 1 ≤ last ⌝ }
+    ensures { λ r. ⌜ r ≡ seek (keysOf 23) 0 ((last * 18446744073709551616 + rest) * 18446744073709551616 + 6876549539486196069) ⌝ }
+{
+    match rest {
+        0x646175715f74756f => if_equal(last, 0x1, 3), // ease_in_out_quad
+        0x696275635f74756f => if_equal(last, 0x163, 6), // ease_in_out_cubic
+        0x726175715f74756f => if_equal(last, 0x174, 9), // ease_in_out_quart
+        0x6e6975715f74756f => if_equal(last, 0x174, 12), // ease_in_out_quint
+        0x656e69735f74756f => if_equal(last, 0x1, 15), // ease_in_out_sine
+        0x6f7078655f74756f => if_equal(last, 0x1, 18), // ease_in_out_expo
+        0x637269635f74756f => if_equal(last, 0x1, 21), // ease_in_out_circ
+        0x6b6361625f74756f => if_equal(last, 0x1, 24), // ease_in_out_back
+        0x73616c655f74756f => if_equal(last, 0x1636974, 27), // ease_in_out_elastic
+        0x6e756f625f74756f => if_equal(last, 0x16563, 30), // ease_in_out_bounce
+        _ => NONE,
+    }
+}
+
+fn longest_easings(v: u64, rest: u64, last: u64) -> u8
+    requires { ⌜ 1 ≤ last ⌝ }
+    ensures { λ r. ⌜ r ≡ seek (keysOf 23) 0 ((last * 18446744073709551616 + rest) * 18446744073709551616 + v) ⌝ }
+{
+    match v {
+        0x5f6e695f65736165 => longest_easings_ease_in(rest, last), // ease_in_
+        0x74756f5f65736165 => if_long(rest, last, 0x63697473616c655f, 0x1, 26), // ease_out_elastic
+        _ => NONE,
+    }
+}
+
 // ---- the words of any list
 
 // A word of at most 7 bytes.
@@ -405,6 +573,9 @@ fn short(list: u8, v: u64) -> u8
         20 => if_equal(v, 0x1676e6f6c61, 0), // along
         21 => short_spring_presets(v),
         22 => if_equal(v, 0x1346b72, 1), // rk4
+        23 => if_equal(v, 0x17261656e696c, 0), // linear
+        24 => short_presets(v),
+        25 => short_colors(v),
         _ => NONE,
     }
 }
@@ -431,18 +602,22 @@ fn long(list: u8, v: u64, rest: u64) -> u8
         16 => long_grid_origins(v, rest),
         17 => long_patterns(v, rest),
         19 => long_waveforms(v, rest),
+        23 => long_easings(v, rest),
+        24 => long_presets(v, rest),
         _ => NONE,
     }
 }
 
-// A word of 16 bytes or more.
-fn longest(list: u8, word: &[u8]) -> u8
-    requires { ⌜ 16 ≤ length (now word) ⌝ }
-    ensures { λ r. ⌜ placeIs r ≡ find (listOf list) 0 (now (word .entry)) ⌝ }
+// A word of 16 to 23 bytes: twice 8, and the others under a 1.
+fn longest(list: u8, v: u64, rest: u64, last: u64) -> u8
+    requires { ⌜ 1 ≤ last ⌝ }
+    ensures { λ r. ⌜ r ≡ seek (keysOf list) 0 ((last * 18446744073709551616 + rest) * 18446744073709551616 + v) ⌝ }
 {
     match list {
-        2 => if_word(word, b"critically_damped", 7),
-        22 => if_word(word, b"semi_implicit_euler", 0),
+        2 => if_longest(v, rest, last, 0x6c61636974697263, 0x65706d61645f796c, 0x164, 7), // critically_damped
+        22 => if_longest(v, rest, last, 0x706d695f696d6573, 0x75655f746963696c, 0x172656c, 0), // semi_implicit_euler
+        23 => longest_easings(v, rest, last),
+        24 => if_longest(v, rest, last, 0x5f72656767617473, 0x6e6572646c696863, 0x1, 16), // stagger_children
         _ => NONE,
     }
 }
@@ -458,5 +633,19 @@ pub fn find(list: u8, text: &[u8], at: usize, n: usize) -> u8
     if n < 16 {
         return long(list, eight(text, at), packed(text, at + 8, n - 8));
     }
-    longest(list, text::part(text, at, n))
+    if n < 24 {
+        return longest(list, eight(text, at), eight(text, at + 8), packed(text, at + 16, n - 16));
+    }
+    NONE
+}
+
+// Whether the bytes of a text from a place, at most n, are a word of a list.
+pub fn holds(list: u8, text: &[u8], at: usize, n: usize) -> bool
+    ensures { λ r. ⌜ r ≡ isSome (find (listOf list) 0 (part (now (text .entry)) at n)) ⌝ }
+{
+    let size = text::part(text, at, n).len();
+    if size == 0 {
+        return false;
+    }
+    find(list, text, at, size) != NONE
 }
