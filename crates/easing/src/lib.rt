@@ -1,12 +1,8 @@
 // easing.rs: the named easings, and parser.rs's to_snake_case for a name behind `Easing::`.
-ghost use mathlib.Core.Bool.{_&&_};
 ghost use mathlib.Core.Path.{_≡_};
-ghost use lib.Dec.{ltb, eqb};
 ghost use Rattle.text.specs.Bytes.{part};
 ghost use Rattle.text.specs.Write.{Puts};
-ghost use Rattle.text.specs.Words.{isOneOf};
-ghost use Rattle.lengths.specs.Sized.{among};
-ghost use Rattle.easing.specs.Names.{namedEasings, snakeByte, snake, isEasing};
+ghost use Rattle.easing.specs.Names.{snakeByte, snake, isEasing};
 
 // Writes a byte of a name behind the first one, with `_` before a capital, as far as there is room, and gives the place behind it.
 fn put_snake(out: &mut [u8], at: usize, b: u8) -> usize
@@ -38,14 +34,6 @@ pub fn to_snake_case(w: &[u8], out: &mut [u8]) -> usize
     n
 }
 
-// Whether the n bytes at a place of a text are one of the names.
-fn is_listed(text: &[u8], at: usize, n: usize) -> bool
-    requires { ⌜ at + n ≤ length (now text) ⌝ }
-    ensures { λ r. ⌜ r ≡ isOneOf namedEasings (part (now (text .entry)) at n) ⌝ }
-{
-    words::find(words::EASINGS, text, at, n) != words::NONE
-}
-
 // Whether a part of a text names an easing, as it is written or, where `Easing::` stands before it, in snake case.
 pub fn is_named_easing(text: &[u8], start: usize, size: usize, variant: bool) -> bool
     ensures { λ r. ⌜ r ≡ isEasing variant (part (now (text .entry)) start size) ⌝ }
@@ -53,9 +41,8 @@ pub fn is_named_easing(text: &[u8], start: usize, size: usize, variant: bool) ->
     if !variant {
         return words::holds(words::EASINGS, text, start, size);
     }
-    let w = text::part(text, start, size);
     // Longer than each of the names.
     let mut name = [0u8; 32];
-    let n = to_snake_case(w, &mut name);
-    is_listed(&name, 0, n)
+    let n = to_snake_case(text::part(text, start, size), &mut name);
+    words::holds(words::EASINGS, &name, 0, n)
 }

@@ -12,6 +12,7 @@ use borrow.Author.Tests.{eq-eqb, ne-eqb}
 use Rattle.text.specs.Bytes.{isHex, lowered, run, at, part}
 use Rattle.text.specs.Words.{isSome, words, find, shorter}
 use Rattle.text.proofs.WordLaws.{find-clip}
+use Rattle.words.specs.Lists.{listOf}
 use Rattle.presets.specs.Colors.{colors, hexSize, isHexColor, isColorOf}
 
 pub hex-digits : (t : List ℕ) (r : ℕ) → hexSize (length t) ≡ true → r ≡ 0 + run isHex (drop 0 t) → eqb r (length t) ≡ isHexColor t
@@ -22,7 +23,11 @@ pub hex-no : (t : List ℕ) → hexSize (length t) ≡ false → false ≡ isHex
 unfolding isHexColor
 hex-no t h = rw h
 
--- the names are shorter than the 32 bytes that a string is clipped to: one computed test
+-- the code's list has the names, and these are shorter than the 32 bytes that a string is clipped to: computed
+pub names-are : listOf 25 ≡ words colors
+unfolding listOf
+names-are = refl
+
 pub short : shorter 32 (words colors) ≡ true
 unfolding shorter
 short = refl

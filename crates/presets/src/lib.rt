@@ -1,10 +1,7 @@
 // presets.rs: the presets and the named colours; validate.rs's is_valid_color.
 ghost use mathlib.Core.Path.{_≡_};
-ghost use lib.Dec.{ltb, eqb};
 ghost use Rattle.text.specs.Bytes.{part};
-ghost use Rattle.text.specs.Words.{isOneOf};
-ghost use Rattle.lengths.specs.Sized.{among};
-ghost use Rattle.presets.specs.Presets.{presets, isPreset};
+ghost use Rattle.presets.specs.Presets.{isPreset};
 ghost use Rattle.presets.specs.Colors.{colors, hexSize, isHexColor, isColor};
 
 // ---- presets
@@ -53,7 +50,7 @@ fn is_color(s: &[u8]) -> bool
     // Longer than each of the names.
     let mut name = [0u8; 32];
     let n = text::lower_into(s, &mut name);
-    words::find(words::COLORS, &name, 0, n) != words::NONE
+    words::holds(words::COLORS, &name, 0, n)
 }
 
 // Whether a part of a text is a colour by the Rust's list of names.
