@@ -72,6 +72,8 @@ pub const PRESETS: u8 = 24;
 
 pub const COLORS: u8 = 25;
 
+pub const CSS_COLORS: u8 = 26;
+
 // ---- the words of a list of at most 7 bytes, of 8 to 15, and of 16 to 23
 
 fn short_nodes(v: u64) -> u8
@@ -316,6 +318,63 @@ fn short_colors(v: u64) -> u8
     }
 }
 
+fn short_css_colors(v: u64) -> u8
+    ensures { λ r. ⌜ r ≡ seek (keysOf 26) 0 v ⌝ }
+{
+    match v {
+        0x161757161 => 2, // aqua
+        0x16572757a61 => 4, // azure
+        0x16567696562 => 5, // beige
+        0x1657571736962 => 6, // bisque
+        0x16b63616c62 => 7, // black
+        0x165756c62 => 9, // blue
+        0x16e776f7262 => 11, // brown
+        0x16c61726f63 => 16, // coral
+        0x16e6f736d697263 => 19, // crimson
+        0x16e617963 => 20, // cyan
+        0x16465726b726164 => 32, // darkred
+        0x1796172676d6964 => 42, // dimgray
+        0x1796572676d6964 => 43, // dimgrey
+        0x161697368637566 => 48, // fuchsia
+        0x1646c6f67 => 51, // gold
+        0x179617267 => 53, // gray
+        0x16e65657267 => 54, // green
+        0x179657267 => 56, // grey
+        0x16b6e6970746f68 => 58, // hotpink
+        0x16f6769646e69 => 60, // indigo
+        0x179726f7669 => 61, // ivory
+        0x1696b61686b => 62, // khaki
+        0x1656d696c => 82, // lime
+        0x16e656e696c => 84, // linen
+        0x161746e6567616d => 85, // magenta
+        0x16e6f6f72616d => 86, // maroon
+        0x17976616e => 101, // navy
+        0x16563616c646c6f => 102, // oldlace
+        0x16576696c6f => 103, // olive
+        0x165676e61726f => 105, // orange
+        0x164696863726f => 107, // orchid
+        0x175726570 => 114, // peru
+        0x16b6e6970 => 115, // pink
+        0x16d756c70 => 116, // plum
+        0x1656c70727570 => 118, // purple
+        0x1646572 => 120, // red
+        0x16e6f6d6c6173 => 124, // salmon
+        0x1616e6e656973 => 128, // sienna
+        0x17265766c6973 => 129, // silver
+        0x165756c62796b73 => 130, // skyblue
+        0x1776f6e73 => 134, // snow
+        0x16e6174 => 137, // tan
+        0x16c616574 => 138, // teal
+        0x1656c7473696874 => 139, // thistle
+        0x16f74616d6f74 => 140, // tomato
+        0x174656c6f6976 => 142, // violet
+        0x17461656877 => 143, // wheat
+        0x16574696877 => 144, // white
+        0x1776f6c6c6579 => 146, // yellow
+        _ => NONE,
+    }
+}
+
 fn long_nodes(v: u64, rest: u64) -> u8
     requires { ⌜ 1 ≤ rest ⌝ }
     ensures { λ r. ⌜ r ≡ seek (keysOf 0) 0 (rest * 18446744073709551616 + v) ⌝ }
@@ -513,6 +572,155 @@ fn long_presets(v: u64, rest: u64) -> u8
     }
 }
 
+// Behind `darkslat`.
+fn long_css_colors_darkslat(rest: u64) -> u8
+    requires { ⌜ 1 ≤ rest ⌝ }
+    ensures { λ r. ⌜ r ≡ seek (keysOf 26) 0 (rest * 18446744073709551616 + 8386103224120271204) ⌝ }
+{
+    match rest {
+        0x165756c6265 => 35, // darkslateblue
+        0x17961726765 => 36, // darkslategray
+        0x17965726765 => 37, // darkslategrey
+        _ => NONE,
+    }
+}
+
+// Behind `lavender`.
+fn long_css_colors_lavender(rest: u64) -> u8
+    requires { ⌜ 1 ≤ rest ⌝ }
+    ensures { λ r. ⌜ r ≡ seek (keysOf 26) 0 (rest * 18446744073709551616 + 8243105118282998124) ⌝ }
+{
+    match rest {
+        0x1 => 63, // lavender
+        0x16873756c62 => 64, // lavenderblush
+        _ => NONE,
+    }
+}
+
+// Behind `lightgre`.
+fn long_css_colors_lightgre(rest: u64) -> u8
+    requires { ⌜ 1 ≤ rest ⌝ }
+    ensures { λ r. ⌜ r ≡ seek (keysOf 26) 0 (rest * 18446744073709551616 + 7310018894841211244) ⌝ }
+{
+    match rest {
+        0x16e65 => 72, // lightgreen
+        0x179 => 73, // lightgrey
+        _ => NONE,
+    }
+}
+
+// Behind `lightsla`.
+fn long_css_colors_lightsla(rest: u64) -> u8
+    requires { ⌜ 1 ≤ rest ⌝ }
+    ensures { λ r. ⌜ r ≡ seek (keysOf 26) 0 (rest * 18446744073709551616 + 7020112862968768876) ⌝ }
+{
+    match rest {
+        0x1796172676574 => 78, // lightslategray
+        0x1796572676574 => 79, // lightslategrey
+        _ => NONE,
+    }
+}
+
+fn long_css_colors(v: u64, rest: u64) -> u8
+    requires { ⌜ 1 ≤ rest ⌝ }
+    ensures { λ r. ⌜ r ≡ seek (keysOf 26) 0 (rest * 18446744073709551616 + v) ⌝ }
+{
+    match v {
+        0x756c626563696c61 => if_equal(rest, 0x165, 0), // aliceblue
+        0x7765757169746e61 => if_equal(rest, 0x165746968, 1), // antiquewhite
+        0x6972616d61757161 => if_equal(rest, 0x1656e, 3), // aquamarine
+        0x646568636e616c62 => if_equal(rest, 0x1646e6f6d6c61, 8), // blanchedalmond
+        0x6c6f697665756c62 => if_equal(rest, 0x17465, 10), // blueviolet
+        0x6f6f77796c727562 => if_equal(rest, 0x164, 12), // burlywood
+        0x756c627465646163 => if_equal(rest, 0x165, 13), // cadetblue
+        0x7565727472616863 => if_equal(rest, 0x16573, 14), // chartreuse
+        0x74616c6f636f6863 => if_equal(rest, 0x165, 15), // chocolate
+        0x776f6c666e726f63 => if_equal(rest, 0x165756c627265, 17), // cornflowerblue
+        0x6b6c69736e726f63 => if_equal(rest, 0x1, 18), // cornsilk
+        0x65756c626b726164 => if_equal(rest, 0x1, 21), // darkblue
+        0x6e6179636b726164 => if_equal(rest, 0x1, 22), // darkcyan
+        0x646c6f676b726164 => if_equal(rest, 0x1646f726e65, 23), // darkgoldenrod
+        0x796172676b726164 => if_equal(rest, 0x1, 24), // darkgray
+        0x656572676b726164 => if_equal(rest, 0x16e, 25), // darkgreen
+        0x796572676b726164 => if_equal(rest, 0x1, 26), // darkgrey
+        0x6b61686b6b726164 => if_equal(rest, 0x169, 27), // darkkhaki
+        0x6567616d6b726164 => if_equal(rest, 0x161746e, 28), // darkmagenta
+        0x76696c6f6b726164 => if_equal(rest, 0x16e6565726765, 29), // darkolivegreen
+        0x6e61726f6b726164 => if_equal(rest, 0x16567, 30), // darkorange
+        0x6863726f6b726164 => if_equal(rest, 0x16469, 31), // darkorchid
+        0x6d6c61736b726164 => if_equal(rest, 0x16e6f, 33), // darksalmon
+        0x676165736b726164 => if_equal(rest, 0x16e656572, 34), // darkseagreen
+        0x74616c736b726164 => long_css_colors_darkslat(rest), // darkslat
+        0x717275746b726164 => if_equal(rest, 0x16573696f75, 38), // darkturquoise
+        0x6c6f69766b726164 => if_equal(rest, 0x17465, 39), // darkviolet
+        0x6b6e697070656564 => if_equal(rest, 0x1, 40), // deeppink
+        0x62796b7370656564 => if_equal(rest, 0x165756c, 41), // deepskyblue
+        0x6c62726567646f64 => if_equal(rest, 0x16575, 44), // dodgerblue
+        0x6369726265726966 => if_equal(rest, 0x16b, 45), // firebrick
+        0x68776c61726f6c66 => if_equal(rest, 0x1657469, 46), // floralwhite
+        0x7267747365726f66 => if_equal(rest, 0x16e6565, 47), // forestgreen
+        0x726f62736e696167 => if_equal(rest, 0x16f, 49), // gainsboro
+        0x69687774736f6867 => if_equal(rest, 0x16574, 50), // ghostwhite
+        0x6f726e65646c6f67 => if_equal(rest, 0x164, 52), // goldenrod
+        0x6c65796e65657267 => if_equal(rest, 0x1776f6c, 55), // greenyellow
+        0x77656479656e6f68 => if_equal(rest, 0x1, 57), // honeydew
+        0x65726e6169646e69 => if_equal(rest, 0x164, 59), // indianred
+        0x7265646e6576616c => long_css_colors_lavender(rest), // lavender
+        0x656572676e77616c => if_equal(rest, 0x16e, 65), // lawngreen
+        0x6968636e6f6d656c => if_equal(rest, 0x16e6f6666, 66), // lemonchiffon
+        0x756c62746867696c => if_equal(rest, 0x165, 67), // lightblue
+        0x726f63746867696c => if_equal(rest, 0x16c61, 68), // lightcoral
+        0x617963746867696c => if_equal(rest, 0x16e, 69), // lightcyan
+        0x617267746867696c => if_equal(rest, 0x179, 71), // lightgray
+        0x657267746867696c => long_css_colors_lightgre(rest), // lightgre
+        0x6e6970746867696c => if_equal(rest, 0x16b, 74), // lightpink
+        0x6c6173746867696c => if_equal(rest, 0x16e6f6d, 75), // lightsalmon
+        0x616573746867696c => if_equal(rest, 0x16e65657267, 76), // lightseagreen
+        0x796b73746867696c => if_equal(rest, 0x165756c62, 77), // lightskyblue
+        0x616c73746867696c => long_css_colors_lightsla(rest), // lightsla
+        0x657473746867696c => if_equal(rest, 0x165756c626c65, 80), // lightsteelblue
+        0x6c6579746867696c => if_equal(rest, 0x1776f6c, 81), // lightyellow
+        0x65657267656d696c => if_equal(rest, 0x16e, 83), // limegreen
+        0x6c626d756964656d => if_equal(rest, 0x16575, 88), // mediumblue
+        0x726f6d756964656d => if_equal(rest, 0x164696863, 89), // mediumorchid
+        0x75706d756964656d => if_equal(rest, 0x1656c7072, 90), // mediumpurple
+        0x65736d756964656d => if_equal(rest, 0x16e6565726761, 91), // mediumseagreen
+        0x6c736d756964656d => if_equal(rest, 0x165756c62657461, 92), // mediumslateblue
+        0x75746d756964656d => if_equal(rest, 0x16573696f757172, 94), // mediumturquoise
+        0x69766d756964656d => if_equal(rest, 0x164657274656c6f, 95), // mediumvioletred
+        0x746867696e64696d => if_equal(rest, 0x165756c62, 96), // midnightblue
+        0x61657263746e696d => if_equal(rest, 0x16d, 97), // mintcream
+        0x736f72797473696d => if_equal(rest, 0x165, 98), // mistyrose
+        0x6e69736163636f6d => if_equal(rest, 0x1, 99), // moccasin
+        0x68776f6a6176616e => if_equal(rest, 0x1657469, 100), // navajowhite
+        0x6172646576696c6f => if_equal(rest, 0x162, 104), // olivedrab
+        0x657265676e61726f => if_equal(rest, 0x164, 106), // orangered
+        0x646c6f67656c6170 => if_equal(rest, 0x1646f726e65, 108), // palegoldenrod
+        0x65657267656c6170 => if_equal(rest, 0x16e, 109), // palegreen
+        0x71727574656c6170 => if_equal(rest, 0x16573696f75, 110), // paleturquoise
+        0x6c6f6976656c6170 => if_equal(rest, 0x16465727465, 111), // palevioletred
+        0x6877617961706170 => if_equal(rest, 0x17069, 112), // papayawhip
+        0x6675706863616570 => if_equal(rest, 0x166, 113), // peachpuff
+        0x6c62726564776f70 => if_equal(rest, 0x16575, 117), // powderblue
+        0x7061636365626572 => if_equal(rest, 0x1656c707275, 119), // rebeccapurple
+        0x776f726279736f72 => if_equal(rest, 0x16e, 121), // rosybrown
+        0x756c626c61796f72 => if_equal(rest, 0x165, 122), // royalblue
+        0x7262656c64646173 => if_equal(rest, 0x16e776f, 123), // saddlebrown
+        0x6f726279646e6173 => if_equal(rest, 0x16e77, 125), // sandybrown
+        0x6e65657267616573 => if_equal(rest, 0x1, 126), // seagreen
+        0x6c6c656873616573 => if_equal(rest, 0x1, 127), // seashell
+        0x756c626574616c73 => if_equal(rest, 0x165, 131), // slateblue
+        0x6172676574616c73 => if_equal(rest, 0x179, 132), // slategray
+        0x6572676574616c73 => if_equal(rest, 0x179, 133), // slategrey
+        0x7267676e69727073 => if_equal(rest, 0x16e6565, 135), // springgreen
+        0x756c626c65657473 => if_equal(rest, 0x165, 136), // steelblue
+        0x73696f7571727574 => if_equal(rest, 0x165, 141), // turquoise
+        0x6f6d736574696877 => if_equal(rest, 0x1656b, 145), // whitesmoke
+        0x7267776f6c6c6579 => if_equal(rest, 0x16e6565, 147), // yellowgreen
+        _ => NONE,
+    }
+}
+
 // Behind `ease_in_`.
 fn longest_easings_ease_in(rest: u64, last: u64) -> u8
     requires { ⌜ 1 ≤ last ⌝ }
@@ -540,6 +748,18 @@ fn longest_easings(v: u64, rest: u64, last: u64) -> u8
     match v {
         0x5f6e695f65736165 => longest_easings_ease_in(rest, last), // ease_in_
         0x74756f5f65736165 => if_long(rest, last, 0x63697473616c655f, 0x1, 26), // ease_out_elastic
+        _ => NONE,
+    }
+}
+
+fn longest_css_colors(v: u64, rest: u64, last: u64) -> u8
+    requires { ⌜ 1 ≤ last ⌝ }
+    ensures { λ r. ⌜ r ≡ seek (keysOf 26) 0 ((last * 18446744073709551616 + rest) * 18446744073709551616 + v) ⌝ }
+{
+    match v {
+        0x6c6f67746867696c => if_long(rest, last, 0x6579646f726e6564, 0x1776f6c6c, 70), // lightgoldenrodyellow
+        0x71616d756964656d => if_long(rest, last, 0x656e6972616d6175, 0x1, 87), // mediumaquamarine
+        0x70736d756964656d => if_long(rest, last, 0x65657267676e6972, 0x16e, 93), // mediumspringgreen
         _ => NONE,
     }
 }
@@ -576,6 +796,7 @@ fn short(list: u8, v: u64) -> u8
         23 => if_equal(v, 0x17261656e696c, 0), // linear
         24 => short_presets(v),
         25 => short_colors(v),
+        26 => short_css_colors(v),
         _ => NONE,
     }
 }
@@ -604,6 +825,7 @@ fn long(list: u8, v: u64, rest: u64) -> u8
         19 => long_waveforms(v, rest),
         23 => long_easings(v, rest),
         24 => long_presets(v, rest),
+        26 => long_css_colors(v, rest),
         _ => NONE,
     }
 }
@@ -618,6 +840,7 @@ fn longest(list: u8, v: u64, rest: u64, last: u64) -> u8
         22 => if_longest(v, rest, last, 0x706d695f696d6573, 0x75655f746963696c, 0x172656c, 0), // semi_implicit_euler
         23 => longest_easings(v, rest, last),
         24 => if_longest(v, rest, last, 0x5f72656767617473, 0x6e6572646c696863, 0x1, 16), // stagger_children
+        26 => longest_css_colors(v, rest, last),
         _ => NONE,
     }
 }

@@ -101,11 +101,14 @@ returns-18 : tie.Need-returns-18
 returns-18 c = by-number _ 24 _ _ (c .before .match .keys18) (c .long-presets .ensures)
 
 returns-19 : tie.Need-returns-19
+returns-19 c = by-number _ 26 _ _ (c .before .match .keys19) (c .long-css-colors .ensures)
+
+returns-20 : tie.Need-returns-20
 unfolding listOf packs onto every oneOf middle headIn noneOf everyList
-returns-19 c =
+returns-20 c =
     let start = c .before in
     let args = start .args in
-    no-word (24 ∷ 23 ∷ 19 ∷ 17 ∷ 16 ∷ 15 ∷ 14 ∷ 13 ∷ 9 ∷ 8 ∷ 7 ∷ 6 ∷ 5 ∷ 4 ∷ 3 ∷ 2 ∷ 1 ∷ 0 ∷ []) (args .list) (c .match .rest) middle
+    no-word (26 ∷ 24 ∷ 23 ∷ 19 ∷ 17 ∷ 16 ∷ 15 ∷ 14 ∷ 13 ∷ 9 ∷ 8 ∷ 7 ∷ 6 ∷ 5 ∷ 4 ∷ 3 ∷ 2 ∷ 1 ∷ 0 ∷ []) (args .list) (c .match .rest) middle
     (args .v) (args .rest) (omega arith) (is-middle (args .rest) (start .pre) (omega arith)) refl
 
 pub long-spec : {M : Type 1} → statement M
@@ -113,5 +116,6 @@ long-spec =
     tie.close (tie.spec (λ c κs. search needs) (λ c κs. search needs) (λ c κs. search needs) (λ c κs. search needs) (λ c κs. search needs)
     (λ c κs. search needs) (λ c κs. search needs) (λ c κs. search needs) (λ c κs. search needs) (λ c κs. search needs)
     (λ c κs. search needs) (λ c κs. search needs) (λ c κs. search needs) (λ c κs. search needs) (λ c κs. search needs)
-    (λ c κs. search needs) (λ c κs. search needs) (λ c κs. search needs) returns returns-2 returns-3 returns-4 returns-5 returns-6 returns-7
-    returns-8 returns-9 returns-10 returns-11 returns-12 returns-13 returns-14 returns-15 returns-16 returns-17 returns-18 returns-19)
+    (λ c κs. search needs) (λ c κs. search needs) (λ c κs. search needs) (λ c κs. search needs) returns returns-2 returns-3 returns-4
+    returns-5 returns-6 returns-7 returns-8 returns-9 returns-10 returns-11 returns-12 returns-13 returns-14 returns-15 returns-16
+    returns-17 returns-18 returns-19 returns-20)

@@ -46,14 +46,17 @@ returns-4 c =
     refl refl)
 
 returns-5 : tie.Need-returns-5
+returns-5 c = by-number _ 26 _ _ (c .before .match .keys5) (c .longest-css-colors .ensures)
+
+returns-6 : tie.Need-returns-6
 unfolding listOf packs onto every oneOf far headIn noneOf everyList
-returns-5 c =
+returns-6 c =
     let start = c .before in
     let args = start .args in
-    no-word (24 ∷ 23 ∷ 22 ∷ 2 ∷ []) (args .list) (c .match .rest) far (args .v) (args .last * limb + args .rest) (omega arith) (is-far
+    no-word (26 ∷ 24 ∷ 23 ∷ 22 ∷ 2 ∷ []) (args .list) (c .match .rest) far (args .v) (args .last * limb + args .rest) (omega arith) (is-far
     (args .last) (args .rest) (start .pre)) refl
 
 pub longest-spec : {M : Type 1} → statement M
 longest-spec =
-    tie.close (tie.spec (λ c κs. search needs) (λ c κs. search needs) (λ c κs. search needs) (λ c κs. search needs) returns returns-2
-    returns-3 returns-4 returns-5)
+    tie.close (tie.spec (λ c κs. search needs) (λ c κs. search needs) (λ c κs. search needs) (λ c κs. search needs) (λ c κs. search needs)
+    returns returns-2 returns-3 returns-4 returns-5 returns-6)
