@@ -9,9 +9,9 @@ use lib.ListN.{length, getD, take, drop, drop-of-length-le}
 use lib.Seq.{drop-cons}
 use borrow.Author.Tests.{not-true, not-false}
 use Rattle.text.specs.Bytes.{isUpper, lower}
-use Rattle.text.specs.Words.{isSome, words, find, shorter}
-use Rattle.text.proofs.WordLaws.{find-clip}
+use Rattle.text.specs.Words.{isSome, words, find}
 use Rattle.words.specs.Lists.{listOf}
+use Rattle.words.proofs.ListLaws.{list-clip}
 use Rattle.easing.specs.Names.{namedEasings, snakeByte, snakeRest, snake, isEasing}
 
 pub byte-capital : (b l : ℕ) → isUpper b ≡ true → l ≡ lower b → snakeByte b ≡ (95 ∷ []) ++ (l ∷ [])
@@ -40,22 +40,18 @@ rest-end w i h = rw (drop-of-length-le w h)
 
 -- ---- lookups
 
--- the code's list has the names, and these are shorter than the 32 bytes that a name in snake case is clipped to: computed
+-- the code's list has the names: computed
 names-are : listOf 23 ≡ words namedEasings
 unfolding listOf
 names-are = refl
-
-short : shorter 32 (words namedEasings) ≡ true
-unfolding shorter
-short = refl
 
 module _ (variant r : Bool) (w : List ℕ) where
   pub easing-plain : not variant ≡ true → r ≡ isSome (find (listOf 23) 0 w) → r ≡ isEasing variant w
   unfolding isEasing
   easing-plain h e = e ∙ (rw (not-true variant h, names-are))
 
-  pub easing-variant : (v front : List ℕ) → not variant ≡ false → v ≡ w → front ≡ take 32 (snake v)
+  pub easing-variant : (v front : List ℕ) → not variant ≡ false → v ≡ w → front ≡ take 24 (snake v)
       → r ≡ isSome (find (listOf 23) 0 front) → r ≡ isEasing variant w
   unfolding isEasing
   easing-variant v front h q f e =
-      e ∙ (rw (not-false variant h, f, sym q, names-are) (ap isSome (find-clip (words namedEasings) 0 32 (snake v) short)))
+      e ∙ (rw (not-false variant h, f, sym q, sym names-are) (ap isSome (list-clip 23 (snake v))))

@@ -42,7 +42,7 @@ pub fn is_named_easing(text: &[u8], start: usize, size: usize, variant: bool) ->
         return words::holds(words::EASINGS, text, start, size);
     }
     // Longer than each of the names.
-    let mut name = [0u8; 32];
+    let mut name = [0u8; 24];
     let n = to_snake_case(text::part(text, start, size), &mut name);
     words::holds(words::EASINGS, &name, 0, n)
 }

@@ -1,8 +1,9 @@
 // presets.rs: the presets and the named colours; validate.rs's is_valid_color.
 ghost use mathlib.Core.Path.{_≡_};
 ghost use Rattle.text.specs.Bytes.{part};
+ghost use Rattle.words.specs.Lists.{listOf};
 ghost use Rattle.presets.specs.Presets.{isPreset};
-ghost use Rattle.presets.specs.Colors.{colors, hexSize, isHexColor, isColor};
+ghost use Rattle.presets.specs.Colors.{colors, hexSize, isHexColor, isColorOf, isColor};
 
 // ---- presets
 
@@ -40,22 +41,22 @@ pub fn is_hex_color(digits: &[u8]) -> bool
     false
 }
 
-// Whether a string is a colour by the Rust's list of names.
-fn is_color(s: &[u8]) -> bool
-    ensures { λ r. ⌜ r ≡ isColor colors (now (s .entry)) ⌝ }
+// Whether a string is a colour by one of `words`' lists of names in small letters.
+pub fn is_color(s: &[u8], list: u8) -> bool
+    ensures { λ r. ⌜ r ≡ isColorOf (listOf list) (now (s .entry)) ⌝ }
 {
     if text::byte_at(s, 0) == b'#' {
         return is_hex_color(text::part(s, 1, s.len()));
     }
     // Longer than each of the names.
-    let mut name = [0u8; 32];
+    let mut name = [0u8; 24];
     let n = text::lower_into(s, &mut name);
-    words::holds(words::COLORS, &name, 0, n)
+    words::holds(list, &name, 0, n)
 }
 
 // Whether a part of a text is a colour by the Rust's list of names.
 pub fn is_valid_color(text: &[u8], start: usize, size: usize) -> bool
     ensures { λ r. ⌜ r ≡ isColor colors (part (now (text .entry)) start size) ⌝ }
 {
-    is_color(text::part(text, start, size))
+    is_color(text::part(text, start, size), words::COLORS)
 }

@@ -1,4 +1,5 @@
--- Laws of the keys of a `match`: a number that is one of them, one that is none, and the lists that have no word of some lengths.
+-- Laws of the keys of a `match`: a number that is one of them, one that is none, the lists that have no word of some lengths, and words
+-- that no list has.
 use Prim.Native.Nat.{ℕ, zero, suc, _+_, _*_, _%_, _/_, _≤_, _<_}
 use mathlib.Core.Bool.{Bool, true, false, _&&_, _||_, not, cond}
 use mathlib.Core.List.{List, [], _∷_}
@@ -7,11 +8,11 @@ use native.Mathlib.Omega.{arith}
 use native.Mathlib.Nat.{div-add-mod'}
 use lib.Arith.{digits-div, digits-mod}
 use lib.Dec.{eqb, ltb, leb}
-use lib.ListN.{length, getD}
+use lib.ListN.{length, getD, take}
 use borrow.Author.Tests.{eqb-true, eqb-false, eq-eqb, ne-eqb, lt-ltb, le-ltb, leb-true, not-true}
 use Rattle.text.specs.Bytes.{same, oneOf}
 use Rattle.text.specs.Words.{isSome, find, shorter}
-use Rattle.text.proofs.WordLaws.{find-long}
+use Rattle.text.proofs.WordLaws.{find-long, find-clip}
 use Rattle.words.specs.Lists.{lists, listOf}
 use Rattle.words.specs.Keys.{pack, packs, keysOf, seek, placeIs}
 use Rattle.words.proofs.KeyLaws.{never, both, every, Bytes, allBytes, seek-find}
@@ -298,9 +299,17 @@ key-found k w v r f e h = (rw (h, e)) ∙ seek-find (listOf k) 0 w f (list-bytes
 
 -- ---- words that no list has
 
+list-short : (k : ℕ) → shorter 24 (listOf k) ≡ true
+unfolding shorter everyList
+list-short k = each-list (shorter 24) k refl refl
+
 pub too-long : (k : ℕ) (w : List ℕ) → 24 ≤ length w → placeIs 255 ≡ find (listOf k) 0 w
-unfolding shorter placeIs everyList
-too-long k w l = sym (find-long (listOf k) 0 24 w (each-list (shorter 24) k refl refl) l)
+unfolding placeIs
+too-long k w l = sym (find-long (listOf k) 0 24 w (list-short k) l)
+
+-- so the first 24 bytes of a word are enough to look it up
+pub list-clip : (k : ℕ) (w : List ℕ) → find (listOf k) 0 (take 24 w) ≡ find (listOf k) 0 w
+list-clip k w = find-clip (listOf k) 0 24 w (list-short k)
 
 -- the empty word
 unfoldable pub noEmpty : List (List ℕ) → Bool

@@ -1,4 +1,4 @@
--- `easing::is_named_easing` meets its contract: in snake case the first 32 bytes decide.
+-- `easing::is_named_easing` meets its contract: in snake case the first 24 bytes decide.
 use borrow.Author.Needs.{needs}
 use Rattle.text.proofs.WriteLaws.{puts-front}
 use Rattle.easing.proofs.NameLaws.{easing-plain, easing-variant}
