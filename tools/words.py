@@ -97,7 +97,7 @@ class List:
 ALL = [List(i, name, words) for i, (name, words) in enumerate(LISTS.items())]
 SHORT = [l for l in ALL if len(l.short) > 1]
 LONG = [l for l in ALL if len(l.long) > 1]
-LONGEST = [l for l in ALL if len(l.longest) > 1]
+LONGEST = [l for l in ALL if l.longest]
 
 
 # ---- the code
@@ -205,10 +205,7 @@ def long_row(l):
 
 
 def longest_row(l):
-    if l in LONGEST:
-        return f"{l.number} => {l.stem('longest')}(v, rest, last),"
-    i, w = l.longest[0]
-    return f"{l.number} => if_longest(v, rest, last, {', '.join(map(hex, parts(w)))}, {i}), // {w}"
+    return f"{l.number} => {l.stem('longest')}(v, rest, last),"
 
 
 def code():
@@ -231,7 +228,6 @@ ghost use Rattle.words.specs.Keys.{{keysOf, seek, placeIs}};
 use packing::eight;
 use packing::if_equal;
 use packing::if_long;
-use packing::if_longest;
 use packing::packed;
 
 mod packing;
@@ -275,7 +271,7 @@ fn longest(list: u8, v: u64, rest: u64, last: u64) -> u8
     ensures {{ λ r. ⌜ r ≡ seek (keysOf list) 0 ((last * {LIMB} + rest) * {LIMB} + v) ⌝ }}
 {{
     match list {{
-{arms(longest_row(l) for l in ALL if l.longest)}
+{arms(map(longest_row, LONGEST))}
         _ => NONE,
     }}
 }}
@@ -292,7 +288,12 @@ pub fn find(list: u8, text: &[u8], at: usize, n: usize) -> u8
         return long(list, eight(text, at), packed(text, at + 8, n - 8));
     }}
     if n < 24 {{
-        return longest(list, eight(text, at), eight(text, at + 8), packed(text, at + 16, n - 16));
+        return longest(
+            list,
+            eight(text, at),
+            eight(text, at + 8),
+            packed(text, at + 16, n - 16),
+        );
     }}
     NONE
 }}
@@ -589,34 +590,25 @@ def any_long_proof():
 
 
 def any_longest_proof():
-    rows = [l for l in ALL if l.longest]
-    places, answers = counted(l.stem("longest") if l in LONGEST else "if_longest" for l in rows), []
-    for k, (l, place) in enumerate(zip(rows, places), 1):
-        front = f"by-number _ {l.number} _ _ (c .before .match .keys{k})"
-        if l in LONGEST:
-            answers.append(("", f"{front} (c .{place} .ensures)"))
-            continue
-        i, w = l.longest[0]
-        given = f"(three-is (args .rest) (args .last) {tail(w)} {i} _ (omega arith) (args .v) {tail(w).replace('/', '%')} (c .{place} .ensures))"
-        answers.append((
-            f"{TABLE} every oneOf far tailIn headIn",
-            PRE.format("c .before .before") + f"{front} (one-word far (keysOf {l.number}) {FAR} {word(w)} {i} _ {given} refl refl refl)",
-        ))
+    places = counted(l.stem("longest") for l in LONGEST)
+    answers = [
+        ("", f"by-number _ {l.number} _ _ (c .before .match .keys{k}) (c .{place} .ensures)") for k, (l, place) in enumerate(zip(LONGEST, places), 1)
+    ]
     answers.append((
         "listOf packs onto every oneOf far headIn noneOf everyList",
-        PRE.format("c .before") + f"no-word ({numbers(rows)}) (args .list) (c .match .rest) far {FAR} refl",
+        PRE.format("c .before") + f"no-word ({numbers(LONGEST)}) (args .list) (c .match .rest) far {FAR} refl",
     ))
     uses = [
-        "use Prim.Native.Nat.{_+_, _*_, _/_, _%_}",
+        "use Prim.Native.Nat.{_+_, _*_}",
         "use mathlib.Core.List.{[], _∷_}",
         "use mathlib.Core.Path.{refl}",
         "use native.Mathlib.Omega.{arith}",
         "use borrow.Author.Needs.{needs}",
-        "use Rattle.text.specs.Bytes.{bytes, oneOf}",
-        KEYS % "onto, pack, packs, keysOf, seek",
-        LAWS % ("every", "limb, far, is-far, tailIn, headIn, three-is, one-word, noneOf, everyList, no-word, by-number"),
+        "use Rattle.text.specs.Bytes.{oneOf}",
+        KEYS % "onto, packs",
+        LAWS % ("every", "limb, far, is-far, headIn, noneOf, everyList, no-word, by-number"),
     ]
-    return proof("longest", "", uses, answers, len(rows))
+    return proof("longest", "", uses, answers, len(LONGEST))
 
 
 def files():

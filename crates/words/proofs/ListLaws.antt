@@ -169,13 +169,9 @@ both-parts w last m l = go (eqb w (m % limb)) refl (eqb last (m / limb)) refl
     go false e b f =
         sym (ne-eqb (last * limb + w) m (λ q. eqb-false w (m % limb) e (rw (sym q) (sym (digits-mod last {m = limb} l)))))
 
-module _ (w last m i r : ℕ) (l : w < limb) where
-  pub pair-is : r ≡ cond (eqb w (m % limb) && eqb last (m / limb)) i 255 → r ≡ cond (eqb (last * limb + w) m) i 255
-  pair-is h = rw (sym (both-parts w last m l)) h
-
-  pub three-is : (v k : ℕ) → r ≡ cond (eqb v k && (eqb w (m % limb) && eqb last (m / limb))) i 255
-      → r ≡ cond (eqb v k && eqb (last * limb + w) m) i 255
-  three-is v k h = rw (sym (both-parts w last m l)) h
+pub pair-is : (w last m i r : ℕ) → w < limb → r ≡ cond (eqb w (m % limb) && eqb last (m / limb)) i 255
+    → r ≡ cond (eqb (last * limb + w) m) i 255
+pair-is w last m i r l h = rw (sym (both-parts w last m l)) h
 
 -- no other word begins with the same 16 bytes
 unfoldable pub alone : ℕ → ℕ → Bool

@@ -10,7 +10,6 @@ ghost use Rattle.words.specs.Keys.{keysOf, seek, placeIs};
 use packing::eight;
 use packing::if_equal;
 use packing::if_long;
-use packing::if_longest;
 use packing::packed;
 
 mod packing;
@@ -721,6 +720,26 @@ fn long_css_colors(v: u64, rest: u64) -> u8
     }
 }
 
+fn longest_spring_rows(v: u64, rest: u64, last: u64) -> u8
+    requires { ⌜ 1 ≤ last ⌝ }
+    ensures { λ r. ⌜ r ≡ seek (keysOf 2) 0 ((last * 18446744073709551616 + rest) * 18446744073709551616 + v) ⌝ }
+{
+    match v {
+        0x6c61636974697263 => if_long(rest, last, 0x65706d61645f796c, 0x164, 7), // critically_damped
+        _ => NONE,
+    }
+}
+
+fn longest_integrators(v: u64, rest: u64, last: u64) -> u8
+    requires { ⌜ 1 ≤ last ⌝ }
+    ensures { λ r. ⌜ r ≡ seek (keysOf 22) 0 ((last * 18446744073709551616 + rest) * 18446744073709551616 + v) ⌝ }
+{
+    match v {
+        0x706d695f696d6573 => if_long(rest, last, 0x75655f746963696c, 0x172656c, 0), // semi_implicit_euler
+        _ => NONE,
+    }
+}
+
 // Behind `ease_in_`.
 fn longest_easings_ease_in(rest: u64, last: u64) -> u8
     requires { ⌜ 1 ≤ last ⌝ }
@@ -748,6 +767,16 @@ fn longest_easings(v: u64, rest: u64, last: u64) -> u8
     match v {
         0x5f6e695f65736165 => longest_easings_ease_in(rest, last), // ease_in_
         0x74756f5f65736165 => if_long(rest, last, 0x63697473616c655f, 0x1, 26), // ease_out_elastic
+        _ => NONE,
+    }
+}
+
+fn longest_presets(v: u64, rest: u64, last: u64) -> u8
+    requires { ⌜ 1 ≤ last ⌝ }
+    ensures { λ r. ⌜ r ≡ seek (keysOf 24) 0 ((last * 18446744073709551616 + rest) * 18446744073709551616 + v) ⌝ }
+{
+    match v {
+        0x5f72656767617473 => if_long(rest, last, 0x6e6572646c696863, 0x1, 16), // stagger_children
         _ => NONE,
     }
 }
@@ -836,10 +865,10 @@ fn longest(list: u8, v: u64, rest: u64, last: u64) -> u8
     ensures { λ r. ⌜ r ≡ seek (keysOf list) 0 ((last * 18446744073709551616 + rest) * 18446744073709551616 + v) ⌝ }
 {
     match list {
-        2 => if_longest(v, rest, last, 0x6c61636974697263, 0x65706d61645f796c, 0x164, 7), // critically_damped
-        22 => if_longest(v, rest, last, 0x706d695f696d6573, 0x75655f746963696c, 0x172656c, 0), // semi_implicit_euler
+        2 => longest_spring_rows(v, rest, last),
+        22 => longest_integrators(v, rest, last),
         23 => longest_easings(v, rest, last),
-        24 => if_longest(v, rest, last, 0x5f72656767617473, 0x6e6572646c696863, 0x1, 16), // stagger_children
+        24 => longest_presets(v, rest, last),
         26 => longest_css_colors(v, rest, last),
         _ => NONE,
     }
@@ -857,7 +886,12 @@ pub fn find(list: u8, text: &[u8], at: usize, n: usize) -> u8
         return long(list, eight(text, at), packed(text, at + 8, n - 8));
     }
     if n < 24 {
-        return longest(list, eight(text, at), eight(text, at + 8), packed(text, at + 16, n - 16));
+        return longest(
+            list,
+            eight(text, at),
+            eight(text, at + 8),
+            packed(text, at + 16, n - 16),
+        );
     }
     NONE
 }

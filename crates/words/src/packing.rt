@@ -73,13 +73,3 @@ pub fn if_long(v: u64, rest: u64, key: u64, other: u64, row: u8) -> u8
     }
     NONE
 }
-
-// A row, if three numbers and three others are equal.
-pub fn if_longest(v: u64, rest: u64, last: u64, key: u64, other: u64, third: u64, row: u8) -> u8
-    ensures { λ r. ⌜ r ≡ cond (eqb v key && (eqb rest other && eqb last third)) row 255 ⌝ }
-{
-    if v == key {
-        return if_long(rest, last, other, third, row);
-    }
-    NONE
-}
