@@ -1,18 +1,18 @@
 -- Laws of colours: what each way out of the code shows, and that the four bytes are given exactly for the standard's colours.
-use Prim.Native.Nat.{ℕ, _≤_, _<_}
-use mathlib.Core.Bool.{Bool, true, false, _||_, cond}
+use Prim.Native.Nat.{ℕ}
+use mathlib.Core.Bool.{Bool, true, false, cond}
 use mathlib.Core.List.{List, [], _∷_}
 use mathlib.Core.Option.{Option, none, some}
 use mathlib.Core.Path.{_≡_, refl, sym, ap, _∙_}
 use native.Mathlib.Omega.{arith}
-use lib.Dec.{eqb, ltb, leb}
+use lib.Dec.{eqb}
 use lib.ListN.{length, take, drop, length-drop}
-use lib.Seq.{take-all, length-take-le}
-use borrow.Author.Tests.{eq-eqb, ne-eqb, ltb-true, ltb-false, le-ltb, lt-leb}
+use lib.Seq.{take-all}
+use borrow.Author.Tests.{eq-eqb, ne-eqb}
 use Rattle.error.specs.declared.Refusal.the-variants.{InvalidColor}
 use Rattle.error.specs.declared.CheckAnswer.{CheckAnswer}
 use Rattle.error.specs.declared.CheckAnswer.the-variants.{Accepted, Refused}
-use Rattle.text.specs.Bytes.{at, part, oneOf, lowered}
+use Rattle.text.specs.Bytes.{at, part, lowered}
 use Rattle.text.specs.Words.{isSome, under}
 use Rattle.presets.specs.Colors.{colors, isHexColor, isColorOf, isColor}
 use Rattle.words.specs.Lists.{listOf}

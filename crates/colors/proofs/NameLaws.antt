@@ -1,7 +1,7 @@
 -- Laws of names: the place of a name in the code's list tells its colour.
 use Prim.Native.Nat.{ℕ, zero, suc, _+_, _-_, _≤_, _<_}
 use Prim.Native.String.{String}
-use mathlib.Core.Bool.{Bool, true, false, _&&_}
+use mathlib.Core.Bool.{Bool, true, false}
 use mathlib.Core.List.{List, [], _∷_}
 use mathlib.Core.Option.{Option, none, some}
 use mathlib.Core.Path.{_≡_, refl, sym, ap, _∙_}
@@ -69,9 +69,9 @@ by-place (c ∷ cs) j w = go (same w (bytes (c .0))) refl (by-place cs (suc j) w
   where
     go : (t : Bool) → same w (bytes (c .0)) ≡ t
         → (under cs w ≡ valueAt cs (suc j) (find (words (namesIn cs)) (suc j) w))
-            × Inside (suc j) (length cs) (find (words (namesIn cs)) (suc j) w)
+        × Inside (suc j) (length cs) (find (words (namesIn cs)) (suc j) w)
         → (under (c ∷ cs) w ≡ valueAt (c ∷ cs) j (find (words (namesIn (c ∷ cs))) j w))
-            × Inside j (length (c ∷ cs)) (find (words (namesIn (c ∷ cs))) j w)
+        × Inside j (length (c ∷ cs)) (find (words (namesIn (c ∷ cs))) j w)
     go true h p = rw (find-here w (bytes (c .0)) (words (namesIn cs)) j h) (here c cs j (named-here c cs w h))
     go false h p = rw (find-past w (bytes (c .0)) (words (namesIn cs)) j h, named-past c cs w h) (past c cs j (under cs w) (find (words (namesIn cs)) (suc j) w) p)
 
