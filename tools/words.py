@@ -361,7 +361,7 @@ def proof(function, about, uses, answers, calls):
     for k, (unfolding, term) in enumerate(answers, 1):
         lines += [f"{number_of(k)} : tie.Need-{number_of(k)}", *([f"unfolding {unfolding}"] if unfolding else []), *laid(f"{number_of(k)} c =", term), ""]
     lines += [f"pub {spec} : {{M : Type 1}} → statement M"]
-    parts = (calls if isinstance(calls, list) else ["(λ c κs. search needs)"] * calls) + [number_of(k) for k in range(1, len(answers) + 1)]
+    parts = ["(λ c κs. search needs)"] * calls + [number_of(k) for k in range(1, len(answers) + 1)]
     parts[-1] += ")"
     return "\n".join(lines + laid(f"{spec} =", ["tie.close", "(tie.spec", *parts])) + "\n"
 
@@ -431,7 +431,7 @@ PRE = "let start = {} in let args = start .args in "
 
 def long_group_proof(l, g):
     answers = [
-        (TABLE, PRE.format("c .before") + f"tail-at (keysOf {l.number}) 0 {g.number} (args .rest) {word(w)} {i} (c .match .keys{k}) refl refl")
+        (TABLE, f"tail-at (keysOf {l.number}) {g.number} (c .before .args .rest) {word(w)} {i} (c .match .keys{k}) refl refl")
         for k, (i, w) in enumerate(g.rows, 1)
     ]
     answers.append((

@@ -49,31 +49,32 @@ abbrev Inside : ℕ → ℕ → Option ℕ → Type 0
 Inside j n none = Unit {0}
 Inside j n (some i) = (j ≤ i) × (i < j + n)
 
-here : (c : String × ℕ) (cs : List (String × ℕ)) (j : ℕ) {x : Option ℕ} → x ≡ some (c .1)
-    → (x ≡ valueAt (c ∷ cs) j (some j)) × Inside j (length (c ∷ cs)) (some j)
-unfolding valuesIn
-here c cs j q = let e : j - j ≡ 0 = omega arith in (rw e q, (omega arith, omega arith))
+-- the number x is at the place o of a colour, or neither is there
+abbrev Placed : List (String × ℕ) → ℕ → Option ℕ → Option ℕ → Type 0
+Placed cs j x o = (x ≡ valueAt cs j o) × Inside j (length cs) o
 
-past : (c : String × ℕ) (cs : List (String × ℕ)) (j : ℕ) (x o : Option ℕ) → (x ≡ valueAt cs (suc j) o) × Inside (suc j) (length cs) o
-    → (x ≡ valueAt (c ∷ cs) j o) × Inside j (length (c ∷ cs)) o
-unfolding valuesIn
-past c cs j x none p = (p .0, tt)
-past c cs j x (some i) p = let e : i - j ≡ suc (i - suc j) = omega arith in (rw e (p .0), (omega arith, omega arith))
+module _ (c : String × ℕ) (cs : List (String × ℕ)) (j : ℕ) (x : Option ℕ) where
+  first : x ≡ some (c .1) → Placed (c ∷ cs) j x (some j)
+  unfolding valuesIn
+  first q = let e : j - j ≡ 0 = omega arith in (rw e q, (omega arith, omega arith))
+
+  later : (o : Option ℕ) → Placed cs (suc j) x o → Placed (c ∷ cs) j x o
+  unfolding valuesIn
+  later none p = (p .0, tt)
+  later (some i) p = let e : i - j ≡ suc (i - suc j) = omega arith in (rw e (p .0), (omega arith, omega arith))
 
 -- what stands for a name is the number at its place
-by-place : (cs : List (String × ℕ)) (j : ℕ) (w : List ℕ)
-    → (under cs w ≡ valueAt cs j (find (words (namesIn cs)) j w)) × Inside j (length cs) (find (words (namesIn cs)) j w)
+by-place : (cs : List (String × ℕ)) (j : ℕ) (w : List ℕ) → Placed cs j (under cs w) (find (words (namesIn cs)) j w)
 unfolding under find
 by-place [] j w = (refl, tt)
 by-place (c ∷ cs) j w = go (same w (bytes (c .0))) refl (by-place cs (suc j) w)
   where
-    go : (t : Bool) → same w (bytes (c .0)) ≡ t
-        → (under cs w ≡ valueAt cs (suc j) (find (words (namesIn cs)) (suc j) w))
-        × Inside (suc j) (length cs) (find (words (namesIn cs)) (suc j) w)
-        → (under (c ∷ cs) w ≡ valueAt (c ∷ cs) j (find (words (namesIn (c ∷ cs))) j w))
-        × Inside j (length (c ∷ cs)) (find (words (namesIn (c ∷ cs))) j w)
-    go true h p = rw (find-here w (bytes (c .0)) (words (namesIn cs)) j h) (here c cs j (named-here c cs w h))
-    go false h p = rw (find-past w (bytes (c .0)) (words (namesIn cs)) j h, named-past c cs w h) (past c cs j (under cs w) (find (words (namesIn cs)) (suc j) w) p)
+    go : (t : Bool) → same w (bytes (c .0)) ≡ t → Placed cs (suc j) (under cs w) (find (words (namesIn cs)) (suc j) w)
+        → Placed (c ∷ cs) j (under (c ∷ cs) w) (find (words (namesIn (c ∷ cs))) j w)
+    go true h p = rw (find-here w (bytes (c .0)) (words (namesIn cs)) j h) (first c cs j _ (named-here c cs w h))
+    go false h p =
+        rw (find-past w (bytes (c .0)) (words (namesIn cs)) j h, named-past c cs w h)
+        (later c cs j (under cs w) (find (words (namesIn cs)) (suc j) w) p)
 
 -- ---- the standard's
 

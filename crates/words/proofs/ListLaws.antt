@@ -76,7 +76,7 @@ module _ (ms : List ℕ) (v : ℕ) where
 
 -- ---- longer words: the first 8 bytes, and what stands behind them
 
--- behind 8 of 8 to 15 bytes, and of 16 or more
+-- whether a number is what stands behind the first 8 bytes of a word of 8 to 15, and of one of 16 or more
 unfoldable pub middle : ℕ → Bool
 middle t = not (eqb t 0) && ltb t limb
 
@@ -148,13 +148,12 @@ module _ (q : ℕ → Bool) (ms : List ℕ) (v t : ℕ) (l : v < limb) (g : q t 
       go true u y = word-at m i r (eqb-true v (m % limb) u) y h f
       go false u y = y ∙ no-head-of (m % limb ∷ []) k (rw u)
 
-module _ (ms : List ℕ) (v k : ℕ) where
-  -- a number that stands behind the first 8 bytes of a word
-  pub tail-at : (t m i : ℕ) → t ≡ m / limb → k ≡ m % limb → seek ms 0 m ≡ i → i ≡ seek ms 0 (t * limb + k)
-  tail-at t m i e g h = rw (e, g, div-add-mod' m limb) (sym h)
+-- what stands behind the first 8 bytes of a word
+pub tail-at : (ms : List ℕ) (k t m i : ℕ) → t ≡ m / limb → k ≡ m % limb → seek ms 0 m ≡ i → i ≡ seek ms 0 (t * limb + k)
+tail-at ms k t m i e g h = rw (e, g, div-add-mod' m limb) (sym h)
 
-  pub same-head : (t r : ℕ) → v ≡ k → r ≡ seek ms 0 (t * limb + k) → r ≡ seek ms 0 (t * limb + v)
-  same-head t r e h = rw e h
+pub same-head : (ms : List ℕ) (v k t r : ℕ) → v ≡ k → r ≡ seek ms 0 (t * limb + k) → r ≡ seek ms 0 (t * limb + v)
+same-head ms v k t r e h = rw e h
 
 -- ---- words of 16 bytes and more: the next 8, and what stands behind them
 

@@ -11,24 +11,15 @@ use Rattle.words.proofs.long_css_colors_darkslat.Tie as tie
 
 returns : tie.Need-returns
 unfolding listOf keysOf packs onto seek
-returns c =
-    let start = c .before in
-    let args = start .args in
-    tail-at (keysOf 26) 0 8386103224120271204 (args .rest) (pack (bytes "darkslateblue")) 35 (c .match .keys1) refl refl
+returns c = tail-at (keysOf 26) 8386103224120271204 (c .before .args .rest) (pack (bytes "darkslateblue")) 35 (c .match .keys1) refl refl
 
 returns-2 : tie.Need-returns-2
 unfolding listOf keysOf packs onto seek
-returns-2 c =
-    let start = c .before in
-    let args = start .args in
-    tail-at (keysOf 26) 0 8386103224120271204 (args .rest) (pack (bytes "darkslategray")) 36 (c .match .keys2) refl refl
+returns-2 c = tail-at (keysOf 26) 8386103224120271204 (c .before .args .rest) (pack (bytes "darkslategray")) 36 (c .match .keys2) refl refl
 
 returns-3 : tie.Need-returns-3
 unfolding listOf keysOf packs onto seek
-returns-3 c =
-    let start = c .before in
-    let args = start .args in
-    tail-at (keysOf 26) 0 8386103224120271204 (args .rest) (pack (bytes "darkslategrey")) 37 (c .match .keys3) refl refl
+returns-3 c = tail-at (keysOf 26) 8386103224120271204 (c .before .args .rest) (pack (bytes "darkslategrey")) 37 (c .match .keys3) refl refl
 
 returns-4 : tie.Need-returns-4
 unfolding listOf keysOf packs onto seek every oneOf middle tailIn tails

@@ -11,17 +11,11 @@ use Rattle.words.proofs.long_css_colors_lightgre.Tie as tie
 
 returns : tie.Need-returns
 unfolding listOf keysOf packs onto seek
-returns c =
-    let start = c .before in
-    let args = start .args in
-    tail-at (keysOf 26) 0 7310018894841211244 (args .rest) (pack (bytes "lightgreen")) 72 (c .match .keys1) refl refl
+returns c = tail-at (keysOf 26) 7310018894841211244 (c .before .args .rest) (pack (bytes "lightgreen")) 72 (c .match .keys1) refl refl
 
 returns-2 : tie.Need-returns-2
 unfolding listOf keysOf packs onto seek
-returns-2 c =
-    let start = c .before in
-    let args = start .args in
-    tail-at (keysOf 26) 0 7310018894841211244 (args .rest) (pack (bytes "lightgrey")) 73 (c .match .keys2) refl refl
+returns-2 c = tail-at (keysOf 26) 7310018894841211244 (c .before .args .rest) (pack (bytes "lightgrey")) 73 (c .match .keys2) refl refl
 
 returns-3 : tie.Need-returns-3
 unfolding listOf keysOf packs onto seek every oneOf middle tailIn tails

@@ -11,17 +11,11 @@ use Rattle.words.proofs.long_css_colors_lightsla.Tie as tie
 
 returns : tie.Need-returns
 unfolding listOf keysOf packs onto seek
-returns c =
-    let start = c .before in
-    let args = start .args in
-    tail-at (keysOf 26) 0 7020112862968768876 (args .rest) (pack (bytes "lightslategray")) 78 (c .match .keys1) refl refl
+returns c = tail-at (keysOf 26) 7020112862968768876 (c .before .args .rest) (pack (bytes "lightslategray")) 78 (c .match .keys1) refl refl
 
 returns-2 : tie.Need-returns-2
 unfolding listOf keysOf packs onto seek
-returns-2 c =
-    let start = c .before in
-    let args = start .args in
-    tail-at (keysOf 26) 0 7020112862968768876 (args .rest) (pack (bytes "lightslategrey")) 79 (c .match .keys2) refl refl
+returns-2 c = tail-at (keysOf 26) 7020112862968768876 (c .before .args .rest) (pack (bytes "lightslategrey")) 79 (c .match .keys2) refl refl
 
 returns-3 : tie.Need-returns-3
 unfolding listOf keysOf packs onto seek every oneOf middle tailIn tails
