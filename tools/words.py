@@ -1,6 +1,6 @@
 #!/usr/bin/env python3
-"""Writes the lists of the grammar's words as code: crates/words/src/lib.rt, the definition specs/Lists.antt and the proofs of the
-its functions. With --check it says which of these files are not what it writes. Run from the repository's root."""
+"""Writes lists of words as code: crates/words/src/lib.rt, the definition specs/Lists.antt and the proofs of the functions. With
+--check it says which of these files are not what it writes. Run from the repository's root."""
 import os, re, sys
 
 LISTS = {
@@ -27,6 +27,30 @@ LISTS = {
     "ALONG": "along",
     "SPRING_PRESETS": "gentle wobbly stiff slow snappy",
     "INTEGRATORS": "semi_implicit_euler rk4",
+    # the names that checking knows
+    "EASINGS": "linear ease_in_quad ease_out_quad ease_in_out_quad ease_in_cubic ease_out_cubic ease_in_out_cubic ease_in_quart"
+    " ease_out_quart ease_in_out_quart ease_in_quint ease_out_quint ease_in_out_quint ease_in_sine ease_out_sine ease_in_out_sine"
+    " ease_in_expo ease_out_expo ease_in_out_expo ease_in_circ ease_out_circ ease_in_out_circ ease_in_back ease_out_back"
+    " ease_in_out_back ease_in_elastic ease_out_elastic ease_in_out_elastic ease_in_bounce ease_out_bounce ease_in_out_bounce",
+    "PRESETS": "fade_in fade_out slide_in slide_out scale_in scale_out bounce_in bounce_out modal_enter modal_exit drawer_open"
+    " drawer_close toast_enter toast_exit page_enter page_exit stagger_children loading_pulse loading_wave shake wiggle heartbeat"
+    " float shimmer",
+    "COLORS": "black white red green blue yellow cyan magenta gray grey orange purple pink brown lime teal navy maroon olive silver"
+    " aqua fuchsia",
+    "CSS_COLORS": "aliceblue antiquewhite aqua aquamarine azure beige bisque black blanchedalmond blue blueviolet brown burlywood"
+    " cadetblue chartreuse chocolate coral cornflowerblue cornsilk crimson cyan darkblue darkcyan darkgoldenrod darkgray"
+    " darkgreen darkgrey darkkhaki darkmagenta darkolivegreen darkorange darkorchid darkred darksalmon darkseagreen"
+    " darkslateblue darkslategray darkslategrey darkturquoise darkviolet deeppink deepskyblue dimgray dimgrey dodgerblue"
+    " firebrick floralwhite forestgreen fuchsia gainsboro ghostwhite gold goldenrod gray green greenyellow grey honeydew"
+    " hotpink indianred indigo ivory khaki lavender lavenderblush lawngreen lemonchiffon lightblue lightcoral lightcyan"
+    " lightgoldenrodyellow lightgray lightgreen lightgrey lightpink lightsalmon lightseagreen lightskyblue lightslategray"
+    " lightslategrey lightsteelblue lightyellow lime limegreen linen magenta maroon mediumaquamarine mediumblue"
+    " mediumorchid mediumpurple mediumseagreen mediumslateblue mediumspringgreen mediumturquoise mediumvioletred"
+    " midnightblue mintcream mistyrose moccasin navajowhite navy oldlace olive olivedrab orange orangered orchid"
+    " palegoldenrod palegreen paleturquoise palevioletred papayawhip peachpuff peru pink plum powderblue purple"
+    " rebeccapurple red rosybrown royalblue saddlebrown salmon sandybrown seagreen seashell sienna silver skyblue slateblue"
+    " slategray slategrey snow springgreen steelblue tan teal thistle tomato turquoise violet wheat white whitesmoke yellow"
+    " yellowgreen",
 }
 CRATE = "crates/words"
 LIMB = 256**8
@@ -37,19 +61,43 @@ def pack(word):
     return int.from_bytes(word.encode() + b"\1", "little")
 
 
+def parts(word):
+    """The numbers of a word: of each 8 bytes, and of those behind them under a 1."""
+    number, given = pack(word), []
+    while number >= LIMB:
+        given.append(number % LIMB)
+        number //= LIMB
+    return given + [number]
+
+
+class Group:
+    """The words of a list of some lengths that begin with the same 8 bytes."""
+
+    def __init__(self, stem, first, rows):
+        self.first, self.rows, self.alone = first, rows, len(rows) == 1
+        self.number = int.from_bytes(first.encode(), "little")
+        self.function = f"{stem}_{first.strip('_')}"
+
+
 class List:
     def __init__(self, number, name, words):
         self.number, self.name, self.words = number, name, words.split()
-        rows = list(enumerate(self.words))
-        self.short = [(i, w) for i, w in rows if len(w) < 8]
-        self.long = [(i, w) for i, w in rows if 8 <= len(w) < 16]
-        self.longest = [(i, w) for i, w in rows if 16 <= len(w)]
-        assert len(self.longest) <= 1 and len({pack(w) % LIMB for _, w in self.long}) == len(self.long)
+        self.short, self.long, self.longest = ([(i, w) for i, w in enumerate(self.words) if len(w) // 8 == n] for n in range(3))
+        assert all(len(w) < 24 for w in self.words) and len({tuple(parts(w)[:2]) for _, w in self.longest}) == len(self.longest)
+        self.longs, self.longests = self.groups("long", self.long), self.groups("longest", self.longest)
+
+    def stem(self, kind):
+        return f"{kind}_{self.name.lower()}"
+
+    def groups(self, kind, rows):
+        firsts = list(dict.fromkeys(w[:8] for _, w in rows))
+        return [Group(self.stem(kind), first, [(i, w) for i, w in rows if w[:8] == first]) for first in firsts]
 
 
 ALL = [List(i, name, words) for i, (name, words) in enumerate(LISTS.items())]
 SHORT = [l for l in ALL if len(l.short) > 1]
 LONG = [l for l in ALL if len(l.long) > 1]
+LONGEST = [l for l in ALL if l.longest]
 
 
 # ---- the code
@@ -72,14 +120,70 @@ def short_function(l):
 """
 
 
+def long_group(l, g):
+    rows = [f"{parts(w)[1]:#x} => {i}, // {w}" for i, w in g.rows]
+    return f"""// Behind `{g.first}`.
+fn {g.function}(rest: u64) -> u8
+    requires {{ ⌜ 1 ≤ rest ⌝ }}
+    ensures {{ λ r. ⌜ r ≡ seek (keysOf {l.number}) 0 (rest * {LIMB} + {g.number}) ⌝ }}
+{{
+    match rest {{
+{arms(rows)}
+        _ => NONE,
+    }}
+}}
+"""
+
+
+def long_arm(g):
+    if not g.alone:
+        return f"{g.number:#x} => {g.function}(rest), // {g.first}"
+    ((i, w),) = g.rows
+    return f"{g.number:#x} => if_equal(rest, {parts(w)[1]:#x}, {i}), // {w}"
+
+
 def long_function(l):
-    rows = [f"{pack(w) % LIMB:#x} => if_equal(rest, {pack(w) // LIMB:#x}, {i}), // {w}" for i, w in l.long]
-    return f"""fn long_{l.name.lower()}(v: u64, rest: u64) -> u8
+    return f"""fn {l.stem("long")}(v: u64, rest: u64) -> u8
     requires {{ ⌜ 1 ≤ rest ⌝ }}
     ensures {{ λ r. ⌜ r ≡ seek (keysOf {l.number}) 0 (rest * {LIMB} + v) ⌝ }}
 {{
     match v {{
+{arms(map(long_arm, l.longs))}
+        _ => NONE,
+    }}
+}}
+"""
+
+
+def longest_group(l, g):
+    rows = [f"{parts(w)[1]:#x} => if_equal(last, {parts(w)[2]:#x}, {i}), // {w}" for i, w in g.rows]
+    return f"""// Behind `{g.first}`.
+fn {g.function}(rest: u64, last: u64) -> u8
+    requires {{ ⌜ 1 ≤ last ⌝ }}
+    ensures {{ λ r. ⌜ r ≡ seek (keysOf {l.number}) 0 ((last * {LIMB} + rest) * {LIMB} + {g.number}) ⌝ }}
+{{
+    match rest {{
 {arms(rows)}
+        _ => NONE,
+    }}
+}}
+"""
+
+
+def longest_arm(g):
+    if not g.alone:
+        return f"{g.number:#x} => {g.function}(rest, last), // {g.first}"
+    ((i, w),) = g.rows
+    return f"{g.number:#x} => if_long(rest, last, {parts(w)[1]:#x}, {parts(w)[2]:#x}, {i}), // {w}"
+
+
+def longest_function(l):
+    return f"""fn {l.stem("longest")}(v: u64, rest: u64, last: u64) -> u8
+    requires {{ ⌜ 1 ≤ last ⌝ }}
+    ensures {{ λ r. ⌜ r ≡ seek (keysOf {l.number}) 0 ((last * {LIMB} + rest) * {LIMB} + v) ⌝ }}
+{{
+    match v {{
+{arms(map(longest_arm, l.longests))}
         _ => NONE,
     }}
 }}
@@ -101,26 +205,29 @@ def long_row(l):
 
 
 def longest_row(l):
-    i, w = l.longest[0]
-    return f'{l.number} => if_word(word, b"{w}", {i}),'
+    return f"{l.number} => {l.stem('longest')}(v, rest, last),"
 
 
 def code():
     constants = "\n\n".join(f"pub const {l.name}: u8 = {l.number};" for l in ALL)
-    functions = "\n".join([short_function(l) for l in SHORT] + [long_function(l) for l in LONG])
-    return f"""// Made by tools/words.py. The words of the grammar, in lists: the place of a word in a list, told by its bytes as numbers. For our
-// own crates.
+    functions = [short_function(l) for l in SHORT]
+    for l in LONG:
+        functions += [*(long_group(l, g) for g in l.longs if not g.alone), long_function(l)]
+    for l in LONGEST:
+        functions += [*(longest_group(l, g) for g in l.longests if not g.alone), longest_function(l)]
+    functions = "\n".join(functions)
+    return f"""// Made by tools/words.py. The words of the grammar and the names that checking knows, in lists: the place of a word in a list, told by
+// its bytes as numbers. For our own crates.
 ghost use mathlib.Core.Path.{{_≡_}};
 ghost use Prim.Native.Nat.{{_+_, _*_, _≤_}};
 ghost use lib.ListN.{{length}};
 ghost use Rattle.text.specs.Bytes.{{part}};
-ghost use Rattle.text.specs.Words.{{find}};
+ghost use Rattle.text.specs.Words.{{isSome, find}};
 ghost use Rattle.words.specs.Lists.{{listOf}};
 ghost use Rattle.words.specs.Keys.{{keysOf, seek, placeIs}};
 use packing::eight;
 use packing::if_equal;
 use packing::if_long;
-use packing::if_word;
 use packing::packed;
 
 mod packing;
@@ -132,7 +239,7 @@ pub const NONE: u8 = 255;
 
 {constants}
 
-// ---- the words of a list of at most 7 bytes, and of 8 to 15
+// ---- the words of a list of at most 7 bytes, of 8 to 15, and of 16 to 23
 
 {functions}
 // ---- the words of any list
@@ -158,13 +265,13 @@ fn long(list: u8, v: u64, rest: u64) -> u8
     }}
 }}
 
-// A word of 16 bytes or more.
-fn longest(list: u8, word: &[u8]) -> u8
-    requires {{ ⌜ 16 ≤ length (now word) ⌝ }}
-    ensures {{ λ r. ⌜ placeIs r ≡ find (listOf list) 0 (now (word .entry)) ⌝ }}
+// A word of 16 to 23 bytes: twice 8, and the others under a 1.
+fn longest(list: u8, v: u64, rest: u64, last: u64) -> u8
+    requires {{ ⌜ 1 ≤ last ⌝ }}
+    ensures {{ λ r. ⌜ r ≡ seek (keysOf list) 0 ((last * {LIMB} + rest) * {LIMB} + v) ⌝ }}
 {{
     match list {{
-{arms(longest_row(l) for l in ALL if l.longest)}
+{arms(map(longest_row, LONGEST))}
         _ => NONE,
     }}
 }}
@@ -180,7 +287,26 @@ pub fn find(list: u8, text: &[u8], at: usize, n: usize) -> u8
     if n < 16 {{
         return long(list, eight(text, at), packed(text, at + 8, n - 8));
     }}
-    longest(list, text::part(text, at, n))
+    if n < 24 {{
+        return longest(
+            list,
+            eight(text, at),
+            eight(text, at + 8),
+            packed(text, at + 16, n - 16),
+        );
+    }}
+    NONE
+}}
+
+// Whether the bytes of a text from a place, at most n, are a word of a list.
+pub fn holds(list: u8, text: &[u8], at: usize, n: usize) -> bool
+    ensures {{ λ r. ⌜ r ≡ isSome (find (listOf list) 0 (part (now (text .entry)) at n)) ⌝ }}
+{{
+    let size = text::part(text, at, n).len();
+    if size == 0 {{
+        return false;
+    }}
+    find(list, text, at, size) != NONE
 }}
 """
 
@@ -198,7 +324,7 @@ def joined(names):
 
 def definition():
     rows = "\n    ∷ ".join("words (" + joined([f'"{w}"' for w in l.words]) + ")" for l in ALL)
-    return f"""-- Made by tools/words.py. The lists of the grammar's words, by their numbers.
+    return f"""-- Made by tools/words.py. The lists of the grammar's words and of the names that checking knows, by their numbers.
 use Prim.Native.Nat.{{ℕ}}
 use mathlib.Core.List.{{List, [], _∷_}}
 use lib.ListN.{{getD}}
@@ -235,7 +361,7 @@ def proof(function, about, uses, answers, calls):
     for k, (unfolding, term) in enumerate(answers, 1):
         lines += [f"{number_of(k)} : tie.Need-{number_of(k)}", *([f"unfolding {unfolding}"] if unfolding else []), *laid(f"{number_of(k)} c =", term), ""]
     lines += [f"pub {spec} : {{M : Type 1}} → statement M"]
-    parts = (calls if isinstance(calls, list) else ["(λ c κs. search needs)"] * calls) + [number_of(k) for k in range(1, len(answers) + 1)]
+    parts = ["(λ c κs. search needs)"] * calls + [number_of(k) for k in range(1, len(answers) + 1)]
     parts[-1] += ")"
     return "\n".join(lines + laid(f"{spec} =", ["tie.close", "(tie.spec", *parts])) + "\n"
 
@@ -276,18 +402,90 @@ def short_proof(l):
     return proof(f"short_{l.name.lower()}", "", uses, answers, 0)
 
 
-def long_proof(l):
+def spoken(name):
+    """A function's name as its place is named."""
+    return name.replace("_", "-")
+
+
+def counted(names):
+    """Each name with its number among the same ones, as the places of calls are named."""
+    seen = []
+    for name in names:
+        seen.append(name)
+        yield call(spoken(name), seen.count(name))
+
+
+def word(w):
+    return f'(pack (bytes "{w}"))'
+
+
+def tail(w):
+    return f'(pack (bytes "{w}") / limb)'
+
+
+# what stands behind the first 8 bytes, in a function over `v` and `rest` and in one over `v`, `rest` and `last`
+MIDDLE = "(args .v) (args .rest) (omega arith) (is-middle (args .rest) (start .pre) (omega arith))"
+FAR = "(args .v) (args .last * limb + args .rest) (omega arith) (is-far (args .last) (args .rest) (start .pre))"
+PRE = "let start = {} in let args = start .args in "
+
+
+def long_group_proof(l, g):
     answers = [
-        (
-            f"{TABLE} every alone",
-            f'let args = c .before .before .args in long-at (keysOf {l.number}) (args .v) (args .rest) (omega arith) (pack (bytes "{w}")) {i} _'
-            f" (c .before .match .keys{k}) (c .if-equal{k if k > 1 else ''} .ensures) refl refl",
-        )
-        for k, (i, w) in enumerate(l.long, 1)
+        (TABLE, f"tail-at (keysOf {l.number}) {g.number} (c .before .args .rest) {word(w)} {i} (c .match .keys{k}) refl refl")
+        for k, (i, w) in enumerate(g.rows, 1)
     ]
     answers.append((
-        f"{TABLE} every oneOf longIn longs",
-        f"no-long (keysOf {l.number}) (c .before .args .v) (c .before .args .rest) (omega arith) refl (c .match .rest) (c .before .pre) (omega arith)",
+        f"{TABLE} every oneOf middle tailIn tails",
+        PRE.format("c .before") + f"no-tail middle (keysOf {l.number}) {g.number} (args .rest) (omega arith)"
+        " (is-middle (args .rest) (start .pre) (omega arith)) refl (c .match .rest)",
+    ))
+    uses = [
+        "use mathlib.Core.Path.{refl}",
+        "use native.Mathlib.Omega.{arith}",
+        "use Rattle.text.specs.Bytes.{bytes, oneOf}",
+        KEYS % "onto, pack, packs, keysOf, seek",
+        LAWS % ("every", "middle, is-middle, tailIn, tails, tail-at, no-tail"),
+    ]
+    return proof(g.function, "", uses, answers, 0)
+
+
+def long_proof(l):
+    places = counted("if_equal" if g.alone else g.function for g in l.longs)
+    answers = []
+    for k, (g, place) in enumerate(zip(l.longs, places), 1):
+        if g.alone:
+            ((i, w),) = g.rows
+            term = f"word-at middle (keysOf {l.number}) {MIDDLE} {word(w)} {i} _ (c .before .match .keys{k}) (c .{place} .ensures) refl refl"
+            answers.append((f"{TABLE} every oneOf middle tailIn", PRE.format("c .before .before") + term))
+        else:
+            answers.append(("", f"same-head (keysOf {l.number}) _ {g.number} _ _ (c .before .match .keys{k}) (c .{place} .ensures)"))
+    answers.append((
+        f"{TABLE} every oneOf middle headIn heads",
+        PRE.format("c .before") + f"no-head middle (keysOf {l.number}) {MIDDLE} refl (c .match .rest)",
+    ))
+    lone, shared = any(g.alone for g in l.longs), any(not g.alone for g in l.longs)
+    uses = [
+        "use mathlib.Core.Path.{refl}",
+        "use native.Mathlib.Omega.{arith}",
+        "use borrow.Author.Needs.{needs}",
+        f"use Rattle.text.specs.Bytes.{{{'bytes, ' * lone}oneOf}}",
+        KEYS % f"onto, {'pack, ' * lone}packs, keysOf, seek",
+        LAWS % ("every", f"middle, is-middle, {'tailIn, word-at, ' * lone}{'same-head, ' * shared}headIn, heads, no-head"),
+    ]
+    return proof(l.stem("long"), "", uses, answers, len(l.longs))
+
+
+def longest_group_proof(l, g):
+    answers = []
+    for k, ((i, w), place) in enumerate(zip(g.rows, counted("if_equal" for _ in g.rows)), 1):
+        answers.append((
+            f"{TABLE} every alone",
+            PRE.format("c .before .before") + f"next-at (keysOf {l.number}) {g.number} (args .rest) (args .last) {word(w)} {i} _ (omega arith) (omega arith)"
+            f" refl (c .before .match .keys{k}) (c .{place} .ensures) refl refl",
+        ))
+    answers.append((
+        f"{TABLE} every oneOf far nextIn nexts",
+        PRE.format("c .before") + f"no-next (keysOf {l.number}) {g.number} (args .rest) (args .last) (omega arith) (omega arith) (start .pre) refl (c .match .rest)",
     ))
     uses = [
         "use mathlib.Core.Path.{refl}",
@@ -295,9 +493,37 @@ def long_proof(l):
         "use borrow.Author.Needs.{needs}",
         "use Rattle.text.specs.Bytes.{bytes, oneOf}",
         KEYS % "onto, pack, packs, keysOf, seek",
-        LAWS % ("every", "alone, longIn, longs, long-at, no-long"),
+        LAWS % ("every", "far, alone, next-at, nextIn, nexts, no-next"),
     ]
-    return proof(f"long_{l.name.lower()}", "", uses, answers, len(l.long))
+    return proof(g.function, "", uses, answers, len(g.rows))
+
+
+def longest_proof(l):
+    places = counted("if_long" if g.alone else g.function for g in l.longests)
+    answers = []
+    for k, (g, place) in enumerate(zip(l.longests, places), 1):
+        if g.alone:
+            ((i, w),) = g.rows
+            given = f"(pair-is (args .rest) (args .last) {tail(w)} {i} _ (omega arith) (c .{place} .ensures))"
+            term = f"word-at far (keysOf {l.number}) {FAR} {word(w)} {i} _ (c .before .match .keys{k}) {given} refl refl"
+            answers.append((f"{TABLE} every oneOf far tailIn", PRE.format("c .before .before") + term))
+        else:
+            answers.append(("", f"same-head (keysOf {l.number}) _ {g.number} _ _ (c .before .match .keys{k}) (c .{place} .ensures)"))
+    answers.append((
+        f"{TABLE} every oneOf far headIn heads",
+        PRE.format("c .before") + f"no-head far (keysOf {l.number}) {FAR} refl (c .match .rest)",
+    ))
+    lone, shared = any(g.alone for g in l.longests), any(not g.alone for g in l.longests)
+    uses = [
+        f"use Prim.Native.Nat.{{_+_, _*_{', _/_' * lone}}}",
+        "use mathlib.Core.Path.{refl}",
+        "use native.Mathlib.Omega.{arith}",
+        "use borrow.Author.Needs.{needs}",
+        f"use Rattle.text.specs.Bytes.{{{'bytes, ' * lone}oneOf}}",
+        KEYS % f"onto, {'pack, ' * lone}packs, keysOf, seek",
+        LAWS % ("every", f"limb, far, is-far, {'tailIn, word-at, pair-is, ' * lone}{'same-head, ' * shared}headIn, heads, no-head"),
+    ]
+    return proof(l.stem("longest"), "", uses, answers, len(l.longests))
 
 
 def numbers(lists):
@@ -335,22 +561,21 @@ def any_short_proof():
 
 
 def any_long_proof():
-    rows, answers, ones = [l for l in ALL if l.long], [], 0
-    for k, l in enumerate(rows, 1):
+    rows = [l for l in ALL if l.long]
+    places, answers = counted(l.stem("long") if l in LONG else "if_long" for l in rows), []
+    for k, (l, place) in enumerate(zip(rows, places), 1):
         front = f"by-number _ {l.number} _ _ (c .before .match .keys{k})"
         if l in LONG:
-            answers.append(("", f"{front} (c .long-{l.name.lower().replace('_', '-')} .ensures)"))
+            answers.append(("", f"{front} (c .{place} .ensures)"))
             continue
-        ones, (i, w) = ones + 1, l.long[0]
+        i, w = l.long[0]
         answers.append((
-            f"{TABLE} every oneOf alone longIn",
-            f'let start = c .before .before in {front} (one-long (keysOf {l.number}) (start .args .v) (start .args .rest) (omega arith) (pack (bytes "{w}"))'
-            f" {i} _ (c .{call('if-long', ones)} .ensures) refl refl refl (start .pre) (omega arith))",
+            f"{TABLE} every oneOf middle tailIn headIn",
+            PRE.format("c .before .before") + f"{front} (one-word middle (keysOf {l.number}) {MIDDLE} {word(w)} {i} _ (c .{place} .ensures) refl refl refl)",
         ))
     answers.append((
-        "listOf packs onto every oneOf longIn noLong everyList",
-        f"let start = c .before in let args = start .args in no-long-word ({numbers(rows)}) (args .list) (c .match .rest) (args .v) (args .rest) refl"
-        " (omega arith) (start .pre) (omega arith)",
+        "listOf packs onto every oneOf middle headIn noneOf everyList",
+        PRE.format("c .before") + f"no-word ({numbers(rows)}) (args .list) (c .match .rest) middle {MIDDLE} refl",
     ))
     uses = [
         "use mathlib.Core.List.{[], _∷_}",
@@ -359,36 +584,31 @@ def any_long_proof():
         "use borrow.Author.Needs.{needs}",
         "use Rattle.text.specs.Bytes.{bytes, oneOf}",
         KEYS % "onto, pack, packs, keysOf, seek",
-        LAWS % ("every", "alone, longIn, noLong, everyList, one-long, no-long-word, by-number"),
+        LAWS % ("every", "middle, is-middle, tailIn, headIn, one-word, noneOf, everyList, no-word, by-number"),
     ]
     return proof("long", "", uses, answers, len(rows))
 
 
 def any_longest_proof():
-    rows, answers = [l for l in ALL if l.longest], []
-    for k, l in enumerate(rows, 1):
-        i, w = l.longest[0]
-        answers.append((
-            "listOf longestIs find same",
-            f'let at-match = c .before .before in let start = at-match .before .before in list-at _ {l.number} _ _ (at-match .match .keys{k}) (one-longest (listOf {l.number})'
-            f" (start .args .word .now) (bytes \"{w}\") {i} _ (c .{call('if-word', k)} .ensures) (start .pre) refl refl (omega arith))",
-        ))
+    places = counted(l.stem("longest") for l in LONGEST)
+    answers = [
+        ("", f"by-number _ {l.number} _ _ (c .before .match .keys{k}) (c .{place} .ensures)") for k, (l, place) in enumerate(zip(LONGEST, places), 1)
+    ]
     answers.append((
-        "listOf everyList shorter oneOf",
-        f"let start = c .before .before in no-longest ({numbers(rows)}) (start .args .list) (c .match .rest) (start .args .word .now) refl (start .pre)",
+        "listOf packs onto every oneOf far headIn noneOf everyList",
+        PRE.format("c .before") + f"no-word ({numbers(LONGEST)}) (args .list) (c .match .rest) far {FAR} refl",
     ))
     uses = [
+        "use Prim.Native.Nat.{_+_, _*_}",
         "use mathlib.Core.List.{[], _∷_}",
         "use mathlib.Core.Path.{refl}",
         "use native.Mathlib.Omega.{arith}",
         "use borrow.Author.Needs.{needs}",
-        "use Rattle.text.specs.Bytes.{bytes, same, oneOf}",
-        "use Rattle.text.specs.Words.{find, shorter}",
-        "use Rattle.words.specs.Lists.{listOf}",
-        "use Rattle.words.proofs.ListLaws.{longestIs, everyList, one-longest, no-longest, list-at}",
+        "use Rattle.text.specs.Bytes.{oneOf}",
+        KEYS % "onto, packs",
+        LAWS % ("every", "limb, far, is-far, headIn, noneOf, everyList, no-word, by-number"),
     ]
-    calls = ["(λ c. search needs)", "(λ c κs. search needs)"] * len(rows)
-    return proof("longest", "", uses, answers, calls)
+    return proof("longest", "", uses, answers, len(LONGEST))
 
 
 def files():
@@ -396,7 +616,11 @@ def files():
     for l in SHORT:
         written[f"{CRATE}/proofs/short_{l.name.lower()}/Proof.antt"] = short_proof(l)
     for l in LONG:
-        written[f"{CRATE}/proofs/long_{l.name.lower()}/Proof.antt"] = long_proof(l)
+        written[f"{CRATE}/proofs/{l.stem('long')}/Proof.antt"] = long_proof(l)
+        written |= {f"{CRATE}/proofs/{g.function}/Proof.antt": long_group_proof(l, g) for g in l.longs if not g.alone}
+    for l in LONGEST:
+        written[f"{CRATE}/proofs/{l.stem('longest')}/Proof.antt"] = longest_proof(l)
+        written |= {f"{CRATE}/proofs/{g.function}/Proof.antt": longest_group_proof(l, g) for g in l.longests if not g.alone}
     written[f"{CRATE}/proofs/short/Proof.antt"] = any_short_proof()
     written[f"{CRATE}/proofs/long/Proof.antt"] = any_long_proof()
     written[f"{CRATE}/proofs/longest/Proof.antt"] = any_longest_proof()

@@ -1,78 +1,30 @@
 -- Laws of colours: what each way out of the code shows, and that the four bytes are given exactly for the standard's colours.
-use Prim.Native.Nat.{ℕ, _≤_, _<_}
-use mathlib.Core.Bool.{Bool, true, false, _||_, cond}
+use Prim.Native.Nat.{ℕ}
+use mathlib.Core.Bool.{Bool, true, false, cond}
 use mathlib.Core.List.{List, [], _∷_}
 use mathlib.Core.Option.{Option, none, some}
 use mathlib.Core.Path.{_≡_, refl, sym, ap, _∙_}
 use native.Mathlib.Omega.{arith}
-use lib.Dec.{eqb, ltb, leb}
+use lib.Dec.{eqb}
 use lib.ListN.{length, take, drop, length-drop}
-use lib.Seq.{take-all, length-take-le}
-use borrow.Author.Tests.{eq-eqb, ne-eqb, ltb-true, ltb-false, le-ltb, lt-leb}
+use lib.Seq.{take-all}
+use borrow.Author.Tests.{eq-eqb, ne-eqb}
 use Rattle.error.specs.declared.Refusal.the-variants.{InvalidColor}
 use Rattle.error.specs.declared.CheckAnswer.{CheckAnswer}
 use Rattle.error.specs.declared.CheckAnswer.the-variants.{Accepted, Refused}
-use Rattle.text.specs.Bytes.{at, part, oneOf, lowered}
+use Rattle.text.specs.Bytes.{at, part, lowered}
 use Rattle.text.specs.Words.{isSome, under}
 use Rattle.presets.specs.Colors.{colors, isHexColor, isColorOf, isColor}
+use Rattle.words.specs.Lists.{listOf}
 use Rattle.colors.specs.Css.{cssColors, cssNames, namesOf, hexBytes, withAlpha, hexColor}
 use Rattle.colors.specs.Css.{colorOf, namedColor, colorBytes, answered, coloring}
-use Rattle.colors.proofs.NameLaws.{true-is-false, Apart, apart-none, lengthsPass, other-length, named-found}
+use Rattle.colors.proofs.NameLaws.{true-is-false, names-are, css-clip, named-found}
 
 -- ---- names
 
--- the lengths of the short names and of the long ones, in the order in which the last arm of the code's `match` has them
-abbrev pub shortLengths : List ℕ
-shortLengths = 6 ∷ 5 ∷ 4 ∷ 3 ∷ []
-
-abbrev pub longLengths : List ℕ
-longLengths = 20 ∷ 17 ∷ 16 ∷ 15 ∷ 14 ∷ 13 ∷ 12 ∷ 11 ∷ 10 ∷ []
-
--- which lengths a name may have, as far as those below 7 and those from 10 on are concerned
-abbrev shortFits : ℕ → Bool
-shortFits n = leb 7 n || oneOf shortLengths n
-
-abbrev longFits : ℕ → Bool
-longFits n = ltb n 10 || oneOf longLengths n
-
-short-lengths : lengthsPass shortFits cssColors ≡ true
-unfolding lengthsPass cssColors oneOf
-short-lengths = refl
-
-long-lengths : lengthsPass longFits cssColors ≡ true
-unfolding lengthsPass cssColors oneOf
-long-lengths = refl
-
-all-lengths : lengthsPass (λ n. ltb n 32) cssColors ≡ true
-unfolding lengthsPass cssColors
-all-lengths = refl
-
-pub no-short-name : (w : List ℕ) → length w < 7 → Apart shortLengths (length w) → none ≡ colorOf (under cssColors w)
-no-short-name w g h =
-    let e : shortFits (length w) ≡ false = rw (lt-leb 7 (length w) g) (apart-none shortLengths (length w) h) in
-    rw (other-length shortFits cssColors w short-lengths e)
-
-pub no-long-name : (w : List ℕ) → 10 ≤ length w → Apart longLengths (length w) → none ≡ colorOf (under cssColors w)
-no-long-name w g h =
-    let e : longFits (length w) ≡ false = rw (le-ltb (length w) 10 g) (apart-none longLengths (length w) h) in
-    rw (other-length longFits cssColors w long-lengths e)
-
-no-name : (w : List ℕ) → 32 ≤ length w → under cssColors w ≡ none
-no-name w h = other-length (λ n. ltb n 32) cssColors w all-lengths (le-ltb (length w) 32 h)
-
--- the first 32 bytes of a word are enough to look it up
-named-clip : (w : List ℕ) → under cssColors (take 32 w) ≡ under cssColors w
-named-clip w = go (ltb (length w) 32) refl
-  where
-    go : (t : Bool) → ltb (length w) 32 ≡ t → under cssColors (take 32 w) ≡ under cssColors w
-    go true e = rw (take-all 32 w (omega (arith, ltb-true (length w) 32 e)))
-    go false e =
-        let l : 32 ≤ length w = ltb-false (length w) 32 e in
-        no-name (take 32 w) (omega (arith, length-take-le 32 w l)) ∙ sym (no-name w l)
-
-pub named-front : (s front : List ℕ) → front ≡ take 32 (lowered s) → colorOf (under cssColors front) ≡ namedColor s
+pub named-front : (s front : List ℕ) → front ≡ take 24 (lowered s) → colorOf (under cssColors front) ≡ namedColor s
 unfolding namedColor
-named-front s front q = rw q (ap colorOf (named-clip (lowered s)))
+named-front s front q = rw q (ap colorOf (css-clip (lowered s)))
 
 -- ---- strings
 
@@ -99,18 +51,15 @@ hex-is s h = rw h (go (isHexColor (drop 1 s)) (withAlpha (hexBytes (drop 1 s))))
     go true bs = refl
     go false bs = refl
 
-pub css-name : (s : List ℕ) (b : ℕ) → b ≡ at s 0 → (b ≡ 35 → ⊥) → isSome (namedColor s) ≡ isColor cssNames s
-css-name s b e h = named-is s (ne-eqb (at s 0) 35 (λ z. h (e ∙ z)))
-
 -- ---- lists
 
 pub first-list : (list : ℕ) (s : List ℕ) → list ≡ 1 → isColor colors s ≡ isColor (namesOf list) s
 unfolding namesOf
 first-list list s h = rw h
 
-pub second-list : (list : ℕ) (s : List ℕ) → (list ≡ 1 → ⊥) → isColor cssNames s ≡ isColor (namesOf list) s
+pub second-list : (list : ℕ) (s : List ℕ) → (list ≡ 1 → ⊥) → isColorOf (listOf 26) s ≡ isColor (namesOf list) s
 unfolding namesOf
-second-list list s h = rw (ne-eqb list 1 h)
+second-list list s h = rw (ne-eqb list 1 h, names-are)
 
 -- ---- the four bytes
 

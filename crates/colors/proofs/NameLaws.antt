@@ -1,159 +1,125 @@
--- Laws of names: a table of rows, and that the names of a word's length decide.
-use Prim.Native.Nat.{ℕ, zero, suc, _+_, _≤_, _<_}
+-- Laws of names: the place of a name in the code's list tells its colour.
+use Prim.Native.Nat.{ℕ, zero, suc, _+_, _-_, _≤_, _<_}
 use Prim.Native.String.{String}
-use mathlib.Core.Bool.{Bool, true, false, _&&_}
+use mathlib.Core.Bool.{Bool, true, false}
 use mathlib.Core.List.{List, [], _∷_}
 use mathlib.Core.Option.{Option, none, some}
 use mathlib.Core.Path.{_≡_, refl, sym, ap, _∙_}
+use native.Mathlib.Nat.{sub-zero}
 use native.Mathlib.Omega.{arith}
-use lib.Dec.{eqb}
-use lib.ListN.{length, getD, drop, drop-of-length-le}
-use lib.Seq.{drop-cons, drop-drop, getD-drop}
-use borrow.Author.Tests.{ne-eqb, eqb-false}
-use Rattle.text.specs.Bytes.{bytes, same, oneOf, at, part}
+use lib.Dec.{ltb}
+use lib.ListN.{length, getD, take}
+use borrow.Author.Tests.{ltb-true}
+use Rattle.text.specs.Bytes.{bytes, same}
 use Rattle.text.specs.Words.{isSome, find, under, words}
-use Rattle.text.proofs.WordLaws.{same-lengths, find-here, find-past}
-use Rattle.colors.specs.Css.{cssColors, namesIn, threeBytes, withAlpha, colorOf}
-use Rattle.colors.specs.Means.{row, rowsFrom, rows, rowUnder, inTable}
+use Rattle.text.proofs.WordLaws.{find-here, find-past}
+use Rattle.words.specs.Lists.{listOf}
+use Rattle.words.specs.Keys.{placeIs}
+use Rattle.words.proofs.ListLaws.{list-clip}
+use Rattle.words.proofs.KeyLaws.{every, both, place-some, place-none}
+use Rattle.colors.specs.Css.{cssColors, cssNames, namesIn, colorOf}
+use Rattle.colors.specs.Means.{valuesIn}
 
 pub true-is-false : true ≡ false → ⊥
 true-is-false h = let z : _≡_ {A = ℕ} 0 1 = cc in omega arith
 
--- ---- numbers that are not among some
+-- the code's list has the standard's names: computed
+pub names-are : listOf 26 ≡ words cssNames
+unfolding listOf cssNames cssColors
+names-are = refl
 
--- n is none of some numbers
-abbrev pub Apart : List ℕ → ℕ → Type 0
-Apart [] n = Unit {0}
-Apart (k ∷ ks) n = Apart ks n × (n ≡ k → ⊥)
+-- ---- rows of names and numbers
 
-pub apart-none : (ks : List ℕ) (n : ℕ) → Apart ks n → oneOf ks n ≡ false
-unfolding oneOf
-apart-none [] n h = refl
-apart-none (k ∷ ks) n h = rw (ne-eqb n k (h .1)) (apart-none ks n (h .0))
-
--- ---- rows
-
-under-here : (w : List ℕ) (r : List ℕ × List ℕ) (rs : List (List ℕ × List ℕ)) → same w (r .0) ≡ true → rowUnder (r ∷ rs) w ≡ some (r .1)
-unfolding rowUnder
-under-here w r rs h = rw (h, rowUnder)
-
-under-past : (w : List ℕ) (r : List ℕ × List ℕ) (rs : List (List ℕ × List ℕ)) → same w (r .0) ≡ false → rowUnder (r ∷ rs) w ≡ rowUnder rs w
-unfolding rowUnder
-under-past w r rs h = rw (h, rowUnder)
-
--- the bytes of a row before are passed over
-rows-skip : (n k : ℕ) (t : List ℕ) → rowsFrom n k t ≡ rowsFrom n 0 (drop k t)
-unfolding rowsFrom
-rows-skip n zero t = refl
-rows-skip n (suc k) [] = refl
-rows-skip n (suc k) (b ∷ t) = rows-skip n k t
-
-module _ (n : ℕ) (t : List ℕ) (i : ℕ) where
-  rows-at : i < length t → rows n (drop i t) ≡ row n (drop i t) ∷ rows n (drop (i + (n + 3)) t)
-  unfolding rowsFrom
-  rows-at h =
-      let e : suc i + (n + 2) ≡ i + (n + 3) = omega arith in
-      rw (drop-cons t i 0)
-      (ap (λ (rs : List (List ℕ × List ℕ)). row n (getD t i 0 ∷ drop (suc i) t) ∷ rs)
-      (rows-skip n (n + 2) (drop (suc i) t) ∙ (rw (drop-drop, e))))
-
-  pub row-here : (w : List ℕ) → i < length t → same w (part t i n) ≡ true
-      → rowUnder (rows n (drop i t)) w ≡ some (at t (i + n) ∷ at t (i + n + 1) ∷ at t (i + n + 2) ∷ 255 ∷ [])
-  row-here w h e =
-      let p : i + (n + 1) ≡ i + n + 1 = omega arith in
-      let q : i + (n + 2) ≡ i + n + 2 = omega arith in
-      let r : rowUnder (rows n (drop i t)) w ≡ some (row n (drop i t) .1) = rw (rows-at h) (under-here w _ _ e) in
-      r ∙ (rw (getD-drop i t n 0, getD-drop i t (n + 1) 0, getD-drop i t (n + 2) 0, p, q))
-
-  pub row-past : (w : List ℕ) → i < length t → same w (part t i n) ≡ false
-      → rowUnder (rows n (drop i t)) w ≡ rowUnder (rows n (drop (i + (n + 3)) t)) w
-  row-past w h e = rw (rows-at h) (under-past w _ _ e)
-
-  pub row-end : (w : List ℕ) → length t ≤ i → rowUnder (rows n (drop i t)) w ≡ none
-  unfolding rowsFrom rowUnder
-  row-end w h = rw (drop-of-length-le t h)
-
--- ---- colours by the length of their names
-
--- the row of a colour
-abbrev pub rowOf : String × ℕ → List ℕ × List ℕ
-rowOf c = (bytes (c .0), withAlpha (threeBytes (c .1)))
-
--- the rows of the colours whose names have n bytes
-unfoldable pub ofLength : ℕ → List (String × ℕ) → List (List ℕ × List ℕ)
-ofLength n [] = []
-ofLength n (c ∷ cs) = elim (eqb (length (bytes (c .0))) n) [ true ↦ rowOf c ∷ ofLength n cs | false ↦ ofLength n cs ]
-
--- whether the length of each name passes a test
-unfoldable pub lengthsPass : (ℕ → Bool) → List (String × ℕ) → Bool
-lengthsPass p [] = true
-lengthsPass p (c ∷ cs) = p (length (bytes (c .0))) && lengthsPass p cs
-
-module _ (c : String × ℕ) (cs : List (String × ℕ)) where
-  of-length : (n : ℕ) → eqb (length (bytes (c .0))) n ≡ true → ofLength n (c ∷ cs) ≡ rowOf c ∷ ofLength n cs
-  unfolding ofLength
-  of-length n h = rw (h, ofLength)
-
-  of-other : (n : ℕ) → eqb (length (bytes (c .0))) n ≡ false → ofLength n (c ∷ cs) ≡ ofLength n cs
-  unfolding ofLength
-  of-other n h = rw (h, ofLength)
-
-  pub named-here : (w : List ℕ) → same w (bytes (c .0)) ≡ true → under (c ∷ cs) w ≡ some (c .1)
+module _ (c : String × ℕ) (cs : List (String × ℕ)) (w : List ℕ) where
+  named-here : same w (bytes (c .0)) ≡ true → under (c ∷ cs) w ≡ some (c .1)
   unfolding under
-  named-here w h = rw (h, under)
+  named-here h = rw (h, under)
 
-  pub named-past : (w : List ℕ) → same w (bytes (c .0)) ≡ false → under (c ∷ cs) w ≡ under cs w
+  named-past : same w (bytes (c .0)) ≡ false → under (c ∷ cs) w ≡ under cs w
   unfolding under
-  named-past w h = rw (h, under)
+  named-past h = rw (h, under)
 
--- the colours whose names have a word's length decide what it stands for
-pub by-length : (cs : List (String × ℕ)) (w : List ℕ) → rowUnder (ofLength (length w) cs) w ≡ colorOf (under cs w)
-unfolding ofLength rowUnder under
-by-length [] w = refl
-by-length (c ∷ cs) w = go (eqb (length (bytes (c .0))) (length w)) refl (same w (bytes (c .0))) refl (by-length cs w)
+-- the number at a place, counted from j
+abbrev valueAt : List (String × ℕ) → ℕ → Option ℕ → Option ℕ
+valueAt cs j none = none
+valueAt cs j (some i) = some (getD (valuesIn cs) (i - j) 0)
+
+-- a place among n, counted from j
+abbrev Inside : ℕ → ℕ → Option ℕ → Type 0
+Inside j n none = Unit {0}
+Inside j n (some i) = (j ≤ i) × (i < j + n)
+
+-- the number x is at the place o of a colour, or neither is there
+abbrev Placed : List (String × ℕ) → ℕ → Option ℕ → Option ℕ → Type 0
+Placed cs j x o = (x ≡ valueAt cs j o) × Inside j (length cs) o
+
+module _ (c : String × ℕ) (cs : List (String × ℕ)) (j : ℕ) (x : Option ℕ) where
+  first : x ≡ some (c .1) → Placed (c ∷ cs) j x (some j)
+  unfolding valuesIn
+  first q = let e : j - j ≡ 0 = omega arith in (rw e q, (omega arith, omega arith))
+
+  later : (o : Option ℕ) → Placed cs (suc j) x o → Placed (c ∷ cs) j x o
+  unfolding valuesIn
+  later none p = (p .0, tt)
+  later (some i) p = let e : i - j ≡ suc (i - suc j) = omega arith in (rw e (p .0), (omega arith, omega arith))
+
+-- what stands for a name is the number at its place
+by-place : (cs : List (String × ℕ)) (j : ℕ) (w : List ℕ) → Placed cs j (under cs w) (find (words (namesIn cs)) j w)
+unfolding under find
+by-place [] j w = (refl, tt)
+by-place (c ∷ cs) j w = go (same w (bytes (c .0))) refl (by-place cs (suc j) w)
   where
-    go : (t : Bool) → eqb (length (bytes (c .0))) (length w) ≡ t → (u : Bool) → same w (bytes (c .0)) ≡ u
-        → rowUnder (ofLength (length w) cs) w ≡ colorOf (under cs w)
-        → rowUnder (ofLength (length w) (c ∷ cs)) w ≡ colorOf (under (c ∷ cs) w)
-    go true e true h q = rw (of-length c cs (length w) e, under-here w (rowOf c) (ofLength (length w) cs) h, named-here c cs w h)
-    go true e false h q = rw (of-length c cs (length w) e, under-past w (rowOf c) (ofLength (length w) cs) h, named-past c cs w h) q
-    go false e true h q = absurd (true-is-false (sym h ∙ same-lengths w _ (λ d. eqb-false _ _ e (sym d))))
-    go false e false h q = rw (of-other c cs (length w) e, named-past c cs w h) q
+    go : (t : Bool) → same w (bytes (c .0)) ≡ t → Placed cs (suc j) (under cs w) (find (words (namesIn cs)) (suc j) w)
+        → Placed (c ∷ cs) j (under (c ∷ cs) w) (find (words (namesIn (c ∷ cs))) j w)
+    go true h p = rw (find-here w (bytes (c .0)) (words (namesIn cs)) j h) (first c cs j _ (named-here c cs w h))
+    go false h p =
+        rw (find-past w (bytes (c .0)) (words (namesIn cs)) j h, named-past c cs w h)
+        (later c cs j (under cs w) (find (words (namesIn cs)) (suc j) w) p)
 
--- so do the rows of a table that has those
-pub by-table : {x : Option (List ℕ)} (w table : List ℕ) (k : ℕ) → length w ≡ k → x ≡ inTable table w → rows k table ≡ ofLength k cssColors
-    → x ≡ colorOf (under cssColors w)
-unfolding inTable
-by-table w table k e r q =
-    r ∙ ap (λ (n : ℕ). rowUnder (rows n table) w) e ∙ ap (λ (rs : List (List ℕ × List ℕ)). rowUnder rs w) q
-    ∙ ap (λ (n : ℕ). rowUnder (ofLength n cssColors) w) (sym e) ∙ by-length cssColors w
+-- ---- the standard's
 
-lengths-cons : (p : ℕ → Bool) (c : String × ℕ) (cs : List (String × ℕ)) → lengthsPass p (c ∷ cs) ≡ true
-    → (p (length (bytes (c .0))) ≡ true) × (lengthsPass p cs ≡ true)
-unfolding lengthsPass
-lengths-cons p c cs h = go (p (length (bytes (c .0)))) refl h
-  where
-    go : (t : Bool) → p (length (bytes (c .0))) ≡ t → (t && lengthsPass p cs) ≡ true
-        → (p (length (bytes (c .0))) ≡ true) × (lengthsPass p cs ≡ true)
-    go true e q = (e, q)
-    go false e q = absurd (true-is-false (sym q))
+module _ (r : ℕ) (w : List ℕ) (h : placeIs r ≡ find (listOf 26) 0 w) where
+  css-found : (r ≡ 255 → ⊥) → find (words (namesIn cssColors)) 0 w ≡ some r
+  unfolding cssNames
+  css-found n = rw names-are at (place-some r h n)
 
--- a word whose length does not pass is no name
-pub other-length : (p : ℕ → Bool) (cs : List (String × ℕ)) (w : List ℕ)
-    → lengthsPass p cs ≡ true → p (length w) ≡ false → under cs w ≡ none
-unfolding under
-other-length p [] w h g = refl
-other-length p (c ∷ cs) w h g =
-    let l = lengths-cons p c cs h in
-    named-past c cs w (same-lengths w _ (λ e. true-is-false (sym (l .0) ∙ ap p (sym e) ∙ g))) ∙ other-length p cs w (l .1) g
+  pub css-inside : (r ≡ 255 → ⊥) → r < 148
+  unfolding cssColors
+  css-inside n = (rw (css-found n) at (by-place cssColors 0 w .1)) .1
+
+  pub css-at : (r ≡ 255 → ⊥) → colorOf (some (getD (valuesIn cssColors) r 0)) ≡ colorOf (under cssColors w)
+  css-at n = let e = rw (css-found n) at (by-place cssColors 0 w .0) in rw (e, sub-zero)
+
+  pub css-none : r ≡ 255 → none ≡ colorOf (under cssColors w)
+  unfolding cssNames
+  css-none e = rw (by-place cssColors 0 w .0, (rw names-are at (place-none r h e)))
+
+-- of a name the first 24 bytes decide
+pub css-clip : (w : List ℕ) → under cssColors (take 24 w) ≡ under cssColors w
+unfolding cssNames
+css-clip w =
+    by-place cssColors 0 (take 24 w) .0
+    ∙ ap (valueAt cssColors 0) (rw names-are at (list-clip 26 w))
+    ∙ sym (by-place cssColors 0 w .0)
+
+-- a colour's number has three bytes: computed
+small : every (λ (v : ℕ). ltb v 16777216) (valuesIn cssColors) ≡ true
+unfolding every valuesIn cssColors
+small = refl
+
+small-at : (vs : List ℕ) (i : ℕ) → every (λ (v : ℕ). ltb v 16777216) vs ≡ true → getD vs i 0 < 16777216
+unfolding every
+small-at [] i h = omega arith
+small-at (v ∷ vs) zero h = ltb-true v 16777216 (both (ltb v 16777216) _ h .0)
+small-at (v ∷ vs) (suc i) h = small-at vs i (both (ltb v 16777216) _ h .1)
+
+pub value-small : (i v : ℕ) → v ≡ getD (valuesIn cssColors) i 0 → v < 16777216
+value-small i v e = rw e (small-at (valuesIn cssColors) i small)
 
 -- a name is found among the names exactly if it stands for a colour
 pub named-found : (cs : List (String × ℕ)) (i : ℕ) (w : List ℕ) → isSome (colorOf (under cs w)) ≡ isSome (find (words (namesIn cs)) i w)
-unfolding under find
-named-found [] i w = refl
-named-found (c ∷ cs) i w = go (same w (bytes (c .0))) refl (named-found cs (suc i) w)
+named-found cs i w = rw (by-place cs i w .0) (go (find (words (namesIn cs)) i w))
   where
-    go : (t : Bool) → same w (bytes (c .0)) ≡ t → isSome (colorOf (under cs w)) ≡ isSome (find (words (namesIn cs)) (suc i) w)
-        → isSome (colorOf (under (c ∷ cs) w)) ≡ isSome (find (words (namesIn (c ∷ cs))) i w)
-    go true h q = rw (named-here c cs w h, find-here w (bytes (c .0)) (words (namesIn cs)) i h)
-    go false h q = rw (named-past c cs w h, find-past w (bytes (c .0)) (words (namesIn cs)) i h) q
+    go : (o : Option ℕ) → isSome (colorOf (valueAt cs i o)) ≡ isSome o
+    go none = refl
+    go (some j) = refl

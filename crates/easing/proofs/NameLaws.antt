@@ -2,15 +2,16 @@
 use Prim.Native.Nat.{ℕ, _+_, _≤_, _<_}
 use mathlib.Core.Bool.{Bool, true, false, not}
 use mathlib.Core.List.{List, [], _∷_, _++_}
-use mathlib.Core.Path.{_≡_, refl, sym, ap}
+use mathlib.Core.Path.{_≡_, refl, sym, ap, _∙_}
 use native.Mathlib.Omega.{arith}
 use native.Mathlib.Numerals.{add-one}
 use lib.ListN.{length, getD, take, drop, drop-of-length-le}
 use lib.Seq.{drop-cons}
 use borrow.Author.Tests.{not-true, not-false}
 use Rattle.text.specs.Bytes.{isUpper, lower}
-use Rattle.text.specs.Words.{isSome, isOneOf, words, shorter}
-use Rattle.text.proofs.WordLaws.{find-clip}
+use Rattle.text.specs.Words.{isSome, words, find}
+use Rattle.words.specs.Lists.{listOf}
+use Rattle.words.proofs.ListLaws.{list-clip}
 use Rattle.easing.specs.Names.{namedEasings, snakeByte, snakeRest, snake, isEasing}
 
 pub byte-capital : (b l : ℕ) → isUpper b ≡ true → l ≡ lower b → snakeByte b ≡ (95 ∷ []) ++ (l ∷ [])
@@ -39,16 +40,18 @@ rest-end w i h = rw (drop-of-length-le w h)
 
 -- ---- lookups
 
--- the names are shorter than the 32 bytes that a name in snake case is clipped to: one computed test
-short : shorter 32 (words namedEasings) ≡ true
-unfolding shorter
-short = refl
+-- the code's list has the names: computed
+names-are : listOf 23 ≡ words namedEasings
+unfolding listOf
+names-are = refl
 
-module _ (variant : Bool) (w v : List ℕ) (e : w ≡ v) where
-  pub easing-plain : not variant ≡ true → isOneOf namedEasings w ≡ isEasing variant v
+module _ (variant r : Bool) (w : List ℕ) where
+  pub easing-plain : not variant ≡ true → r ≡ isSome (find (listOf 23) 0 w) → r ≡ isEasing variant w
   unfolding isEasing
-  easing-plain h = rw (not-true variant h, e)
+  easing-plain h e = e ∙ (rw (not-true variant h, names-are))
 
-  pub easing-variant : (front : List ℕ) → not variant ≡ false → front ≡ take 32 (snake w) → isOneOf namedEasings front ≡ isEasing variant v
+  pub easing-variant : (v front : List ℕ) → not variant ≡ false → v ≡ w → front ≡ take 24 (snake v)
+      → r ≡ isSome (find (listOf 23) 0 front) → r ≡ isEasing variant w
   unfolding isEasing
-  easing-variant front h q = rw (not-false variant h, q, sym e) (ap isSome (find-clip (words namedEasings) 0 32 (snake w) short))
+  easing-variant v front h q f e =
+      e ∙ (rw (not-false variant h, f, sym q, sym names-are) (ap isSome (list-clip 23 (snake v))))

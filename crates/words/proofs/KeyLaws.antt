@@ -1,6 +1,6 @@
 -- Laws of words as numbers: a word's number tells the word, and its place among a list's numbers is the word's place in the list.
 use Prim.Native.Nat.{ℕ, zero, suc, _+_, _*_, _-_, _^_, _%_, _≤_, _<_}
-use mathlib.Core.Bool.{Bool, true, false, _&&_, cond}
+use mathlib.Core.Bool.{Bool, true, false, _&&_, not, cond}
 use mathlib.Core.List.{List, [], _∷_}
 use mathlib.Core.Option.{Option, none, some}
 use mathlib.Core.Path.{_≡_, refl, sym, ap, _∙_}
@@ -13,7 +13,7 @@ use lib.Pow.{pow-add}
 use lib.Arith.{mod-mul, digits-div, digits-mod}
 use borrow.Author.Tests.{eq-eqb, ne-eqb, ltb-true}
 use Rattle.text.specs.Bytes.{same, part}
-use Rattle.text.specs.Words.{find}
+use Rattle.text.specs.Words.{isSome, find}
 use Rattle.text.proofs.WordLaws.{same-eq, same-refl, find-here, find-past}
 use Rattle.words.specs.Keys.{onto, pack, packs, seek, placeIs}
 
@@ -183,6 +183,23 @@ module _ (s : List ℕ) (at n : ℕ) (h : at + n ≤ length s) where
   part-bytes f =
       λ j l. let g : j < n = omega (arith, part-length) in rw (getD-take n (drop at s) j 0 g, getD-drop) (f (at + j) (omega arith))
 
+-- the bytes that a text has from a place, counted
+take-counted : (n : ℕ) (w : List ℕ) → (take (length (take n w)) w ≡ take n w) × (length (take n w) ≤ length w)
+take-counted zero w = (refl, omega arith)
+take-counted (suc n) [] = (refl, omega arith)
+take-counted (suc n) (b ∷ w) = (rw (take-counted n w .0), omega (arith, take-counted n w .1))
+
+module _ (s : List ℕ) (at n : ℕ) (w : List ℕ) (e : w ≡ part s at n) where
+  pub part-counted : part s at (length w) ≡ part s at n
+  part-counted = rw e (take-counted n (drop at s) .0)
+
+  pub part-inside : (length w ≡ 0 → ⊥) → at + length w ≤ length s
+  part-inside h = go (length w) refl (rw e (take-counted n (drop at s) .1))
+    where
+      go : (m : ℕ) → length w ≡ m → length w ≤ length (drop at s) → at + length w ≤ length s
+      go zero q l = absurd (h q)
+      go (suc m) q l = omega (arith, length-drop at s)
+
 -- the first n of 8 bytes
 pub least-part : (s : List ℕ) (at n v : ℕ) → at + 8 ≤ length s → n ≤ 7 → Bytes s → v ≡ onto 0 (part s at 8)
     → v % 256 ^ n + 256 ^ n ≡ pack (part s at n)
@@ -199,6 +216,16 @@ split-part s at n v rest l h e g =
     let q : drop 8 (part s at n) ≡ take (n - 8) (drop 8 (drop at s)) =
     ap (λ (x : ℕ). drop 8 (take x (drop at s))) k ∙ behind 8 (n - 8) (drop at s) in
     sym (onto-split 8 (part s at n) (omega (arith, part-length s at n h)) ∙ (rw (q, drop-drop, take-take 8 n (drop at s) l, sym e, sym g)))
+
+-- twice 8 bytes and the others
+pub split-twice : (s : List ℕ) (at n v rest last : ℕ) → 16 ≤ n → at + n ≤ length s
+    → v ≡ onto 0 (part s at 8) → rest ≡ onto 0 (part s (at + 8) 8) → last ≡ pack (part s (at + 16) (n - 16))
+    → (last * 18446744073709551616 + rest) * 18446744073709551616 + v ≡ pack (part s at n)
+split-twice s at n v rest last l h e f g =
+    let a : at + 8 + 8 ≡ at + 16 = omega arith in
+    let b : n - 8 - 8 ≡ n - 16 = omega arith in
+    split-part s at n v (last * 18446744073709551616 + rest) (omega arith) h e
+    (split-part s (at + 8) (n - 8) rest last (omega arith) (omega arith) f (rw (a, b) g))
 
 -- ---- a place, as the code has it
 
@@ -217,3 +244,11 @@ some-place {r} n e = (rw (ne-eqb r 255 n)) ∙ sym e
 pub none-place : {o : Option ℕ} → o ≡ none → placeIs 255 ≡ o
 unfolding placeIs
 none-place e = sym e
+
+pub place-found : (r : ℕ) {o : Option ℕ} → placeIs r ≡ o → not (eqb r 255) ≡ isSome o
+unfolding placeIs
+place-found r h = go (eqb r 255) refl ∙ ap isSome h
+  where
+    go : (a : Bool) → eqb r 255 ≡ a → not a ≡ isSome (cond a none (some r))
+    go true e = refl
+    go false e = refl

@@ -1,18 +1,18 @@
--- Laws of the keys of a `match`: a number that is one of them, one that is none, and the lists that have no word of some lengths.
+-- Laws of the keys of a `match`: a number that is one of them, one that is none, the lists that have no word of some lengths, and words
+-- that no list has.
 use Prim.Native.Nat.{ℕ, zero, suc, _+_, _*_, _%_, _/_, _≤_, _<_}
 use mathlib.Core.Bool.{Bool, true, false, _&&_, _||_, not, cond}
 use mathlib.Core.List.{List, [], _∷_}
-use mathlib.Core.Option.{none, some}
 use mathlib.Core.Path.{_≡_, refl, sym, _∙_}
 use native.Mathlib.Omega.{arith}
 use native.Mathlib.Nat.{div-add-mod'}
 use lib.Arith.{digits-div, digits-mod}
 use lib.Dec.{eqb, ltb, leb}
-use lib.ListN.{length, getD}
-use borrow.Author.Tests.{eqb-true, eq-eqb, ne-eqb, lt-ltb, le-ltb, leb-true}
+use lib.ListN.{length, getD, take}
+use borrow.Author.Tests.{eqb-true, eqb-false, eq-eqb, ne-eqb, lt-ltb, le-ltb, leb-true, not-true}
 use Rattle.text.specs.Bytes.{same, oneOf}
-use Rattle.text.specs.Words.{find, shorter}
-use Rattle.text.proofs.WordLaws.{same-eq, find-past, find-long}
+use Rattle.text.specs.Words.{isSome, find, shorter}
+use Rattle.text.proofs.WordLaws.{find-long, find-clip}
 use Rattle.words.specs.Lists.{lists, listOf}
 use Rattle.words.specs.Keys.{pack, packs, keysOf, seek, placeIs}
 use Rattle.words.proofs.KeyLaws.{never, both, every, Bytes, allBytes, seek-find}
@@ -74,50 +74,154 @@ module _ (ms : List ℕ) (v : ℕ) where
       go true q = key-at m i (eqb-true v m q) e
       go false q = none-of (m ∷ []) h (rw q) l
 
--- ---- words of 8 to 15 bytes: the first 8, and the others
+-- ---- longer words: the first 8 bytes, and what stands behind them
 
-unfoldable pub longIn : List ℕ → ℕ → Bool
-longIn ks m = oneOf ks (m % limb) || (eqb (m / limb) 0 || not (ltb (m / limb) limb))
+-- whether a number is what stands behind the first 8 bytes of a word of 8 to 15, and of one of 16 or more
+unfoldable pub middle : ℕ → Bool
+middle t = not (eqb t 0) && ltb t limb
 
-unfoldable pub longs : List ℕ → List ℕ → List ℕ
-longs [] ks = ks
-longs (m ∷ ms) ks = longs ms (cond (not (eqb (m / limb) 0) && ltb (m / limb) limb) (m % limb ∷ ks) ks)
+unfoldable pub far : ℕ → Bool
+far t = not (ltb t limb)
 
--- no other word begins with the same 8 bytes
-unfoldable pub alone : ℕ → ℕ → Bool
-alone m k = not (eqb (k % limb) (m % limb)) || eqb (k / limb) (m / limb)
+pub is-middle : (t : ℕ) → 1 ≤ t → t < limb → middle t ≡ true
+unfolding middle
+is-middle t z b = rw (ne-eqb t 0 (λ q. omega arith), lt-ltb t limb b)
 
-module _ (ms : List ℕ) (v rest : ℕ) (l : v < limb) where
-  pub long-at : (m i r : ℕ) → v ≡ m % limb → r ≡ cond (eqb rest (m / limb)) i 255 → every (alone m) ms ≡ true → seek ms 0 m ≡ i
-      → r ≡ seek ms 0 (rest * limb + v)
-  unfolding alone
-  long-at m i r e g h f = go (eqb rest (m / limb)) refl g
+pub is-far : (last t : ℕ) → 1 ≤ last → far (last * limb + t) ≡ true
+unfolding far
+is-far last t z = rw (le-ltb (last * limb + t) limb (omega arith))
+
+-- whether a word begins with one of some 8 bytes, or is of other lengths
+unfoldable pub headIn : (ℕ → Bool) → List ℕ → ℕ → Bool
+headIn q ks m = oneOf ks (m % limb) || not (q (m / limb))
+
+-- the first 8 bytes of the words of some lengths, each once, the last first
+unfoldable pub heads : (ℕ → Bool) → List ℕ → List ℕ → List ℕ
+heads q [] ks = ks
+heads q (m ∷ ms) ks = heads q ms (cond (q (m / limb) && not (oneOf ks (m % limb))) (m % limb ∷ ks) ks)
+
+-- whether one of some numbers stands behind the first 8 bytes of a word, or it begins with others, or is of other lengths
+unfoldable pub tailIn : (ℕ → Bool) → ℕ → List ℕ → ℕ → Bool
+tailIn q k ts m = oneOf ts (m / limb) || (not (eqb (m % limb) k) || not (q (m / limb)))
+
+-- what stands behind 8 given bytes
+unfoldable pub tails : (ℕ → Bool) → ℕ → List ℕ → List ℕ → List ℕ
+tails q k [] ts = ts
+tails q k (m ∷ ms) ts = tails q k ms (cond (eqb (m % limb) k && q (m / limb)) (m / limb ∷ ts) ts)
+
+module _ (q : ℕ → Bool) (ms : List ℕ) (v t : ℕ) (l : v < limb) (g : q t ≡ true) where
+  pub word-at : (m i r : ℕ) → v ≡ m % limb → r ≡ cond (eqb t (m / limb)) i 255 → every (tailIn q (m % limb) (m / limb ∷ [])) ms ≡ true
+      → seek ms 0 m ≡ i → r ≡ seek ms 0 (t * limb + v)
+  unfolding tailIn oneOf
+  word-at m i r e z h f = go (eqb t (m / limb)) refl z
     where
-      go : (a : Bool) → eqb rest (m / limb) ≡ a → r ≡ cond a i 255 → r ≡ seek ms 0 (rest * limb + v)
-      go true q z = z ∙ (rw (eqb-true rest (m / limb) q, e, div-add-mod' m limb) (sym f))
-      go false q z =
-          z
-          ∙ sym (absent (alone m) ms 0 (rest * limb + v) h
-          (rw (digits-mod rest {m = limb} l, digits-div rest {m = limb} l, q, sym e, eq-eqb v v refl)))
+      go : (a : Bool) → eqb t (m / limb) ≡ a → r ≡ cond a i 255 → r ≡ seek ms 0 (t * limb + v)
+      go true u y = y ∙ (rw (eqb-true t (m / limb) u, e, div-add-mod' m limb) (sym f))
+      go false u y =
+          y
+          ∙ sym (absent (tailIn q (m % limb) (m / limb ∷ [])) ms 0 (t * limb + v) h
+          (rw (digits-mod t {m = limb} l, digits-div t {m = limb} l, u, g, sym e, eq-eqb v v refl)))
 
-  none-of-long : (ks : List ℕ) → every (longIn ks) ms ≡ true → oneOf ks v ≡ false
-      → 1 ≤ rest → rest < limb → 255 ≡ seek ms 0 (rest * limb + v)
-  unfolding longIn
-  none-of-long ks h e z b =
-      sym (absent (longIn ks) ms 0 (rest * limb + v) h
-      (rw (digits-mod rest {m = limb} l, digits-div rest {m = limb} l, e, ne-eqb rest 0 (λ q. omega arith), lt-ltb rest limb b)))
+  no-head-of : (ks : List ℕ) → every (headIn q ks) ms ≡ true → oneOf ks v ≡ false → 255 ≡ seek ms 0 (t * limb + v)
+  unfolding headIn
+  no-head-of ks h e = sym (absent (headIn q ks) ms 0 (t * limb + v) h (rw (digits-mod t {m = limb} l, digits-div t {m = limb} l, e, g)))
 
-  pub no-long : every (longIn (longs ms [])) ms ≡ true → Apart (longs ms []) v → 1 ≤ rest → rest < limb → 255 ≡ seek ms 0 (rest * limb + v)
-  no-long h a z b = none-of-long (longs ms []) h (apart-none (longs ms []) v a) z b
+  -- no word begins like that
+  pub no-head : every (headIn q (heads q ms [])) ms ≡ true → Apart (heads q ms []) v → 255 ≡ seek ms 0 (t * limb + v)
+  no-head h a = no-head-of (heads q ms []) h (apart-none (heads q ms []) v a)
 
-  pub one-long : (m i r : ℕ) → r ≡ cond (eqb v (m % limb) && eqb rest (m / limb)) i 255 → every (alone m) ms ≡ true
-      → every (longIn (m % limb ∷ [])) ms ≡ true → seek ms 0 m ≡ i → 1 ≤ rest → rest < limb → r ≡ seek ms 0 (rest * limb + v)
+  -- a word begins like that, and none goes on so
+  pub no-tail : every (tailIn q v (tails q v ms [])) ms ≡ true → Apart (tails q v ms []) t → 255 ≡ seek ms 0 (t * limb + v)
+  unfolding tailIn
+  no-tail h a =
+      sym (absent (tailIn q v (tails q v ms [])) ms 0 (t * limb + v) h
+      (rw (digits-mod t {m = limb} l, digits-div t {m = limb} l, apart-none (tails q v ms []) t a, g, eq-eqb v v refl)))
+
+  -- a list with one of them
+  pub one-word : (m i r : ℕ) → r ≡ cond (eqb v (m % limb) && eqb t (m / limb)) i 255
+      → every (tailIn q (m % limb) (m / limb ∷ [])) ms ≡ true
+      → every (headIn q (m % limb ∷ [])) ms ≡ true → seek ms 0 m ≡ i → r ≡ seek ms 0 (t * limb + v)
   unfolding oneOf
-  one-long m i r e h k f z b = go (eqb v (m % limb)) refl e
+  one-word m i r e h k f = go (eqb v (m % limb)) refl e
     where
-      go : (a : Bool) → eqb v (m % limb) ≡ a → r ≡ cond (a && eqb rest (m / limb)) i 255 → r ≡ seek ms 0 (rest * limb + v)
-      go true q g = long-at m i r (eqb-true v (m % limb) q) g h f
-      go false q g = g ∙ none-of-long (m % limb ∷ []) k (rw q) z b
+      go : (a : Bool) → eqb v (m % limb) ≡ a → r ≡ cond (a && eqb t (m / limb)) i 255 → r ≡ seek ms 0 (t * limb + v)
+      go true u y = word-at m i r (eqb-true v (m % limb) u) y h f
+      go false u y = y ∙ no-head-of (m % limb ∷ []) k (rw u)
+
+-- what stands behind the first 8 bytes of a word
+pub tail-at : (ms : List ℕ) (k t m i : ℕ) → t ≡ m / limb → k ≡ m % limb → seek ms 0 m ≡ i → i ≡ seek ms 0 (t * limb + k)
+tail-at ms k t m i e g h = rw (e, g, div-add-mod' m limb) (sym h)
+
+pub same-head : (ms : List ℕ) (v k t r : ℕ) → v ≡ k → r ≡ seek ms 0 (t * limb + k) → r ≡ seek ms 0 (t * limb + v)
+same-head ms v k t r e h = rw e h
+
+-- ---- words of 16 bytes and more: the next 8, and what stands behind them
+
+both-parts : (w last m : ℕ) → w < limb → (eqb w (m % limb) && eqb last (m / limb)) ≡ eqb (last * limb + w) m
+both-parts w last m l = go (eqb w (m % limb)) refl (eqb last (m / limb)) refl
+  where
+    go : (a : Bool) → eqb w (m % limb) ≡ a → (b : Bool) → eqb last (m / limb) ≡ b → (a && b) ≡ eqb (last * limb + w) m
+    go true e true f =
+        sym (eq-eqb (last * limb + w) m (rw (eqb-true w (m % limb) e, eqb-true last (m / limb) f) (div-add-mod' m limb)))
+    go true e false f =
+        sym (ne-eqb (last * limb + w) m (λ q. eqb-false last (m / limb) f (rw (sym q) (sym (digits-div last {m = limb} l)))))
+    go false e b f =
+        sym (ne-eqb (last * limb + w) m (λ q. eqb-false w (m % limb) e (rw (sym q) (sym (digits-mod last {m = limb} l)))))
+
+pub pair-is : (w last m i r : ℕ) → w < limb → r ≡ cond (eqb w (m % limb) && eqb last (m / limb)) i 255
+    → r ≡ cond (eqb (last * limb + w) m) i 255
+pair-is w last m i r l h = rw (sym (both-parts w last m l)) h
+
+-- no other word begins with the same 16 bytes
+unfoldable pub alone : ℕ → ℕ → Bool
+alone m k = eqb (k / limb / limb) (m / limb / limb) || not (eqb (k % limb) (m % limb) && eqb (k / limb % limb) (m / limb % limb))
+
+pub next-at : (ms : List ℕ) (k w last m i r : ℕ) → k < limb → w < limb → k ≡ m % limb → w ≡ m / limb % limb
+    → r ≡ cond (eqb last (m / limb / limb)) i 255 → every (alone m) ms ≡ true → seek ms 0 m ≡ i
+    → r ≡ seek ms 0 ((last * limb + w) * limb + k)
+unfolding alone
+next-at ms k w last m i r g l e f z h n = go (eqb last (m / limb / limb)) refl z
+  where
+    go : (a : Bool) → eqb last (m / limb / limb) ≡ a → r ≡ cond a i 255 → r ≡ seek ms 0 ((last * limb + w) * limb + k)
+    go true u y =
+        y ∙ (rw (eqb-true last (m / limb / limb) u, f, div-add-mod' (m / limb) limb, e, div-add-mod' m limb) (sym n))
+    go false u y =
+        y
+        ∙ sym (absent (alone m) ms 0 ((last * limb + w) * limb + k) h
+        (rw (
+          digits-mod (last * limb + w) {m = limb} g,
+          digits-div (last * limb + w) {m = limb} g,
+          digits-mod last {m = limb} l,
+          digits-div last {m = limb} l,
+          u,
+          sym e,
+          sym f,
+          eq-eqb k k refl,
+          eq-eqb w w refl,
+        )))
+
+-- whether some 8 bytes stand behind the first 8 of a word, or it begins with others, or is shorter
+unfoldable pub nextIn : ℕ → List ℕ → ℕ → Bool
+nextIn k ws m = oneOf ws (m / limb % limb) || (not (eqb (m % limb) k) || not (far (m / limb)))
+
+-- the 8 bytes that stand behind 8 given ones
+unfoldable pub nexts : ℕ → List ℕ → List ℕ → List ℕ
+nexts k [] ws = ws
+nexts k (m ∷ ms) ws = nexts k ms (cond (eqb (m % limb) k && far (m / limb)) (m / limb % limb ∷ ws) ws)
+
+pub no-next : (ms : List ℕ) (k w last : ℕ) → k < limb → w < limb → 1 ≤ last → every (nextIn k (nexts k ms [])) ms ≡ true
+    → Apart (nexts k ms []) w → 255 ≡ seek ms 0 ((last * limb + w) * limb + k)
+unfolding nextIn
+no-next ms k w last g l z h a =
+    sym (absent (nextIn k (nexts k ms [])) ms 0 ((last * limb + w) * limb + k) h
+    (rw (
+      digits-mod (last * limb + w) {m = limb} g,
+      digits-div (last * limb + w) {m = limb} g,
+      digits-mod last {m = limb} l,
+      apart-none (nexts k ms []) w a,
+      is-far last w z,
+      eq-eqb k k refl,
+    )))
 
 -- ---- the lists
 
@@ -154,58 +258,22 @@ other-list q ks k n h a = rw (apart-none ks k a) at (at-list (besides q ks) list
 unfoldable pub noShort : List (List ℕ) → Bool
 noShort ns = every (shortIn []) (packs ns)
 
-unfoldable pub noLong : List (List ℕ) → Bool
-noLong ns = every (longIn []) (packs ns)
+unfoldable pub noneOf : (ℕ → Bool) → List (List ℕ) → Bool
+noneOf q ns = every (headIn q []) (packs ns)
 
 module _ (ks : List ℕ) (k : ℕ) (a : Apart ks k) where
   pub no-short : (v : ℕ) → everyList (besides noShort ks) lists ≡ true → v < limb → 255 ≡ seek (keysOf k) 0 v
   unfolding noShort keysOf packs every oneOf
   no-short v h l = none-of (packs (listOf k)) v [] (other-list noShort ks k refl h a) refl l
 
-  pub no-long-word : (v rest : ℕ) → everyList (besides noLong ks) lists ≡ true → v < limb → 1 ≤ rest → rest < limb
-      → 255 ≡ seek (keysOf k) 0 (rest * limb + v)
-  unfolding noLong keysOf packs every oneOf
-  no-long-word v rest h l z b = none-of-long (packs (listOf k)) v rest l [] (other-list noLong ks k refl h a) refl z b
-
-  pub no-longest : (w : List ℕ) → everyList (besides (shorter 16) ks) lists ≡ true → 16 ≤ length w → placeIs 255 ≡ find (listOf k) 0 w
-  unfolding shorter placeIs
-  no-longest w h l = sym (find-long (listOf k) 0 16 w (other-list (shorter 16) ks k refl h a) l)
+  pub no-word : (q : ℕ → Bool) (v t : ℕ) → v < limb → q t ≡ true → everyList (besides (noneOf q) ks) lists ≡ true
+      → 255 ≡ seek (keysOf k) 0 (t * limb + v)
+  unfolding noneOf keysOf packs every oneOf
+  no-word q v t l g h = no-head-of q (packs (listOf k)) v t l g [] (other-list (noneOf q) ks k refl h a) refl
 
 -- a list by its number
 pub by-number : (k j x r : ℕ) → k ≡ j → r ≡ seek (keysOf j) 0 x → r ≡ seek (keysOf k) 0 x
 by-number k j x r e h = rw e h
-
-pub list-at : (k j r : ℕ) (w : List ℕ) → k ≡ j → placeIs r ≡ find (listOf j) 0 w → placeIs r ≡ find (listOf k) 0 w
-list-at k j r w e h = rw e h
-
--- ---- the word of 16 bytes or more, of a list that has one
-
-unfoldable pub longestIs : List ℕ → List (List ℕ) → Bool
-longestIs u [] = true
-longestIs u (n ∷ ns) = (ltb (length n) 16 || same n u) && longestIs u ns
-
-lacks : (u : List ℕ) (ns : List (List ℕ)) (i : ℕ) (w : List ℕ)
-    → longestIs u ns ≡ true → 16 ≤ length w → same w u ≡ false
-    → find ns i w ≡ none
-unfolding longestIs find
-lacks u [] i w h l e = refl
-lacks u (n ∷ ns) i w h l e =
-    go (same w n) refl (both (ltb (length n) 16 || same n u) (longestIs u ns) h .0)
-    (lacks u ns (suc i) w (both (ltb (length n) 16 || same n u) (longestIs u ns) h .1) l e)
-  where
-    go : (a : Bool) → same w n ≡ a → (ltb (length n) 16 || same n u) ≡ true → find ns (suc i) w ≡ none → find (n ∷ ns) i w ≡ none
-    go true q t ih =
-        never (sym (rw (sym (same-eq w n q), le-ltb (length w) 16 l, e)) ∙ t)
-    go false q t ih = find-past w n ns i q ∙ ih
-
-pub one-longest : (ns : List (List ℕ)) (w u : List ℕ) (i r : ℕ) → r ≡ cond (same w u) i 255 → 16 ≤ length w → longestIs u ns ≡ true
-    → find ns 0 u ≡ some i → i < 255 → placeIs r ≡ find ns 0 w
-unfolding placeIs
-one-longest ns w u i r g l h f b = go (same w u) refl g
-  where
-    go : (a : Bool) → same w u ≡ a → r ≡ cond a i 255 → placeIs r ≡ find ns 0 w
-    go true q z = rw (same-eq w u q, f, z, ne-eqb i 255 (λ e. omega arith))
-    go false q z = rw (z, lacks u ns 0 w h l q)
 
 -- ---- a word by its number, in any list
 
@@ -223,3 +291,26 @@ list-few k = leb-true (length (listOf k)) 255 (each-list few k refl refl)
 pub key-found : (k : ℕ) (w : List ℕ) (v r : ℕ) → Bytes w → v ≡ pack w → r ≡ seek (keysOf k) 0 v → placeIs r ≡ find (listOf k) 0 w
 unfolding keysOf
 key-found k w v r f e h = (rw (h, e)) ∙ seek-find (listOf k) 0 w f (list-bytes k) (omega (arith, list-few k))
+
+-- ---- words that no list has
+
+list-short : (k : ℕ) → shorter 24 (listOf k) ≡ true
+unfolding shorter everyList
+list-short k = each-list (shorter 24) k refl refl
+
+pub too-long : (k : ℕ) (w : List ℕ) → 24 ≤ length w → placeIs 255 ≡ find (listOf k) 0 w
+unfolding placeIs
+too-long k w l = sym (find-long (listOf k) 0 24 w (list-short k) l)
+
+-- so the first 24 bytes of a word are enough to look it up
+pub list-clip : (k : ℕ) (w : List ℕ) → find (listOf k) 0 (take 24 w) ≡ find (listOf k) 0 w
+list-clip k w = find-clip (listOf k) 0 24 w (list-short k)
+
+-- the empty word
+unfoldable pub noEmpty : List (List ℕ) → Bool
+noEmpty ns = not (isSome (find ns 0 []))
+
+pub no-empty : (k : ℕ) (w : List ℕ) → length w ≡ 0 → false ≡ isSome (find (listOf k) 0 w)
+unfolding noEmpty find same everyList
+no-empty k [] e = sym (not-true (isSome (find (listOf k) 0 [])) (each-list noEmpty k refl refl))
+no-empty k (b ∷ w) e = absurd (omega arith)

@@ -1,10 +1,10 @@
-// Bytes of a text as numbers, the first the least, and a row where a number or a word is the one asked for.
+// Bytes of a text as numbers, the first the least, and a row where numbers are those asked for.
 ghost use mathlib.Core.Path.{_≡_};
 ghost use mathlib.Core.Bool.{cond, _&&_};
 ghost use lib.Dec.{eqb};
 ghost use Prim.Native.Nat.{_+_, _-_, _%_, _^_, _≤_, _<_};
 ghost use lib.ListN.{length};
-ghost use Rattle.text.specs.Bytes.{same, part};
+ghost use Rattle.text.specs.Bytes.{part};
 ghost use Rattle.words.specs.Keys.{onto, pack};
 use crate::NONE;
 
@@ -70,16 +70,6 @@ pub fn if_long(v: u64, rest: u64, key: u64, other: u64, row: u8) -> u8
 {
     if v == key {
         return if_equal(rest, other, row);
-    }
-    NONE
-}
-
-// A row, if two words are equal.
-pub fn if_word(word: &[u8], other: &[u8], row: u8) -> u8
-    ensures { λ r. ⌜ r ≡ cond (same (now (word .entry)) (now (other .entry))) row 255 ⌝ }
-{
-    if text::is_word(word, other) {
-        return row;
     }
     NONE
 }

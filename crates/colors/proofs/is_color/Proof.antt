@@ -12,7 +12,7 @@ returns-2 : tie.Need-returns-2
 returns-2 c =
     let at-if1 = c .before .before in
     let start = at-if1 .before .before in
-    c .is-css-color .ensures ∙ (rw (c .before .part .ensures) (second-list (start .args .list) _ (at-if1 .if1 .left)))
+    c .is-color .ensures ∙ (rw (c .before .part .ensures) (second-list (start .args .list) _ (at-if1 .if1 .left)))
 
 pub is-color-spec : {M : Type 1} → statement M
 is-color-spec = tie.close (tie.spec (λ c κs. search needs) returns (λ c κs. search needs) (λ c κs. search needs) returns-2)

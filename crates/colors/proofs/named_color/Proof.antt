@@ -1,19 +1,13 @@
--- `colors::named_color` meets its contract: of a name the first 32 bytes decide.
-use mathlib.Core.Path.{sym, _∙_}
-use lib.Seq.{length-take-le}
+-- `colors::named_color` meets its contract: of a name the first 24 bytes decide.
+use mathlib.Core.Path.{_∙_}
 use Rattle.text.proofs.WriteLaws.{puts-front, puts-fits}
 use Rattle.colors.proofs.ColorLaws.{named-front}
 use borrow.Author.Needs.{needs}
 use Rattle.colors.proofs.named_color.Statement.{statement}
 use Rattle.colors.proofs.named_color.Tie as tie
 
-array-share-prefix-name : tie.Need-array-share-prefix-name
-array-share-prefix-name c = puts-fits (c .before .lower-into .ensures)
-
-slice-aggregate-named : tie.Need-slice-aggregate-named
-slice-aggregate-named c =
-    let lower-into = c .before .before .lower-into in
-    sym (length-take-le (lower-into .result) (lower-into .last .1 .0) (puts-fits (lower-into .ensures)))
+named-requires : tie.Need-named-requires
+named-requires c κs = puts-fits (c .before .before .lower-into .ensures)
 
 returns : tie.Need-returns
 returns c =
@@ -23,5 +17,4 @@ returns c =
 
 pub named-color-spec : {M : Type 1} → statement M
 named-color-spec =
-    tie.close (tie.spec (λ c. search needs) (λ c κs. search needs) array-share-prefix-name slice-aggregate-named (λ c κs. search needs)
-    returns)
+    tie.close (tie.spec (λ c. search needs) (λ c κs. search needs) (λ c. search needs) named-requires returns)

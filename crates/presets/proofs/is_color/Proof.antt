@@ -1,9 +1,8 @@
--- `presets::is_color` meets its contract: each way out is one law of colours; of a name the first 32 bytes decide.
-use mathlib.Core.Path.{sym, _∙_}
-use lib.Seq.{length-take-le}
+-- `presets::is_color` meets its contract: each way out is one law of colours; of a name the first 24 bytes decide.
+use mathlib.Core.Path.{_∙_}
 use borrow.Author.Needs.{needs}
-use Rattle.text.proofs.WriteLaws.{puts-front, puts-fits}
-use Rattle.presets.proofs.ColorLaws.{short, color-hex, color-name}
+use Rattle.text.proofs.WriteLaws.{puts-front}
+use Rattle.presets.proofs.ColorLaws.{color-hex, color-name}
 use Rattle.presets.proofs.is_color.Statement.{statement}
 use Rattle.presets.proofs.is_color.Tie as tie
 
@@ -17,25 +16,17 @@ returns c =
     ∙ color-hex _ (start .args .s .now) (at-byte-at .byte-at .result) (at-byte-at .byte-at .ensures) _ (at-if1 .if1 .taken)
     (at-part .part .ensures)
 
-array-share-prefix-name : tie.Need-array-share-prefix-name
-array-share-prefix-name c = puts-fits (c .before .lower-into .ensures)
-
-slice-aggregate-is-color-name : tie.Need-slice-aggregate-is-color-name
-slice-aggregate-is-color-name c =
-    let lower-into = c .before .before .lower-into in
-    sym (length-take-le (lower-into .result) (lower-into .last .1 .0) (puts-fits (lower-into .ensures)))
-
 returns-2 : tie.Need-returns-2
 returns-2 c =
     let at-lower-into = c .before .before .before in
     let at-if1 = at-lower-into .before .before in
     let at-byte-at = at-if1 .before in
     let start = at-byte-at .before .before in
-    c .is-color-name .ensures
-    ∙ color-name _ (start .args .s .now) (at-byte-at .byte-at .result) (at-byte-at .byte-at .ensures) _ (at-if1 .if1 .left) short
+    c .holds .ensures
+    ∙ color-name _ (start .args .s .now) (at-byte-at .byte-at .result) (at-byte-at .byte-at .ensures) _ (at-if1 .if1 .left)
     (puts-front (at-lower-into .lower-into .ensures))
 
 pub is-color-spec : {M : Type 1} → statement M
 is-color-spec =
     tie.close (tie.spec (λ c κs. search needs) (λ c κs. search needs) (λ c κs. search needs) returns (λ c. search needs)
-    (λ c κs. search needs) array-share-prefix-name slice-aggregate-is-color-name (λ c κs. search needs) returns-2)
+    (λ c κs. search needs) (λ c. search needs) (λ c κs. search needs) returns-2)

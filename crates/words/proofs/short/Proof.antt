@@ -98,9 +98,25 @@ returns-22 c =
     refl (omega arith))
 
 returns-23 : tie.Need-returns-23
-unfolding listOf packs onto every oneOf shortIn noShort everyList
+unfolding listOf keysOf packs onto seek every oneOf shortIn
 returns-23 c =
-    no-short (22 ∷ 21 ∷ 20 ∷ 19 ∷ 18 ∷ 17 ∷ 16 ∷ 14 ∷ 13 ∷ 12 ∷ 11 ∷ 10 ∷ 9 ∷ 8 ∷ 7 ∷ 6 ∷ 5 ∷ 4 ∷ 3 ∷ 2 ∷ 1 ∷ 0 ∷ [])
+    let start = c .before .before in
+    by-number _ 23 _ _ (c .before .match .keys23) (c .if-equal6 .ensures ∙ one-key (keysOf 23) (start .args .v) (pack (bytes "linear")) 0
+    refl refl (omega arith))
+
+returns-24 : tie.Need-returns-24
+returns-24 c = by-number _ 24 _ _ (c .before .match .keys24) (c .short-presets .ensures)
+
+returns-25 : tie.Need-returns-25
+returns-25 c = by-number _ 25 _ _ (c .before .match .keys25) (c .short-colors .ensures)
+
+returns-26 : tie.Need-returns-26
+returns-26 c = by-number _ 26 _ _ (c .before .match .keys26) (c .short-css-colors .ensures)
+
+returns-27 : tie.Need-returns-27
+unfolding listOf packs onto every oneOf shortIn noShort everyList
+returns-27 c =
+    no-short (26 ∷ 25 ∷ 24 ∷ 23 ∷ 22 ∷ 21 ∷ 20 ∷ 19 ∷ 18 ∷ 17 ∷ 16 ∷ 14 ∷ 13 ∷ 12 ∷ 11 ∷ 10 ∷ 9 ∷ 8 ∷ 7 ∷ 6 ∷ 5 ∷ 4 ∷ 3 ∷ 2 ∷ 1 ∷ 0 ∷ [])
     (c .before .args .list) (c .match .rest) (c .before .args .v) refl (omega arith)
 
 pub short-spec : {M : Type 1} → statement M
@@ -109,6 +125,7 @@ short-spec =
     (λ c κs. search needs) (λ c κs. search needs) (λ c κs. search needs) (λ c κs. search needs) (λ c κs. search needs)
     (λ c κs. search needs) (λ c κs. search needs) (λ c κs. search needs) (λ c κs. search needs) (λ c κs. search needs)
     (λ c κs. search needs) (λ c κs. search needs) (λ c κs. search needs) (λ c κs. search needs) (λ c κs. search needs)
-    (λ c κs. search needs) (λ c κs. search needs) returns returns-2 returns-3 returns-4 returns-5 returns-6 returns-7 returns-8 returns-9
-    returns-10 returns-11 returns-12 returns-13 returns-14 returns-15 returns-16 returns-17 returns-18 returns-19 returns-20 returns-21
-    returns-22 returns-23)
+    (λ c κs. search needs) (λ c κs. search needs) (λ c κs. search needs) (λ c κs. search needs) (λ c κs. search needs)
+    (λ c κs. search needs) returns returns-2 returns-3 returns-4 returns-5 returns-6 returns-7 returns-8 returns-9 returns-10 returns-11
+    returns-12 returns-13 returns-14 returns-15 returns-16 returns-17 returns-18 returns-19 returns-20 returns-21 returns-22 returns-23
+    returns-24 returns-25 returns-26 returns-27)
