@@ -18,8 +18,8 @@ use Rattle.cursor.specs.Word.{atOf}
 use Rattle.cursor.specs.Means.{Ready, run, Took, Follows, tokens, listedIn}
 use Rattle.cursor.proofs.ListedLaws.{unlisted-kind, no-name}
 use Rattle.cursor.specs.declared.Cursor.{Cursor}
-use Rattle.nodes.specs.Means.{leafKind}
-use Rattle.nodes.specs.declared.NodeRead.the-variants as read
+use Rattle.node.specs.Means.{leafKind}
+use Rattle.node.specs.declared.NodeRead.the-variants as read
 use Rattle.blocks.specs.Means.{KeywordMeans, behindWord, leafKindAt, containerKindAt, frontBytes, LeafBegun, ContainerBegun}
 use Rattle.blocks.specs.Means.{BegunMeans, LeafAtMeans, nodeWords}
 use Rattle.blocks.specs.declared.Keyword.the-variants as keyword

@@ -32,9 +32,9 @@ use Rattle.fields.proofs.FieldLaws.{by-step}
 use Rattle.fields.proofs.ListLaws.{Listed, listed-start, listed-gives}
 use Rattle.values.proofs.EasingLaws.{spelled-length}
 use Rattle.arrays.specs.Means.{Went}
-use Rattle.nodes.specs.Means.{leafBytes, LeafMeans}
-use Rattle.nodes.specs.declared.NodeRead.{NodeRead}
-use Rattle.nodes.specs.declared.NodeRead.the-variants as node
+use Rattle.node.specs.Means.{leafBytes, LeafMeans}
+use Rattle.node.specs.declared.NodeRead.{NodeRead}
+use Rattle.node.specs.declared.NodeRead.the-variants as node
 use Rattle.keyframes.specs.Means.{Inner, framesBytes, separator, trackOf, Stepped, Standing}
 use Rattle.keyframes.specs.Means.{StepMeans, TrackWent, trackBehind, BlockWent, BlockMeans}
 use Rattle.keyframes.specs.declared.Track as tracks

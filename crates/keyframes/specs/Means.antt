@@ -24,8 +24,8 @@ use Rattle.cursor.specs.Word.{atOf}
 use Rattle.cursor.specs.Means.{Ready, notes, tokens, run, Took}
 use Rattle.cursor.specs.declared.Cursor.{Cursor}
 use Rattle.arrays.specs.Means.{Held}
-use Rattle.nodes.specs.declared.NodeRead.{NodeRead}
-use Rattle.nodes.specs.declared.NodeRead.the-variants as node
+use Rattle.node.specs.declared.NodeRead.{NodeRead}
+use Rattle.node.specs.declared.NodeRead.the-variants as node
 use Rattle.keyframes.specs.declared.TimeRead.{TimeRead}
 use Rattle.keyframes.specs.declared.TimeRead.the-variants as time
 use Rattle.keyframes.specs.declared.EasingIf.{EasingIf}
