@@ -13,18 +13,19 @@ use Rattle.cursor.specs.Means.{run, Took}
 use Rattle.cursor.specs.declared.Cursor.{Cursor}
 use Rattle.node.specs.Means.{LeafMeans, EndMeans}
 use Rattle.node.specs.declared.NodeRead.{NodeRead}
+use Rattle.node.specs.declared.NodeRead.the-variants as node
 use Rattle.draw.specs.Means.{drawEnd}
 use Rattle.node.proofs.EndLaws.{whole-node}
 
-module _ (s : List ℕ) (c : Cursor) where
-  pub no-svg : (q : ℕ) → run s c text ≡ refused Missing q → run s c parseDraw ≡ refused Missing q
+module _ {s b a : List ℕ} {c : Cursor} {out : ℕ} where
+  pub no-svg : {q : ℕ} → run s c text ≡ refused Missing q → LeafMeans s b a c out parseDraw (node.Refused Missing q)
   unfolding parseDraw string
-  no-svg q h = rw h
+  no-svg h = record { by = rw h }
 
-  pub draw-node : (m : Cursor) (x : Span) → Took 1 s c m text (x .start, x .size)
-      → (b a : List ℕ) (out : ℕ) (y : NodeRead) → EndMeans s b a m out (drawEnd (spanOf x)) y
+  pub draw-node : {m : Cursor} {x : Span} → Took 1 s c m text (x .start, x .size)
+      → {y : NodeRead} → EndMeans s b a m out (drawEnd (spanOf x)) y
       → LeafMeans s b a c out parseDraw y
   unfolding parseDraw string
-  draw-node m x t =
-      whole-node s parseDraw c m (drawEnd (spanOf x))
+  draw-node {x = x} t =
+      whole-node parseDraw (drawEnd (spanOf x))
       (λ v u z. record { is = rw (t .is, z .is); low = omega (arith, t .low, z .low); ready = z .ready }) (λ r q h. rw (t .is, h)) (t .low)

@@ -17,8 +17,9 @@ use Rattle.cursor.specs.Means.{Ready, tokens, run, Took, Follows, spelled}
 use Rattle.cursor.specs.declared.Cursor.{Cursor}
 use Rattle.cursor.proofs.CursorLaws.{took-mark}
 use Rattle.values.proofs.EasingLaws.{spelled-length}
-use Rattle.node.specs.Means.{LeafMeans}
+use Rattle.node.specs.Means.{LeafMeans, EndMeans}
 use Rattle.node.specs.declared.NodeRead.{NodeRead}
+use Rattle.node.specs.declared.NodeRead.the-variants as node
 use Rattle.draw.specs.Means.{presetPairs, presetFields, presetEnd}
 use Rattle.draw.specs.Means.{noDrawFields, DrawListMeans}
 use Rattle.draw.specs.declared.DrawFields.{DrawFields}
@@ -92,22 +93,20 @@ all-refused s c a q h = rw h
 
 -- ---- the node
 
-module _ (s : List ℕ) (c : Cursor) where
-  pub no-preset : (q : ℕ) → run s c word ≡ refused Missing q → run s c parsePresetCall ≡ refused Missing q
+pub no-preset : {s b a : List ℕ} {c : Cursor} {out q : ℕ} → run s c word ≡ refused Missing q
+    → LeafMeans s b a c out parsePresetCall (node.Refused Missing q)
+unfolding parsePresetCall ident
+no-preset h = record { by = rw h }
+
+module _ {s : List ℕ} {c m : Cursor} (x : Span) (t : Took 1 s c m word (x .start, spelled s x)) (l : x .start + x .size ≤ length s) where
+  behind-name : run s c parsePresetCall ≡ run s m (presetEnd (spanOf x))
   unfolding parsePresetCall ident
-  no-preset q h = rw h
+  behind-name = rw (t .is, spelled-length s x l) (assoc (run s m presetPairs) _ _)
 
-  module _ (m : Cursor) (x : Span) (t : Took 1 s c m word (x .start, spelled s x)) (l : x .start + x .size ≤ length s) where
-    behind-name : run s c parsePresetCall ≡ run s m (presetEnd (spanOf x))
-    unfolding parsePresetCall ident
-    behind-name = rw (t .is, spelled-length s x l) (assoc (run s m presetPairs) _ _)
-
-    pub preset-node : (b a : List ℕ) (out : ℕ) (y : NodeRead)
-        → EndMeans s b a m out (presetEnd (spanOf x)) y
-        → LeafMeans s b a c out parsePresetCall y
-    preset-node =
-        whole-node s parsePresetCall c m
-        (presetEnd (spanOf x))
-        (λ v u z. record { is = behind-name ∙ z .is; low = omega (arith, t .low, z .low); ready = z .ready })
-        (λ r q h. behind-name ∙ h)
-        (t .low)
+  pub preset-node : {b a : List ℕ} {out : ℕ} {y : NodeRead}
+      → EndMeans s b a m out (presetEnd (spanOf x)) y → LeafMeans s b a c out parsePresetCall y
+  preset-node =
+      whole-node parsePresetCall (presetEnd (spanOf x))
+      (λ v u z. record { is = behind-name ∙ z .is; low = omega (arith, t .low, z .low); ready = z .ready })
+      (λ r q h. behind-name ∙ h)
+      (t .low)

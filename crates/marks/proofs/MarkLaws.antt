@@ -24,32 +24,34 @@ use Rattle.cursor.specs.Word.{tallied}
 use Rattle.cursor.specs.Means.{run, tokens, Took, Numbers}
 use Rattle.cursor.specs.declared.Cursor.{Cursor}
 use Rattle.cursor.proofs.CursorLaws.{counted, took-number}
-use Rattle.arrays.specs.Means.{Went}
-use Rattle.node.specs.Means.{leafBytes}
+use Rattle.node.specs.Means.{LeafMeans}
+use Rattle.node.specs.declared.NodeRead.the-variants as node
 use Rattle.marks.specs.Means.{signs}
 use Rattle.token.specs.Token.{place}
 
 -- ---- label
 
-module _ (s : List ℕ) (c : Cursor) where
-  pub no-string : (q : ℕ) → run s c text ≡ refused Missing q → run s c parseLabel ≡ refused Missing q
+module _ {s b a : List ℕ} {c : Cursor} {out : ℕ} where
+  pub no-string : {q : ℕ} → run s c text ≡ refused Missing q → LeafMeans s b a c out parseLabel (node.Refused Missing q)
   unfolding parseLabel string
-  no-string q e = rw e
+  no-string e = record { by = rw e }
 
-  module _ (m : Cursor) (x : Span) (t : Took 1 s c m text (x .start, x .size)) where
-    pub no-semicolon : (q : ℕ) → run s m (theByte 59) ≡ refused Missing q → run s c parseLabel ≡ refused Missing q
+  module _ {m : Cursor} {x : Span} (t : Took 1 s c m text (x .start, x .size)) where
+    pub no-semicolon : {q : ℕ} → run s m (theByte 59) ≡ refused Missing q → LeafMeans s b a c out parseLabel (node.Refused Missing q)
     unfolding parseLabel string
-    no-semicolon q e = rw (t .is, e)
+    no-semicolon e = record { by = rw (t .is, e) }
 
-    pub label-went : {b a : List ℕ} {out q : ℕ} (n : Cursor) → Took 1 s m n (theByte 59) tt
+    pub label-went : {q : ℕ} {n : Cursor} → Took 1 s m n (theByte 59) tt
         → Writes b out (spanForm (length s) .write (spanOf x)) a q
-        → Went 1 s b a c n out q parseLabel (leafBytes (length s))
+        → LeafMeans s b a c out parseLabel (node.Is q n)
     unfolding parseLabel string
-    label-went n u w = record {
-      value = label (spanOf x);
-      took = record { is = rw (t .is, u .is); low = omega (arith, t .low, u .low); ready = u .ready };
-      writes = w;
-      paid = let r = w .place in let l = length-span (length s) (spanOf x) in omega (arith, t .low, u .low);
+    label-went u w = record {
+      by = record {
+        value = label (spanOf x);
+        took = record { is = rw (t .is, u .is); low = omega (arith, t .low, u .low); ready = u .ready };
+        writes = w;
+        paid = let r = w .place in let l = length-span (length s) (spanOf x) in omega (arith, t .low, u .low);
+      };
     }
 
 -- ---- at
@@ -63,22 +65,24 @@ module _ (s : List ℕ) (c m : Cursor) where
   unfolding atSign
   other-sign t n b u = record { is = rw (t .is, u .is); low = omega (arith, t .low, u .low); ready = u .ready }
 
-  module _ (p i : Bool) (t : Took 0 s c m atSign (signs p i)) where
-    pub no-value : (q : ℕ) → (seesNumber (tokens s m) ≡ absent) × (place (tokens s m) ≡ q) → run s c parseAt ≡ refused Malformed q
-    unfolding parseAt
-    no-value q e = rw (t .is, e .0, e .1)
+module _ {s b a : List ℕ} {c m : Cursor} {out : ℕ} {p i : Bool} (t : Took 0 s c m atSign (signs p i)) where
+  pub no-value : {q : ℕ} → (seesNumber (tokens s m) ≡ absent) × (place (tokens s m) ≡ q)
+      → LeafMeans s b a c out parseAt (node.Refused Malformed q)
+  unfolding parseAt
+  no-value e = record { by = rw (t .is, e .0, e .1) }
 
-    pub at-went : {b b₁ a : List ℕ} {out f q : ℕ} (g? : Bool) (k : Number) (e n : Cursor) (d y : Bool)
-        → Numbers s m g? k e → y ≡ numberRounded (turned i g?) (writtenIn s k) → Took 0 s (tallied y e) n (eatByte 59) d
-        → Writes b out (word .write (bits (nearest (cond i (not g?) g?) (writtenIn s k)))) b₁ f
-        → Writes b₁ f (flag .write p) a q
-        → Went 1 s b a c n out q parseAt (leafBytes (length s))
-    unfolding parseAt
-    at-went g? k e n d y v j u w z =
-        let r = took-number s m _ _ _ v Malformed in
-        let h = counted s e (v .ready) y in
-        let x = bits (nearest (cond i (not g?) g?) (writtenIn s k)) in
-        record {
+  pub at-went : {b₁ : List ℕ} {f q : ℕ} {g? : Bool} {k : Number} {e n : Cursor} {d y : Bool}
+      → Numbers s m g? k e → y ≡ numberRounded (turned i g?) (writtenIn s k) → Took 0 s (tallied y e) n (eatByte 59) d
+      → Writes b out (word .write (bits (nearest (cond i (not g?) g?) (writtenIn s k)))) b₁ f
+      → Writes b₁ f (flag .write p) a q
+      → LeafMeans s b a c out parseAt (node.Is q n)
+  unfolding parseAt
+  at-went {g? = g?} {k} {e} {y = y} v j u w z =
+      let r = took-number s m _ _ _ v Malformed in
+      let h = counted s e (v .ready) y in
+      let x = bits (nearest (cond i (not g?) g?) (writtenIn s k)) in
+      record {
+        by = record {
           value = at (record { value = x; relative = p });
           took = record {
             is = rw (t .is, r .is, sym j, rw (h .at, h .left, h .rounded) at (u .is));
@@ -90,4 +94,5 @@ module _ (s : List ℕ) (c m : Cursor) where
               let a3 = z .place in
               let l = length-word x in
               omega (arith, t .low, r .low, u .low, h .at);
-        }
+        };
+      }

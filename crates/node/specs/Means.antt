@@ -58,9 +58,13 @@ leafFields n (at x) = atForm .write x
 abbrev pub leafBytes : ℕ → Leaf Key → List ℕ
 leafBytes n l = leafFields n (mapLeaf stored l)
 
-abbrev pub LeafMeans : (s b a : List ℕ) → Cursor → ℕ → Rule (Leaf Key) → NodeRead → Type 0
-LeafMeans s b a c out p (node.Is q m) = Went 1 s b a c m out q p (leafBytes (length s))
-LeafMeans s b a c out p (node.Refused r q) = run s c p ≡ refused r q
+-- the leaf is taken and its fields are written, or it is refused
+abbrev pub LeafSays : (s b a : List ℕ) → Cursor → ℕ → Rule (Leaf Key) → NodeRead → Type 0
+LeafSays s b a c out p (node.Is q m) = Went 1 s b a c m out q p (leafBytes (length s))
+LeafSays s b a c out p (node.Refused r q) = run s c p ≡ refused r q
+
+pub record LeafMeans (s b a : List ℕ) (c : Cursor) (out : ℕ) (p : Rule (Leaf Key)) (r : NodeRead) : Type 0 where
+  pub by : LeafSays s b a c out p r
 
 -- ---- a record, and the end of a node
 
@@ -76,9 +80,12 @@ pub record EndWent (s b a : List ℕ) (c m : Cursor) (out q : ℕ) (p : Rule (Le
   pub writes : Writes b out (leafBytes (length s) value) a q
   pub paid : q ≤ out + 64 + 64 * (atOf m - atOf c)
 
-abbrev pub EndMeans : (s b a : List ℕ) → Cursor → ℕ → Rule (Leaf Key) → NodeRead → Type 0
-EndMeans s b a c out p (node.Is q m) = EndWent s b a c m out q p
-EndMeans s b a c out p (node.Refused r q) = run s c p ≡ refused r q
+abbrev pub EndSays : (s b a : List ℕ) → Cursor → ℕ → Rule (Leaf Key) → NodeRead → Type 0
+EndSays s b a c out p (node.Is q m) = EndWent s b a c m out q p
+EndSays s b a c out p (node.Refused r q) = run s c p ≡ refused r q
+
+pub record EndMeans (s b a : List ℕ) (c : Cursor) (out : ℕ) (p : Rule (Leaf Key)) (r : NodeRead) : Type 0 where
+  pub by : EndSays s b a c out p r
 
 -- fields with a duration, which must be there
 abbrev pub timedEnd : Table → (Fields → ℕ → Leaf Key) → Rule (Leaf Key)

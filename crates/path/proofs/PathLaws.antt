@@ -16,31 +16,32 @@ use Rattle.cursor.specs.declared.Cursor.{Cursor}
 use Rattle.values.proofs.EasingLaws.{spelled-length}
 use Rattle.node.specs.Means.{LeafMeans, EndMeans}
 use Rattle.node.specs.declared.NodeRead.{NodeRead}
+use Rattle.node.specs.declared.NodeRead.the-variants as node
 use Rattle.path.specs.Means.{pathEnd}
 use Rattle.node.proofs.EndLaws.{whole-node}
 
-module _ (s : List ℕ) (c : Cursor) where
-  pub path-no-target : (q : ℕ) → run s c word ≡ refused Missing q → run s c parsePath ≡ refused Missing q
+module _ {s b a : List ℕ} {c : Cursor} {out : ℕ} where
+  pub no-target : {q : ℕ} → run s c word ≡ refused Missing q → LeafMeans s b a c out parsePath (node.Refused Missing q)
   unfolding parsePath ident
-  path-no-target q h = rw h
+  no-target h = record { by = rw h }
 
-  module _ (m : Cursor) (x : Span) (t : Took 1 s c m word (x .start, spelled s x)) where
-    pub path-not-along : (r : Refusal) (q : ℕ) → run s m (choice Malformed ("along" ∷ [])) ≡ refused r q → run s c parsePath ≡ refused r q
+  module _ {m : Cursor} (x : Span) (t : Took 1 s c m word (x .start, spelled s x)) where
+    pub not-along : {r : Refusal} {q : ℕ} → run s m (choice Malformed ("along" ∷ [])) ≡ refused r q
+        → LeafMeans s b a c out parsePath (node.Refused r q)
     unfolding parsePath ident
-    path-not-along r q h = rw (t .is, h)
+    not-along h = record { by = rw (t .is, h) }
 
-    module _ (l : x .start + x .size ≤ length s) (n : Cursor) (i : ℕ) (o : Took 1 s m n (choice Malformed ("along" ∷ [])) i) where
-      pub path-no-svg : (q : ℕ) → run s n text ≡ refused Missing q → run s c parsePath ≡ refused Missing q
+    module _ {n : Cursor} {i : ℕ} (o : Took 1 s m n (choice Malformed ("along" ∷ [])) i) where
+      pub no-svg : {q : ℕ} → run s n text ≡ refused Missing q → LeafMeans s b a c out parsePath (node.Refused Missing q)
       unfolding parsePath ident string
-      path-no-svg q h = rw (t .is, o .is, h)
+      no-svg h = record { by = rw (t .is, o .is, h) }
 
-      pub path-node : (e : Cursor) (y : Span) → Took 1 s n e text (y .start, y .size)
-          → (b a : List ℕ) (out : ℕ) (r : NodeRead)
-          → EndMeans s b a e out (pathEnd (spanOf x) (spanOf y)) r
+      pub path-node : x .start + x .size ≤ length s → {e : Cursor} {y : Span} → Took 1 s n e text (y .start, y .size)
+          → {r : NodeRead} → EndMeans s b a e out (pathEnd (spanOf x) (spanOf y)) r
           → LeafMeans s b a c out parsePath r
       unfolding parsePath ident string
-      path-node e y w =
-          whole-node s parsePath c e (pathEnd (spanOf x) (spanOf y))
+      path-node l {y = y} w =
+          whole-node parsePath (pathEnd (spanOf x) (spanOf y))
           (λ v u z.
           record {
             is = rw (t .is, o .is, w .is, spelled-length s x l, z .is);

@@ -22,14 +22,14 @@ use Rattle.grammar.specs.Grammar.{parseSpring, springFields}
 use Rattle.cursor.specs.Word.{atOf}
 use Rattle.cursor.specs.Means.{run}
 use Rattle.cursor.specs.declared.Cursor.{Cursor}
-use Rattle.arrays.specs.Means.{Went}
-use Rattle.node.specs.Means.{leafBytes}
 use Rattle.node.specs.CellMeans.{PlaceSays, ListTook}
 use Rattle.node.specs.declared.OptPlace.{OptPlace}
 use Rattle.node.specs.declared.OptPlace.the-variants as optPlace
 use Rattle.spring.specs.Means.{springCells}
 use Rattle.spring.specs.declared.SpringFields.{SpringFields}
-use Rattle.node.specs.Means.{Ends, theEnds, EndsWent}
+use Rattle.arrays.specs.Means.{Went}
+use Rattle.node.specs.Means.{LeafMeans, Ends, theEnds, EndsWent}
+use Rattle.node.specs.declared.NodeRead.the-variants as node
 use Rattle.spring.specs.Means.{Told, VelocityPut, PlainSpring, springBytes}
 use Rattle.node.proofs.EndsLaws.{flat-run, record-written, eight, word-most, case-most}
 
@@ -87,8 +87,9 @@ spring-run : (s : List ℕ) (c : Cursor) → run s c parseSpring ≡ after (run 
 unfolding parseSpring
 spring-run s c = flat-run springEnd s c
 
-pub spring-no-ends : (s : List ℕ) (c : Cursor) (r : Refusal) (q : ℕ) → run s c theEnds ≡ refused r q → run s c parseSpring ≡ refused r q
-spring-no-ends s c r q h = spring-run s c ∙ (rw h)
+pub spring-no-ends : {s b a : List ℕ} {c : Cursor} {out : ℕ} {r : Refusal} {q : ℕ} → run s c theEnds ≡ refused r q
+    → LeafMeans s b a c out parseSpring (node.Refused r q)
+spring-no-ends {s} {c = c} h = record { by = spring-run s c ∙ (rw h) }
 
 -- they have so many bytes at most, but for the velocity
 spring-most : (x : SpringFields) (v : Option ValueExpr) → length (springBytes x v) ≤ 34 + length (opt valueForm .write v)
@@ -111,8 +112,9 @@ spring-most x v =
     )
 
 module _ {s b a : List ℕ} {c m : Cursor} {out at : ℕ} (e : EndsWent s b a c m out at) where
-  pub spring-refused : {r : Refusal} {q : ℕ} → run s m (parseFieldList springFields []) ≡ refused r q → run s c parseSpring ≡ refused r q
-  spring-refused h = spring-run s c ∙ (rw (e .took .is, h))
+  pub spring-refused : {a′ : List ℕ} {r : Refusal} {q : ℕ} → run s m (parseFieldList springFields []) ≡ refused r q
+      → LeafMeans s b a′ c out parseSpring (node.Refused r q)
+  spring-refused h = record { by = spring-run s c ∙ (rw (e .took .is, h)) }
 
   module _ {u : Cursor} {f : SpringFields} (t : ListTook s m u (parseFieldList springFields []) (springCells f)) where
     pub spring-plain : PlainSpring f
@@ -130,37 +132,39 @@ module _ {s b a : List ℕ} {c m : Cursor} {out at : ℕ} (e : EndsWent s b a c 
 
     pub spring-went : {a′ : List ℕ} {q : ℕ}
         → ((lo hi : ℕ) (v : Option ValueExpr) → PlaceSays s lo hi (f .velocity) v → Writes a at (springBytes f v) a′ q)
-        → Went 1 s b a′ c u out q parseSpring (leafBytes (length s))
+        → LeafMeans s b a′ c out parseSpring (node.Is q u)
     spring-went {a′} {q} put =
         let stiffness = t .say .1 in
         let mass = stiffness .1 .1 in
         let epsilon = mass .1 .1 in
         let w = put (atOf m) (atOf u) (lastValue (t .fields)) velocity-said in
         record {
-          value = springLeaf (e .value) (t .fields);
-          took = record {
-            is = spring-run s c ∙ (rw (e .took .is, t .took .is));
-            low = omega (arith, e .took .low, t .took .low);
-            ready = t .took .ready;
+          by = record {
+            value = springLeaf (e .value) (t .fields);
+            took = record {
+              is = spring-run s c ∙ (rw (e .took .is, t .took .is));
+              low = omega (arith, e .took .low, t .took .low);
+              ready = t .took .ready;
+            };
+            writes = record-written
+                (spanForm (length s) .write (e .value .0))
+                (valueForm .write (e .value .1 .0))
+                (valueForm .write (e .value .1 .1))
+                _
+                (e .writes)
+                (rw (
+                  t .say .0,
+                  stiffness .0 .0,
+                  stiffness .1 .0 .0,
+                  mass .0 .0,
+                  epsilon .0 .0,
+                  epsilon .1 .0,
+                  epsilon .1 .1 .0 .0,
+                )
+                at w);
+            paid = let y = w .place in
+                let z = spring-most f (lastValue (t .fields)) in
+                let p = velocity-paid s (atOf m) (atOf u) (f .velocity) (lastValue (t .fields)) velocity-said in
+                omega (arith, e .paid, e .took .low, t .took .low);
           };
-          writes = record-written
-              (spanForm (length s) .write (e .value .0))
-              (valueForm .write (e .value .1 .0))
-              (valueForm .write (e .value .1 .1))
-              _
-              (e .writes)
-              (rw (
-                t .say .0,
-                stiffness .0 .0,
-                stiffness .1 .0 .0,
-                mass .0 .0,
-                epsilon .0 .0,
-                epsilon .1 .0,
-                epsilon .1 .1 .0 .0,
-              )
-              at w);
-          paid = let y = w .place in
-              let z = spring-most f (lastValue (t .fields)) in
-              let p = velocity-paid s (atOf m) (atOf u) (f .velocity) (lastValue (t .fields)) velocity-said in
-              omega (arith, e .paid, e .took .low, t .took .low);
         }

@@ -23,12 +23,11 @@ use Rattle.grammar.specs.Grammar.{parseTween, tweenFields}
 use Rattle.cursor.specs.Word.{atOf}
 use Rattle.cursor.specs.Means.{run}
 use Rattle.cursor.specs.declared.Cursor.{Cursor}
-use Rattle.arrays.specs.Means.{Went}
-use Rattle.node.specs.Means.{leafBytes}
 use Rattle.node.specs.CellMeans.{ListTook}
 use Rattle.tween.specs.Means.{tweenCells}
 use Rattle.tween.specs.declared.TweenFields.{TweenFields}
-use Rattle.node.specs.Means.{Ends, theEnds, EndsWent}
+use Rattle.node.specs.Means.{LeafMeans, Ends, theEnds, EndsWent}
+use Rattle.node.specs.declared.NodeRead.the-variants as node
 use Rattle.tween.specs.Means.{PlainTween, tweenBytes}
 use Rattle.node.proofs.EndsLaws.{flat-run, record-written, eight, word-most}
 
@@ -55,8 +54,9 @@ tween-run : (s : List ℕ) (c : Cursor) → run s c parseTween ≡ after (run s 
 unfolding parseTween
 tween-run s c = flat-run tweenEnd s c
 
-pub tween-no-ends : (s : List ℕ) (c : Cursor) (r : Refusal) (q : ℕ) → run s c theEnds ≡ refused r q → run s c parseTween ≡ refused r q
-tween-no-ends s c r q h = tween-run s c ∙ (rw h)
+pub tween-no-ends : {s b a : List ℕ} {c : Cursor} {out : ℕ} {r : Refusal} {q : ℕ} → run s c theEnds ≡ refused r q
+    → LeafMeans s b a c out parseTween (node.Refused r q)
+tween-no-ends {s} {c = c} h = record { by = tween-run s c ∙ (rw h) }
 
 -- its fields have so many bytes at most
 tween-most : (n : ℕ) (d : Float) (x : TweenFields) → length (tweenBytes n d x) ≤ 64
@@ -79,12 +79,15 @@ tween-most n d x =
     )
 
 module _ {s b a : List ℕ} {c m : Cursor} {out at : ℕ} (e : EndsWent s b a c m out at) where
-  pub tween-no-fields : {r : Refusal} {q : ℕ} → run s m (parseFieldList tweenFields []) ≡ refused r q → run s c parseTween ≡ refused r q
-  tween-no-fields h = tween-run s c ∙ (rw (e .took .is, h))
+  pub tween-no-fields : {a′ : List ℕ} {r : Refusal} {q : ℕ} → run s m (parseFieldList tweenFields []) ≡ refused r q
+      → LeafMeans s b a′ c out parseTween (node.Refused r q)
+  tween-no-fields h = record { by = tween-run s c ∙ (rw (e .took .is, h)) }
 
   module _ {u : Cursor} {f : TweenFields} (t : ListTook s m u (parseFieldList tweenFields []) (tweenCells f)) where
-    pub tween-untimed : f .duration ≡ optFloat.Absent → run s c parseTween ≡ refused MissingDuration (atOf u)
-    tween-untimed d = tween-run s c ∙ (rw (e .took .is, t .took .is, sym (t .say .0 .0), d, t .took .ready .head .place))
+    pub tween-untimed : {a′ : List ℕ} → f .duration ≡ optFloat.Absent
+        → LeafMeans s b a′ c out parseTween (node.Refused MissingDuration (atOf u))
+    tween-untimed d =
+        record { by = tween-run s c ∙ (rw (e .took .is, t .took .is, sym (t .say .0 .0), d, t .took .ready .head .place)) }
 
     module _ {x : Float} (d : f .duration ≡ optFloat.Present x) where
       pub tween-plain : PlainTween x f
@@ -94,26 +97,28 @@ module _ {s b a : List ℕ} {c m : Cursor} {out at : ℕ} (e : EndsWent s b a c 
           (subst PlainOptFloat d (t .say .0 .1), easing .0 .1, easing .1 .0 .1, scale .0 .1, scale .1 .1 .0 .1)
 
       pub tween-went : {a′ : List ℕ} {q : ℕ} → ((n : ℕ) → Writes a at (tweenBytes n x f) a′ q)
-          → Went 1 s b a′ c u out q parseTween (leafBytes (length s))
+          → LeafMeans s b a′ c out parseTween (node.Is q u)
       tween-went {a′} {q} w =
           let easing = t .say .1 in
           let scale = easing .1 .1 in
           let snap = scale .1 .1 in
           record {
-            value = tweenLeaf (e .value) (t .fields) (bits x);
-            took = record {
-              is = tween-run s c ∙ (rw (e .took .is, t .took .is, sym (t .say .0 .0), d));
-              low = omega (arith, e .took .low, t .took .low);
-              ready = t .took .ready;
+            by = record {
+              value = tweenLeaf (e .value) (t .fields) (bits x);
+              took = record {
+                is = tween-run s c ∙ (rw (e .took .is, t .took .is, sym (t .say .0 .0), d));
+                low = omega (arith, e .took .low, t .took .low);
+                ready = t .took .ready;
+              };
+              writes = record-written
+                  (spanForm (length s) .write (e .value .0))
+                  (valueForm .write (e .value .1 .0))
+                  (valueForm .write (e .value .1 .1))
+                  _
+                  (e .writes)
+                  (rw (easing .0 .0, easing .1 .0 .0, scale .0 .0, scale .1 .0, snap .0 .0, snap .1 .0, snap .1 .1 .0) at (w (length s)));
+              paid = let z = tween-most (length s) x f in
+                  let y = w (length s) .place in
+                  omega (arith, e .paid, e .took .low, t .took .low);
             };
-            writes = record-written
-                (spanForm (length s) .write (e .value .0))
-                (valueForm .write (e .value .1 .0))
-                (valueForm .write (e .value .1 .1))
-                _
-                (e .writes)
-                (rw (easing .0 .0, easing .1 .0 .0, scale .0 .0, scale .1 .0, snap .0 .0, snap .1 .0, snap .1 .1 .0) at (w (length s)));
-            paid = let z = tween-most (length s) x f in
-                let y = w (length s) .place in
-                omega (arith, e .paid, e .took .low, t .took .low);
           }

@@ -1,4 +1,4 @@
--- `kinds::color_end` meets its contract.
+-- `color::color_end` meets its contract.
 use Rattle.encode.specs.Of.{spanOf}
 use Rattle.grammar.specs.Grammar.{colorFields}
 use Rattle.color.specs.Means.{colorLeaf}
@@ -14,7 +14,7 @@ returns c =
     let args = at-color-fields .before .before .before .args in
     let h = rw (at-f .f .given .1) at (at-color-fields .color-fields .ensures) in
     rw (c .place .ensures)
-    (end-untimed (args .text .now) (args .c) colorFields (colorLeaf (spanOf (args .target)) (spanOf (args .from)) (spanOf (args .to))) h
+    (end-untimed colorFields (colorLeaf (spanOf (args .target)) (spanOf (args .from)) (spanOf (args .to))) h
     (h .say .0 .0) (c .before .enum-told .given .1))
 
 put-color-requires : tie.Need-put-color-requires
@@ -30,7 +30,7 @@ returns-2 : tie.Need-returns-2
 returns-2 c =
     let at-color-fields = c .before .before .before in
     let args = at-color-fields .before .before .before .args in
-    end-refused (args .text .now) (args .c) colorFields (colorLeaf (spanOf (args .target)) (spanOf (args .from)) (spanOf (args .to)))
+    end-refused colorFields (colorLeaf (spanOf (args .target)) (spanOf (args .from)) (spanOf (args .to)))
     (rw (c .before .r .given .1) at (at-color-fields .color-fields .ensures))
 
 returns-3 : tie.Need-returns-3
@@ -42,10 +42,7 @@ returns-3 c =
     let at-color-fields = at-f .before .before in
     let args = at-color-fields .before .before .before .args in
     let h = rw (at-f .f .given .1) at (at-color-fields .color-fields .ensures) in
-    end-went
-    (args .text .now)
-    (args .c)
-    colorFields
+    end-went colorFields
     (colorLeaf (spanOf (args .target)) (spanOf (args .from)) (spanOf (args .to)))
     h
     (h .say .0 .0)

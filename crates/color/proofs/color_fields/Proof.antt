@@ -1,4 +1,4 @@
--- `kind_steps::color_fields` meets its contract.
+-- `color::color_fields` meets its contract.
 use Rattle.words.specs.Lists.{listOf}
 use Rattle.node.proofs.StepLaws.{Gathering, gathering-start, list-refused, list-done, value-refused, list-more, list-moves}
 use Rattle.color.specs.Means.{colorCells}

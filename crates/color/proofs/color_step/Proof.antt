@@ -1,4 +1,4 @@
--- `kind_steps::color_step` meets its contract.
+-- `color::color_step` meets its contract.
 use Rattle.text.specs.Bytes.{at}
 use Rattle.node.proofs.StepLaws.{no-float, a-float, no-easing, an-easing, step-refused, a-case, last-row}
 use Rattle.values.proofs.NameLaws.{choice-below}

@@ -1,6 +1,6 @@
--- `kinds::color_strings` meets its contract.
+-- `color::color_strings` meets its contract.
 use native.Mathlib.Omega.{arith}
-use Rattle.color.proofs.ColorLaws.{no-color, no-color-arrow, no-color-to, strings-end}
+use Rattle.color.proofs.ColorLaws.{no-from, no-arrow, no-to, strings-end}
 use borrow.Author.Needs.{needs}
 use Rattle.color.proofs.color_strings.Statement.{statement}
 use Rattle.color.proofs.color_strings.Tie as tie
@@ -26,7 +26,7 @@ returns : tie.Need-returns
 returns c =
     let at-string = c .before .before .before in
     let args = at-string .before .before .before .args in
-    no-color (args .text .now) (args .c) (args .target) _ (rw (c .before .p .given .1) at (at-string .string .ensures))
+    no-from (args .target) (rw (c .before .p .given .1) at (at-string .string .ensures))
 
 returns-2 : tie.Need-returns-2
 returns-2 c =
@@ -34,7 +34,7 @@ returns-2 c =
     let at-from = at-both .before .before in
     let at-string = at-from .before .before in
     let args = at-string .before .before .before .args in
-    no-color-arrow (args .text .now) (args .c) _ _ ((rw (at-from .from .given .1) at (at-string .string .ensures)) .0) (args .target) _
+    no-arrow (args .target) ((rw (at-from .from .given .1) at (at-string .string .ensures)) .0)
     (rw (c .before .p2 .given .1) at (at-both .both .ensures))
 
 returns-3 : tie.Need-returns-3
@@ -45,16 +45,8 @@ returns-3 c =
     let at-from = at-both .before .before in
     let at-string = at-from .before .before in
     let args = at-string .before .before .before .args in
-    no-color-to
-    (args .text .now)
-    (args .c)
-    _ _
-    ((rw (at-from .from .given .1) at (at-string .string .ensures)) .0)
-    _
-    (rw (at-n .n .given .1) at (at-both .both .ensures))
-    (args .target)
-    _
-    (rw (c .before .p3 .given .1) at (at-string2 .string2 .ensures))
+    no-to (args .target) ((rw (at-from .from .given .1) at (at-string .string .ensures)) .0)
+    (rw (at-n .n .given .1) at (at-both .both .ensures)) (rw (c .before .p3 .given .1) at (at-string2 .string2 .ensures))
 
 returns-4 : tie.Need-returns-4
 returns-4 c =
@@ -66,18 +58,8 @@ returns-4 c =
     let at-from = at-both .before .before in
     let at-string = at-from .before .before in
     let args = at-string .before .before .before .args in
-    strings-end
-    (args .text .now)
-    (args .c)
-    _ _
-    ((rw (at-from .from .given .1) at (at-string .string .ensures)) .0)
-    _
-    (rw (at-n .n .given .1) at (at-both .both .ensures))
-    _ _
-    ((rw (at-to .to .given .1) at (at-string2 .string2 .ensures)) .0)
-    _ _ _
-    (at-color-end .color-end .result)
-    (args .target)
+    strings-end (args .target) ((rw (at-from .from .given .1) at (at-string .string .ensures)) .0)
+    (rw (at-n .n .given .1) at (at-both .both .ensures)) ((rw (at-to .to .given .1) at (at-string2 .string2 .ensures)) .0)
     (at-color-end .color-end .ensures)
 
 pub color-strings-spec : {M : Type 1} → statement M

@@ -1,4 +1,4 @@
--- `kinds::draw_end` meets its contract.
+-- `draw::draw_end` meets its contract.
 use mathlib.Core.List.{[]}
 use mathlib.Core.Path.{refl}
 use Rattle.encode.specs.Of.{spanOf}
@@ -27,7 +27,7 @@ returns c =
     at (listed at-draw-fields)
     in
     rw (c .place .ensures)
-    (end-untimed (args .text .now) (args .c) drawFields (drawLeaf (spanOf (args .svg))) h (h .say .0 .0) (c .before .enum-told .given .1))
+    (end-untimed drawFields (drawLeaf (spanOf (args .svg))) h (h .say .0 .0) (c .before .enum-told .given .1))
 
 put-draw-requires : tie.Need-put-draw-requires
 put-draw-requires c κs =
@@ -44,7 +44,7 @@ returns-2 : tie.Need-returns-2
 returns-2 c =
     let at-draw-fields = c .before .before .before in
     let args = at-draw-fields .before .before .before .before .args in
-    end-refused (args .text .now) (args .c) drawFields (drawLeaf (spanOf (args .svg)))
+    end-refused drawFields (drawLeaf (spanOf (args .svg)))
     (rw (c .before .r .given .1)
     at (listed at-draw-fields))
 
@@ -58,10 +58,7 @@ returns-3 c =
     let h = rw (at-f .f .given .1)
     at (listed at-draw-fields)
     in
-    end-went
-    (args .text .now)
-    (args .c)
-    drawFields
+    end-went drawFields
     (drawLeaf (spanOf (args .svg)))
     h
     (h .say .0 .0)

@@ -1,4 +1,4 @@
--- `kind_steps::draw_pairs` meets its contract.
+-- `draw::draw_pairs` meets its contract.
 use Rattle.text.specs.Bytes.{same}
 use Rattle.text.specs.Words.{find}
 use Rattle.token.specs.Names.{isKeyword}

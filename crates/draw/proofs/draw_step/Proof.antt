@@ -1,4 +1,4 @@
--- `kind_steps::draw_step` meets its contract.
+-- `draw::draw_step` meets its contract.
 use Rattle.node.proofs.StepLaws.{no-float, a-float, no-easing, an-easing, last-row}
 use mathlib.Core.Path.{refl}
 use Rattle.text.specs.Bytes.{same}

@@ -1,4 +1,4 @@
--- `kinds::parse_draw` meets its contract.
+-- `draw::parse_draw` meets its contract.
 use Rattle.draw.proofs.DrawLaws.{no-svg, draw-node}
 use borrow.Author.Needs.{needs}
 use Rattle.draw.proofs.parse_draw.Statement.{statement}
@@ -12,19 +12,14 @@ draw-end-requires c κs =
     ((rw (at-svg .svg .given .1) at (at-string .string .ensures)) .0 .ready, start .pre .1)
 
 returns : tie.Need-returns
-returns c =
-    let at-string = c .before .before .before in
-    let args = at-string .before .before .before .args in
-    no-svg (args .text .now) (args .c) _ (rw (c .before .p .given .1) at (at-string .string .ensures))
+returns c = no-svg (rw (c .before .p .given .1) at (c .before .before .before .string .ensures))
 
 returns-2 : tie.Need-returns-2
 returns-2 c =
     let at-draw-end = c .before .before in
     let at-svg = at-draw-end .before .before .before in
     let at-string = at-svg .before .before in
-    let args = at-string .before .before .before .args in
-    draw-node (args .text .now) (args .c) _ _ ((rw (at-svg .svg .given .1) at (at-string .string .ensures)) .0) _ _ _
-    (at-draw-end .draw-end .result) (at-draw-end .draw-end .ensures)
+    draw-node ((rw (at-svg .svg .given .1) at (at-string .string .ensures)) .0) (at-draw-end .draw-end .ensures)
 
 pub parse-draw-spec : {M : Type 1} → statement M
 parse-draw-spec =

@@ -1,4 +1,4 @@
--- `kinds::parse_preset_call` meets its contract.
+-- `draw::parse_preset_call` meets its contract.
 use Rattle.draw.proofs.PresetLaws.{no-preset, preset-node}
 use borrow.Author.Needs.{needs}
 use Rattle.draw.proofs.parse_preset_call.Statement.{statement}
@@ -12,28 +12,15 @@ preset-end-requires c κs =
     ((rw (at-name .name .given .1) at (at-word .word .ensures)) .0 .ready, start .pre .1)
 
 returns : tie.Need-returns
-returns c =
-    let at-word = c .before .before .before in
-    let args = at-word .before .before .before .args in
-    no-preset (args .text .now) (args .c) _ (rw (c .before .p .given .1) at (at-word .word .ensures))
+returns c = no-preset (rw (c .before .p .given .1) at (c .before .before .before .word .ensures))
 
 returns-2 : tie.Need-returns-2
 returns-2 c =
     let at-preset-end = c .before .before in
     let at-name = at-preset-end .before .before .before in
     let at-word = at-name .before .before in
-    let args = at-word .before .before .before .args in
     let w = rw (at-name .name .given .1) at (at-word .word .ensures) in
-    preset-node
-    (args .text .now)
-    (args .c)
-    _
-    (at-name .name .given .0 .0)
-    (w .0)
-    (w .1)
-    _ _ _
-    (at-preset-end .preset-end .result)
-    (at-preset-end .preset-end .ensures)
+    preset-node (at-name .name .given .0 .0) (w .0) (w .1) (at-preset-end .preset-end .ensures)
 
 pub parse-preset-call-spec : {M : Type 1} → statement M
 parse-preset-call-spec =

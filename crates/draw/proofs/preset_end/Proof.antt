@@ -1,4 +1,4 @@
--- `kinds::preset_end` meets its contract.
+-- `draw::preset_end` meets its contract.
 use Rattle.encode.specs.Of.{spanOf}
 use Rattle.draw.specs.Means.{presetLeaf, presetFields}
 use Rattle.node.proofs.EndLaws.{free-refused, free-went}
@@ -17,7 +17,7 @@ returns : tie.Need-returns
 returns c =
     let at-preset-fields = c .before .before .before in
     let args = at-preset-fields .before .before .before .args in
-    free-refused (args .text .now) (args .c) presetFields (presetLeaf (spanOf (args .name)))
+    free-refused presetFields (presetLeaf (spanOf (args .name)))
     (rw (c .before .r .given .1) at (at-preset-fields .preset-fields .ensures))
 
 returns-2 : tie.Need-returns-2
@@ -27,7 +27,7 @@ returns-2 c =
     let at-preset-fields = at-f .before .before in
     let args = at-preset-fields .before .before .before .args in
     let h = rw (at-f .f .given .1) at (at-preset-fields .preset-fields .ensures) in
-    free-went (args .text .now) (args .c) presetFields (presetLeaf (spanOf (args .name))) h _ (rw (h .say .0 .0, h .say .1 .0 .0))
+    free-went presetFields (presetLeaf (spanOf (args .name))) h _ (rw (h .say .0 .0, h .say .1 .0 .0))
     (at-put-preset .put-preset .ensures)
 
 pub preset-end-spec : {M : Type 1} → statement M

@@ -1,4 +1,4 @@
--- `kinds::preset_fields` meets its contract.
+-- `draw::preset_fields` meets its contract.
 use mathlib.Core.Path.{sym, _∙_}
 use borrow.Author.Tests.{not-false, not-true}
 use Rattle.draw.proofs.PresetLaws.{no-comma, list-end, all-refused}

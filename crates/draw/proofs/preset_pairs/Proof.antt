@@ -1,4 +1,4 @@
--- `kinds::preset_pairs` meets its contract.
+-- `draw::preset_pairs` meets its contract.
 use mathlib.Core.Path.{sym, _∙_}
 use borrow.Author.Tests.{not-false, not-true}
 use Rattle.draw.proofs.PresetLaws.{no-pairs, pairs-refused, pairs-taken}

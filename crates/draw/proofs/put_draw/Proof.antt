@@ -1,4 +1,4 @@
--- `write::put_draw` meets its contract.
+-- `draw::put_draw` meets its contract.
 use native.Mathlib.Omega.{arith}
 use Rattle.number.specs.Number.{bits}
 use Rattle.encode.specs.Of.{spanOf, optEasingOf}

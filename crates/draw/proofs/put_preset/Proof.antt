@@ -1,4 +1,4 @@
--- `write::put_preset` meets its contract.
+-- `draw::put_preset` meets its contract.
 use native.Mathlib.Omega.{arith}
 use Rattle.encode.specs.Of.{spanOf, optFloatOf, optEasingOf}
 use Rattle.encode.proofs.OverLaws.{writes-then}

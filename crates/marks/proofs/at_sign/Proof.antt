@@ -1,4 +1,4 @@
--- `nodes::at_sign` meets its contract.
+-- `marks::at_sign` meets its contract.
 use Rattle.text.specs.Bytes.{at}
 use Rattle.marks.proofs.MarkLaws.{other-sign, plus-sign}
 use borrow.Author.Needs.{needs}

@@ -1,4 +1,4 @@
--- `nodes::parse_at` meets its contract.
+-- `marks::parse_at` meets its contract.
 use native.Mathlib.Omega.{arith}
 use Rattle.text.specs.Bytes.{at}
 use Rattle.marks.proofs.MarkLaws.{at-went, no-value}
@@ -55,7 +55,7 @@ returns : tie.Need-returns
 returns c =
     let at-number = c .before .before .before in
     let at-at-sign = at-number .before .before in
-    no-value _ _ _ _ _ (at-at-sign .at-sign .ensures) _ (rw (c .before .p .given .1) at (at-number .number .ensures))
+    no-value (at-at-sign .at-sign .ensures) (rw (c .before .p .given .1) at (at-number .number .ensures))
 
 returns-2 : tie.Need-returns-2
 returns-2 c =
@@ -69,9 +69,8 @@ returns-2 c =
     let at-number = at-negative .before .before in
     let at-at-sign = at-number .before .before in
     let x = rw (at-turned .turned .ensures) at (at-float-of .float-of .ensures) in
-    at-went _ _ _ _ _
+    at-went
     (at-at-sign .at-sign .ensures)
-    _ _ _ _ _ _
     (rw (at-negative .negative .given .1) at (at-number .number .ensures))
     (x .1)
     (rw (at-count .count .ensures) at (at-eat .eat .ensures))

@@ -1,4 +1,4 @@
--- `nodes::parse_label` meets its contract.
+-- `marks::parse_label` meets its contract.
 use native.Mathlib.Omega.{arith}
 use Rattle.text.specs.Bytes.{at}
 use Rattle.marks.proofs.MarkLaws.{label-went, no-semicolon, no-string}
@@ -11,18 +11,14 @@ mark-requires : tie.Need-mark-requires
 mark-requires c κs = ((rw (c .before .s .given .1) at (c .before .before .before .string .ensures)) .0 .ready, omega arith)
 
 returns : tie.Need-returns
-returns c =
-    let at-string = c .before .before .before in
-    let args = at-string .before .before .before .args in
-    no-string (args .text .now) (args .c) _ (rw (c .before .p .given .1) at (at-string .string .ensures))
+returns c = no-string (rw (c .before .p .given .1) at (c .before .before .before .string .ensures))
 
 returns-2 : tie.Need-returns-2
 returns-2 c =
     let at-mark = c .before .before .before in
     let at-s = at-mark .before .before in
     let at-string = at-s .before .before in
-    no-semicolon _ _ _ _ ((rw (at-s .s .given .1) at (at-string .string .ensures)) .0) _
-    (rw (c .before .p2 .given .1) at (at-mark .mark .ensures))
+    no-semicolon ((rw (at-s .s .given .1) at (at-string .string .ensures)) .0) (rw (c .before .p2 .given .1) at (at-mark .mark .ensures))
 
 returns-3 : tie.Need-returns-3
 returns-3 c =
@@ -32,7 +28,7 @@ returns-3 c =
     let at-s = at-mark .before .before in
     let at-string = at-s .before .before in
     let start = at-string .before .before .before in
-    label-went _ _ _ _ ((rw (at-s .s .given .1) at (at-string .string .ensures)) .0) _ (rw (at-n .n .given .1) at (at-mark .mark .ensures))
+    label-went ((rw (at-s .s .given .1) at (at-string .string .ensures)) .0) (rw (at-n .n .given .1) at (at-mark .mark .ensures))
     (at-put-span .put-span .ensures (length (start .args .text .now)))
 
 pub parse-label-spec : {M : Type 1} → statement M

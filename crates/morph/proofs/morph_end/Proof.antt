@@ -1,4 +1,4 @@
--- `kinds::morph_end` meets its contract.
+-- `morph::morph_end` meets its contract.
 use Rattle.encode.specs.Of.{spanOf}
 use Rattle.grammar.specs.Grammar.{morphFields}
 use Rattle.morph.specs.Means.{morphLeaf}
@@ -14,7 +14,7 @@ returns c =
     let args = at-morph-fields .before .before .before .args in
     let h = rw (at-f .f .given .1) at (at-morph-fields .morph-fields .ensures) in
     rw (c .place .ensures)
-    (end-untimed (args .text .now) (args .c) morphFields (morphLeaf (spanOf (args .from)) (spanOf (args .to))) h (h .say .1 .0 .0)
+    (end-untimed morphFields (morphLeaf (spanOf (args .from)) (spanOf (args .to))) h (h .say .1 .0 .0)
     (c .before .enum-told .given .1))
 
 put-morph-requires : tie.Need-put-morph-requires
@@ -30,7 +30,7 @@ returns-2 : tie.Need-returns-2
 returns-2 c =
     let at-morph-fields = c .before .before .before in
     let args = at-morph-fields .before .before .before .args in
-    end-refused (args .text .now) (args .c) morphFields (morphLeaf (spanOf (args .from)) (spanOf (args .to)))
+    end-refused morphFields (morphLeaf (spanOf (args .from)) (spanOf (args .to)))
     (rw (c .before .r .given .1) at (at-morph-fields .morph-fields .ensures))
 
 returns-3 : tie.Need-returns-3
@@ -42,10 +42,7 @@ returns-3 c =
     let at-morph-fields = at-f .before .before in
     let args = at-morph-fields .before .before .before .args in
     let h = rw (at-f .f .given .1) at (at-morph-fields .morph-fields .ensures) in
-    end-went
-    (args .text .now)
-    (args .c)
-    morphFields
+    end-went morphFields
     (morphLeaf (spanOf (args .from)) (spanOf (args .to)))
     h
     (h .say .1 .0 .0)

@@ -1,4 +1,4 @@
--- `kind_steps::morph_fields` meets its contract.
+-- `morph::morph_fields` meets its contract.
 use Rattle.words.specs.Lists.{listOf}
 use Rattle.node.proofs.StepLaws.{Gathering, gathering-start, list-refused, list-done, value-refused, list-more, list-moves}
 use Rattle.morph.specs.Means.{morphCells}

@@ -1,4 +1,4 @@
--- `kind_steps::morph_step` meets its contract.
+-- `morph::morph_step` meets its contract.
 use Rattle.node.proofs.StepLaws.{no-float, a-float, no-easing, an-easing, no-whole, a-whole, last-row}
 use mathlib.Core.Path.{refl}
 use Rattle.text.specs.Bytes.{same}

@@ -1,4 +1,4 @@
--- `kinds::parse_morph` meets its contract.
+-- `morph::parse_morph` meets its contract.
 use native.Mathlib.Omega.{arith}
 use Rattle.morph.proofs.MorphLaws.{no-from, no-arrow, no-to, morph-node}
 use borrow.Author.Needs.{needs}
@@ -23,19 +23,14 @@ morph-end-requires c κs =
     ((rw (at-to .to .given .1) at (at-string2 .string2 .ensures)) .0 .ready, start .pre .1)
 
 returns : tie.Need-returns
-returns c =
-    let at-string = c .before .before .before in
-    let args = at-string .before .before .before .args in
-    no-from (args .text .now) (args .c) _ (rw (c .before .p .given .1) at (at-string .string .ensures))
+returns c = no-from (rw (c .before .p .given .1) at (c .before .before .before .string .ensures))
 
 returns-2 : tie.Need-returns-2
 returns-2 c =
     let at-both = c .before .before .before in
     let at-from = at-both .before .before in
     let at-string = at-from .before .before in
-    let args = at-string .before .before .before .args in
-    no-arrow (args .text .now) (args .c) _ _ ((rw (at-from .from .given .1) at (at-string .string .ensures)) .0) _
-    (rw (c .before .p2 .given .1) at (at-both .both .ensures))
+    no-arrow ((rw (at-from .from .given .1) at (at-string .string .ensures)) .0) (rw (c .before .p2 .given .1) at (at-both .both .ensures))
 
 returns-3 : tie.Need-returns-3
 returns-3 c =
@@ -44,9 +39,8 @@ returns-3 c =
     let at-both = at-n .before .before in
     let at-from = at-both .before .before in
     let at-string = at-from .before .before in
-    let args = at-string .before .before .before .args in
-    no-to (args .text .now) (args .c) _ _ ((rw (at-from .from .given .1) at (at-string .string .ensures)) .0) _
-    (rw (at-n .n .given .1) at (at-both .both .ensures)) _ (rw (c .before .p3 .given .1) at (at-string2 .string2 .ensures))
+    no-to ((rw (at-from .from .given .1) at (at-string .string .ensures)) .0) (rw (at-n .n .given .1) at (at-both .both .ensures))
+    (rw (c .before .p3 .given .1) at (at-string2 .string2 .ensures))
 
 returns-4 : tie.Need-returns-4
 returns-4 c =
@@ -57,19 +51,8 @@ returns-4 c =
     let at-both = at-n .before .before in
     let at-from = at-both .before .before in
     let at-string = at-from .before .before in
-    let args = at-string .before .before .before .args in
-    morph-node
-    (args .text .now)
-    (args .c)
-    _ _
-    ((rw (at-from .from .given .1) at (at-string .string .ensures)) .0)
-    _
-    (rw (at-n .n .given .1) at (at-both .both .ensures))
-    _ _
-    ((rw (at-to .to .given .1) at (at-string2 .string2 .ensures)) .0)
-    _ _ _
-    (at-morph-end .morph-end .result)
-    (at-morph-end .morph-end .ensures)
+    morph-node ((rw (at-from .from .given .1) at (at-string .string .ensures)) .0) (rw (at-n .n .given .1) at (at-both .both .ensures))
+    ((rw (at-to .to .given .1) at (at-string2 .string2 .ensures)) .0) (at-morph-end .morph-end .ensures)
 
 pub parse-morph-spec : {M : Type 1} → statement M
 parse-morph-spec =

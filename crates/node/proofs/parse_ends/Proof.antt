@@ -1,4 +1,4 @@
--- `tweens::parse_ends` meets its contract.
+-- `node::parse_ends` meets its contract.
 use native.Mathlib.Omega.{arith}
 use Rattle.node.proofs.EndsLaws.{ends-behind, no-ends}
 use lib.ListN.{length}

@@ -1,4 +1,4 @@
--- `tweens::target_mark` meets its contract.
+-- `node::target_mark` meets its contract.
 use native.Mathlib.Omega.{arith}
 use Rattle.node.proofs.EndsLaws.{no-colon, no-target, target-took}
 use borrow.Author.Needs.{needs}

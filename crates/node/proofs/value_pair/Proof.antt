@@ -1,4 +1,4 @@
--- `tweens::value_pair` meets its contract.
+-- `node::value_pair` meets its contract.
 use native.Mathlib.Omega.{arith}
 use Rattle.node.proofs.EndsLaws.{no-arrow, no-from, pair-behind}
 use borrow.Author.Needs.{needs}

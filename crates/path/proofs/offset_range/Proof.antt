@@ -1,4 +1,4 @@
--- `kind_steps::offset_range` meets its contract.
+-- `path::offset_range` meets its contract.
 use native.Mathlib.Omega.{arith}
 use Rattle.path.proofs.OffsetLaws.{no-start, no-points, no-end, range-taken}
 use borrow.Author.Needs.{needs}

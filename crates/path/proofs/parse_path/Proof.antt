@@ -1,4 +1,4 @@
--- `kinds::parse_path` meets its contract.
+-- `path::parse_path` meets its contract.
 use Rattle.text.specs.Bytes.{at}
 use mathlib.Core.Path.{refl}
 use Rattle.text.specs.Bytes.{same}
@@ -6,7 +6,7 @@ use Rattle.text.specs.Words.{find}
 use Rattle.token.specs.Names.{isKeyword}
 use Rattle.words.specs.Lists.{listOf}
 use Rattle.cursor.specs.Means.{noKeywords}
-use Rattle.path.proofs.PathLaws.{path-no-target, path-not-along, path-no-svg, path-node}
+use Rattle.path.proofs.PathLaws.{no-target, not-along, no-svg, path-node}
 use borrow.Author.Needs.{needs}
 use Rattle.path.proofs.parse_path.Statement.{statement}
 use Rattle.path.proofs.parse_path.Tie as tie
@@ -28,10 +28,7 @@ path-end-requires c κs =
     ((rw (at-svg .svg .given .1) at (at-string .string .ensures)) .0 .ready, start .pre .1)
 
 returns : tie.Need-returns
-returns c =
-    let at-word = c .before .before .before in
-    let args = at-word .before .before .before .args in
-    path-no-target (args .text .now) (args .c) _ (rw (c .before .p .given .1) at (at-word .word .ensures))
+returns c = no-target (rw (c .before .p .given .1) at (c .before .before .before .word .ensures))
 
 returns-2 : tie.Need-returns-2
 unfolding listOf
@@ -39,9 +36,8 @@ returns-2 c =
     let at-choice = c .before .before .before in
     let at-target = at-choice .before .before in
     let at-word = at-target .before .before in
-    let args = at-word .before .before .before .args in
-    path-not-along (args .text .now) (args .c) _ (at-target .target .given .0 .0)
-    ((rw (at-target .target .given .1) at (at-word .word .ensures)) .0) _ _ (rw (c .before .r .given .1) at (at-choice .choice .ensures))
+    not-along (at-target .target .given .0 .0) ((rw (at-target .target .given .1) at (at-word .word .ensures)) .0)
+    (rw (c .before .r .given .1) at (at-choice .choice .ensures))
 
 returns-3 : tie.Need-returns-3
 unfolding listOf
@@ -51,18 +47,8 @@ returns-3 c =
     let at-choice = at-n .before .before in
     let at-target = at-choice .before .before in
     let at-word = at-target .before .before in
-    let args = at-word .before .before .before .args in
-    let w = rw (at-target .target .given .1) at (at-word .word .ensures) in
-    path-no-svg
-    (args .text .now)
-    (args .c)
-    _ _
-    (w .0)
-    (w .1)
-    _ _
-    (rw (at-n .n .given .1) at (at-choice .choice .ensures))
-    _
-    (rw (c .before .p2 .given .1) at (at-string .string .ensures))
+    no-svg (at-target .target .given .0 .0) ((rw (at-target .target .given .1) at (at-word .word .ensures)) .0)
+    (rw (at-n .n .given .1) at (at-choice .choice .ensures)) (rw (c .before .p2 .given .1) at (at-string .string .ensures))
 
 returns-4 : tie.Need-returns-4
 unfolding listOf
@@ -74,21 +60,9 @@ returns-4 c =
     let at-choice = at-n .before .before in
     let at-target = at-choice .before .before in
     let at-word = at-target .before .before in
-    let args = at-word .before .before .before .args in
     let w = rw (at-target .target .given .1) at (at-word .word .ensures) in
-    path-node
-    (args .text .now)
-    (args .c)
-    _ _
-    (w .0)
-    (w .1)
-    _ _
-    (rw (at-n .n .given .1) at (at-choice .choice .ensures))
-    _ _
-    ((rw (at-svg .svg .given .1) at (at-string .string .ensures)) .0)
-    _ _ _
-    (at-path-end .path-end .result)
-    (at-path-end .path-end .ensures)
+    path-node (at-target .target .given .0 .0) (w .0) (rw (at-n .n .given .1) at (at-choice .choice .ensures)) (w .1)
+    ((rw (at-svg .svg .given .1) at (at-string .string .ensures)) .0) (at-path-end .path-end .ensures)
 
 pub parse-path-spec : {M : Type 1} → statement M
 parse-path-spec =

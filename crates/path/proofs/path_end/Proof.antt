@@ -1,4 +1,4 @@
--- `kinds::path_end` meets its contract.
+-- `path::path_end` meets its contract.
 use Rattle.encode.specs.Of.{spanOf}
 use Rattle.grammar.specs.Grammar.{pathFields}
 use Rattle.path.specs.Means.{pathLeaf}
@@ -14,7 +14,7 @@ returns c =
     let args = at-path-fields .before .before .before .args in
     let h = rw (at-f .f .given .1) at (at-path-fields .path-fields .ensures) in
     rw (c .place .ensures)
-    (end-untimed (args .text .now) (args .c) pathFields (pathLeaf (spanOf (args .target)) (spanOf (args .svg))) h (h .say .0 .0)
+    (end-untimed pathFields (pathLeaf (spanOf (args .target)) (spanOf (args .svg))) h (h .say .0 .0)
     (c .before .enum-told .given .1))
 
 put-path-requires : tie.Need-put-path-requires
@@ -30,7 +30,7 @@ returns-2 : tie.Need-returns-2
 returns-2 c =
     let at-path-fields = c .before .before .before in
     let args = at-path-fields .before .before .before .args in
-    end-refused (args .text .now) (args .c) pathFields (pathLeaf (spanOf (args .target)) (spanOf (args .svg)))
+    end-refused pathFields (pathLeaf (spanOf (args .target)) (spanOf (args .svg)))
     (rw (c .before .r .given .1) at (at-path-fields .path-fields .ensures))
 
 returns-3 : tie.Need-returns-3
@@ -41,10 +41,7 @@ returns-3 c =
     let at-path-fields = at-f .before .before in
     let args = at-path-fields .before .before .before .args in
     let h = rw (at-f .f .given .1) at (at-path-fields .path-fields .ensures) in
-    end-went
-    (args .text .now)
-    (args .c)
-    pathFields
+    end-went pathFields
     (pathLeaf (spanOf (args .target)) (spanOf (args .svg)))
     h
     (h .say .0 .0)

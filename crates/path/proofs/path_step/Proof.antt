@@ -1,4 +1,4 @@
--- `kind_steps::path_step` meets its contract.
+-- `path::path_step` meets its contract.
 use Rattle.node.proofs.StepLaws.{no-float, a-float, no-easing, an-easing, no-loop, a-loop}
 use Rattle.node.proofs.StepLaws.{no-truth, a-truth, row-refused, a-range, last-row}
 use mathlib.Core.Path.{refl}

@@ -1,4 +1,4 @@
--- `write::put_path` meets its contract.
+-- `path::put_path` meets its contract.
 use native.Mathlib.Omega.{arith}
 use Rattle.number.specs.Number.{bits}
 use Rattle.encode.specs.Of.{spanOf, optBoolOf, optRangeOf, optEasingOf, optLoopOf}

@@ -1,4 +1,4 @@
--- `spring_step::damping_step` meets its contract.
+-- `spring::damping_step` meets its contract.
 use Rattle.node.proofs.StepLaws.{step-refused, a-damping}
 use mathlib.Core.Path.{refl}
 use Prim.Native.Nat.{ℕ}

@@ -1,4 +1,4 @@
--- `tweens::parse_spring` meets its contract.
+-- `spring::parse_spring` meets its contract.
 use Rattle.spring.proofs.SpringLaws.{spring-no-ends, spring-plain, spring-refused, spring-told, spring-went}
 use Rattle.node.proofs.EndsLaws.{ends-room}
 use native.Mathlib.Omega.{arith}
@@ -28,8 +28,7 @@ returns : tie.Need-returns
 returns c =
     let at-r = c .before in
     let at-parse-ends = at-r .before .before .before .before in
-    let args = at-parse-ends .before .before .before .before .args in
-    spring-no-ends (args .text .now) (args .c) _ _ (rw (at-r .r .given .1) at (at-parse-ends .parse-ends .ensures))
+    spring-no-ends (rw (at-r .r .given .1) at (at-parse-ends .parse-ends .ensures))
 
 returns-2 : tie.Need-returns-2
 returns-2 c =

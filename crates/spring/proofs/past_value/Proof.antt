@@ -1,4 +1,4 @@
--- `spring_step::past_value` meets its contract.
+-- `spring::past_value` meets its contract.
 use native.Mathlib.Omega.{arith}
 use borrow.Author.Needs.{needs}
 use Rattle.spring.proofs.past_value.Statement.{statement}

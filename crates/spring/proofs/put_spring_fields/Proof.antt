@@ -1,4 +1,4 @@
--- `tweens::put_spring_fields` meets its contract.
+-- `spring::put_spring_fields` meets its contract.
 use Prim.Native.Nat.{_+_, _<_, _^_}
 use native.Mathlib.Omega.{arith}
 use Rattle.node.proofs.EndsLaws.{case-most, word-most}

@@ -1,4 +1,4 @@
--- `tweens::put_velocity` meets its contract.
+-- `spring::put_velocity` meets its contract.
 use native.Mathlib.Omega.{arith}
 use Rattle.spring.proofs.SpringLaws.{velocity-absent, velocity-present, velocity-refused}
 use borrow.Author.Needs.{needs}

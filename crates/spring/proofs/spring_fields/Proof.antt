@@ -1,4 +1,4 @@
--- `spring_step::spring_fields` meets its contract.
+-- `spring::spring_fields` meets its contract.
 use Rattle.words.specs.Lists.{listOf}
 use Rattle.node.proofs.StepLaws.{Gathering, gathering-start, list-refused, list-done, value-refused, list-more, list-moves}
 use Rattle.spring.specs.Means.{springCells}

@@ -1,4 +1,4 @@
--- `spring_step::spring_step` meets its contract.
+-- `spring::spring_step` meets its contract.
 use Rattle.text.specs.Bytes.{at}
 use Rattle.node.proofs.StepLaws.{no-float, a-float, step-refused, a-case, no-value, a-value, past}
 use Rattle.values.proofs.NameLaws.{choice-below}

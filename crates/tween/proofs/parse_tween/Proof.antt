@@ -1,4 +1,4 @@
--- `tweens::parse_tween` meets its contract.
+-- `tween::parse_tween` meets its contract.
 use Rattle.tween.proofs.TweenLaws.{tween-no-ends, tween-no-fields, tween-untimed, tween-plain, tween-went}
 use Rattle.node.proofs.EndsLaws.{ends-room}
 use native.Mathlib.Omega.{arith}
@@ -40,8 +40,7 @@ returns-2 : tie.Need-returns-2
 returns-2 c =
     let at-r = c .before in
     let at-parse-ends = at-r .before .before .before .before in
-    let args = at-parse-ends .before .before .before .before .args in
-    tween-no-ends (args .text .now) (args .c) _ _ (rw (at-r .r .given .1) at (at-parse-ends .parse-ends .ensures))
+    tween-no-ends (rw (at-r .r .given .1) at (at-parse-ends .parse-ends .ensures))
 
 returns-3 : tie.Need-returns-3
 returns-3 c =

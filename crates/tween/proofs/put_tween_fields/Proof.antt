@@ -1,4 +1,4 @@
--- `tweens::put_tween_fields` meets its contract.
+-- `tween::put_tween_fields` meets its contract.
 use Prim.Native.Nat.{_+_, _<_, _^_}
 use native.Mathlib.Omega.{arith}
 use Rattle.number.specs.Number.{bits}

@@ -1,4 +1,4 @@
--- `tween_step::tween_fields` meets its contract.
+-- `tween::tween_fields` meets its contract.
 use Rattle.words.specs.Lists.{listOf}
 use Rattle.node.proofs.StepLaws.{Gathering, gathering-start, list-refused, list-done, value-refused, list-more, list-moves}
 use Rattle.tween.specs.Means.{tweenCells}

@@ -1,4 +1,4 @@
--- `tween_step::tween_step` meets its contract.
+-- `tween::tween_step` meets its contract.
 use Rattle.node.proofs.StepLaws.{last-row}
 use Rattle.node.proofs.StepLaws.{no-float, a-float, no-easing, an-easing, no-loop, a-loop, no-whole, a-whole, no-truth, ever-truth}
 use mathlib.Core.Path.{refl}

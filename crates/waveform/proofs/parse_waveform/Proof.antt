@@ -1,4 +1,4 @@
--- `kinds::parse_waveform` meets its contract.
+-- `waveform::parse_waveform` meets its contract.
 use mathlib.Core.Path.{refl}
 use Rattle.error.specs.declared.Refusal.the-variants.{Malformed}
 use Rattle.text.specs.Bytes.{same}
@@ -22,9 +22,7 @@ unfolding listOf
 returns c =
     let at-i = c .before .before .before in
     let at-choice = at-i .before .before in
-    let args = at-choice .before .before .before .args in
-    rw (c .place .ensures)
-    (noise-refused (args .text .now) (args .c) _ _ (rw (at-i .i .given .1) at (at-choice .choice .ensures)) (c .before .if1 .taken))
+    rw (c .place .ensures) (noise-refused (rw (at-i .i .given .1) at (at-choice .choice .ensures)) (c .before .if1 .taken))
 
 cast-waveform-end : tie.Need-cast-waveform-end
 unfolding listOf
@@ -44,10 +42,7 @@ waveform-end-requires c κs =
 
 returns-2 : tie.Need-returns-2
 unfolding listOf
-returns-2 c =
-    let at-choice = c .before .before .before in
-    let args = at-choice .before .before .before .args in
-    no-waveform (args .text .now) (args .c) _ _ (rw (c .before .r .given .1) at (at-choice .choice .ensures))
+returns-2 c = no-waveform (rw (c .before .r .given .1) at (c .before .before .before .choice .ensures))
 
 returns-3 : tie.Need-returns-3
 unfolding listOf
@@ -56,9 +51,7 @@ returns-3 c =
     let at-if1 = at-waveform-end .before .before in
     let at-i = at-if1 .before .before in
     let at-choice = at-i .before .before in
-    let args = at-choice .before .before .before .args in
-    waveform-node (args .text .now) (args .c) _ _ (rw (at-i .i .given .1) at (at-choice .choice .ensures)) (at-if1 .if1 .left) _ _ _
-    (at-waveform-end .waveform-end .result) (at-waveform-end .waveform-end .ensures)
+    waveform-node (rw (at-i .i .given .1) at (at-choice .choice .ensures)) (at-if1 .if1 .left) (at-waveform-end .waveform-end .ensures)
 
 pub parse-waveform-spec : {M : Type 1} → statement M
 parse-waveform-spec =

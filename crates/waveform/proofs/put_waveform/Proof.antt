@@ -1,4 +1,4 @@
--- `write::put_waveform` meets its contract.
+-- `waveform::put_waveform` meets its contract.
 use Rattle.encode.proofs.OverLaws.{writes-keeps, writes-then}
 use native.Mathlib.Omega.{arith}
 use Rattle.encode.specs.Of.{optFloatOf, optWordOf}

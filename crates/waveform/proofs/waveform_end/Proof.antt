@@ -1,4 +1,4 @@
--- `kinds::waveform_end` meets its contract.
+-- `waveform::waveform_end` meets its contract.
 use mathlib.Core.List.{[]}
 use Rattle.grammar.specs.Fields.{parseFieldList}
 use Rattle.grammar.specs.Grammar.{waveformFields}
@@ -22,7 +22,7 @@ returns : tie.Need-returns
 returns c =
     let at-waveform-fields = c .before .before .before in
     let args = at-waveform-fields .before .before .before .args in
-    free-refused (args .text .now) (args .c) (parseFieldList waveformFields []) (waveformLeaf (args .kind))
+    free-refused (parseFieldList waveformFields []) (waveformLeaf (args .kind))
     (rw (c .before .r .given .1) at (at-waveform-fields .waveform-fields .ensures))
 
 returns-2 : tie.Need-returns-2
@@ -34,10 +34,7 @@ returns-2 c =
     let h = rw (at-f .f .given .1) at (at-waveform-fields .waveform-fields .ensures) in
     let phase = h .say .1 .1 in
     let seed = phase .1 .1 in
-    free-went
-    (args .text .now)
-    (args .c)
-    (parseFieldList waveformFields [])
+    free-went (parseFieldList waveformFields [])
     (waveformLeaf (args .kind))
     h _
     (rw (h .say .0 .0, h .say .1 .0 .0, phase .0 .0, phase .1 .0 .0, seed .0, seed .1 .0 .0, seed .1 .1 .0 .0))

@@ -1,4 +1,4 @@
--- `waveform_step::waveform_fields` meets its contract.
+-- `waveform::waveform_fields` meets its contract.
 use Rattle.words.specs.Lists.{listOf}
 use Rattle.node.proofs.StepLaws.{Gathering, gathering-start, list-refused, list-done, value-refused, list-more, list-moves}
 use Rattle.waveform.specs.Means.{waveformCells}

@@ -1,4 +1,4 @@
--- `waveform_step::waveform_step` meets its contract.
+-- `waveform::waveform_step` meets its contract.
 use Rattle.node.proofs.StepLaws.{no-float, a-float, no-whole, a-whole, last-row}
 use mathlib.Core.Path.{refl}
 use Rattle.text.specs.Bytes.{same}
