@@ -4,9 +4,11 @@ use mathlib.Core.List.{List, [], _++_}
 use mathlib.Core.Path.{_≡_}
 use lib.ListN.{length}
 use Rattle.number.specs.Time.{Key}
-use Rattle.ast.specs.Tree.{Leaf, tween, spring, keyframes, path, morph, draw, color, waveform, preset, label, at, KeyframeTime, mapLeaf, Span}
+use Rattle.ast.specs.Tree.{Leaf, tween, spring, keyframes, path, morph, draw, color}
+use Rattle.ast.specs.Tree.{waveform, preset, label, at, KeyframeTime, mapLeaf, Span}
 use Rattle.ast.specs.Tree.{ValueExpr}
-use Rattle.sheet.specs.Sheet.{tweenForm, springForm, keyframesForm, pathForm, morphForm, drawForm, colorForm, waveformForm, presetForm, spanForm}
+use Rattle.sheet.specs.Sheet.{tweenForm, springForm, keyframesForm, pathForm, morphForm}
+use Rattle.sheet.specs.Sheet.{drawForm, colorForm, waveformForm, presetForm, spanForm}
 use Rattle.sheet.specs.Sheet.{atForm, valueForm}
 use Rattle.grammar.specs.Rule.{Rule, refused, give, need, _>>=_, _>>_, both, the}
 use Rattle.grammar.specs.Grammar.{stored}

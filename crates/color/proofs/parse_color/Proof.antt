@@ -35,7 +35,8 @@ returns-3 c =
     let at-target = at-mark .before .before in
     let at-word-before = at-target .before .before in
     let w = rw (at-target .target .given .1) at (at-word-before .word-before .ensures) in
-    color-node (at-target .target .given .0 .0) (w .0) (w .1) (rw (at-n .n .given .1) at (at-mark .mark .ensures)) (at-color-strings .color-strings .ensures)
+    color-node (at-target .target .given .0 .0) (w .0) (w .1) (rw (at-n .n .given .1) at (at-mark .mark .ensures))
+    (at-color-strings .color-strings .ensures)
 
 pub parse-color-spec : {M : Type 1} → statement M
 parse-color-spec =
