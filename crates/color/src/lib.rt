@@ -67,7 +67,7 @@ fn color_step(text: &[u8], c: Cursor, row: usize, kept: ColorFields) -> ColorSte
 }
 
 // The fields at c.
-pub fn color_fields(text: &[u8], c: Cursor) -> ColorStep
+fn color_fields(text: &[u8], c: Cursor) -> ColorStep
     requires { ⌜ Ready (now text) c ⌝ }
     ensures { λ r. ⌜ ColorListMeans (now (text .entry)) c r ⌝ }
 {
@@ -94,7 +94,7 @@ pub fn color_fields(text: &[u8], c: Cursor) -> ColorStep
 
 // ---- the node
 
-pub fn put_color(sheet: &mut [u8], out: usize, x: ColorSpec) -> usize
+fn put_color(sheet: &mut [u8], out: usize, x: ColorSpec) -> usize
     requires { ⌜ (out < 2 ^ 30) × PlainColor x ⌝ }
     ensures { λ r. ⌜ Put (now (sheet .entry)) out (colorOf x) (now (sheet .exit)) r ⌝ }
 {

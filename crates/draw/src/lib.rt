@@ -62,7 +62,7 @@ fn draw_step(text: &[u8], c: Cursor, row: usize, kept: DrawFields) -> DrawStep
 }
 
 // Before the first field.
-pub fn no_draw_fields() -> DrawFields
+fn no_draw_fields() -> DrawFields
     ensures { λ r. ⌜ r ≡ noDrawFields ⌝ }
 {
     DrawFields {
@@ -72,7 +72,7 @@ pub fn no_draw_fields() -> DrawFields
 }
 
 // The fields at c, onto those that were read before.
-pub fn draw_fields(text: &[u8], c: Cursor, earlier: DrawFields) -> DrawStep
+fn draw_fields(text: &[u8], c: Cursor, earlier: DrawFields) -> DrawStep
     requires { ⌜ Ready (now text) c ⌝ }
     ensures { λ r. ⌜ ((fs : Fields) → AllSay (now (text .entry)) (atOf c) (atOf c) (drawCells earlier) fs → DrawListMeans (now (text .entry)) c (parseFieldList drawFields fs) r) ⌝ }
 {
@@ -94,7 +94,7 @@ pub fn draw_fields(text: &[u8], c: Cursor, earlier: DrawFields) -> DrawStep
 }
 
 // Those in parentheses, from behind the `(`.
-pub fn draw_pairs(text: &[u8], c: Cursor) -> DrawStep
+fn draw_pairs(text: &[u8], c: Cursor) -> DrawStep
     requires { ⌜ Ready (now text) c ⌝ }
     ensures { λ r. ⌜ DrawListMeans (now (text .entry)) c (pairs drawFields) r ⌝ }
 {
@@ -122,7 +122,7 @@ pub fn draw_pairs(text: &[u8], c: Cursor) -> DrawStep
 
 // ---- draw
 
-pub fn put_draw(sheet: &mut [u8], out: usize, x: DrawSpec) -> usize
+fn put_draw(sheet: &mut [u8], out: usize, x: DrawSpec) -> usize
     requires { ⌜ (out < 2 ^ 30) × PlainDraw x ⌝ }
     ensures { λ r. ⌜ Put (now (sheet .entry)) out (drawOf x) (now (sheet .exit)) r ⌝ }
 {
@@ -168,7 +168,7 @@ pub fn parse_draw(text: &[u8], sheet: &mut [u8], c: Cursor, out: usize) -> NodeR
 
 // ---- preset
 
-pub fn put_preset(sheet: &mut [u8], out: usize, x: PresetCall) -> usize
+fn put_preset(sheet: &mut [u8], out: usize, x: PresetCall) -> usize
     requires { ⌜ (out < 2 ^ 30) × PlainPreset x ⌝ }
     ensures { λ r. ⌜ Put (now (sheet .entry)) out (presetOf x) (now (sheet .exit)) r ⌝ }
 {

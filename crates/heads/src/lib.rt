@@ -53,7 +53,7 @@ pub fn parse_group(text: &[u8], c: Cursor) -> GroupRead
 
 // ---- grid
 
-pub fn parse_grid_origin(text: &[u8], c: Cursor) -> OriginRead
+fn parse_grid_origin(text: &[u8], c: Cursor) -> OriginRead
     requires { ⌜ Ready (now text) c ⌝ }
     ensures { λ r. ⌜ OriginMeans (now (text .entry)) c r ⌝ }
 {
@@ -301,7 +301,7 @@ fn named_pattern(text: &[u8], c: Cursor, i: usize) -> PatternRead
     }
 }
 
-pub fn parse_stagger_pattern(text: &[u8], c: Cursor) -> PatternRead
+fn parse_stagger_pattern(text: &[u8], c: Cursor) -> PatternRead
     requires { ⌜ Ready (now text) c ⌝ }
     ensures { λ r. ⌜ PatternMeans 1 (now (text .entry)) c parseStaggerPattern r ⌝ }
 {

@@ -104,7 +104,7 @@ fn time_of(text: &[u8], percent: bool, negative: bool, n: Number) -> Stored
     token::float_of(text, negative, n)
 }
 
-pub fn parse_keyframe_time(text: &[u8], c: Cursor) -> TimeRead
+fn parse_keyframe_time(text: &[u8], c: Cursor) -> TimeRead
     requires { ⌜ Ready (now text) c ⌝ }
     ensures { λ r. ⌜ TimeMeans (now (text .entry)) c parseKeyframeTime r ⌝ }
 {

@@ -67,7 +67,7 @@ fn morph_step(text: &[u8], c: Cursor, row: usize, kept: MorphFields) -> MorphSte
 }
 
 // The fields at c.
-pub fn morph_fields(text: &[u8], c: Cursor) -> MorphStep
+fn morph_fields(text: &[u8], c: Cursor) -> MorphStep
     requires { ⌜ Ready (now text) c ⌝ }
     ensures { λ r. ⌜ MorphListMeans (now (text .entry)) c r ⌝ }
 {
@@ -94,7 +94,7 @@ pub fn morph_fields(text: &[u8], c: Cursor) -> MorphStep
 
 // ---- the node
 
-pub fn put_morph(sheet: &mut [u8], out: usize, x: MorphSpec) -> usize
+fn put_morph(sheet: &mut [u8], out: usize, x: MorphSpec) -> usize
     requires { ⌜ (out < 2 ^ 30) × PlainMorph x ⌝ }
     ensures { λ r. ⌜ Put (now (sheet .entry)) out (morphOf x) (now (sheet .exit)) r ⌝ }
 {

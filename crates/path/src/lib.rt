@@ -111,7 +111,7 @@ fn path_step(text: &[u8], c: Cursor, row: usize, kept: PathFields) -> PathStep
 }
 
 // The fields at c.
-pub fn path_fields(text: &[u8], c: Cursor) -> PathStep
+fn path_fields(text: &[u8], c: Cursor) -> PathStep
     requires { ⌜ Ready (now text) c ⌝ }
     ensures { λ r. ⌜ PathListMeans (now (text .entry)) c r ⌝ }
 {
@@ -140,7 +140,7 @@ pub fn path_fields(text: &[u8], c: Cursor) -> PathStep
 
 // ---- the node
 
-pub fn put_path(sheet: &mut [u8], out: usize, x: PathSpec) -> usize
+fn put_path(sheet: &mut [u8], out: usize, x: PathSpec) -> usize
     requires { ⌜ (out < 2 ^ 30) × PlainPath x ⌝ }
     ensures { λ r. ⌜ Put (now (sheet .entry)) out (pathOf x) (now (sheet .exit)) r ⌝ }
 {

@@ -173,7 +173,7 @@ fn spring_step(text: &[u8], c: Cursor, row: usize, kept: SpringFields) -> Spring
 }
 
 // The fields at c.
-pub fn spring_fields(text: &[u8], c: Cursor) -> SpringStep
+fn spring_fields(text: &[u8], c: Cursor) -> SpringStep
     requires { ⌜ Ready (now text) c ⌝ }
     ensures { λ r. ⌜ SpringListMeans (now (text .entry)) c r ⌝ }
 {

@@ -118,7 +118,7 @@ fn tween_step(text: &[u8], c: Cursor, row: usize, kept: TweenFields) -> TweenSte
 }
 
 // The fields at c.
-pub fn tween_fields(text: &[u8], c: Cursor) -> TweenStep
+fn tween_fields(text: &[u8], c: Cursor) -> TweenStep
     requires { ⌜ Ready (now text) c ⌝ }
     ensures { λ r. ⌜ TweenListMeans (now (text .entry)) c r ⌝ }
 {

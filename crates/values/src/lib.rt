@@ -53,7 +53,7 @@ pub fn parse_float_in_parens(text: &[u8], c: Cursor) -> FloatRead
     }
 }
 
-pub fn uint_in_parens(text: &[u8], c: Cursor) -> UintRead
+fn uint_in_parens(text: &[u8], c: Cursor) -> UintRead
     requires { ⌜ Ready (now text) c ⌝ }
     ensures { λ r. ⌜ UintMeans (now (text .entry)) c parseUintInParens r ⌝ }
 {

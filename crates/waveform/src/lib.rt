@@ -95,7 +95,7 @@ fn waveform_step(text: &[u8], c: Cursor, row: usize, kept: WaveformFields) -> Wa
 }
 
 // The fields at c.
-pub fn waveform_fields(text: &[u8], c: Cursor) -> WaveformStep
+fn waveform_fields(text: &[u8], c: Cursor) -> WaveformStep
     requires { ⌜ Ready (now text) c ⌝ }
     ensures { λ r. ⌜ WaveformListMeans (now (text .entry)) c r ⌝ }
 {
@@ -126,7 +126,7 @@ pub fn waveform_fields(text: &[u8], c: Cursor) -> WaveformStep
 
 // ---- the node
 
-pub fn put_waveform(sheet: &mut [u8], out: usize, x: WaveformSpec) -> usize
+fn put_waveform(sheet: &mut [u8], out: usize, x: WaveformSpec) -> usize
     requires { ⌜ (out < 2 ^ 30) × PlainWaveform x ⌝ }
     ensures { λ r. ⌜ Put (now (sheet .entry)) out (waveformOf x) (now (sheet .exit)) r ⌝ }
 {
