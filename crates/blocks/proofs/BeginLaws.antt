@@ -18,8 +18,8 @@ use Rattle.cursor.specs.Word.{atOf}
 use Rattle.cursor.specs.Means.{Ready, run, Took, Follows, tokens, listedIn}
 use Rattle.cursor.proofs.ListedLaws.{unlisted-kind, no-name}
 use Rattle.cursor.specs.declared.Cursor.{Cursor}
-use Rattle.nodes.specs.Means.{leafKind}
-use Rattle.nodes.specs.declared.NodeRead.the-variants as read
+use Rattle.node.specs.Means.{leafKind}
+use Rattle.node.specs.declared.NodeRead.the-variants as read
 use Rattle.blocks.specs.Means.{KeywordMeans, behindWord, leafKindAt, containerKindAt, frontBytes, LeafBegun, ContainerBegun}
 use Rattle.blocks.specs.Means.{BegunMeans, LeafAtMeans, nodeWords}
 use Rattle.blocks.specs.declared.Keyword.the-variants as keyword
@@ -46,7 +46,7 @@ module _ (s b b₁ : List ℕ) (c : Cursor) (out at start : ℕ) (w : List ℕ) 
       → LeafAtMeans s b₁ a c at i (read.Is q m)
       → LeafBegun 0 s b a c m out q (behindWord start w)
   leaf-begun k a q m f h =
-      let l = h .by (k .0) (k .1) in
+      let l = h .by (k .0) (k .1) .by in
       let e : leafKind (l .value) ≡ leafKindAt i = the-given (leaf-kind i (k .0) (k .1)) _ _ _ _ _ (l .took .is) in
       record {
         start = start;
@@ -72,7 +72,7 @@ module _ (s b b₁ : List ℕ) (c : Cursor) (out at start : ℕ) (w : List ℕ) 
 pub leaf-refused : (s : List ℕ) (c : Cursor) (start : ℕ) (w : List ℕ) (i : ℕ) (r : Refusal) (q : ℕ) → KeywordMeans w (keyword.Leaf i)
     → {b a : List ℕ} {at : ℕ} → LeafAtMeans s b a c at i (read.Refused r q)
     → (blk : Rule (Nodes Key)) → run s c (behindWord start w blk) ≡ refused r q
-leaf-refused s c start w i r q k h blk = rw (k .2, h .by (k .0) (k .1))
+leaf-refused s c start w i r q k h blk = rw (k .2, h .by (k .0) (k .1) .by)
 
 -- ---- from the keyword on
 

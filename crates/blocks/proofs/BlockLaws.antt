@@ -27,7 +27,7 @@ use Rattle.fields.proofs.ListLaws.{Listed, listed-start, listed-gives, listed-d
 use Rattle.arrays.specs.Means.{Room}
 use Rattle.heads.proofs.RowLaws.{Each, by-row}
 use Rattle.arrays.proofs.ArrayLaws.{mark-seen, mark-unseen}
-use Rattle.nodes.specs.Means.{leafKind, leafFields}
+use Rattle.node.specs.Means.{leafKind, leafFields}
 use Rattle.blocks.specs.Means.{containerKind, containerKindAt, frontBytes, LeafBegun, ContainerBegun, HeadWent, Reached, Headed}
 use Rattle.blocks.specs.Means.{Counted, nodeBytes, nodesBytes, NodeWent, NodeMeans, BlockWent, BlockMeans, Held, heldBy, HeldMeans}
 use Rattle.blocks.specs.Means.{Standing, Stepped, Ended, parseNodes, NodesWent}

@@ -22,9 +22,9 @@ use Rattle.grammar.specs.Grammar.{leaves, parseTween, parseSpring, parseKeyfram
 use Rattle.grammar.specs.Grammar.{parseWaveform, parsePresetCall, parseLabel, parseAt}
 use Rattle.grammar.specs.Grammar.{block, containers, parseSequence, parseParallel, parseGroup, parseStagger}
 use Rattle.grammar.specs.Grammar.{modeNames}
-use Rattle.heads.proofs.NameLaws.{none≢some}
+use Rattle.values.proofs.NameLaws.{none≢some}
 use Rattle.heads.proofs.RowLaws.{by-row}
-use Rattle.nodes.specs.Means.{leafKind}
+use Rattle.node.specs.Means.{leafKind}
 use Rattle.blocks.specs.Means.{leafKindAt, containerKind, containerKindAt, Held, heldBy}
 
 -- ---- what a rule gives, if it gives anything

@@ -12,8 +12,8 @@ use Rattle.ast.specs.Tree.{Leaf}
 use Rattle.grammar.specs.Rule.{Rule}
 use Rattle.grammar.specs.Grammar.{leaves, parseAt}
 use Rattle.cursor.specs.declared.Cursor.{Cursor}
-use Rattle.nodes.specs.Means.{LeafMeans}
-use Rattle.nodes.specs.declared.NodeRead.{NodeRead}
+use Rattle.node.specs.Means.{LeafMeans}
+use Rattle.node.specs.declared.NodeRead.{NodeRead}
 use Rattle.blocks.specs.Means.{LeafAtMeans}
 
 none≢some : {A B : Type 0} {a : A} → Prim.Path (Option A) none (some a) → B

@@ -14,8 +14,8 @@ use Rattle.words.specs.Lists.{listOf}
 use Rattle.token.specs.Names.{isKeyword}
 use Rattle.cursor.specs.Means.{noKeywords}
 use Rattle.grammar.specs.Grammar.{leaves, containers, unknown, beginning}
-use Rattle.heads.specs.Means.{namesOf}
-use Rattle.heads.proofs.NameLaws.{none≢some, under-row, under-none}
+use Rattle.values.specs.Means.{namesOf}
+use Rattle.values.proofs.NameLaws.{none≢some, under-row, under-none}
 use Rattle.blocks.specs.Means.{nodeWords, KeywordMeans}
 use Rattle.blocks.specs.declared.Keyword.the-variants as keyword
 use Rattle.blocks.proofs.KindLaws.{place-low}

@@ -21,9 +21,9 @@ use Rattle.cursor.specs.Word.{atOf}
 use Rattle.cursor.specs.Means.{Ready, run, Took}
 use Rattle.cursor.specs.declared.Cursor.{Cursor}
 use Rattle.arrays.specs.Means.{Went}
-use Rattle.nodes.specs.Means.{leafKind, leafBytes, LeafMeans}
-use Rattle.nodes.specs.declared.NodeRead.{NodeRead}
-use Rattle.nodes.specs.declared.NodeRead.the-variants as head
+use Rattle.node.specs.Means.{leafKind, leafBytes, LeafMeans}
+use Rattle.node.specs.declared.NodeRead.{NodeRead}
+use Rattle.node.specs.declared.NodeRead.the-variants as head
 use Rattle.blocks.specs.declared.Keyword.{Keyword}
 use Rattle.blocks.specs.declared.Keyword.the-variants as keyword
 use Rattle.blocks.specs.declared.Begun.{Begun}

@@ -17,7 +17,7 @@ use cursor::MarkRead;
 use error::Refusal;
 use heads::GroupRead;
 use heads::StaggerRead;
-use nodes::NodeRead;
+use node::NodeRead;
 
 pub mod leaves;
 

@@ -2,7 +2,6 @@
 use Prim.Native.Nat.{ℕ}
 use Prim.Native.String.{String}
 use mathlib.Core.List.{List, []}
-use mathlib.Core.Option.{Option}
 use mathlib.Core.Path.{_≡_, refl}
 use native.Mathlib.Omega.{arith}
 use lib.Ieee.{Float, binary32, ofBits, toBits, round}
@@ -10,11 +9,10 @@ use Rattle.text.specs.Bytes.{bytes, same}
 use Rattle.text.specs.Words.{default}
 use Rattle.number.specs.Number.{bits}
 use Rattle.ast.specs.Tree.{StaggerPatternSpec, grid, random}
-use Rattle.ast.specs.declared.OptF32.{OptF32}
 use Rattle.ast.specs.declared.OptF32.the-variants as optFloat
 use Rattle.ast.specs.declared.OptU32.the-variants as optWord
 use Rattle.ast.specs.declared.OptCase.the-variants as optCase
-use Rattle.encode.specs.Of.{Plain, optFloatOf, optWordOf, optCaseOf, patternOf}
+use Rattle.encode.specs.Of.{Plain, optWordOf, optCaseOf, patternOf}
 use Rattle.error.specs.declared.Refusal.{Refusal}
 use Rattle.error.specs.declared.Refusal.the-variants.{Malformed, StaggerGridIncomplete}
 use Rattle.grammar.specs.Rule.{Rule, refused, theByte, insideByte, leave, choiceIn}
@@ -27,12 +25,14 @@ use Rattle.cursor.specs.declared.Cursor.{Cursor}
 use Rattle.cursor.proofs.CursorLaws.{fewer}
 use Rattle.values.specs.Means.{Holds}
 use Rattle.values.proofs.ValueLaws.{inside-any}
-use Rattle.heads.specs.Means.{GridHeld, RandomHeld, TookRows, FloatOr, gridInside, PatternMeans, NamedMeans, namesOf}
+use Rattle.values.proofs.CurveLaws.{float-or}
+use Rattle.values.specs.Means.{FloatOr, namesOf}
+use Rattle.heads.specs.Means.{GridHeld, RandomHeld, TookRows, gridInside, PatternMeans, NamedMeans}
 use Rattle.heads.specs.declared.GridFields.{GridFields}
 use Rattle.heads.specs.declared.RandomFields.{RandomFields}
 use Rattle.heads.specs.declared.PatternRead.{PatternRead}
 use Rattle.heads.specs.declared.PatternRead.the-variants as read
-use Rattle.heads.proofs.NameLaws.{named-row, named-took, named-refused}
+use Rattle.values.proofs.NameLaws.{named-row, named-took, named-refused}
 use Rattle.heads.proofs.RowLaws.{Each, by-row}
 
 -- ---- grid
@@ -115,10 +115,6 @@ pub tenth : bits (ofBits binary32 1036831949) ≡ f32Of 1 10
 unfolding bits f32Of round toBits ofBits
 tenth = refl
 
--- the float that a field has, or else d
-float-is : (o : OptF32) (x : Option ℕ) (d r : Float) (b : ℕ) → FloatOr o d r → optFloatOf o ≡ x → bits d ≡ b → bits r ≡ default x b
-float-is o x d r b h e q = rw (← e, ← q) (h .is)
-
 module _ (s : List ℕ) (c m n u : Cursor) (f : RandomFields) (o : Took 1 s c m (theByte 40) tt)
     (h : TookRows RandomHeld randomFields s m n f) (l : Took 0 s n u (leave 41) tt) where
   pub took-random : (k : ℕ) (x y a b : Float) → k ≡ default (optWordOf (f .seed)) 0
@@ -130,8 +126,8 @@ module _ (s : List ℕ) (c m n u : Cursor) (f : RandomFields) (o : Took 1 s c m 
     record {
       is = rw (
         inside-any s 40 (pairs randomFields) c m o n u (h .0) (h .1) l .is,
-        float-is (f .min) _ a x _ i (h .2 .min) p,
-        float-is (f .max) _ b y _ j (h .2 .max) q,
+        float-or i (h .2 .min) p,
+        float-or j (h .2 .max) q,
         e,
         h .2 .seed,
       );

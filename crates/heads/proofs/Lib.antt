@@ -1,4 +1,3 @@
-pub mod NameLaws
 pub mod RowLaws
 pub mod HeadLaws
 pub mod StaggerLaws

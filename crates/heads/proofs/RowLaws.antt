@@ -17,7 +17,7 @@ use Rattle.fields.specs.Means.{PairMeans, PairAt}
 use Rattle.fields.specs.declared.NextField.the-variants as found
 use Rattle.fields.proofs.ListLaws.{Listed, listed-start, listed-gives, listed-done, pair-refused, pair-more, pair-moves, pair-last}
 use Rattle.heads.specs.Means.{TookValue, TookRow, RefusedRow, TookRows}
-use Rattle.heads.proofs.NameLaws.{none≢some}
+use Rattle.values.proofs.NameLaws.{none≢some}
 
 -- ---- the row at a place
 

@@ -20,11 +20,12 @@ use Rattle.cursor.specs.Means.{Ready, notes, tokens, run, Took}
 use Rattle.cursor.specs.declared.Cursor.{Cursor}
 use Rattle.fields.specs.Means.{Gives}
 use Rattle.fields.proofs.FieldLaws.{by-step}
-use Rattle.heads.specs.Means.{namesOf, openingOf, oneOpening, OpeningMeans, ValueMeans}
+use Rattle.values.specs.Means.{namesOf}
+use Rattle.heads.specs.Means.{openingOf, oneOpening, OpeningMeans, ValueMeans}
 use Rattle.heads.specs.declared.Opening as openings
 use Rattle.heads.specs.declared.OpeningRead.{OpeningRead}
 use Rattle.heads.specs.declared.OpeningRead.the-variants as read
-use Rattle.heads.proofs.NameLaws.{named-row, named-took, named-refused}
+use Rattle.values.proofs.NameLaws.{named-row, named-took, named-refused}
 use Rattle.heads.proofs.RowLaws.{Each, by-row}
 
 -- ---- a field

@@ -1,25 +1,22 @@
 -- What the answers of the functions mean, in terms of the grammar's rules. Contracts cite these.
 use Prim.Native.Nat.{ℕ, _<_}
 use Prim.Native.String.{String}
-use mathlib.Core.List.{List, [], _∷_}
+use mathlib.Core.List.{List}
 use mathlib.Core.Option.{some}
 use mathlib.Core.Path.{_≡_}
 use lib.ListN.{getElem?}
-use lib.Ieee.{Float}
 use Rattle.text.specs.Bytes.{bytes}
-use Rattle.text.specs.Words.{default, under}
-use Rattle.number.specs.Number.{bits}
+use Rattle.text.specs.Words.{default}
 use Rattle.ast.specs.Tree as tree
-use Rattle.ast.specs.declared.OptF32.{OptF32}
-use Rattle.encode.specs.Of.{Plain, PlainPattern, PlainOptFloat, PlainOptPattern, patternOf, optFloatOf, optWordOf, optCaseOf, optPatternOf}
+use Rattle.encode.specs.Of.{PlainPattern, PlainOptFloat, PlainOptPattern, patternOf, optFloatOf, optWordOf, optCaseOf, optPatternOf}
 use Rattle.error.specs.declared.Refusal.{Refusal}
 use Rattle.error.specs.declared.Refusal.the-variants.{UnknownKeyword, StaggerGridIncomplete}
-use Rattle.grammar.specs.Rule.{refused, Rule, _>>=_, give, need, word}
+use Rattle.grammar.specs.Rule.{refused, Rule, _>>=_, give, need}
 use Rattle.grammar.specs.Fields.{Content, Fields, Table, pairs, lastNumber}
 use Rattle.grammar.specs.Grammar.{parseGroup, parseGridOrigin, gridFields, randomFields, patterns, Opening, openingFields, parseStagger}
 use Rattle.cursor.specs.Means.{run, Took}
 use Rattle.cursor.specs.declared.Cursor.{Cursor}
-use Rattle.values.specs.Means.{Holds}
+use Rattle.values.specs.Means.{byName, Holds}
 use Rattle.heads.specs.declared.GroupRead.{GroupRead}
 use Rattle.heads.specs.declared.GroupRead.the-variants as group
 use Rattle.heads.specs.declared.OriginRead.{OriginRead}
@@ -37,17 +34,6 @@ use Rattle.heads.specs.declared.OpeningRead.{OpeningRead}
 use Rattle.heads.specs.declared.OpeningRead.the-variants as opening
 use Rattle.heads.specs.declared.StaggerRead.{StaggerRead}
 use Rattle.heads.specs.declared.StaggerRead.the-variants as stagger
-
--- ---- by name
-
--- the names of some rows
-abbrev pub namesOf : {A : Type 0} → List (String × A) → List (List ℕ)
-namesOf [] = []
-namesOf (f ∷ fs) = bytes (f .0) ∷ namesOf fs
-
--- the rule that a word names, or a refusal where none does
-abbrev pub byName : {A : Type 0} → Refusal → List (String × Rule A) → Rule A
-byName r t = word >>= λ w. need r (under t (w .1)) >>= λ p. p
 
 -- ---- positions of cases
 
@@ -105,11 +91,6 @@ RandomMeans s c (random.Is g m) = TookRows RandomHeld randomFields s c m g
 RandomMeans s c (random.Refused r q) = run s c (pairs randomFields) ≡ refused r q
 
 -- ---- patterns
-
--- the float of o, or else d
-pub record FloatOr (o : OptF32) (d r : Float) : Type 0 where
-  pub is : bits r ≡ default (optFloatOf o) (bits d)
-  pub plain : PlainOptFloat o → Plain d → Plain r
 
 -- between the parentheses of `grid(..)`
 unfoldable pub gridInside : Rule tree.StaggerPatternSpec

@@ -1,12 +1,9 @@
 // parser.rs: what stands between a container's keyword and its block. `sequence` and `parallel` have nothing there.
 // The functions are for our own crates: each requires a cursor that stands in the text.
-ghost use mathlib.Core.Path.{_≡_};
-ghost use Rattle.text.specs.Words.{default};
-ghost use Rattle.encode.specs.Of.{optWordOf, optCaseOf};
 ghost use Rattle.grammar.specs.Grammar.{gridFields, gridPattern, randomFields, randomPattern, parseStaggerPattern};
 ghost use Rattle.fields.specs.Means as fields;
 ghost use Rattle.cursor.specs.Means.{Ready};
-ghost use Rattle.heads.specs.Means.{GroupMeans, OriginMeans, GridFieldMeans, GridMeans, RandomFieldMeans, RandomMeans, FloatOr, PatternMeans, gridInside, NamedMeans, openingOf, PlainOpening, oneOpening, OpeningMeans, ValueMeans, StaggerMeans};
+ghost use Rattle.heads.specs.Means.{GroupMeans, OriginMeans, GridFieldMeans, GridMeans, RandomFieldMeans, RandomMeans, PatternMeans, gridInside, NamedMeans, openingOf, PlainOpening, oneOpening, OpeningMeans, ValueMeans, StaggerMeans};
 use ast::GridOriginSpec;
 use ast::GroupMode;
 use ast::OptCase;
@@ -54,38 +51,9 @@ pub fn parse_group(text: &[u8], c: Cursor) -> GroupRead
     }
 }
 
-// ---- what is present, or else a default
-
-pub fn word_or(o: OptU32, d: u32) -> u32
-    ensures { λ r. ⌜ r ≡ default (optWordOf o) d ⌝ }
-{
-    match o {
-        OptU32::Absent => d,
-        OptU32::Present(n) => n,
-    }
-}
-
-pub fn case_or(o: OptCase, d: u8) -> u8
-    ensures { λ r. ⌜ r ≡ default (optCaseOf o) d ⌝ }
-{
-    match o {
-        OptCase::Absent => d,
-        OptCase::Present(k) => k,
-    }
-}
-
-fn float_or(o: OptF32, d: f32) -> f32
-    ensures { λ r. ⌜ FloatOr o d r ⌝ }
-{
-    match o {
-        OptF32::Absent => d,
-        OptF32::Present(x) => x,
-    }
-}
-
 // ---- grid
 
-pub fn parse_grid_origin(text: &[u8], c: Cursor) -> OriginRead
+fn parse_grid_origin(text: &[u8], c: Cursor) -> OriginRead
     requires { ⌜ Ready (now text) c ⌝ }
     ensures { λ r. ⌜ OriginMeans (now (text .entry)) c r ⌝ }
 {
@@ -192,7 +160,7 @@ fn grid_inside(text: &[u8], c: Cursor) -> PatternRead
                 return PatternRead::Refused(Refusal::StaggerGridIncomplete, place);
             };
             let written = f.origin;
-            let origin = case_or(written, 4);
+            let origin = values::case_or(written, 4);
             PatternRead::Is(StaggerPatternSpec::Grid { cols, rows, origin }, m)
         }
     }
@@ -306,9 +274,9 @@ fn random_pattern(text: &[u8], c: Cursor) -> PatternRead
                 let seeded = f.seed;
                 let low = f.min;
                 let high = f.max;
-                let seed = word_or(seeded, 0);
-                let min = float_or(low, 0.0);
-                let max = float_or(high, 0.1);
+                let seed = values::word_or(seeded, 0);
+                let min = values::float_or(low, 0.0);
+                let max = values::float_or(high, 0.1);
                 PatternRead::Is(
                     StaggerPatternSpec::Random { seed, min, max },
                     cursor::leave_group(text, n, b')'),
@@ -333,7 +301,7 @@ fn named_pattern(text: &[u8], c: Cursor, i: usize) -> PatternRead
     }
 }
 
-pub fn parse_stagger_pattern(text: &[u8], c: Cursor) -> PatternRead
+fn parse_stagger_pattern(text: &[u8], c: Cursor) -> PatternRead
     requires { ⌜ Ready (now text) c ⌝ }
     ensures { λ r. ⌜ PatternMeans 1 (now (text .entry)) c parseStaggerPattern r ⌝ }
 {

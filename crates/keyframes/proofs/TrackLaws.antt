@@ -32,11 +32,11 @@ use Rattle.fields.proofs.FieldLaws.{by-step}
 use Rattle.fields.proofs.ListLaws.{Listed, listed-start, listed-gives}
 use Rattle.values.proofs.EasingLaws.{spelled-length}
 use Rattle.arrays.specs.Means.{Went}
-use Rattle.nodes.specs.Means.{leafBytes, LeafMeans}
-use Rattle.nodes.specs.declared.NodeRead.{NodeRead}
-use Rattle.nodes.specs.declared.NodeRead.the-variants as node
+use Rattle.node.specs.Means.{LeafSays, LeafMeans}
+use Rattle.node.specs.declared.NodeRead.{NodeRead}
+use Rattle.node.specs.declared.NodeRead.the-variants as node
 use Rattle.keyframes.specs.Means.{Inner, framesBytes, separator, trackOf, Stepped, Standing}
-use Rattle.keyframes.specs.Means.{StepMeans, TrackWent, trackBehind, BlockWent, BlockMeans}
+use Rattle.keyframes.specs.Means.{StepMeans, TrackWent, BlockSays, BlockMeans}
 use Rattle.keyframes.specs.declared.Track as tracks
 use Rattle.keyframes.specs.declared.TrackNext.{TrackNext}
 use Rattle.keyframes.specs.declared.TrackNext.the-variants as turn
@@ -239,63 +239,56 @@ module _ (s b a : List ℕ) (c : Cursor) (out : ℕ) (t : tracks.Track) (i : Tra
 
 -- ---- the whole of a track
 
-pub block-refused : (s : List ℕ) (c : Cursor) (r : Refusal) (q : ℕ)
-    → run s c (repeat trackStep ([], none)) ≡ refused r q
-    → run s c trackBehind ≡ refused r q
-block-refused s c r q h = rw h
+module _ {s b : List ℕ} {c : Cursor} {out : ℕ} where
+  pub block-refused : {a : List ℕ} {r : Refusal} {q : ℕ} → run s c (repeat trackStep ([], none)) ≡ refused r q
+      → BlockMeans s b a c out (node.Refused r q)
+  block-refused h = record { by = rw h }
 
--- two bytes are left open, the frames are written, their count is put there, and the loop mode behind them
-pub block-went : (s b a a₁ a₂ : List ℕ) (c u : Cursor) (out e q : ℕ) (t : tracks.Track)
-    → TrackWent s b a c (out + 2) t → Writes a out (big 2 .write (t .frames)) a₁ e
-    → Writes a₁ (t .end) (opt loopForm .write (optLoopOf (t .«loop_mode»))) a₂ q
-    → Took 0 s (t .next) u (leave 125) tt → BlockWent s b a₂ c u out q
-block-went s b a a₁ a₂ c u out e q t w p l v = record {
-  value = trackOf (w .frames) t;
-  took = record { is = rw (w .took .is, v .is); low = omega (arith, w .took .low, v .low); ready = v .ready };
-  writes = writes-then (writes-counted (length (w .frames)) refl (w .writes) (rw (w .count) at p)) l;
-  paid = let x = opt-most loopForm 5 loop-most (optLoopOf (t .«loop_mode»)) in omega (arith, w .paid, l .place, v .low, w .took .low);
-}
+  -- two bytes are left open, the frames are written, their count is put there, and the loop mode behind them
+  pub block-went : {a a₁ a₂ : List ℕ} {u : Cursor} {e q : ℕ} {t : tracks.Track}
+      → TrackWent s b a c (out + 2) t → Writes a out (big 2 .write (t .frames)) a₁ e
+      → Writes a₁ (t .end) (opt loopForm .write (optLoopOf (t .«loop_mode»))) a₂ q
+      → Took 0 s (t .next) u (leave 125) tt → BlockMeans s b a₂ c out (node.Is q u)
+  block-went {t = t} w p l v = record {
+    by = record {
+      value = trackOf (w .frames) t;
+      took = record { is = rw (w .took .is, v .is); low = omega (arith, w .took .low, v .low); ready = v .ready };
+      writes = writes-then (writes-counted (length (w .frames)) refl (w .writes) (rw (w .count) at p)) l;
+      paid = let x = opt-most loopForm 5 loop-most (optLoopOf (t .«loop_mode»)) in omega (arith, w .paid, l .place, v .low, w .took .low);
+    };
+  }
 
 -- ---- the node
 
-pub no-target : (s : List ℕ) (c : Cursor) (q : ℕ) → run s c word ≡ refused Missing q → run s c parseKeyframes ≡ refused Missing q
-unfolding parseKeyframes ident
-no-target s c q h = rw h
+module _ {s b : List ℕ} {c : Cursor} {out : ℕ} where
+  pub no-target : {a : List ℕ} {q : ℕ} → run s c word ≡ refused Missing q → LeafMeans s b a c out parseKeyframes (node.Refused Missing q)
+  unfolding parseKeyframes ident
+  no-target h = record { by = rw h }
 
-pub no-brace : (s : List ℕ) (c m : Cursor) (x : ℕ) (w : List ℕ) → Took 1 s c m word (x, w)
-    → (q : ℕ) → run s m (theByte 123) ≡ refused Missing q
-    → run s c parseKeyframes ≡ refused Missing q
-unfolding parseKeyframes ident
-no-brace s c m x w t q h = rw (t .is, h)
-
-module _ (s : List ℕ) (c m : Cursor) (x : Span) (t : Took 1 s c m word (x .start, spelled s x)) where
-  module _ (n : Cursor) (o : Took 1 s m n (theByte 123) tt) where
-    pub no-track : (r : Refusal) (q : ℕ) → run s n trackBehind ≡ refused r q → run s c parseKeyframes ≡ refused r q
+  module _ {m : Cursor} (x : Span) (t : Took 1 s c m word (x .start, spelled s x)) where
+    pub no-brace : {a : List ℕ} {q : ℕ} → run s m (theByte 123) ≡ refused Missing q
+        → LeafMeans s b a c out parseKeyframes (node.Refused Missing q)
     unfolding parseKeyframes ident
-    no-track r q h = rw (t .is, o .is, h)
+    no-brace h = record { by = rw (t .is, h) }
 
-    pub keyframes-went : x .start + x .size ≤ length s
-        → (b b₁ a : List ℕ) (u : Cursor) (out g q : ℕ)
-        → Writes b out (spanForm (length s) .write (spanOf x)) b₁ g
-        → BlockWent s b₁ a n u g q → Went 1 s b a c u out q parseKeyframes (leafBytes (length s))
-    unfolding parseKeyframes ident
-    keyframes-went h b b₁ a u out g q j w = record {
-      value = keyframes (record { target = spanOf x; frames = w .value .0; loopMode = w .value .1 });
-      took = record {
-        is = rw (t .is, o .is, w .took .is, spelled-length s x h);
-        low = omega (arith, t .low, o .low, w .took .low);
-        ready = w .took .ready;
-      };
-      writes = rw (map-length (w .value .0)) (writes-then j (w .writes));
-      paid = let r = j .place in
-          let l = length-span (length s) (spanOf x) in
-          omega (arith, t .low, o .low, w .took .low, w .paid);
-    }
+    module _ (h : x .start + x .size ≤ length s) {n : Cursor} (o : Took 1 s m n (theByte 123) tt)
+        {b₁ : List ℕ} {g : ℕ} (j : Writes b out (spanForm (length s) .write (spanOf x)) b₁ g) where
+      keyframes-say : (a : List ℕ) (y : NodeRead) → BlockSays s b₁ a n g y → LeafSays s b a c out parseKeyframes y
+      unfolding parseKeyframes ident
+      keyframes-say a (node.Is q u) w = record {
+        value = keyframes (record { target = spanOf x; frames = w .value .0; loopMode = w .value .1 });
+        took = record {
+          is = rw (t .is, o .is, w .took .is, spelled-length s x h);
+          low = omega (arith, t .low, o .low, w .took .low);
+          ready = w .took .ready;
+        };
+        writes = rw (map-length (w .value .0)) (writes-then j (w .writes));
+        paid = let r = j .place in
+            let l = length-span (length s) (spanOf x) in
+            omega (arith, t .low, o .low, w .took .low, w .paid);
+      }
+      keyframes-say a (node.Refused r q) w = rw (t .is, o .is, w)
 
--- the answer behind the opener is the answer of the node
-pub behind-opener : (s : List ℕ) (c m n : Cursor) (x : Span) → Took 1 s c m word (x .start, spelled s x)
-    → x .start + x .size ≤ length s → Took 1 s m n (theByte 123) tt
-    → (b b₁ a : List ℕ) (out g : ℕ) → Writes b out (spanForm (length s) .write (spanOf x)) b₁ g
-    → (y : NodeRead) → BlockMeans s b₁ a n g y → LeafMeans s b a c out parseKeyframes y
-behind-opener s c m n x t h o b b₁ a out g j (node.Is q u) w = keyframes-went s c m x t n o h b b₁ a u out g q j w
-behind-opener s c m n x t h o b b₁ a out g j (node.Refused r q) w = no-track s c m x t n o r q w
+      -- the answer behind the opener is the answer of the node
+      pub keyframes-node : {a : List ℕ} {y : NodeRead} → BlockMeans s b₁ a n g y → LeafMeans s b a c out parseKeyframes y
+      keyframes-node {a} {y} w = record { by = keyframes-say a y (w .by) }

@@ -24,8 +24,8 @@ use Rattle.cursor.specs.Word.{atOf}
 use Rattle.cursor.specs.Means.{Ready, notes, tokens, run, Took}
 use Rattle.cursor.specs.declared.Cursor.{Cursor}
 use Rattle.arrays.specs.Means.{Held}
-use Rattle.nodes.specs.declared.NodeRead.{NodeRead}
-use Rattle.nodes.specs.declared.NodeRead.the-variants as node
+use Rattle.node.specs.declared.NodeRead.{NodeRead}
+use Rattle.node.specs.declared.NodeRead.the-variants as node
 use Rattle.keyframes.specs.declared.TimeRead.{TimeRead}
 use Rattle.keyframes.specs.declared.TimeRead.the-variants as time
 use Rattle.keyframes.specs.declared.EasingIf.{EasingIf}
@@ -176,6 +176,9 @@ pub record BlockWent (s b a : List ℕ) (c m : Cursor) (out q : ℕ) : Type 0 wh
   pub writes : Writes b out (trackBytes (length s) value) a q
   pub paid : q ≤ out + 8 + 64 * (atOf m - atOf c)
 
-abbrev pub BlockMeans : List ℕ → List ℕ → List ℕ → Cursor → ℕ → NodeRead → Type 0
-BlockMeans s b a c out (node.Is q m) = BlockWent s b a c m out q
-BlockMeans s b a c out (node.Refused r q) = run s c trackBehind ≡ refused r q
+abbrev pub BlockSays : List ℕ → List ℕ → List ℕ → Cursor → ℕ → NodeRead → Type 0
+BlockSays s b a c out (node.Is q m) = BlockWent s b a c m out q
+BlockSays s b a c out (node.Refused r q) = run s c trackBehind ≡ refused r q
+
+pub record BlockMeans (s b a : List ℕ) (c : Cursor) (out : ℕ) (r : NodeRead) : Type 0 where
+  pub by : BlockSays s b a c out r

@@ -11,7 +11,7 @@ ghost use Rattle.encode.specs.Of.{PlainEntry};
 ghost use Rattle.grammar.specs.Grammar.{parseKeyframeTime, trackLoop, trackFrame, trackStep, parseKeyframes};
 ghost use Rattle.cursor.specs.Means.{Ready, Took};
 ghost use Rattle.arrays.specs.Means.{Room};
-ghost use Rattle.nodes.specs.Means.{LeafMeans};
+ghost use Rattle.node.specs.Means.{LeafMeans};
 ghost use Rattle.keyframes.specs.Means.{Inner, percentSign, keyOf, Stores, TimeMeans, keyMark, EasingMeans, ValuePut, EntryPut, EntryMeans, separator, StepMeans, Standing, TrackMeans, BlockMeans};
 use arrays::HeldRead;
 use ast::KeyframeEntry;
@@ -23,7 +23,7 @@ use cursor::MarkRead;
 use cursor::NumberRead;
 use cursor::WordRead;
 use error::Refusal;
-use nodes::NodeRead;
+use node::NodeRead;
 use number::Stored;
 use token::Number;
 use values::EasingRead;
@@ -104,7 +104,7 @@ fn time_of(text: &[u8], percent: bool, negative: bool, n: Number) -> Stored
     token::float_of(text, negative, n)
 }
 
-pub fn parse_keyframe_time(text: &[u8], c: Cursor) -> TimeRead
+fn parse_keyframe_time(text: &[u8], c: Cursor) -> TimeRead
     requires { ⌜ Ready (now text) c ⌝ }
     ensures { λ r. ⌜ TimeMeans (now (text .entry)) c parseKeyframeTime r ⌝ }
 {

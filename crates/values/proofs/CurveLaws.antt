@@ -1,19 +1,19 @@
 -- The fields of `rough` and `slowmo`, one more at a time.
 use Prim.Native.Nat.{ℕ}
 use mathlib.Core.List.{[]}
+use mathlib.Core.Option.{Option}
 use mathlib.Core.Path.{_≡_, refl}
 use lib.Ieee.{Float, binary32, round, toBits, ofBits, isNan}
 use Rattle.text.specs.Bytes.{bytes, same}
 use Rattle.number.specs.Number.{bits}
 use Rattle.ast.specs.declared.OptF32.{OptF32}
 use Rattle.ast.specs.declared.OptF32.the-variants as optFloat
-use Rattle.ast.specs.declared.OptU32.{OptU32}
 use Rattle.text.specs.Words.{default}
 use Rattle.grammar.specs.Values.{f32Of}
 use Rattle.ast.specs.declared.OptU32.the-variants as optWord
-use Rattle.encode.specs.Of.{Plain, PlainOptFloat, optFloatOf, optWordOf}
+use Rattle.encode.specs.Of.{Plain, optFloatOf}
 use Rattle.grammar.specs.Fields.{aNumber, last}
-use Rattle.values.specs.Means.{Holds, RoughHeld, SlowMoHeld, floatOr, wordOr}
+use Rattle.values.specs.Means.{Holds, RoughHeld, SlowMoHeld, FloatOr}
 use Rattle.values.specs.declared.SlowMoFields.{SlowMoFields}
 use Rattle.values.specs.declared.RoughFields.{RoughFields}
 
@@ -47,17 +47,8 @@ slow-power f x p fs h = record { linearRatio = h .linearRatio; plainRatio = h .p
 
 -- ---- what is there, or else another
 
-pub float-or : (o : OptF32) (y : Float) (n : ℕ) → bits y ≡ n → bits (floatOr o y) ≡ default (optFloatOf o) n
-float-or (optFloat.Present x) y n e = refl
-float-or optFloat.Absent y n e = e
-
-pub plain-or : (o : OptF32) (y : Float) → PlainOptFloat o → Plain y → Plain (floatOr o y)
-plain-or (optFloat.Present x) y p q = p
-plain-or optFloat.Absent y p q = q
-
-pub word-or : (o : OptU32) (n : ℕ) → wordOr o n ≡ default (optWordOf o) n
-word-or (optWord.Present m) n = refl
-word-or optWord.Absent n = refl
+pub float-or : {o : OptF32} {x : Option ℕ} {d r : Float} {b : ℕ} → FloatOr o d r → optFloatOf o ≡ x → bits d ≡ b → bits r ≡ default x b
+float-or h e q = rw (← e, ← q) (h .is)
 
 -- the literals 0.5, 0.7 and 2.0
 pub a-half : bits (ofBits binary32 1056964608) ≡ f32Of 1 2

@@ -1,4 +1,5 @@
 pub mod ValueLaws
+pub mod NameLaws
 pub mod RowLaws
 pub mod CurveLaws
 pub mod EasingLaws

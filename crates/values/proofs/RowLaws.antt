@@ -1,15 +1,12 @@
 -- The rows of a table: which one stands at a place, and what taking its value says.
-use Prim.Native.Nat.{ℕ, zero, suc, _+_, _<_}
+use Prim.Native.Nat.{ℕ, zero, suc, _<_}
 use Prim.Native.String.{String}
 use mathlib.Core.List.{List, [], _∷_}
-use mathlib.Core.Option.{none, some, Option·some-injective}
+use mathlib.Core.Option.{some, Option·some-injective}
 use mathlib.Core.Path.{_≡_, refl, sym, ap, _∙_, subst}
 use native.Mathlib.Omega.{arith}
 use lib.ListN.{length, getElem?}
-use mathlib.Core.Bool.{Bool, true, false}
-use Rattle.text.specs.Bytes.{bytes, same}
-use Rattle.text.specs.Words.{find, under}
-use Rattle.text.proofs.WordLaws.{find-here, find-past}
+use Rattle.text.specs.Bytes.{bytes}
 use Rattle.error.specs.declared.Refusal.{Refusal}
 use Rattle.grammar.specs.Rule.{Rule, refused}
 use Rattle.grammar.specs.Fields.{Table, Fields, Content, aNumber}
@@ -57,55 +54,7 @@ module _ (s : List ℕ) (c : Cursor) where
   unfolding count
   no-count r q h = rw h
 
--- ---- lists of rules under words
-
--- the words of such a list
-abbrev pub wordsOf : {A : Type 0} → List (String × A) → List (List ℕ)
-wordsOf [] = []
-wordsOf (f ∷ fs) = bytes (f .0) ∷ wordsOf fs
-
--- a row that a lookup of its word finds at d
-pub record Under {A : Type 0} (t : List (String × A)) (w : List ℕ) (d : ℕ) : Type 0 where
-  pub row : String × A
-  pub is : getElem? t d ≡ some row
-  pub under : under t w ≡ some (row .1)
-
-under-by : {A : Type 0} (f : String × A) (fs : List (String × A)) (i m : ℕ) (w : List ℕ) → find (wordsOf (f ∷ fs)) i w ≡ some m
-    → (find (wordsOf fs) (suc i) w ≡ some m → (d : ℕ) × (m ≡ suc i + d) × Under fs w d)
-    → (b : Bool) → same w (bytes (f .0)) ≡ b → (d : ℕ) × (m ≡ i + d) × Under (f ∷ fs) w d
-unfolding under
-under-by f fs i m w e ih true q = (
-  0,
-  let z = Option·some-injective i m (sym (find-here w (bytes (f .0)) (wordsOf fs) i q) ∙ e) in omega arith,
-  record { row = f; is = refl; under = rw (q, under) },
-)
-under-by f fs i m w e ih false q =
-    let (d, p, r) = ih (sym (find-past w (bytes (f .0)) (wordsOf fs) i q) ∙ e) in
-    (suc d, omega arith, record { row = r .row; is = r .is; under = rw (q, under) (r .under) })
-
-under-from : {A : Type 0} (t : List (String × A)) (i m : ℕ) (w : List ℕ)
-    → find (wordsOf t) i w ≡ some m → (d : ℕ) × (m ≡ i + d) × Under t w d
-unfolding find
-under-from [] i m w e = absurd (let z : _≡_ {A = ℕ} 0 1 = cc in omega arith)
-under-from (f ∷ fs) i m w e = under-by f fs i m w e (λ q. under-from fs (suc i) m w q) (same w (bytes (f .0))) refl
-
-pub under-found : {A : Type 0} (t : List (String × A)) (m : ℕ) (w : List ℕ) → find (wordsOf t) 0 w ≡ some m → Under t w m
-under-found t m w e = let (d, p, r) = under-from t 0 m w e in let q : m ≡ d = omega arith in subst (Under t w) (sym q) r
-
-under-none-by : {A : Type 0} (f : String × A) (fs : List (String × A)) (i : ℕ) (w : List ℕ) → find (wordsOf (f ∷ fs)) i w ≡ none
-    → (find (wordsOf fs) (suc i) w ≡ none → under fs w ≡ none) → (b : Bool) → same w (bytes (f .0)) ≡ b → under (f ∷ fs) w ≡ none
-unfolding under
-under-none-by f fs i w e ih true q =
-    absurd (let z = sym e ∙ find-here w (bytes (f .0)) (wordsOf fs) i q in let y : _≡_ {A = ℕ} 0 1 = cc in omega arith)
-under-none-by f fs i w e ih false q = rw (q, under) (ih (sym (find-past w (bytes (f .0)) (wordsOf fs) i q) ∙ e))
-
-under-none-from : {A : Type 0} (t : List (String × A)) (i : ℕ) (w : List ℕ) → find (wordsOf t) i w ≡ none → under t w ≡ none
-unfolding under
-under-none-from [] i w e = refl
-under-none-from (f ∷ fs) i w e = under-none-by f fs i w e (λ q. under-none-from fs (suc i) w q) (same w (bytes (f .0))) refl
-
-pub under-none : {A : Type 0} (t : List (String × A)) (w : List ℕ) → find (wordsOf t) 0 w ≡ none → under t w ≡ none
-under-none t w e = under-none-from t 0 w e
+-- ---- places of a table
 
 -- a place that has a row is one of the table's
 pub elem-lt : {A : Type 0} (t : List A) (i : ℕ) (x : A) → getElem? t i ≡ some x → i < length t

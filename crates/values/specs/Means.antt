@@ -1,7 +1,7 @@
 -- What the answers of the functions mean, in terms of the grammar's rules. Contracts cite these.
 use Prim.Native.Nat.{ℕ}
 use Prim.Native.String.{String}
-use mathlib.Core.List.{List, _∷_}
+use mathlib.Core.List.{List, [], _∷_}
 use mathlib.Core.Option.{some}
 use mathlib.Core.Path.{_≡_}
 use lib.ListN.{getElem?}
@@ -9,10 +9,12 @@ use lib.Ieee.{Float}
 use Rattle.number.specs.Number.{bits}
 use Rattle.ast.specs.Tree as tree
 use Rattle.encode.specs.Of.{Plain, PlainEasing, PlainOptFloat, easingOf, loopOf, optFloatOf, optWordOf}
-use Rattle.grammar.specs.Rule.{refused, Rule}
+use Rattle.grammar.specs.Rule.{refused, Rule, _>>=_, need, word}
 use Rattle.grammar.specs.Fields.{Content, Fields, pairs, lastNumber}
 use Rattle.grammar.specs.Values.{roughFields, slowMoFields, curves, loopModes}
 use Rattle.text.specs.Bytes.{bytes}
+use Rattle.text.specs.Words.{default, under}
+use Rattle.error.specs.declared.Refusal.{Refusal}
 use Rattle.cursor.specs.Means.{run, Took}
 use Rattle.cursor.specs.declared.Cursor.{Cursor}
 use Rattle.values.specs.declared.PairRead.{PairRead}
@@ -20,9 +22,6 @@ use Rattle.values.specs.declared.PairRead.the-variants as pair
 use Rattle.values.specs.declared.EasingRead.{EasingRead}
 use Rattle.values.specs.declared.EasingRead.the-variants as easing
 use Rattle.ast.specs.declared.OptF32.{OptF32}
-use Rattle.ast.specs.declared.OptF32.the-variants as optFloat
-use Rattle.ast.specs.declared.OptU32.{OptU32}
-use Rattle.ast.specs.declared.OptU32.the-variants as optWord
 use Rattle.values.specs.declared.SlowMoFields.{SlowMoFields}
 use Rattle.values.specs.declared.SlowMoRead.{SlowMoRead}
 use Rattle.values.specs.declared.SlowMoRead.the-variants as slowMo
@@ -70,14 +69,21 @@ CurveMeans s c i a = (row : String × Rule tree.EasingSpec) → getElem? curves 
 abbrev pub ModeAtMeans : List ℕ → Cursor → ℕ → LoopRead → Type 0
 ModeAtMeans s c i a = (row : String × Rule tree.LoopSpec) → getElem? loopModes i ≡ some row → ModeMeans s c (row .1) a
 
--- what is there, or else another
-abbrev pub floatOr : OptF32 → Float → Float
-floatOr (optFloat.Present x) y = x
-floatOr optFloat.Absent y = y
+-- the float of o, or else d
+pub record FloatOr (o : OptF32) (d r : Float) : Type 0 where
+  pub is : bits r ≡ default (optFloatOf o) (bits d)
+  pub plain : PlainOptFloat o → Plain d → Plain r
 
-abbrev pub wordOr : OptU32 → ℕ → ℕ
-wordOr (optWord.Present n) m = n
-wordOr optWord.Absent m = m
+-- ---- by name
+
+-- the names of some rows
+abbrev pub namesOf : {A : Type 0} → List (String × A) → List (List ℕ)
+namesOf [] = []
+namesOf (f ∷ fs) = bytes (f .0) ∷ namesOf fs
+
+-- the rule that a word names, or a refusal where none does
+abbrev pub byName : {A : Type 0} → Refusal → List (String × Rule A) → Rule A
+byName r t = word >>= λ w. need r (under t (w .1)) >>= λ p. p
 
 -- ---- fields of a curve
 

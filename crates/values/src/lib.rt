@@ -6,9 +6,12 @@ ghost use Rattle.grammar.specs.Values.{parseFloatInParens, parseUintInParens, c
 ghost use Rattle.fields.specs.Means as fields;
 ghost use Rattle.cursor.specs.Means.{Ready, FloatMeans, UintMeans, spelled};
 ghost use lib.ListN.{length};
-ghost use Rattle.values.specs.Means.{PairMeans, EasingMeans, CurveMeans, NamedMeans, LoopMeans, ModeMeans, ModeAtMeans, RoughFieldMeans, RoughMeans, SlowMoFieldMeans, SlowMoMeans, floatOr, wordOr};
+ghost use Rattle.text.specs.Words.{default};
+ghost use Rattle.encode.specs.Of.{optWordOf, optCaseOf};
+ghost use Rattle.values.specs.Means.{PairMeans, EasingMeans, CurveMeans, NamedMeans, LoopMeans, ModeMeans, ModeAtMeans, RoughFieldMeans, RoughMeans, SlowMoFieldMeans, SlowMoMeans, FloatOr};
 use ast::EasingSpec;
 use ast::LoopSpec;
+use ast::OptCase;
 use ast::OptF32;
 use ast::OptU32;
 use ast::Span;
@@ -50,7 +53,7 @@ pub fn parse_float_in_parens(text: &[u8], c: Cursor) -> FloatRead
     }
 }
 
-pub fn uint_in_parens(text: &[u8], c: Cursor) -> UintRead
+fn uint_in_parens(text: &[u8], c: Cursor) -> UintRead
     requires { ⌜ Ready (now text) c ⌝ }
     ensures { λ r. ⌜ UintMeans (now (text .entry)) c parseUintInParens r ⌝ }
 {
@@ -301,25 +304,36 @@ fn slow_mo_fields(text: &[u8], c: Cursor) -> SlowMoRead
     }
 }
 
-// ---- the curves, and names
+// ---- what is present, or else a default
 
-fn float_or(o: OptF32, other: f32) -> f32
-    ensures { λ r. ⌜ r ≡ floatOr o other ⌝ }
+pub fn word_or(o: OptU32, d: u32) -> u32
+    ensures { λ r. ⌜ r ≡ default (optWordOf o) d ⌝ }
 {
     match o {
-        OptF32::Present(x) => x,
-        OptF32::Absent => other,
-    }
-}
-
-fn word_or(o: OptU32, other: u32) -> u32
-    ensures { λ r. ⌜ r ≡ wordOr o other ⌝ }
-{
-    match o {
+        OptU32::Absent => d,
         OptU32::Present(n) => n,
-        OptU32::Absent => other,
     }
 }
+
+pub fn case_or(o: OptCase, d: u8) -> u8
+    ensures { λ r. ⌜ r ≡ default (optCaseOf o) d ⌝ }
+{
+    match o {
+        OptCase::Absent => d,
+        OptCase::Present(k) => k,
+    }
+}
+
+pub fn float_or(o: OptF32, d: f32) -> f32
+    ensures { λ r. ⌜ FloatOr o d r ⌝ }
+{
+    match o {
+        OptF32::Absent => d,
+        OptF32::Present(x) => x,
+    }
+}
+
+// ---- the curves, and names
 
 // `(strength: s, points: n)`, behind `rough`; 0.5 and 8 where they are left out.
 fn rough_curve(text: &[u8], c: Cursor) -> EasingRead

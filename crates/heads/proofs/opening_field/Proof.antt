@@ -8,7 +8,7 @@ use Rattle.cursor.specs.Means.{noKeywords}
 use Rattle.heads.proofs.StaggerLaws.{named-opening}
 use Rattle.grammar.specs.Grammar.{openingFields}
 use Rattle.heads.specs.Means.{openingOf}
-use Rattle.heads.proofs.NameLaws.{unnamed}
+use Rattle.values.proofs.NameLaws.{unnamed}
 use Rattle.error.specs.declared.Refusal.the-variants.{UnknownKeyword}
 use borrow.Author.Needs.{needs}
 use Rattle.heads.proofs.opening_field.Statement.{statement}

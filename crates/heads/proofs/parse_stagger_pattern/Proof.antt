@@ -7,7 +7,7 @@ use Rattle.words.specs.Lists.{listOf}
 use Rattle.cursor.specs.Means.{noKeywords}
 use Rattle.heads.proofs.HeadLaws.{named-pattern}
 use Rattle.grammar.specs.Grammar.{parseStaggerPattern, patterns}
-use Rattle.heads.proofs.NameLaws.{unnamed}
+use Rattle.values.proofs.NameLaws.{unnamed}
 use Rattle.error.specs.declared.Refusal.the-variants.{Malformed}
 use borrow.Author.Needs.{needs}
 use Rattle.heads.proofs.parse_stagger_pattern.Statement.{statement}

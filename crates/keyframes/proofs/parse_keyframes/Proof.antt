@@ -1,6 +1,6 @@
 -- `keyframes::parse_keyframes` meets its contract.
 use native.Mathlib.Omega.{arith}
-use Rattle.keyframes.proofs.TrackLaws.{behind-opener, no-brace, no-target}
+use Rattle.keyframes.proofs.TrackLaws.{keyframes-node, no-brace, no-target}
 use lib.ListN.{length}
 use borrow.Author.Needs.{needs}
 use Rattle.keyframes.proofs.parse_keyframes.Statement.{statement}
@@ -24,17 +24,14 @@ track-value-requires c κs =
     )
 
 returns : tie.Need-returns
-returns c =
-    let at-word = c .before .before .before in
-    let args = at-word .before .before .before .args in
-    no-target (args .text .now) (args .c) _ (rw (c .before .p .given .1) at (at-word .word .ensures))
+returns c = no-target (rw (c .before .p .given .1) at (c .before .before .before .word .ensures))
 
 returns-2 : tie.Need-returns-2
 returns-2 c =
     let at-mark = c .before .before .before in
     let at-target = at-mark .before .before in
     let at-word = at-target .before .before in
-    no-brace _ _ _ _ _ ((rw (at-target .target .given .1) at (at-word .word .ensures)) .0) _
+    no-brace (at-target .target .given .0 .0) ((rw (at-target .target .given .1) at (at-word .word .ensures)) .0)
     (rw (c .before .p2 .given .1) at (at-mark .mark .ensures))
 
 returns-3 : tie.Need-returns-3
@@ -47,22 +44,8 @@ returns-3 c =
     let at-word = at-target .before .before in
     let args = at-word .before .before .before .args in
     let t = rw (at-target .target .given .1) at (at-word .word .ensures) in
-    behind-opener
-    (args .text .now)
-    (args .c)
-    _ _
-    (at-target .target .given .0 .0)
-    (t .0)
-    (t .1)
-    (rw (at-n .n .given .1) at (at-mark .mark .ensures))
-    (args .sheet .now)
-    _
-    (at-track-value .track-value .last .1 .0)
-    (args .out)
-    _
-    (at-put-span .put-span .ensures (length (args .text .now)))
-    (at-track-value .track-value .result)
-    (at-track-value .track-value .ensures)
+    keyframes-node (at-target .target .given .0 .0) (t .0) (t .1) (rw (at-n .n .given .1) at (at-mark .mark .ensures))
+    (at-put-span .put-span .ensures (length (args .text .now))) (at-track-value .track-value .ensures)
 
 pub parse-keyframes-spec : {M : Type 1} → statement M
 parse-keyframes-spec =

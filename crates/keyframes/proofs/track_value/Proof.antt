@@ -26,8 +26,7 @@ returns : tie.Need-returns
 returns c =
     let at-r = c .before in
     let at-track-items = at-r .before .before .before .before in
-    let args = at-track-items .before .before .before .before .args in
-    block-refused (args .text .now) (args .c) _ _ (rw (at-r .r .given .1) at (at-track-items .track-items .ensures))
+    block-refused (rw (at-r .r .given .1) at (at-track-items .track-items .ensures))
 
 returns-2 : tie.Need-returns-2
 returns-2 c =
@@ -35,19 +34,8 @@ returns-2 c =
     let at-patch-count = at-put-opt-loop .before .before .before .before in
     let at-t = at-patch-count .before .before .before .before in
     let at-track-items = at-t .before .before .before .before in
-    let args = at-track-items .before .before .before .before .args in
-    block-went
-    (args .text .now)
-    (args .sheet .now)
-    _ _ _
-    (args .c)
-    _
-    (args .out)
-    _ _ _
-    (rw (at-t .t .given .1) at (at-track-items .track-items .ensures))
-    (at-patch-count .patch-count .ensures)
-    (at-put-opt-loop .put-opt-loop .ensures)
-    (c .leave-group .ensures)
+    block-went (rw (at-t .t .given .1) at (at-track-items .track-items .ensures)) (at-patch-count .patch-count .ensures)
+    (at-put-opt-loop .put-opt-loop .ensures) (c .leave-group .ensures)
 
 pub track-value-spec : {M : Type 1} → statement M
 track-value-spec =

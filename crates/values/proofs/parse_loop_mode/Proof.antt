@@ -3,7 +3,7 @@ use Rattle.text.specs.Bytes.{at}
 use Rattle.grammar.specs.Values.{loopModes, parseLoopMode}
 use Rattle.words.specs.Lists.{listOf}
 use Rattle.words.proofs.KeyLaws.{place-some, place-none}
-use Rattle.values.proofs.RowLaws.{under-found, under-none}
+use Rattle.values.proofs.NameLaws.{under-row, under-none}
 use Rattle.values.proofs.EasingLaws.{mode-found}
 use borrow.Author.Needs.{needs}
 use Rattle.values.proofs.parse_loop_mode.Statement.{statement}
@@ -18,7 +18,7 @@ returns c =
     let at-name = c .before .before .before .before in
     let at-word = at-name .before .before in
     let w = rw (at-name .name .given .1) at (at-word .word .ensures) in
-    let u = under-none loopModes _ (place-none _ (c .before .before .find .ensures) (c .before .if1 .taken)) in
+    let u = under-none loopModes 0 _ (place-none _ (c .before .before .find .ensures) (c .before .if1 .taken)) in
     rw (w .0 .is, u, w .0 .ready .head .place, c .place .ensures)
 
 mode-requires : tie.Need-mode-requires
@@ -39,7 +39,7 @@ returns-3 c =
     let at-word = at-name .before .before in
     let args = at-word .before .before .args in
     let w = rw (at-name .name .given .1) at (at-word .word .ensures) in
-    let u = under-found loopModes _ _ (place-some _ (at-find .find .ensures) (c .before .if1 .left)) in
+    let u = under-row loopModes _ _ (place-some _ (at-find .find .ensures) (c .before .if1 .left)) in
     mode-found (args .text .now) (args .c) _ _ _ (u .row .1) (c .mode .result) (w .0) (u .under) (c .mode .ensures (u .row) (u .is))
 
 pub parse-loop-mode-spec : {M : Type 1} → statement M

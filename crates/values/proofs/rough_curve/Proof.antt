@@ -1,14 +1,9 @@
 -- `values::rough_curve` meets its contract.
-use lib.Ieee.{ofBits, binary32}
-use mathlib.Core.Option.{Option}
-use Rattle.values.proofs.CurveLaws.{a-half, float-or, plain-half, plain-or, word-or}
-use mathlib.Core.Path.{ap, _∙_}
+use Rattle.values.proofs.CurveLaws.{a-half, float-or, plain-half}
 use Rattle.text.specs.Bytes.{at}
-use Rattle.text.specs.Words.{default}
-use Rattle.grammar.specs.Values.{f32Of, roughCurve, roughFields}
+use Rattle.grammar.specs.Values.{roughCurve, roughFields}
 use Rattle.values.proofs.ValueLaws.{inside-any, inside-missing, inside-refused}
 use Rattle.grammar.specs.Fields.{pairs}
-use Prim.Native.Nat.{ℕ}
 use borrow.Author.Needs.{needs}
 use Rattle.values.proofs.rough_curve.Statement.{statement}
 use Rattle.values.proofs.rough_curve.Tie as tie
@@ -52,12 +47,9 @@ returns-3 c =
     let t = inside-any (args .text .now) 40 (pairs roughFields) (args .c) _ (rw (at-m .m .given .1) at (at-mark .mark .ensures)) _ _ _
     (f .1) (at-leave-group .leave-group .ensures)
     in
-    let s = float-or (at-f .f .given .0 .0 .strength) (ofBits binary32 1056964608) _ a-half
-    ∙ ap (λ (o : Option ℕ). default o (f32Of 1 2)) (f .2 .strength)
-    in
-    let p = word-or (at-f .f .given .0 .0 .points) 8 ∙ ap (λ (o : Option ℕ). default o 8) (f .2 .points) in (
-      record { is = rw (t .is, c .before .float-or .ensures, c .word-or .ensures, s, p); low = t .low; ready = t .ready },
-      rw (c .before .float-or .ensures) (plain-or (at-f .f .given .0 .0 .strength) (ofBits binary32 1056964608) (f .2 .plain) plain-half),
+    let s = float-or (c .before .float-or .ensures) (f .2 .strength) a-half in (
+      record { is = rw (t .is, s, c .word-or .ensures, f .2 .points); low = t .low; ready = t .ready },
+      c .before .float-or .ensures .plain (f .2 .plain) plain-half,
     )
 
 pub rough-curve-spec : {M : Type 1} → statement M

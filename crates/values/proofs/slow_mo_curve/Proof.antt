@@ -1,14 +1,9 @@
 -- `values::slow_mo_curve` meets its contract.
-use lib.Ieee.{ofBits, binary32}
-use mathlib.Core.Option.{Option}
-use mathlib.Core.Path.{ap, _∙_}
 use Rattle.text.specs.Bytes.{at}
-use Rattle.text.specs.Words.{default}
-use Rattle.grammar.specs.Values.{f32Of, slowMoCurve, slowMoFields}
-use Rattle.values.proofs.CurveLaws.{float-or, plain-or, plain-seven, plain-two, seven-tenths, two-wholes}
+use Rattle.grammar.specs.Values.{slowMoCurve, slowMoFields}
+use Rattle.values.proofs.CurveLaws.{float-or, plain-seven, plain-two, seven-tenths, two-wholes}
 use Rattle.values.proofs.ValueLaws.{inside-any, inside-missing, inside-refused}
 use Rattle.grammar.specs.Fields.{pairs}
-use Prim.Native.Nat.{ℕ}
 use borrow.Author.Needs.{needs}
 use Rattle.values.proofs.slow_mo_curve.Statement.{statement}
 use Rattle.values.proofs.slow_mo_curve.Tie as tie
@@ -53,17 +48,12 @@ returns-3 c =
     let t = inside-any (args .text .now) 40 (pairs slowMoFields) (args .c) _ (rw (at-m .m .given .1) at (at-mark .mark .ensures)) _ _ _
     (f .1) (at-leave-group .leave-group .ensures)
     in
-    let s = float-or (at-f .f .given .0 .0 .«linear_ratio») (ofBits binary32 1060320051) _ seven-tenths
-    ∙ ap (λ (o : Option ℕ). default o (f32Of 7 10)) (f .2 .linearRatio)
-    in
-    let p = float-or (at-f .f .given .0 .0 .power) (ofBits binary32 1073741824) _ two-wholes
-    ∙ ap (λ (o : Option ℕ). default o (f32Of 2 1)) (f .2 .power)
-    in (
-      record { is = rw (t .is, c .before .float-or .ensures, c .float-or2 .ensures, s, p); low = t .low; ready = t .ready },
+    let s = float-or (c .before .float-or .ensures) (f .2 .linearRatio) seven-tenths in
+    let p = float-or (c .float-or2 .ensures) (f .2 .power) two-wholes in (
+      record { is = rw (t .is, s, p); low = t .low; ready = t .ready },
       (
-        rw (c .before .float-or .ensures)
-            (plain-or (at-f .f .given .0 .0 .«linear_ratio») (ofBits binary32 1060320051) (f .2 .plainRatio) plain-seven),
-        rw (c .float-or2 .ensures) (plain-or (at-f .f .given .0 .0 .power) (ofBits binary32 1073741824) (f .2 .plainPower) plain-two),
+        c .before .float-or .ensures .plain (f .2 .plainRatio) plain-seven,
+        c .float-or2 .ensures .plain (f .2 .plainPower) plain-two,
       ),
     )
 

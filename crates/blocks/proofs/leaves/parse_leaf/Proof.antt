@@ -2,7 +2,7 @@
 use mathlib.Core.Path.{refl}
 use Rattle.grammar.specs.Grammar.{leaves, parseTween, parseSpring, parseKeyframes, parsePath, parseMorph}
 use Rattle.grammar.specs.Grammar.{parseDraw, parseColor, parseWaveform, parsePresetCall, parseLabel}
-use Rattle.cells.proofs.StepLaws.{past}
+use Rattle.node.proofs.StepLaws.{past}
 use Rattle.blocks.proofs.LeafLaws.{row-at, last-row}
 use borrow.Author.Needs.{needs}
 use Rattle.blocks.proofs.leaves.parse_leaf.Statement.{statement}

@@ -1,0 +1,5 @@
+pub mod CellLaws
+pub mod EndLaws
+pub mod EndsLaws
+pub mod PutLaws
+pub mod StepLaws

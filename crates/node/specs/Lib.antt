@@ -1,0 +1,2 @@
+pub mod CellMeans
+pub mod Means
