@@ -1,13 +1,13 @@
--- `listing::put` meets its contract.
+-- `book_answers::put` meets its contract.
 use Rattle.text.specs.Bytes.{at}
 use Prim.Native.Nat.{_≤_, _-_}
 use mathlib.Core.List.{_++_}
 use mathlib.Core.Path.{_≡_, refl}
 use native.Mathlib.Omega.{arith}
 use lib.ListN.{length, take, drop, length-set}
-use Rattle.listing.proofs.ListingLaws.{put-short, put-whole, copied}
-use Rattle.listing.proofs.put.Statement.{statement}
-use Rattle.listing.proofs.put.Tie as tie
+use Rattle.book_answers.proofs.AnswerLaws.{put-short, put-whole, copied}
+use Rattle.book_answers.proofs.put.Statement.{statement}
+use Rattle.book_answers.proofs.put.Tie as tie
 
 abbrev Inv-loop : tie.InvT-loop
 Inv-loop from n out₀ i₀ out i = (i ≤ n) × (out ≡ take i from ++ drop i out₀) × (length out ≡ length out₀)

@@ -4,8 +4,8 @@ use mathlib.Core.List.{List}
 use mathlib.Core.Option.{Option, none, some}
 use Rattle.books.specs.Book.{Item, Book, held, wrong}
 use Rattle.books.specs.Lookup.{named}
-use Rattle.lookup.specs.declared.Place.{Place}
-use Rattle.lookup.specs.declared.Place.the-variants as place
+use Rattle.book_answers.specs.declared.Place.{Place}
+use Rattle.book_answers.specs.declared.Place.the-variants as place
 
 -- where a book has a name
 abbrev pub placed : Option Item → Place

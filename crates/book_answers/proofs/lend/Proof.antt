@@ -1,7 +1,7 @@
--- `lookup::lend` meets its contract.
+-- `book_answers::lend` meets its contract.
 use borrow.Author.Needs.{needs}
-use Rattle.lookup.proofs.lend.Statement.{statement}
-use Rattle.lookup.proofs.lend.Tie as tie
+use Rattle.book_answers.proofs.lend.Statement.{statement}
+use Rattle.book_answers.proofs.lend.Tie as tie
 
 returns : tie.Need-returns
 returns c = rw (c .before .before .answer .given .1) (c .part .ensures)
