@@ -10,8 +10,9 @@ use native.Mathlib.Numerals.{add-one}
 use native.Mathlib.Omega.{arith}
 use lib.ListN.{getElem?, length, length-append}
 use lib.Ieee.{Float}
-use Rattle.number.specs.Time.{Key, storedTime, near, anyNear, duplicates, FairPercent, AtMost, Far, Equal, Close, Each, Pairs}
-use Rattle.number.proofs.Times.{far-not-near, same-near}
+use Rattle.number.specs.Time.{Key, storedTime, near, anyNear, duplicates}
+use Rattle.times.specs.Terms.{FairPercent, AtMost, Far, Equal, Close, Each, Pairs}
+use Rattle.times.proofs.Times.{far-not-near, same-near}
 
 -- ---- some pair is near
 or-false : (a b : Bool) → a ≡ false → b ≡ false → (a || b) ≡ false

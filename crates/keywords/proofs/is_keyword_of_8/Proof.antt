@@ -1,11 +1,11 @@
--- `token::is_keyword_of_8` meets its contract.
+-- `keywords::is_keyword_of_8` meets its contract.
 use mathlib.Core.Path.{ap, sym, _∙_}
 use borrow.Author.Needs.{needs}
 use Rattle.text.specs.Words.{isSome}
 use Rattle.text.proofs.WordLaws.{find-here, find-past}
-use Rattle.token.proofs.NameLaws.{find-last}
-use Rattle.token.proofs.is_keyword_of_8.Statement.{statement}
-use Rattle.token.proofs.is_keyword_of_8.Tie as tie
+use Rattle.keywords.proofs.NameLaws.{find-last}
+use Rattle.keywords.proofs.is_keyword_of_8.Statement.{statement}
+use Rattle.keywords.proofs.is_keyword_of_8.Tie as tie
 
 returns : tie.Need-returns
 returns c =

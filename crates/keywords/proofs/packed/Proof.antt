@@ -1,14 +1,14 @@
--- `token::packed` meets its contract; the last n bytes are packed.
+-- `keywords::packed` meets its contract; the last n bytes are packed.
 use Prim.Native.Nat.{suc, _+_, _-_, _<_, _≤_}
 use mathlib.Core.Path.{_≡_, sym}
 use native.Mathlib.Nat.{sub-zero}
 use native.Mathlib.Omega.{arith}
 use lib.ListN.{length, drop}
 use borrow.Author.Needs.{needs}
-use Rattle.token.specs.Means.{pack}
-use Rattle.token.proofs.NameLaws.{pack-small, pack-at, pack-end}
-use Rattle.token.proofs.packed.Statement.{statement}
-use Rattle.token.proofs.packed.Tie as tie
+use Rattle.keywords.specs.Means.{pack}
+use Rattle.keywords.proofs.NameLaws.{pack-small, pack-at, pack-end}
+use Rattle.keywords.proofs.packed.Statement.{statement}
+use Rattle.keywords.proofs.packed.Tie as tie
 
 abbrev Inv-loop : tie.InvT-loop
 Inv-loop word v₀ n₀ v n = (n ≤ length word) × (v ≡ pack (drop (length word - n) word))

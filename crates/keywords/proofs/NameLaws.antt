@@ -14,11 +14,11 @@ use borrow.Author.Tests.{eqb-true, eq-eqb, ne-eqb, ltb-true}
 use Rattle.text.specs.Bytes.{same, oneOf}
 use Rattle.text.specs.Words.{isSome, words, find, shorter}
 use Rattle.text.proofs.WordLaws.{same-eq, same-refl, find-here, find-past, find-long}
 use Rattle.token.specs.Names.{keywords, isKeyword}
-use Rattle.token.specs.Means.{pack, packs, packedKeywords, longKeywords}
+use Rattle.keywords.specs.Means.{pack, packs, packedKeywords, longKeywords}
 use Rattle.lengths.specs.Sized.{sized}
 use Rattle.lengths.proofs.SizedLaws.{find-sized}
 use Rattle.token.proofs.WholeLaws.{never, either, both, every, every-in}
 
 -- ---- words of some lengths
 

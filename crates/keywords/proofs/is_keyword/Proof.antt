@@ -1,15 +1,15 @@
--- `token::is_keyword` meets its contract: a word of at most 7 bytes is found by its number, one of 8 byte by byte.
+-- `keywords::is_keyword` meets its contract: a word of at most 7 bytes is found by its number, one of 8 byte by byte.
 use mathlib.Core.Path.{refl, _∙_}
 use native.Mathlib.Omega.{arith}
 use borrow.Author.Needs.{needs}
 use borrow.Author.Tests.{lt-ltb}
 use lib.ListN.{length}
 use Rattle.lengths.specs.Sized.{sized}
-use Rattle.token.specs.Means.{upTo4, upTo7}
+use Rattle.keywords.specs.Means.{upTo4, upTo7}
 use Rattle.token.proofs.WholeLaws.{every}
-use Rattle.token.proofs.NameLaws.{allBytes, keyword-packed, keyword-eight, keyword-long}
-use Rattle.token.proofs.is_keyword.Statement.{statement}
-use Rattle.token.proofs.is_keyword.Tie as tie
+use Rattle.keywords.proofs.NameLaws.{allBytes, keyword-packed, keyword-eight, keyword-long}
+use Rattle.keywords.proofs.is_keyword.Statement.{statement}
+use Rattle.keywords.proofs.is_keyword.Tie as tie
 
 returns : tie.Need-returns
 unfolding allBytes every sized

@@ -11,13 +11,14 @@ use lib.Pow.{pow-add, pow-pos}
 use lib.Ieee.{Float, nan, inf, fin, binary32, up, down, round}
 use lib.Ieee.Exact.{HasValue}
 use lib.Ieee.Scale.{grid}
 use Rattle.number.specs.Number.{nearest, percent}
 use Rattle.number.specs.Exact.{Exact, exactOf, gap, apart, dens}
-use Rattle.number.specs.Time.{Key, writtenTime, storedTime, near, FairPercent, AtMost, Within, Far, Equal, Close}
+use Rattle.number.specs.Time.{Key, writtenTime, storedTime, near}
+use Rattle.times.specs.Terms.{FairPercent, AtMost, Within, Far, Equal, Close}
 use Rattle.number.proofs.Error.{Near}
 use Rattle.number.proofs.Gap.{gap-scale}
-use Rattle.number.proofs.Apart.{within, held, separated, equal, close}
+use Rattle.times.proofs.Apart.{within, held, separated, equal, close}
 use Rattle.number.proofs.Hundredth.{percent-once}
 
 -- ---- one fraction ±n / d of size at most 2 ^ k, and its f32
 

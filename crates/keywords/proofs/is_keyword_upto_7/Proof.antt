@@ -1,12 +1,12 @@
--- `token::is_keyword_upto_7` meets its contract: its keys are the numbers of the definition, which is computed.
+-- `keywords::is_keyword_upto_7` meets its contract: its keys are the numbers of the definition, which is computed.
 use mathlib.Core.Path.{refl, sym}
 use Rattle.lengths.specs.Sized.{sized}
 use Rattle.text.specs.Bytes.{oneOf}
-use Rattle.token.specs.Means.{pack, packs, upTo7, packedKeywords}
+use Rattle.keywords.specs.Means.{pack, packs, upTo7, packedKeywords}
 use Rattle.token.proofs.WholeLaws.{every}
-use Rattle.token.proofs.NameLaws.{insert, sorted, keys-among, keys-apart}
-use Rattle.token.proofs.is_keyword_upto_7.Statement.{statement}
-use Rattle.token.proofs.is_keyword_upto_7.Tie as tie
+use Rattle.keywords.proofs.NameLaws.{insert, sorted, keys-among, keys-apart}
+use Rattle.keywords.proofs.is_keyword_upto_7.Statement.{statement}
+use Rattle.keywords.proofs.is_keyword_upto_7.Tie as tie
 
 returns : tie.Need-returns
 unfolding every oneOf insert sorted packedKeywords packs pack sized
