@@ -1,6 +1,6 @@
 #!/usr/bin/env python3
-"""The stored cases that the program `cases` answers. A kind's cases are the lines of crates/cases/data/KIND/cases; its answers stand in
-crates/cases/stdout behind the line `== KIND`. Run it from the repository's root.
+"""The stored cases that the programs `sheet_cases` and `script_cases` answer. A kind's cases are the lines of the file data/KIND/cases of its
+program's crate; its answers stand in the crate's file stdout behind the line `== KIND`. Run it from the repository's root.
 
   stored.py answers KIND                write the kind's answers
   stored.py store KIND CASES ANSWERS    put the lines of two files in the place of the kind's cases and of its answers
@@ -8,13 +8,23 @@ crates/cases/stdout behind the line `== KIND`. Run it from the repository's root
 import os
 import sys
 
-# in the order in which the program answers them
-KINDS = ("sheet", "check", "color", "convert", "line", "script", "feed", "rounded", "back", "book", "scratch", "plane", "wave", "number", "shelf")
-ANSWERS = "crates/cases/stdout"
+# for each program its kinds, in the order in which it answers them
+KINDS = {
+    "sheet_cases": ("sheet", "check", "color", "convert", "line", "back", "plane", "wave"),
+    "script_cases": ("script", "feed", "rounded", "book", "scratch", "number", "shelf"),
+}
+
+
+def program(kind):
+    return next(name for name, kinds in KINDS.items() if kind in kinds)
 
 
 def place(kind):
-    return f"crates/cases/data/{kind}/cases"
+    return f"crates/{program(kind)}/data/{kind}/cases"
+
+
+def answers(name):
+    return f"crates/{name}/stdout"
 
 
 def lines_of(path):
@@ -22,10 +32,10 @@ def lines_of(path):
         return file.read().split("\n")[:-1]
 
 
-def sections():
-    """For each kind its answers."""
-    found = {kind: [] for kind in KINDS}
-    for line in lines_of(ANSWERS) if os.path.exists(ANSWERS) else []:
+def sections(name):
+    """For each kind of a program its answers."""
+    found = {kind: [] for kind in KINDS[name]}
+    for line in lines_of(answers(name)) if os.path.exists(answers(name)) else []:
         if line.startswith("== "):
             section = found[line.removeprefix("== ")]
         else:
@@ -38,7 +48,7 @@ def stored_cases(kind):
 
 
 def stored_answers(kind):
-    return sections()[kind]
+    return sections(program(kind))[kind]
 
 
 def write(path, lines):
@@ -49,17 +59,18 @@ def write(path, lines):
 
 def store(kind, its_cases, its_answers):
     """Puts these lines in the place of the kind's cases and of its answers; those of the other kinds stay."""
-    found = sections() | {kind: list(its_answers)}
+    name = program(kind)
+    found = sections(name) | {kind: list(its_answers)}
     assert not any(line.startswith("== ") for section in found.values() for line in section)
     write(place(kind), its_cases)
-    write(ANSWERS, [line for name in KINDS for line in (f"== {name}", *found[name])])
+    write(answers(name), [line for one in KINDS[name] for line in (f"== {one}", *found[one])])
 
 
 def main():
     match sys.argv[1:]:
         case ["answers", kind]:
             sys.stdout.writelines(line + "\n" for line in stored_answers(kind))
-        case ["store", kind, its_cases, its_answers] if kind in KINDS:
+        case ["store", kind, its_cases, its_answers] if any(kind in kinds for kinds in KINDS.values()):
             store(kind, lines_of(its_cases), lines_of(its_answers))
         case _:
             sys.exit(__doc__)

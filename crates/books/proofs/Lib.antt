@@ -1,1 +1,3 @@
+pub mod BookLaws
+pub mod CallLaws
 pub mod RingLaws

@@ -366,7 +366,7 @@ pub fn sees_name(text: &[u8], c: Cursor) -> bool
 {
     let k = kind(c);
     match k {
-        Tok::Name => !token::is_keyword(text::part(text, place(c), size(c))),
+        Tok::Name => !keywords::is_keyword(text::part(text, place(c), size(c))),
         Tok::Mark(_) => false,
         Tok::Num => false,
         Tok::Quoted => false,

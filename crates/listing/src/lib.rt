@@ -1,33 +1,11 @@
 // 02 (i): the items of a book listed in an order in which each stands behind all it calls.
-ghost use Prim.Native.Nat.{_≤_};
 ghost use mathlib.Core.Path.{_≡_};
-ghost use lib.ListN.{length, take};
 ghost use Rattle.error.specs.Answer.{orderValues};
 ghost use Rattle.books.specs.Book.{book as Book·book};
 ghost use Rattle.book.specs.Means.{Held};
-ghost use Rattle.books.specs.Listing.{put as Listing·put, listingOf, listing};
+ghost use Rattle.books.specs.Listing.{listingOf, listing};
 use book::BookRead;
 use error::OrderAnswer;
-use error::Refusal;
-
-// Copies the first n bytes, if there is room.
-fn put(from: &[u8], n: usize, out: &mut [u8]) -> OrderAnswer
-    requires { ⌜ n ≤ length (now from) ⌝ }
-    ensures { λ r. ⌜ (r, now (out .exit)) ≡ Listing·put (now (out .entry)) (take n (now (from .entry))) ⌝ }
-{
-    if out.len() < n {
-        return OrderAnswer::Refused {
-            refusal: Refusal::OutputTooShort,
-            place: 0,
-        };
-    }
-    let mut i: usize = 0;
-    while i < n {
-        out[i] = from[i];
-        i += 1;
-    }
-    OrderAnswer::Listed { items: n }
-}
 
 // Lists the items of a book that was read.
 fn list_items(text: &[u8], table: &[u16], n: usize, out: &mut [u8]) -> OrderAnswer
@@ -37,13 +15,8 @@ fn list_items(text: &[u8], table: &[u16], n: usize, out: &mut [u8]) -> OrderAnsw
     let mut matrix = [0u8; calls::CALL_BYTES];
     let mut listed = [0u8; book::ITEM_LIMIT];
     calls::fill(text, table, n, &mut matrix);
-    if order::list(&matrix, n, &mut listed) {
-        return put(&listed, n, out);
-    }
-    OrderAnswer::Refused {
-        refusal: Refusal::RingOfCalls,
-        place: 0,
-    }
+    let ordered = order::list(&matrix, n, &mut listed);
+    book_answers::list(ordered, &listed, n, out)
 }
 
 // Lists the ordinals of a book's items, one byte each, so that each stands behind all it calls, the first by place among those free.

@@ -3,19 +3,13 @@ ghost use mathlib.Core.Path.{_≡_};
 ghost use Rattle.error.specs.Answer.{lookupValues};
 ghost use Rattle.books.specs.Book.{book as Book·book};
 ghost use Rattle.books.specs.Lookup.{lookingUp, lent};
-ghost use Rattle.lookup.specs.Means.{looked};
+ghost use Rattle.book_answers.specs.Means.{looked};
 use book::BookRead;
+use book_answers::Place;
 use error::LookupAnswer;
-use error::Refusal;
 use text::Found;
 
-// Where a book that is read has a name.
-pub enum Place {
-    At { start: usize, size: usize },
-    Nothing,
-    Refused(Refusal, usize),
-}
-
+// Where a book has a name.
 fn look_in(text: &[u8], name: &[u8]) -> Place
     ensures { λ r. ⌜ r ≡ looked (now (name .entry)) (Book·book (now (text .entry))) ⌝ }
 {
@@ -39,33 +33,10 @@ pub fn find(store: &[u8], chain: &[u8], name: &[u8]) -> LookupAnswer
 {
     match look_in(store, name) {
         Place::Refused(refusal, place) => LookupAnswer::Refused { refusal, place },
-        Place::At { start, size } => match look_in(chain, name) {
-            Place::Refused(refusal, place) => LookupAnswer::Refused { refusal, place },
-            Place::At { start: _, size: _ } => LookupAnswer::InStore { start, size },
-            Place::Nothing => LookupAnswer::InStore { start, size },
-        },
-        Place::Nothing => match look_in(chain, name) {
-            Place::Refused(refusal, place) => LookupAnswer::Refused { refusal, place },
-            Place::At { start, size } => LookupAnswer::InChain { start, size },
-            Place::Nothing => LookupAnswer::Refused {
-                refusal: Refusal::NoSuchItem,
-                place: 0,
-            },
-        },
-    }
-}
-
-// The body that a lookup found; of a refused one, nothing.
-pub fn lend<'a>(store: &'a [u8], chain: &'a [u8], answer: LookupAnswer) -> &'a [u8]
-    ensures { λ r. ⌜ now r ≡ lent (now (store .entry)) (now (chain .entry)) answer ⌝ }
-{
-    match answer {
-        LookupAnswer::InStore { start, size } => text::part(store, start, size),
-        LookupAnswer::InChain { start, size } => text::part(chain, start, size),
-        LookupAnswer::Refused {
-            refusal: _,
-            place: _,
-        } => &store[0..0],
+        Place::At { start, size } => {
+            book_answers::join(Place::At { start, size }, look_in(chain, name))
+        }
+        Place::Nothing => book_answers::join(Place::Nothing, look_in(chain, name)),
     }
 }
 
@@ -73,5 +44,5 @@ pub fn lend<'a>(store: &'a [u8], chain: &'a [u8], answer: LookupAnswer) -> &'a [
 pub fn lookup<'a>(store: &'a [u8], chain: &'a [u8], name: &[u8]) -> &'a [u8]
     ensures { λ r. ⌜ now r ≡ lent (now (store .entry)) (now (chain .entry)) (lookingUp (now (store .entry)) (now (chain .entry)) (now (name .entry))) ⌝ }
 {
-    lend(store, chain, find(store, chain, name))
+    book_answers::lend(store, chain, find(store, chain, name))
 }

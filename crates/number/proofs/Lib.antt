@@ -6,10 +6,7 @@ pub mod Floats
 pub mod Error
 pub mod Gap
 pub mod Scaling
-pub mod Apart
 pub mod TwoRoundings
 pub mod Division
 pub mod Hundredth
-pub mod Times
-pub mod Tracks
 pub mod Cases

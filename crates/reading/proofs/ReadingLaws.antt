@@ -1,27 +1,39 @@
 -- Laws of reading's order and of its buffers.
-use Prim.Native.Nat.{ℕ, _-_}
+use Prim.Native.Nat.{ℕ, _-_, _≤_, _<_}
 use mathlib.Core.Bool.{Bool, true, false, cond}
 use mathlib.Core.List.{List, [], _++_}
-use mathlib.Core.Option.{none}
+use mathlib.Core.Option.{none, some}
 use mathlib.Core.Path.{_≡_, refl, sym, ap, _∙_}
 use native.Mathlib.Nat.{sub-zero}
 use native.Mathlib.Omega.{arith}
+use borrow.Author.Tests.{le-ltb, lt-ltb}
 use lib.Dec.{ltb}
 use lib.ListN.{length, replicate}
+use Rattle.text.specs.Limits.{textLimit}
 use Rattle.token.specs.Split.{unlexed, split}
 use Rattle.ast.specs.Tree.{mapTimes, records}
 use Rattle.sheet.specs.Sheet.{encode}
 use Rattle.grammar.specs.Grammar.{stored}
 use Rattle.error.specs.declared.Refusal.{Refusal}
-use Rattle.error.specs.declared.Refusal.the-variants.{SheetTooShort}
+use Rattle.error.specs.declared.Refusal.the-variants.{ScratchTooShort, SheetTooShort}
 use Rattle.error.specs.declared.ReadAnswer.{ReadAnswer}
 use Rattle.error.specs.declared.ReadAnswer.the-variants.{Accepted, Refused}
-use Rattle.reading.specs.Reading.{Parsed, tree, wrong, parsed, parse, answered, early, cleared, unlessEarly, reading}
+use Rattle.reading.specs.Reading.{Parsed, tree, wrong, parsed, parse, answered, scratchWords, early, cleared, unlessEarly, reading}
 
 -- "2 to 5 .., then 6 to 12": what does not split is refused there
 pub unlexed-first : (t : List ℕ) (r : Refusal) (p : ℕ) → split t ≡ unlexed r p → parse t ≡ wrong r p
 unfolding parse
 unlexed-first t r p e = ap (parsed (length t)) e
+
+-- 02 (j): "16 now means fewer than 64 words"
+module _ (size words : ℕ) (short : size ≤ textLimit) where
+  pub few-words : words < 64 → early size words ≡ some ScratchTooShort
+  unfolding early
+  few-words h = rw (le-ltb textLimit size short, lt-ltb words scratchWords h)
+
+  pub enough-words : 64 ≤ words → early size words ≡ none
+  unfolding early
+  enough-words h = rw (le-ltb textLimit size short, le-ltb words scratchWords h)
 
 -- a refusal has no bytes
 fitting-none : (b : Bool) (bs : List ℕ) (n k : ℕ) (r : Refusal) (p : ℕ)

@@ -10,8 +10,8 @@ use lib.ListN.{getElem?}
 use Rattle.number.specs.Number.{f32, bits}
 use Rattle.number.specs.Time.{Key, storedTime, duplicates}
 use Rattle.number.proofs.Floats.{f32-bits, stored-fits}
-use Rattle.number.proofs.Times.{stored-within}
-use Rattle.number.proofs.Tracks.{never, always}
+use Rattle.times.proofs.Times.{stored-within}
+use Rattle.times.proofs.Tracks.{never, always}
 use Rattle.ast.specs.Tree.{KeyframeTime, percent, seconds, KeyframeEntry, KeyframeSpec, Leaf}
 use Rattle.ast.specs.Tree.{keyframes, Nodes, leaf, box, mapFrames, mapLeaf, mapTimes, preorder}
 use Rattle.grammar.specs.Grammar.{stored}

@@ -8,7 +8,8 @@ use mathlib.Core.Logic.{_≢_}
 use lib.ListN.{length, take, getElem?}
 use Rattle.text.specs.Limits.{textLimit}
 use Rattle.number.specs.Number.{f32}
-use Rattle.number.specs.Time.{Key, FairPercent, AtMost, Within, Far, Equal, Close, Each, Pairs}
+use Rattle.number.specs.Time.{Key}
+use Rattle.times.specs.Terms.{FairPercent, AtMost, Within, Far, Equal, Close, Each, Pairs}
 use Rattle.ast.specs.Tree.{Nodes, KeyframeTime, KeyframeEntry, KeyframeSpec, keyframes, mapTimes, records, preorder}
 use Rattle.sheet.specs.Sheet.{encode, decode}
 use Rattle.grammar.specs.Grammar.{stored}

@@ -156,7 +156,7 @@ fn is_name_like(word: &[u8]) -> bool
     if !all_are(word, Class::NameByte) {
         return false;
     }
-    !token::is_keyword(word)
+    !keywords::is_keyword(word)
 }
 
 // A name of the tree.

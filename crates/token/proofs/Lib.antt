@@ -5,6 +5,5 @@ pub mod BlankLaws
 pub mod TokenLaws
 pub mod PieceLaws
 pub mod SplitLaws
-pub mod NameLaws
 pub mod StreamLaws
 pub mod NestLaws

@@ -1,12 +1,10 @@
 -- What the answers of the code mean. Contracts cite these.
 use Prim.Native.Nat.{ℕ, zero, suc, _+_, _-_, _*_, _^_, _≤_, _<_}
 use mathlib.Core.List.{List, [], _∷_}
-use Prim.Native.String.{String}
-use mathlib.Core.Bool.{Bool, true, false, _&&_, cond}
+use mathlib.Core.Bool.{Bool, true, false, cond}
 use mathlib.Core.Path.{_≡_}
 use lib.Dec.{ltb, eqb}
 use lib.ListN.{length, getD, take, drop, replicate}
-use Rattle.lengths.specs.Sized.{sized}
 use Rattle.text.specs.Limits.{textLimit, wholeLimit, placesLimit}
 use Rattle.text.specs.Bytes.{run, part, decimal, isDigit, isLetter}
 use Rattle.text.specs.Words.{words}
@@ -16,7 +14,6 @@ use Rattle.token.specs.Token.{Kind, name, number, quoted, mark, Token, t
 use Rattle.token.specs.Token.{tokensFrom, place, kind, isMark, rest}
 use Rattle.error.specs.declared.Refusal.the-variants.{TooManyOpen, ScratchTooShort}
 use Rattle.token.specs.Split.{Nest, unfit, awaits, closer, nest, Split, unlexed, tokens, splitFrom, split}
-use Rattle.token.specs.Names.{keywords}
 use Rattle.token.specs.declared.Number.{Number}
 use Rattle.token.specs.declared.Figures.{Figures}
 use Rattle.token.specs.declared.Run.{Run}
@@ -210,26 +207,3 @@ nestOn k (awaits cs) = nest k cs
 unfoldable pub fits : Nest → List Token → Bool
 fits x [] = noneOpen x
 fits x (token p k ∷ ts) = cond (isMark k 0) (noneOpen x) (fits (nestOn k x) ts)
-
--- ---- keywords as numbers
-
--- the bytes of a word as one number, the first the least, under a 1: no two words of bytes have the same
-unfoldable pub pack : List ℕ → ℕ
-pack [] = 1
-pack (b ∷ w) = pack w * 256 + b
-
-unfoldable pub packs : List (List ℕ) → List ℕ
-packs [] = []
-packs (w ∷ ws) = pack w ∷ packs ws
-
-abbrev pub upTo4 : ℕ → Bool
-upTo4 n = ltb n 5
-
-abbrev pub upTo7 : ℕ → Bool
-upTo7 n = ltb 4 n && ltb n 8
-
-unfoldable pub packedKeywords : (ℕ → Bool) → List ℕ
-packedKeywords p = packs (sized p (words keywords))
-
-abbrev pub longKeywords : List String
-longKeywords = "continue" ∷ "abstract" ∷ "override" ∷ []

@@ -19,10 +19,10 @@ pub extern "C" fn token_split(text: &[u8], scratch: &mut [u16]) -> u8
     }
 }
 
-// token::is_keyword.
+// keywords::is_keyword.
 #[no_mangle]
 pub extern "C" fn token_is_keyword(word: &[u8]) -> bool
     ensures { λ r. ⌜ r ≡ isKeyword (now (word .entry)) ⌝ }
 {
-    token::is_keyword(word)
+    keywords::is_keyword(word)
 }
