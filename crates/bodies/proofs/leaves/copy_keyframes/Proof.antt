@@ -1,10 +1,10 @@
 -- `bodies::leaves::copy_keyframes` meets its contract.
-use mathlib.Core.Path.{refl, _∙_}
+use mathlib.Core.Path.{refl}
 use Rattle.text.specs.Bytes.{oneOf}
 use Rattle.ast.specs.Tree as Tree
 use Rattle.sheet.specs.Sheet.{toKeyframes, ofKeyframes}
 use Rattle.fresh.specs.Fresh.{mark, leafBody}
-use Rattle.copying.proofs.CopyLaws.{renamed, behind, _then_, made}
+use Rattle.copying.proofs.CopyLaws.{copy-keeps, renamed, behind, _then_, made}
 use Rattle.bodies.specs.Body.{body}
 use borrow.Author.Needs.{needs}
 use Rattle.bodies.proofs.leaves.copy_keyframes.Statement.{statement}
@@ -22,17 +22,6 @@ put-mark-requires-3 : tie.Need-put-mark-requires-3
 unfolding oneOf
 put-mark-requires-3 c κs = refl
 
-same-length : tie.Need-same-length
-same-length c =
-    let at-put-mark3 = c .before .before in
-    let at-put-mark2 = at-put-mark3 .before .before .before .before in
-    let at-copy-track = at-put-mark2 .before .before .before .before in
-    let at-put-mark = at-copy-track .before .before .before .before in
-    let at-copy-name = at-put-mark .before .before .before .before in
-    at-put-mark3 .put-mark3 .kept .1 .0 ∙ at-put-mark2 .put-mark2 .kept .1 .0
-    ∙ at-copy-track .copy-track .kept .1 .1 .1 .1 .0 ∙ at-put-mark .put-mark .kept .1 .0
-    ∙ at-copy-name .copy-name .kept .1 .1 .1 .1 .0
-
 returns : tie.Need-returns
 unfolding leafBody
 returns c =
@@ -48,6 +37,9 @@ returns c =
     then behind (mark ";") (behind (mark "}") (at-copy-track .copy-track .ensures) (at-put-mark2 .put-mark2 .ensures))
     (at-put-mark3 .put-mark3 .ensures))
     (λ x ps. refl))
+
+same-length : tie.Need-same-length
+same-length c = copy-keeps _ _ _ _ (returns c)
 
 pub copy-keyframes-spec : {M : Type 1} → statement M
 copy-keyframes-spec =

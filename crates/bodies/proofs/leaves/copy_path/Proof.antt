@@ -1,12 +1,12 @@
 -- `bodies::leaves::copy_path` meets its contract.
-use mathlib.Core.Path.{refl, _∙_}
+use mathlib.Core.Path.{refl}
 use Rattle.text.specs.Bytes.{oneOf}
 use Rattle.digits.specs.Numeral.{all}
 use Rattle.ast.specs.Tree as Tree
 use Rattle.sheet.specs.Sheet.{toPath, ofPath}
 use Rattle.pieces.specs.Pieces.{wordLike}
 use Rattle.fresh.specs.Fresh.{mark, spell, leafBody}
-use Rattle.copying.proofs.CopyLaws.{renamed, behind, _then_, made}
+use Rattle.copying.proofs.CopyLaws.{copy-keeps, renamed, behind, _then_, made}
 use Rattle.bodies.specs.Body.{body}
 use borrow.Author.Needs.{needs}
 use Rattle.bodies.proofs.leaves.copy_path.Statement.{statement}
@@ -27,29 +27,6 @@ copy-opt-flag-requires c κs = refl
 put-mark-requires : tie.Need-put-mark-requires
 unfolding oneOf
 put-mark-requires c κs = refl
-
-same-length : tie.Need-same-length
-same-length c =
-    let at-put-mark = c .before .before in
-    let at-copy-opt-loop = at-put-mark .before .before .before .before in
-    let at-copy-opt-offset = at-copy-opt-loop .before .before .before .before in
-    let at-copy-opt-flag = at-copy-opt-offset .before .before .before .before in
-    let c18 = at-copy-opt-flag .before .before .before .before in
-    let at-copy-opt-easing = c18 .before in
-    let at-copy-f32-field = at-copy-opt-easing .before .before .before .before in
-    let c27 = at-copy-f32-field .before .before .before .before in
-    let at-copy-string = c27 .before in
-    let at-put-word = at-copy-string .before .before .before .before in
-    let c36 = at-put-word .before .before .before .before in
-    let at-copy-name = c36 .before in
-    at-put-mark .put-mark .kept .1 .0
-    ∙ at-copy-opt-loop .copy-opt-loop .kept .1 .1 .1 .0
-    ∙ at-copy-opt-offset .copy-opt-offset .kept .1 .1 .1 .0
-    ∙ at-copy-opt-flag .copy-opt-flag .kept .1 .1 .1 .0
-    ∙ at-copy-opt-easing .copy-opt-easing .kept .1 .1 .1 .1 .0
-    ∙ at-copy-f32-field .copy-f32-field .kept .1 .1 .1 .0
-    ∙ at-copy-string .copy-string .kept .1 .1 .1 .1 .0 ∙ at-put-word .put-word .kept .1 .0
-    ∙ at-copy-name .copy-name .kept .1 .1 .1 .1 .0
 
 returns : tie.Need-returns
 unfolding leafBody
@@ -77,6 +54,9 @@ returns c =
     then at-copy-opt-offset .copy-opt-offset .ensures
     then behind (mark ";") (at-copy-opt-loop .copy-opt-loop .ensures) (at-put-mark .put-mark .ensures))
     (λ x ps. refl))
+
+same-length : tie.Need-same-length
+same-length c = copy-keeps _ _ _ _ (returns c)
 
 pub copy-path-spec : {M : Type 1} → statement M
 copy-path-spec =

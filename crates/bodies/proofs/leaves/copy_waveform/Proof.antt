@@ -1,12 +1,13 @@
 -- `bodies::leaves::copy_waveform` meets its contract.
-use mathlib.Core.Path.{refl, _∙_}
+use mathlib.Core.List.{[]}
+use mathlib.Core.Path.{refl}
 use Rattle.text.specs.Bytes.{oneOf}
 use Rattle.digits.specs.Numeral.{all}
 use Rattle.ast.specs.Tree as Tree
 use Rattle.sheet.specs.Sheet.{toWaveform, ofWaveform}
 use Rattle.pieces.specs.Pieces.{wordLike}
 use Rattle.fresh.specs.Fresh.{mark, choose, waveNames, leafBody}
-use Rattle.copying.proofs.CopyLaws.{read-put, renamed, behind, _then_, made}
+use Rattle.copying.proofs.CopyLaws.{copy-keeps, read-put, renamed, behind, _then_, made}
 use Rattle.bodies.specs.Body.{body}
 use borrow.Author.Needs.{needs}
 use Rattle.bodies.proofs.leaves.copy_waveform.Statement.{statement}
@@ -44,33 +45,6 @@ put-mark-requires : tie.Need-put-mark-requires
 unfolding oneOf
 put-mark-requires c κs = refl
 
-same-length : tie.Need-same-length
-same-length c =
-    let at-put-mark = c .before .before in
-    let at-copy-opt-f326 = at-put-mark .before .before .before .before in
-    let c10 = at-copy-opt-f326 .before .before .before .before in
-    let at-copy-opt-f325 = c10 .before in
-    let c15 = at-copy-opt-f325 .before .before .before .before in
-    let at-copy-opt-u32 = c15 .before in
-    let c20 = at-copy-opt-u32 .before .before .before .before in
-    let at-copy-opt-f324 = c20 .before in
-    let c25 = at-copy-opt-f324 .before .before .before .before in
-    let at-copy-opt-f323 = c25 .before in
-    let c30 = at-copy-opt-f323 .before .before .before .before in
-    let at-copy-opt-f322 = c30 .before in
-    let c35 = at-copy-opt-f322 .before .before .before .before in
-    let at-copy-opt-f32 = c35 .before in
-    let c40 = at-copy-opt-f32 .before .before .before .before in
-    let at-put-wave = c40 .before in
-    at-put-mark .put-mark .kept .1 .0
-    ∙ at-copy-opt-f326 .copy-opt-f326 .kept .1 .1 .1 .0
-    ∙ at-copy-opt-f325 .copy-opt-f325 .kept .1 .1 .1 .0
-    ∙ at-copy-opt-u32 .copy-opt-u32 .kept .1 .1 .1 .0
-    ∙ at-copy-opt-f324 .copy-opt-f324 .kept .1 .1 .1 .0
-    ∙ at-copy-opt-f323 .copy-opt-f323 .kept .1 .1 .1 .0
-    ∙ at-copy-opt-f322 .copy-opt-f322 .kept .1 .1 .1 .0
-    ∙ at-copy-opt-f32 .copy-opt-f32 .kept .1 .1 .1 .0 ∙ at-put-wave .put-wave .kept .1 .0
-
 returns : tie.Need-returns
 unfolding leafBody choose
 returns c =
@@ -101,6 +75,9 @@ returns c =
     then at-copy-opt-f325 .copy-opt-f325 .ensures "smoothness" refl
     then behind (mark ";") (at-copy-opt-f326 .copy-opt-f326 .ensures "duration" refl) (at-put-mark .put-mark .ensures))
     (λ x ps. refl))
+
+same-length : tie.Need-same-length
+same-length c = copy-keeps _ _ _ _ (returns c [])
 
 pub copy-waveform-spec : {M : Type 1} → statement M
 copy-waveform-spec =

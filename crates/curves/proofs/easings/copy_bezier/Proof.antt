@@ -1,10 +1,10 @@
 -- `curves::easings::copy_bezier` meets its contract.
-use mathlib.Core.Path.{refl, _∙_}
+use mathlib.Core.Path.{refl}
 use Rattle.text.specs.Bytes.{oneOf}
 use Rattle.digits.specs.Numeral.{all}
 use Rattle.pieces.specs.Pieces.{wordLike}
 use Rattle.fresh.specs.Fresh.{mark, spell, easing}
-use Rattle.copying.proofs.CopyLaws.{renamed, in-front, behind, _then_}
+use Rattle.copying.proofs.CopyLaws.{copy-keeps, renamed, in-front, behind, _then_}
 use borrow.Author.Needs.{needs}
 use Rattle.curves.proofs.easings.copy_bezier.Statement.{statement}
 use Rattle.curves.proofs.easings.copy_bezier.Tie as tie
@@ -33,24 +33,6 @@ put-mark-requires-5 : tie.Need-put-mark-requires-5
 unfolding oneOf
 put-mark-requires-5 c κs = refl
 
-same-length : tie.Need-same-length
-same-length c =
-    let at-put-mark5 = c .before .before in
-    let at-copy-f324 = at-put-mark5 .before .before .before .before in
-    let at-put-mark4 = at-copy-f324 .before .before .before .before in
-    let at-copy-f323 = at-put-mark4 .before .before .before .before in
-    let at-put-mark3 = at-copy-f323 .before .before .before .before in
-    let at-copy-f322 = at-put-mark3 .before .before .before .before in
-    let at-put-mark2 = at-copy-f322 .before .before .before .before in
-    let at-copy-f32 = at-put-mark2 .before .before .before .before in
-    let at-put-mark = at-copy-f32 .before .before .before .before in
-    let at-put-word = at-put-mark .before .before .before .before in
-    at-put-mark5 .put-mark5 .kept .1 .0 ∙ at-copy-f324 .copy-f324 .kept .1 .1 .1 .0
-    ∙ at-put-mark4 .put-mark4 .kept .1 .0 ∙ at-copy-f323 .copy-f323 .kept .1 .1 .1 .0
-    ∙ at-put-mark3 .put-mark3 .kept .1 .0 ∙ at-copy-f322 .copy-f322 .kept .1 .1 .1 .0
-    ∙ at-put-mark2 .put-mark2 .kept .1 .0 ∙ at-copy-f32 .copy-f32 .kept .1 .1 .1 .0
-    ∙ at-put-mark .put-mark .kept .1 .0 ∙ at-put-word .put-word .kept .1 .0
-
 returns : tie.Need-returns
 unfolding easing
 returns c =
@@ -71,6 +53,9 @@ returns c =
     then behind (mark ",") (at-copy-f323 .copy-f323 .ensures) (at-put-mark4 .put-mark4 .ensures)
     then behind (mark ")") (at-copy-f324 .copy-f324 .ensures) (at-put-mark5 .put-mark5 .ensures))))
     (λ x ps. refl)
+
+same-length : tie.Need-same-length
+same-length c = copy-keeps _ _ _ _ (returns c)
 
 pub copy-bezier-spec : {M : Type 1} → statement M
 copy-bezier-spec =

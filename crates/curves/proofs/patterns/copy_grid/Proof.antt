@@ -1,11 +1,11 @@
 -- `curves::patterns::copy_grid` meets its contract.
-use mathlib.Core.Path.{refl, _∙_}
+use mathlib.Core.Path.{refl}
 use Rattle.text.specs.Bytes.{oneOf}
 use Rattle.digits.specs.Numeral.{all, counted}
 use Rattle.ast.specs.Tree.{grid}
 use Rattle.pieces.specs.Pieces.{aNumeral, wordLike}
 use Rattle.fresh.specs.Fresh.{mark, spell, u32, pattern}
-use Rattle.copying.proofs.CopyLaws.{one-piece, _and_, called}
+use Rattle.copying.proofs.CopyLaws.{copy-keeps, one-piece, _and_, called}
 use Rattle.curves.proofs.PairLaws.{three-read, grid-pairs}
 use borrow.Author.Needs.{needs}
 use Rattle.curves.proofs.patterns.copy_grid.Statement.{statement}
@@ -42,23 +42,6 @@ put-mark-requires-2 : tie.Need-put-mark-requires-2
 unfolding oneOf
 put-mark-requires-2 c κs = refl
 
-same-length : tie.Need-same-length
-same-length c =
-    let at-put-mark2 = c .before .before in
-    let at-put-origin = at-put-mark2 .before .before .before .before in
-    let at-put-count2 = at-put-origin .before .before .before .before in
-    let at-put-pair-name2 = at-put-count2 .before .before .before .before in
-    let c18 = at-put-pair-name2 .before .before .before .before in
-    let at-put-count = c18 .before in
-    let at-put-pair-name = at-put-count .before .before .before .before in
-    let c27 = at-put-pair-name .before .before .before .before in
-    let at-put-mark = c27 .before in
-    let at-put-word = at-put-mark .before .before .before .before in
-    at-put-mark2 .put-mark2 .kept .1 .0 ∙ at-put-origin .put-origin .kept .1 .0
-    ∙ at-put-count2 .put-count2 .kept .1 .0 ∙ at-put-pair-name2 .put-pair-name2 .kept .1 .0
-    ∙ at-put-count .put-count .kept .1 .0 ∙ at-put-pair-name .put-pair-name .kept .1 .0
-    ∙ at-put-mark .put-mark .kept .1 .0 ∙ at-put-word .put-word .kept .1 .0
-
 returns : tie.Need-returns
 unfolding pattern u32
 returns c =
@@ -87,6 +70,9 @@ returns c =
     (at-put-origin .put-origin .ensures)
     and one-piece (mark ")") (at-put-mark2 .put-mark2 .ensures))
     (λ ps. refl))
+
+same-length : tie.Need-same-length
+same-length c = copy-keeps _ _ _ _ (returns c)
 
 pub copy-grid-spec : {M : Type 1} → statement M
 copy-grid-spec =
