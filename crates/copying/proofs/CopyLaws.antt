@@ -102,8 +102,10 @@ renamed {p = p} y h =
 pub in-front : {A : Type 0} {c : Form A} {s : List ℕ} {at m : ℕ} {p q r : Page} {w : A → Writer} (x : Piece)
     → q ≡ put x p → Copies c w s at q r m → Copies c (λ a ps. x ∷ w a ps) s at p r m
 unfolding run
-in-front {w = w} x h y =
-    record { reads = seen (y .reads) (λ a e. same-page (λ ps. ap (run (w a ps)) (sym h)) ∙ e); kept = y .kept ∙ written-kept (one-piece x h) }
+in-front {w = w} x h y = record {
+  reads = seen (y .reads) (λ a e. same-page (λ ps. ap (run (w a ps)) (sym h)) ∙ e);
+  kept = y .kept ∙ written-kept (one-piece x h);
+}
 
 pub behind : {A : Type 0} {c : Form A} {s : List ℕ} {at m : ℕ} {p q r : Page} {w : A → Writer} (x : Piece)
     → Copies c w s at p q m → r ≡ put x q → Copies c (λ a ps. w a (x ∷ ps)) s at p r m

@@ -6,21 +6,23 @@ use mathlib.Core.List.{List, [], _∷_}
 use mathlib.Core.Option.{Option, none, some}
 use mathlib.Core.Path.{_≡_, refl, sym, ap, _∙_}
 use lib.Dec.{eqb}
+use lib.ListN.{length}
 use lib.Ieee.{round, toBits}
 use Rattle.text.specs.Bytes.{bytes, part}
 use Rattle.number.specs.Number.{bits}
 use Rattle.codec.specs.Codec.{Form, _▹_, empty, below, opt}
 use Rattle.decode.specs.Reads.{Reads, Number, same}
-use Rattle.decode.proofs.ReadLaws.{_&_, seen, nothing, absent, present}
+use Rattle.codec.proofs.Laws.{makeAt}
+use Rattle.decode.proofs.ReadLaws.{formAt, _&_, seen, nothing, absent, present}
 use Rattle.grammar.specs.Values.{f32Of}
 use Rattle.pieces.specs.Pieces.{Piece, aWord}
 use Rattle.ast.specs.View.{spanView}
 use Rattle.ast.specs.declared.Span as spans
 use Rattle.ast.specs.Tree.{StaggerPatternSpec}
-use Rattle.sheet.specs.Sheet.{word, flag, spanForm, patternForm}
-use Rattle.copying.proofs.CopyLaws.{written-kept, put-before}
+use Rattle.sheet.specs.Sheet.{word, flag, spanForm, easings, splitEasing, easingForm, patternForm}
+use Rattle.copying.proofs.CopyLaws.{written-kept, in-case, put-before}
 use Rattle.ast.specs.Tree.{spanBytes}
-use Rattle.fresh.specs.Meaning.{named}
+use Rattle.fresh.specs.Meaning.{named, easingSense}
 use Rattle.fresh.specs.Fresh.{Writer, Pair, spell, mark, u32, easing, pairs, morePairs, unless, choose, pattern, opening}
 use Rattle.grammar.specs.Grammar.{originNames}
 use Rattle.spelling.specs.Spelling.{Page, run}
@@ -142,6 +144,12 @@ named-read t n {v = v} {p = p} r u h y = record {
       ∙ ap (λ (z : List ℕ). run (easing (named v z) ps) p) (sym h) ∙ y .is ps));
   kept = written-kept y;
 }
+
+-- the easing at a position of their list
+pub easing-case : (t : List ℕ) (i : ℕ) {s : List ℕ} {at m k b : ℕ} {p q : Page} → Reads (below 6) same s at b m → b ≡ i
+    → Copies (formAt (easings (length t)) i) (λ x. easing (easingSense t (makeAt (easings (length t)) i x))) s m p q k
+    → Copies (easingForm (length t)) (λ x. easing (easingSense t x)) s at p q k
+easing-case t i r e y = in-case (easings (length t)) (splitEasing (length t)) (λ x. easing (easingSense t x)) i r e y
 
 -- what stands before the block of a `stagger`: no pattern, or one, and then `delay` or not
 opening-delay : (d : Option ℕ) (ps : List Piece) → opening none d ps ≡ delayBy true d ps

@@ -26,16 +26,6 @@ abbrev μ-loop : tie.MeasureT-loop
 loop-holds : tie.Need-loop-holds Inv-loop μ-loop
 loop-holds c = (omega arith, walk-start _ _ _ _ _ _)
 
-put-mark-requires : tie.Need-put-mark-requires Inv-loop μ-loop
-unfolding oneOf
-put-mark-requires c κs = refl
-
-add-k : tie.Need-add-k Inv-loop μ-loop
-add-k c = omega arith
-
-loop-less : tie.Need-loop-less Inv-loop μ-loop
-loop-less c = omega arith
-
 loop-again : tie.Need-loop-again Inv-loop μ-loop
 unfolding commaFrames
 loop-again c =
@@ -57,4 +47,5 @@ same-length c = copy-keeps _ _ _ _ (returns c)
 
 pub copy-more-frames-spec : {M : Type 1} → statement M
 copy-more-frames-spec =
-    tie.close (tie.spec Inv-loop μ-loop loop-holds put-mark-requires (λ c κs. search needs) add-k loop-less loop-again same-length returns)
+    tie.close (tie.spec Inv-loop μ-loop loop-holds (λ c κs. unfold oneOf in refl) (λ c κs. search needs) (λ c. omega arith)
+    (λ c. omega arith) loop-again same-length returns)

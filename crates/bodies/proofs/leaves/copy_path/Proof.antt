@@ -6,27 +6,11 @@ use Rattle.ast.specs.Tree as Tree
 use Rattle.sheet.specs.Sheet.{toPath, ofPath}
 use Rattle.pieces.specs.Pieces.{wordLike}
 use Rattle.fresh.specs.Fresh.{mark, spell, leafBody}
-use Rattle.copying.proofs.CopyLaws.{copy-keeps, renamed, behind, _then_, made}
+use Rattle.copying.proofs.CopyLaws.{copy-keeps, behind, _then_, made}
 use Rattle.bodies.specs.Body.{body}
 use borrow.Author.Needs.{needs}
 use Rattle.bodies.proofs.leaves.copy_path.Statement.{statement}
 use Rattle.bodies.proofs.leaves.copy_path.Tie as tie
-
-put-word-requires : tie.Need-put-word-requires
-unfolding wordLike all
-put-word-requires c κs = refl
-
-copy-f32-field-requires : tie.Need-copy-f32-field-requires
-unfolding wordLike all
-copy-f32-field-requires c κs = refl
-
-copy-opt-flag-requires : tie.Need-copy-opt-flag-requires
-unfolding wordLike all
-copy-opt-flag-requires c κs = refl
-
-put-mark-requires : tie.Need-put-mark-requires
-unfolding oneOf
-put-mark-requires c κs = refl
 
 returns : tie.Need-returns
 unfolding leafBody
@@ -46,20 +30,19 @@ returns c =
     let c41 = at-copy-name .before .before .before .before in
     let start = c41 .before in
     made toPath ofPath (λ d. body (start .args .text .now) (Tree.path d))
-    (renamed (behind (spell "along") (at-copy-name .copy-name .ensures) (at-put-word .put-word .ensures)
+    (behind (spell "along") (at-copy-name .copy-name .ensures) (at-put-word .put-word .ensures)
     then at-copy-string .copy-string .ensures
     then at-copy-f32-field .copy-f32-field .ensures "duration" refl
     then at-copy-opt-easing .copy-opt-easing .ensures
     then at-copy-opt-flag .copy-opt-flag .ensures "auto_rotate" refl
     then at-copy-opt-offset .copy-opt-offset .ensures
     then behind (mark ";") (at-copy-opt-loop .copy-opt-loop .ensures) (at-put-mark .put-mark .ensures))
-    (λ x ps. refl))
 
 same-length : tie.Need-same-length
 same-length c = copy-keeps _ _ _ _ (returns c)
 
 pub copy-path-spec : {M : Type 1} → statement M
 copy-path-spec =
-    tie.close (tie.spec (λ c κs. search needs) (λ c. search needs) put-word-requires (λ c κs. search needs) (λ c. search needs)
-    copy-f32-field-requires (λ c κs. search needs) (λ c. search needs) copy-opt-flag-requires (λ c κs. search needs) (λ c κs. search needs)
-    put-mark-requires same-length returns)
+    tie.close (tie.spec (λ c κs. search needs) (λ c. search needs) (λ c κs. unfold wordLike all in refl) (λ c κs. search needs)
+    (λ c. search needs) (λ c κs. unfold wordLike all in refl) (λ c κs. search needs) (λ c. search needs)
+    (λ c κs. unfold wordLike all in refl) (λ c κs. search needs) (λ c κs. search needs) (λ c κs. unfold oneOf in refl) same-length returns)

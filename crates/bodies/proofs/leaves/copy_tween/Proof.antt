@@ -6,43 +6,11 @@ use Rattle.ast.specs.Tree as Tree
 use Rattle.sheet.specs.Sheet.{toTween, ofTween}
 use Rattle.pieces.specs.Pieces.{wordLike}
 use Rattle.fresh.specs.Fresh.{mark, two, leafBody}
-use Rattle.copying.proofs.CopyLaws.{copy-keeps, renamed, behind, _then_, made}
+use Rattle.copying.proofs.CopyLaws.{copy-keeps, behind, _then_, made}
 use Rattle.bodies.specs.Body.{body}
 use borrow.Author.Needs.{needs}
 use Rattle.bodies.proofs.leaves.copy_tween.Statement.{statement}
 use Rattle.bodies.proofs.leaves.copy_tween.Tie as tie
-
-put-mark-requires : tie.Need-put-mark-requires
-unfolding oneOf
-put-mark-requires c κs = refl
-
-put-pair-requires : tie.Need-put-pair-requires
-unfolding oneOf
-put-pair-requires c κs = (refl, refl)
-
-copy-f32-field-requires : tie.Need-copy-f32-field-requires
-unfolding wordLike all
-copy-f32-field-requires c κs = refl
-
-copy-opt-f32-requires : tie.Need-copy-opt-f32-requires
-unfolding wordLike all
-copy-opt-f32-requires c κs = refl
-
-copy-opt-f32-requires-2 : tie.Need-copy-opt-f32-requires-2
-unfolding wordLike all
-copy-opt-f32-requires-2 c κs = refl
-
-copy-opt-f32-requires-3 : tie.Need-copy-opt-f32-requires-3
-unfolding wordLike all
-copy-opt-f32-requires-3 c κs = refl
-
-copy-opt-u32-requires : tie.Need-copy-opt-u32-requires
-unfolding wordLike all
-copy-opt-u32-requires c κs = refl
-
-put-mark-requires-2 : tie.Need-put-mark-requires-2
-unfolding oneOf
-put-mark-requires-2 c κs = refl
 
 returns : tie.Need-returns
 unfolding leafBody
@@ -69,7 +37,7 @@ returns c =
     let c63 = at-copy-name .before .before .before .before in
     let start = c63 .before in
     made toTween ofTween (λ d. body (start .args .text .now) (Tree.tween d))
-    (renamed (behind (mark ":") (at-copy-name .copy-name .ensures) (at-put-mark .put-mark .ensures)
+    (behind (mark ":") (at-copy-name .copy-name .ensures) (at-put-mark .put-mark .ensures)
     then behind (two "=" ">") (at-copy-value .copy-value .ensures) (at-put-pair .put-pair .ensures)
     then at-copy-value2 .copy-value2 .ensures
     then at-copy-f32-field .copy-f32-field .ensures "duration" refl
@@ -80,14 +48,14 @@ returns c =
     then at-copy-opt-f323 .copy-opt-f323 .ensures "snap" refl
     then at-copy-opt-u32 .copy-opt-u32 .ensures "round" refl
     then behind (mark ";") (at-copy-reverse .copy-reverse .ensures) (at-put-mark2 .put-mark2 .ensures))
-    (λ x ps. refl))
 
 same-length : tie.Need-same-length
 same-length c = copy-keeps _ _ _ _ (returns c)
 
 pub copy-tween-spec : {M : Type 1} → statement M
 copy-tween-spec =
-    tie.close (tie.spec (λ c κs. search needs) put-mark-requires (λ c κs. search needs) put-pair-requires (λ c κs. search needs)
-    (λ c. search needs) copy-f32-field-requires (λ c κs. search needs) (λ c. search needs) copy-opt-f32-requires (λ c. search needs)
-    copy-opt-f32-requires-2 (λ c κs. search needs) (λ c. search needs) copy-opt-f32-requires-3 (λ c. search needs) copy-opt-u32-requires
-    (λ c κs. search needs) put-mark-requires-2 same-length returns)
+    tie.close (tie.spec (λ c κs. search needs) (λ c κs. unfold oneOf in refl) (λ c κs. search needs) (λ c κs. unfold oneOf in (refl, refl))
+    (λ c κs. search needs) (λ c. search needs) (λ c κs. unfold wordLike all in refl) (λ c κs. search needs) (λ c. search needs)
+    (λ c κs. unfold wordLike all in refl) (λ c. search needs) (λ c κs. unfold wordLike all in refl) (λ c κs. search needs)
+    (λ c. search needs) (λ c κs. unfold wordLike all in refl) (λ c. search needs) (λ c κs. unfold wordLike all in refl)
+    (λ c κs. search needs) (λ c κs. unfold oneOf in refl) same-length returns)

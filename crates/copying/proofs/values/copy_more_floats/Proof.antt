@@ -3,13 +3,11 @@ use Prim.Native.Nat.{_-_, _≤_}
 use Rattle.text.specs.Bytes.{at}
 use Rattle.grammar.specs.Rule.{next}
 use Rattle.spelling.specs.Spelling.{pageOf}
-use mathlib.Core.Path.{_≡_}
 use mathlib.Core.Path.{refl}
 use native.Mathlib.Omega.{arith}
 use Rattle.text.specs.Bytes.{oneOf}
 use Rattle.sheet.specs.Sheet.{word}
 use Rattle.fresh.specs.Fresh.{mark, moreFloats}
-use lib.ListN.{length}
 use Rattle.copying.proofs.CopyLaws.{copy-keeps, in-front, Walked, walk-start, walk-next, walk-done}
 use borrow.Author.Needs.{needs}
 use Rattle.copying.proofs.values.copy_more_floats.Statement.{statement}
@@ -24,16 +22,6 @@ abbrev μ-loop : tie.MeasureT-loop
 
 loop-holds : tie.Need-loop-holds Inv-loop μ-loop
 loop-holds c = (omega arith, walk-start _ _ _ _ _ _)
-
-put-mark-requires : tie.Need-put-mark-requires Inv-loop μ-loop
-unfolding oneOf
-put-mark-requires c κs = refl
-
-add-k : tie.Need-add-k Inv-loop μ-loop
-add-k c = omega arith
-
-loop-less : tie.Need-loop-less Inv-loop μ-loop
-loop-less c = omega arith
 
 loop-again : tie.Need-loop-again Inv-loop μ-loop
 unfolding moreFloats
@@ -56,4 +44,5 @@ same-length c = copy-keeps _ _ _ _ (returns c)
 
 pub copy-more-floats-spec : {M : Type 1} → statement M
 copy-more-floats-spec =
-    tie.close (tie.spec Inv-loop μ-loop loop-holds put-mark-requires (λ c κs. search needs) add-k loop-less loop-again same-length returns)
+    tie.close (tie.spec Inv-loop μ-loop loop-holds (λ c κs. unfold oneOf in refl) (λ c κs. search needs) (λ c. omega arith)
+    (λ c. omega arith) loop-again same-length returns)
