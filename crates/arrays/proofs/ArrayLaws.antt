@@ -14,7 +14,7 @@ use Rattle.sheet.specs.Sheet.{word, valueForm}
 use Rattle.encode.specs.Of.{Plain}
 use Rattle.encode.specs.Writes.{Writes}
 use Rattle.encode.proofs.OverLaws.{writes-none, writes-then, writes-counted}
-use Rattle.encode.proofs.FieldLaws.{each-more, length-word}
+use Rattle.sheet.proofs.FormLaws.{each-more, length-word}
 use Rattle.error.specs.declared.Refusal.{Refusal}
 use Rattle.error.specs.declared.Refusal.the-variants.{Missing}
 use Rattle.grammar.specs.Rule.{leave, theByte, seesByte, skip, refuse, after, give, _>>_}

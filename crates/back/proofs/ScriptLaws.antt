@@ -18,9 +18,9 @@ use Rattle.digits.proofs.NumeralLaws.{both}
 use Rattle.pieces.specs.Pieces.{Piece, spelt, spaced, joined, fits, allFit}
 use Rattle.fresh.specs.Meaning.{Sense}
 use Rattle.fresh.specs.Fresh.{pieces}
-use Rattle.spelling.specs.Spelling.{Page, spoiled, full, page, most, putOn, put, run, pageOf}
+use Rattle.spelling.specs.Spelling.{Page, spoiled, full, page, size, spoil, most, putOn, put, run, pageOf}
 use Rattle.spelling.specs.declared.Pen.{Pen}
-use Rattle.spelling.proofs.PageLaws.{put-both}
+use Rattle.spelling.proofs.PageLaws.{size-of, size-run, put-both}
 use Rattle.copying.specs.Copies.{Written}
 use Rattle.error.specs.declared.Refusal.the-variants.{Unwritable, ScriptTooLong}
 use Rattle.error.specs.declared.CheckAnswer.the-variants as check
@@ -69,22 +69,22 @@ put-fit : (x : Piece) (p : Page) → fits form x ≡ true → put x p ≡ putOn 
 unfolding put
 put-fit x p h = rw h
 
-put-unfit : (x : Piece) (p : Page) → fits form x ≡ false → put x p ≡ spoiled
+put-unfit : (x : Piece) (p : Page) → fits form x ≡ false → put x p ≡ spoil p
 unfolding put
 put-unfit x p h = rw h
 
-put-spoiled : (x : Piece) → put x spoiled ≡ spoiled
+put-spoiled : (x : Piece) (n : ℕ) → put x (spoiled n) ≡ spoiled n
 unfolding put putOn
-put-spoiled x = go (fits form x)
+put-spoiled x n = go (fits form x)
   where
-    go : (b : Bool) → cond b spoiled spoiled ≡ spoiled
+    go : (b : Bool) → cond b (spoiled n) (spoiled n) ≡ spoiled n
     go true = refl
     go false = refl
 
-run-spoiled : (ps : List Piece) → run ps spoiled ≡ spoiled
+run-spoiled : (ps : List Piece) (n : ℕ) → run ps (spoiled n) ≡ spoiled n
 unfolding run
-run-spoiled [] = refl
-run-spoiled (x ∷ xs) = ap (run xs) (put-spoiled x) ∙ run-spoiled xs
+run-spoiled [] n = refl
+run-spoiled (x ∷ xs) n = ap (run xs) (put-spoiled x n) ∙ run-spoiled xs n
 
 run-fit : (ps : List Piece) (p : Page) → putOn [] p ≡ p → allFit form ps ≡ true → run ps p ≡ putOn (ended ps) p
 unfolding run allFit spaced
@@ -97,37 +97,37 @@ run-fit (x ∷ xs) p h e =
     ∙ put-both c (ended xs) p
     ∙ ap (λ (l : List ℕ). putOn l p) (ended-next x xs)
 
-run-unfit : (ps : List Piece) (p : Page) → allFit form ps ≡ false → run ps p ≡ spoiled
+-- ---- pages told apart
+
+abbrev sort : Page → ℕ
+sort (spoiled n) = 0
+sort (full n) = 1
+sort (page o n) = 2
+
+abbrev bytesOn : Page → List ℕ
+bytesOn (spoiled n) = []
+bytesOn (full n) = []
+bytesOn (page o n) = o
+
+abbrev place : Page → ℕ
+place (spoiled n) = 0
+place (full n) = 0
+place (page o n) = n
+
+run-unfit : (ps : List Piece) (p : Page) → allFit form ps ≡ false → sort (run ps p) ≡ 0
 unfolding run allFit
 run-unfit [] p e = absurd (true≢false e)
 run-unfit (x ∷ xs) p e = go (fits form x) refl e (run-unfit xs (put x p))
   where
-    go : (b : Bool) → fits form x ≡ b → (b && allFit form xs) ≡ false → (allFit form xs ≡ false → run xs (put x p) ≡ spoiled)
-        → run xs (put x p) ≡ spoiled
+    go : (b : Bool) → fits form x ≡ b → (b && allFit form xs) ≡ false → (allFit form xs ≡ false → sort (run xs (put x p)) ≡ 0)
+        → sort (run xs (put x p)) ≡ 0
     go true h q f = f q
-    go false h q f = ap (run xs) (put-unfit x p h) ∙ run-spoiled xs
-
--- ---- pages told apart
-
-abbrev sort : Page → ℕ
-sort spoiled = 0
-sort full = 1
-sort (page o n) = 2
-
-abbrev bytesOn : Page → List ℕ
-bytesOn spoiled = []
-bytesOn full = []
-bytesOn (page o n) = o
-
-abbrev place : Page → ℕ
-place spoiled = 0
-place full = 0
-place (page o n) = n
+    go false h q f = ap sort (ap (run xs) (put-unfit x p h) ∙ run-spoiled xs (size p))
 
 -- what a pen that fits has is not spoiled
-sorted : (b : Bool) (o : List ℕ) (n : ℕ) → 1 ≤ sort (cond b (page o n) full)
-sorted true o n = omega arith
-sorted false o n = omega arith
+sorted : (b : Bool) (o : List ℕ) (n m : ℕ) → 1 ≤ sort (cond b (page o n) (full m))
+sorted true o n m = omega arith
+sorted false o n m = omega arith
 
 -- bytes over the start, of which the last may lie past the end
 take-set : (n : ℕ) (o : List ℕ) (b : ℕ) → take n (set o n b) ≡ take n o
@@ -142,22 +142,22 @@ first-bytes o u h =
     rw (a, take-set (length u) (sets o 0 u) 32, b) (take-at u (drop (length u) o) (length u) refl)
 
 -- what a pen has of a page
-fit-page : (out : List ℕ) (c : Pen) → c .fits ≡ true → pageOf out c ≡ cond (leb (c .at) most) (page out (c .at)) full
+fit-page : (out : List ℕ) (c : Pen) → c .fits ≡ true → pageOf out c ≡ cond (leb (c .at) most) (page out (c .at)) (full (length out))
 unfolding pageOf
 fit-page out c f = rw f
 
-unfit-page : (out : List ℕ) (c : Pen) → c .fits ≡ false → pageOf out c ≡ spoiled
+unfit-page : (out : List ℕ) (c : Pen) → c .fits ≡ false → pageOf out c ≡ spoiled (length out)
 unfolding pageOf
 unfit-page out c f = rw f
 
-put-page : (bs out : List ℕ) (n : ℕ) → putOn bs (page out n) ≡ cond (leb (n + length bs) most) (page (sets out n bs) (n + length bs)) full
+put-page : (bs out : List ℕ) (n : ℕ)
+    → putOn bs (page out n) ≡ cond (leb (n + length bs) most) (page (sets out n bs) (n + length bs)) (full (length out))
 unfolding putOn
 put-page bs out n = refl
 
 -- ---- what was written of the script of x: from the page `start` on the pen c has come to out
 
-module _ (start out : List ℕ) (c : Pen) (x : Sense) (l : length start ≡ length out)
-    (w : Written (pieces x) (page start 0) (pageOf out c)) where
+module _ (start out : List ℕ) (c : Pen) (x : Sense) (w : Written (pieces x) (page start 0) (pageOf out c)) where
   abbrev ps : List Piece
   ps = pieces x []
 
@@ -168,9 +168,12 @@ module _ (start out : List ℕ) (c : Pen) (x : Sense) (l : length start ≡ leng
   unfolding run
   came = w .is []
 
+  l : length start ≡ length out
+  l = sym (size-run ps (page start 0)) ∙ ap size came ∙ size-of out c
+
   -- the page with all of it
   abbrev ending : Page
-  ending = cond (leb (0 + length bs) most) (page (sets start 0 bs) (0 + length bs)) full
+  ending = cond (leb (0 + length bs) most) (page (sets start 0 bs) (0 + length bs)) (full (length start))
 
   fit-came : allFit form ps ≡ true → ending ≡ pageOf out c
   unfolding putOn
@@ -183,7 +186,7 @@ module _ (start out : List ℕ) (c : Pen) (x : Sense) (l : length start ≡ leng
       none-fits : allFit form ps ≡ true → ⊥
       none-fits e =
           let k : sort ending ≡ 0 = ap sort (fit-came e ∙ unfit-page out c h) in
-          let m = sorted (leb (0 + length bs) most) (sets start 0 bs) (0 + length bs) in
+          let m = sorted (leb (0 + length bs) most) (sets start 0 bs) (0 + length bs) (length start) in
           omega (arith, k, m)
 
       go : (b : Bool) → allFit form ps ≡ b → refusal Unwritable 0 out ≡ written start x
@@ -197,19 +200,20 @@ module _ (start out : List ℕ) (c : Pen) (x : Sense) (l : length start ≡ leng
         go : (b : Bool) → allFit form ps ≡ b → allFit form ps ≡ true
         go true e = e
         go false e =
-            let k : sort (cond (leb (c .at) most) (page out (c .at)) full) ≡ 0 =
-            ap sort (sym (fit-page out c f) ∙ sym came ∙ run-unfit ps (page start 0) e) in
-            let m = sorted (leb (c .at) most) out (c .at) in
+            let k : sort (cond (leb (c .at) most) (page out (c .at)) (full (length out))) ≡ 0 =
+            ap sort (sym (fit-page out c f) ∙ sym came) ∙ run-unfit ps (page start 0) e in
+            let m = sorted (leb (c .at) most) out (c .at) (length out) in
             absurd (omega (arith, k, m))
 
-    both-pages : ending ≡ cond (leb (c .at) most) (page out (c .at)) full
+    both-pages : ending ≡ cond (leb (c .at) most) (page out (c .at)) (full (length out))
     both-pages = fit-came fitting ∙ fit-page out c f
 
     -- the page is full where the script is too long
     too-much : most < c .at → most < length bs
     too-much h = go (leb (0 + length bs) most) refl (rw (lt-leb (c .at) most h) at both-pages)
       where
-        go : (b : Bool) → leb (0 + length bs) most ≡ b → cond b (page (sets start 0 bs) (0 + length bs)) full ≡ full → most < length bs
+        go : (b : Bool) → leb (0 + length bs) most ≡ b
+            → cond b (page (sets start 0 bs) (0 + length bs)) (full (length start)) ≡ full (length out) → most < length bs
         go true e q = absurd (let k : _≡_ {A = ℕ} 2 1 = ap sort q in omega (arith, k))
         go false e q = omega (arith, leb-false (0 + length bs) most e)
 
@@ -230,7 +234,7 @@ module _ (start out : List ℕ) (c : Pen) (x : Sense) (l : length start ≡ leng
     all-there h = go (leb (0 + length bs) most) (rw (le-leb (c .at) most h) at both-pages)
       where
         go : (b : Bool)
-            → cond b (page (sets start 0 bs) (0 + length bs)) full ≡ page out (c .at)
+            → cond b (page (sets start 0 bs) (0 + length bs)) (full (length start)) ≡ page out (c .at)
             → (sets start 0 bs ≡ out) × (length bs ≡ c .at)
         go true q = (ap bytesOn q, sym (zero-add (length bs)) ∙ ap place q)
         go false q = absurd (let k : _≡_ {A = ℕ} 1 2 = ap sort q in omega (arith, k))

@@ -2,7 +2,6 @@
 ghost use mathlib.Core.Path.{_≡_};
 ghost use mathlib.Core.List.{List};
 ghost use Prim.Native.Nat.{ℕ};
-ghost use lib.ListN.{length};
 ghost use Rattle.error.specs.Answer.{lineValues};
 ghost use Rattle.fresh.specs.Meaning.{Sense};
 ghost use Rattle.fresh.specs.Fresh.{pieces};
@@ -24,7 +23,7 @@ fn refused(out: &mut [u8], refusal: Refusal, place: usize) -> LineAnswer
 
 // What was written, or 34, or 35.
 fn finish(out: &mut [u8], pen: Pen) -> LineAnswer
-    ensures { λ r. ⌜ ((start : List ℕ) (x : Sense) → length start ≡ length (now (out .entry)) → Written (pieces x) (page start 0) (pageOf (now (out .entry)) pen) → (r, now (out .exit)) ≡ written start x) ⌝ }
+    ensures { λ r. ⌜ ((start : List ℕ) (x : Sense) → Written (pieces x) (page start 0) (pageOf (now (out .entry)) pen) → (r, now (out .exit)) ≡ written start x) ⌝ }
 {
     if !pen.fits {
         return refused(out, Refusal::Unwritable, 0);

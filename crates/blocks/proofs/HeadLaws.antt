@@ -10,7 +10,7 @@ use Rattle.ast.specs.Tree.{Container, sequence, parallel, group, stagger, Stagg
 use Rattle.sheet.specs.Sheet.{Forest, word, patternForm, nodeForm}
 use Rattle.encode.specs.Writes.{Writes}
 use Rattle.encode.proofs.OverLaws.{writes-none, writes-then}
-use Rattle.encode.proofs.FieldLaws.{length-word}
+use Rattle.sheet.proofs.FormLaws.{length-word}
 use Rattle.grammar.specs.Grammar.{parseSequence, parseParallel, parseGroup, parseStagger}
 use Rattle.cursor.specs.Means.{Ready, Took}
 use Rattle.cursor.specs.declared.Cursor.{Cursor}

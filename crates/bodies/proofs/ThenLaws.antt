@@ -15,7 +15,7 @@ use Rattle.pieces.specs.Pieces.{Piece, aName, aNumeral}
 use Rattle.fresh.specs.Meaning.{FrameSense}
 use Rattle.fresh.specs.Fresh.{waveNames, wordAt}
 use Rattle.fresh.specs.Fresh.{Writer, mark, negative, minusIf, sizeOf, signedBy, time, frame, moreFrames, track}
-use Rattle.spelling.specs.Spelling.{Page, run}
+use Rattle.spelling.specs.Spelling.{Page, size, run}
 use Rattle.copying.specs.Copies.{Copies}
 use Rattle.bodies.specs.Body.{framesOf, commaFrames, joinedFrames, loopBy}
 
@@ -28,6 +28,7 @@ pub known-then : {A B : Type 0} {c : Form A} {d : Form B} {v : A} (w : A × B �
 known-then {A = A} w {p = p} r y = record {
   reads = seen (r & y .reads) (λ x h. same-page (λ ps.
       ap (λ (z : A × (List Piece → Page)). run (w (z .0, x .1) ps) p) h ∙ ap (λ (z : A × (List Piece → Page)). z .1 ps) h));
+  kept = y .kept;
 }
 
 abbrev Keyed : Type 0 → Type 0
@@ -38,13 +39,14 @@ pub keyed-then : {A B K : Type 0} {c : Form A} {d : Form B} (key : A → K) (v :
     {s : List ℕ} {at m k : ℕ} {x : K} {p q r : Page}
     → ((a : A) (b : B) (ps : List Piece) → w (a, b) ps ≡ v a (u (key a) b ps))
     → Reads {X = K × (List Piece → Page)} c (λ a. (key a, λ ps. run (v a ps) p)) s at (x, λ ps. run ps q) m
-    → Copies d (u x) s m q r k → Copies (c ▹ d) w s at p r k
-keyed-then {K = K} key v u w {x = x} {p = p} {q = q} {r = r} e y z = record {
+    → size q ≡ size p → Copies d (u x) s m q r k → Copies (c ▹ d) w s at p r k
+keyed-then {K = K} key v u w {x = x} {p = p} {q = q} {r = r} e y l z = record {
   reads = seen (y & z .reads) (λ a h. same-page (λ ps.
       ap (λ (xs : List Piece). run xs p) (e (a .0) (a .1) ps)
       ∙ ap (λ (g : Keyed K). g .0 .1 (u (key (a .0)) (a .1) ps)) h
       ∙ ap (λ (j : K). run (u j (a .1) ps) q) (ap (λ (g : Keyed K). g .0 .0) h)
       ∙ ap (λ (g : Keyed K). g .1 ps) h));
+  kept = z .kept ∙ l;
 }
 
 -- ---- an optional value, then another form
@@ -67,6 +69,7 @@ pub some-then : {A B : Type 0} (c : Form A) {d : Form B} (v : A → Writer) (u :
     → Number (below 2) 2 s at b m → (b ≡ 0 → ⊥) → Copies c v s m p q j → Copies d u s j q r k → Copies (opt c ▹ d) w s at p r k
 some-then {A = A} {B = B} c v u w {p = p} {q = q} {r = r} e t n x y = record {
   reads = seen (present c {view = shown} t n (x .reads) (λ a h i. (true, h i)) & y .reads) (λ z h. same-page (λ ps. by (z .0) (z .1) h ps));
+  kept = y .kept ∙ x .kept;
 }
   where
     shown : Option A → Bool × (List Piece → Page)

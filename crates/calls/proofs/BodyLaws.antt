@@ -25,7 +25,7 @@ use Rattle.records.specs.Record.{recordForm, recordView}
 use Rattle.records.specs.declared.Kind.{Kind}
 use Rattle.records.proofs.PlaceLaws.{Behind, behind-head, behind-next, behind-last}
 use Rattle.encode.proofs.ClearLaws.{written}
-use Rattle.encode.proofs.FieldLaws.{length-big}
+use Rattle.sheet.proofs.FormLaws.{length-big}
 use Rattle.grammar.specs.Rule.{Out}
 use Rattle.grammar.specs.Grammar.{stored, block, animatoInput}
 use Rattle.cursor.specs.Word.{atOf}

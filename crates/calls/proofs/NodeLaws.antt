@@ -11,7 +11,7 @@ use Rattle.number.specs.Time.{Key}
 use Rattle.grammar.specs.Grammar.{stored}
 use Rattle.codec.specs.Codec.{big, opt}
 use Rattle.codec.proofs.Laws.{All}
-use Rattle.encode.proofs.FieldLaws.{length-big}
+use Rattle.sheet.proofs.FormLaws.{length-big}
 use Rattle.sheet.specs.Sheet.{Node, Forest, word, easingForm, spanForm}
 use Rattle.sheet.specs.Records.{recordOf, nodesOf, kindOf}
 use Rattle.sheet.proofs.Laws.{spanL, nodeL, innerL, OkNodes}

@@ -6,7 +6,7 @@ use Rattle.codec.specs.Codec.{Form}
 use Rattle.decode.specs.Reads.{Reads}
 use Rattle.pieces.specs.Pieces.{Piece}
 use Rattle.fresh.specs.Fresh.{Writer}
-use Rattle.spelling.specs.Spelling.{Page, run, pageOf}
+use Rattle.spelling.specs.Spelling.{Page, size, run, pageOf}
 use Rattle.spelling.specs.declared.Pen.{Pen}
 use Rattle.copying.specs.declared.values.Copied.{Copied}
 
@@ -14,9 +14,11 @@ use Rattle.copying.specs.declared.values.Copied.{Copied}
 pub record Written (w : Writer) (p q : Page) : Type 0 where
   pub is : (ps : List Piece) → run (w ps) p ≡ run ps q
 
--- at `at` the form reads a value, and the place behind it is `next`, and the value's pieces have been put; or none, and `next` is lost
+-- at `at` the form reads a value, and the place behind it is `next`, and the value's pieces have been put; or none, and `next` is lost. The
+-- buffer keeps its length
 pub record Copies {A : Type 0} (c : Form A) (w : A → Writer) (s : List ℕ) (at : ℕ) (p q : Page) (next : ℕ) : Type 0 where
   pub reads : Reads {X = List Piece → Page} c (λ a ps. run (w a ps) p) s at (λ ps. run ps q) next
+  pub kept : size q ≡ size p
 
 -- the same of the code's buffers and answers
 abbrev pub Puts : Writer → List ℕ → Pen → List ℕ → Pen → Type 0

@@ -6,21 +6,23 @@ use mathlib.Core.List.{List, [], _∷_}
 use mathlib.Core.Option.{Option, none, some}
 use mathlib.Core.Path.{_≡_, refl, sym, ap, _∙_}
 use lib.Dec.{eqb}
+use lib.ListN.{length}
 use lib.Ieee.{round, toBits}
 use Rattle.text.specs.Bytes.{bytes, part}
 use Rattle.number.specs.Number.{bits}
 use Rattle.codec.specs.Codec.{Form, _▹_, empty, below, opt}
 use Rattle.decode.specs.Reads.{Reads, Number, same}
-use Rattle.decode.proofs.ReadLaws.{_&_, seen, nothing, absent, present}
+use Rattle.codec.proofs.Laws.{makeAt}
+use Rattle.decode.proofs.ReadLaws.{formAt, _&_, seen, nothing, absent, present}
 use Rattle.grammar.specs.Values.{f32Of}
 use Rattle.pieces.specs.Pieces.{Piece, aWord}
 use Rattle.ast.specs.View.{spanView}
 use Rattle.ast.specs.declared.Span as spans
 use Rattle.ast.specs.Tree.{StaggerPatternSpec}
-use Rattle.sheet.specs.Sheet.{word, flag, spanForm, patternForm}
-use Rattle.copying.proofs.CopyLaws.{put-before}
+use Rattle.sheet.specs.Sheet.{word, flag, spanForm, easings, splitEasing, easingForm, patternForm}
+use Rattle.copying.proofs.CopyLaws.{written-kept, in-case, put-before}
 use Rattle.ast.specs.Tree.{spanBytes}
-use Rattle.fresh.specs.Meaning.{named}
+use Rattle.fresh.specs.Meaning.{named, easingSense}
 use Rattle.fresh.specs.Fresh.{Writer, Pair, spell, mark, u32, easing, pairs, morePairs, unless, choose, pattern, opening}
 use Rattle.grammar.specs.Grammar.{originNames}
 use Rattle.spelling.specs.Spelling.{Page, run}
@@ -33,18 +35,19 @@ same-page : {p q : List Piece → Page} → ((ps : List Piece) → p ps ≡ q ps
 same-page h = λ i ps. h ps i
 
 pub nothing-read : {w : Writer} {s : List ℕ} {at : ℕ} {p q : Page} → Written w p q → Copies empty (λ u. w) s at p q at
-nothing-read {s = s} {at = at} x = record { reads = seen (nothing {view = λ u. u} s at) (λ a e. same-page (x .is)) }
+nothing-read {s = s} {at = at} x =
+    record { reads = seen (nothing {view = λ u. u} s at) (λ a e. same-page (x .is)); kept = written-kept x }
 
 pub two-read : {A B : Type 0} {c : Form A} {d : Form B} {s : List ℕ} {at m k : ℕ} {a : A} {b : B} (w : A × B → Writer) {p q : Page}
     → Reads c same s at a m → Reads d same s m b k → Written (w (a, b)) p q → Copies (c ▹ d) w s at p q k
 two-read w {p = p} r t x =
-    record { reads = seen (r & t) (λ y e. same-page (λ ps. ap (λ z. run (w z ps) p) e ∙ x .is ps)) }
+    record { reads = seen (r & t) (λ y e. same-page (λ ps. ap (λ z. run (w z ps) p) e ∙ x .is ps)); kept = written-kept x }
 
 pub three-read : {A B C : Type 0} {c : Form A} {d : Form B} {f : Form C} {s : List ℕ} {at m k j : ℕ} {a : A} {b : B} {g : C}
     (w : A × (B × C) → Writer) {p q : Page}
     → Reads c same s at a m → Reads d same s m b k → Reads f same s k g j → Written (w (a, (b, g))) p q → Copies (c ▹ d ▹ f) w s at p q j
 three-read w {p = p} r t u x =
-    record { reads = seen (r & t & u) (λ y e. same-page (λ ps. ap (λ z. run (w z ps) p) e ∙ x .is ps)) }
+    record { reads = seen (r & t & u) (λ y e. same-page (λ ps. ap (λ z. run (w z ps) p) e ∙ x .is ps)); kept = written-kept x }
 
 -- ---- what absence reads to
 
@@ -139,7 +142,14 @@ named-read t n {v = v} {p = p} r u h y = record {
   reads = seen (r & u) (λ a e. same-page (λ ps.
       ap (λ (z : Bool × spans.Span). run (easing (named (z .0) (part t (z .1 .start) (z .1 .size))) ps) p) e
       ∙ ap (λ (z : List ℕ). run (easing (named v z) ps) p) (sym h) ∙ y .is ps));
+  kept = written-kept y;
 }
+
+-- the easing at a position of their list
+pub easing-case : (t : List ℕ) (i : ℕ) {s : List ℕ} {at m k b : ℕ} {p q : Page} → Reads (below 6) same s at b m → b ≡ i
+    → Copies (formAt (easings (length t)) i) (λ x. easing (easingSense t (makeAt (easings (length t)) i x))) s m p q k
+    → Copies (easingForm (length t)) (λ x. easing (easingSense t x)) s at p q k
+easing-case t i r e y = in-case (easings (length t)) (splitEasing (length t)) (λ x. easing (easingSense t x)) i r e y
 
 -- what stands before the block of a `stagger`: no pattern, or one, and then `delay` or not
 opening-delay : (d : Option ℕ) (ps : List Piece) → opening none d ps ≡ delayBy true d ps
@@ -182,6 +192,7 @@ pub opening-absent : {s : List ℕ} {at m k b : ℕ} {p q : Page} → Number (be
 opening-absent {p = p} {q = q} r e y = record {
   reads = seen (absent patternForm {view = shown-pattern p} r e refl & y .reads)
       (λ z h. same-page (λ ps. no-pattern p q (z .0) (z .1) h ps));
+  kept = y .kept;
 }
 
 pub opening-present : {s : List ℕ} {at m k j b : ℕ} {p q t u : Page} → Number (below 2) 2 s at b m → (b ≡ 0 → ⊥)
@@ -191,4 +202,5 @@ pub opening-present : {s : List ℕ} {at m k j b : ℕ} {p q t u : Page} → Num
 opening-present {p = p} {t = t} {u = u} r n a x y = record {
   reads = seen (present patternForm {view = shown-pattern p} r n (put-before a x .reads) (λ z h i. (true, h i)) & y .reads)
       (λ z h. same-page (λ ps. a-pattern p t u (z .0) (z .1) h ps));
+  kept = y .kept ∙ x .kept ∙ written-kept a;
 }

@@ -17,7 +17,7 @@ use Rattle.sheet.specs.Sheet.{entryForm, loopForm, spanForm}
 use Rattle.encode.specs.Of.{spanOf, loopOf, optLoopOf}
 use Rattle.encode.specs.Writes.{Writes}
 use Rattle.encode.proofs.OverLaws.{writes-none, writes-then, writes-counted}
-use Rattle.encode.proofs.FieldLaws.{each-append, length-span}
+use Rattle.sheet.proofs.FormLaws.{each-append, length-span}
 use Rattle.encode.proofs.EnumLaws.{loop-most, opt-most}
 use Rattle.error.specs.declared.Refusal.{Refusal}
 use Rattle.error.specs.declared.Refusal.the-variants.{Missing}

@@ -9,7 +9,7 @@ use lib.ListN.{length}
 use Rattle.text.specs.Limits.{textLimit}
 use Rattle.text.specs.Bytes.{bytes, same}
 use Rattle.text.specs.Words.{words}
-use Rattle.encode.proofs.FieldLaws.{small}
+use Rattle.sheet.proofs.FormLaws.{small}
 use Rattle.ast.specs.Tree.{EasingSpec, LoopSpec}
 use Rattle.sheet.specs.Sheet.{easingForm}
 use Rattle.sheet.proofs.Laws.{easingL, loopL}

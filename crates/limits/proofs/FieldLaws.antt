@@ -12,7 +12,7 @@ use Rattle.text.specs.Words.{orElse, default}
 use Rattle.text.proofs.WordLaws.{same-eq}
 use Rattle.codec.specs.Codec.{Form, opt}
 use Rattle.codec.proofs.Laws.{Small, All, Law, _&_, optL, belowL}
-use Rattle.encode.proofs.FieldLaws.{small}
+use Rattle.sheet.proofs.FormLaws.{small}
 use Rattle.ast.specs.Tree.{ValueExpr}
 use Rattle.sheet.specs.Sheet.{valueForm}
 use Rattle.sheet.proofs.Laws.{wordL, valueL, easingL, loopL, dampingL}

@@ -15,7 +15,7 @@ use Rattle.number.specs.Rounded.{timeRounded}
 use Rattle.number.proofs.Floats.{bits-lt, stored-fits}
 use Rattle.codec.specs.Codec.{Form, opt, eachOut}
 use Rattle.codec.proofs.Laws.{Small, All, Law, optL}
-use Rattle.encode.proofs.FieldLaws.{small, each-more}
+use Rattle.sheet.proofs.FormLaws.{small, each-more}
 use Rattle.ast.specs.Tree.{ValueExpr, EasingSpec, KeyframeTime, percent, seconds, KeyframeEntry, KeyframeSpec, Leaf, mapFrames}
 use Rattle.sheet.specs.Sheet.{Forest, valueForm, easingForm, entryForm}
 use Rattle.sheet.proofs.Laws.{timeL, valueL, entryL, easingL, loopL, keyframesL}

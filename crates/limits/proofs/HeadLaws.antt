@@ -11,7 +11,7 @@ use Rattle.text.specs.Bytes.{same}
 use Rattle.text.specs.Words.{words, default}
 use Rattle.codec.specs.Codec.{Form, opt}
 use Rattle.codec.proofs.Laws.{Small, All, Law, optL}
-use Rattle.encode.proofs.FieldLaws.{small}
+use Rattle.sheet.proofs.FormLaws.{small}
 use Rattle.ast.specs.Tree.{StaggerPatternSpec, grid, Container, sequence, parallel, group, stagger, holding}
 use Rattle.sheet.specs.Sheet.{Forest, word, nodeForm, patternForm}
 use Rattle.sheet.proofs.Laws.{wordL, patternL, startL, nodeL}

@@ -14,7 +14,7 @@ use Rattle.text.specs.Words.{orElse, words}
 use Rattle.text.proofs.WordLaws.{same-eq}
 use Rattle.codec.specs.Codec.{Form, opt}
 use Rattle.codec.proofs.Laws.{All, Law, optL}
-use Rattle.encode.proofs.FieldLaws.{small}
+use Rattle.sheet.proofs.FormLaws.{small}
 use Rattle.number.proofs.Floats.{nearest-fits, bits-lt}
 use Rattle.number.specs.Number.{nearest, bits}
 use Rattle.number.specs.Rounded.{numberRounded}

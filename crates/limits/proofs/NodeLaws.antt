@@ -13,7 +13,7 @@ use Rattle.text.specs.Words.{under}
 use Rattle.number.specs.Time.{Key}
 use Rattle.codec.specs.Codec.{Form, big}
 use Rattle.codec.proofs.Laws.{All, Law}
-use Rattle.encode.proofs.FieldLaws.{small, length-big}
+use Rattle.sheet.proofs.FormLaws.{small, length-big}
 use Rattle.ast.specs.Tree as tree
 use Rattle.ast.specs.Tree.{Leaf, Container, KeyframeTime, Nodes, leaf, box, MotionNode, single, holding, push, append}
 use Rattle.ast.specs.Tree.{width, records, mapLeaf, mapTimes}

@@ -6,7 +6,7 @@ use mathlib.Core.Option.{Option, none, some}
 use native.Mathlib.Omega.{arith}
 use lib.ListN.{length, length-append}
 use Rattle.codec.specs.Codec.{Form, _▹_, opt, below, big, eachOut}
-use Rattle.encode.proofs.FieldLaws.{length-big, length-word}
+use Rattle.sheet.proofs.FormLaws.{length-big, length-word}
 use Rattle.ast.specs.Tree.{
   Span,
   TweenSpec,

@@ -17,7 +17,7 @@ use Rattle.number.specs.Rounded.{numberRounded}
 use Rattle.number.proofs.Floats.{nearest-fits, bits-lt}
 use Rattle.codec.specs.Codec.{eachOut}
 use Rattle.codec.proofs.Laws.{Small, All}
-use Rattle.encode.proofs.FieldLaws.{small, small-bits, length-word}
+use Rattle.sheet.proofs.FormLaws.{small, small-bits, length-word}
 use Rattle.ast.specs.Tree.{Span, ValueExpr, array}
 use Rattle.sheet.specs.Sheet.{word, valueForm}
 use Rattle.sheet.proofs.Laws.{spanL, valueL}

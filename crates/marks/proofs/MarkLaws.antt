@@ -15,7 +15,7 @@ use Rattle.sheet.specs.Sheet.{word, flag, spanForm}
 use Rattle.encode.specs.Of.{spanOf}
 use Rattle.encode.specs.Writes.{Writes}
 use Rattle.encode.proofs.OverLaws.{writes-then}
-use Rattle.encode.proofs.FieldLaws.{length-word, length-span}
+use Rattle.sheet.proofs.FormLaws.{length-word, length-span}
 use Rattle.error.specs.declared.Refusal.the-variants.{Missing, Malformed}
 use Rattle.grammar.specs.Rule.{refused, text, theByte, eatByte, seesNumber, absent}
 use Rattle.grammar.specs.Values.{string}

@@ -13,7 +13,7 @@ use Rattle.sheet.specs.Sheet.{spanForm, valueForm}
 use Rattle.encode.specs.Of.{spanOf}
 use Rattle.encode.specs.Writes.{Writes}
 use Rattle.encode.proofs.OverLaws.{writes-then}
-use Rattle.encode.proofs.FieldLaws.{length-span, length-word}
+use Rattle.sheet.proofs.FormLaws.{length-span, length-word}
 use Rattle.encode.proofs.EnumLaws.{opt-most}
 use Rattle.error.specs.declared.Refusal.{Refusal}
 use Rattle.error.specs.declared.Refusal.the-variants.{Missing}

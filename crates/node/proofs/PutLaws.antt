@@ -7,7 +7,7 @@ use lib.ListN.{length, length-append}
 use Rattle.codec.specs.Codec.{opt, _▹_}
 use Rattle.ast.specs.Tree.{EasingSpec, LoopSpec}
 use Rattle.sheet.specs.Sheet.{word, flag, easingForm, loopForm}
-use Rattle.encode.proofs.FieldLaws.{length-word, length-flag}
+use Rattle.sheet.proofs.FormLaws.{length-word, length-flag}
 use Rattle.encode.proofs.EnumLaws.{opt-most, easing-most, loop-most}
 
 pub opt-word : (o : Option ℕ) → length (opt word .write o) ≤ 5

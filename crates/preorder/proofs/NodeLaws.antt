@@ -1,5 +1,6 @@
 -- Records and nodes written one after the other.
 use Prim.Native.Nat.{ℕ, suc, _+_, _-_, _≤_, _<_}
+use Prim.Native.String.{String}
 use mathlib.Core.List.{List, _∷_}
 use mathlib.Core.Option.{Option, none, some, Option·some-injective}
 use mathlib.Core.Path.{_≡_, refl, sym, _∙_, ap, subst}
@@ -8,7 +9,7 @@ use lib.ListN.{length, drop}
 use Rattle.codec.specs.Codec.{Form, Reader, _▹_, andThen, below, big, opt}
 use Rattle.ast.specs.Tree as tree
 use Rattle.ast.specs.Tree.{Nodes, Leaf, Container, KeyframeTime, single, holding, push, width}
-use Rattle.sheet.specs.Sheet.{Node, Forest, word, patternForm, forest, inner}
+use Rattle.sheet.specs.Sheet.{Node, Forest, word, startForm, patternForm, forest, inner}
 use Rattle.decode.specs.Reads.{Reads, same, KindAndStart}
 use Rattle.decode.proofs.ReadLaws.{_&_, seen}
 use Rattle.records.specs.Record.{blank, countForm}
@@ -18,26 +19,31 @@ use Rattle.records.proofs.RecordLaws.{Makes, made, after, counts, width-blank, 
 use Rattle.places.specs.Stands.{Stands, ContainerKind}
 use Rattle.places.proofs.StandLaws.{Opened, plain, boxed, front}
 use Rattle.pieces.specs.Pieces.{Piece}
-use Rattle.fresh.specs.Fresh.{Writer, spell, mark, wordAt, boxWord, boxBody, pieces}
+use Rattle.fresh.specs.Fresh.{Writer, spell, mark, wordAt, leafWord, boxWord, boxBody, pieces}
 use Rattle.grammar.specs.Grammar.{modeNames}
 use Rattle.fresh.specs.Fresh as fresh
 use Rattle.spelling.specs.Spelling.{Page, put, run}
 use Rattle.copying.specs.Copies.{Written, Copies}
-use Rattle.copying.proofs.CopyLaws.{one-piece, _and_, called}
-use Rattle.fresh.specs.Meaning.{sense}
-use Rattle.bodies.specs.Body.{stored}
-use Rattle.preorder.specs.Copy.{recordPieces, recordPage, RecordTold, Begun, Placed, NodePut}
+use Rattle.copying.proofs.CopyLaws.{one-piece, _and_, called, in-front}
+use Rattle.fresh.specs.Meaning.{leafSense, sense}
+use Rattle.bodies.specs.Body.{stored, body}
+use Rattle.preorder.specs.Copy.{recordPage, RecordTold, Begun, Placed, NodePut}
 
 -- a record's pages, and its kind
 abbrev Seen : Type 0
 Seen = (List Piece → Page) × Kind
 
--- ---- a leaf
+-- ---- a leaf: its start, its word, and its fields
 
-pub leaf-told : {A : Type 0} {c : Form A} (t : List ℕ) (l : A → Leaf KeyframeTime) {s : List ℕ} {at m : ℕ} {p q : Page}
-    → Copies c (λ x. recordPieces t (single 0 (l x))) s at p q m
-    → Reads {X = Seen} c (λ x. (recordPage t p (single 0 (l x)), kind.Leaf)) s at ((λ ps. run ps q), kind.Leaf) m
-leaf-told t l y = seen (y .reads) (λ x e i. (e i, kind.Leaf))
+pub leaf-told : (t : List ℕ) (p : Page) {A : Type 0} {c : Form A} (l : A → Leaf KeyframeTime) (w : String)
+    {s : List ℕ} {from start at k m : ℕ} {q r : Page}
+    → (b : KindAndStart (length t) s from k start at) → ((x : A) → leafWord (leafSense stored t (l x)) ≡ w)
+    → q ≡ put (spell w) p → Copies c (λ x. body t (l x)) s at q r m
+    → Reads {X = Seen} (startForm (length t) ▹ c) (λ y. (recordPage t p (single (y .0) (l (y .1))), kind.Leaf)) s (b .between)
+    ((λ ps. run ps r), kind.Leaf) m
+leaf-told t p l w b h e y =
+    seen (b .startAt & in-front (spell w) e y .reads)
+    (λ z u. ap (λ (v : String). ((λ ps. run (spell v ∷ body t (l (z .1)) ps) p), kind.Leaf)) (h (z .1)) ∙ (λ i. (u i .1, kind.Leaf)))
 
 -- ---- a container: its own fields, its count of nodes and its `{`
 

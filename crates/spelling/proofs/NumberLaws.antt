@@ -19,8 +19,9 @@ use Rattle.digits.proofs.PercentLaws.{percent-of}
 use Rattle.pieces.specs.Pieces.{aNumeral, spelt, fits}
 use Rattle.pieces.proofs.FitLaws.{is-fits}
 use Rattle.pieces.proofs.FormLaws.{float-fits, percent-fits, counted-fits}
-use Rattle.spelling.specs.Spelling.{Page, spoiled, putOn, put, pageOf, Spellable, Below, Large, putNumber}
-use Rattle.spelling.proofs.PageLaws.{put-both}
+use Rattle.spelling.specs.Spelling.{Page, spoil, putOn, put, pageOf, Spellable, Below, Large, putNumber}
+use Rattle.spelling.specs.declared.Pen.{Pen}
+use Rattle.spelling.proofs.PageLaws.{size-of, put-both}
 
 -- ---- where nothing is found, it does not fit
 
@@ -42,7 +43,7 @@ spell-put : (k : _) (b : ℕ) (p : Page) → fits form (aNumeral k b) ≡ true
 unfolding put spelt
 spell-put k b p h = put-both (form k b .0 ++ fraction (form k b .1)) (32 ∷ []) p ∙ rw h refl
 
-none-put : (k : _) (b : ℕ) (p : Page) → fits form (aNumeral k b) ≡ false → spoiled ≡ put (aNumeral k b) p
+none-put : (k : _) (b : ℕ) (p : Page) → fits form (aNumeral k b) ≡ false → spoil p ≡ put (aNumeral k b) p
 unfolding put
 none-put k b p h = rw h refl
 
@@ -99,10 +100,9 @@ count-put n p h e f =
 
 -- ---- a number that may be there
 
-pub not-found : (d : Decimal) (at : ℕ) (out : List ℕ) (p : Page) → d .found ≡ false
-    → pageOf out (record { at = at; fits = false }) ≡ putNumber (numberOf d) p
-unfolding pageOf
-not-found d at out p h = rw h refl
+pub not-found : (d : Decimal) (at : ℕ) (out : List ℕ) (c : Pen) → d .found ≡ false
+    → pageOf out (record { at = at; fits = false }) ≡ putNumber (numberOf d) (pageOf out c)
+not-found d at out c h = rw (h, size-of out c) (unfold pageOf in refl)
 
 module _ (d : Decimal) (s : Spellable (numberOf d)) (h : d .found ≡ true) where
   found-some : numberOf d ≡ some (wholeNumber d, d .places)

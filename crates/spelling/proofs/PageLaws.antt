@@ -8,52 +8,89 @@ use native.Mathlib.Nat.{pow-suc}
 use native.Mathlib.Numerals.{add-one}
 use lib.Dec.{leb, eqb}
 use lib.ListN.{length, length-append, length-set, drop, getD, drop-of-length-le}
-use lib.Seq.{sets, drop-cons}
+use lib.Seq.{sets, drop-cons, length-sets}
 use borrow.Author.Tests.{lt-ltb, le-ltb, le-leb, lt-leb, leb-true, leb-false, eqb-true, eqb-false, eq-eqb, ne-eqb}
 use Rattle.text.proofs.WriteLaws.{sets-append}
-use Rattle.text.specs.Bytes.{at, run, isLetter, isDigit, isName}
+use Rattle.text.specs.Bytes as bytes
+use Rattle.text.specs.Bytes.{at, isLetter, isDigit, isName}
 use Rattle.digits.specs.Numeral.{all, fraction}
 use Rattle.digits.specs.Fewest.{form, wholeDigits, lastDigits}
 use Rattle.pieces.specs.Pieces.{Piece, spelt, fits, wordLike, nameLike}
 use Rattle.token.specs.Names.{isKeyword}
-use Rattle.spelling.specs.Spelling.{Page, spoiled, full, page, most, putOn, put, pageOf}
+use Rattle.spelling.specs.Spelling.{Page, spoiled, full, page, size, spoil, most, putOn, put, run, pageOf}
 use Rattle.spelling.specs.declared.Pen.{Pen}
 
 abbrev pen : ℕ → Bool → Pen
 pen at b = record { at = at; fits = b }
 
+-- ---- the buffer keeps its length
+
+pub size-of : (out : List ℕ) (c : Pen) → size (pageOf out c) ≡ length out
+unfolding pageOf
+size-of out c = go (c .fits) (leb (c .at) most)
+  where
+    go : (x y : Bool) → size (cond x (cond y (page out (c .at)) (full (length out))) (spoiled (length out))) ≡ length out
+    go false y = refl
+    go true false = refl
+    go true true = refl
+
+size-put-on : (bs : List ℕ) (p : Page) → size (putOn bs p) ≡ size p
+unfolding putOn
+size-put-on bs (spoiled n) = refl
+size-put-on bs (full n) = refl
+size-put-on bs (page out at) = go (leb (at + length bs) most)
+  where
+    go : (x : Bool) → size (cond x (page (sets out at bs) (at + length bs)) (full (length out))) ≡ length out
+    go true = length-sets out at bs
+    go false = refl
+
+size-put : (x : Piece) (p : Page) → size (put x p) ≡ size p
+unfolding put
+size-put x p = go (fits form x)
+  where
+    go : (b : Bool) → size (cond b (putOn (spelt form x ++ 32 ∷ []) p) (spoil p)) ≡ size p
+    go true = size-put-on (spelt form x ++ 32 ∷ []) p
+    go false = refl
+
+pub size-run : (ps : List Piece) (p : Page) → size (run ps p) ≡ size p
+unfolding run
+size-run [] p = refl
+size-run (x ∷ xs) p = size-run xs (put x p) ∙ size-put x p
+
+-- ---- bytes behind bytes
+
 -- there is room for the bytes bs
 pub with-room : (at : ℕ) (b : Bool) (out bs : List ℕ) → leb (at + length bs) most ≡ true
     → pageOf (sets out at bs) (pen (at + length bs) b) ≡ putOn bs (pageOf out (pen at b))
 unfolding putOn pageOf
-with-room at false out bs h = refl
+with-room at false out bs h = ap spoiled (length-sets out at bs)
 with-room at true out bs h =
     let k : leb at most ≡ true = le-leb at most (omega (arith, leb-true (at + length bs) most h)) in
     rw (h, k, h)
 
--- there is none, whatever was written
-pub no-room : (at : ℕ) (b : Bool) (out after bs : List ℕ) → leb (at + length bs) most ≡ false
-    → pageOf after (pen (suc most) b) ≡ putOn bs (pageOf out (pen at b))
+-- there is none
+pub no-room : (at : ℕ) (b : Bool) (out bs : List ℕ) → leb (at + length bs) most ≡ false
+    → pageOf out (pen (suc most) b) ≡ putOn bs (pageOf out (pen at b))
 unfolding putOn pageOf
-no-room at false out after bs h = refl
-no-room at true out after bs h = go (leb at most)
+no-room at false out bs h = refl
+no-room at true out bs h = go (leb at most)
   where
-    go : (x : Bool) → full ≡ putOn bs (cond x (page out at) full)
+    go : (x : Bool) → full (length out) ≡ putOn bs (cond x (page out at) (full (length out)))
     go true = rw h
     go false = refl
 
 -- bytes behind bytes
 pub put-both : (cs bs : List ℕ) (p : Page) → putOn bs (putOn cs p) ≡ putOn (cs ++ bs) p
 unfolding putOn
-put-both cs bs spoiled = refl
-put-both cs bs full = refl
+put-both cs bs (spoiled n) = refl
+put-both cs bs (full n) = refl
 put-both cs bs (page out at) = go (leb (at + length cs) most) refl
   where
     go : (x : Bool) → leb (at + length cs) most ≡ x
-        → putOn bs (cond x (page (sets out at cs) (at + length cs)) full) ≡ putOn (cs ++ bs) (page out at)
+        → putOn bs (cond x (page (sets out at cs) (at + length cs)) (full (length out))) ≡ putOn (cs ++ bs) (page out at)
     go true e =
         let n : at + length cs + length bs ≡ at + length (cs ++ bs) = omega (arith, length-append cs bs) in
-        rw (n, sets-append out at cs bs)
+        rw (n, sets-append out at cs bs, length-sets out at cs)
     go false e =
         let h : leb (at + length (cs ++ bs)) most ≡ false = lt-leb (at + length (cs ++ bs)) most
         (omega (arith, leb-false (at + length cs) most e, length-append cs bs)) in
@@ -67,10 +104,10 @@ unfolding put
 piece-put x p bs e f s h = f ∙ ap (putOn (32 ∷ [])) e ∙ put-both bs (32 ∷ []) p ∙ rw (h, s)
 
 pub piece-judged : (x : Piece) (p : Page) {q r : Page} (bs : List ℕ) {b : Bool} → q ≡ putOn bs p → r ≡ putOn (32 ∷ []) q → spelt form x ≡ bs
-    → b ≡ fits form x → cond b r spoiled ≡ put x p
+    → b ≡ fits form x → cond b r (spoil r) ≡ put x p
 unfolding put
 piece-judged x p bs {b} e f s h =
-    ap (λ (y : Page). cond b y spoiled) (f ∙ ap (putOn (32 ∷ [])) e ∙ put-both bs (32 ∷ []) p) ∙ rw (h, s)
+    ap (λ (y : Page). cond b y (spoil y)) (f ∙ ap (putOn (32 ∷ [])) e ∙ put-both bs (32 ∷ []) p) ∙ rw (h, s, size-put-on (bs ++ 32 ∷ []) p)
 
 -- what stands between quotes
 pub quoted-put : (bs : List ℕ) (p : Page) {q r o : Page} → q ≡ putOn (34 ∷ []) p → r ≡ putOn bs q → o ≡ putOn (34 ∷ []) r
@@ -115,18 +152,18 @@ suc-eqb a b = go (eqb a b) refl
     go true e = eq-eqb (suc a) (suc b) (ap suc (eqb-true a b e))
     go false e = ne-eqb (suc a) (suc b) (λ h. eqb-false a b e (omega arith))
 
-run-all : (p : ℕ → Bool) (bs : List ℕ) → eqb (run p bs) (length bs) ≡ all p bs
-unfolding run all
+run-all : (p : ℕ → Bool) (bs : List ℕ) → eqb (bytes.run p bs) (length bs) ≡ all p bs
+unfolding bytes.run all
 run-all p [] = refl
 run-all p (b ∷ bs) = go (p b) (run-all p bs)
   where
-    go : (x : Bool) → eqb (run p bs) (length bs) ≡ all p bs
-        → eqb (elim x [ true ↦ suc (run p bs) | false ↦ 0 ]) (suc (length bs)) ≡ (x && all p bs)
-    go true h = suc-eqb (run p bs) (length bs) ∙ h
+    go : (x : Bool) → eqb (bytes.run p bs) (length bs) ≡ all p bs
+        → eqb (elim x [ true ↦ suc (bytes.run p bs) | false ↦ 0 ]) (suc (length bs)) ≡ (x && all p bs)
+    go true h = suc-eqb (bytes.run p bs) (length bs) ∙ h
     go false h = ne-eqb 0 (suc (length bs)) (λ e. omega arith)
 
-pub all-is : (p : ℕ → Bool) (bs : List ℕ) (k : ℕ) → k ≡ 0 + run p (drop 0 bs) → eqb k (length bs) ≡ all p bs
-all-is p bs k e = let h : k ≡ run p bs = omega arith in rw h (run-all p bs)
+pub all-is : (p : ℕ → Bool) (bs : List ℕ) (k : ℕ) → k ≡ 0 + bytes.run p (drop 0 bs) → eqb k (length bs) ≡ all p bs
+all-is p bs k e = let h : k ≡ bytes.run p bs = omega arith in rw h (run-all p bs)
 
 pub word-is : (w : List ℕ) → wordLike w ≡ (isLetter (at w 0) && all isName w)
 unfolding wordLike all
@@ -193,7 +230,8 @@ unfolding pageOf putOn
 put-none out c = go (c .fits) (leb (c .at) most) refl
   where
     go : (x y : Bool) → leb (c .at) most ≡ y
-        → cond x (cond y (page out (c .at)) full) spoiled ≡ putOn [] (cond x (cond y (page out (c .at)) full) spoiled)
+        → cond x (cond y (page out (c .at)) (full (length out))) (spoiled (length out))
+        ≡ putOn [] (cond x (cond y (page out (c .at)) (full (length out))) (spoiled (length out)))
     go false y e = refl
     go true false e = refl
     go true true e = let h : c .at + 0 ≡ c .at = omega arith in rw (h, e)

@@ -15,24 +15,34 @@ use Rattle.digits.specs.declared.Decimal.{Decimal}
 use Rattle.pieces.specs.Pieces.{Piece, spelt, fits}
 use Rattle.spelling.specs.declared.Pen.{Pen}
 
--- a piece that no text can have has come; there are more bytes than may be written; or the buffer, and how many bytes of it are written
+-- a piece that no text can have has come, or there are more bytes than may be written, into a buffer of a length; or the buffer, and how
+-- many bytes of it are written
 pub data Page : Type 0 where
-  spoiled : Page
-  full : Page
+  spoiled : ℕ → Page
+  full : ℕ → Page
   page : List ℕ → ℕ → Page
+
+-- the buffer's length
+abbrev pub size : Page → ℕ
+size (spoiled n) = n
+size (full n) = n
+size (page out at) = length out
+
+abbrev pub spoil : Page → Page
+spoil p = spoiled (size p)
 
 -- a script's limit, and the blank behind its last piece
 abbrev pub most : ℕ
 most = suc textLimit
 
 unfoldable pub putOn : List ℕ → Page → Page
-putOn bs spoiled = spoiled
-putOn bs full = full
-putOn bs (page out at) = cond (leb (at + length bs) most) (page (sets out at bs) (at + length bs)) full
+putOn bs (spoiled n) = spoiled n
+putOn bs (full n) = full n
+putOn bs (page out at) = cond (leb (at + length bs) most) (page (sets out at bs) (at + length bs)) (full (length out))
 
 -- a piece, and a blank behind it
 unfoldable pub put : Piece → Page → Page
-put x p = cond (fits form x) (putOn (spelt form x ++ 32 ∷ []) p) spoiled
+put x p = cond (fits form x) (putOn (spelt form x ++ 32 ∷ []) p) (spoil p)
 
 unfoldable pub run : List Piece → Page → Page
 run [] p = p
@@ -40,7 +50,7 @@ run (x ∷ xs) p = run xs (put x p)
 
 -- what the code has of it
 unfoldable pub pageOf : List ℕ → Pen → Page
-pageOf out c = cond (c .fits) (cond (leb (c .at) most) (page out (c .at)) full) spoiled
+pageOf out c = cond (c .fits) (cond (leb (c .at) most) (page out (c .at)) (full (length out))) (spoiled (length out))
 
 -- the piece x is put
 abbrev pub Puts : Piece → List ℕ → Pen → List ℕ → Pen → Type 0
@@ -66,5 +76,5 @@ pub record Large (d : Decimal) : Type 0 where
 
 -- its digits and a blank
 abbrev pub putNumber : Option (ℕ × ℕ) → Page → Page
-putNumber none p = spoiled
+putNumber none p = spoil p
 putNumber (some d) p = putOn (32 ∷ []) (putOn (spelled d .0 ++ fraction (spelled d .1)) p)

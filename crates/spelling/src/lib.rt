@@ -13,7 +13,7 @@ ghost use Rattle.text.specs.Words.{isOneOf};
 ghost use Rattle.digits.specs.Numeral.{float, percentage, counted, all, fraction};
 ghost use Rattle.digits.specs.Fewest.{wholeDigits, lastDigits};
 ghost use Rattle.pieces.specs.Pieces.{aWord, aName, aPlain, aString, aMark, aPair, aNumeral, wordLike, nameLike, curveNames, knownMark, plainMark};
-ghost use Rattle.spelling.specs.Spelling.{most, spoiled, putOn, pageOf, Puts, Spellable, Below, Large, putNumber};
+ghost use Rattle.spelling.specs.Spelling.{most, spoil, putOn, pageOf, Puts, Spellable, Below, Large, putNumber};
 ghost use Rattle.digits.specs.Answer.{wholeNumber, numberOf, Neat};
 use digits::Decimal;
 use text::Class;
@@ -99,7 +99,7 @@ fn put_piece(pen: Pen, out: &mut [u8], part: &[u8]) -> Pen
 
 // What is known of a piece that was put.
 fn judged(pen: Pen, fits: bool) -> Pen
-    ensures { λ r. ⌜ ((out : List ℕ) → pageOf out r ≡ cond fits (pageOf out pen) spoiled) ⌝ }
+    ensures { λ r. ⌜ ((out : List ℕ) → pageOf out r ≡ cond fits (pageOf out pen) (spoil (pageOf out pen))) ⌝ }
 {
     if fits {
         return pen;

@@ -13,7 +13,7 @@ use Rattle.ast.specs.declared.OptF32.the-variants as optFloat
 use Rattle.sheet.specs.Sheet.{word, flag, spanForm, valueForm, easingForm, loopForm}
 use Rattle.encode.specs.Of.{PlainOptFloat, optFloatOf, optWordOf, optEasingOf, optLoopOf}
 use Rattle.encode.specs.Writes.{Writes}
-use Rattle.encode.proofs.FieldLaws.{length-word}
+use Rattle.sheet.proofs.FormLaws.{length-word}
 use Rattle.encode.proofs.EnumLaws.{opt-most, easing-most, loop-most}
 use Rattle.error.specs.declared.Refusal.{Refusal}
 use Rattle.error.specs.declared.Refusal.the-variants.{MissingDuration}

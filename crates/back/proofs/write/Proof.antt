@@ -26,7 +26,7 @@ returns-2 c =
     let at-check = at-enum-told .before .before in
     with-values lineValues (open-answer _ _ _ _ (sym (at-enum-told .enum-told .given .1) ∙ at-check .check .ensures .0)
     (at-take-field .take-field .ensures .reads) (at-copy-nodes .copy-nodes .ensures)
-    (λ x w. at-finish .finish .ensures _ x (sym (at-copy-nodes .copy-nodes .kept .1 .1 .1 .1 .1 .0)) w))
+    (at-finish .finish .ensures _))
 
 pub write-spec : {M : Type 1} → statement M
 write-spec =

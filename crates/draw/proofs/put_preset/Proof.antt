@@ -2,7 +2,7 @@
 use native.Mathlib.Omega.{arith}
 use Rattle.encode.specs.Of.{spanOf, optFloatOf, optEasingOf}
 use Rattle.encode.proofs.OverLaws.{writes-then}
-use Rattle.encode.proofs.FieldLaws.{length-span}
+use Rattle.sheet.proofs.FormLaws.{length-span}
 use Rattle.node.proofs.PutLaws.{opt-word, opt-easing}
 use borrow.Author.Needs.{needs}
 use Rattle.draw.proofs.put_preset.Statement.{statement}

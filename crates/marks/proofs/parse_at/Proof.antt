@@ -4,7 +4,7 @@ use Rattle.text.specs.Bytes.{at}
 use Rattle.marks.proofs.MarkLaws.{at-went, no-value}
 use Rattle.number.specs.Number.{bits}
 use Rattle.cursor.proofs.CursorLaws.{counts}
-use Rattle.encode.proofs.FieldLaws.{length-word}
+use Rattle.sheet.proofs.FormLaws.{length-word}
 use Rattle.number.proofs.Floats.{nearest-number}
 use borrow.Author.Needs.{needs}
 use Rattle.marks.proofs.parse_at.Statement.{statement}

@@ -75,14 +75,6 @@ copy-node-copy-nodes-requires t c κs =
     let m = moves _ (at-copy-record .copy-record .ensures .reads) (at-if1 .if1 .left) in
     (omega (arith, m, at-if1 .if1 .left, start .pre .0), tt)
 
-copy-node-put-mark-requires : (t : ℕ) → copy-node-lts.Need-put-mark-requires (node-calls t) (copy-node-at t) copy-node.Post
-unfolding oneOf
-copy-node-put-mark-requires t c κs = refl
-
-copy-node-put-mark-requires-2 : (t : ℕ) → copy-node-lts.Need-put-mark-requires-2 (node-calls t) (copy-node-at t) copy-node.Post
-unfolding oneOf
-copy-node-put-mark-requires-2 t c κs = refl
-
 copy-node-returns-2 : (t : ℕ) → copy-node-lts.Need-returns-2 (node-calls t) (copy-node-at t) copy-node.Post
 copy-node-returns-2 t c =
     let at-enum-told = c .before in
@@ -125,26 +117,6 @@ copy-nodes-copy-node-requires t c κs =
     let start = at-loop .before .before .before .before in
     (omega (arith, start .pre .0, at-loop .loop .inv .2), tt)
 
-copy-nodes-add-k :
-    (t : ℕ) →
-    copy-nodes-lts.Need-add-k
-    (nodes-calls t)
-    (copy-nodes-at t)
-    copy-nodes.Post
-    copy-nodes-Inv-loop
-    copy-nodes-μ-loop
-copy-nodes-add-k t c = omega arith
-
-copy-nodes-loop-less :
-    (t : ℕ) →
-    copy-nodes-lts.Need-loop-less
-    (nodes-calls t)
-    (copy-nodes-at t)
-    copy-nodes.Post
-    copy-nodes-Inv-loop
-    copy-nodes-μ-loop
-copy-nodes-loop-less t c = omega arith
-
 copy-nodes-loop-again : (t : ℕ)
     → copy-nodes-lts.Need-loop-again (nodes-calls t) (copy-nodes-at t) copy-nodes.Post copy-nodes-Inv-loop copy-nodes-μ-loop
 copy-nodes-loop-again t c =
@@ -171,8 +143,8 @@ pub +copy-node+copy-nodes-spec : {M : Type 1} → statement M
 +copy-node+copy-nodes-spec =
     close μ-copy-node μ-copy-nodes
     (λ t. copy-node-lts.spec (node-calls t) (copy-node-at t) copy-node.Post (copy-node-returns t) (λ c κs. search needs) (λ c. search needs)
-    (λ c. search needs) (copy-node-copy-nodes-requires t) (copy-node-put-mark-requires t) (copy-node-put-mark-requires-2 t)
-    (λ c. search needs) (copy-node-returns-2 t) (λ c. search needs) (copy-node-returns-3 t))
+    (λ c. search needs) (copy-node-copy-nodes-requires t) (λ c κs. unfold oneOf in refl) (λ c κs. unfold oneOf in refl) (λ c. search needs)
+    (copy-node-returns-2 t) (λ c. search needs) (copy-node-returns-3 t))
     λ t. copy-nodes-lts.spec (nodes-calls t) (copy-nodes-at t) copy-nodes.Post copy-nodes-Inv-loop copy-nodes-μ-loop
-    (copy-nodes-loop-holds t) (copy-nodes-copy-node-requires t) (copy-nodes-add-k t) (copy-nodes-loop-less t) (copy-nodes-loop-again t)
+    (copy-nodes-loop-holds t) (copy-nodes-copy-node-requires t) (λ c. omega arith) (λ c. omega arith) (copy-nodes-loop-again t)
     (λ c. search needs) (copy-nodes-returns t)

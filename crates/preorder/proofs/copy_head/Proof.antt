@@ -15,28 +15,12 @@ use borrow.Author.Needs.{needs}
 use Rattle.preorder.proofs.copy_head.Statement.{statement}
 use Rattle.preorder.proofs.copy_head.Tie as tie
 
-put-word-requires : tie.Need-put-word-requires
-unfolding wordLike all
-put-word-requires c κs = refl
-
-put-word-requires-2 : tie.Need-put-word-requires-2
-unfolding wordLike all
-put-word-requires-2 c κs = refl
-
-put-word-requires-3 : tie.Need-put-word-requires-3
-unfolding wordLike all
-put-word-requires-3 c κs = refl
-
 put-choice-requires : tie.Need-put-choice-requires
 unfolding allWords entries wordLike all
 put-choice-requires c κs =
     let c4 = c .before .before .before .before in
     let at-take-byte = c4 .before .before .before .before in
     (refl, omega (arith, at-take-byte .take-byte .ensures .small), omega arith)
-
-put-word-requires-4 : tie.Need-put-word-requires-4
-unfolding wordLike all
-put-word-requires-4 c κs = refl
 
 returns : tie.Need-returns
 returns c =
@@ -76,7 +60,7 @@ returns-4 c =
 
 pub copy-head-spec : {M : Type 1} → statement M
 copy-head-spec =
-    tie.close (tie.spec (λ c. search needs) put-word-requires (λ c. search needs) put-word-requires-2 (λ c κs. search needs)
-    (λ c. search needs) put-word-requires-3 (λ c. search needs) (λ c. search needs) put-choice-requires (λ c. search needs)
-    put-word-requires-4 (λ c κs. search needs) (λ c. search needs) returns (λ c. search needs) returns-2 (λ c. search needs) returns-3
-    (λ c. search needs) returns-4)
+    tie.close (tie.spec (λ c. search needs) (λ c κs. unfold wordLike all in refl) (λ c. search needs) (λ c κs. unfold wordLike all in refl)
+    (λ c κs. search needs) (λ c. search needs) (λ c κs. unfold wordLike all in refl) (λ c. search needs) (λ c. search needs)
+    put-choice-requires (λ c. search needs) (λ c κs. unfold wordLike all in refl) (λ c κs. search needs) (λ c. search needs) returns
+    (λ c. search needs) returns-2 (λ c. search needs) returns-3 (λ c. search needs) returns-4)

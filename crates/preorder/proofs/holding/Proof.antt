@@ -8,10 +8,6 @@ use Rattle.preorder.proofs.holding.Statement.{statement}
 use Rattle.preorder.proofs.holding.Tie as tie
 use Rattle.preorder.proofs.holding.Reads as reads
 
-put-mark-requires : tie.Need-put-mark-requires
-unfolding oneOf
-put-mark-requires c κs = refl
-
 returns : tie.Need-returns
 returns c =
     let at-put-mark = c .before .before in
@@ -19,4 +15,4 @@ returns c =
     record { count = _; holds = refl; reads = at-take-field .take-field .ensures .reads; puts = at-put-mark .put-mark .ensures }
 
 pub holding-spec : {M : Type 1} → statement M
-holding-spec = tie.close (tie.spec (λ c κs. search needs) (λ c. search needs) put-mark-requires (λ c. search needs) returns)
+holding-spec = tie.close (tie.spec (λ c κs. search needs) (λ c. search needs) (λ c κs. unfold oneOf in refl) (λ c. search needs) returns)

@@ -1,5 +1,6 @@
 -- `spelling::judged` meets its contract.
 use Rattle.spelling.specs.Spelling.{pageOf}
+use Rattle.spelling.proofs.PageLaws.{size-of}
 use Rattle.spelling.proofs.judged.Statement.{statement}
 use Rattle.spelling.proofs.judged.Tie as tie
 
@@ -9,7 +10,7 @@ returns c = λ out. rw (c .if1 .taken)
 
 returns-2 : tie.Need-returns-2
 unfolding pageOf
-returns-2 c = λ out. rw (c .if1 .left)
+returns-2 c = λ out. rw (c .if1 .left, size-of out (c .before .args .pen))
 
 pub judged-spec : {M : Type 1} → statement M
 judged-spec = tie.close (tie.spec returns returns-2)

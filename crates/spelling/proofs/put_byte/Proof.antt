@@ -19,7 +19,7 @@ returns c =
 returns-2 : tie.Need-returns-2
 returns-2 c =
     let args = c .before .before .args in
-    no-room (args .pen .at) (args .pen .fits) (args .out .now) _ (args .b ∷ []) (lt-leb (args .pen .at + 1) most (omega arith))
+    no-room (args .pen .at) (args .pen .fits) (args .out .now) (args .b ∷ []) (lt-leb (args .pen .at + 1) most (omega arith))
 
 pub put-byte-spec : {M : Type 1} → statement M
 put-byte-spec = tie.close (tie.spec (λ c κs. search needs) (λ c. search needs) (λ c. search needs) returns (λ c. search needs) returns-2)

@@ -38,7 +38,7 @@ returns c =
 returns-2 : tie.Need-returns-2
 returns-2 c =
     let args = c .before .before .before .before .args in
-    no-room (args .pen .at) (args .pen .fits) (args .out .now) _ (args .part .now) (sym (c .before .has-room .ensures) ∙ c .if1 .left)
+    no-room (args .pen .at) (args .pen .fits) (args .out .now) (args .part .now) (sym (c .before .has-room .ensures) ∙ c .if1 .left)
 
 pub put-bytes-spec : {M : Type 1} → statement M
 put-bytes-spec = tie.close (tie.spec (λ c κs. search needs) copy-requires add-t11 (λ c. search needs) returns (λ c. search needs) returns-2)

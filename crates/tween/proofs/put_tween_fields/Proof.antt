@@ -4,7 +4,7 @@ use native.Mathlib.Omega.{arith}
 use Rattle.number.specs.Number.{bits}
 use Rattle.encode.proofs.EnumLaws.{easing-most, loop-most, opt-most}
 use Rattle.sheet.specs.Sheet.{easingForm, loopForm}
-use Rattle.encode.proofs.FieldLaws.{length-word}
+use Rattle.sheet.proofs.FormLaws.{length-word}
 use Rattle.encode.specs.Of.{optEasingOf, optFloatOf, optLoopOf, optWordOf}
 use Rattle.node.proofs.EndsLaws.{word-most}
 use Rattle.encode.proofs.OverLaws.{writes-then}

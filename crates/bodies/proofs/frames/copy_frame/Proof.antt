@@ -3,15 +3,11 @@ use mathlib.Core.Path.{refl}
 use Rattle.text.specs.Bytes.{oneOf}
 use Rattle.sheet.specs.Sheet.{toEntry, ofEntry}
 use Rattle.fresh.specs.Fresh.{mark, frame}
-use Rattle.copying.proofs.CopyLaws.{renamed, behind, _then_, made}
+use Rattle.copying.proofs.CopyLaws.{behind, _then_, made}
 use Rattle.bodies.specs.Body.{frameOf}
 use borrow.Author.Needs.{needs}
 use Rattle.bodies.proofs.frames.copy_frame.Statement.{statement}
 use Rattle.bodies.proofs.frames.copy_frame.Tie as tie
-
-put-mark-requires : tie.Need-put-mark-requires
-unfolding oneOf
-put-mark-requires c κs = refl
 
 returns : tie.Need-returns
 unfolding frame
@@ -23,11 +19,11 @@ returns c =
     let c18 = at-copy-time .before .before .before .before in
     let start = c18 .before in
     made toEntry ofEntry (λ x. frame (frameOf (start .args .text .now) x))
-    (renamed (behind (mark ":") (at-copy-time .copy-time .ensures) (at-put-mark .put-mark .ensures)
+    (behind (mark ":") (at-copy-time .copy-time .ensures) (at-put-mark .put-mark .ensures)
     then at-copy-value .copy-value .ensures
     then at-copy-frame-easing .copy-frame-easing .ensures)
-    (λ x ps. refl))
 
 pub copy-frame-spec : {M : Type 1} → statement M
 copy-frame-spec =
-    tie.close (tie.spec (λ c κs. search needs) put-mark-requires (λ c κs. search needs) (λ c κs. search needs) (λ c. search needs) returns)
+    tie.close (tie.spec (λ c κs. search needs) (λ c κs. unfold oneOf in refl) (λ c κs. search needs) (λ c κs. search needs)
+    (λ c. search needs) returns)

@@ -3,7 +3,7 @@ use mathlib.Core.Path.{refl}
 use Rattle.sheet.specs.Sheet.{easingForm}
 use Rattle.fresh.specs.Meaning.{optionSense}
 use Rattle.fresh.specs.Fresh.{frameEasing}
-use Rattle.copying.proofs.CopyLaws.{renamed, is-absent, is-present}
+use Rattle.copying.proofs.CopyLaws.{is-absent, is-present}
 use borrow.Author.Needs.{needs}
 use Rattle.bodies.proofs.frames.copy_frame_easing.Statement.{statement}
 use Rattle.bodies.proofs.frames.copy_frame_easing.Tie as tie
@@ -24,7 +24,7 @@ returns-2 c =
     let at-take-byte = at-if1 .before .before in
     let start = at-take-byte .before .before .before .before in
     is-present (easingForm _) (λ o. frameEasing (optionSense (start .args .text .now) o)) (at-take-byte .take-byte .ensures)
-    (at-if1 .if1 .left) (renamed (at-copy-easing .copy-easing .ensures) (λ x ps. refl))
+    (at-if1 .if1 .left) (at-copy-easing .copy-easing .ensures)
 
 pub copy-frame-easing-spec : {M : Type 1} → statement M
 copy-frame-easing-spec = tie.close (tie.spec (λ c κs. search needs) returns (λ c κs. search needs) (λ c. search needs) returns-2)

@@ -2,14 +2,14 @@
 use Rattle.text.specs.Bytes.{at}
 use Rattle.grammar.specs.Rule.{next, text}
 use Prim.Native.Nat.{_-_, _≤_}
-use mathlib.Core.Path.{_≡_, refl}
+use mathlib.Core.Path.{refl}
 use native.Mathlib.Omega.{arith}
 use lib.ListN.{length}
 use Rattle.text.specs.Bytes.{oneOf}
 use Rattle.sheet.specs.Sheet.{entryForm}
 use Rattle.fresh.specs.Fresh.{mark}
 use Rattle.spelling.specs.Spelling.{pageOf}
-use Rattle.copying.proofs.CopyLaws.{in-front, Walked, walk-start, walk-next, walk-done}
+use Rattle.copying.proofs.CopyLaws.{copy-keeps, in-front, Walked, walk-start, walk-next, walk-done}
 use Rattle.bodies.specs.Body.{framesOf, commaFrames}
 use borrow.Author.Needs.{needs}
 use Rattle.bodies.proofs.frames.copy_more_frames.Statement.{statement}
@@ -17,24 +17,14 @@ use Rattle.bodies.proofs.frames.copy_more_frames.Tie as tie
 
 abbrev Inv-loop : tie.InvT-loop
 Inv-loop text s at n out₀ next₀ p₀ k₀ out next p k =
-    (length out ≡ length out₀) × (k ≤ n)
+    (k ≤ n)
     × Walked (entryForm (length text)) (λ xs. commaFrames (framesOf text xs)) s at n (pageOf out₀ p₀) (pageOf out p) next k
 
 abbrev μ-loop : tie.MeasureT-loop
 μ-loop text s at n out₀ next₀ p₀ k₀ out next p k = n - k
 
 loop-holds : tie.Need-loop-holds Inv-loop μ-loop
-loop-holds c = (refl, omega arith, walk-start _ _ _ _ _ _)
-
-put-mark-requires : tie.Need-put-mark-requires Inv-loop μ-loop
-unfolding oneOf
-put-mark-requires c κs = refl
-
-add-k : tie.Need-add-k Inv-loop μ-loop
-add-k c = omega arith
-
-loop-less : tie.Need-loop-less Inv-loop μ-loop
-loop-less c = omega arith
+loop-holds c = (omega arith, walk-start _ _ _ _ _ _)
 
 loop-again : tie.Need-loop-again Inv-loop μ-loop
 unfolding commaFrames
@@ -43,17 +33,19 @@ loop-again c =
     let at-put-mark = at-copy-frame .before .before .before .before in
     let at-loop-test = at-put-mark .before .before in
     let at-loop = at-loop-test .before in (
-      search needs,
       omega arith,
       walk-next _ _ _ _ _ _ _ (λ x xs ps. refl) (at-loop-test .loop-test .taken)
-          (in-front (mark ",") (at-put-mark .put-mark .ensures) (at-copy-frame .copy-frame .ensures)) (at-loop .loop .inv .2),
+          (in-front (mark ",") (at-put-mark .put-mark .ensures) (at-copy-frame .copy-frame .ensures)) (at-loop .loop .inv .1),
     )
 
 returns : tie.Need-returns Inv-loop μ-loop
 unfolding commaFrames
-returns c = walk-done _ _ _ _ _ _ _ (λ ps. refl) (c .loop-test .left) (c .before .loop .inv .2)
+returns c = walk-done _ _ _ _ _ _ _ (λ ps. refl) (c .loop-test .left) (c .before .loop .inv .1)
+
+same-length : tie.Need-same-length Inv-loop μ-loop
+same-length c = copy-keeps _ _ _ _ (returns c)
 
 pub copy-more-frames-spec : {M : Type 1} → statement M
 copy-more-frames-spec =
-    tie.close (tie.spec Inv-loop μ-loop loop-holds put-mark-requires (λ c κs. search needs) add-k loop-less loop-again (λ c. search needs)
-    returns)
+    tie.close (tie.spec Inv-loop μ-loop loop-holds (λ c κs. unfold oneOf in refl) (λ c κs. search needs) (λ c. omega arith)
+    (λ c. omega arith) loop-again same-length returns)

@@ -1,10 +1,9 @@
 -- `bodies::frames::copy_time` meets its contract.
-use mathlib.Core.Path.{refl}
 use native.Mathlib.Omega.{arith}
 use Rattle.ast.specs.Tree as Tree
 use Rattle.sheet.specs.Sheet.{timeCases, splitTime}
 use Rattle.fresh.specs.Fresh.{time}
-use Rattle.copying.proofs.CopyLaws.{read-put, renamed, in-case}
+use Rattle.copying.proofs.CopyLaws.{read-put, in-case}
 use borrow.Author.Needs.{needs}
 use Rattle.bodies.proofs.frames.copy_time.Statement.{statement}
 use Rattle.bodies.proofs.frames.copy_time.Tie as tie
@@ -25,7 +24,7 @@ returns-2 c =
     let at-if1 = at-copy-f32 .before .before in
     let take-byte = at-if1 .before .before .take-byte in
     in-case timeCases splitTime time 1 (take-byte .ensures .reads) (omega (arith, take-byte .ensures .small, at-if1 .if1 .left))
-    (renamed (at-copy-f32 .copy-f32 .ensures) (λ x ps. refl))
+    (at-copy-f32 .copy-f32 .ensures)
 
 pub copy-time-spec : {M : Type 1} → statement M
 copy-time-spec =

@@ -1,7 +1,7 @@
 -- `bodies::frames::copy_track` meets its contract.
 use Prim.Native.Nat.{suc, _-_}
 use mathlib.Core.List.{[]}
-use mathlib.Core.Path.{_≡_, refl}
+use mathlib.Core.Path.{_≡_, refl, _∙_}
 use native.Mathlib.Omega.{arith}
 use lib.ListN.{length}
 use Rattle.codec.specs.Codec.{each}
@@ -48,6 +48,7 @@ returns-2 c =
     (rw h
     (some-copied (λ xs. commaFrames (framesOf t xs)) (λ xs. joinedFrames (framesOf t xs)) (v - 1) (λ x xs ps. refl)
     (at-copy-frame .copy-frame .ensures) (at-copy-more-frames .copy-more-frames .ensures))))
+    (at-copy-more-frames .copy-more-frames .ensures .kept ∙ at-copy-frame .copy-frame .ensures .kept)
     (at-copy-track-loop2 .copy-track-loop2 .ensures)
 
 pub copy-track-spec : {M : Type 1} → statement M

@@ -4,7 +4,7 @@ use Rattle.digits.specs.Numeral.{all}
 use Rattle.sheet.specs.Sheet.{loopForm}
 use Rattle.pieces.specs.Pieces.{wordLike}
 use Rattle.fresh.specs.Fresh.{trackLoop}
-use Rattle.copying.proofs.CopyLaws.{_and_, renamed, is-absent, is-present, put-before}
+use Rattle.copying.proofs.CopyLaws.{_and_, is-absent, is-present, put-before}
 use Rattle.bodies.specs.Body.{loopBy}
 use borrow.Author.Needs.{needs}
 use Rattle.bodies.proofs.frames.copy_track_loop.Statement.{statement}
@@ -15,10 +15,6 @@ returns c =
     let at-take-byte = c .before .before in
     let start = at-take-byte .before .before .before in
     is-absent loopForm (loopBy (start .args .first)) (at-take-byte .take-byte .ensures) (c .if1 .taken) (λ ps. refl)
-
-put-field-requires : tie.Need-put-field-requires
-unfolding wordLike all
-put-field-requires c κs = refl
 
 returns-2 : tie.Need-returns-2
 unfolding trackLoop
@@ -31,10 +27,9 @@ returns-2 c =
     let at-take-byte = at-if1 .before .before in
     let start = at-take-byte .before .before .before in
     is-present loopForm (loopBy (start .args .first)) (at-take-byte .take-byte .ensures) (at-if1 .if1 .left)
-    (renamed (put-before (at-put-comma .put-comma .ensures and at-put-field .put-field .ensures) (at-copy-loop .copy-loop .ensures))
-    (λ x ps. refl))
+    (put-before (at-put-comma .put-comma .ensures and at-put-field .put-field .ensures) (at-copy-loop .copy-loop .ensures))
 
 pub copy-track-loop-spec : {M : Type 1} → statement M
 copy-track-loop-spec =
-    tie.close (tie.spec (λ c κs. search needs) returns (λ c κs. search needs) (λ c. search needs) put-field-requires (λ c κs. search needs)
-    (λ c. search needs) returns-2)
+    tie.close (tie.spec (λ c κs. search needs) returns (λ c κs. search needs) (λ c. search needs) (λ c κs. unfold wordLike all in refl)
+    (λ c κs. search needs) (λ c. search needs) returns-2)

@@ -10,10 +10,6 @@ use borrow.Author.Needs.{needs}
 use Rattle.bodies.proofs.frames.put_percentage.Statement.{statement}
 use Rattle.bodies.proofs.frames.put_percentage.Tie as tie
 
-put-mark-requires : tie.Need-put-mark-requires
-unfolding oneOf
-put-mark-requires c κs = refl
-
 returns : tie.Need-returns
 returns c =
     let at-put-mark = c .before .before in
@@ -23,14 +19,6 @@ returns c =
     called (one-piece (aNumeral percentage (start .args .bits)) (at-put-percent .put-percent .ensures)
     and one-piece (mark "%") (at-put-mark .put-mark .ensures))
     (percent-plain _ (at-if1 .if1 .taken))
-
-put-mark-requires-2 : tie.Need-put-mark-requires-2
-unfolding oneOf
-put-mark-requires-2 c κs = refl
-
-put-mark-requires-3 : tie.Need-put-mark-requires-3
-unfolding oneOf
-put-mark-requires-3 c κs = refl
 
 returns-2 : tie.Need-returns-2
 returns-2 c =
@@ -45,5 +33,5 @@ returns-2 c =
 
 pub put-percentage-spec : {M : Type 1} → statement M
 put-percentage-spec =
-    tie.close (tie.spec (λ c κs. search needs) put-mark-requires (λ c. search needs) returns put-mark-requires-2 (λ c κs. search needs)
-    put-mark-requires-3 (λ c. search needs) returns-2)
+    tie.close (tie.spec (λ c κs. search needs) (λ c κs. unfold oneOf in refl) (λ c. search needs) returns (λ c κs. unfold oneOf in refl)
+    (λ c κs. search needs) (λ c κs. unfold oneOf in refl) (λ c. search needs) returns-2)

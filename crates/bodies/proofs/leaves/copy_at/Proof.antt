@@ -4,16 +4,12 @@ use Rattle.text.specs.Bytes.{oneOf}
 use Rattle.ast.specs.Tree as Tree
 use Rattle.sheet.specs.Sheet.{toAt, ofAt}
 use Rattle.fresh.specs.Fresh.{mark, leafBody}
-use Rattle.copying.proofs.CopyLaws.{one-piece, _and_, called, made}
+use Rattle.copying.proofs.CopyLaws.{one-piece, _and_, made}
 use Rattle.curves.proofs.PairLaws.{two-read}
 use Rattle.bodies.specs.Body.{body}
 use borrow.Author.Needs.{needs}
 use Rattle.bodies.proofs.leaves.copy_at.Statement.{statement}
 use Rattle.bodies.proofs.leaves.copy_at.Tie as tie
-
-put-mark-requires : tie.Need-put-mark-requires
-unfolding oneOf
-put-mark-requires c κs = refl
 
 returns : tie.Need-returns
 unfolding leafBody
@@ -24,8 +20,9 @@ returns c =
     let at-take-field = at-take-flag .before in
     λ t. made toAt ofAt (λ d. body t (Tree.at d))
     (two-read (λ x. body t (Tree.at (toAt x))) (at-take-field .take-field .ensures .reads) (at-take-flag .take-flag .ensures)
-    (called (at-put-at .put-at .ensures and one-piece (mark ";") (at-put-mark .put-mark .ensures)) (λ ps. refl)))
+    (at-put-at .put-at .ensures and one-piece (mark ";") (at-put-mark .put-mark .ensures)))
 
 pub copy-at-spec : {M : Type 1} → statement M
 copy-at-spec =
-    tie.close (tie.spec (λ c κs. search needs) (λ c κs. search needs) (λ c κs. search needs) put-mark-requires (λ c. search needs) returns)
+    tie.close (tie.spec (λ c κs. search needs) (λ c κs. search needs) (λ c κs. search needs) (λ c κs. unfold oneOf in refl)
+    (λ c. search needs) returns)

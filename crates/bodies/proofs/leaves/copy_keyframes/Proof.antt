@@ -1,37 +1,14 @@
 -- `bodies::leaves::copy_keyframes` meets its contract.
-use mathlib.Core.Path.{refl, _∙_}
+use mathlib.Core.Path.{refl}
 use Rattle.text.specs.Bytes.{oneOf}
 use Rattle.ast.specs.Tree as Tree
 use Rattle.sheet.specs.Sheet.{toKeyframes, ofKeyframes}
 use Rattle.fresh.specs.Fresh.{mark, leafBody}
-use Rattle.copying.proofs.CopyLaws.{renamed, behind, _then_, made}
+use Rattle.copying.proofs.CopyLaws.{copy-keeps, behind, _then_, made}
 use Rattle.bodies.specs.Body.{body}
 use borrow.Author.Needs.{needs}
 use Rattle.bodies.proofs.leaves.copy_keyframes.Statement.{statement}
 use Rattle.bodies.proofs.leaves.copy_keyframes.Tie as tie
-
-put-mark-requires : tie.Need-put-mark-requires
-unfolding oneOf
-put-mark-requires c κs = refl
-
-put-mark-requires-2 : tie.Need-put-mark-requires-2
-unfolding oneOf
-put-mark-requires-2 c κs = refl
-
-put-mark-requires-3 : tie.Need-put-mark-requires-3
-unfolding oneOf
-put-mark-requires-3 c κs = refl
-
-same-length : tie.Need-same-length
-same-length c =
-    let at-put-mark3 = c .before .before in
-    let at-put-mark2 = at-put-mark3 .before .before .before .before in
-    let at-copy-track = at-put-mark2 .before .before .before .before in
-    let at-put-mark = at-copy-track .before .before .before .before in
-    let at-copy-name = at-put-mark .before .before .before .before in
-    at-put-mark3 .put-mark3 .kept .1 .0 ∙ at-put-mark2 .put-mark2 .kept .1 .0
-    ∙ at-copy-track .copy-track .kept .1 .1 .1 .1 .0 ∙ at-put-mark .put-mark .kept .1 .0
-    ∙ at-copy-name .copy-name .kept .1 .1 .1 .1 .0
 
 returns : tie.Need-returns
 unfolding leafBody
@@ -44,12 +21,14 @@ returns c =
     let c22 = at-copy-name .before .before .before .before in
     let start = c22 .before in
     made toKeyframes ofKeyframes (λ d. body (start .args .text .now) (Tree.keyframes d))
-    (renamed (behind (mark "{") (at-copy-name .copy-name .ensures) (at-put-mark .put-mark .ensures)
+    (behind (mark "{") (at-copy-name .copy-name .ensures) (at-put-mark .put-mark .ensures)
     then behind (mark ";") (behind (mark "}") (at-copy-track .copy-track .ensures) (at-put-mark2 .put-mark2 .ensures))
     (at-put-mark3 .put-mark3 .ensures))
-    (λ x ps. refl))
+
+same-length : tie.Need-same-length
+same-length c = copy-keeps _ _ _ _ (returns c)
 
 pub copy-keyframes-spec : {M : Type 1} → statement M
 copy-keyframes-spec =
-    tie.close (tie.spec (λ c κs. search needs) put-mark-requires (λ c κs. search needs) put-mark-requires-2 put-mark-requires-3 same-length
-    returns)
+    tie.close (tie.spec (λ c κs. search needs) (λ c κs. unfold oneOf in refl) (λ c κs. search needs) (λ c κs. unfold oneOf in refl)
+    (λ c κs. unfold oneOf in refl) same-length returns)

@@ -7,7 +7,7 @@ use Rattle.sheet.specs.Sheet.{easingForm}
 use Rattle.pieces.specs.Pieces.{wordLike}
 use Rattle.fresh.specs.Meaning.{optionSense}
 use Rattle.fresh.specs.Fresh.{mark, field, commaIf}
-use Rattle.copying.proofs.CopyLaws.{one-piece, _and_, renamed, is-absent, is-present, put-before}
+use Rattle.copying.proofs.CopyLaws.{one-piece, _and_, is-absent, is-present, put-before}
 use Rattle.bodies.specs.Body.{presetFields}
 use borrow.Author.Needs.{needs}
 use Rattle.bodies.proofs.leaves.copy_only_easing.Statement.{statement}
@@ -20,14 +20,6 @@ returns c =
     let start = at-take-byte .before .before .before .before in
     is-absent (easingForm _) (λ o. presetFields none (optionSense (start .args .text .now) o)) (at-take-byte .take-byte .ensures)
     (c .if1 .taken) (λ ps. refl)
-
-put-mark-requires : tie.Need-put-mark-requires
-unfolding oneOf
-put-mark-requires c κs = refl
-
-put-field-requires : tie.Need-put-field-requires
-unfolding wordLike all
-put-field-requires c κs = refl
 
 returns-2 : tie.Need-returns-2
 unfolding commaIf field
@@ -44,11 +36,10 @@ returns-2 c =
     (λ o. presetFields none (optionSense (start .args .text .now) o))
     (at-take-byte .take-byte .ensures)
     (at-if1 .if1 .left)
-    (renamed (put-before (one-piece (mark ",") (at-put-mark .put-mark .ensures) and at-put-field .put-field .ensures)
+    (put-before (one-piece (mark ",") (at-put-mark .put-mark .ensures) and at-put-field .put-field .ensures)
     (at-copy-easing .copy-easing .ensures))
-    (λ x ps. refl))
 
 pub copy-only-easing-spec : {M : Type 1} → statement M
 copy-only-easing-spec =
-    tie.close (tie.spec (λ c κs. search needs) returns put-mark-requires (λ c. search needs) put-field-requires (λ c κs. search needs)
-    (λ c. search needs) returns-2)
+    tie.close (tie.spec (λ c κs. search needs) returns (λ c κs. unfold oneOf in refl) (λ c. search needs)
+    (λ c κs. unfold wordLike all in refl) (λ c κs. search needs) (λ c. search needs) returns-2)

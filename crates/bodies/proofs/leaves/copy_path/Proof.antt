@@ -1,55 +1,16 @@
 -- `bodies::leaves::copy_path` meets its contract.
-use mathlib.Core.Path.{refl, _∙_}
+use mathlib.Core.Path.{refl}
 use Rattle.text.specs.Bytes.{oneOf}
 use Rattle.digits.specs.Numeral.{all}
 use Rattle.ast.specs.Tree as Tree
 use Rattle.sheet.specs.Sheet.{toPath, ofPath}
 use Rattle.pieces.specs.Pieces.{wordLike}
 use Rattle.fresh.specs.Fresh.{mark, spell, leafBody}
-use Rattle.copying.proofs.CopyLaws.{renamed, behind, _then_, made}
+use Rattle.copying.proofs.CopyLaws.{copy-keeps, behind, _then_, made}
 use Rattle.bodies.specs.Body.{body}
 use borrow.Author.Needs.{needs}
 use Rattle.bodies.proofs.leaves.copy_path.Statement.{statement}
 use Rattle.bodies.proofs.leaves.copy_path.Tie as tie
-
-put-word-requires : tie.Need-put-word-requires
-unfolding wordLike all
-put-word-requires c κs = refl
-
-copy-f32-field-requires : tie.Need-copy-f32-field-requires
-unfolding wordLike all
-copy-f32-field-requires c κs = refl
-
-copy-opt-flag-requires : tie.Need-copy-opt-flag-requires
-unfolding wordLike all
-copy-opt-flag-requires c κs = refl
-
-put-mark-requires : tie.Need-put-mark-requires
-unfolding oneOf
-put-mark-requires c κs = refl
-
-same-length : tie.Need-same-length
-same-length c =
-    let at-put-mark = c .before .before in
-    let at-copy-opt-loop = at-put-mark .before .before .before .before in
-    let at-copy-opt-offset = at-copy-opt-loop .before .before .before .before in
-    let at-copy-opt-flag = at-copy-opt-offset .before .before .before .before in
-    let c18 = at-copy-opt-flag .before .before .before .before in
-    let at-copy-opt-easing = c18 .before in
-    let at-copy-f32-field = at-copy-opt-easing .before .before .before .before in
-    let c27 = at-copy-f32-field .before .before .before .before in
-    let at-copy-string = c27 .before in
-    let at-put-word = at-copy-string .before .before .before .before in
-    let c36 = at-put-word .before .before .before .before in
-    let at-copy-name = c36 .before in
-    at-put-mark .put-mark .kept .1 .0
-    ∙ at-copy-opt-loop .copy-opt-loop .kept .1 .1 .1 .0
-    ∙ at-copy-opt-offset .copy-opt-offset .kept .1 .1 .1 .0
-    ∙ at-copy-opt-flag .copy-opt-flag .kept .1 .1 .1 .0
-    ∙ at-copy-opt-easing .copy-opt-easing .kept .1 .1 .1 .1 .0
-    ∙ at-copy-f32-field .copy-f32-field .kept .1 .1 .1 .0
-    ∙ at-copy-string .copy-string .kept .1 .1 .1 .1 .0 ∙ at-put-word .put-word .kept .1 .0
-    ∙ at-copy-name .copy-name .kept .1 .1 .1 .1 .0
 
 returns : tie.Need-returns
 unfolding leafBody
@@ -69,17 +30,19 @@ returns c =
     let c41 = at-copy-name .before .before .before .before in
     let start = c41 .before in
     made toPath ofPath (λ d. body (start .args .text .now) (Tree.path d))
-    (renamed (behind (spell "along") (at-copy-name .copy-name .ensures) (at-put-word .put-word .ensures)
+    (behind (spell "along") (at-copy-name .copy-name .ensures) (at-put-word .put-word .ensures)
     then at-copy-string .copy-string .ensures
     then at-copy-f32-field .copy-f32-field .ensures "duration" refl
     then at-copy-opt-easing .copy-opt-easing .ensures
     then at-copy-opt-flag .copy-opt-flag .ensures "auto_rotate" refl
     then at-copy-opt-offset .copy-opt-offset .ensures
     then behind (mark ";") (at-copy-opt-loop .copy-opt-loop .ensures) (at-put-mark .put-mark .ensures))
-    (λ x ps. refl))
+
+same-length : tie.Need-same-length
+same-length c = copy-keeps _ _ _ _ (returns c)
 
 pub copy-path-spec : {M : Type 1} → statement M
 copy-path-spec =
-    tie.close (tie.spec (λ c κs. search needs) (λ c. search needs) put-word-requires (λ c κs. search needs) (λ c. search needs)
-    copy-f32-field-requires (λ c κs. search needs) (λ c. search needs) copy-opt-flag-requires (λ c κs. search needs) (λ c κs. search needs)
-    put-mark-requires same-length returns)
+    tie.close (tie.spec (λ c κs. search needs) (λ c. search needs) (λ c κs. unfold wordLike all in refl) (λ c κs. search needs)
+    (λ c. search needs) (λ c κs. unfold wordLike all in refl) (λ c κs. search needs) (λ c. search needs)
+    (λ c κs. unfold wordLike all in refl) (λ c κs. search needs) (λ c κs. search needs) (λ c κs. unfold oneOf in refl) same-length returns)

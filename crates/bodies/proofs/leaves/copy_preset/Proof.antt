@@ -1,27 +1,14 @@
 -- `bodies::leaves::copy_preset` meets its contract.
-use mathlib.Core.Path.{refl, _∙_}
+use mathlib.Core.Path.{refl}
 use Rattle.text.specs.Bytes.{oneOf}
 use Rattle.ast.specs.Tree as Tree
 use Rattle.sheet.specs.Sheet.{toPreset, ofPreset}
 use Rattle.fresh.specs.Fresh.{mark, leafBody}
-use Rattle.copying.proofs.CopyLaws.{renamed, behind, _then_, made}
+use Rattle.copying.proofs.CopyLaws.{copy-keeps, behind, _then_, made}
 use Rattle.bodies.specs.Body.{body}
 use borrow.Author.Needs.{needs}
 use Rattle.bodies.proofs.leaves.copy_preset.Statement.{statement}
 use Rattle.bodies.proofs.leaves.copy_preset.Tie as tie
-
-put-mark-requires : tie.Need-put-mark-requires
-unfolding oneOf
-put-mark-requires c κs = refl
-
-same-length : tie.Need-same-length
-same-length c =
-    let at-put-mark = c .before .before in
-    let at-copy-preset-fields = at-put-mark .before .before .before .before in
-    let at-copy-name = at-copy-preset-fields .before .before .before .before in
-    at-put-mark .put-mark .kept .1 .0
-    ∙ at-copy-preset-fields .copy-preset-fields .kept .1 .1 .1 .1 .0
-    ∙ at-copy-name .copy-name .kept .1 .1 .1 .1 .0
 
 returns : tie.Need-returns
 unfolding leafBody
@@ -32,9 +19,11 @@ returns c =
     let c14 = at-copy-name .before .before .before .before in
     let start = c14 .before in
     made toPreset ofPreset (λ d. body (start .args .text .now) (Tree.preset d))
-    (renamed (at-copy-name .copy-name .ensures
+    (at-copy-name .copy-name .ensures
     then behind (mark ";") (at-copy-preset-fields .copy-preset-fields .ensures) (at-put-mark .put-mark .ensures))
-    (λ x ps. refl))
+
+same-length : tie.Need-same-length
+same-length c = copy-keeps _ _ _ _ (returns c)
 
 pub copy-preset-spec : {M : Type 1} → statement M
-copy-preset-spec = tie.close (tie.spec (λ c κs. search needs) (λ c κs. search needs) put-mark-requires same-length returns)
+copy-preset-spec = tie.close (tie.spec (λ c κs. search needs) (λ c κs. search needs) (λ c κs. unfold oneOf in refl) same-length returns)

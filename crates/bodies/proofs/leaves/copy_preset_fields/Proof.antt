@@ -24,14 +24,6 @@ returns c =
     none-then word (λ x. presetFields (x .0) (optionSense (start .args .text .now) (x .1))) (at-take-byte .take-byte .ensures)
     (at-if1 .if1 .taken) (at-copy-only-easing .copy-only-easing .ensures)
 
-put-mark-requires : tie.Need-put-mark-requires
-unfolding oneOf
-put-mark-requires c κs = refl
-
-copy-f32-field-requires : tie.Need-copy-f32-field-requires
-unfolding wordLike all
-copy-f32-field-requires c κs = refl
-
 returns-2 : tie.Need-returns-2
 unfolding commaIf
 returns-2 c =
@@ -54,5 +46,5 @@ returns-2 c =
 
 pub copy-preset-fields-spec : {M : Type 1} → statement M
 copy-preset-fields-spec =
-    tie.close (tie.spec (λ c κs. search needs) (λ c κs. search needs) (λ c. search needs) returns put-mark-requires (λ c. search needs)
-    copy-f32-field-requires (λ c κs. search needs) (λ c. search needs) returns-2)
+    tie.close (tie.spec (λ c κs. search needs) (λ c κs. search needs) (λ c. search needs) returns (λ c κs. unfold oneOf in refl)
+    (λ c. search needs) (λ c κs. unfold wordLike all in refl) (λ c κs. search needs) (λ c. search needs) returns-2)

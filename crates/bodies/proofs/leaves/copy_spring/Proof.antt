@@ -1,5 +1,5 @@
 -- `bodies::leaves::copy_spring` meets its contract.
-use mathlib.Core.Path.{refl, _∙_}
+use mathlib.Core.Path.{refl}
 use native.Mathlib.Omega.{arith}
 use Rattle.text.specs.Bytes.{oneOf}
 use Rattle.text.specs.Words.{entries}
@@ -10,87 +10,11 @@ use Rattle.pieces.specs.Pieces.{wordLike}
 use Rattle.fresh.specs.Fresh.{mark, two, leafBody}
 use Rattle.grammar.specs.Grammar.{presetNames, integratorNames}
 use Rattle.copying.specs.Words.{allWords}
-use Rattle.copying.proofs.CopyLaws.{renamed, behind, _then_, made}
+use Rattle.copying.proofs.CopyLaws.{copy-keeps, behind, _then_, made}
 use Rattle.bodies.specs.Body.{body}
 use borrow.Author.Needs.{needs}
 use Rattle.bodies.proofs.leaves.copy_spring.Statement.{statement}
 use Rattle.bodies.proofs.leaves.copy_spring.Tie as tie
-
-put-mark-requires : tie.Need-put-mark-requires
-unfolding oneOf
-put-mark-requires c κs = refl
-
-put-pair-requires : tie.Need-put-pair-requires
-unfolding oneOf
-put-pair-requires c κs = (refl, refl)
-
-copy-opt-case-requires : tie.Need-copy-opt-case-requires
-unfolding allWords entries wordLike all
-copy-opt-case-requires c κs = (refl, refl, refl, omega arith, omega arith)
-
-copy-opt-f32-requires : tie.Need-copy-opt-f32-requires
-unfolding wordLike all
-copy-opt-f32-requires c κs = refl
-
-copy-opt-f32-requires-2 : tie.Need-copy-opt-f32-requires-2
-unfolding wordLike all
-copy-opt-f32-requires-2 c κs = refl
-
-copy-opt-f32-requires-3 : tie.Need-copy-opt-f32-requires-3
-unfolding wordLike all
-copy-opt-f32-requires-3 c κs = refl
-
-copy-opt-value-requires : tie.Need-copy-opt-value-requires
-unfolding wordLike all
-copy-opt-value-requires c κs = refl
-
-copy-opt-f32-requires-4 : tie.Need-copy-opt-f32-requires-4
-unfolding wordLike all
-copy-opt-f32-requires-4 c κs = refl
-
-copy-opt-case-requires-2 : tie.Need-copy-opt-case-requires-2
-unfolding allWords entries wordLike all
-copy-opt-case-requires-2 c κs = (refl, refl, refl, omega arith, omega arith)
-
-put-mark-requires-2 : tie.Need-put-mark-requires-2
-unfolding oneOf
-put-mark-requires-2 c κs = refl
-
-same-length : tie.Need-same-length
-same-length c =
-    let at-put-mark2 = c .before .before in
-    let at-copy-opt-damping = at-put-mark2 .before .before .before .before in
-    let at-copy-opt-case2 = at-copy-opt-damping .before .before .before .before in
-    let c14 = at-copy-opt-case2 .before .before .before .before in
-    let at-copy-opt-f324 = c14 .before .before in
-    let c20 = at-copy-opt-f324 .before .before .before .before in
-    let at-copy-opt-value = c20 .before in
-    let c25 = at-copy-opt-value .before .before .before .before in
-    let at-copy-opt-f323 = c25 .before in
-    let c30 = at-copy-opt-f323 .before .before .before .before in
-    let at-copy-opt-f322 = c30 .before in
-    let c35 = at-copy-opt-f322 .before .before .before .before in
-    let at-copy-opt-f32 = c35 .before in
-    let c40 = at-copy-opt-f32 .before .before .before .before in
-    let at-copy-opt-case = c40 .before in
-    let c45 = at-copy-opt-case .before .before .before .before in
-    let at-copy-value2 = c45 .before .before in
-    let at-put-pair = at-copy-value2 .before .before .before .before in
-    let at-copy-value = at-put-pair .before .before .before .before in
-    let at-put-mark = at-copy-value .before .before .before .before in
-    let at-copy-name = at-put-mark .before .before .before .before in
-    at-put-mark2 .put-mark2 .kept .1 .0
-    ∙ at-copy-opt-damping .copy-opt-damping .kept .1 .1 .1 .0
-    ∙ at-copy-opt-case2 .copy-opt-case2 .kept .1 .1 .1 .0
-    ∙ at-copy-opt-f324 .copy-opt-f324 .kept .1 .1 .1 .0
-    ∙ at-copy-opt-value .copy-opt-value .kept .1 .1 .1 .0
-    ∙ at-copy-opt-f323 .copy-opt-f323 .kept .1 .1 .1 .0
-    ∙ at-copy-opt-f322 .copy-opt-f322 .kept .1 .1 .1 .0
-    ∙ at-copy-opt-f32 .copy-opt-f32 .kept .1 .1 .1 .0
-    ∙ at-copy-opt-case .copy-opt-case .kept .1 .1 .1 .0
-    ∙ at-copy-value2 .copy-value2 .kept .1 .1 .1 .0 ∙ at-put-pair .put-pair .kept .1 .0
-    ∙ at-copy-value .copy-value .kept .1 .1 .1 .0 ∙ at-put-mark .put-mark .kept .1 .0
-    ∙ at-copy-name .copy-name .kept .1 .1 .1 .1 .0
 
 returns : tie.Need-returns
 unfolding leafBody entries
@@ -119,7 +43,7 @@ returns c =
     let c67 = at-copy-name .before .before .before .before in
     let start = c67 .before in
     made toSpring ofSpring (λ d. body (start .args .text .now) (Tree.spring d))
-    (renamed (behind (mark ":") (at-copy-name .copy-name .ensures) (at-put-mark .put-mark .ensures)
+    (behind (mark ":") (at-copy-name .copy-name .ensures) (at-put-mark .put-mark .ensures)
     then behind (two "=" ">") (at-copy-value .copy-value .ensures) (at-put-pair .put-pair .ensures)
     then at-copy-value2 .copy-value2 .ensures
     then at-copy-opt-case .copy-opt-case .ensures "preset" presetNames refl refl
@@ -130,12 +54,17 @@ returns c =
     then at-copy-opt-f324 .copy-opt-f324 .ensures "epsilon" refl
     then at-copy-opt-case2 .copy-opt-case2 .ensures "integrator" integratorNames refl refl
     then behind (mark ";") (at-copy-opt-damping .copy-opt-damping .ensures) (at-put-mark2 .put-mark2 .ensures))
-    (λ x ps. refl))
+
+same-length : tie.Need-same-length
+same-length c = copy-keeps _ _ _ _ (returns c)
 
 pub copy-spring-spec : {M : Type 1} → statement M
 copy-spring-spec =
-    tie.close (tie.spec (λ c κs. search needs) put-mark-requires (λ c κs. search needs) put-pair-requires (λ c κs. search needs)
-    (λ c. search needs) (λ c. search needs) copy-opt-case-requires (λ c. search needs) copy-opt-f32-requires (λ c. search needs)
-    copy-opt-f32-requires-2 (λ c. search needs) copy-opt-f32-requires-3 (λ c. search needs) copy-opt-value-requires (λ c. search needs)
-    copy-opt-f32-requires-4 (λ c. search needs) (λ c. search needs) copy-opt-case-requires-2 (λ c κs. search needs) put-mark-requires-2
-    same-length returns)
+    tie.close (tie.spec (λ c κs. search needs) (λ c κs. unfold oneOf in refl) (λ c κs. search needs) (λ c κs. unfold oneOf in (refl, refl))
+    (λ c κs. search needs) (λ c. search needs) (λ c. search needs)
+    (λ c κs. unfold allWords entries wordLike all in (refl, refl, refl, omega arith, omega arith)) (λ c. search needs)
+    (λ c κs. unfold wordLike all in refl) (λ c. search needs) (λ c κs. unfold wordLike all in refl) (λ c. search needs)
+    (λ c κs. unfold wordLike all in refl) (λ c. search needs) (λ c κs. unfold wordLike all in refl) (λ c. search needs)
+    (λ c κs. unfold wordLike all in refl) (λ c. search needs) (λ c. search needs)
+    (λ c κs. unfold allWords entries wordLike all in (refl, refl, refl, omega arith, omega arith)) (λ c κs. search needs)
+    (λ c κs. unfold oneOf in refl) same-length returns)

@@ -1,75 +1,17 @@
 -- `bodies::leaves::copy_waveform` meets its contract.
-use mathlib.Core.Path.{refl, _∙_}
+use mathlib.Core.List.{[]}
+use mathlib.Core.Path.{refl}
 use Rattle.text.specs.Bytes.{oneOf}
 use Rattle.digits.specs.Numeral.{all}
 use Rattle.ast.specs.Tree as Tree
 use Rattle.sheet.specs.Sheet.{toWaveform, ofWaveform}
 use Rattle.pieces.specs.Pieces.{wordLike}
 use Rattle.fresh.specs.Fresh.{mark, choose, waveNames, leafBody}
-use Rattle.copying.proofs.CopyLaws.{read-put, renamed, behind, _then_, made}
+use Rattle.copying.proofs.CopyLaws.{copy-keeps, read-put, behind, _then_, made}
 use Rattle.bodies.specs.Body.{body}
 use borrow.Author.Needs.{needs}
 use Rattle.bodies.proofs.leaves.copy_waveform.Statement.{statement}
 use Rattle.bodies.proofs.leaves.copy_waveform.Tie as tie
-
-copy-opt-f32-requires : tie.Need-copy-opt-f32-requires
-unfolding wordLike all
-copy-opt-f32-requires c κs = refl
-
-copy-opt-f32-requires-2 : tie.Need-copy-opt-f32-requires-2
-unfolding wordLike all
-copy-opt-f32-requires-2 c κs = refl
-
-copy-opt-f32-requires-3 : tie.Need-copy-opt-f32-requires-3
-unfolding wordLike all
-copy-opt-f32-requires-3 c κs = refl
-
-copy-opt-f32-requires-4 : tie.Need-copy-opt-f32-requires-4
-unfolding wordLike all
-copy-opt-f32-requires-4 c κs = refl
-
-copy-opt-u32-requires : tie.Need-copy-opt-u32-requires
-unfolding wordLike all
-copy-opt-u32-requires c κs = refl
-
-copy-opt-f32-requires-5 : tie.Need-copy-opt-f32-requires-5
-unfolding wordLike all
-copy-opt-f32-requires-5 c κs = refl
-
-copy-opt-f32-requires-6 : tie.Need-copy-opt-f32-requires-6
-unfolding wordLike all
-copy-opt-f32-requires-6 c κs = refl
-
-put-mark-requires : tie.Need-put-mark-requires
-unfolding oneOf
-put-mark-requires c κs = refl
-
-same-length : tie.Need-same-length
-same-length c =
-    let at-put-mark = c .before .before in
-    let at-copy-opt-f326 = at-put-mark .before .before .before .before in
-    let c10 = at-copy-opt-f326 .before .before .before .before in
-    let at-copy-opt-f325 = c10 .before in
-    let c15 = at-copy-opt-f325 .before .before .before .before in
-    let at-copy-opt-u32 = c15 .before in
-    let c20 = at-copy-opt-u32 .before .before .before .before in
-    let at-copy-opt-f324 = c20 .before in
-    let c25 = at-copy-opt-f324 .before .before .before .before in
-    let at-copy-opt-f323 = c25 .before in
-    let c30 = at-copy-opt-f323 .before .before .before .before in
-    let at-copy-opt-f322 = c30 .before in
-    let c35 = at-copy-opt-f322 .before .before .before .before in
-    let at-copy-opt-f32 = c35 .before in
-    let c40 = at-copy-opt-f32 .before .before .before .before in
-    let at-put-wave = c40 .before in
-    at-put-mark .put-mark .kept .1 .0
-    ∙ at-copy-opt-f326 .copy-opt-f326 .kept .1 .1 .1 .0
-    ∙ at-copy-opt-f325 .copy-opt-f325 .kept .1 .1 .1 .0
-    ∙ at-copy-opt-u32 .copy-opt-u32 .kept .1 .1 .1 .0
-    ∙ at-copy-opt-f324 .copy-opt-f324 .kept .1 .1 .1 .0
-    ∙ at-copy-opt-f323 .copy-opt-f323 .kept .1 .1 .1 .0
-    ∙ at-copy-opt-f322 .copy-opt-f322 .kept .1 .1 .1 .0
-    ∙ at-copy-opt-f32 .copy-opt-f32 .kept .1 .1 .1 .0 ∙ at-put-wave .put-wave .kept .1 .0
 
 returns : tie.Need-returns
 unfolding leafBody choose
@@ -92,7 +34,7 @@ returns c =
     let at-put-wave = c40 .before in
     let at-take-byte = at-put-wave .before .before .before in
     λ t. made toWaveform ofWaveform (λ d. body t (Tree.waveform d))
-    (renamed (read-put (choose waveNames) (at-take-byte .take-byte .ensures .reads) (at-put-wave .put-wave .ensures)
+    (read-put (choose waveNames) (at-take-byte .take-byte .ensures .reads) (at-put-wave .put-wave .ensures)
     then at-copy-opt-f32 .copy-opt-f32 .ensures "frequency" refl
     then at-copy-opt-f322 .copy-opt-f322 .ensures "amplitude" refl
     then at-copy-opt-f323 .copy-opt-f323 .ensures "phase" refl
@@ -100,11 +42,14 @@ returns c =
     then at-copy-opt-u32 .copy-opt-u32 .ensures "seed" refl
     then at-copy-opt-f325 .copy-opt-f325 .ensures "smoothness" refl
     then behind (mark ";") (at-copy-opt-f326 .copy-opt-f326 .ensures "duration" refl) (at-put-mark .put-mark .ensures))
-    (λ x ps. refl))
+
+same-length : tie.Need-same-length
+same-length c = copy-keeps _ _ _ _ (returns c [])
 
 pub copy-waveform-spec : {M : Type 1} → statement M
 copy-waveform-spec =
-    tie.close (tie.spec (λ c κs. search needs) (λ c. search needs) (λ c κs. search needs) (λ c. search needs) copy-opt-f32-requires
-    (λ c. search needs) copy-opt-f32-requires-2 (λ c. search needs) copy-opt-f32-requires-3 (λ c. search needs) copy-opt-f32-requires-4
-    (λ c. search needs) copy-opt-u32-requires (λ c. search needs) copy-opt-f32-requires-5 (λ c. search needs) copy-opt-f32-requires-6
-    put-mark-requires same-length returns)
+    tie.close (tie.spec (λ c κs. search needs) (λ c. search needs) (λ c κs. search needs) (λ c. search needs)
+    (λ c κs. unfold wordLike all in refl) (λ c. search needs) (λ c κs. unfold wordLike all in refl) (λ c. search needs)
+    (λ c κs. unfold wordLike all in refl) (λ c. search needs) (λ c κs. unfold wordLike all in refl) (λ c. search needs)
+    (λ c κs. unfold wordLike all in refl) (λ c. search needs) (λ c κs. unfold wordLike all in refl) (λ c. search needs)
+    (λ c κs. unfold wordLike all in refl) (λ c κs. unfold oneOf in refl) same-length returns)

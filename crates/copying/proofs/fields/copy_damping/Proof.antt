@@ -6,14 +6,10 @@ use Rattle.digits.specs.Numeral.{all}
 use Rattle.sheet.specs.Sheet.{dampings, splitDamping}
 use Rattle.pieces.specs.Pieces.{wordLike}
 use Rattle.fresh.specs.Fresh.{damping}
-use Rattle.copying.proofs.CopyLaws.{renamed, in-case, put-before}
+use Rattle.copying.proofs.CopyLaws.{in-case, put-before}
 use borrow.Author.Needs.{needs}
 use Rattle.copying.proofs.fields.copy_damping.Statement.{statement}
 use Rattle.copying.proofs.fields.copy_damping.Tie as tie
-
-put-field-requires : tie.Need-put-field-requires
-unfolding wordLike all
-put-field-requires c κs = refl
 
 returns : tie.Need-returns
 unfolding damping
@@ -23,11 +19,7 @@ returns c =
     let at-if1 = at-put-field .before .before .before in
     let at-take-byte = at-if1 .before .before in
     in-case dampings splitDamping (λ d. damping (some d)) 0 (at-take-byte .take-byte .ensures .reads) (at-if1 .if1 .taken)
-    (renamed (put-before (at-put-field .put-field .ensures) (at-copy-in-parens .copy-in-parens .ensures)) (λ x ps. refl))
-
-put-field-requires-2 : tie.Need-put-field-requires-2
-unfolding wordLike all
-put-field-requires-2 c κs = refl
+    (put-before (at-put-field .put-field .ensures) (at-copy-in-parens .copy-in-parens .ensures))
 
 returns-2 : tie.Need-returns-2
 unfolding damping
@@ -37,11 +29,7 @@ returns-2 c =
     let at-if2 = at-put-field2 .before .before .before in
     let at-take-byte = at-if2 .before .before .before .before in
     in-case dampings splitDamping (λ d. damping (some d)) 1 (at-take-byte .take-byte .ensures .reads) (at-if2 .if2 .taken)
-    (renamed (put-before (at-put-field2 .put-field2 .ensures) (at-copy-two-in-parens .copy-two-in-parens .ensures)) (λ x ps. refl))
-
-put-field-requires-3 : tie.Need-put-field-requires-3
-unfolding wordLike all
-put-field-requires-3 c κs = refl
+    (put-before (at-put-field2 .put-field2 .ensures) (at-copy-two-in-parens .copy-two-in-parens .ensures))
 
 returns-3 : tie.Need-returns-3
 unfolding damping
@@ -56,10 +44,10 @@ returns-3 c =
     2
     (take-byte .ensures .reads)
     (omega (arith, take-byte .ensures .small, at-if1 .if1 .left, at-if2 .if2 .left))
-    (renamed (put-before (at-put-field3 .put-field3 .ensures) (at-copy-two-in-parens2 .copy-two-in-parens2 .ensures)) (λ x ps. refl))
+    (put-before (at-put-field3 .put-field3 .ensures) (at-copy-two-in-parens2 .copy-two-in-parens2 .ensures))
 
 pub copy-damping-spec : {M : Type 1} → statement M
 copy-damping-spec =
-    tie.close (tie.spec (λ c κs. search needs) (λ c. search needs) put-field-requires (λ c κs. search needs) (λ c. search needs) returns
-    (λ c. search needs) put-field-requires-2 (λ c κs. search needs) (λ c. search needs) returns-2 (λ c. search needs) put-field-requires-3
-    (λ c κs. search needs) (λ c. search needs) returns-3)
+    tie.close (tie.spec (λ c κs. search needs) (λ c. search needs) (λ c κs. unfold wordLike all in refl) (λ c κs. search needs)
+    (λ c. search needs) returns (λ c. search needs) (λ c κs. unfold wordLike all in refl) (λ c κs. search needs) (λ c. search needs)
+    returns-2 (λ c. search needs) (λ c κs. unfold wordLike all in refl) (λ c κs. search needs) (λ c. search needs) returns-3)

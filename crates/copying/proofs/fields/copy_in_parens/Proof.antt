@@ -7,14 +7,6 @@ use borrow.Author.Needs.{needs}
 use Rattle.copying.proofs.fields.copy_in_parens.Statement.{statement}
 use Rattle.copying.proofs.fields.copy_in_parens.Tie as tie
 
-put-mark-requires : tie.Need-put-mark-requires
-unfolding oneOf
-put-mark-requires c κs = refl
-
-put-mark-requires-2 : tie.Need-put-mark-requires-2
-unfolding oneOf
-put-mark-requires-2 c κs = refl
-
 returns : tie.Need-returns
 returns c =
     let at-put-mark2 = c .before .before in
@@ -24,4 +16,5 @@ returns c =
     (at-put-mark2 .put-mark2 .ensures)
 
 pub copy-in-parens-spec : {M : Type 1} → statement M
-copy-in-parens-spec = tie.close (tie.spec put-mark-requires (λ c κs. search needs) put-mark-requires-2 (λ c. search needs) returns)
+copy-in-parens-spec =
+    tie.close (tie.spec (λ c κs. unfold oneOf in refl) (λ c κs. search needs) (λ c κs. unfold oneOf in refl) (λ c. search needs) returns)

@@ -6,21 +6,13 @@ use Rattle.codec.specs.Codec.{_▹_}
 use Rattle.sheet.specs.Sheet.{word}
 use Rattle.pieces.specs.Pieces.{wordLike}
 use Rattle.fresh.specs.Fresh.{two, offset}
-use Rattle.copying.proofs.CopyLaws.{renamed, behind, _then_, absent-field, present-field}
+use Rattle.copying.proofs.CopyLaws.{behind, _then_, absent-field, present-field}
 use borrow.Author.Needs.{needs}
 use Rattle.copying.proofs.fields.copy_opt_offset.Statement.{statement}
 use Rattle.copying.proofs.fields.copy_opt_offset.Tie as tie
 
 returns : tie.Need-returns
 returns c = absent-field "offset" offset (word ▹ word) (c .before .before .take-byte .ensures) (c .if1 .taken)
-
-put-field-requires : tie.Need-put-field-requires
-unfolding wordLike all
-put-field-requires c κs = refl
-
-put-pair-requires : tie.Need-put-pair-requires
-unfolding oneOf
-put-pair-requires c κs = (refl, refl)
 
 returns-2 : tie.Need-returns-2
 unfolding offset
@@ -37,10 +29,9 @@ returns-2 c =
     (at-if1 .if1 .left)
     refl
     (at-put-field .put-field .ensures)
-    (renamed (behind (two "." ".") (at-copy-f32 .copy-f32 .ensures) (at-put-pair .put-pair .ensures) then at-copy-f322 .copy-f322 .ensures)
-    (λ x ps. refl))
+    (behind (two "." ".") (at-copy-f32 .copy-f32 .ensures) (at-put-pair .put-pair .ensures) then at-copy-f322 .copy-f322 .ensures)
 
 pub copy-opt-offset-spec : {M : Type 1} → statement M
 copy-opt-offset-spec =
-    tie.close (tie.spec (λ c κs. search needs) returns (λ c. search needs) put-field-requires (λ c κs. search needs) put-pair-requires
-    (λ c κs. search needs) (λ c. search needs) returns-2)
+    tie.close (tie.spec (λ c κs. search needs) returns (λ c. search needs) (λ c κs. unfold wordLike all in refl) (λ c κs. search needs)
+    (λ c κs. unfold oneOf in (refl, refl)) (λ c κs. search needs) (λ c. search needs) returns-2)

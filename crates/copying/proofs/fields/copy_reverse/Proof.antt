@@ -8,14 +8,6 @@ use borrow.Author.Needs.{needs}
 use Rattle.copying.proofs.fields.copy_reverse.Statement.{statement}
 use Rattle.copying.proofs.fields.copy_reverse.Tie as tie
 
-put-field-requires : tie.Need-put-field-requires
-unfolding wordLike all
-put-field-requires c κs = refl
-
-put-word-requires : tie.Need-put-word-requires
-unfolding wordLike all
-put-word-requires c κs = refl
-
 returns : tie.Need-returns
 unfolding field truth
 returns c =
@@ -26,7 +18,7 @@ returns c =
     let at-take-flag = at-if1 .before in
     read-put (λ b. field "reverse" truth (onlyTrue b)) (at-take-flag .take-flag .ensures)
     (rw (at-if1 .if1 .taken)
-    (called (at-put-field .put-field .ensures and one-piece (spell "true") (at-put-word .put-word .ensures)) (λ ps. refl)))
+    (at-put-field .put-field .ensures and one-piece (spell "true") (at-put-word .put-word .ensures)))
 
 returns-2 : tie.Need-returns-2
 unfolding field
@@ -35,5 +27,5 @@ returns-2 c =
 
 pub copy-reverse-spec : {M : Type 1} → statement M
 copy-reverse-spec =
-    tie.close (tie.spec (λ c κs. search needs) (λ c. search needs) put-field-requires (λ c. search needs) put-word-requires
-    (λ c. search needs) returns returns-2)
+    tie.close (tie.spec (λ c κs. search needs) (λ c. search needs) (λ c κs. unfold wordLike all in refl) (λ c. search needs)
+    (λ c κs. unfold wordLike all in refl) (λ c. search needs) returns returns-2)

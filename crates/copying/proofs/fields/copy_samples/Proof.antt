@@ -17,10 +17,6 @@ returns c =
     read-put (λ n. field "samples" u32 (unlessIs 32 n)) (at-take-field .take-field .ensures .reads)
     (called no-piece (λ ps. rw (eq-eqb _ 32 (c .if1 .taken)) refl))
 
-put-field-requires : tie.Need-put-field-requires
-unfolding wordLike all
-put-field-requires c κs = refl
-
 returns-2 : tie.Need-returns-2
 unfolding field unlessIs u32
 returns-2 c =
@@ -34,5 +30,5 @@ returns-2 c =
 
 pub copy-samples-spec : {M : Type 1} → statement M
 copy-samples-spec =
-    tie.close (tie.spec (λ c κs. search needs) returns (λ c. search needs) put-field-requires (λ c κs. search needs) (λ c. search needs)
-    returns-2)
+    tie.close (tie.spec (λ c κs. search needs) returns (λ c. search needs) (λ c κs. unfold wordLike all in refl) (λ c κs. search needs)
+    (λ c. search needs) returns-2)

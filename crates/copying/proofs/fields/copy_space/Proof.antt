@@ -20,10 +20,6 @@ returns c =
     read-put (λ k. field "space" (choose spaceNames) (unlessIs 0 k)) (at-take-byte .take-byte .ensures .reads)
     (called no-piece (λ ps. rw (eq-eqb _ 0 (c .if1 .taken)) refl))
 
-put-field-requires : tie.Need-put-field-requires
-unfolding wordLike all
-put-field-requires c κs = refl
-
 put-choice-requires : tie.Need-put-choice-requires
 unfolding allWords entries wordLike all
 put-choice-requires c κs =
@@ -46,5 +42,5 @@ returns-2 c =
 
 pub copy-space-spec : {M : Type 1} → statement M
 copy-space-spec =
-    tie.close (tie.spec (λ c κs. search needs) returns (λ c. search needs) put-field-requires (λ c. search needs) (λ c. search needs)
-    put-choice-requires (λ c. search needs) returns-2)
+    tie.close (tie.spec (λ c κs. search needs) returns (λ c. search needs) (λ c κs. unfold wordLike all in refl) (λ c. search needs)
+    (λ c. search needs) put-choice-requires (λ c. search needs) returns-2)

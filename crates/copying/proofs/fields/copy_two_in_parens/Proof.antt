@@ -7,18 +7,6 @@ use borrow.Author.Needs.{needs}
 use Rattle.copying.proofs.fields.copy_two_in_parens.Statement.{statement}
 use Rattle.copying.proofs.fields.copy_two_in_parens.Tie as tie
 
-put-mark-requires : tie.Need-put-mark-requires
-unfolding oneOf
-put-mark-requires c κs = refl
-
-put-mark-requires-2 : tie.Need-put-mark-requires-2
-unfolding oneOf
-put-mark-requires-2 c κs = refl
-
-put-mark-requires-3 : tie.Need-put-mark-requires-3
-unfolding oneOf
-put-mark-requires-3 c κs = refl
-
 returns : tie.Need-returns
 returns c =
     let at-put-mark3 = c .before .before in
@@ -33,5 +21,5 @@ returns c =
 
 pub copy-two-in-parens-spec : {M : Type 1} → statement M
 copy-two-in-parens-spec =
-    tie.close (tie.spec put-mark-requires (λ c κs. search needs) put-mark-requires-2 (λ c κs. search needs) put-mark-requires-3
-    (λ c. search needs) returns)
+    tie.close (tie.spec (λ c κs. unfold oneOf in refl) (λ c κs. search needs) (λ c κs. unfold oneOf in refl) (λ c κs. search needs)
+    (λ c κs. unfold oneOf in refl) (λ c. search needs) returns)

@@ -32,12 +32,6 @@ add-at-2 c =
     let h = here _ _ _ (at-loop .loop .inv .1) (omega (arith, pre .1, at-loop .loop .inv .0)) in
     omega (arith, h .low, pre .2)
 
-add-k : tie.Need-add-k Inv-loop μ-loop
-add-k c = omega arith
-
-loop-less : tie.Need-loop-less Inv-loop μ-loop
-loop-less c = omega arith
-
 loop-again : tie.Need-loop-again Inv-loop μ-loop
 loop-again c =
     let at-loop = c .before .before in
@@ -78,5 +72,6 @@ returns c =
 
 pub put-choice-spec : {M : Type 1} → statement M
 put-choice-spec =
-    tie.close (tie.spec Inv-loop μ-loop loop-holds add-at (λ c κs. search needs) (λ c. search needs) add-at-2 add-k loop-less loop-again
-    (λ c κs. search needs) (λ c. search needs) add-part (λ c κs. search needs) put-word-requires (λ c. search needs) returns)
+    tie.close (tie.spec Inv-loop μ-loop loop-holds add-at (λ c κs. search needs) (λ c. search needs) add-at-2 (λ c. omega arith)
+    (λ c. omega arith) loop-again (λ c κs. search needs) (λ c. search needs) add-part (λ c κs. search needs) put-word-requires
+    (λ c. search needs) returns)

@@ -8,10 +8,6 @@ use borrow.Author.Needs.{needs}
 use Rattle.copying.proofs.fields.put_field.Statement.{statement}
 use Rattle.copying.proofs.fields.put_field.Tie as tie
 
-put-mark-requires : tie.Need-put-mark-requires
-unfolding oneOf
-put-mark-requires c κs = refl
-
 returns : tie.Need-returns
 returns c =
     let at-put-mark = c .before .before in
@@ -19,4 +15,4 @@ returns c =
     one-piece (aWord _) (at-put-word .put-word .ensures) and one-piece (mark ":") (at-put-mark .put-mark .ensures)
 
 pub put-field-spec : {M : Type 1} → statement M
-put-field-spec = tie.close (tie.spec (λ c κs. search needs) put-mark-requires (λ c. search needs) returns)
+put-field-spec = tie.close (tie.spec (λ c κs. search needs) (λ c κs. unfold oneOf in refl) (λ c. search needs) returns)

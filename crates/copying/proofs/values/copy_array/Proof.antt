@@ -10,14 +10,6 @@ use borrow.Author.Needs.{needs}
 use Rattle.copying.proofs.values.copy_array.Statement.{statement}
 use Rattle.copying.proofs.values.copy_array.Tie as tie
 
-put-mark-requires : tie.Need-put-mark-requires
-unfolding oneOf
-put-mark-requires c κs = refl
-
-put-mark-requires-2 : tie.Need-put-mark-requires-2
-unfolding oneOf
-put-mark-requires-2 c κs = refl
-
 returns : tie.Need-returns
 unfolding value
 returns c =
@@ -33,5 +25,5 @@ returns c =
 
 pub copy-array-spec : {M : Type 1} → statement M
 copy-array-spec =
-    tie.close (tie.spec (λ c κs. search needs) put-mark-requires (λ c. search needs) (λ c κs. search needs) put-mark-requires-2
-    (λ c. search needs) returns)
+    tie.close (tie.spec (λ c κs. search needs) (λ c κs. unfold oneOf in refl) (λ c. search needs) (λ c κs. search needs)
+    (λ c κs. unfold oneOf in refl) (λ c. search needs) returns)

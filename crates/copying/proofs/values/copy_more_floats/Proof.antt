@@ -1,42 +1,27 @@
 -- `copying::values::copy_more_floats` meets its contract.
 use Prim.Native.Nat.{_-_, _≤_}
-use Prim.Native.Nat.{_-_, _≤_}
-use mathlib.Core.Path.{_≡_}
-use Rattle.spelling.specs.Spelling.{pageOf}
 use Rattle.text.specs.Bytes.{at}
 use Rattle.grammar.specs.Rule.{next}
 use Rattle.spelling.specs.Spelling.{pageOf}
-use mathlib.Core.Path.{_≡_}
 use mathlib.Core.Path.{refl}
 use native.Mathlib.Omega.{arith}
 use Rattle.text.specs.Bytes.{oneOf}
 use Rattle.sheet.specs.Sheet.{word}
 use Rattle.fresh.specs.Fresh.{mark, moreFloats}
-use lib.ListN.{length}
-use Rattle.copying.proofs.CopyLaws.{in-front, Walked, walk-start, walk-next, walk-done}
+use Rattle.copying.proofs.CopyLaws.{copy-keeps, in-front, Walked, walk-start, walk-next, walk-done}
 use borrow.Author.Needs.{needs}
 use Rattle.copying.proofs.values.copy_more_floats.Statement.{statement}
 use Rattle.copying.proofs.values.copy_more_floats.Tie as tie
 
 abbrev Inv-loop : tie.InvT-loop
 Inv-loop s at n out₀ next₀ p₀ k₀ out next p k =
-    (length out ≡ length out₀) × (k ≤ n) × Walked word moreFloats s at n (pageOf out₀ p₀) (pageOf out p) next k
+    (k ≤ n) × Walked word moreFloats s at n (pageOf out₀ p₀) (pageOf out p) next k
 
 abbrev μ-loop : tie.MeasureT-loop
 μ-loop s at n out₀ next₀ p₀ k₀ out next p k = n - k
 
 loop-holds : tie.Need-loop-holds Inv-loop μ-loop
-loop-holds c = (refl, omega arith, walk-start _ _ _ _ _ _)
-
-put-mark-requires : tie.Need-put-mark-requires Inv-loop μ-loop
-unfolding oneOf
-put-mark-requires c κs = refl
-
-add-k : tie.Need-add-k Inv-loop μ-loop
-add-k c = omega arith
-
-loop-less : tie.Need-loop-less Inv-loop μ-loop
-loop-less c = omega arith
+loop-holds c = (omega arith, walk-start _ _ _ _ _ _)
 
 loop-again : tie.Need-loop-again Inv-loop μ-loop
 unfolding moreFloats
@@ -45,17 +30,19 @@ loop-again c =
     let at-put-mark = at-copy-f32 .before .before .before .before in
     let at-loop-test = at-put-mark .before .before in
     let at-loop = at-loop-test .before in (
-      search needs,
       omega arith,
       walk-next _ _ _ _ _ _ _ (λ x xs ps. refl) (at-loop-test .loop-test .taken)
-          (in-front (mark ",") (at-put-mark .put-mark .ensures) (at-copy-f32 .copy-f32 .ensures)) (at-loop .loop .inv .2),
+          (in-front (mark ",") (at-put-mark .put-mark .ensures) (at-copy-f32 .copy-f32 .ensures)) (at-loop .loop .inv .1),
     )
 
 returns : tie.Need-returns Inv-loop μ-loop
 unfolding moreFloats
-returns c = walk-done _ _ _ _ _ _ _ (λ ps. refl) (c .loop-test .left) (c .before .loop .inv .2)
+returns c = walk-done _ _ _ _ _ _ _ (λ ps. refl) (c .loop-test .left) (c .before .loop .inv .1)
+
+same-length : tie.Need-same-length Inv-loop μ-loop
+same-length c = copy-keeps _ _ _ _ (returns c)
 
 pub copy-more-floats-spec : {M : Type 1} → statement M
 copy-more-floats-spec =
-    tie.close (tie.spec Inv-loop μ-loop loop-holds put-mark-requires (λ c κs. search needs) add-k loop-less loop-again (λ c. search needs)
-    returns)
+    tie.close (tie.spec Inv-loop μ-loop loop-holds (λ c κs. unfold oneOf in refl) (λ c κs. search needs) (λ c. omega arith)
+    (λ c. omega arith) loop-again same-length returns)

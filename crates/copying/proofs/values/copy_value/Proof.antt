@@ -1,9 +1,8 @@
 -- `copying::values::copy_value` meets its contract.
-use mathlib.Core.Path.{refl}
 use native.Mathlib.Omega.{arith}
 use Rattle.sheet.specs.Sheet.{values, splitValue}
 use Rattle.fresh.specs.Fresh.{value}
-use Rattle.copying.proofs.CopyLaws.{renamed, in-case}
+use Rattle.copying.proofs.CopyLaws.{in-case}
 use borrow.Author.Needs.{needs}
 use Rattle.copying.proofs.values.copy_value.Statement.{statement}
 use Rattle.copying.proofs.values.copy_value.Tie as tie
@@ -15,7 +14,7 @@ returns c =
     let at-if1 = at-copy-f32 .before .before in
     let at-take-byte = at-if1 .before .before in
     in-case values splitValue value 0 (at-take-byte .take-byte .ensures .reads) (at-if1 .if1 .taken)
-    (renamed (at-copy-f32 .copy-f32 .ensures) (λ x ps. refl))
+    (at-copy-f32 .copy-f32 .ensures)
 
 returns-2 : tie.Need-returns-2
 returns-2 c =

@@ -15,10 +15,6 @@ returns c =
     let at-if1 = at-put-float .before .before in
     called (one-piece (aNumeral float _) (at-put-float .put-float .ensures)) (positive _ (at-if1 .if1 .taken))
 
-put-mark-requires : tie.Need-put-mark-requires
-unfolding oneOf
-put-mark-requires c κs = refl
-
 returns-2 : tie.Need-returns-2
 returns-2 c =
     let at-put-float2 = c .before .before in
@@ -29,5 +25,5 @@ returns-2 c =
 
 pub put-f32-spec : {M : Type 1} → statement M
 put-f32-spec =
-    tie.close (tie.spec (λ c κs. search needs) (λ c. search needs) returns put-mark-requires (λ c κs. search needs) (λ c. search needs)
-    returns-2)
+    tie.close (tie.spec (λ c κs. search needs) (λ c. search needs) returns (λ c κs. unfold oneOf in refl) (λ c κs. search needs)
+    (λ c. search needs) returns-2)

@@ -8,20 +8,12 @@ use borrow.Author.Needs.{needs}
 use Rattle.copying.proofs.values.put_truth.Statement.{statement}
 use Rattle.copying.proofs.values.put_truth.Tie as tie
 
-put-word-requires : tie.Need-put-word-requires
-unfolding wordLike all
-put-word-requires c κs = refl
-
 returns : tie.Need-returns
 unfolding truth
 returns c =
     let at-put-word = c .before .before in
     let at-if1 = at-put-word .before .before .before in
     rw (at-if1 .if1 .taken) (one-piece (spell "true") (at-put-word .put-word .ensures))
-
-put-word-requires-2 : tie.Need-put-word-requires-2
-unfolding wordLike all
-put-word-requires-2 c κs = refl
 
 returns-2 : tie.Need-returns-2
 unfolding truth
@@ -32,5 +24,5 @@ returns-2 c =
 
 pub put-truth-spec : {M : Type 1} → statement M
 put-truth-spec =
-    tie.close (tie.spec (λ c. search needs) put-word-requires (λ c. search needs) returns (λ c. search needs) put-word-requires-2
-    (λ c. search needs) returns-2)
+    tie.close (tie.spec (λ c. search needs) (λ c κs. unfold wordLike all in refl) (λ c. search needs) returns (λ c. search needs)
+    (λ c κs. unfold wordLike all in refl) (λ c. search needs) returns-2)

@@ -1,55 +1,13 @@
 -- `curves::easings::copy_bezier` meets its contract.
-use mathlib.Core.Path.{refl, _∙_}
+use mathlib.Core.Path.{refl}
 use Rattle.text.specs.Bytes.{oneOf}
 use Rattle.digits.specs.Numeral.{all}
 use Rattle.pieces.specs.Pieces.{wordLike}
 use Rattle.fresh.specs.Fresh.{mark, spell, easing}
-use Rattle.copying.proofs.CopyLaws.{renamed, in-front, behind, _then_}
+use Rattle.copying.proofs.CopyLaws.{copy-keeps, in-front, behind, _then_}
 use borrow.Author.Needs.{needs}
 use Rattle.curves.proofs.easings.copy_bezier.Statement.{statement}
 use Rattle.curves.proofs.easings.copy_bezier.Tie as tie
-
-put-word-requires : tie.Need-put-word-requires
-unfolding wordLike all
-put-word-requires c κs = refl
-
-put-mark-requires : tie.Need-put-mark-requires
-unfolding oneOf
-put-mark-requires c κs = refl
-
-put-mark-requires-2 : tie.Need-put-mark-requires-2
-unfolding oneOf
-put-mark-requires-2 c κs = refl
-
-put-mark-requires-3 : tie.Need-put-mark-requires-3
-unfolding oneOf
-put-mark-requires-3 c κs = refl
-
-put-mark-requires-4 : tie.Need-put-mark-requires-4
-unfolding oneOf
-put-mark-requires-4 c κs = refl
-
-put-mark-requires-5 : tie.Need-put-mark-requires-5
-unfolding oneOf
-put-mark-requires-5 c κs = refl
-
-same-length : tie.Need-same-length
-same-length c =
-    let at-put-mark5 = c .before .before in
-    let at-copy-f324 = at-put-mark5 .before .before .before .before in
-    let at-put-mark4 = at-copy-f324 .before .before .before .before in
-    let at-copy-f323 = at-put-mark4 .before .before .before .before in
-    let at-put-mark3 = at-copy-f323 .before .before .before .before in
-    let at-copy-f322 = at-put-mark3 .before .before .before .before in
-    let at-put-mark2 = at-copy-f322 .before .before .before .before in
-    let at-copy-f32 = at-put-mark2 .before .before .before .before in
-    let at-put-mark = at-copy-f32 .before .before .before .before in
-    let at-put-word = at-put-mark .before .before .before .before in
-    at-put-mark5 .put-mark5 .kept .1 .0 ∙ at-copy-f324 .copy-f324 .kept .1 .1 .1 .0
-    ∙ at-put-mark4 .put-mark4 .kept .1 .0 ∙ at-copy-f323 .copy-f323 .kept .1 .1 .1 .0
-    ∙ at-put-mark3 .put-mark3 .kept .1 .0 ∙ at-copy-f322 .copy-f322 .kept .1 .1 .1 .0
-    ∙ at-put-mark2 .put-mark2 .kept .1 .0 ∙ at-copy-f32 .copy-f32 .kept .1 .1 .1 .0
-    ∙ at-put-mark .put-mark .kept .1 .0 ∙ at-put-word .put-word .kept .1 .0
 
 returns : tie.Need-returns
 unfolding easing
@@ -64,16 +22,18 @@ returns c =
     let at-copy-f32 = at-put-mark2 .before .before .before .before in
     let at-put-mark = at-copy-f32 .before .before .before .before in
     let at-put-word = at-put-mark .before .before .before .before in
-    renamed (in-front (spell "cubic_bezier") (at-put-word .put-word .ensures)
+    in-front (spell "cubic_bezier") (at-put-word .put-word .ensures)
     (in-front (mark "(") (at-put-mark .put-mark .ensures)
     (behind (mark ",") (at-copy-f32 .copy-f32 .ensures) (at-put-mark2 .put-mark2 .ensures)
     then behind (mark ",") (at-copy-f322 .copy-f322 .ensures) (at-put-mark3 .put-mark3 .ensures)
     then behind (mark ",") (at-copy-f323 .copy-f323 .ensures) (at-put-mark4 .put-mark4 .ensures)
-    then behind (mark ")") (at-copy-f324 .copy-f324 .ensures) (at-put-mark5 .put-mark5 .ensures))))
-    (λ x ps. refl)
+    then behind (mark ")") (at-copy-f324 .copy-f324 .ensures) (at-put-mark5 .put-mark5 .ensures)))
+
+same-length : tie.Need-same-length
+same-length c = copy-keeps _ _ _ _ (returns c)
 
 pub copy-bezier-spec : {M : Type 1} → statement M
 copy-bezier-spec =
-    tie.close (tie.spec (λ c. search needs) put-word-requires put-mark-requires (λ c κs. search needs) put-mark-requires-2
-    (λ c κs. search needs) put-mark-requires-3 (λ c κs. search needs) put-mark-requires-4 (λ c κs. search needs) put-mark-requires-5
-    same-length returns)
+    tie.close (tie.spec (λ c. search needs) (λ c κs. unfold wordLike all in refl) (λ c κs. unfold oneOf in refl) (λ c κs. search needs)
+    (λ c κs. unfold oneOf in refl) (λ c κs. search needs) (λ c κs. unfold oneOf in refl) (λ c κs. search needs)
+    (λ c κs. unfold oneOf in refl) (λ c κs. search needs) (λ c κs. unfold oneOf in refl) same-length returns)

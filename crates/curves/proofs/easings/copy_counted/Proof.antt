@@ -8,14 +8,6 @@ use borrow.Author.Needs.{needs}
 use Rattle.curves.proofs.easings.copy_counted.Statement.{statement}
 use Rattle.curves.proofs.easings.copy_counted.Tie as tie
 
-put-mark-requires : tie.Need-put-mark-requires
-unfolding oneOf
-put-mark-requires c κs = refl
-
-put-mark-requires-2 : tie.Need-put-mark-requires-2
-unfolding oneOf
-put-mark-requires-2 c κs = refl
-
 returns : tie.Need-returns
 returns c =
     let at-put-mark2 = c .before .before in
@@ -28,4 +20,5 @@ returns c =
 
 pub copy-counted-spec : {M : Type 1} → statement M
 copy-counted-spec =
-    tie.close (tie.spec (λ c κs. search needs) put-mark-requires (λ c κs. search needs) put-mark-requires-2 (λ c. search needs) returns)
+    tie.close (tie.spec (λ c κs. search needs) (λ c κs. unfold oneOf in refl) (λ c κs. search needs) (λ c κs. unfold oneOf in refl)
+    (λ c. search needs) returns)

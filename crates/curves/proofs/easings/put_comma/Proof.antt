@@ -10,12 +10,8 @@ use Rattle.curves.proofs.easings.put_comma.Tie as tie
 returns : tie.Need-returns
 returns c = rw (c .if1 .taken) (called no-piece (λ ps. refl))
 
-put-mark-requires : tie.Need-put-mark-requires
-unfolding oneOf
-put-mark-requires c κs = refl
-
 returns-2 : tie.Need-returns-2
 returns-2 c = rw (c .before .before .before .before .if1 .left) (one-piece (mark ",") (c .before .before .put-mark .ensures))
 
 pub put-comma-spec : {M : Type 1} → statement M
-put-comma-spec = tie.close (tie.spec returns put-mark-requires (λ c. search needs) returns-2)
+put-comma-spec = tie.close (tie.spec returns (λ c κs. unfold oneOf in refl) (λ c. search needs) returns-2)

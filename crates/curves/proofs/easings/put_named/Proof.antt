@@ -5,18 +5,10 @@ use Rattle.digits.specs.Numeral.{all}
 use Rattle.pieces.specs.Pieces.{aName, aPlain, wordLike}
 use Rattle.fresh.specs.Fresh.{spell, easing}
 use Rattle.fresh.specs.Fresh as fresh
-use Rattle.copying.proofs.CopyLaws.{one-piece, _and_, called}
+use Rattle.copying.proofs.CopyLaws.{one-piece, _and_}
 use borrow.Author.Needs.{needs}
 use Rattle.curves.proofs.easings.put_named.Statement.{statement}
 use Rattle.curves.proofs.easings.put_named.Tie as tie
-
-put-word-requires : tie.Need-put-word-requires
-unfolding wordLike all
-put-word-requires c κs = refl
-
-put-pair-requires : tie.Need-put-pair-requires
-unfolding oneOf
-put-pair-requires c κs = (refl, refl)
 
 returns : tie.Need-returns
 unfolding easing
@@ -26,19 +18,18 @@ returns c =
     let at-put-word = at-put-pair .before .before .before .before in
     let at-if1 = at-put-word .before .before .before in
     rw (at-if1 .if1 .taken)
-    (called (one-piece (spell "Easing") (at-put-word .put-word .ensures)
+    (one-piece (spell "Easing") (at-put-word .put-word .ensures)
     and one-piece (fresh.two ":" ":") (at-put-pair .put-pair .ensures)
     and one-piece (aName _) (at-put-name .put-name .ensures))
-    (λ ps. refl))
 
 returns-2 : tie.Need-returns-2
 unfolding easing
 returns-2 c =
     let at-put-plain = c .before .before in
     let at-if1 = at-put-plain .before .before in
-    rw (at-if1 .if1 .left) (called (one-piece (aPlain _) (at-put-plain .put-plain .ensures)) (λ ps. refl))
+    rw (at-if1 .if1 .left) (one-piece (aPlain _) (at-put-plain .put-plain .ensures))
 
 pub put-named-spec : {M : Type 1} → statement M
 put-named-spec =
-    tie.close (tie.spec (λ c. search needs) put-word-requires put-pair-requires (λ c κs. search needs) (λ c. search needs) returns
-    (λ c κs. search needs) (λ c. search needs) returns-2)
+    tie.close (tie.spec (λ c. search needs) (λ c κs. unfold wordLike all in refl) (λ c κs. unfold oneOf in (refl, refl))
+    (λ c κs. search needs) (λ c. search needs) returns (λ c κs. search needs) (λ c. search needs) returns-2)

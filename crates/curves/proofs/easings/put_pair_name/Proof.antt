@@ -8,10 +8,6 @@ use borrow.Author.Needs.{needs}
 use Rattle.curves.proofs.easings.put_pair_name.Statement.{statement}
 use Rattle.curves.proofs.easings.put_pair_name.Tie as tie
 
-put-mark-requires : tie.Need-put-mark-requires
-unfolding oneOf
-put-mark-requires c κs = refl
-
 returns : tie.Need-returns
 returns c =
     let at-put-mark = c .before .before in
@@ -22,4 +18,5 @@ returns c =
     and one-piece (mark ":") (at-put-mark .put-mark .ensures)
 
 pub put-pair-name-spec : {M : Type 1} → statement M
-put-pair-name-spec = tie.close (tie.spec (λ c κs. search needs) (λ c κs. search needs) put-mark-requires (λ c. search needs) returns)
+put-pair-name-spec =
+    tie.close (tie.spec (λ c κs. search needs) (λ c κs. search needs) (λ c κs. unfold oneOf in refl) (λ c. search needs) returns)

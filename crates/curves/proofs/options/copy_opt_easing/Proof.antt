@@ -5,7 +5,7 @@ use Rattle.sheet.specs.Sheet.{easingForm}
 use Rattle.pieces.specs.Pieces.{wordLike}
 use Rattle.fresh.specs.Meaning.{optionSense}
 use Rattle.fresh.specs.Fresh.{easing, field}
-use Rattle.copying.proofs.CopyLaws.{renamed, is-absent, is-present, put-before}
+use Rattle.copying.proofs.CopyLaws.{is-absent, is-present, put-before}
 use borrow.Author.Needs.{needs}
 use Rattle.curves.proofs.options.copy_opt_easing.Statement.{statement}
 use Rattle.curves.proofs.options.copy_opt_easing.Tie as tie
@@ -18,10 +18,6 @@ returns c =
     is-absent (easingForm _) (λ o. field "easing" easing (optionSense (start .args .text .now) o)) (at-take-byte .take-byte .ensures)
     (c .if1 .taken) (λ ps. refl)
 
-put-field-requires : tie.Need-put-field-requires
-unfolding wordLike all
-put-field-requires c κs = refl
-
 returns-2 : tie.Need-returns-2
 unfolding field
 returns-2 c =
@@ -31,9 +27,9 @@ returns-2 c =
     let at-take-byte = at-if1 .before .before in
     let start = at-take-byte .before .before .before .before in
     is-present (easingForm _) (λ o. field "easing" easing (optionSense (start .args .text .now) o)) (at-take-byte .take-byte .ensures)
-    (at-if1 .if1 .left) (renamed (put-before (at-put-field .put-field .ensures) (at-copy-easing .copy-easing .ensures)) (λ x ps. refl))
+    (at-if1 .if1 .left) (put-before (at-put-field .put-field .ensures) (at-copy-easing .copy-easing .ensures))
 
 pub copy-opt-easing-spec : {M : Type 1} → statement M
 copy-opt-easing-spec =
-    tie.close (tie.spec (λ c κs. search needs) returns (λ c. search needs) put-field-requires (λ c κs. search needs) (λ c. search needs)
-    returns-2)
+    tie.close (tie.spec (λ c κs. search needs) returns (λ c. search needs) (λ c κs. unfold wordLike all in refl) (λ c κs. search needs)
+    (λ c. search needs) returns-2)

@@ -12,10 +12,6 @@ use Rattle.curves.proofs.options.copy_opt_loop.Tie as tie
 returns : tie.Need-returns
 returns c = absent-field "loop" loopMode loopForm (c .before .before .take-byte .ensures) (c .if1 .taken)
 
-put-field-requires : tie.Need-put-field-requires
-unfolding wordLike all
-put-field-requires c κs = refl
-
 returns-2 : tie.Need-returns-2
 returns-2 c =
     let at-copy-loop = c .before .before in
@@ -27,5 +23,5 @@ returns-2 c =
 
 pub copy-opt-loop-spec : {M : Type 1} → statement M
 copy-opt-loop-spec =
-    tie.close (tie.spec (λ c κs. search needs) returns (λ c. search needs) put-field-requires (λ c κs. search needs) (λ c. search needs)
-    returns-2)
+    tie.close (tie.spec (λ c κs. search needs) returns (λ c. search needs) (λ c κs. unfold wordLike all in refl) (λ c κs. search needs)
+    (λ c. search needs) returns-2)

@@ -3,7 +3,7 @@ use mathlib.Core.Path.{refl}
 use Rattle.digits.specs.Numeral.{all}
 use Rattle.sheet.specs.Sheet.{word}
 use Rattle.pieces.specs.Pieces.{wordLike}
-use Rattle.copying.proofs.CopyLaws.{renamed, is-absent, is-present, put-before}
+use Rattle.copying.proofs.CopyLaws.{is-absent, is-present, put-before}
 use Rattle.curves.specs.Pairs.{delayBy}
 use borrow.Author.Needs.{needs}
 use Rattle.curves.proofs.patterns.copy_delay.Statement.{statement}
@@ -15,10 +15,6 @@ returns c =
     let start = at-take-byte .before .before .before in
     is-absent word (delayBy (start .args .first)) (at-take-byte .take-byte .ensures) (c .if1 .taken) (λ ps. refl)
 
-put-pair-name-requires : tie.Need-put-pair-name-requires
-unfolding wordLike all
-put-pair-name-requires c κs = refl
-
 returns-2 : tie.Need-returns-2
 returns-2 c =
     let at-copy-f32 = c .before .before in
@@ -27,9 +23,9 @@ returns-2 c =
     let at-take-byte = at-if1 .before .before in
     let start = at-take-byte .before .before .before in
     is-present word (delayBy (start .args .first)) (at-take-byte .take-byte .ensures) (at-if1 .if1 .left)
-    (renamed (put-before (at-put-pair-name .put-pair-name .ensures) (at-copy-f32 .copy-f32 .ensures)) (λ x ps. refl))
+    (put-before (at-put-pair-name .put-pair-name .ensures) (at-copy-f32 .copy-f32 .ensures))
 
 pub copy-delay-spec : {M : Type 1} → statement M
 copy-delay-spec =
-    tie.close (tie.spec (λ c κs. search needs) returns (λ c. search needs) put-pair-name-requires (λ c κs. search needs) (λ c. search needs)
-    returns-2)
+    tie.close (tie.spec (λ c κs. search needs) returns (λ c. search needs) (λ c κs. unfold wordLike all in refl) (λ c κs. search needs)
+    (λ c. search needs) returns-2)

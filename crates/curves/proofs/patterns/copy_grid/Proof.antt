@@ -1,31 +1,15 @@
 -- `curves::patterns::copy_grid` meets its contract.
-use mathlib.Core.Path.{refl, _∙_}
+use mathlib.Core.Path.{refl}
 use Rattle.text.specs.Bytes.{oneOf}
 use Rattle.digits.specs.Numeral.{all, counted}
 use Rattle.ast.specs.Tree.{grid}
 use Rattle.pieces.specs.Pieces.{aNumeral, wordLike}
 use Rattle.fresh.specs.Fresh.{mark, spell, u32, pattern}
-use Rattle.copying.proofs.CopyLaws.{one-piece, _and_, called}
+use Rattle.copying.proofs.CopyLaws.{copy-keeps, one-piece, _and_}
 use Rattle.curves.proofs.PairLaws.{three-read, grid-pairs}
 use borrow.Author.Needs.{needs}
 use Rattle.curves.proofs.patterns.copy_grid.Statement.{statement}
 use Rattle.curves.proofs.patterns.copy_grid.Tie as tie
-
-put-word-requires : tie.Need-put-word-requires
-unfolding wordLike all
-put-word-requires c κs = refl
-
-put-mark-requires : tie.Need-put-mark-requires
-unfolding oneOf
-put-mark-requires c κs = refl
-
-put-pair-name-requires : tie.Need-put-pair-name-requires
-unfolding wordLike all
-put-pair-name-requires c κs = refl
-
-put-pair-name-requires-2 : tie.Need-put-pair-name-requires-2
-unfolding wordLike all
-put-pair-name-requires-2 c κs = refl
 
 put-origin-requires : tie.Need-put-origin-requires
 put-origin-requires c κs =
@@ -37,27 +21,6 @@ put-origin-requires c κs =
     let c24 = c20 .before .before .before .before in
     let at-take-byte = c24 .before .before .before .before in
     at-take-byte .take-byte .ensures .small
-
-put-mark-requires-2 : tie.Need-put-mark-requires-2
-unfolding oneOf
-put-mark-requires-2 c κs = refl
-
-same-length : tie.Need-same-length
-same-length c =
-    let at-put-mark2 = c .before .before in
-    let at-put-origin = at-put-mark2 .before .before .before .before in
-    let at-put-count2 = at-put-origin .before .before .before .before in
-    let at-put-pair-name2 = at-put-count2 .before .before .before .before in
-    let c18 = at-put-pair-name2 .before .before .before .before in
-    let at-put-count = c18 .before in
-    let at-put-pair-name = at-put-count .before .before .before .before in
-    let c27 = at-put-pair-name .before .before .before .before in
-    let at-put-mark = c27 .before in
-    let at-put-word = at-put-mark .before .before .before .before in
-    at-put-mark2 .put-mark2 .kept .1 .0 ∙ at-put-origin .put-origin .kept .1 .0
-    ∙ at-put-count2 .put-count2 .kept .1 .0 ∙ at-put-pair-name2 .put-pair-name2 .kept .1 .0
-    ∙ at-put-count .put-count .kept .1 .0 ∙ at-put-pair-name .put-pair-name .kept .1 .0
-    ∙ at-put-mark .put-mark .kept .1 .0 ∙ at-put-word .put-word .kept .1 .0
 
 returns : tie.Need-returns
 unfolding pattern u32
@@ -80,16 +43,19 @@ returns c =
     (at-take-field .take-field .ensures .reads)
     (at-take-field2 .take-field2 .ensures .reads)
     (at-take-byte .take-byte .ensures .reads)
-    (called (one-piece (spell "grid") (at-put-word .put-word .ensures)
+    (one-piece (spell "grid") (at-put-word .put-word .ensures)
     and one-piece (mark "(") (at-put-mark .put-mark .ensures)
     and grid-pairs _ _ _ (at-put-pair-name .put-pair-name .ensures) (one-piece (aNumeral counted _) (at-put-count .put-count .ensures))
     (at-put-pair-name2 .put-pair-name2 .ensures) (one-piece (aNumeral counted _) (at-put-count2 .put-count2 .ensures))
     (at-put-origin .put-origin .ensures)
     and one-piece (mark ")") (at-put-mark2 .put-mark2 .ensures))
-    (λ ps. refl))
+
+same-length : tie.Need-same-length
+same-length c = copy-keeps _ _ _ _ (returns c)
 
 pub copy-grid-spec : {M : Type 1} → statement M
 copy-grid-spec =
-    tie.close (tie.spec (λ c κs. search needs) (λ c κs. search needs) (λ c κs. search needs) (λ c. search needs) put-word-requires
-    put-mark-requires (λ c. search needs) put-pair-name-requires (λ c κs. search needs) (λ c. search needs) put-pair-name-requires-2
-    (λ c κs. search needs) put-origin-requires put-mark-requires-2 same-length returns)
+    tie.close (tie.spec (λ c κs. search needs) (λ c κs. search needs) (λ c κs. search needs) (λ c. search needs)
+    (λ c κs. unfold wordLike all in refl) (λ c κs. unfold oneOf in refl) (λ c. search needs) (λ c κs. unfold wordLike all in refl)
+    (λ c κs. search needs) (λ c. search needs) (λ c κs. unfold wordLike all in refl) (λ c κs. search needs) put-origin-requires
+    (λ c κs. unfold oneOf in refl) same-length returns)

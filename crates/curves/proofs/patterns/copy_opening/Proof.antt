@@ -16,10 +16,6 @@ returns c =
     let at-take-byte = at-if1 .before .before in
     opening-absent (at-take-byte .take-byte .ensures) (at-if1 .if1 .taken) (at-copy-delay .copy-delay .ensures)
 
-put-field-requires : tie.Need-put-field-requires
-unfolding wordLike all
-put-field-requires c κs = refl
-
 returns-2 : tie.Need-returns-2
 returns-2 c =
     let at-copy-delay2 = c .before .before in
@@ -32,5 +28,5 @@ returns-2 c =
 
 pub copy-opening-spec : {M : Type 1} → statement M
 copy-opening-spec =
-    tie.close (tie.spec (λ c κs. search needs) (λ c κs. search needs) (λ c. search needs) returns (λ c. search needs) put-field-requires
-    (λ c κs. search needs) (λ c κs. search needs) (λ c. search needs) returns-2)
+    tie.close (tie.spec (λ c κs. search needs) (λ c κs. search needs) (λ c. search needs) returns (λ c. search needs)
+    (λ c κs. unfold wordLike all in refl) (λ c κs. search needs) (λ c κs. search needs) (λ c. search needs) returns-2)

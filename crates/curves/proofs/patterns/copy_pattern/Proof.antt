@@ -5,19 +5,11 @@ use Rattle.digits.specs.Numeral.{all}
 use Rattle.sheet.specs.Sheet.{patterns, splitPattern}
 use Rattle.pieces.specs.Pieces.{wordLike}
 use Rattle.fresh.specs.Fresh.{spell, pattern}
-use Rattle.copying.proofs.CopyLaws.{one-piece, renamed, in-case}
+use Rattle.copying.proofs.CopyLaws.{one-piece, in-case}
 use Rattle.curves.proofs.PairLaws.{nothing-read}
 use borrow.Author.Needs.{needs}
 use Rattle.curves.proofs.patterns.copy_pattern.Statement.{statement}
 use Rattle.curves.proofs.patterns.copy_pattern.Tie as tie
-
-put-word-requires : tie.Need-put-word-requires
-unfolding wordLike all
-put-word-requires c κs = refl
-
-put-word-requires-2 : tie.Need-put-word-requires-2
-unfolding wordLike all
-put-word-requires-2 c κs = refl
 
 returns : tie.Need-returns
 returns c =
@@ -25,7 +17,7 @@ returns c =
     let at-match = at-copy-grid .before .before in
     let at-take-byte = at-match .before in
     in-case patterns splitPattern pattern 0 (at-take-byte .take-byte .ensures .reads) (at-match .match .keys1)
-    (renamed (at-copy-grid .copy-grid .ensures) (λ x ps. refl))
+    (at-copy-grid .copy-grid .ensures)
 
 returns-2 : tie.Need-returns-2
 returns-2 c =
@@ -33,7 +25,7 @@ returns-2 c =
     let at-match = at-copy-random .before .before in
     let at-take-byte = at-match .before in
     in-case patterns splitPattern pattern 1 (at-take-byte .take-byte .ensures .reads) (at-match .match .keys2)
-    (renamed (at-copy-random .copy-random .ensures) (λ x ps. refl))
+    (at-copy-random .copy-random .ensures)
 
 returns-3 : tie.Need-returns-3
 unfolding pattern
@@ -42,7 +34,7 @@ returns-3 c =
     let at-match = at-put-word .before .before .before in
     let at-take-byte = at-match .before in
     in-case patterns splitPattern pattern 2 (at-take-byte .take-byte .ensures .reads) (at-match .match .keys3)
-    (renamed (nothing-read (one-piece (spell "center_out") (at-put-word .put-word .ensures))) (λ x ps. refl))
+    (nothing-read (one-piece (spell "center_out") (at-put-word .put-word .ensures)))
 
 returns-4 : tie.Need-returns-4
 unfolding pattern
@@ -51,10 +43,10 @@ returns-4 c =
     let at-match = at-put-word2 .before .before .before in
     let take-byte = at-match .before .take-byte in
     in-case patterns splitPattern pattern 3 (take-byte .ensures .reads) (omega (arith, take-byte .ensures .small, at-match .match .rest))
-    (renamed (nothing-read (one-piece (spell "edges_in") (at-put-word2 .put-word2 .ensures))) (λ x ps. refl))
+    (nothing-read (one-piece (spell "edges_in") (at-put-word2 .put-word2 .ensures)))
 
 pub copy-pattern-spec : {M : Type 1} → statement M
 copy-pattern-spec =
-    tie.close (tie.spec (λ c κs. search needs) (λ c κs. search needs) (λ c κs. search needs) (λ c. search needs) put-word-requires
-    (λ c. search needs) put-word-requires-2 (λ c. search needs) returns (λ c. search needs) returns-2 (λ c. search needs) returns-3
-    (λ c. search needs) returns-4)
+    tie.close (tie.spec (λ c κs. search needs) (λ c κs. search needs) (λ c κs. search needs) (λ c. search needs)
+    (λ c κs. unfold wordLike all in refl) (λ c. search needs) (λ c κs. unfold wordLike all in refl) (λ c. search needs) returns
+    (λ c. search needs) returns-2 (λ c. search needs) returns-3 (λ c. search needs) returns-4)

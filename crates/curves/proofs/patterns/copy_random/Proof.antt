@@ -1,54 +1,15 @@
 -- `curves::patterns::copy_random` meets its contract.
-use mathlib.Core.Path.{refl, _∙_}
+use mathlib.Core.Path.{refl}
 use Rattle.text.specs.Bytes.{oneOf}
 use Rattle.digits.specs.Numeral.{all}
 use Rattle.ast.specs.Tree.{random}
 use Rattle.pieces.specs.Pieces.{wordLike}
 use Rattle.fresh.specs.Fresh.{mark, spell, pattern}
-use Rattle.copying.proofs.CopyLaws.{one-piece, _and_, called}
+use Rattle.copying.proofs.CopyLaws.{copy-keeps, one-piece, _and_, called}
 use Rattle.curves.proofs.PairLaws.{three-read, no-number, tenth, three-pairs}
 use borrow.Author.Needs.{needs}
 use Rattle.curves.proofs.patterns.copy_random.Statement.{statement}
 use Rattle.curves.proofs.patterns.copy_random.Tie as tie
-
-put-word-requires : tie.Need-put-word-requires
-unfolding wordLike all
-put-word-requires c κs = refl
-
-put-mark-requires : tie.Need-put-mark-requires
-unfolding oneOf
-put-mark-requires c κs = refl
-
-put-u32-unless-requires : tie.Need-put-u32-unless-requires
-unfolding wordLike all
-put-u32-unless-requires c κs = refl
-
-put-f32-unless-requires : tie.Need-put-f32-unless-requires
-unfolding wordLike all
-put-f32-unless-requires c κs = refl
-
-put-f32-unless-requires-2 : tie.Need-put-f32-unless-requires-2
-unfolding wordLike all
-put-f32-unless-requires-2 c κs = refl
-
-put-mark-requires-2 : tie.Need-put-mark-requires-2
-unfolding oneOf
-put-mark-requires-2 c κs = refl
-
-same-length : tie.Need-same-length
-same-length c =
-    let at-put-mark2 = c .before .before in
-    let at-put-f32-unless2 = at-put-mark2 .before .before .before .before in
-    let c10 = at-put-f32-unless2 .before .before .before .before in
-    let at-put-f32-unless = c10 .before .before .before in
-    let c17 = at-put-f32-unless .before .before .before .before in
-    let at-put-u32-unless = c17 .before .before in
-    let c23 = at-put-u32-unless .before .before .before .before in
-    let at-put-mark = c23 .before in
-    let at-put-word = at-put-mark .before .before .before .before in
-    at-put-mark2 .put-mark2 .kept .1 .0 ∙ at-put-f32-unless2 .put-f32-unless2 .kept .1 .0
-    ∙ at-put-f32-unless .put-f32-unless .kept .1 .0 ∙ at-put-u32-unless .put-u32-unless .kept .1 .0
-    ∙ at-put-mark .put-mark .kept .1 .0 ∙ at-put-word .put-word .kept .1 .0
 
 returns : tie.Need-returns
 unfolding pattern
@@ -77,8 +38,12 @@ returns c =
     and one-piece (mark ")") (at-put-mark2 .put-mark2 .ensures))
     (λ ps. rw (no-number, tenth) refl))
 
+same-length : tie.Need-same-length
+same-length c = copy-keeps _ _ _ _ (returns c)
+
 pub copy-random-spec : {M : Type 1} → statement M
 copy-random-spec =
-    tie.close (tie.spec (λ c κs. search needs) (λ c κs. search needs) (λ c κs. search needs) (λ c. search needs) put-word-requires
-    put-mark-requires (λ c. search needs) put-u32-unless-requires (λ c. search needs) put-f32-unless-requires (λ c. search needs)
-    put-f32-unless-requires-2 put-mark-requires-2 same-length returns)
+    tie.close (tie.spec (λ c κs. search needs) (λ c κs. search needs) (λ c κs. search needs) (λ c. search needs)
+    (λ c κs. unfold wordLike all in refl) (λ c κs. unfold oneOf in refl) (λ c. search needs) (λ c κs. unfold wordLike all in refl)
+    (λ c. search needs) (λ c κs. unfold wordLike all in refl) (λ c. search needs) (λ c κs. unfold wordLike all in refl)
+    (λ c κs. unfold oneOf in refl) same-length returns)

@@ -17,10 +17,6 @@ use Rattle.curves.proofs.patterns.put_origin.Tie as tie
 returns : tie.Need-returns
 returns c = omitted false ("origin", choose originNames (c .before .before .args .origin)) (eq-eqb _ _ (c .if1 .taken))
 
-put-pair-name-requires : tie.Need-put-pair-name-requires
-unfolding wordLike all
-put-pair-name-requires c κs = refl
-
 put-choice-requires : tie.Need-put-choice-requires
 unfolding allWords entries wordLike all
 put-choice-requires c κs =
@@ -42,5 +38,5 @@ returns-2 c =
 
 pub put-origin-spec : {M : Type 1} → statement M
 put-origin-spec =
-    tie.close (tie.spec returns (λ c. search needs) put-pair-name-requires (λ c. search needs) put-choice-requires (λ c. search needs)
-    returns-2)
+    tie.close (tie.spec returns (λ c. search needs) (λ c κs. unfold wordLike all in refl) (λ c. search needs) put-choice-requires
+    (λ c. search needs) returns-2)
