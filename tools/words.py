@@ -1,5 +1,5 @@
 #!/usr/bin/env python3
-"""Writes lists of words as code: crates/words/src/lib.rt, the definition specs/Lists.antt and the proofs of the functions. With
+"""Writes lists of words as code: crates/words/src/lib.rt, the definition specs/ListMeans.antt and the proofs of the functions. With
 --check it says which of these files are not what it writes. Run from the repository's root."""
 import os, re, sys
 
@@ -223,8 +223,8 @@ ghost use Prim.Native.Nat.{{_+_, _*_, _≤_}};
 ghost use lib.ListN.{{length}};
 ghost use Rattle.text.specs.Bytes.{{part}};
 ghost use Rattle.text.specs.Words.{{isSome, find}};
-ghost use Rattle.words.specs.Lists.{{listOf}};
-ghost use Rattle.words.specs.Keys.{{keysOf, seek, placeIs}};
+ghost use Rattle.words.specs.ListMeans.{{listOf}};
+ghost use Rattle.words.specs.KeyMeans.{{keysOf, seek, placeIs}};
 use packing::eight;
 use packing::if_equal;
 use packing::if_long;
@@ -384,7 +384,7 @@ def laid(head, term):
     return lines + [row]
 
 
-KEYS = "use Rattle.words.specs.Lists.{listOf}\nuse Rattle.words.specs.Keys.{%s}"
+KEYS = "use Rattle.words.specs.ListMeans.{listOf}\nuse Rattle.words.specs.KeyMeans.{%s}"
 LAWS = "use Rattle.words.proofs.KeyLaws.{%s}\nuse Rattle.words.proofs.ListLaws.{%s}"
 TABLE = "listOf keysOf packs onto seek"
 
@@ -612,7 +612,7 @@ def any_longest_proof():
 
 
 def files():
-    written = {f"{CRATE}/src/lib.rt": code(), f"{CRATE}/specs/Lists.antt": definition()}
+    written = {f"{CRATE}/src/lib.rt": code(), f"{CRATE}/specs/ListMeans.antt": definition()}
     for l in SHORT:
         written[f"{CRATE}/proofs/short_{l.name.lower()}/Proof.antt"] = short_proof(l)
     for l in LONG:

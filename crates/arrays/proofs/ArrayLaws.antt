@@ -11,8 +11,8 @@ use Rattle.number.specs.Number.{bits}
 use Rattle.ast.specs.Tree.{array, scalar}
 use Rattle.ast.specs.declared.ValueExpr.the-variants.{Scalar, Array}
 use Rattle.sheet.specs.Sheet.{word, valueForm}
-use Rattle.encode.specs.Of.{Plain}
-use Rattle.encode.specs.Writes.{Writes}
+use Rattle.encode.specs.Means.{Plain}
+use Rattle.encode.specs.WriteMeans.{Writes}
 use Rattle.encode.proofs.OverLaws.{writes-none, writes-then, writes-counted}
 use Rattle.sheet.proofs.FormLaws.{each-more, length-word}
 use Rattle.error.specs.declared.Refusal.{Refusal}
@@ -20,7 +20,7 @@ use Rattle.error.specs.declared.Refusal.the-variants.{Missing}
 use Rattle.grammar.specs.Rule.{leave, theByte, seesByte, skip, refuse, after, give, _>>_}
 use Rattle.grammar.specs.Rule.{Out, got, refused, listStep, eatByte, ends}
 use Rattle.grammar.specs.Values.{parseFloat, arrayItem, arrayItems, parseValue}
-use Rattle.cursor.specs.Word.{atOf}
+use Rattle.cursor.specs.WordMeans.{atOf}
 use Rattle.cursor.specs.Means.{Ready, notes, tokens, run, Took}
 use Rattle.cursor.specs.declared.Cursor.{Cursor}
 use Rattle.fields.proofs.FieldLaws.{by-step}

@@ -10,11 +10,11 @@ use Rattle.ast.specs.Tree.{ValueExpr, scalar, array, componentCount}
 use Rattle.ast.specs.declared.ValueExpr as values
 use Rattle.ast.specs.declared.ValueExpr.the-variants.{Scalar, Array}
 use Rattle.sheet.specs.Sheet.{word, valueForm}
-use Rattle.encode.specs.Of.{Plain}
-use Rattle.encode.specs.Writes.{Writes}
+use Rattle.encode.specs.Means.{Plain}
+use Rattle.encode.specs.WriteMeans.{Writes}
 use Rattle.grammar.specs.Rule.{Rule, refused, leave, give, _>>=_, _>>_}
 use Rattle.grammar.specs.Values.{arrayItems, parseValue}
-use Rattle.cursor.specs.Word.{atOf}
+use Rattle.cursor.specs.WordMeans.{atOf}
 use Rattle.cursor.specs.Means.{run, Took}
 use Rattle.cursor.specs.declared.Cursor.{Cursor}
 use Rattle.arrays.specs.declared.ItemsRead.{ItemsRead}

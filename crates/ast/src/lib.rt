@@ -1,6 +1,6 @@
 // ast.rs: the types of the tree, by value, one record at a time. Spans for diagnostics are left out.
 ghost use mathlib.Core.Path.{_≡_};
-ghost use Rattle.ast.specs.View.{countOf, entryOf};
+ghost use Rattle.ast.specs.Means.{countOf, entryOf};
 
 // A name or a string: its place in the text, quotes left off.
 pub struct Span {

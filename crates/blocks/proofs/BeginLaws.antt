@@ -7,14 +7,14 @@ use mathlib.Core.Path.{_≡_}
 use native.Mathlib.Omega.{arith}
 use Rattle.number.specs.Time.{Key}
 use Rattle.ast.specs.Tree.{Nodes}
-use Rattle.encode.specs.Writes.{Writes}
+use Rattle.encode.specs.WriteMeans.{Writes}
 use Rattle.encode.proofs.OverLaws.{writes-then}
 use Rattle.error.specs.declared.Refusal.{Refusal}
 use Rattle.error.specs.declared.Refusal.the-variants.{UnknownKeyword, Missing}
 use Rattle.grammar.specs.Rule.{refused, Rule, word, seesName}
 use Rattle.grammar.specs.Grammar.{leaves, containers, parseNode}
 use Rattle.token.specs.Token.{kind}
-use Rattle.cursor.specs.Word.{atOf}
+use Rattle.cursor.specs.WordMeans.{atOf}
 use Rattle.cursor.specs.Means.{Ready, run, Took, Follows, tokens, listedIn}
 use Rattle.cursor.proofs.ListedLaws.{unlisted-kind, no-name}
 use Rattle.cursor.specs.declared.Cursor.{Cursor}

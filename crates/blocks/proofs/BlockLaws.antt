@@ -11,14 +11,14 @@ use Rattle.number.specs.Time.{Key}
 use Rattle.ast.specs.Tree.{Leaf, tween, spring, keyframes, path, morph, draw, color, waveform, preset, label, at, KeyframeTime, Container}
 use Rattle.ast.specs.Tree.{Nodes, leaf, box, MotionNode, single, holding, push, append, width, records, mapLeaf, mapTimes}
 use Rattle.sheet.specs.Sheet.{Forest, nodeForm, forest, inner}
-use Rattle.encode.specs.Writes.{Writes}
+use Rattle.encode.specs.WriteMeans.{Writes}
 use Rattle.encode.proofs.OverLaws.{writes-none, writes-then, writes-counted}
 use Rattle.token.specs.Token.{Token, place}
 use Rattle.error.specs.declared.Refusal.{Refusal}
 use Rattle.error.specs.declared.Refusal.the-variants.{Missing, TooManyNested}
 use Rattle.grammar.specs.Rule.{Notes, Out, got, Rule, refused, after, give, _>>=_, leave, seesByte, ends, theByte, more, done}
 use Rattle.grammar.specs.Grammar.{stored, containers, aContainer, nodeBy, parseNode, oneNode, nodesStep, block}
-use Rattle.cursor.specs.Word.{atOf}
+use Rattle.cursor.specs.WordMeans.{atOf}
 use Rattle.cursor.specs.Means.{Ready, tokens, run, Took, Follows}
 use Rattle.cursor.specs.declared.Cursor.{Cursor}
 use Rattle.cursor.proofs.CursorLaws.{took-mark, stays}

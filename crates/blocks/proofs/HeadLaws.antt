@@ -8,7 +8,7 @@ use lib.ListN.{length}
 use Rattle.codec.specs.Codec.{Form, opt}
 use Rattle.ast.specs.Tree.{Container, sequence, parallel, group, stagger, StaggerPatternSpec, grid, random, centerOut, edgesIn, holding}
 use Rattle.sheet.specs.Sheet.{Forest, word, patternForm, nodeForm}
-use Rattle.encode.specs.Writes.{Writes}
+use Rattle.encode.specs.WriteMeans.{Writes}
 use Rattle.encode.proofs.OverLaws.{writes-none, writes-then}
 use Rattle.sheet.proofs.FormLaws.{length-word}
 use Rattle.grammar.specs.Grammar.{parseSequence, parseParallel, parseGroup, parseStagger}

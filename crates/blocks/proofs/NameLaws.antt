@@ -10,7 +10,7 @@ use lib.ListN.{length}
 use Rattle.text.specs.Bytes.{same}
 use Rattle.text.specs.Words.{find, under}
 use Rattle.text.proofs.WordLaws.{find-here, find-past}
-use Rattle.words.specs.Lists.{listOf}
+use Rattle.words.specs.ListMeans.{listOf}
 use Rattle.token.specs.Names.{isKeyword}
 use Rattle.cursor.specs.Means.{noKeywords}
 use Rattle.grammar.specs.Grammar.{leaves, containers, unknown, beginning}

@@ -13,11 +13,11 @@ use Rattle.number.specs.Time.{Key}
 use Rattle.ast.specs.Tree.{Leaf, Container, sequence, parallel, group, stagger, Nodes, MotionNode, single, holding, push}
 use Rattle.ast.specs.Tree.{width, records, mapLeaf, mapTimes}
 use Rattle.sheet.specs.Sheet.{Node, word, patternForm, nodeForm, forest, inner}
-use Rattle.encode.specs.Writes.{Writes}
+use Rattle.encode.specs.WriteMeans.{Writes}
 use Rattle.grammar.specs.Rule.{Rule, refused, give, _>>=_, the, more, done, repeat}
 use Rattle.grammar.specs.Grammar.{stored, leaves, containers, aLeaf, aContainer, beginning, nodeBy, nodesStep, block}
-use Rattle.words.specs.Lists.{listOf}
-use Rattle.cursor.specs.Word.{atOf}
+use Rattle.words.specs.ListMeans.{listOf}
+use Rattle.cursor.specs.WordMeans.{atOf}
 use Rattle.cursor.specs.Means.{Ready, run, Took}
 use Rattle.cursor.specs.declared.Cursor.{Cursor}
 use Rattle.arrays.specs.Means.{Went}

@@ -7,7 +7,7 @@ ghost use mathlib.Core.Option.{none, some};
 ghost use Rattle.text.specs.Words.{find};
 ghost use Rattle.token.specs.Token.{tokensFrom};
 ghost use Rattle.grammar.specs.Grammar.{parseSequence, parseParallel, parseGroup, parseStagger, parseNode, block};
-ghost use Rattle.cursor.specs.Word.{atOf};
+ghost use Rattle.cursor.specs.WordMeans.{atOf};
 ghost use Rattle.cursor.specs.Means.{Ready, listedIn};
 ghost use Rattle.arrays.specs.Means.{Room};
 ghost use Rattle.blocks.specs.Means.{HeadMeans, nodeWords, KeywordMeans, BegunMeans, behindWord, leafKindAt, BraceMeans, Counted, BlockMeans, Headed, HeldMeans, Reached, NodeMeans, Standing, StepMeans, NodesMeans};

@@ -8,16 +8,16 @@ use native.Mathlib.Omega.{arith}
 use borrow.Author.Tests.{lt-leb, le-leb}
 use Rattle.digits.specs.Numeral.{percentage}
 use Rattle.codec.specs.Codec.{Form, _▹_, below, opt, each}
-use Rattle.decode.specs.Reads.{Reads, Number, same}
+use Rattle.decode.specs.Means.{Reads, Number, same}
 use Rattle.decode.proofs.ReadLaws.{_&_, seen, absent, present, each-next}
 use Rattle.ast.specs.Tree.{LoopSpec, KeyframeTime, KeyframeEntry, percent}
 use Rattle.pieces.specs.Pieces.{Piece, aName, aNumeral}
 use Rattle.fresh.specs.Meaning.{FrameSense}
 use Rattle.fresh.specs.Fresh.{waveNames, wordAt}
 use Rattle.fresh.specs.Fresh.{Writer, mark, negative, minusIf, sizeOf, signedBy, time, frame, moreFrames, track}
-use Rattle.spelling.specs.Spelling.{Page, size, run}
-use Rattle.copying.specs.Copies.{Copies}
-use Rattle.bodies.specs.Body.{framesOf, commaFrames, joinedFrames, loopBy}
+use Rattle.spelling.specs.Means.{Page, size, run}
+use Rattle.copying.specs.Means.{Copies}
+use Rattle.bodies.specs.Means.{framesOf, commaFrames, joinedFrames, loopBy}
 
 same-page : {p q : List Piece → Page} → ((ps : List Piece) → p ps ≡ q ps) → p ≡ q
 same-page h = λ i ps. h ps i

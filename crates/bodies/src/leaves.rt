@@ -9,8 +9,8 @@ ghost use Rattle.ast.specs.Tree.{tween, spring, keyframes, path, morph, draw, c
 ghost use Rattle.sheet.specs.Sheet.{word, easingForm, tweenForm, springForm, keyframesForm, pathForm, morphForm, drawForm, colorForm, waveformForm, presetForm, spanForm, atForm};
 ghost use Rattle.fresh.specs.Meaning.{optionSense};
 ghost use Rattle.fresh.specs.Fresh as fresh;
-ghost use Rattle.copying.specs.Copies.{Puts, CopiesTo};
-ghost use Rattle.bodies.specs.Body.{body, presetFields};
+ghost use Rattle.copying.specs.Means.{Puts, CopiesTo};
+ghost use Rattle.bodies.specs.Means.{body, presetFields};
 use crate::frames::copy_track;
 use copying::fields::copy_f32_field;
 use copying::fields::copy_opt_case;

@@ -18,7 +18,7 @@ use Rattle.token.specs.declared.SplitAnswer.{SplitAnswer}
 use Rattle.token.specs.declared.SplitAnswer.the-variants as answer
 use Rattle.token.proofs.StreamLaws.{split-reads}
 use Rattle.grammar.specs.Rule.{Notes, Out, got, refused, ends, iterate}
-use Rattle.cursor.specs.Word.{atOf, leftAt, roundedOf}
+use Rattle.cursor.specs.WordMeans.{atOf, leftAt, roundedOf}
 use Rattle.cursor.specs.Means.{nothing, leftOf, leftIs, Ready, Begins, notes, run}
 use Rattle.cursor.specs.Means as cursor
 use Rattle.cursor.specs.declared.Cursor.{Cursor}

@@ -6,11 +6,11 @@ use native.Mathlib.Omega.{arith}
 use lib.ListN.{length}
 use Rattle.error.specs.declared.Refusal.{Refusal}
 use Rattle.error.specs.declared.Refusal.the-variants.{Missing}
-use Rattle.encode.specs.Writes.{Writes}
+use Rattle.encode.specs.WriteMeans.{Writes}
 use Rattle.ast.specs.declared.Span.{Span}
 use Rattle.grammar.specs.Rule.{refused, theByte, leave, inside, word}
 use Rattle.grammar.specs.Grammar.{animatoInput}
-use Rattle.cursor.specs.Word.{atOf}
+use Rattle.cursor.specs.WordMeans.{atOf}
 use Rattle.cursor.specs.Means.{Ready, run, Took, spelled}
 use Rattle.cursor.specs.declared.Cursor.{Cursor}
 use Rattle.blocks.specs.Means.{Reached, parseNodes, NodesWent}

@@ -11,7 +11,7 @@ use Rattle.text.specs.Bytes.{part}
 use Rattle.text.specs.Words.{find}
 use Rattle.ast.specs.Tree as tree
 use Rattle.ast.specs.Tree.{Nodes, Span, PresetCall, single, holding, width, mapTimes}
-use Rattle.ast.specs.View.{spanView}
+use Rattle.ast.specs.Means.{spanView}
 use Rattle.ast.specs.declared.Span as code
 use Rattle.number.specs.Time.{Key}
 use Rattle.codec.specs.Codec.{big}
@@ -19,16 +19,16 @@ use Rattle.codec.proofs.Laws.{All}
 use Rattle.sheet.specs.Sheet.{Node, Forest, spanForm, forest, inner, encode, decode}
 use Rattle.sheet.specs.Records.{nodesOf, kindOf, entriesOf}
 use Rattle.sheet.proofs.Laws.{innerL, Fits, decodes, decoded}
-use Rattle.decode.specs.Reads.{Reads, got, bad, same}
+use Rattle.decode.specs.Means.{Reads, got, bad, same}
 use Rattle.decode.proofs.ReadLaws.{le-or-lt}
-use Rattle.records.specs.Record.{recordForm, recordView}
+use Rattle.records.specs.Means.{recordForm, recordView}
 use Rattle.records.specs.declared.Kind.{Kind}
 use Rattle.records.proofs.PlaceLaws.{Behind, behind-head, behind-next, behind-last}
 use Rattle.encode.proofs.ClearLaws.{written}
 use Rattle.sheet.proofs.FormLaws.{length-big}
 use Rattle.grammar.specs.Rule.{Out}
 use Rattle.grammar.specs.Grammar.{stored, block, animatoInput}
-use Rattle.cursor.specs.Word.{atOf}
+use Rattle.cursor.specs.WordMeans.{atOf}
 use Rattle.cursor.specs.Means.{Took, notes, tokens}
 use Rattle.cursor.specs.declared.Cursor.{Cursor}
 use Rattle.rules.proofs.RunLaws.{Ends, Outcome}

@@ -15,7 +15,7 @@ use Rattle.error.specs.declared.CheckAnswer.the-variants.{Accepted, Refused}
 use Rattle.text.specs.Bytes.{at, part, lowered}
 use Rattle.text.specs.Words.{isSome, under}
 use Rattle.presets.specs.Colors.{colors, isHexColor, isColorOf, isColor}
-use Rattle.words.specs.Lists.{listOf}
+use Rattle.words.specs.ListMeans.{listOf}
 use Rattle.colors.specs.Css.{cssColors, cssNames, namesOf, hexBytes, withAlpha, hexColor}
 use Rattle.colors.specs.Css.{colorOf, namedColor, colorBytes, answered, coloring}
 use Rattle.colors.proofs.NameLaws.{true-is-false, names-are, css-clip, named-found}

@@ -13,8 +13,8 @@ use borrow.Author.Tests.{ltb-true}
 use Rattle.text.specs.Bytes.{bytes, same}
 use Rattle.text.specs.Words.{isSome, find, under, words}
 use Rattle.text.proofs.WordLaws.{find-here, find-past}
-use Rattle.words.specs.Lists.{listOf}
-use Rattle.words.specs.Keys.{placeIs}
+use Rattle.words.specs.ListMeans.{listOf}
+use Rattle.words.specs.KeyMeans.{placeIs}
 use Rattle.words.proofs.ListLaws.{list-clip}
 use Rattle.words.proofs.KeyLaws.{every, both, place-some, place-none}
 use Rattle.colors.specs.Css.{cssColors, cssNames, namesIn, colorOf}

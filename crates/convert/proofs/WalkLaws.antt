@@ -16,7 +16,7 @@ use Rattle.ast.specs.Tree.{single, holding, width}
 use Rattle.sheet.specs.Sheet.{Node}
 use Rattle.sheet.specs.Records.{recordOf, nodesOf, allRecords}
 use Rattle.sheet.proofs.Flat.{concat, records-are}
-use Rattle.decode.specs.Reads.{Reads, same}
+use Rattle.decode.specs.Means.{Reads, same}
 use Rattle.records.proofs.PlaceLaws.{Behind, behind-head, behind-next, behind-last, first, this-one}
 use Rattle.opening.specs.declared.Opening.the-variants.{Open, Shut}
 use Rattle.opening.specs.Means.{answerOf}

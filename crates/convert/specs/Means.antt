@@ -4,8 +4,8 @@ use mathlib.Core.List.{List}
 use mathlib.Core.Option.{some}
 use mathlib.Core.Path.{_≡_}
 use Rattle.sheet.specs.Sheet.{Forest, decode}
-use Rattle.decode.specs.Reads.{Reads}
-use Rattle.records.specs.Record.{recordForm, recordView}
+use Rattle.decode.specs.Means.{Reads}
+use Rattle.records.specs.Means.{recordForm, recordView}
 use Rattle.records.specs.declared.Kind.{Kind}
 use Rattle.converting.specs.Convert.{convertedSheet}
 

@@ -8,22 +8,22 @@ use mathlib.Core.Path.{_≡_, refl, sym, ap, _∙_}
 use borrow.Author.Tests.{lt-leb, le-leb}
 use Rattle.codec.specs.Codec.{Form, _▹_, via, opt, Case, FieldsAt, enum, big, sized, each}
 use Rattle.codec.proofs.Laws.{makeAt}
-use Rattle.decode.specs.Reads.{Reads, Number, same}
+use Rattle.decode.specs.Means.{Reads, Number, same}
 use Rattle.decode.proofs.ReadLaws.{_&_, seen, through, counted, formAt, chosen, absent, present, each-none, each-next}
 use lib.ListN.{length}
 use Rattle.codec.specs.Codec.{below}
 use Rattle.text.specs.Bytes.{bytes, part}
 use Rattle.digits.specs.Numeral.{float}
-use Rattle.ast.specs.View.{spanView}
+use Rattle.ast.specs.Means.{spanView}
 use Rattle.ast.specs.declared.Span as spans
 use Rattle.sheet.specs.Sheet.{spanForm}
 use Rattle.pieces.specs.Pieces.{Piece, aWord, aNumeral}
 use Rattle.ast.specs.Tree.{spanBytes}
 use Rattle.fresh.specs.Fresh.{Writer, mark, negative, minusIf, sizeOf, signedBy, f32, field}
-use Rattle.spelling.specs.Spelling.{Page, size, put, run, pageOf}
+use Rattle.spelling.specs.Means.{Page, size, put, run, pageOf}
 use Rattle.spelling.specs.declared.Pen.{Pen}
 use Rattle.spelling.proofs.PageLaws.{size-of, size-run}
-use Rattle.copying.specs.Copies.{Written, Copies}
+use Rattle.copying.specs.Means.{Written, Copies}
 
 -- the same page whatever follows
 same-page : {p q : List Piece → Page} → ((ps : List Piece) → p ps ≡ q ps) → p ≡ q

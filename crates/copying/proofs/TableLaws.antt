@@ -15,7 +15,7 @@ use Rattle.decode.proofs.ReadLaws.{le-or-lt}
 use Rattle.digits.proofs.NumeralLaws.{both}
 use Rattle.pieces.specs.Pieces.{Piece, aWord, wordLike}
 use Rattle.fresh.specs.Fresh.{wordAt, choose}
-use Rattle.copying.specs.Words.{allWords}
+use Rattle.copying.specs.WordMeans.{allWords}
 
 entries-behind : (b : ℕ) (t : List ℕ) → entries b t ≡ entries 0 (drop b t)
 unfolding entries

@@ -1,2 +1,2 @@
-pub mod Copies
-pub mod Words
+pub mod Means
+pub mod WordMeans

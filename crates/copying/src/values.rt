@@ -7,7 +7,7 @@ ghost use Rattle.sheet.specs.Sheet.{word, spanForm, valueForm};
 ghost use Rattle.pieces.specs.Pieces.{aName, aString};
 ghost use Rattle.ast.specs.Tree.{spanBytes};
 ghost use Rattle.fresh.specs.Fresh as fresh;
-ghost use Rattle.copying.specs.Copies.{Puts, CopiesTo};
+ghost use Rattle.copying.specs.Means.{Puts, CopiesTo};
 use decode::fields::take_byte;
 use decode::fields::take_field;
 use decode::fields::take_span;

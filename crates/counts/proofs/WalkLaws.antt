@@ -11,8 +11,8 @@ use borrow.Author.Tests.{ltb-false, eq-eqb}
 use Rattle.codec.specs.Codec.{big}
 use Rattle.sheet.specs.Sheet.{Node, Forest, sheet, whole, decode}
 use Rattle.sheet.specs.Records.{nodesOf, kindOf, entriesOf}
-use Rattle.decode.specs.Reads.{Reads, same}
-use Rattle.records.specs.Record.{recordForm, recordView}
+use Rattle.decode.specs.Means.{Reads, same}
+use Rattle.records.specs.Means.{recordForm, recordView}
 use Rattle.records.specs.declared.Kind.{Kind}
 use Rattle.records.proofs.PlaceLaws.{Behind, behind-head, behind-next, behind-last}
 use Rattle.totals.specs.Totals.{sumOf, added, inWord}

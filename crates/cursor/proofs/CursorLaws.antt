@@ -34,7 +34,7 @@ use Rattle.grammar.specs.Rule.{eatByte, Signed, absent, plain, pointless, seesN
 use Rattle.grammar.specs.Rule.{taken, signed, Pass, halts, closes, goes, closing, depth, weigh, behind, firstOf, leave}
 use Rattle.error.specs.declared.Refusal.{Refusal}
 use Rattle.error.specs.declared.Refusal.the-variants.{Missing}
-use Rattle.cursor.specs.Word.{atOf, endOf, leftAt, roundedOf, tokOf, notesOf, headWord, noting, tallied}
+use Rattle.cursor.specs.WordMeans.{atOf, endOf, leftAt, roundedOf, tokOf, notesOf, headWord, noting, tallied}
 use Rattle.cursor.specs.Means.{nothing, leftOf, Ready, notes, tokens, run, Took}
 use Rattle.cursor.specs.Means.{Begins, Follows, Behind, sign, past, Numbers, SignAt}
 use Rattle.cursor.specs.declared.Cursor.{Cursor}

@@ -13,7 +13,7 @@ use Rattle.token.specs.Names.{isKeyword, unless, wordOf, nameOf}
 use Rattle.grammar.specs.Rule.{refused, word, seesName, choiceIn}
 use Rattle.error.specs.declared.Refusal.{Refusal}
 use Rattle.error.specs.declared.Refusal.the-variants.{Missing}
-use Rattle.cursor.specs.Word.{atOf}
+use Rattle.cursor.specs.WordMeans.{atOf}
 use Rattle.cursor.specs.Means.{Ready, tokens, run, Took, Follows, placeIn, listedIn, noKeywords}
 use Rattle.cursor.specs.declared.Cursor.{Cursor}
 use Rattle.cursor.proofs.CursorLaws.{took}

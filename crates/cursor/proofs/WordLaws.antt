@@ -9,8 +9,8 @@ use Rattle.token.specs.Means.{headTok}
 use Rattle.token.proofs.WholeLaws.{neither}
 use Rattle.token.specs.declared.Tok.{Tok}
 use Rattle.token.specs.declared.Tok.the-variants.{Name, Num, Quoted, Mark}
-use Rattle.cursor.specs.Word.{endOf, leftAt, roundedOf, codeOf, codeTok, codePlace}
-use Rattle.cursor.specs.Word.{tokOf, atOf, tokCode, notesOf, headWord, noting, tallied}
+use Rattle.cursor.specs.WordMeans.{endOf, leftAt, roundedOf, codeOf, codeTok, codePlace}
+use Rattle.cursor.specs.WordMeans.{tokOf, atOf, tokCode, notesOf, headWord, noting, tallied}
 use Rattle.cursor.specs.declared.Cursor.{Cursor}
 
 -- a word by its parts

@@ -20,7 +20,7 @@ use Rattle.ast.specs.declared.Span.{Span}
 use Rattle.error.specs.declared.Refusal.the-variants as cause
 use Rattle.grammar.specs.Rule.{Notes, Out, got, refused, Rule, Signed, absent, plus, minus}
 use Rattle.grammar.specs.Rule.{plain, seesByte, seesNumber, word, text, behind, Pass, halts, closes, goes}
-use Rattle.cursor.specs.Word.{atOf, endOf, leftAt, roundedOf, tokOf}
+use Rattle.cursor.specs.WordMeans.{atOf, endOf, leftAt, roundedOf, tokOf}
 use Rattle.cursor.specs.declared.Left.{Left}
 use Rattle.cursor.specs.declared.Left.the-variants as left
 use Rattle.cursor.specs.declared.Cursor.{Cursor}

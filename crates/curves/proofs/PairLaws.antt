@@ -11,12 +11,12 @@ use lib.Ieee.{round, toBits}
 use Rattle.text.specs.Bytes.{bytes, part}
 use Rattle.number.specs.Number.{bits}
 use Rattle.codec.specs.Codec.{Form, _▹_, empty, below, opt}
-use Rattle.decode.specs.Reads.{Reads, Number, same}
+use Rattle.decode.specs.Means.{Reads, Number, same}
 use Rattle.codec.proofs.Laws.{makeAt}
 use Rattle.decode.proofs.ReadLaws.{formAt, _&_, seen, nothing, absent, present}
 use Rattle.grammar.specs.Values.{f32Of}
 use Rattle.pieces.specs.Pieces.{Piece, aWord}
-use Rattle.ast.specs.View.{spanView}
+use Rattle.ast.specs.Means.{spanView}
 use Rattle.ast.specs.declared.Span as spans
 use Rattle.ast.specs.Tree.{StaggerPatternSpec}
 use Rattle.sheet.specs.Sheet.{word, flag, spanForm, easings, splitEasing, easingForm, patternForm}
@@ -25,9 +25,9 @@ use Rattle.ast.specs.Tree.{spanBytes}
 use Rattle.fresh.specs.Meaning.{named, easingSense}
 use Rattle.fresh.specs.Fresh.{Writer, Pair, spell, mark, u32, easing, pairs, morePairs, unless, choose, pattern, opening}
 use Rattle.grammar.specs.Grammar.{originNames}
-use Rattle.spelling.specs.Spelling.{Page, run}
-use Rattle.copying.specs.Copies.{Written, Copies}
-use Rattle.curves.specs.Pairs.{commaUnless, pairsBy, delayBy, PairPut}
+use Rattle.spelling.specs.Means.{Page, run}
+use Rattle.copying.specs.Means.{Written, Copies}
+use Rattle.curves.specs.Means.{commaUnless, pairsBy, delayBy, PairPut}
 
 -- ---- what is read before anything is put
 

@@ -4,7 +4,7 @@ ghost use Rattle.codec.specs.Codec.{opt};
 ghost use Rattle.sheet.specs.Sheet.{easingForm, loopForm};
 ghost use Rattle.fresh.specs.Meaning.{optionSense};
 ghost use Rattle.fresh.specs.Fresh as fresh;
-ghost use Rattle.copying.specs.Copies.{CopiesTo};
+ghost use Rattle.copying.specs.Means.{CopiesTo};
 use crate::easings::copy_easing;
 use crate::easings::copy_loop;
 use copying::fields::put_field;

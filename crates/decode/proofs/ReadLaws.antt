@@ -35,7 +35,7 @@ use Rattle.codec.specs.Codec.{
   each,
 }
 use Rattle.codec.proofs.Laws.{makeAt, below-lawful, big-lawful}
-use Rattle.decode.specs.Reads.{Lost, Reads, got, bad, Number, same}
+use Rattle.decode.specs.Means.{Lost, Reads, got, bad, Number, same}
 
 -- ---- places
 

@@ -4,8 +4,8 @@ ghost use lib.ListN.{length};
 ghost use Rattle.number.specs.Number.{f32};
 ghost use Rattle.codec.specs.Codec.{below, big, each};
 ghost use Rattle.sheet.specs.Sheet.{word, flag, spanForm};
-ghost use Rattle.ast.specs.View.{spanView};
-ghost use Rattle.decode.specs.Reads.{Lost, Reads, Number, KindAndStart, same};
+ghost use Rattle.ast.specs.Means.{spanView};
+ghost use Rattle.decode.specs.Means.{Lost, Reads, Number, KindAndStart, same};
 use ast::Span;
 
 pub struct ByteRead {

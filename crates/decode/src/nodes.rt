@@ -3,8 +3,8 @@
 ghost use lib.ListN.{length};
 ghost use Rattle.codec.specs.Codec.{_▹_, below, big, opt, each};
 ghost use Rattle.sheet.specs.Sheet.{word, patternForm, entryForm, tweenForm, springForm, keyframesForm, pathForm, morphForm, drawForm, colorForm, waveformForm, presetForm, atForm};
-ghost use Rattle.ast.specs.View.{entryView, tweenView, springView, keyframesView, groupView, staggerView, pathView, morphView, drawView, colorView, waveformView, presetView, atView};
-ghost use Rattle.decode.specs.Reads.{Reads};
+ghost use Rattle.ast.specs.Means.{entryView, tweenView, springView, keyframesView, groupView, staggerView, pathView, morphView, drawView, colorView, waveformView, presetView, atView};
+ghost use Rattle.decode.specs.Means.{Reads};
 use crate::fields::take_byte;
 use crate::fields::take_field;
 use crate::fields::take_flag;

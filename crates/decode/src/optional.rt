@@ -2,8 +2,8 @@
 ghost use Prim.Native.Nat.{_<_};
 ghost use Rattle.codec.specs.Codec.{_▹_, below, opt};
 ghost use Rattle.sheet.specs.Sheet.{word, flag, valueForm, easingForm, loopForm, dampingForm, patternForm};
-ghost use Rattle.ast.specs.View.{optFloatView, optWordView, optBoolView, optCaseView, optRangeView, optValueView, optEasingView, optLoopView, optDampingView, optPatternView};
-ghost use Rattle.decode.specs.Reads.{Reads};
+ghost use Rattle.ast.specs.Means.{optFloatView, optWordView, optBoolView, optCaseView, optRangeView, optValueView, optEasingView, optLoopView, optDampingView, optPatternView};
+ghost use Rattle.decode.specs.Means.{Reads};
 use crate::fields::take_byte;
 use crate::fields::take_field;
 use crate::fields::take_flag;

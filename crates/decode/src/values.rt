@@ -2,8 +2,8 @@
 ghost use Rattle.codec.specs.Codec.{_▹_};
 ghost use Rattle.ast.specs.Tree.{named, cubicBezier};
 ghost use Rattle.sheet.specs.Sheet.{word, flag, spanForm, valueForm, easingForm, loopForm, dampingForm, timeForm, patternForm};
-ghost use Rattle.ast.specs.View.{valueView, easingView, loopView, dampingView, timeView, patternView};
-ghost use Rattle.decode.specs.Reads.{Reads};
+ghost use Rattle.ast.specs.Means.{valueView, easingView, loopView, dampingView, timeView, patternView};
+ghost use Rattle.decode.specs.Means.{Reads};
 use crate::fields::skip_words;
 use crate::fields::take_byte;
 use crate::fields::take_field;

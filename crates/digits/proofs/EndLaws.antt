@@ -10,7 +10,7 @@ use lib.Dec.{lit<, lit≤}
 use lib.Ieee.{round, div, toBits}
 use Rattle.number.specs.Number.{percent, bits}
 use Rattle.digits.specs.Fewest.{trimmed, wholeDigits, lastDigits, count, limit, fewest, leastPercent}
-use Rattle.digits.specs.Answer.{decimalOf}
+use Rattle.digits.specs.AnswerMeans.{decimalOf}
 use Rattle.digits.specs.Means.{bitsOf, percentBits, lowest, least, infinity}
 use Rattle.digits.proofs.NumeralLaws.{count-trim, long-above}
 use Rattle.digits.proofs.FewestLaws.{Shortest, shortest-is, none-fewest}

@@ -15,9 +15,9 @@ use lib.Dec.{eqb, lit≤, lit<}
 use lib.Pow.{pow-add, pow-pos, pow-mono}
 use lib.ListN.{length}
 use borrow.Author.Tests.{eqb-true, eqb-false}
-use Rattle.limbs.specs.Limbs.{upTo}
+use Rattle.limbs.specs.LimbMeans.{upTo}
 use Rattle.digits.specs.Fewest.{fewest}
-use Rattle.digits.specs.Answer.{decimalOf}
+use Rattle.digits.specs.AnswerMeans.{decimalOf}
 use Rattle.digits.specs.Means.{long, Halfway, FirstAt, Candidate, Leads, Missed, Long, Fixed, firstPast, Lengthy}
 use Rattle.digits.specs.declared.Middle.{Middle}
 use Rattle.digits.proofs.LeastLaws.{either}

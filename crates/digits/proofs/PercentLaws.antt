@@ -23,7 +23,7 @@ use Rattle.number.proofs.Floats.{hundred, percent-number, f32-bits}
 use Rattle.number.proofs.Hundredth.{percent-once}
 use Rattle.number.proofs.Round.{sign-bit}
 use Rattle.digits.specs.Fewest.{leastPercent}
-use Rattle.digits.specs.Answer.{wholeOf}
+use Rattle.digits.specs.AnswerMeans.{wholeOf}
 use Rattle.digits.specs.Means.{bitsOf, percentBits, infinity, whole24, doublings}
 use Rattle.digits.specs.Means.{digitsOf, floatWhole, FirstAt, FirstFloat, FirstPercent}
 use Rattle.digits.proofs.LeastLaws.{least-of, nowhere-of, least-is, nowhere-is, never, either}

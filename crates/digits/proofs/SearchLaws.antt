@@ -16,7 +16,7 @@ use lib.Ieee.{binary32, round, toBits}
 use lib.Ieee.Scale.{round-same}
 use Rattle.number.specs.Number.{bits}
 use Rattle.digits.specs.Fewest.{trimmed, count, limit, fewest}
-use Rattle.digits.specs.Answer.{numberOf, Neat, decimalOf}
+use Rattle.digits.specs.AnswerMeans.{numberOf, Neat, decimalOf}
 use Rattle.digits.specs.Means.{bitsOf, lowest, highest, long, Wide, FirstAt, Halfway}
 use Rattle.digits.specs.Means.{Placed, Spaced, Candidate, Leads, Missed, Ready, Searched}
 use Rattle.digits.specs.declared.Middle.{Middle}

@@ -13,7 +13,7 @@ use lib.Dec.{lit≤, lit<}
 use lib.ListN.{length}
 use lib.Pow.{pow-add, pow-pos, pow-mono}
 use Rattle.digits.specs.Fewest.{fewest, wholeDigits}
-use Rattle.digits.specs.Answer.{decimalOf}
+use Rattle.digits.specs.AnswerMeans.{decimalOf}
 use Rattle.digits.specs.Means.{bitsOf, highest, infinity, doublings, digitsOf, middleOf, wholeOver, long, FirstAt, Candidate, Leads}
 use Rattle.digits.proofs.DigitLaws.{whole-lt, whole-some}
 use Rattle.digits.proofs.NumeralLaws.{ten-pos, digits-le}

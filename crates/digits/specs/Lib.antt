@@ -1,4 +1,4 @@
 pub mod Numeral
 pub mod Fewest
-pub mod Answer
+pub mod AnswerMeans
 pub mod Means

@@ -3,7 +3,7 @@ use Prim.Native.Nat.{ℕ, _+_, _-_, _*_, _/_, _%_, _^_, _<_, _≤_}
 use mathlib.Core.Bool.{true, false, cond}
 use mathlib.Core.List.{List}
 use lib.Dec.{eqb}
-use Rattle.limbs.specs.Limbs.{upTo}
+use Rattle.limbs.specs.LimbMeans.{upTo}
 use mathlib.Core.Path.{_≡_}
 use lib.Ieee.{binary32, round}
 use lib.ListN.{length}
@@ -14,7 +14,7 @@ use Rattle.digits.specs.declared.Middle.{Middle}
 use Rattle.digits.specs.declared.Best.{Best}
 use Rattle.digits.specs.declared.Parts.{Parts}
 use Rattle.digits.specs.declared.Decimal.{Decimal}
-use Rattle.digits.specs.Answer.{wholeNumber}
+use Rattle.digits.specs.AnswerMeans.{wholeNumber}
 
 -- the bits of the nearest f32 to n / d, and those of n percent
 unfoldable pub bitsOf : ℕ → ℕ → ℕ

@@ -2,11 +2,11 @@
 ghost use mathlib.Core.Path.{_≡_};
 ghost use Prim.Native.Nat.{ℕ, _+_, _*_, _/_, _^_, _<_, _≤_};
 ghost use lib.ListN.{length};
-ghost use Rattle.limbs.specs.Limbs.{upTo};
+ghost use Rattle.limbs.specs.LimbMeans.{upTo};
 ghost use mathlib.Core.Bool.{cond};
 ghost use mathlib.Core.Option.{none, some};
 ghost use Rattle.digits.specs.Fewest.{fewest, leastPercent};
-ghost use Rattle.digits.specs.Answer.{numberOf, Neat, decimalOf, wholeOf};
+ghost use Rattle.digits.specs.AnswerMeans.{numberOf, Neat, decimalOf, wholeOf};
 ghost use Rattle.digits.specs.Means.{highest, least, infinity, doublings, firstPast, Fixed, Long, Lengthy, Doubled, LeastWhole, percentBits, whole24, floatWhole, FirstFloat, Fair, Halfway, Placed, Spaced, FirstAt, Wide, Ready, Searched};
 use number::Stored;
 

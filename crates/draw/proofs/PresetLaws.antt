@@ -6,7 +6,7 @@ use mathlib.Core.Path.{_≡_, refl, sym, _∙_}
 use native.Mathlib.Omega.{arith}
 use lib.ListN.{length}
 use Rattle.ast.specs.declared.Span.{Span}
-use Rattle.encode.specs.Of.{spanOf}
+use Rattle.encode.specs.Means.{spanOf}
 use Rattle.error.specs.declared.Refusal.{Refusal}
 use Rattle.error.specs.declared.Refusal.the-variants.{Missing}
 use Rattle.grammar.specs.Rule.{Rule, Out, got, refused, after, _>>=_, word, seesByte, leave, theByte}

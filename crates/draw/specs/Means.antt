@@ -5,7 +5,7 @@ use mathlib.Core.Path.{_≡_}
 use Rattle.number.specs.Number.{bits}
 use Rattle.ast.specs.declared.OptF32.the-variants as optFloat
 use Rattle.ast.specs.declared.OptEasing.the-variants as optEasing
-use Rattle.encode.specs.Of.{Plain, PlainOptFloat, PlainOptEasing, spanOf, optFloatOf, optEasingOf}
+use Rattle.encode.specs.Means.{Plain, PlainOptFloat, PlainOptEasing, spanOf, optFloatOf, optEasingOf}
 use Rattle.grammar.specs.Rule.{Rule, refused, give, _>>=_, _>>_, if, sees, skip, inside}
 use Rattle.grammar.specs.Fields.{Fields, parseFieldList, lastNumber, lastEasing, pairs}
 use Rattle.grammar.specs.Grammar.{drawFields}

@@ -3,14 +3,14 @@
 ghost use mathlib.Core.Path.{_≡_};
 ghost use Rattle.grammar.specs.Fields.{Fields, parseFieldList, pairs};
 ghost use Rattle.grammar.specs.Grammar.{drawFields, parseDraw, parsePresetCall};
-ghost use Rattle.cursor.specs.Word.{atOf};
+ghost use Rattle.cursor.specs.WordMeans.{atOf};
 ghost use Rattle.cursor.specs.Means.{Ready};
 ghost use Rattle.node.specs.CellMeans.{AllSay};
 ghost use Rattle.draw.specs.Means.{drawCells, noDrawFields, DrawStepMeans, DrawListMeans, PlainDraw, drawOf, PlainPreset, presetOf, drawEnd};
 ghost use Rattle.draw.specs.Means.{presetPairs, presetFields, presetEnd};
 ghost use Prim.Native.Nat.{_^_, _<_};
 ghost use Rattle.node.specs.Means.{Put, LeafMeans, EndMeans};
-ghost use Rattle.encode.specs.Of.{spanOf};
+ghost use Rattle.encode.specs.Means.{spanOf};
 ghost use Rattle.arrays.specs.Means.{Room};
 use ast::DrawSpec;
 use ast::OptEasing;

@@ -10,7 +10,7 @@ use lib.Seq.{drop-cons}
 use borrow.Author.Tests.{not-true, not-false}
 use Rattle.text.specs.Bytes.{isUpper, lower}
 use Rattle.text.specs.Words.{isSome, words, find}
-use Rattle.words.specs.Lists.{listOf}
+use Rattle.words.specs.ListMeans.{listOf}
 use Rattle.words.proofs.ListLaws.{list-clip}
 use Rattle.easing.specs.Names.{namedEasings, snakeByte, snakeRest, snake, isEasing}
 

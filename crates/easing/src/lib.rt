@@ -1,7 +1,7 @@
 // easing.rs: the named easings, and parser.rs's to_snake_case for a name behind `Easing::`.
 ghost use mathlib.Core.Path.{_≡_};
 ghost use Rattle.text.specs.Bytes.{part};
-ghost use Rattle.text.specs.Write.{Puts};
+ghost use Rattle.text.specs.WriteMeans.{Puts};
 ghost use Rattle.easing.specs.Names.{snakeByte, snake, isEasing};
 
 // Writes a byte of a name behind the first one, with `_` before a capital, as far as there is room, and gives the place behind it.

@@ -10,7 +10,7 @@ use lib.ListN.{length, set, take, drop, replicate, length-replicate, replicate-a
 use lib.Seq.{sets, sets-eq, take-all, take-at}
 use borrow.Author.Tests.{leb-true, leb-false}
 use Rattle.text.proofs.WriteLaws.{sets-append}
-use Rattle.encode.specs.Writes.{Writes}
+use Rattle.encode.specs.WriteMeans.{Writes}
 use Rattle.encode.proofs.OverLaws.{writes-keeps}
 
 -- one zero more

@@ -11,7 +11,7 @@ use Rattle.text.proofs.WriteLaws.{sets-append}
 use Rattle.codec.specs.Codec.{big}
 use Rattle.codec.proofs.Laws.{big-lawful}
 use Rattle.sheet.specs.Sheet.{word}
-use Rattle.encode.specs.Writes.{Writes}
+use Rattle.encode.specs.WriteMeans.{Writes}
 use Rattle.encode.proofs.OverLaws.{set-sets}
 use Rattle.sheet.proofs.FormLaws.{length-big, small}
 

@@ -7,7 +7,7 @@ use lib.ListN.{length, set, length-append}
 use lib.Seq.{sets, set-set, set-comm, length-sets}
 use Rattle.text.proofs.WriteLaws.{sets-append}
 use Rattle.codec.specs.Codec.{big}
-use Rattle.encode.specs.Writes.{Writes}
+use Rattle.encode.specs.WriteMeans.{Writes}
 
 -- ---- one overlay and another
 

@@ -1,2 +1,2 @@
-pub mod Writes
-pub mod Of
+pub mod WriteMeans
+pub mod Means

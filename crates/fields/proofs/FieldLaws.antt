@@ -19,14 +19,14 @@ use Rattle.grammar.specs.Rule.{isWord, seesBytes, seesName, Out, got, refused, 
 use Rattle.grammar.specs.Rule.{more, next, iterate, listStep, eat, goOn, give, _>>=_, ends}
 use Rattle.grammar.specs.Fields.{Item, halts, closes, passes, starts, itemOf, Table, Fields, Entry, Content, rowOf}
 use Rattle.grammar.specs.Fields.{fieldHead, fieldValue, fieldName, pairName, entry, oneField, fieldsStep, onePair}
-use Rattle.cursor.specs.Word.{atOf}
+use Rattle.cursor.specs.WordMeans.{atOf}
 use Rattle.cursor.specs.Means.{Ready, notes, tokens, run, Took, Follows, listedIn, noKeywords}
 use Rattle.cursor.specs.declared.Cursor.{Cursor}
 use Rattle.fields.specs.declared.NextField.{NextField}
 use Rattle.fields.specs.declared.NextField.the-variants as found
 use Rattle.cursor.proofs.CursorLaws.{took, head-moves}
 use Rattle.cursor.proofs.ListedLaws.{never, none-some, Listed, took-listed, unlisted-kind, no-name, name-no-end}
-use Rattle.words.specs.Lists.{listOf}
+use Rattle.words.specs.ListMeans.{listOf}
 use Rattle.words.proofs.ListLaws.{everyList, each-list}
 use Rattle.fields.specs.Means.{HeadMeans, StartMeans, FieldMeans, PairMeans}
 use Rattle.fields.specs.Means.{names, headBehind, RowAt, Gives, FieldAt, PairAt}

@@ -12,7 +12,7 @@ use Rattle.grammar.specs.Rule.{iterate, listStep, eat, goOn, _>>=_, _>>_, the, 
 use Rattle.grammar.specs.Fields as fields
 use Rattle.grammar.specs.Fields.{Table, Fields, Content, rowOf, fieldHead, fieldValue}
 use Rattle.grammar.specs.Fields.{fieldsStep, onePair}
-use Rattle.cursor.specs.Word.{atOf}
+use Rattle.cursor.specs.WordMeans.{atOf}
 use Rattle.cursor.specs.Means.{Ready, notes, tokens, run, Took}
 use Rattle.cursor.specs.declared.Cursor.{Cursor}
 use Rattle.fields.specs.declared.Item.{Item}

@@ -9,7 +9,7 @@ use Rattle.ast.specs.Tree.{Nodes}
 use Rattle.grammar.specs.Rule.{ends}
 use Rattle.grammar.specs.Grammar.{stored, animatoInput}
 use Rattle.pieces.specs.Pieces.{Form, laid}
-use Rattle.pieces.specs.Fits.{AllFit}
+use Rattle.pieces.specs.Means.{AllFit}
 use Rattle.pieces.proofs.JoinLaws.{joined-splits, joined-bytes}
 use Rattle.fresh.specs.Meaning.{Sense, sense}
 use Rattle.fresh.specs.Fresh.{pieces, script}

@@ -19,7 +19,7 @@ use Rattle.fresh.specs.Meaning.{EasingSense, named, cubicBezier, steps, 
 use Rattle.fresh.specs.Meaning.{spring, keyframes, path, morph, draw, color, waveform, preset, label, at, Sense, noNodes, leaf, box}
 use Rattle.grammar.specs.Values.{f32Of}
 use Rattle.pieces.specs.Pieces.{Piece, aWord, aMark}
-use Rattle.pieces.specs.Fits.{nestOf, Nests}
+use Rattle.pieces.specs.Means.{nestOf, Nests}
 use Rattle.fresh.specs.Fresh.{Pair, morePairs, pairs, unless, Writer, negative, minusIf, signedBy, f32, u32}
 use Rattle.fresh.specs.Fresh.{moreFloats, floats, value, truth, easing, loopMode, field, onlyTrue, atValue, leafWord}
 use Rattle.fresh.specs.Fresh.{leafBody, boxWord, boxBody, pieces, mark, spell, wordAt, choose}

@@ -24,7 +24,7 @@ use Rattle.grammar.specs.Rule.{tally}
 use Rattle.grammar.specs.Rule.{next as following, counted as countedAs}
 use Rattle.pieces.specs.Pieces.{Piece, aWord, aName, aPlain, aNumeral, aString, aMark, aPair}
 use Rattle.pieces.specs.Pieces.{Form, spelt, spaced, joined, ahead, laid, curveNames}
-use Rattle.pieces.specs.Fits.{Means, Fits, AllFit}
+use Rattle.pieces.specs.Means.{Means, Fits, AllFit}
 
 abbrev pub IsMore : {A : Type 0} → (A → Type 0) → Next A → Type 0
 IsMore R (more a) = R a

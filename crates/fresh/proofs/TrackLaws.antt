@@ -19,7 +19,7 @@ use Rattle.grammar.specs.Values.{parseEasing}
 use Rattle.grammar.specs.Grammar.{stored, keyed, parseKeyframeTime, keyframeEntry, Track, trackFrame, trackStep, parseKeyframes}
 use Rattle.grammar.specs.Grammar.{trackLoop as loopRule}
 use Rattle.pieces.specs.Pieces.{Piece, aMark, Form, ahead, laid}
-use Rattle.pieces.specs.Fits.{AllFit}
+use Rattle.pieces.specs.Means.{AllFit}
 use Rattle.pieces.proofs.SignLaws.{nearest-signed, percent-signed}
 use Rattle.fresh.specs.Meaning.{EasingSense, named, cubicBezier, steps, wiggle, rough, slowMo}
 use Rattle.fresh.specs.Meaning.{optionSense, FrameSense, TrackSense, framesSense, leafSense, keyframes}

@@ -26,7 +26,7 @@ use Rattle.grammar.specs.Values.{parseValue, commaFloats, fourFloats, bezierCur
 use Rattle.grammar.specs.Values.{namedEasing, curveOr, parseEasing, timesMode, pingPongMode, loopModes, parseLoopMode}
 use Rattle.pieces.specs.Pieces.{Piece, aWord, aName, aPlain, aString, aMark}
 use Rattle.pieces.specs.Pieces.{Form, ahead, laid, curveNames}
-use Rattle.pieces.specs.Fits.{Means}
+use Rattle.pieces.specs.Means.{Means}
 use Rattle.pieces.proofs.SignLaws.{nearest-signed}
 use Rattle.ast.specs.Tree.{spanBytes}
 use Rattle.fresh.specs.Meaning.{EasingSense, named, cubicBezier, steps, wiggle, rough, slowMo, easingSense}

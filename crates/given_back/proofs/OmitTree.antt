@@ -8,7 +8,7 @@ use mathlib.Core.Path.{_≡_, sym, subst}
 use Rattle.digits.specs.Fewest.{form}
 use Rattle.ast.specs.Tree.{LoopSpec, StaggerPatternSpec, Container, sequence, parallel, group, stagger}
 use Rattle.pieces.specs.Pieces.{Piece}
-use Rattle.pieces.specs.Fits.{AllFit}
+use Rattle.pieces.specs.Means.{AllFit}
 use Rattle.pieces.proofs.FitLaws.{all-fit, fit-all}
 use Rattle.fresh.specs.Meaning.{EasingSense, FrameSense, LeafSense, tween, spring, keyframes, path, morph, draw, color, waveform, preset}
 use Rattle.fresh.specs.Meaning.{label, at, Sense, noNodes, leaf, box}

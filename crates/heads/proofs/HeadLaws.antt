@@ -12,14 +12,14 @@ use Rattle.ast.specs.Tree.{StaggerPatternSpec, grid, random}
 use Rattle.ast.specs.declared.OptF32.the-variants as optFloat
 use Rattle.ast.specs.declared.OptU32.the-variants as optWord
 use Rattle.ast.specs.declared.OptCase.the-variants as optCase
-use Rattle.encode.specs.Of.{Plain, optWordOf, optCaseOf, patternOf}
+use Rattle.encode.specs.Means.{Plain, optWordOf, optCaseOf, patternOf}
 use Rattle.error.specs.declared.Refusal.{Refusal}
 use Rattle.error.specs.declared.Refusal.the-variants.{Malformed, StaggerGridIncomplete}
 use Rattle.grammar.specs.Rule.{Rule, refused, theByte, insideByte, leave, choiceIn}
 use Rattle.grammar.specs.Fields.{aNumber, last, pairs}
 use Rattle.grammar.specs.Values.{f32Of}
 use Rattle.grammar.specs.Grammar.{parseGridOrigin, origin, gridFields, randomFields, randomPattern, patterns, parseStaggerPattern}
-use Rattle.cursor.specs.Word.{atOf}
+use Rattle.cursor.specs.WordMeans.{atOf}
 use Rattle.cursor.specs.Means.{run, Took}
 use Rattle.cursor.specs.declared.Cursor.{Cursor}
 use Rattle.cursor.proofs.CursorLaws.{fewer}

@@ -10,7 +10,7 @@ use lib.ListN.{getElem?}
 use Rattle.error.specs.declared.Refusal.{Refusal}
 use Rattle.grammar.specs.Rule.{Rule, refused, listStep, eatByte}
 use Rattle.grammar.specs.Fields.{Table, Fields, Content, onePair, pairs}
-use Rattle.cursor.specs.Word.{atOf}
+use Rattle.cursor.specs.WordMeans.{atOf}
 use Rattle.cursor.specs.Means.{Ready, run, Took}
 use Rattle.cursor.specs.declared.Cursor.{Cursor}
 use Rattle.fields.specs.Means.{PairMeans, PairAt}

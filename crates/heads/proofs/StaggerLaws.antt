@@ -15,7 +15,7 @@ use Rattle.error.specs.declared.Refusal.the-variants.{UnknownKeyword}
 use Rattle.grammar.specs.Rule.{Notes, Out, got, refused, after, Rule, _>>=_, _>>_, give, need}
 use Rattle.grammar.specs.Rule.{seesByte, theByte, eat, eatByte, word, choiceIn, Next, repeat, goOn}
 use Rattle.grammar.specs.Grammar.{Opening, openingFields, openingField, openingStep, parseStagger}
-use Rattle.cursor.specs.Word.{atOf}
+use Rattle.cursor.specs.WordMeans.{atOf}
 use Rattle.cursor.specs.Means.{Ready, notes, tokens, run, Took}
 use Rattle.cursor.specs.declared.Cursor.{Cursor}
 use Rattle.fields.specs.Means.{Gives}

@@ -10,21 +10,21 @@ use lib.ListN.{length}
 use Rattle.number.specs.Number.{f32}
 use Rattle.number.specs.Time.{Key}
 use Rattle.ast.specs.Tree.{KeyframeEntry, ValueExpr}
-use Rattle.ast.specs.View.{isArray, scalarOf, entryOf}
+use Rattle.ast.specs.Means.{isArray, scalarOf, entryOf}
 use Rattle.ast.specs.declared.ValueExpr as values
 use Rattle.ast.specs.declared.ValueExpr.the-variants.{Scalar, Array}
 use Rattle.ast.specs.declared.KeyframeEntry as entries
 use Rattle.ast.specs.declared.OptEasing as easings
 use Rattle.sheet.specs.Sheet.{timeForm, valueForm, easingForm}
-use Rattle.encode.specs.Of.{keyTimeOf, optEasingOf, Plain, PlainOptEasing}
-use Rattle.encode.specs.Writes.{Writes}
+use Rattle.encode.specs.Means.{keyTimeOf, optEasingOf, Plain, PlainOptEasing}
+use Rattle.encode.specs.WriteMeans.{Writes}
 use Rattle.encode.proofs.OverLaws.{writes-none, writes-then, writes-fill}
 use Rattle.encode.proofs.EnumLaws.{length-time, easing-most, opt-most}
 use Rattle.error.specs.declared.Refusal.{Refusal}
 use Rattle.grammar.specs.Rule.{Rule, Out, got, refused, after, give, theByte, _>>_}
 use Rattle.grammar.specs.Values.{parseValue}
 use Rattle.grammar.specs.Grammar.{parseKeyframeTime, keyframeEntry}
-use Rattle.cursor.specs.Word.{atOf}
+use Rattle.cursor.specs.WordMeans.{atOf}
 use Rattle.cursor.specs.Means.{run, Took}
 use Rattle.cursor.specs.declared.Cursor.{Cursor}
 use Rattle.arrays.specs.Means.{Went, Held, HeldWent}

@@ -20,7 +20,7 @@ use Rattle.token.specs.declared.Number as numbers
 use Rattle.grammar.specs.Rule.{Out, got, refused, give, skip, _>>_, seesByte, seesNumber, seesName, absent, theByte, eatByte}
 use Rattle.grammar.specs.Values.{parseEasing}
 use Rattle.grammar.specs.Grammar.{stored, keyed, parseKeyframeTime}
-use Rattle.cursor.specs.Word.{atOf, roundedOf, tallied}
+use Rattle.cursor.specs.WordMeans.{atOf, roundedOf, tallied}
 use Rattle.cursor.specs.Means.{Ready, notes, tokens, run, Took, Numbers}
 use Rattle.cursor.specs.declared.Cursor.{Cursor}
 use Rattle.cursor.proofs.CursorLaws.{counts, counted, took-number, stays, head-place}

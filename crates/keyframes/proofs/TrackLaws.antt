@@ -14,8 +14,8 @@ use Rattle.ast.specs.declared.Span.{Span}
 use Rattle.ast.specs.declared.LoopSpec as loops
 use Rattle.ast.specs.declared.OptLoop.the-variants as optLoop
 use Rattle.sheet.specs.Sheet.{entryForm, loopForm, spanForm}
-use Rattle.encode.specs.Of.{spanOf, loopOf, optLoopOf}
-use Rattle.encode.specs.Writes.{Writes}
+use Rattle.encode.specs.Means.{spanOf, loopOf, optLoopOf}
+use Rattle.encode.specs.WriteMeans.{Writes}
 use Rattle.encode.proofs.OverLaws.{writes-none, writes-then, writes-counted}
 use Rattle.sheet.proofs.FormLaws.{each-append, length-span}
 use Rattle.encode.proofs.EnumLaws.{loop-most, opt-most}
@@ -24,7 +24,7 @@ use Rattle.error.specs.declared.Refusal.the-variants.{Missing}
 use Rattle.grammar.specs.Rule.{Rule, refused, Next, more, done, goOn, seesByte, seesBytes, ends, theByte, eatByte, word, leave, repeat}
 use Rattle.grammar.specs.Values.{ident, parseLoopMode}
 use Rattle.grammar.specs.Grammar.{stored, keyframeEntry, Track, trackLoop, trackFrame, trackStep, parseKeyframes}
-use Rattle.cursor.specs.Word.{atOf}
+use Rattle.cursor.specs.WordMeans.{atOf}
 use Rattle.cursor.specs.Means.{Ready, tokens, run, Took, Follows, spelled}
 use Rattle.cursor.specs.declared.Cursor.{Cursor}
 use Rattle.cursor.proofs.CursorLaws.{took, moved-low}

@@ -11,16 +11,16 @@ use Rattle.number.specs.Number.{Written, bits}
 use Rattle.number.specs.Time.{Key}
 use Rattle.codec.specs.Codec.{eachOut, big, opt}
 use Rattle.ast.specs.Tree.{KeyframeEntry, EasingSpec, scalar, mapFrames}
-use Rattle.ast.specs.View.{entryOf}
+use Rattle.ast.specs.Means.{entryOf}
 use Rattle.ast.specs.declared.ValueExpr as values
 use Rattle.ast.specs.declared.KeyframeEntry as entries
 use Rattle.sheet.specs.Sheet.{timeForm, valueForm, easingForm, loopForm, entryForm}
-use Rattle.encode.specs.Of.{keyTimeOf, optEasingOf, optLoopOf, Plain, PlainOptEasing, PlainEntry}
-use Rattle.encode.specs.Writes.{Writes}
+use Rattle.encode.specs.Means.{keyTimeOf, optEasingOf, optLoopOf, Plain, PlainOptEasing, PlainEntry}
+use Rattle.encode.specs.WriteMeans.{Writes}
 use Rattle.grammar.specs.Rule.{Rule, got, refused, give, if, sees, seesName, skip, eat, the, leave, repeat, Next, more, done, _>>=_, _>>_}
 use Rattle.grammar.specs.Values.{parseEasing}
 use Rattle.grammar.specs.Grammar.{stored, parseKeyframeTime, keyframeEntry, trackStep, Track}
-use Rattle.cursor.specs.Word.{atOf}
+use Rattle.cursor.specs.WordMeans.{atOf}
 use Rattle.cursor.specs.Means.{Ready, notes, tokens, run, Took}
 use Rattle.cursor.specs.declared.Cursor.{Cursor}
 use Rattle.arrays.specs.Means.{Held}

@@ -7,7 +7,7 @@ ghost use mathlib.Core.List.{List};
 ghost use Prim.Native.Nat.{ℕ, _+_, _<_, _^_};
 ghost use Rattle.number.specs.Rounded.{timeRounded};
 ghost use Rattle.token.specs.Means.{Known, writtenIn};
-ghost use Rattle.encode.specs.Of.{PlainEntry};
+ghost use Rattle.encode.specs.Means.{PlainEntry};
 ghost use Rattle.grammar.specs.Grammar.{parseKeyframeTime, trackLoop, trackFrame, trackStep, parseKeyframes};
 ghost use Rattle.cursor.specs.Means.{Ready, Took};
 ghost use Rattle.arrays.specs.Means.{Room};

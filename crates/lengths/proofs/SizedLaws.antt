@@ -9,7 +9,7 @@ use lib.ListN.{length}
 use Rattle.text.specs.Bytes.{same}
 use Rattle.text.specs.Words.{isSome, words, find, isOneOf}
 use Rattle.text.proofs.WordLaws.{same-lengths, find-here, find-past}
-use Rattle.lengths.specs.Sized.{sized, among}
+use Rattle.lengths.specs.Means.{sized, among}
 
 never : {A : Type 0} → false ≡ true → A
 never e = let z : _≡_ {A = ℕ} 0 1 = cc in absurd (omega arith)

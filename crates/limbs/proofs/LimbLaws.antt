@@ -12,7 +12,7 @@ use lib.Pow.{pow-add}
 use mathlib.Core.Logic.{_⊎_, inl, inr}
 use native.Mathlib.Nat.{mul-pos, eq-or-lt-of-le, one-le-pow}
 use lib.Dec.{lit<}
-use Rattle.limbs.specs.Limbs.{upTo, val}
+use Rattle.limbs.specs.LimbMeans.{upTo, val}
 use Rattle.limbs.proofs.DecimalLaws.{carried-none, scale-next, scale-below}
 
 pub upTo-next : (i : ℕ) (xs : List ℕ) → upTo (i + 1) xs ≡ upTo i xs + getD xs i 0 * 4294967296 ^ i

@@ -1,2 +1,2 @@
-pub mod Limbs
+pub mod LimbMeans
 pub mod Means

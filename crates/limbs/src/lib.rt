@@ -12,7 +12,7 @@ ghost use Rattle.text.specs.Bytes.{decimal, part, run, isDigit};
 ghost use Rattle.text.specs.Limits.{wholeLimit, placesLimit};
 ghost use Rattle.number.specs.Number.{bits};
 ghost use Rattle.number.specs.Rounded.{rounded};
-ghost use Rattle.limbs.specs.Limbs.{upTo, val};
+ghost use Rattle.limbs.specs.LimbMeans.{upTo, val};
 ghost use Rattle.limbs.specs.Means.{Raised, Nearest};
 use number::Bits;
 

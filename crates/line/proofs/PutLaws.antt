@@ -14,11 +14,11 @@ use Rattle.error.specs.declared.Refusal.{Refusal}
 use Rattle.error.specs.declared.Refusal.the-variants.{NotASheet, OutputTooShort}
 use Rattle.error.specs.declared.LineAnswer.{LineAnswer}
 use Rattle.error.specs.declared.LineAnswer.the-variants.{Accepted, Refused}
-use Rattle.text.specs.Write.{Puts}
+use Rattle.text.specs.WriteMeans.{Puts}
 use Rattle.text.proofs.WriteLaws.{puts-none, puts-one, puts-then}
 use Rattle.sheet.specs.Sheet.{Forest, decode}
 use Rattle.sheet.specs.Opening.{decoded, opening}
-use Rattle.records.specs.Record.{recordIn}
+use Rattle.records.specs.Means.{recordIn}
 use Rattle.opening.specs.declared.Opening.the-variants.{Open, Shut}
 use Rattle.opening.specs.Means.{textAnswer}
 use Rattle.opening.proofs.OpenLaws.{first-shut, text-open, the-refusal}

@@ -4,7 +4,7 @@ ghost use mathlib.Core.Path.{_≡_};
 ghost use Prim.Native.Nat.{_+_, _*_, _%_, _≤_, _<_};
 ghost use lib.Dec.{leb};
 ghost use lib.ListN.{length};
-ghost use Rattle.text.specs.Write.{Puts};
+ghost use Rattle.text.specs.WriteMeans.{Puts};
 ghost use Rattle.lining.specs.Line.{digit, hex, total, checkByte, line};
 ghost use Rattle.error.specs.Answer.{lineValues};
 ghost use Rattle.lining.specs.Lining.{placed, lining};

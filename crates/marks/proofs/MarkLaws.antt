@@ -12,15 +12,15 @@ use Rattle.token.specs.declared.Number.{Number}
 use Rattle.ast.specs.Tree.{label, at}
 use Rattle.ast.specs.declared.Span.{Span}
 use Rattle.sheet.specs.Sheet.{word, flag, spanForm}
-use Rattle.encode.specs.Of.{spanOf}
-use Rattle.encode.specs.Writes.{Writes}
+use Rattle.encode.specs.Means.{spanOf}
+use Rattle.encode.specs.WriteMeans.{Writes}
 use Rattle.encode.proofs.OverLaws.{writes-then}
 use Rattle.sheet.proofs.FormLaws.{length-word, length-span}
 use Rattle.error.specs.declared.Refusal.the-variants.{Missing, Malformed}
 use Rattle.grammar.specs.Rule.{refused, text, theByte, eatByte, seesNumber, absent}
 use Rattle.grammar.specs.Values.{string}
 use Rattle.grammar.specs.Grammar.{parseLabel, atSign, turned, parseAt}
-use Rattle.cursor.specs.Word.{tallied}
+use Rattle.cursor.specs.WordMeans.{tallied}
 use Rattle.cursor.specs.Means.{run, tokens, Took, Numbers}
 use Rattle.cursor.specs.declared.Cursor.{Cursor}
 use Rattle.cursor.proofs.CursorLaws.{counted, took-number}

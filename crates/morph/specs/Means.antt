@@ -3,7 +3,7 @@ use Prim.Native.Nat.{ℕ}
 use mathlib.Core.List.{List, [], _∷_}
 use mathlib.Core.Path.{_≡_}
 use Rattle.number.specs.Number.{bits}
-use Rattle.encode.specs.Of.{Plain, PlainOptEasing, spanOf, optEasingOf}
+use Rattle.encode.specs.Means.{Plain, PlainOptEasing, spanOf, optEasingOf}
 use Rattle.grammar.specs.Rule.{Rule, refused}
 use Rattle.grammar.specs.Fields.{Fields, parseFieldList, lastNumber, lastEasing}
 use Rattle.grammar.specs.Grammar.{morphFields}

@@ -10,12 +10,12 @@ use Rattle.number.specs.Time.{Key}
 use Rattle.ast.specs.Tree.{Leaf}
 use Rattle.ast.specs.declared.OptF32.{OptF32}
 use Rattle.ast.specs.declared.OptF32.the-variants as optFloat
-use Rattle.encode.specs.Of.{optFloatOf}
+use Rattle.encode.specs.Means.{optFloatOf}
 use Rattle.error.specs.declared.Refusal.{Refusal}
 use Rattle.error.specs.declared.Refusal.the-variants.{MissingDuration}
 use Rattle.grammar.specs.Rule.{Rule, refused, give, _>>=_}
 use Rattle.grammar.specs.Fields.{Table, Fields, lastNumber, parseFieldList}
-use Rattle.cursor.specs.Word.{atOf}
+use Rattle.cursor.specs.WordMeans.{atOf}
 use Rattle.cursor.specs.Means.{run, Took}
 use Rattle.cursor.specs.declared.Cursor.{Cursor}
 use Rattle.node.specs.declared.NodeRead.{NodeRead}

@@ -10,8 +10,8 @@ use Rattle.ast.specs.Tree.{ValueExpr}
 use Rattle.ast.specs.declared.Span.{Span}
 use Rattle.codec.specs.Codec.{opt, below}
 use Rattle.sheet.specs.Sheet.{spanForm, valueForm}
-use Rattle.encode.specs.Of.{spanOf}
-use Rattle.encode.specs.Writes.{Writes}
+use Rattle.encode.specs.Means.{spanOf}
+use Rattle.encode.specs.WriteMeans.{Writes}
 use Rattle.encode.proofs.OverLaws.{writes-then}
 use Rattle.sheet.proofs.FormLaws.{length-span, length-word}
 use Rattle.encode.proofs.EnumLaws.{opt-most}

@@ -35,14 +35,14 @@ use Rattle.node.specs.declared.OptPlace.{OptPlace}
 use Rattle.node.specs.declared.OptPlace.the-variants as optPlace
 use Rattle.ast.specs.declared.EasingSpec.{EasingSpec}
 use Rattle.ast.specs.declared.LoopSpec.{LoopSpec}
-use Rattle.encode.specs.Of as of
+use Rattle.encode.specs.Means as of
 use Rattle.grammar.specs.Rule.{Rule, Next, refused, listStep, eatByte, give, _>>=_}
 use Rattle.grammar.specs.Fields as fields
 use Rattle.grammar.specs.Fields.{Table, Fields, Content, aNumber, aTruth, anEasing, aLoopMode, aDamping, aRange, aValue}
 use Rattle.grammar.specs.Fields.{last, fieldsStep, onePair, parseFieldList, pairs}
 use Rattle.grammar.specs.Values.{truth as truthRule, number, count, flag, easing as easingRule, loopMode as loopRule, value as valueRule}
 use Rattle.grammar.specs.Values.{parseValue, parseFloat, parseUint, parseEasing, parseLoopMode}
-use Rattle.cursor.specs.Word.{atOf}
+use Rattle.cursor.specs.WordMeans.{atOf}
 use Rattle.cursor.specs.Means.{Ready, run, Took}
 use Rattle.cursor.specs.declared.Cursor.{Cursor}
 use Rattle.fields.specs.Means.{FieldAt, FieldMeans, PairAt, PairMeans}

@@ -16,7 +16,7 @@ use Rattle.ast.specs.declared.OptEasing.{OptEasing}
 use Rattle.ast.specs.declared.OptLoop.{OptLoop}
 use Rattle.ast.specs.declared.OptRange.{OptRange}
 use Rattle.ast.specs.declared.OptDamping.{OptDamping}
-use Rattle.encode.specs.Of as of
+use Rattle.encode.specs.Means as of
 use Rattle.ast.specs.Tree.{ValueExpr}
 use Rattle.sheet.specs.Sheet.{valueForm}
 use Rattle.grammar.specs.Values.{parseValue}
@@ -24,7 +24,7 @@ use Rattle.grammar.specs.Rule.{Rule, refused}
 use Rattle.grammar.specs.Fields as fields
 use Rattle.grammar.specs.Fields.{Table, Fields, Content, lastNumber, lastTruth, lastEasing, lastLoopMode}
 use Rattle.grammar.specs.Fields.{lastValue, lastRange, lastDamping}
-use Rattle.cursor.specs.Word.{atOf}
+use Rattle.cursor.specs.WordMeans.{atOf}
 use Rattle.cursor.specs.Means.{Ready, run, Took}
 use Rattle.cursor.specs.declared.Cursor.{Cursor}
 use Rattle.node.specs.declared.OptPlace.{OptPlace}

@@ -17,11 +17,11 @@ use Rattle.cursor.specs.declared.Cursor.{Cursor}
 use Rattle.arrays.specs.Means.{Went}
 use Rattle.node.specs.declared.NodeRead.{NodeRead}
 use Rattle.node.specs.declared.NodeRead.the-variants as node
-use Rattle.encode.specs.Of.{spanOf}
-use Rattle.encode.specs.Writes.{Writes}
+use Rattle.encode.specs.Means.{spanOf}
+use Rattle.encode.specs.WriteMeans.{Writes}
 use Rattle.error.specs.declared.Refusal.the-variants.{MissingDuration, Missing}
 use Rattle.grammar.specs.Fields.{Table, Fields, lastNumber, parseFieldList}
-use Rattle.cursor.specs.Word.{atOf}
+use Rattle.cursor.specs.WordMeans.{atOf}
 use Rattle.grammar.specs.Values.{ident, parseValue}
 use Rattle.cursor.specs.declared.WordRead.{WordRead}
 use Rattle.cursor.specs.declared.WordRead.the-variants as words

@@ -12,7 +12,7 @@ use Rattle.text.specs.Bytes.{part}
 use Rattle.number.specs.Number.{f32}
 use Rattle.easing.specs.Names.{isEasing}
 use Rattle.ast.specs.Tree as tree
-use Rattle.ast.specs.View.{valueView, countOf, easingView, optFloatView, optRangeView, optEasingView, patternView, optPatternView}
+use Rattle.ast.specs.Means.{valueView, countOf, easingView, optFloatView, optRangeView, optEasingView, patternView, optPatternView}
 use Rattle.ast.specs.declared.ValueExpr as values
 use Rattle.ast.specs.declared.EasingSpec as easings
 use Rattle.ast.specs.declared.EasingSpec.the-variants as easing

@@ -3,7 +3,7 @@ use Prim.Native.Nat.{ℕ}
 use mathlib.Core.Option.{Option, none, some}
 use mathlib.Core.Path.{_≡_}
 use Rattle.ast.specs.Tree.{StaggerPatternSpec, stagger}
-use Rattle.ast.specs.View.{staggerView}
+use Rattle.ast.specs.Means.{staggerView}
 use Rattle.ast.specs.declared.StaggerSpec as staggers
 use Rattle.error.specs.declared.Refusal.{Refusal}
 use Rattle.checking.specs.Rules.{validateContainer}

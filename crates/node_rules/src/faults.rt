@@ -5,7 +5,7 @@ ghost use mathlib.Core.Path.{_≡_};
 ghost use Rattle.number.specs.Number.{f32};
 ghost use Rattle.text.specs.Words.{orElse};
 ghost use Rattle.ast.specs.Tree as tree;
-ghost use Rattle.ast.specs.View.{valueView, easingView, optFloatView, optRangeView, optEasingView};
+ghost use Rattle.ast.specs.Means.{valueView, easingView, optFloatView, optRangeView, optEasingView};
 ghost use Rattle.error.specs.declared.Refusal.the-variants.{UnknownEasing};
 ghost use Rattle.checking.specs.Rules.{negative, notPositive, outsideUnit, given, unknownEasing, mismatched, first};
 ghost use Rattle.node_rules.specs.Means.{faultOf, Tells};

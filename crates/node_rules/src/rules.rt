@@ -1,5 +1,5 @@
 // The rules of each kind of node, in validate.rs's order and under its names.
-ghost use Rattle.ast.specs.View.{tweenView, springView, pathView, morphView, drawView, colorView, waveformView, presetView, patternView, optPatternView};
+ghost use Rattle.ast.specs.Means.{tweenView, springView, pathView, morphView, drawView, colorView, waveformView, presetView, patternView, optPatternView};
 ghost use Rattle.colors.specs.Css.{namesOf};
 ghost use Rattle.checking.specs.Rules.{validateTween, validateSpring, validatePath, validateMorph, validateDraw, validateColor, validateWaveform, validatePresetCall, given, emptyGrid};
 ghost use Rattle.node_rules.specs.Means.{faultOf, Tells, StaggerTells};

@@ -2,4 +2,4 @@ pub mod Number
 pub mod Exact
 pub mod Time
 pub mod Rounded
-pub mod Answer
+pub mod Means

@@ -11,7 +11,7 @@ ghost use Rattle.number.specs.Number as Number;
 ghost use Rattle.number.specs.Number.{Written, bits, f32};
 ghost use Rattle.number.specs.Time.{near};
 ghost use Rattle.number.specs.Rounded.{fraction, rounded};
-ghost use Rattle.number.specs.Answer.{valueOf, Capped};
+ghost use Rattle.number.specs.Means.{valueOf, Capped};
 
 // The powers of 10 that fit 30 binary digits.
 const POWERS: [u64; 10] = [

@@ -19,7 +19,7 @@ use Rattle.error.specs.declared.CheckAnswer.the-variants as check
 use Rattle.error.specs.declared.LineAnswer.{LineAnswer}
 use Rattle.error.specs.declared.LineAnswer.the-variants as lined
 use Rattle.text.specs.Bytes.{part}
-use Rattle.text.specs.Write.{Puts}
+use Rattle.text.specs.WriteMeans.{Puts}
 use Rattle.text.proofs.WriteLaws.{puts-then}
 use Rattle.sheet.specs.Records.{allRecords}
 use Rattle.sheet.proofs.Flat.{concat}

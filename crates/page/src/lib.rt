@@ -1,5 +1,5 @@
 // What the program prints, put on a page that is lent: words and numbers, the lines of all records. For our own crates.
-ghost use Rattle.text.specs.Write.{Puts};
+ghost use Rattle.text.specs.WriteMeans.{Puts};
 ghost use Rattle.script.specs.Output.{decimalOut, accept, refusal};
 ghost use Rattle.page.specs.Means.{Lines};
 use decode::fields::take_field;

@@ -22,12 +22,12 @@ use Rattle.rules.proofs.NestLaws.{OutNests, input-nests, end-fits}
 use Rattle.number.specs.Time.{Key}
 use Rattle.ast.specs.Tree.{Nodes, width, mapTimes}
 use Rattle.sheet.specs.Sheet.{encode}
-use Rattle.encode.specs.Writes.{Writes}
+use Rattle.encode.specs.WriteMeans.{Writes}
 use Rattle.encode.proofs.OverLaws.{writes-counted}
 use Rattle.encode.proofs.ClearLaws.{written}
 use Rattle.grammar.specs.Rule.{Out, refused}
 use Rattle.grammar.specs.Grammar.{stored, animatoInput}
-use Rattle.cursor.specs.Word.{atOf, leftAt, roundedOf}
+use Rattle.cursor.specs.WordMeans.{atOf, leftAt, roundedOf}
 use Rattle.cursor.specs.Means.{nothing, leftOf, notes, run, Begins}
 use Rattle.cursor.specs.Means as cursor
 use Rattle.cursor.specs.declared.Cursor.{Cursor}

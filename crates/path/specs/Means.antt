@@ -3,7 +3,7 @@ use Prim.Native.Nat.{ℕ}
 use mathlib.Core.List.{List, [], _∷_}
 use mathlib.Core.Path.{_≡_}
 use Rattle.number.specs.Number.{bits}
-use Rattle.encode.specs.Of.{Plain, PlainOptRange, PlainOptEasing, spanOf, optBoolOf, optRangeOf, optEasingOf, optLoopOf}
+use Rattle.encode.specs.Means.{Plain, PlainOptRange, PlainOptEasing, spanOf, optBoolOf, optRangeOf, optEasingOf, optLoopOf}
 use Rattle.grammar.specs.Rule.{Rule, refused}
 use Rattle.grammar.specs.Fields.{Fields, aRange, parseFieldList, lastTruth, lastEasing, lastLoopMode, lastRange}
 use Rattle.grammar.specs.Grammar.{offset, pathFields}

@@ -14,7 +14,7 @@ use Rattle.number.specs.Number.{Written, nearest, percent, whole, bits}
 use Rattle.token.specs.Names.{isKeyword}
 use Rattle.pieces.specs.Pieces.{Piece, aWord, aName, aPlain, aNumeral, aString, aMark, aPair}
 use Rattle.pieces.specs.Pieces.{Form, wordLike, nameLike, curveNames, numeral, holds, means, plainMark, fits, allFit}
-use Rattle.pieces.specs.Fits.{Means, Fits, AllFit}
+use Rattle.pieces.specs.Means.{Means, Fits, AllFit}
 use Rattle.token.proofs.WholeLaws.{both, never}
 use Rattle.pieces.proofs.PieceLaws.{no}
 

@@ -18,7 +18,7 @@ use Rattle.digits.proofs.NumeralLaws.{whole-below}
 use Rattle.digits.proofs.FewestLaws.{fewest-numeral, fewest-reads, fewest-some}
 use Rattle.digits.proofs.PercentLaws.{percent-of, no-percent}
 use Rattle.pieces.specs.Pieces.{aNumeral}
-use Rattle.pieces.specs.Fits.{Fits, InText, Complete}
+use Rattle.pieces.specs.Means.{Fits, InText, Complete}
 
 -- ---- where digits are found, they fit
 

@@ -14,7 +14,7 @@ use Rattle.token.proofs.WholeLaws.{whole-of}
 use Rattle.token.proofs.TokenLaws.{skips}
 use Rattle.pieces.specs.Pieces.{Piece, aWord, aName, aPlain, aNumeral, aString, aMark, aPair, Form}
 use Rattle.pieces.specs.Pieces.{wordLike, spelt, spaced, joined, ahead, laid}
-use Rattle.pieces.specs.Fits.{Fits, AllFit, nestOf, fitly, Nests}
+use Rattle.pieces.specs.Means.{Fits, AllFit, nestOf, fitly, Nests}
 use Rattle.token.proofs.WholeLaws.{both, never}
 use Rattle.pieces.proofs.PieceLaws.{Clear, clear, word-lexed, string-lexed, mark-blank, mark-lexed}
 use Rattle.pieces.proofs.PieceLaws.{plain-known, plain-nests, number-lexed, digit-blank, letter-blank}

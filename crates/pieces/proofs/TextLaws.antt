@@ -18,7 +18,7 @@ use Rattle.token.specs.Token.{name, number, quoted, mark, Lexeme, bad, piece, l
 use Rattle.token.specs.Token.{Power, none, up, down, isPower}
 use Rattle.token.specs.Token.{placesOf, writtenBy, numberBy, numberAt, quotedAt, pointAt, pastFraction}
 use Rattle.pieces.specs.Pieces.{wordLike}
-use Rattle.pieces.specs.Fits.{InText}
+use Rattle.pieces.specs.Means.{InText}
 use Rattle.token.proofs.WholeLaws.{both, never}
 
 run-passes : (p : ℕ → Bool) (t : List ℕ) → all p (take (run p t) t) ≡ true

@@ -12,12 +12,12 @@ use Rattle.ast.specs.Tree.{Leaf, Container, KeyframeTime, single, holding, push
 use Rattle.sheet.specs.Sheet.{Node, Forest, nodeForm, forest, toForest, inner, sheet, encode, decode}
 use Rattle.sheet.proofs.Laws.{sheet-lawful}
 use Rattle.sheet.proofs.Laws as sheet-laws
-use Rattle.decode.specs.Reads.{Reads, got, bad, same}
-use Rattle.records.specs.Record.{recordForm, kindView}
+use Rattle.decode.specs.Means.{Reads, got, bad, same}
+use Rattle.records.specs.Means.{recordForm, kindView}
 use Rattle.records.specs.declared.Kind.{Kind}
 use Rattle.records.specs.declared.Kind.the-variants as kind
 use Rattle.records.proofs.RecordLaws.{behind, node-read, only-at}
-use Rattle.places.specs.Stands.{Stands, LeafKind}
+use Rattle.places.specs.Means.{Stands, LeafKind}
 
 pub none≢some : {A B : Type 0} {a : A} → Prim.Path (Option A) none (some a) → B
 none≢some e = let z : _≡_ {A = ℕ} 0 1 = cc in absurd (omega arith)

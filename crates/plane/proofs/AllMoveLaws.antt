@@ -10,8 +10,8 @@ use Rattle.codec.specs.Codec.{eachOut}
 use Rattle.sheet.specs.Sheet.{Node}
 use Rattle.sheet.specs.Records.{recordAs}
 use Rattle.plane.specs.Means.{Right, Copies, FourBytes}
-use Rattle.plane.specs.Carry.{Side, wide, narrow, Goal, Pair, At, ownNumbers, Coming, BeforeRecord}
-use Rattle.plane.specs.Carry.{RecordMoves, EachComing, recordsAs, Records, BeforeAll}
+use Rattle.plane.specs.CarryMeans.{Side, wide, narrow, Goal, Pair, At, ownNumbers, Coming, BeforeRecord}
+use Rattle.plane.specs.CarryMeans.{RecordMoves, EachComing, recordsAs, Records, BeforeAll}
 use Rattle.plane.proofs.MoveLaws.{four-kept}
 use Rattle.plane.proofs.GapLaws.{alike}
 use Rattle.plane.proofs.CarryLaws.{split}

@@ -20,7 +20,7 @@ use Rattle.error.specs.declared.Refusal.the-variants.{TextTooLong, NotASheet, N
 use Rattle.error.specs.declared.LineAnswer.{LineAnswer}
 use Rattle.error.specs.declared.LineAnswer.the-variants.{Accepted, Refused}
 use Rattle.planed.specs.Planing.{placed, treeOr, openedAs, answered, planing, unplaning, Plain}
-use Rattle.plane.specs.Carry.{Carries, AllMove}
+use Rattle.plane.specs.CarryMeans.{Carries, AllMove}
 use Rattle.planed.proofs.PlaningLaws.{refuses}
 
 abbrev Result : Type 0

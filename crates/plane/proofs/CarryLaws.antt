@@ -15,7 +15,7 @@ use Rattle.sheet.proofs.Flat.{concat, concat-append}
 use Rattle.planed.specs.Planes.{leafNumbers, numbersOf}
 use Rattle.plane.specs.Means.{Right, Alike, FourBytes, NumberAlike, NumberRight, Advances}
 use Rattle.plane.proofs.MoveLaws.{four-kept}
-use Rattle.plane.specs.Carry.{Gap, Side, wide, narrow, Done, ownNumbers}
+use Rattle.plane.specs.CarryMeans.{Gap, Side, wide, narrow, Done, ownNumbers}
 use Rattle.plane.proofs.GapLaws.{alike, number-alike}
 
 -- ---- a step

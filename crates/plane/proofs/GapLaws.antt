@@ -8,7 +8,7 @@ use lib.Seq.{getD-drop, drop-drop, drop-append-seam}
 use Rattle.codec.specs.Codec.{big, below, eachOut}
 use Rattle.planed.specs.Planes.{highs, lows, planesForm}
 use Rattle.plane.specs.Means.{Alike, FourBytes}
-use Rattle.plane.specs.Carry.{Gap}
+use Rattle.plane.specs.CarryMeans.{Gap}
 
 -- ---- lists
 

@@ -17,8 +17,8 @@ use Rattle.planed.proofs.PlanedLaws.{length-planed, unplaned-is}
 use Rattle.planed.proofs.PlaneLaws.{planes-long}
 use Rattle.planed.proofs.TakenLaws.{sheet-long}
 use Rattle.plane.specs.Means.{FourBytes}
-use Rattle.plane.specs.Carry.{Gap, Side, wide, narrow, Goal, Past, Done, InPlanes, ownNumbers, recordsAs}
-use Rattle.plane.specs.Carry.{EachComing, BeforeAll, Carries}
+use Rattle.plane.specs.CarryMeans.{Gap, Side, wide, narrow, Goal, Past, Done, InPlanes, ownNumbers, recordsAs}
+use Rattle.plane.specs.CarryMeans.{EachComing, BeforeAll, Carries}
 use Rattle.plane.proofs.GapLaws.{getD-left, getD-right, number-planes}
 use Rattle.plane.proofs.CarryLaws.{flat-numbers}
 use Rattle.plane.proofs.RecordMoveLaws.{all-coming}

@@ -2,7 +2,7 @@
 ghost use mathlib.Core.Path.{_≡_};
 ghost use Rattle.error.specs.Answer.{lineValues};
 ghost use Rattle.planed.specs.Planing.{planing, unplaning};
-ghost use Rattle.plane.specs.Carry.{Carries, Carried};
+ghost use Rattle.plane.specs.CarryMeans.{Carries, Carried};
 use crate::moves::move_all;
 use error::LineAnswer;
 use error::Refusal;

@@ -5,7 +5,7 @@ ghost use Prim.Native.Nat.{_+_, _*_, _≤_, _<_};
 ghost use lib.ListN.{length};
 ghost use Rattle.plane.specs.Means.{Copies, Puts, Advances};
 ghost use mathlib.Core.Bool.{true};
-ghost use Rattle.plane.specs.Carry.{FrameMoves, BeforeFrames, FramesMove, BeforeTrack, TrackMoves, BeforeRecord, RecordMoves, BeforeAll, AllMove};
+ghost use Rattle.plane.specs.CarryMeans.{FrameMoves, BeforeFrames, FramesMove, BeforeTrack, TrackMoves, BeforeRecord, RecordMoves, BeforeAll, AllMove};
 use decode::fields::take_field;
 use decode::optional::take_opt_loop;
 use records::take_record;

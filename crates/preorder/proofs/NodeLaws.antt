@@ -10,24 +10,24 @@ use Rattle.codec.specs.Codec.{Form, Reader, _▹_, andThen, below, big, opt}
 use Rattle.ast.specs.Tree as tree
 use Rattle.ast.specs.Tree.{Nodes, Leaf, Container, KeyframeTime, single, holding, push, width}
 use Rattle.sheet.specs.Sheet.{Node, Forest, word, startForm, patternForm, forest, inner}
-use Rattle.decode.specs.Reads.{Reads, same, KindAndStart}
+use Rattle.decode.specs.Means.{Reads, same, KindAndStart}
 use Rattle.decode.proofs.ReadLaws.{_&_, seen}
-use Rattle.records.specs.Record.{blank, countForm}
+use Rattle.records.specs.Means.{blank, countForm}
 use Rattle.records.specs.declared.Kind.{Kind}
 use Rattle.records.specs.declared.Kind.the-variants as kind
 use Rattle.records.proofs.RecordLaws.{Makes, made, after, counts, width-blank, of-kind}
-use Rattle.places.specs.Stands.{Stands, ContainerKind}
+use Rattle.places.specs.Means.{Stands, ContainerKind}
 use Rattle.places.proofs.StandLaws.{Opened, plain, boxed, front}
 use Rattle.pieces.specs.Pieces.{Piece}
 use Rattle.fresh.specs.Fresh.{Writer, spell, mark, wordAt, leafWord, boxWord, boxBody, pieces}
 use Rattle.grammar.specs.Grammar.{modeNames}
 use Rattle.fresh.specs.Fresh as fresh
-use Rattle.spelling.specs.Spelling.{Page, put, run}
-use Rattle.copying.specs.Copies.{Written, Copies}
+use Rattle.spelling.specs.Means.{Page, put, run}
+use Rattle.copying.specs.Means.{Written, Copies}
 use Rattle.copying.proofs.CopyLaws.{one-piece, _and_, called, in-front}
 use Rattle.fresh.specs.Meaning.{leafSense, sense}
-use Rattle.bodies.specs.Body.{stored, body}
-use Rattle.preorder.specs.Copy.{recordPage, RecordTold, Begun, Placed, NodePut}
+use Rattle.bodies.specs.Means.{stored, body}
+use Rattle.preorder.specs.Means.{recordPage, RecordTold, Begun, Placed, NodePut}
 
 -- a record's pages, and its kind
 abbrev Seen : Type 0

@@ -1,8 +1,8 @@
 // Nodes in preorder, each written behind the one before.
 ghost use mathlib.Core.Path.{_≡_};
-ghost use Rattle.places.specs.Stands.{LeafKind, ContainerKind};
-ghost use Rattle.spelling.specs.Spelling.{pageOf};
-ghost use Rattle.preorder.specs.Copy.{leafOf, FieldsTold, Begun, HeadTold, RecordTold, NodePut, NodesPut};
+ghost use Rattle.places.specs.Means.{LeafKind, ContainerKind};
+ghost use Rattle.spelling.specs.Means.{pageOf};
+ghost use Rattle.preorder.specs.Means.{leafOf, FieldsTold, Begun, HeadTold, RecordTold, NodePut, NodesPut};
 use bodies::leaves::copy_at;
 use bodies::leaves::copy_color;
 use bodies::leaves::copy_draw;

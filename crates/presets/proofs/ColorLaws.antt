@@ -11,7 +11,7 @@ use lib.Seq.{take-all}
 use borrow.Author.Tests.{eq-eqb, ne-eqb}
 use Rattle.text.specs.Bytes.{isHex, lowered, run, at, part}
 use Rattle.text.specs.Words.{isSome, words, find}
-use Rattle.words.specs.Lists.{listOf}
+use Rattle.words.specs.ListMeans.{listOf}
 use Rattle.words.proofs.ListLaws.{list-clip}
 use Rattle.presets.specs.Colors.{colors, hexSize, isHexColor, isColorOf}
 

@@ -1,7 +1,7 @@
 // presets.rs: the presets and the named colours; validate.rs's is_valid_color.
 ghost use mathlib.Core.Path.{_≡_};
 ghost use Rattle.text.specs.Bytes.{part};
-ghost use Rattle.words.specs.Lists.{listOf};
+ghost use Rattle.words.specs.ListMeans.{listOf};
 ghost use Rattle.presets.specs.Presets.{isPreset};
 ghost use Rattle.presets.specs.Colors.{colors, hexSize, isHexColor, isColorOf, isColor};
 

@@ -15,7 +15,7 @@ use Rattle.token.specs.Split as tokenized
 use Rattle.token.proofs.WholeLaws.{Fits, whole-of}
 use Rattle.token.proofs.StreamLaws.{split-reads}
 use Rattle.grammar.specs.Rule.{seesByte}
-use Rattle.cursor.specs.Word.{atOf}
+use Rattle.cursor.specs.WordMeans.{atOf}
 use Rattle.cursor.specs.Means.{Ready, tokens, Follows}
 use Rattle.cursor.specs.declared.Cursor.{Cursor}
 use Rattle.cursor.proofs.CursorLaws.{head-moves}

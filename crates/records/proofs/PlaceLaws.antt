@@ -15,8 +15,8 @@ use Rattle.sheet.specs.Sheet.{word, patternForm, Node, Forest, kinds, splitNode
 use Rattle.sheet.specs.Records.{counted, recordOf, recordsOf, nodesOf, allRecords, kindOf, entriesOf}
 use Rattle.sheet.proofs.Laws.{nodeL, innerL, OkNodes, Fits, decoded}
 use Rattle.sheet.proofs.Flat.{concat, leaf-same, leaf-ok, inside, records-are, sheet-flat}
-use Rattle.decode.specs.Reads.{Reads, got, bad, same}
-use Rattle.records.specs.Record.{blank, countForm, recordForm, recordView}
+use Rattle.decode.specs.Means.{Reads, got, bad, same}
+use Rattle.records.specs.Means.{blank, countForm, recordForm, recordView}
 use Rattle.records.specs.declared.Kind.{Kind}
 use Rattle.records.proofs.RecordLaws.{width-blank, countL, recordL}
 

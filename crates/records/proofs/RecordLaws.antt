@@ -6,7 +6,7 @@ use mathlib.Core.Logic.{_⊎_, inl, inr, ⊎-elim}
 use mathlib.Core.Path.{_≡_, refl, sym, _∙_, ap, subst⁻¹}
 use native.Mathlib.Omega.{arith}
 use lib.ListN.{length, drop, length-append, length-drop}
-use Rattle.decode.specs.Reads.{Reads, got, bad, KindAndStart}
+use Rattle.decode.specs.Means.{Reads, got, bad, KindAndStart}
 use Rattle.decode.proofs.ReadLaws.{le-or-lt, formAt, chosen}
 use Rattle.codec.specs.Codec.{Form, Reader, andThen, _▹_, below, big, opt, Case, FieldsAt, writeAt, readAt}
 use Rattle.codec.proofs.Laws.{Law, Small, makeAt, via-lawful, big-lawful}
@@ -15,7 +15,7 @@ use Rattle.ast.specs.Tree as tree
 use Rattle.ast.specs.Tree.{Leaf, Container, KeyframeTime, single, holding, width}
 use Rattle.sheet.specs.Sheet.{word, startForm, spanForm, patternForm, tweenForm, springForm, keyframesForm, pathForm, morphForm}
 use Rattle.sheet.specs.Sheet.{drawForm, colorForm, waveformForm, presetForm, atForm, Node, Forest, nodeForm, kinds, splitNode}
-use Rattle.records.specs.Record.{blank, countForm, recordForm, recordView}
+use Rattle.records.specs.Means.{blank, countForm, recordForm, recordView}
 use Rattle.records.specs.declared.Kind.{Kind}
 
 pub width-blank : (c : ℕ) → width (blank c) ≡ c

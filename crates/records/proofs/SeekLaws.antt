@@ -17,8 +17,8 @@ use Rattle.sheet.specs.Sheet.{Node, Forest, decode}
 use Rattle.sheet.specs.Records.{recordsOf, nodesOf, allRecords}
 use Rattle.sheet.proofs.Laws.{Fits, decoded}
 use Rattle.sheet.proofs.Flat.{concat, records-are, sheet-flat}
-use Rattle.decode.specs.Reads.{Lost, Reads, same}
-use Rattle.records.specs.Record.{recordForm, recordIn, begins, Seeks, pass, WalksAll}
+use Rattle.decode.specs.Means.{Lost, Reads, same}
+use Rattle.records.specs.Means.{recordForm, recordIn, begins, Seeks, pass, WalksAll}
 use Rattle.records.proofs.PlaceLaws.{Alone, Stands, all-alone, alone-records, drop-next, first, next, no-more, this-one}
 use Rattle.records.proofs.WalkLaws.{too-long}
 

@@ -14,10 +14,10 @@ use Rattle.text.specs.Words.{isSome}
 use Rattle.codec.specs.Codec.{Form, Reader, andThen, big}
 use Rattle.ast.specs.Tree.{Nodes, single, holding, push, width}
 use Rattle.sheet.specs.Sheet.{Node, Forest, nodeForm, forest, toForest, ofForest, inner, sheet, whole, decode}
-use Rattle.decode.specs.Reads.{Lost, Reads, got, bad, same, passed}
+use Rattle.decode.specs.Means.{Lost, Reads, got, bad, same, passed}
 use Rattle.decode.proofs.ReadLaws as laws
 use Rattle.decode.proofs.ReadLaws.{_&_}
-use Rattle.records.specs.Record.{recordForm, recordView}
+use Rattle.records.specs.Means.{recordForm, recordView}
 use Rattle.records.specs.declared.Kind.{Kind}
 use Rattle.records.specs.declared.Kind.the-variants.{Leaf, Container}
 use Rattle.records.proofs.RecordLaws.{behind, node-read}

@@ -2,8 +2,8 @@
 ghost use mathlib.Core.Path.{_≡_};
 ghost use Rattle.text.specs.Words.{isSome};
 ghost use Rattle.sheet.specs.Sheet.{nodeForm, forest, inner, decode};
-ghost use Rattle.decode.specs.Reads.{Reads};
-ghost use Rattle.records.specs.Record.{recordForm, recordView, recordIn, bytesAt, pass, Walks, WalksAll};
+ghost use Rattle.decode.specs.Means.{Reads};
+ghost use Rattle.records.specs.Means.{recordForm, recordView, recordIn, bytesAt, pass, Walks, WalksAll};
 use decode::fields::lost;
 use decode::fields::take_field;
 use decode::fields::take_kind;

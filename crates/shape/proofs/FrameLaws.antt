@@ -8,7 +8,7 @@ use native.Mathlib.Omega.{arith}
 use lib.ListN.{length, length-append}
 use Rattle.codec.specs.Codec.{below, big, each}
 use Rattle.ast.specs.Tree.{ValueExpr, scalar, array, KeyframeTime, KeyframeEntry}
-use Rattle.decode.specs.Reads.{Reads, Number, passed}
+use Rattle.decode.specs.Means.{Reads, Number, passed}
 use Rattle.decode.proofs.ReadLaws as laws
 use Rattle.sheet.specs.Sheet.{timesOf, splitTimeOf, timeFormOf, entryFormOf}
 use Rattle.planed.specs.Planes.{entryNumbers, valueNumbers, frameNumbers}

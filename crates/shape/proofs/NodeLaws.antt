@@ -11,10 +11,10 @@ use Rattle.codec.proofs.Laws.{below-lawful}
 use Rattle.ast.specs.Tree as tree
 use Rattle.ast.specs.Tree.{KeyframeSpec, KeyframeTime, Nodes, single, holding, push, width}
 use Rattle.sheet.specs.Sheet.{startForm, Node, Forest, nodeForm, splitNode, toForest, ofForest}
-use Rattle.decode.specs.Reads.{Lost, Reads, got, bad, Number, KindAndStart, same}
+use Rattle.decode.specs.Means.{Lost, Reads, got, bad, Number, KindAndStart, same}
 use Rattle.decode.proofs.ReadLaws as laws
 use Rattle.decode.proofs.ReadLaws.{_&_, chosen}
-use Rattle.records.specs.Record.{blank, countForm, recordForm, recordView}
+use Rattle.records.specs.Means.{blank, countForm, recordForm, recordView}
 use Rattle.records.specs.declared.Kind.{Kind}
 use Rattle.records.specs.declared.Kind.the-variants as kind
 use Rattle.records.proofs.RecordLaws.{behind, node-read, countL, recordL}

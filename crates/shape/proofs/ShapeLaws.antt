@@ -11,7 +11,7 @@ use lib.Seq.{getD-drop}
 use Rattle.codec.proofs.Laws.{All}
 use Rattle.sheet.specs.Sheet.{Forest, sheet, encode, decode, whole}
 use Rattle.sheet.proofs.Laws.{Fits, sheet-lawful, decoded, decodes}
-use Rattle.decode.specs.Reads.{Reads, got, bad}
+use Rattle.decode.specs.Means.{Reads, got, bad}
 use Rattle.sheet.specs.Sheet.{sheetOf}
 use Rattle.planed.specs.Planes.{numbersOf, count, filled, planesForm, planedForm, planed, unplaned}
 use Rattle.sheet.proofs.Laws.{innerLOf}

@@ -8,7 +8,7 @@ use lib.ListN.{length}
 use Rattle.codec.specs.Codec.{Form}
 use Rattle.ast.specs.Tree.{ValueExpr, scalar, array, KeyframeTime, KeyframeEntry, single, holding}
 use Rattle.sheet.specs.Sheet.{Node, Forest}
-use Rattle.records.specs.Record.{countForm, kindView}
+use Rattle.records.specs.Means.{countForm, kindView}
 use Rattle.records.specs.declared.Kind.{Kind}
 use Rattle.sheet.specs.Sheet.{nodeFormOf, sheetOf}
 use Rattle.planed.specs.Planes.{frameNumbers, leafNumbers, numbersOf}

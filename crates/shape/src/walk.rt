@@ -5,7 +5,7 @@ ghost use mathlib.Core.Path.{_≡_};
 ghost use Prim.Native.Nat.{_≤_, _+_};
 ghost use mathlib.Core.Bool.{cond};
 ghost use Rattle.codec.specs.Codec.{each};
-ghost use Rattle.decode.specs.Reads.{Reads};
+ghost use Rattle.decode.specs.Means.{Reads};
 ghost use Rattle.sheet.specs.Sheet.{valueFormOf, entryFormOf, nodeFormOf, forestOf, innerOf, sheetOf};
 ghost use Rattle.shape.specs.Means.{isScalar, scalarFrame, frameTally, nodeTally, tally, recordFormOf, nodeView};
 use decode::fields::lost;

@@ -11,7 +11,7 @@ use Rattle.digits.proofs.DigitLaws.{tenth-below}
 use native.Mathlib.Omega.{arith}
 use Rattle.digits.specs.Numeral.{float, percentage, counted, all, fraction}
 use Rattle.digits.specs.Fewest.{form, spelled, trimmed, fewest, leastPercent, wholeDigits, lastDigits}
-use Rattle.digits.specs.Answer.{wholeNumber, numberOf, Neat, decimalOf, wholeOf}
+use Rattle.digits.specs.AnswerMeans.{wholeNumber, numberOf, Neat, decimalOf, wholeOf}
 use Rattle.digits.specs.declared.Decimal.{Decimal}
 use Rattle.digits.proofs.NumeralLaws.{trim-same, same-low, same-whole, whole-limit}
 use Rattle.digits.proofs.FewestLaws.{fewest-of}
@@ -19,7 +19,7 @@ use Rattle.digits.proofs.PercentLaws.{percent-of}
 use Rattle.pieces.specs.Pieces.{aNumeral, spelt, fits}
 use Rattle.pieces.proofs.FitLaws.{is-fits}
 use Rattle.pieces.proofs.FormLaws.{float-fits, percent-fits, counted-fits}
-use Rattle.spelling.specs.Spelling.{Page, spoil, putOn, put, pageOf, Spellable, Below, Large, putNumber}
+use Rattle.spelling.specs.Means.{Page, spoil, putOn, put, pageOf, Spellable, Below, Large, putNumber}
 use Rattle.spelling.specs.declared.Pen.{Pen}
 use Rattle.spelling.proofs.PageLaws.{size-of, put-both}
 

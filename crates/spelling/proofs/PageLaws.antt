@@ -17,7 +17,7 @@ use Rattle.digits.specs.Numeral.{all, fraction}
 use Rattle.digits.specs.Fewest.{form, wholeDigits, lastDigits}
 use Rattle.pieces.specs.Pieces.{Piece, spelt, fits, wordLike, nameLike}
 use Rattle.token.specs.Names.{isKeyword}
-use Rattle.spelling.specs.Spelling.{Page, spoiled, full, page, size, spoil, most, putOn, put, run, pageOf}
+use Rattle.spelling.specs.Means.{Page, spoiled, full, page, size, spoil, most, putOn, put, run, pageOf}
 use Rattle.spelling.specs.declared.Pen.{Pen}
 
 abbrev pen : ℕ → Bool → Pen

@@ -13,8 +13,8 @@ ghost use Rattle.text.specs.Words.{isOneOf};
 ghost use Rattle.digits.specs.Numeral.{float, percentage, counted, all, fraction};
 ghost use Rattle.digits.specs.Fewest.{wholeDigits, lastDigits};
 ghost use Rattle.pieces.specs.Pieces.{aWord, aName, aPlain, aString, aMark, aPair, aNumeral, wordLike, nameLike, curveNames, knownMark, plainMark};
-ghost use Rattle.spelling.specs.Spelling.{most, spoil, putOn, pageOf, Puts, Spellable, Below, Large, putNumber};
-ghost use Rattle.digits.specs.Answer.{wholeNumber, numberOf, Neat};
+ghost use Rattle.spelling.specs.Means.{most, spoil, putOn, pageOf, Puts, Spellable, Below, Large, putNumber};
+ghost use Rattle.digits.specs.AnswerMeans.{wholeNumber, numberOf, Neat};
 use digits::Decimal;
 use text::Class;
 

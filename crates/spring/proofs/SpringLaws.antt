@@ -10,8 +10,8 @@ use Rattle.number.specs.Time.{Key}
 use Rattle.codec.specs.Codec.{opt, below}
 use Rattle.ast.specs.Tree.{Leaf, ValueExpr}
 use Rattle.sheet.specs.Sheet.{word, spanForm, valueForm, dampingForm}
-use Rattle.encode.specs.Of.{optFloatOf, optCaseOf, optDampingOf}
-use Rattle.encode.specs.Writes.{Writes}
+use Rattle.encode.specs.Means.{optFloatOf, optCaseOf, optDampingOf}
+use Rattle.encode.specs.WriteMeans.{Writes}
 use Rattle.encode.proofs.OverLaws.{writes-then}
 use Rattle.encode.proofs.EnumLaws.{opt-most, damping-most}
 use Rattle.error.specs.declared.Refusal.{Refusal}
@@ -19,7 +19,7 @@ use Rattle.grammar.specs.Rule.{Rule, refused, after, give, _>>=_}
 use Rattle.grammar.specs.Fields.{Fields, lastNumber, lastValue, lastDamping, parseFieldList}
 use Rattle.grammar.specs.Values.{parseValue}
 use Rattle.grammar.specs.Grammar.{parseSpring, springFields}
-use Rattle.cursor.specs.Word.{atOf}
+use Rattle.cursor.specs.WordMeans.{atOf}
 use Rattle.cursor.specs.Means.{run}
 use Rattle.cursor.specs.declared.Cursor.{Cursor}
 use Rattle.node.specs.CellMeans.{PlaceSays, ListTook}

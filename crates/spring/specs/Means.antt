@@ -9,7 +9,7 @@ use Rattle.grammar.specs.Rule.{refused}
 use Rattle.grammar.specs.Fields.{parseFieldList}
 use Rattle.grammar.specs.Values.{parseValue}
 use Rattle.grammar.specs.Grammar.{springFields}
-use Rattle.cursor.specs.Word.{atOf}
+use Rattle.cursor.specs.WordMeans.{atOf}
 use Rattle.cursor.specs.Means.{run, Took}
 use Rattle.cursor.specs.declared.Cursor.{Cursor}
 use Rattle.node.specs.CellMeans.{Cell, float, case, damping, place, StepTook, StepRefused, ListTook, PlaceSays}
@@ -21,8 +21,8 @@ use Rattle.spring.specs.declared.PastRead.the-variants as past
 use mathlib.Core.Option.{Option}
 use Rattle.text.specs.Limits.{textLimit}
 use Rattle.codec.specs.Codec.{opt, below}
-use Rattle.encode.specs.Of.{PlainOptFloat, PlainOptDamping, optFloatOf, optCaseOf, optDampingOf}
-use Rattle.encode.specs.Writes.{Writes}
+use Rattle.encode.specs.Means.{PlainOptFloat, PlainOptDamping, optFloatOf, optCaseOf, optDampingOf}
+use Rattle.encode.specs.WriteMeans.{Writes}
 use Rattle.node.specs.declared.OptPlace.{OptPlace}
 
 -- a number or an array is passed, and its text pays for its bytes

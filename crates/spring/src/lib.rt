@@ -8,7 +8,7 @@ ghost use lib.ListN.{length};
 ghost use Rattle.text.specs.Limits.{textLimit};
 ghost use Rattle.ast.specs.Tree.{ValueExpr};
 ghost use Rattle.grammar.specs.Grammar.{parseSpring};
-ghost use Rattle.encode.specs.Writes.{Writes};
+ghost use Rattle.encode.specs.WriteMeans.{Writes};
 ghost use Rattle.arrays.specs.Means.{Room, Wide};
 ghost use Rattle.node.specs.Means.{LeafMeans};
 ghost use Rattle.node.specs.CellMeans.{PlaceSays};

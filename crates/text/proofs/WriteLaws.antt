@@ -9,7 +9,7 @@ use lib.Dec.{leb}
 use lib.ListN.{length, set, take, drop, length-append, length-set, length-take}
 use lib.Seq.{sets, set-out, length-sets, sets-eq, take-append-seam, take-nil}
 use borrow.Author.Tests.{leb-true, leb-false}
-use Rattle.text.specs.Write.{Puts}
+use Rattle.text.specs.WriteMeans.{Puts}
 
 -- from the end on nothing is written
 pub sets-out : (l : List ℕ) (i : ℕ) (bs : List ℕ) → length l ≤ i → sets l i bs ≡ l

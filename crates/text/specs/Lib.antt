@@ -2,4 +2,4 @@ pub mod Limits
 pub mod Bytes
 pub mod Words
 pub mod Means
-pub mod Write
+pub mod WriteMeans

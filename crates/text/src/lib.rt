@@ -6,7 +6,7 @@ ghost use lib.ListN.{drop};
 ghost use Rattle.text.specs.Bytes.{within, oneOf, isUpper, isLetter, isName, isBlank, isInside, isHex, isForeign, same, run, at, part, lower, lowered};
 ghost use Rattle.text.specs.Words.{find, table, isSome};
 ghost use Rattle.text.specs.Means.{passes, placeOf};
-ghost use Rattle.text.specs.Write.{Puts};
+ghost use Rattle.text.specs.WriteMeans.{Puts};
 
 // The bytes that a text may have.
 pub const TEXT_LIMIT: usize = 16384;

@@ -9,7 +9,7 @@ use Rattle.text.specs.Limits.{textLimit, wholeLimit, placesLimit}
 use Rattle.text.specs.Bytes.{run, part, decimal, isDigit, isLetter}
 use Rattle.text.specs.Words.{words}
 use Rattle.number.specs.Number.{Written}
-use Rattle.number.specs.Answer.{Capped}
+use Rattle.number.specs.Means.{Capped}
 use Rattle.token.specs.Token.{Kind, name, number, quoted, mark, Token, token, Lexeme, bad, piece, writtenAt, placesAt}
 use Rattle.token.specs.Token.{tokensFrom, place, kind, isMark, rest}
 use Rattle.error.specs.declared.Refusal.the-variants.{TooManyOpen, ScratchTooShort}

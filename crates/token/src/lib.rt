@@ -8,7 +8,7 @@ ghost use mathlib.Core.List.{List};
 ghost use Prim.Native.Nat.{ℕ, _+_, _*_, _-_, _^_, _≤_, _<_};
 ghost use lib.ListN.{length, take, drop, replicate};
 ghost use Rattle.number.specs.Number.{nearest, percent};
-ghost use Rattle.number.specs.Answer.{Capped};
+ghost use Rattle.number.specs.Means.{Capped};
 ghost use Rattle.limbs.specs.Means.{Nearest};
 ghost use Rattle.number.specs.Rounded.{fraction, rounded, numberRounded};
 ghost use Rattle.text.specs.Limits.{textLimit};

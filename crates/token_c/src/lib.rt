@@ -1,7 +1,7 @@
 // token's pass and its keyword test for C and Rust to link: what bench/token measures.
 ghost use mathlib.Core.Path.{_≡_};
 ghost use Rattle.token.specs.Names.{isKeyword};
-ghost use Rattle.token_c.specs.Answer.{limited, Answers};
+ghost use Rattle.token_c.specs.Means.{limited, Answers};
 use error::Refusal;
 use token::SplitAnswer;
 

@@ -11,8 +11,8 @@ use Rattle.codec.specs.Codec.{opt}
 use Rattle.ast.specs.Tree.{Leaf}
 use Rattle.ast.specs.declared.OptF32.the-variants as optFloat
 use Rattle.sheet.specs.Sheet.{word, flag, spanForm, valueForm, easingForm, loopForm}
-use Rattle.encode.specs.Of.{PlainOptFloat, optFloatOf, optWordOf, optEasingOf, optLoopOf}
-use Rattle.encode.specs.Writes.{Writes}
+use Rattle.encode.specs.Means.{PlainOptFloat, optFloatOf, optWordOf, optEasingOf, optLoopOf}
+use Rattle.encode.specs.WriteMeans.{Writes}
 use Rattle.sheet.proofs.FormLaws.{length-word}
 use Rattle.encode.proofs.EnumLaws.{opt-most, easing-most, loop-most}
 use Rattle.error.specs.declared.Refusal.{Refusal}
@@ -20,7 +20,7 @@ use Rattle.error.specs.declared.Refusal.the-variants.{MissingDuration}
 use Rattle.grammar.specs.Rule.{Rule, refused, after, give, need, _>>=_}
 use Rattle.grammar.specs.Fields.{Fields, lastNumber, lastEasing, lastLoopMode, ever, parseFieldList}
 use Rattle.grammar.specs.Grammar.{parseTween, tweenFields}
-use Rattle.cursor.specs.Word.{atOf}
+use Rattle.cursor.specs.WordMeans.{atOf}
 use Rattle.cursor.specs.Means.{run}
 use Rattle.cursor.specs.declared.Cursor.{Cursor}
 use Rattle.node.specs.CellMeans.{ListTook}

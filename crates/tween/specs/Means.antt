@@ -15,7 +15,7 @@ use lib.Ieee.{Float}
 use Rattle.number.specs.Number.{bits}
 use Rattle.codec.specs.Codec.{opt}
 use Rattle.sheet.specs.Sheet.{word, flag, easingForm, loopForm}
-use Rattle.encode.specs.Of.{Plain, PlainOptFloat, PlainOptEasing, optFloatOf, optWordOf, optEasingOf, optLoopOf}
+use Rattle.encode.specs.Means.{Plain, PlainOptFloat, PlainOptEasing, optFloatOf, optWordOf, optEasingOf, optLoopOf}
 
 abbrev pub tweenCells : TweenFields → List Cell
 tweenCells f =

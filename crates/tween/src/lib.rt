@@ -6,7 +6,7 @@ ghost use Rattle.cursor.specs.Means.{Ready};
 ghost use Rattle.tween.specs.Means.{TweenStepMeans, TweenListMeans, PlainTween, tweenBytes};
 ghost use Prim.Native.Nat.{ℕ, _+_, _<_, _^_};
 ghost use Rattle.grammar.specs.Grammar.{parseTween};
-ghost use Rattle.encode.specs.Writes.{Writes};
+ghost use Rattle.encode.specs.WriteMeans.{Writes};
 ghost use Rattle.arrays.specs.Means.{Room};
 ghost use Rattle.node.specs.Means.{LeafMeans};
 use arrays::ValueRead;

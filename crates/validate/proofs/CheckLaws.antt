@@ -14,7 +14,7 @@ use Rattle.text.specs.Words.{isSome}
 use Rattle.codec.specs.Codec.{big}
 use Rattle.sheet.specs.Sheet.{Forest, forest, inner, decode}
 use Rattle.sheet.specs.Opening.{shut, foreignFrom, unlessForeign, decoded}
-use Rattle.decode.specs.Reads.{Reads, got, bad, same, passed}
+use Rattle.decode.specs.Means.{Reads, got, bad, same, passed}
 use Rattle.opening.specs.Means.{answerOf, earlier, foreignAnswer, textAnswer, bytesAnswer}
 use Rattle.opening.specs.declared.Opening.{Opening}
 use Rattle.opening.specs.declared.Opening.the-variants.{Open, Shut}
@@ -28,10 +28,10 @@ use Rattle.opening.proofs.OpenLaws.{Tree, text-first, the-tree, the-refusal}
 use Rattle.checking.specs.Rules.{validateNodes}
 use Rattle.checking.specs.Checking.{answerOf as verdictOf, judged, verdict, isList, unlessUnknown, openingUnder, checking}
 use Rattle.checking.proofs.ListLaws.{known}
-use Rattle.places.specs.Stands.{Stands}
+use Rattle.places.specs.Means.{Stands}
 use Rattle.places.proofs.StandLaws.{none≢some, head}
 use Rattle.validate.specs.Means.{InLimit, listAnswer}
-use Rattle.validate.specs.Walks.{nodesView}
+use Rattle.validate.specs.WalkMeans.{nodesView}
 
 -- ---- the list
 

@@ -16,10 +16,10 @@ use Rattle.number.specs.Time.{near, anyNear}
 use Rattle.codec.specs.Codec.{Form, andThen, each, eachIn, eachOut, opt}
 use Rattle.ast.specs.Tree.{ValueExpr, scalar, array, EasingSpec}
 use Rattle.ast.specs.Tree.{KeyframeSpec, KeyframeTime, percent, seconds, LoopSpec}
-use Rattle.ast.specs.View.{timeView, entryView}
+use Rattle.ast.specs.Means.{timeView, entryView}
 use Rattle.ast.specs.declared.KeyframeEntry as entries
 use Rattle.sheet.specs.Sheet.{timeForm, valueForm, easingForm, entryForm, keyframesForm, toKeyframes, ofKeyframes, loopForm}
-use Rattle.decode.specs.Reads.{Lost, Reads, got, bad}
+use Rattle.decode.specs.Means.{Lost, Reads, got, bad}
 use Rattle.error.specs.declared.Refusal.{Refusal}
 use Rattle.error.specs.declared.Refusal.the-variants.{UnknownEasing, DuplicateTime, TooFewFrames}
 use Rattle.codec.proofs.Laws.{inverse, each-lawful}

@@ -9,12 +9,12 @@ use lib.ListN.{length}
 use Rattle.codec.specs.Codec.{_▹_, below, big, opt}
 use Rattle.ast.specs.Tree as tree
 use Rattle.ast.specs.Tree.{Leaf, KeyframeTime, single, holding, width}
-use Rattle.ast.specs.View.{groupView, staggerView}
+use Rattle.ast.specs.Means.{groupView, staggerView}
 use Rattle.ast.specs.declared.GroupSpec as groups
 use Rattle.ast.specs.declared.StaggerSpec as staggers
 use Rattle.sheet.specs.Sheet.{word, patternForm, keyframesForm}
-use Rattle.decode.specs.Reads.{Reads, same, KindAndStart}
-use Rattle.records.specs.Record.{blank, countForm, recordForm}
+use Rattle.decode.specs.Means.{Reads, same, KindAndStart}
+use Rattle.records.specs.Means.{blank, countForm, recordForm}
 use Rattle.records.specs.declared.Kind.{Kind}
 use Rattle.records.specs.declared.Kind.the-variants as kind
 use Rattle.colors.specs.Css.{namesOf}
@@ -22,9 +22,9 @@ use Rattle.error.specs.declared.Refusal.{Refusal}
 use Rattle.decode.proofs.ReadLaws.{_&_}
 use Rattle.records.proofs.RecordLaws.{made, after, counts, width-blank, of-kind, three-or-four}
 use Rattle.checking.specs.Rules.{validateKeyframes, validateLeaf, validateContainer}
-use Rattle.places.specs.Stands.{ContainerKind}
+use Rattle.places.specs.Means.{ContainerKind}
 use Rattle.node_rules.specs.Means.{faultOf, StaggerTells}
-use Rattle.validate.specs.Walks.{recordView}
+use Rattle.validate.specs.WalkMeans.{recordView}
 use Rattle.node_rules.specs.declared.faults.Fault.{Fault}
 
 -- ---- a leaf

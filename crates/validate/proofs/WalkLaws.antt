@@ -11,8 +11,8 @@ use Rattle.text.specs.Words.{orElse}
 use Rattle.codec.specs.Codec.{Form}
 use Rattle.ast.specs.Tree.{Nodes, single, holding, push, records}
 use Rattle.sheet.specs.Sheet.{Node, Forest, nodeForm, forest, inner}
-use Rattle.decode.specs.Reads.{Lost, Reads}
-use Rattle.records.specs.Record.{recordForm}
+use Rattle.decode.specs.Means.{Lost, Reads}
+use Rattle.records.specs.Means.{recordForm}
 use Rattle.records.specs.declared.Kind.{Kind}
 use Rattle.records.specs.declared.Kind.the-variants as kind
 use Rattle.records.proofs.RecordLaws.{moves}
@@ -21,7 +21,7 @@ use Rattle.records.proofs.WalkLaws.{Single, Holds}
 use Rattle.colors.specs.Css.{namesOf}
 use Rattle.error.specs.declared.Refusal.{Refusal}
 use Rattle.checking.specs.Rules.{atOrdinal, validateLeaf, validateContainer, validateNodes}
-use Rattle.validate.specs.Walks.{recordView, foundOf, nodesView, Reached, NodeWalk, NodesWalk}
+use Rattle.validate.specs.WalkMeans.{recordView, foundOf, nodesView, Reached, NodeWalk, NodesWalk}
 use Rattle.validate.specs.declared.nodes.Walk.{Walk}
 
 or-none : {A : Type 0} (o : Option A) → orElse o none ≡ o

@@ -1,2 +1,2 @@
 pub mod Means
-pub mod Walks
+pub mod WalkMeans

@@ -7,7 +7,7 @@ use lib.ListN.{length}
 use Rattle.codec.specs.Codec.{big, each}
 use Rattle.ast.specs.Tree.{KeyframeEntry, KeyframeTime}
 use Rattle.sheet.specs.Sheet.{spanForm, entryForm, keyframesForm}
-use Rattle.decode.specs.Reads.{Reads, same, passed}
+use Rattle.decode.specs.Means.{Reads, same, passed}
 use Rattle.opening.specs.declared.Opening.{Opening}
 use Rattle.opening.specs.declared.Opening.the-variants.{Open, Shut}
 use Rattle.error.specs.declared.Refusal.{Refusal}

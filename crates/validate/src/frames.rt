@@ -4,7 +4,7 @@ ghost use Prim.Native.Nat.{ℕ, _≤_};
 ghost use mathlib.Core.Path.{_≡_};
 ghost use lib.ListN.{length};
 ghost use Rattle.number.specs.Time.{near};
-ghost use Rattle.ast.specs.View.{entryView};
+ghost use Rattle.ast.specs.Means.{entryView};
 ghost use Rattle.checking.specs.Rules.{given, unknownEasing};
 ghost use Rattle.node_rules.specs.Means.{Tells};
 ghost use Rattle.validate.specs.Means.{InLimit, HeadStands, FramesTell, TrackTells};

@@ -3,11 +3,11 @@
 ghost use Prim.Native.Nat.{_+_, _≤_};
 ghost use mathlib.Core.Path.{_≡_};
 ghost use Rattle.text.specs.Words.{orElse};
-ghost use Rattle.decode.specs.Reads.{Lost};
+ghost use Rattle.decode.specs.Means.{Lost};
 ghost use Rattle.checking.specs.Rules.{atOrdinal};
 ghost use Rattle.node_rules.specs.Means.{faultOf};
 ghost use Rattle.validate.specs.Means.{InLimit};
-ghost use Rattle.validate.specs.Walks.{foundOf, Reached, NodeWalk, NodesWalk};
+ghost use Rattle.validate.specs.WalkMeans.{foundOf, Reached, NodeWalk, NodesWalk};
 use crate::frames::long_track;
 use crate::frames::short_track;
 use crate::frames::take_head;

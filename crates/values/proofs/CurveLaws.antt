@@ -11,7 +11,7 @@ use Rattle.ast.specs.declared.OptF32.the-variants as optFloat
 use Rattle.text.specs.Words.{default}
 use Rattle.grammar.specs.Values.{f32Of}
 use Rattle.ast.specs.declared.OptU32.the-variants as optWord
-use Rattle.encode.specs.Of.{Plain, optFloatOf}
+use Rattle.encode.specs.Means.{Plain, optFloatOf}
 use Rattle.grammar.specs.Fields.{aNumber, last}
 use Rattle.values.specs.Means.{Holds, RoughHeld, SlowMoHeld, FloatOr}
 use Rattle.values.specs.declared.SlowMoFields.{SlowMoFields}

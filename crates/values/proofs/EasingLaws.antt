@@ -13,7 +13,7 @@ use Rattle.text.specs.Words.{under}
 use Rattle.error.specs.declared.Refusal.the-variants.{Missing}
 use Rattle.ast.specs.Tree.{EasingSpec, LoopSpec, named}
 use Rattle.ast.specs.declared.Span.{Span}
-use Rattle.encode.specs.Of.{spanOf}
+use Rattle.encode.specs.Means.{spanOf}
 use Rattle.grammar.specs.Rule.{got, refused, Rule, skip, refuse, _>>_, seesPair, bothBytes, word}
 use Rattle.grammar.specs.Rule.{seesByte}
 use Rattle.grammar.specs.Values.{loopModes, parseLoopMode, parseEasing, ident, namedEasing, variantEasing, curves, curveOr}

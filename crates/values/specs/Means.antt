@@ -8,7 +8,7 @@ use lib.ListN.{getElem?}
 use lib.Ieee.{Float}
 use Rattle.number.specs.Number.{bits}
 use Rattle.ast.specs.Tree as tree
-use Rattle.encode.specs.Of.{Plain, PlainEasing, PlainOptFloat, easingOf, loopOf, optFloatOf, optWordOf}
+use Rattle.encode.specs.Means.{Plain, PlainEasing, PlainOptFloat, easingOf, loopOf, optFloatOf, optWordOf}
 use Rattle.grammar.specs.Rule.{refused, Rule, _>>=_, need, word}
 use Rattle.grammar.specs.Fields.{Content, Fields, pairs, lastNumber}
 use Rattle.grammar.specs.Values.{roughFields, slowMoFields, curves, loopModes}

@@ -7,7 +7,7 @@ ghost use Rattle.fields.specs.Means as fields;
 ghost use Rattle.cursor.specs.Means.{Ready, FloatMeans, UintMeans, spelled};
 ghost use lib.ListN.{length};
 ghost use Rattle.text.specs.Words.{default};
-ghost use Rattle.encode.specs.Of.{optWordOf, optCaseOf};
+ghost use Rattle.encode.specs.Means.{optWordOf, optCaseOf};
 ghost use Rattle.values.specs.Means.{PairMeans, EasingMeans, CurveMeans, NamedMeans, LoopMeans, ModeMeans, ModeAtMeans, RoughFieldMeans, RoughMeans, SlowMoFieldMeans, SlowMoMeans, FloatOr};
 use ast::EasingSpec;
 use ast::LoopSpec;

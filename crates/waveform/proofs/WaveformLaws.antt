@@ -9,7 +9,7 @@ use Rattle.error.specs.declared.Refusal.the-variants.{Malformed, NoiseWritten}
 use Rattle.grammar.specs.Rule.{Rule, refused, choice}
 use Rattle.grammar.specs.Grammar.{unlessNoise, waveformKind, parseWaveform}
 use Rattle.grammar.specs.Grammar.{waveformNames}
-use Rattle.cursor.specs.Word.{atOf}
+use Rattle.cursor.specs.WordMeans.{atOf}
 use Rattle.cursor.specs.Means.{run, Took}
 use Rattle.cursor.specs.declared.Cursor.{Cursor}
 use Rattle.node.specs.Means.{LeafMeans, EndMeans}

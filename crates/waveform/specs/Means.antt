@@ -14,7 +14,7 @@ use Rattle.waveform.specs.declared.WaveformStep.the-variants as step
 use Rattle.number.specs.Time.{Key}
 use Rattle.ast.specs.Tree.{Leaf}
 use Rattle.ast.specs.declared.WaveformSpec.{WaveformSpec}
-use Rattle.encode.specs.Of.{PlainOptFloat, optFloatOf, optWordOf}
+use Rattle.encode.specs.Means.{PlainOptFloat, optFloatOf, optWordOf}
 
 abbrev pub waveformCells : WaveformFields → List Cell
 waveformCells f =

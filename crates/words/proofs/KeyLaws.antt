@@ -15,7 +15,7 @@ use borrow.Author.Tests.{eq-eqb, ne-eqb, ltb-true}
 use Rattle.text.specs.Bytes.{same, part}
 use Rattle.text.specs.Words.{isSome, find}
 use Rattle.text.proofs.WordLaws.{same-eq, same-refl, find-here, find-past}
-use Rattle.words.specs.Keys.{onto, pack, packs, seek, placeIs}
+use Rattle.words.specs.KeyMeans.{onto, pack, packs, seek, placeIs}
 
 -- ---- tests
 

@@ -13,8 +13,8 @@ use borrow.Author.Tests.{eqb-true, eqb-false, eq-eqb, ne-eqb, lt-ltb, le-ltb, le
 use Rattle.text.specs.Bytes.{same, oneOf}
 use Rattle.text.specs.Words.{isSome, find, shorter}
 use Rattle.text.proofs.WordLaws.{find-long, find-clip}
-use Rattle.words.specs.Lists.{lists, listOf}
-use Rattle.words.specs.Keys.{pack, packs, keysOf, seek, placeIs}
+use Rattle.words.specs.ListMeans.{lists, listOf}
+use Rattle.words.specs.KeyMeans.{pack, packs, keysOf, seek, placeIs}
 use Rattle.words.proofs.KeyLaws.{never, both, every, Bytes, allBytes, seek-find}
 
 -- what 8 bytes are below

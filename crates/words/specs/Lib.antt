@@ -1,2 +1,2 @@
-pub mod Lists
-pub mod Keys
+pub mod ListMeans
+pub mod KeyMeans

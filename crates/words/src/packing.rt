@@ -5,7 +5,7 @@ ghost use lib.Dec.{eqb};
 ghost use Prim.Native.Nat.{_+_, _-_, _%_, _^_, _≤_, _<_};
 ghost use lib.ListN.{length};
 ghost use Rattle.text.specs.Bytes.{part};
-ghost use Rattle.words.specs.Keys.{onto, pack};
+ghost use Rattle.words.specs.KeyMeans.{onto, pack};
 use crate::NONE;
 
 // ---- bytes as a number

@@ -12,7 +12,7 @@ use Rattle.ast.specs.Tree.{Nodes}
 use Rattle.grammar.specs.Rule.{Notes, Out, got}
 use Rattle.grammar.specs.Grammar.{stored, animatoInput}
 use Rattle.pieces.specs.Pieces.{Piece, aWord, aName, aPlain, aNumeral, aString, aMark, aPair, Form, spelt, ahead, laid}
-use Rattle.pieces.specs.Fits.{AllFit, Complete}
+use Rattle.pieces.specs.Means.{AllFit, Complete}
 use Rattle.pieces.proofs.FitLaws.{all-fit, fit-all}
 use Rattle.pieces.proofs.JoinLaws.{joined-splits}
 use Rattle.fresh.proofs.NestLaws.{nodes-nest}

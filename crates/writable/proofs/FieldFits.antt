@@ -21,7 +21,7 @@ use Rattle.grammar.specs.Values.{roughFields, roughCurve, slowMoFields, slowMoC
 use Rattle.grammar.specs.Values.{namedEasing, curveOr, parseEasing, truth}
 use Rattle.digits.specs.Numeral.{all}
 use Rattle.pieces.specs.Pieces.{Form, wordLike, curveNames}
-use Rattle.pieces.specs.Fits.{Fits, Complete}
+use Rattle.pieces.specs.Means.{Fits, Complete}
 use Rattle.fresh.specs.Meaning.{easingSense, optionSense}
 use Rattle.fresh.specs.Fresh as pieces
 use Rattle.fresh.specs.Fresh.{Writer, Pair, morePairs, pairs, unless, field, unlessIs, wordAt, choose, f32, u32}

@@ -29,7 +29,7 @@ use Rattle.grammar.specs.Grammar.{unlessNoise, waveformKind, waveformFields, pa
 use Rattle.grammar.specs.Grammar.{atSign, turned, parseAt}
 use Rattle.digits.specs.Numeral.{all}
 use Rattle.pieces.specs.Pieces.{Form, wordLike}
-use Rattle.pieces.specs.Fits.{InText, Complete}
+use Rattle.pieces.specs.Means.{InText, Complete}
 use Rattle.pieces.proofs.TextLaws.{lexeme-fine}
 use Rattle.fresh.specs.Meaning.{EasingSense, optionSense, leafSense}
 use Rattle.fresh.specs.Fresh as pieces

@@ -20,7 +20,7 @@ use Rattle.grammar.specs.Grammar.{openingStep, parseStagger, leaves, containers
 use Rattle.grammar.specs.Grammar.{parseNode, oneNode, nodesStep, block, animatoInput}
 use Rattle.digits.specs.Numeral.{all}
 use Rattle.pieces.specs.Pieces.{Piece, Form, wordLike}
-use Rattle.pieces.specs.Fits.{Fits, Complete}
+use Rattle.pieces.specs.Means.{Fits, Complete}
 use Rattle.fresh.specs.Meaning.{LeafSense, tween, spring, keyframes, path, morph, draw}
 use Rattle.fresh.specs.Meaning.{color, waveform, preset, label, at, leafSense, sense}
 use Rattle.fresh.specs.Fresh as fresh

@@ -17,7 +17,7 @@ use Rattle.grammar.specs.Values.{parseEasing}
 use Rattle.grammar.specs.Grammar.{stored, keyed, parseKeyframeTime, keyframeEntry, Track, trackLoop, trackFrame, trackStep, parseKeyframes}
 use Rattle.digits.specs.Numeral.{all, percentage}
 use Rattle.pieces.specs.Pieces.{Form, wordLike}
-use Rattle.pieces.specs.Fits.{InText, Complete}
+use Rattle.pieces.specs.Means.{InText, Complete}
 use Rattle.pieces.proofs.SignLaws.{percent-signed, percent-plain}
 use Rattle.fresh.specs.Meaning.{FrameSense, optionSense, framesSense}
 use Rattle.fresh.specs.Fresh as pieces

@@ -22,7 +22,7 @@ use Rattle.grammar.specs.Values.{parseTwoFloatsInParens, parseUintInParens, arr
 use Rattle.grammar.specs.Values.{timesMode, pingPongMode, loopModes, parseLoopMode}
 use Rattle.digits.specs.Numeral.{Sort, all, float, withSign}
 use Rattle.pieces.specs.Pieces.{Piece, aName, aString, aMark, aNumeral, Form, wordLike}
-use Rattle.pieces.specs.Fits.{Fits, AllFit, InText, Complete}
+use Rattle.pieces.specs.Means.{Fits, AllFit, InText, Complete}
 use Rattle.pieces.proofs.SignLaws.{nearest-signed, nearest-plain}
 use Rattle.pieces.proofs.TextLaws.{lexeme-fine}
 use Rattle.ast.specs.Tree.{spanBytes}

@@ -14,7 +14,7 @@ use Rattle.grammar.specs.Rule.{text}
 use Rattle.encode.proofs.OverLaws.{writes-keeps}
 use Rattle.arrays.proofs.array_items.Statement.{statement}
 use Rattle.arrays.proofs.array_items.Tie as tie
-use Rattle.cursor.specs.Word.{atOf}
+use Rattle.cursor.specs.WordMeans.{atOf}
 
 abbrev Inv-loop : tie.InvT-loop
 Inv-loop text sheet₀ out m₀ at₀ n₀ sheet m at n = Items text sheet₀ sheet m₀ m out at n

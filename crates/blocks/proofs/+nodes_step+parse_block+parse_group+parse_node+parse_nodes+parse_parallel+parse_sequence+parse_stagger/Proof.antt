@@ -35,7 +35,7 @@ use Rattle.blocks.proofs.begin_node.Reads as begin-node-reads
 use Rattle.blocks.proofs.group_head.Reads as group-head-reads
 use Rattle.blocks.proofs.open_block.Reads as open-block-reads
 use Rattle.blocks.proofs.stagger_head.Reads as stagger-head-reads
-use Rattle.cursor.specs.Word.{atOf}
+use Rattle.cursor.specs.WordMeans.{atOf}
 use Rattle.cursor.proofs.advance.Reads as advance-reads
 use Rattle.cursor.proofs.ends.Reads as ends-reads
 use Rattle.cursor.proofs.leave_group.Reads as leave-group-reads

@@ -1,6 +1,6 @@
 -- `blocks::stagger_head` meets its contract.
 use Rattle.blocks.proofs.HeadLaws.{length-pattern, stagger-went}
-use Rattle.encode.specs.Of.{optPatternOf}
+use Rattle.encode.specs.Means.{optPatternOf}
 use native.Mathlib.Omega.{arith}
 use borrow.Author.Needs.{needs}
 use Rattle.blocks.proofs.stagger_head.Statement.{statement}

@@ -1,5 +1,5 @@
 -- `color::color_end` meets its contract.
-use Rattle.encode.specs.Of.{spanOf}
+use Rattle.encode.specs.Means.{spanOf}
 use Rattle.grammar.specs.Grammar.{colorFields}
 use Rattle.color.specs.Means.{colorLeaf}
 use Rattle.node.proofs.EndLaws.{end-refused, end-untimed, end-went}

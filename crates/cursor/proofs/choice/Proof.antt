@@ -1,6 +1,6 @@
 -- `cursor::choice` meets its contract.
 use borrow.Author.Needs.{needs}
-use Rattle.words.specs.Lists.{listOf}
+use Rattle.words.specs.ListMeans.{listOf}
 use Rattle.words.proofs.KeyLaws.{place-some, place-none}
 use Rattle.cursor.proofs.ListedLaws.{listed-word, took-choice}
 use Rattle.cursor.proofs.choice.Statement.{statement}

@@ -1,4 +1,4 @@
-use Rattle.cursor.specs.Word.{codeOf}
+use Rattle.cursor.specs.WordMeans.{codeOf}
 use mathlib.Core.Path.{refl}
 use Rattle.cursor.proofs.code.Statement.{statement}
 use Rattle.cursor.proofs.code.Tie as tie

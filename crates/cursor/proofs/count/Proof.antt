@@ -1,5 +1,5 @@
 use native.Mathlib.Omega.{arith}
-use Rattle.cursor.specs.Word.{roundedOf, tallied}
+use Rattle.cursor.specs.WordMeans.{roundedOf, tallied}
 use Rattle.cursor.proofs.count.Statement.{statement}
 use Rattle.cursor.proofs.count.Tie as tie
 

@@ -1,4 +1,4 @@
-use Rattle.cursor.specs.Word.{endOf}
+use Rattle.cursor.specs.WordMeans.{endOf}
 use mathlib.Core.Path.{refl}
 use borrow.Author.Needs.{needs}
 use Rattle.cursor.proofs.end.Statement.{statement}

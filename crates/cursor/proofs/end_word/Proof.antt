@@ -1,5 +1,5 @@
 use mathlib.Core.Path.{refl}
-use Rattle.cursor.specs.Word.{headWord}
+use Rattle.cursor.specs.WordMeans.{headWord}
 use borrow.Author.Needs.{needs}
 use Rattle.cursor.proofs.end_word.Statement.{statement}
 use Rattle.cursor.proofs.end_word.Tie as tie

@@ -2,7 +2,7 @@ use Rattle.cursor.proofs.CursorLaws.{head-told}
 -- `cursor::listed` meets its contract.
 use mathlib.Core.Path.{_∙_}
 use borrow.Author.Needs.{needs}
-use Rattle.words.specs.Keys.{placeIs}
+use Rattle.words.specs.KeyMeans.{placeIs}
 use Rattle.cursor.proofs.listed.Statement.{statement}
 use Rattle.cursor.proofs.listed.Tie as tie
 

@@ -1,5 +1,5 @@
 use mathlib.Core.Path.{refl}
-use Rattle.cursor.specs.Word.{headWord, tokCode}
+use Rattle.cursor.specs.WordMeans.{headWord, tokCode}
 use borrow.Author.Needs.{needs}
 use Rattle.cursor.proofs.mark_word.Statement.{statement}
 use Rattle.cursor.proofs.mark_word.Tie as tie

@@ -1,4 +1,4 @@
-use Rattle.cursor.specs.Word.{leftAt}
+use Rattle.cursor.specs.WordMeans.{leftAt}
 use mathlib.Core.Path.{refl}
 use borrow.Author.Needs.{needs}
 use Rattle.cursor.proofs.noted.Statement.{statement}

@@ -1,4 +1,4 @@
-use Rattle.cursor.specs.Word.{notesOf}
+use Rattle.cursor.specs.WordMeans.{notesOf}
 use mathlib.Core.Path.{refl}
 use borrow.Author.Needs.{needs}
 use Rattle.cursor.proofs.notes.Statement.{statement}

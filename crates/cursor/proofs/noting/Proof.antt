@@ -1,4 +1,4 @@
-use Rattle.cursor.specs.Word.{noting}
+use Rattle.cursor.specs.WordMeans.{noting}
 use mathlib.Core.Path.{refl}
 use borrow.Author.Needs.{needs}
 use Rattle.cursor.proofs.noting.Statement.{statement}

@@ -2,7 +2,7 @@ use Rattle.text.specs.Bytes.{at}
 use mathlib.Core.Path.{sym, _∙_}
 use Rattle.token.proofs.TokenLaws.{rest-of}
 use Rattle.cursor.proofs.CursorLaws.{seen-known}
-use Rattle.cursor.specs.Word.{atOf}
+use Rattle.cursor.specs.WordMeans.{atOf}
 use borrow.Author.Needs.{needs}
 use Rattle.cursor.proofs.number_seen.Statement.{statement}
 use Rattle.cursor.proofs.number_seen.Tie as tie

@@ -6,7 +6,7 @@ use mathlib.Core.Path.{ap, sym, _∙_}
 use native.Mathlib.Omega.{arith}
 use lib.ListN.{length}
 use borrow.Author.Needs.{needs}
-use Rattle.cursor.specs.Word.{atOf}
+use Rattle.cursor.specs.WordMeans.{atOf}
 use Rattle.cursor.specs.Means.{passOf}
 use Rattle.grammar.specs.Rule.{text, weigh}
 use Rattle.cursor.proofs.past_group.Statement.{statement}

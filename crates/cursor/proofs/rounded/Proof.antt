@@ -1,4 +1,4 @@
-use Rattle.cursor.specs.Word.{roundedOf}
+use Rattle.cursor.specs.WordMeans.{roundedOf}
 use mathlib.Core.Path.{refl}
 use Rattle.cursor.proofs.rounded.Statement.{statement}
 use Rattle.cursor.proofs.rounded.Tie as tie

@@ -2,7 +2,7 @@ use Rattle.text.specs.Bytes.{at}
 use borrow.Author.Tests.{eq-eqb, ne-eqb}
 use Rattle.token.proofs.PieceLaws.{first-name, first-number, first-quoted, first-mark, first-none, size-high}
 use Rattle.token.specs.declared.Tok.the-variants.{Name, Num, Quoted}
-use Rattle.cursor.specs.Word.{tokCode}
+use Rattle.cursor.specs.WordMeans.{tokCode}
 use native.Mathlib.Omega.{arith}
 use mathlib.Core.Path.{refl, sym, _∙_}
 use borrow.Author.Needs.{needs}

@@ -2,7 +2,7 @@
 use Prim.Native.Nat.{ℕ}
 use mathlib.Core.Option.{Option, some}
 use mathlib.Core.Path.{_≡_, sym, ap, _∙_}
-use Rattle.digits.specs.Answer.{numberOf, decimalOf}
+use Rattle.digits.specs.AnswerMeans.{numberOf, decimalOf}
 use Rattle.digits.specs.Means.{LeastWhole, wholeOver}
 use Rattle.digits.specs.declared.Decimal.{Decimal}
 use Rattle.digits.proofs.EndLaws.{zero-written, none-below, none-above}

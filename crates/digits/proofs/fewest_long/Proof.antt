@@ -5,8 +5,8 @@ use Prim.Native.Nat.{ℕ, _+_, _-_, _^_, _≤_, _<_}
 use native.Mathlib.Nat.{add-zero}
 use native.Mathlib.Omega.{arith}
 use borrow.Author.Needs.{needs}
-use Rattle.limbs.specs.Limbs.{upTo}
-use Rattle.digits.specs.Answer.{decimalOf}
+use Rattle.limbs.specs.LimbMeans.{upTo}
+use Rattle.digits.specs.AnswerMeans.{decimalOf}
 use Rattle.digits.specs.Fewest.{fewest}
 use Rattle.digits.proofs.FractionLaws.{past-high, Hunting, hunt-starts, hunt-low, hunt-high, hunt-found, hunt-next, hunt-ends}
 use Rattle.digits.proofs.fewest_long.Statement.{statement}

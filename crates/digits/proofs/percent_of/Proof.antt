@@ -1,7 +1,7 @@
 -- `digits::percent_of` meets its contract.
 use mathlib.Core.Path.{sym, ap, _∙_}
 use native.Mathlib.Omega.{arith}
-use Rattle.digits.specs.Answer.{wholeOf}
+use Rattle.digits.specs.AnswerMeans.{wholeOf}
 use Rattle.digits.proofs.EndLaws.{zero-percent-written, no-percent-below, no-percent-above}
 use Rattle.digits.proofs.MiddleLaws.{fair-of}
 use Rattle.digits.proofs.PercentLaws.{small-answer, percent-24, large-first}

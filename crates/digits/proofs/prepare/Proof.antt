@@ -5,7 +5,7 @@ use native.Mathlib.Nat.{zero-mul, zero-add, lt-of-lt-of-le}
 use native.Mathlib.Omega.{arith}
 use lib.Dec.{lit≤}
 use borrow.Author.Needs.{needs}
-use Rattle.limbs.specs.Limbs.{upTo}
+use Rattle.limbs.specs.LimbMeans.{upTo}
 use Rattle.limbs.proofs.DecimalLaws.{carried-none}
 use Rattle.digits.specs.Means.{Long, Fixed}
 use Rattle.digits.specs.declared.Middle.{Middle}

@@ -4,7 +4,7 @@ use Prim.Native.Nat.{ℕ, _*_, _-_, _^_, _≤_, _<_}
 use native.Mathlib.Nat.{mul-one, add-zero}
 use native.Mathlib.Omega.{arith}
 use lib.ListN.{length}
-use Rattle.limbs.specs.Limbs.{upTo}
+use Rattle.limbs.specs.LimbMeans.{upTo}
 use Rattle.limbs.proofs.DecimalLaws.{carried-none}
 use Rattle.digits.proofs.FractionLaws.{shift-next, shift-below}
 use Rattle.digits.proofs.shift_up.Statement.{statement}

@@ -1,7 +1,7 @@
 -- `draw::draw_end` meets its contract.
 use mathlib.Core.List.{[]}
 use mathlib.Core.Path.{refl}
-use Rattle.encode.specs.Of.{spanOf}
+use Rattle.encode.specs.Means.{spanOf}
 use Rattle.grammar.specs.Fields.{last, parseFieldList}
 use Rattle.grammar.specs.Grammar.{drawFields}
 use Rattle.draw.specs.Means.{DrawListMeans}

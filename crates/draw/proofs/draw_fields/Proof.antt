@@ -1,9 +1,9 @@
 -- `draw::draw_fields` meets its contract.
-use Rattle.words.specs.Lists.{listOf}
+use Rattle.words.specs.ListMeans.{listOf}
 use Rattle.node.proofs.StepLaws.{Gathering, gathering-start, list-refused, list-done, value-refused, list-more, list-moves}
 use Rattle.node.specs.CellMeans.{AllSay}
 use Rattle.draw.specs.Means.{drawCells}
-use Rattle.cursor.specs.Word.{atOf}
+use Rattle.cursor.specs.WordMeans.{atOf}
 use Rattle.cursor.specs.Means.{Ready}
 use mathlib.Core.Path.{refl}
 use Prim.Native.Nat.{_-_}

@@ -2,9 +2,9 @@
 use Rattle.text.specs.Bytes.{same}
 use Rattle.text.specs.Words.{find}
 use Rattle.token.specs.Names.{isKeyword}
-use Rattle.cursor.specs.Word.{atOf}
+use Rattle.cursor.specs.WordMeans.{atOf}
 use Rattle.cursor.specs.Means.{noKeywords}
-use Rattle.words.specs.Lists.{listOf}
+use Rattle.words.specs.ListMeans.{listOf}
 use Rattle.node.proofs.StepLaws.{Gathering, pairStep, gathering-start, pairs-refused, pairs-done}
 use Rattle.node.proofs.StepLaws.{pairs-value-refused, pairs-more, pairs-last, pairs-moves}
 use Rattle.draw.specs.Means.{drawCells}

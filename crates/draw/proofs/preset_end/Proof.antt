@@ -1,5 +1,5 @@
 -- `draw::preset_end` meets its contract.
-use Rattle.encode.specs.Of.{spanOf}
+use Rattle.encode.specs.Means.{spanOf}
 use Rattle.draw.specs.Means.{presetLeaf, presetFields}
 use Rattle.node.proofs.EndLaws.{free-refused, free-went}
 use borrow.Author.Needs.{needs}

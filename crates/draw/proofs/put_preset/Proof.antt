@@ -1,6 +1,6 @@
 -- `draw::put_preset` meets its contract.
 use native.Mathlib.Omega.{arith}
-use Rattle.encode.specs.Of.{spanOf, optFloatOf, optEasingOf}
+use Rattle.encode.specs.Means.{spanOf, optFloatOf, optEasingOf}
 use Rattle.encode.proofs.OverLaws.{writes-then}
 use Rattle.sheet.proofs.FormLaws.{length-span}
 use Rattle.node.proofs.PutLaws.{opt-word, opt-easing}

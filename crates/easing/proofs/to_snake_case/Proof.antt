@@ -9,7 +9,7 @@ use borrow.Author.Needs.{needs}
 use Rattle.easing.proofs.NameLaws.{rest-end, snake-first, rest-at, snake-nil}
 use Rattle.easing.specs.Names.{snakeRest, snake}
 use Rattle.text.proofs.WriteLaws.{puts-then, puts-none, puts-full}
-use Rattle.text.specs.Write.{Puts}
+use Rattle.text.specs.WriteMeans.{Puts}
 use Rattle.easing.proofs.to_snake_case.Statement.{statement}
 use Rattle.easing.proofs.to_snake_case.Tie as tie
 

@@ -1,5 +1,5 @@
 -- `fields::parse_field_list` meets its contract.
-use Rattle.cursor.specs.Word.{atOf, tokOf}
+use Rattle.cursor.specs.WordMeans.{atOf, tokOf}
 use Rattle.cursor.specs.declared.Cursor.{Cursor}
 use mathlib.Core.List.{[]}
 use Rattle.fields.specs.declared.Item.{Item}

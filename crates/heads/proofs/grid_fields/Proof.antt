@@ -10,7 +10,7 @@ use borrow.Author.Tests.{not-false, not-true}
 use lib.Dec.{lit<}
 use Rattle.heads.proofs.grid_fields.Statement.{statement}
 use Rattle.heads.proofs.grid_fields.Tie as tie
-use Rattle.cursor.specs.Word.{atOf}
+use Rattle.cursor.specs.WordMeans.{atOf}
 
 abbrev Inv-loop : tie.InvT-loop
 Inv-loop text m₀ f₀ m f = Kept GridHeld gridFields text m₀ m f

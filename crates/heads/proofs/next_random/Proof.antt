@@ -2,7 +2,7 @@
 use Rattle.text.specs.Bytes.{same}
 use Rattle.text.specs.Words.{find}
 use Rattle.token.specs.Names.{isKeyword}
-use Rattle.words.specs.Lists.{listOf}
+use Rattle.words.specs.ListMeans.{listOf}
 use Rattle.cursor.specs.Means.{noKeywords}
 use Rattle.grammar.specs.Grammar.{randomFields}
 use mathlib.Core.Path.{refl}

@@ -3,7 +3,7 @@ use mathlib.Core.Path.{refl}
 use Rattle.text.specs.Bytes.{same}
 use Rattle.text.specs.Words.{find}
 use Rattle.token.specs.Names.{isKeyword}
-use Rattle.words.specs.Lists.{listOf}
+use Rattle.words.specs.ListMeans.{listOf}
 use Rattle.cursor.specs.Means.{noKeywords}
 use Rattle.heads.proofs.StaggerLaws.{named-opening}
 use Rattle.grammar.specs.Grammar.{openingFields}

@@ -9,7 +9,7 @@ use mathlib.Core.Path.{sym, _∙_}
 use lib.Dec.{lit<}
 use Rattle.heads.proofs.parse_stagger.Statement.{statement}
 use Rattle.heads.proofs.parse_stagger.Tie as tie
-use Rattle.cursor.specs.Word.{atOf}
+use Rattle.cursor.specs.WordMeans.{atOf}
 
 abbrev Inv-loop : tie.InvT-loop
 Inv-loop text m₀ f₀ m f = Opened text m₀ m (openingOf f) × PlainOpening f

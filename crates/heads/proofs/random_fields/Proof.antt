@@ -10,7 +10,7 @@ use Rattle.grammar.specs.Grammar.{randomFields}
 use lib.Dec.{lit<}
 use Rattle.heads.proofs.random_fields.Statement.{statement}
 use Rattle.heads.proofs.random_fields.Tie as tie
-use Rattle.cursor.specs.Word.{atOf}
+use Rattle.cursor.specs.WordMeans.{atOf}
 
 abbrev Inv-loop : tie.InvT-loop
 Inv-loop text m₀ f₀ m f = Kept RandomHeld randomFields text m₀ m f

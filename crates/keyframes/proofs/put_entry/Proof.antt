@@ -2,7 +2,7 @@
 use mathlib.Core.Logic.{⊎-elim}
 use native.Mathlib.Omega.{arith}
 use borrow.Author.Needs.{needs}
-use Rattle.encode.specs.Of.{keyTimeOf}
+use Rattle.encode.specs.Means.{keyTimeOf}
 use Rattle.encode.proofs.EnumLaws.{length-time}
 use Rattle.keyframes.proofs.EntryLaws.{value-end}
 use Rattle.keyframes.proofs.put_entry.Statement.{statement}

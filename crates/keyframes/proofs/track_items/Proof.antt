@@ -8,7 +8,7 @@ use borrow.Author.Needs.{needs}
 use native.Mathlib.Omega.{arith}
 use Rattle.keyframes.proofs.track_items.Statement.{statement}
 use Rattle.keyframes.proofs.track_items.Tie as tie
-use Rattle.cursor.specs.Word.{atOf}
+use Rattle.cursor.specs.WordMeans.{atOf}
 
 abbrev Inv-loop : tie.InvT-loop
 Inv-loop text sheet₀ out t₀ sheet t = Tracked text sheet₀ sheet (t₀ .next) out t

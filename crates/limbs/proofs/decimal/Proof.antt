@@ -3,7 +3,7 @@ use mathlib.Core.Path.{refl, sym, _∙_, subst}
 use Prim.Native.Nat.{ℕ, _+_, _*_, _^_, _≤_}
 use native.Mathlib.Omega.{arith}
 use lib.Seq.{length-take-le}
-use Rattle.limbs.specs.Limbs.{upTo}
+use Rattle.limbs.specs.LimbMeans.{upTo}
 use Rattle.limbs.proofs.LimbLaws.{part-between}
 use Rattle.limbs.proofs.DecimalLaws.{enough}
 use borrow.Author.Needs.{needs}

@@ -5,7 +5,7 @@ use mathlib.Core.Path.{sym, _∙_, subst}
 use Prim.Native.Nat.{ℕ, _*_, _^_, _<_}
 use lib.ListN.{length}
 use lib.Dec.{lit≤}
-use Rattle.limbs.specs.Limbs.{val}
+use Rattle.limbs.specs.LimbMeans.{val}
 use Rattle.limbs.proofs.LimbLaws.{dbl-lt, rest-lt, digit-zero, digit-one}
 use Rattle.limbs.proofs.digit.Statement.{statement}
 use Rattle.limbs.proofs.digit.Tie as tie

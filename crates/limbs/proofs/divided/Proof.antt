@@ -7,7 +7,7 @@ use native.Mathlib.Omega.{arith}
 use lib.ListN.{length, drop}
 use lib.Dec.{lit<}
 use Rattle.text.specs.Bytes.{decimal, part}
-use Rattle.limbs.specs.Limbs.{val}
+use Rattle.limbs.specs.LimbMeans.{val}
 use Rattle.limbs.specs.Means.{Nearest}
 use Rattle.number.specs.declared.Bits.{Bits}
 use Rattle.limbs.proofs.NumberLaws.{digits-small, whole-small}

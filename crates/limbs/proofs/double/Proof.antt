@@ -4,7 +4,7 @@ use mathlib.Core.Path.{refl, sym, _∙_, subst}
 use Prim.Native.Nat.{ℕ, _*_, _^_, _<_}
 use native.Mathlib.Nat.{add-zero}
 use lib.ListN.{length}
-use Rattle.limbs.specs.Limbs.{val}
+use Rattle.limbs.specs.LimbMeans.{val}
 use Rattle.limbs.proofs.LimbLaws.{product}
 use Rattle.limbs.proofs.double.Statement.{statement}
 use Rattle.limbs.proofs.double.Tie as tie

@@ -5,7 +5,7 @@ use Prim.Native.Nat.{ℕ, _-_, _≤_, _<_}
 use native.Mathlib.Omega.{arith}
 use lib.Dec.{eqb}
 use lib.ListN.{length}
-use Rattle.limbs.specs.Limbs.{upTo}
+use Rattle.limbs.specs.LimbMeans.{upTo}
 use Rattle.limbs.proofs.LimbLaws.{some-limb, zero-next, zero-first}
 use Rattle.limbs.proofs.is_zero.Statement.{statement}
 use Rattle.limbs.proofs.is_zero.Tie as tie

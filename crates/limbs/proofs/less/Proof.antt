@@ -8,7 +8,7 @@ use Prim.Native.Nat.{ℕ, _-_, _<_, _≤_}
 use native.Mathlib.Nat.{le-refl, le-of-lt}
 use native.Mathlib.Omega.{arith}
 use lib.ListN.{length}
-use Rattle.limbs.specs.Limbs.{upTo, val}
+use Rattle.limbs.specs.LimbMeans.{upTo, val}
 use Rattle.limbs.proofs.LimbLaws.{decides, passes, down-lt, down-le}
 use Rattle.limbs.proofs.less.Statement.{statement}
 use Rattle.limbs.proofs.less.Tie as tie

@@ -3,7 +3,7 @@ use borrow.Author.Needs.{needs}
 use mathlib.Core.Path.{sym, subst}
 use Prim.Native.Nat.{ℕ, _*_, _^_, _<_}
 use native.Mathlib.Omega.{arith}
-use Rattle.limbs.specs.Limbs.{val}
+use Rattle.limbs.specs.LimbMeans.{val}
 use Rattle.limbs.proofs.LongLaws.{shifted, below, lowered}
 use Rattle.limbs.proofs.lower.Statement.{statement}
 use Rattle.limbs.proofs.lower.Tie as tie

@@ -4,7 +4,7 @@ use native.Mathlib.Nat.{mul-le-mul-left, mul-le-mul-right}
 use native.Mathlib.Omega.{arith}
 use lib.ListN.{length, getD, length-set}
 use lib.Seq.{getD-set-other}
-use Rattle.limbs.specs.Limbs.{upTo}
+use Rattle.limbs.specs.LimbMeans.{upTo}
 use Rattle.limbs.proofs.LimbLaws.{mul-step}
 use Rattle.limbs.proofs.muladd.Statement.{statement}
 use Rattle.limbs.proofs.muladd.Tie as tie

@@ -7,7 +7,7 @@ use mathlib.Core.Bool.{not}
 use Prim.Native.Nat.{ℕ, _+_, _*_, _^_, _<_, _≤_}
 use native.Mathlib.Omega.{arith}
 use lib.ListN.{length}
-use Rattle.limbs.specs.Limbs.{val}
+use Rattle.limbs.specs.LimbMeans.{val}
 use Rattle.number.proofs.Round.{Scaled}
 use Rattle.limbs.proofs.LongLaws.{begin, go-on, certify, pos-of, at-most, long-nearest, long-infinite, raised-infinite}
 use Rattle.limbs.proofs.nearest.Statement.{statement}

@@ -7,7 +7,7 @@ use Prim.Native.Nat.{ℕ, _+_, _*_, _-_, _^_, _<_, _≤_}
 use native.Mathlib.Nat.{mul-le-mul-right, le-of-eq, le-trans, le-refl}
 use native.Mathlib.Omega.{arith}
 use lib.ListN.{length}
-use Rattle.limbs.specs.Limbs.{val}
+use Rattle.limbs.specs.LimbMeans.{val}
 use Rattle.limbs.proofs.LongLaws.{shifted-room, half-below, raise-first, raise-step, raise-scaled, raise-fits}
 use Rattle.limbs.proofs.raise.Statement.{statement}
 use Rattle.limbs.proofs.raise.Tie as tie

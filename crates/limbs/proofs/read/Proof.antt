@@ -6,7 +6,7 @@ use native.Mathlib.Nat.{add-zero, sub-zero}
 use native.Mathlib.Omega.{arith}
 use lib.ListN.{length, drop, take}
 use Rattle.text.specs.Bytes.{decimal, part, isDigit}
-use Rattle.limbs.specs.Limbs.{val}
+use Rattle.limbs.specs.LimbMeans.{val}
 use Rattle.limbs.proofs.NumberLaws.{digits-inside, run-later, decimal-nil}
 use Rattle.limbs.proofs.DecimalLaws.{read-next, read-room, read-fits}
 use Rattle.limbs.proofs.LimbLaws.{product}

@@ -6,7 +6,7 @@ use native.Mathlib.Nat.{le-refl}
 use native.Mathlib.Omega.{arith}
 use lib.Count.{leadingZeros, leading-top}
 use lib.ListN.{length, getD}
-use Rattle.limbs.specs.Limbs.{upTo, val}
+use Rattle.limbs.specs.LimbMeans.{upTo, val}
 use Rattle.limbs.proofs.LimbLaws.{below-pow, top-size, top-zero}
 use Rattle.limbs.proofs.size.Statement.{statement}
 use Rattle.limbs.proofs.size.Tie as tie

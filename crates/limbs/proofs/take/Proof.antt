@@ -4,7 +4,7 @@ use Prim.Native.Nat.{ℕ, _+_, _*_, _-_, _^_, _<_, _≤_}
 use native.Mathlib.Omega.{arith}
 use lib.ListN.{length, getD, length-set}
 use lib.Seq.{getD-set-other}
-use Rattle.limbs.specs.Limbs.{upTo, val}
+use Rattle.limbs.specs.LimbMeans.{upTo, val}
 use Rattle.limbs.proofs.LimbLaws.{sub-step, write-below, nothing-borrowed}
 use Rattle.limbs.proofs.take.Statement.{statement}
 use Rattle.limbs.proofs.take.Tie as tie

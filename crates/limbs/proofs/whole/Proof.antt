@@ -2,7 +2,7 @@
 use borrow.Author.Tests.{ltb-true, ltb-false}
 use mathlib.Core.Path.{sym, _∙_}
 use native.Mathlib.Nat.{le-antisymm}
-use Rattle.limbs.specs.Limbs.{val}
+use Rattle.limbs.specs.LimbMeans.{val}
 use Rattle.limbs.proofs.LongLaws.{rounds-down, rounds-up, rounds-even}
 use borrow.Author.Needs.{needs}
 use Rattle.limbs.proofs.whole.Statement.{statement}

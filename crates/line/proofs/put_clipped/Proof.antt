@@ -4,7 +4,7 @@ use mathlib.Core.List.{List}
 use mathlib.Core.Path.{refl, _∙_, _≡_}
 use lib.ListN.{drop, length}
 use borrow.Author.Needs.{needs}
-use Rattle.text.specs.Write.{Puts}
+use Rattle.text.specs.WriteMeans.{Puts}
 use Rattle.lining.specs.Line.{hex}
 use Rattle.lining.proofs.LineLaws.{hex-at, hex-end}
 use Rattle.text.proofs.WriteLaws.{puts-none, puts-then}

@@ -1,5 +1,5 @@
 -- `morph::morph_end` meets its contract.
-use Rattle.encode.specs.Of.{spanOf}
+use Rattle.encode.specs.Means.{spanOf}
 use Rattle.grammar.specs.Grammar.{morphFields}
 use Rattle.morph.specs.Means.{morphLeaf}
 use Rattle.node.proofs.EndLaws.{end-refused, end-untimed, end-went}

@@ -5,7 +5,7 @@ use mathlib.Core.Logic.{inl, inr}
 use mathlib.Core.Path.{_≡_, sym}
 use native.Mathlib.Omega.{arith}
 use Prim.Native.Nat.{ℕ, _≤_, _<_}
-use Rattle.number.specs.Answer.{Capped}
+use Rattle.number.specs.Means.{Capped}
 use Rattle.number.specs.Number.{whole}
 use Rattle.number.proofs.whole.Statement.{statement}
 use Rattle.number.proofs.whole.Tie as tie

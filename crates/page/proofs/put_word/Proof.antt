@@ -4,7 +4,7 @@ use mathlib.Core.List.{List}
 use mathlib.Core.Path.{refl, _∙_, _≡_}
 use lib.ListN.{drop, length, drop-of-length-le}
 use borrow.Author.Needs.{needs}
-use Rattle.text.specs.Write.{Puts}
+use Rattle.text.specs.WriteMeans.{Puts}
 use Rattle.text.proofs.WriteLaws.{puts-none, puts-then}
 use Rattle.page.proofs.PageLaws.{word-at}
 use Rattle.page.proofs.put_word.Statement.{statement}

@@ -1,5 +1,5 @@
 -- `path::path_end` meets its contract.
-use Rattle.encode.specs.Of.{spanOf}
+use Rattle.encode.specs.Means.{spanOf}
 use Rattle.grammar.specs.Grammar.{pathFields}
 use Rattle.path.specs.Means.{pathLeaf}
 use Rattle.node.proofs.EndLaws.{end-refused, end-untimed, end-went}

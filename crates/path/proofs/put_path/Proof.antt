@@ -1,7 +1,7 @@
 -- `path::put_path` meets its contract.
 use native.Mathlib.Omega.{arith}
 use Rattle.number.specs.Number.{bits}
-use Rattle.encode.specs.Of.{spanOf, optBoolOf, optRangeOf, optEasingOf, optLoopOf}
+use Rattle.encode.specs.Means.{spanOf, optBoolOf, optRangeOf, optEasingOf, optLoopOf}
 use Rattle.encode.proofs.OverLaws.{writes-then}
 use Rattle.sheet.proofs.FormLaws.{length-word, length-span}
 use Rattle.node.proofs.PutLaws.{opt-flag, opt-range, opt-easing, opt-loop}

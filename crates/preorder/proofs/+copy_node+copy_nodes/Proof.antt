@@ -6,7 +6,7 @@ use native.Mathlib.Omega.{arith}
 use Rattle.records.proofs.RecordLaws.{moves}
 use Rattle.records.proofs.WalkLaws.{nearer}
 use Rattle.places.proofs.StandLaws.{opens, no-node}
-use Rattle.spelling.specs.Spelling.{pageOf}
+use Rattle.spelling.specs.Means.{pageOf}
 use Rattle.preorder.proofs.NodeLaws.{leaf-placed, box-placed, Going, going-start, going-next, going-done}
 -- `preorder::copy_node` and `copy_nodes` meet their contracts: bytes left fall; where the nodes left are placed, all are.
 use Prim.Native.Nat.{_+_, _*_, _-_, _≤_, _<_}

@@ -8,7 +8,7 @@ use Rattle.digits.specs.Numeral.{all}
 use Rattle.pieces.specs.Pieces.{wordLike}
 use Rattle.fresh.specs.Fresh.{spell, choose, wordAt}
 use Rattle.grammar.specs.Grammar.{modeNames}
-use Rattle.copying.specs.Words.{allWords}
+use Rattle.copying.specs.WordMeans.{allWords}
 use Rattle.copying.proofs.CopyLaws.{read-put, in-front}
 use Rattle.preorder.proofs.NodeLaws.{six, sequence-told, parallel-told, group-told, stagger-told}
 use borrow.Author.Needs.{needs}

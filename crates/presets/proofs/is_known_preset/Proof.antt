@@ -2,7 +2,7 @@
 use mathlib.Core.Path.{_≡_, refl}
 use borrow.Author.Needs.{needs}
 use Rattle.text.specs.Words.{words}
-use Rattle.words.specs.Lists.{listOf}
+use Rattle.words.specs.ListMeans.{listOf}
 use Rattle.presets.specs.Presets.{presets, isPreset}
 use Rattle.presets.proofs.is_known_preset.Statement.{statement}
 use Rattle.presets.proofs.is_known_preset.Tie as tie

@@ -8,7 +8,7 @@ use Rattle.reader.proofs.CountLaws.{Counted, counted-none, counted-belo
 use Rattle.reader.proofs.CountLaws.{counted-moves, counted-next, not-true, not-false}
 use Rattle.reader.proofs.count_from.Statement.{statement}
 use Rattle.reader.proofs.count_from.Tie as tie
-use Rattle.cursor.specs.Word.{atOf}
+use Rattle.cursor.specs.WordMeans.{atOf}
 
 abbrev Inv-loop : tie.InvT-loop
 Inv-loop text m₀ n₀ m n = Counted text m₀ m n

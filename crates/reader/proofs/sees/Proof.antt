@@ -41,7 +41,7 @@ use denote.Exit.{yes}
 use denote.Triple.Clauses.{ensured, lasts}
 use Rattle.token.specs.Token.{tokensFrom}
 use Rattle.grammar.specs.Rule.{seesByte}
-use Rattle.cursor.specs.Word.{atOf}
+use Rattle.cursor.specs.WordMeans.{atOf}
 use Rattle.cursor.specs.Means.{Ready}
 use Rattle.reader.specs.declared.TokenReader.{TokenReader}
 use Rattle.reader.proofs.TokenReader.Laws as T′

@@ -8,9 +8,9 @@ use lib.ListN.{length}
 use borrow.Author.Needs.{needs}
 use borrow.Fn.Kinds.{In}
 use borrow.Fn.PlainCycle.{Measures, is, falls, and}
-use Rattle.decode.specs.Reads.{passed}
+use Rattle.decode.specs.Means.{passed}
 use Rattle.sheet.specs.Sheet.{Forest, inner, decode}
-use Rattle.records.specs.Record.{Seeks}
+use Rattle.records.specs.Means.{Seeks}
 use Rattle.records.proofs.RecordLaws as records
 use Rattle.records.proofs.WalkLaws as walks
 use Rattle.records.proofs.SeekLaws.{seeks-pass, seeks-lost}

@@ -4,7 +4,7 @@ use mathlib.Core.Path.{ap, refl, _∙_}
 use borrow.Author.Needs.{needs}
 use Rattle.ast.specs.Tree.{width}
 use Rattle.codec.specs.Codec.{below, big, opt, _▹_}
-use Rattle.records.specs.Record.{blank, countForm}
+use Rattle.records.specs.Means.{blank, countForm}
 use Rattle.records.specs.declared.Kind.the-variants.{Leaf, Container}
 use Rattle.sheet.specs.Sheet.{patternForm, word}
 use Rattle.decode.proofs.ReadLaws.{_&_}

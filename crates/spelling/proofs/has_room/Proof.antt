@@ -3,7 +3,7 @@ use Prim.Native.Nat.{_+_}
 use mathlib.Core.Path.{sym}
 use native.Mathlib.Omega.{arith}
 use borrow.Author.Tests.{lt-leb}
-use Rattle.spelling.specs.Spelling.{most}
+use Rattle.spelling.specs.Means.{most}
 use Rattle.spelling.proofs.PageLaws.{room-is}
 use Rattle.spelling.proofs.has_room.Statement.{statement}
 use Rattle.spelling.proofs.has_room.Tie as tie

@@ -1,5 +1,5 @@
 -- `spelling::judged` meets its contract.
-use Rattle.spelling.specs.Spelling.{pageOf}
+use Rattle.spelling.specs.Means.{pageOf}
 use Rattle.spelling.proofs.PageLaws.{size-of}
 use Rattle.spelling.proofs.judged.Statement.{statement}
 use Rattle.spelling.proofs.judged.Tie as tie

@@ -3,7 +3,7 @@ use Prim.Native.Nat.{_+_}
 use mathlib.Core.List.{[], _∷_}
 use native.Mathlib.Omega.{arith}
 use borrow.Author.Tests.{le-leb, lt-leb}
-use Rattle.spelling.specs.Spelling.{most}
+use Rattle.spelling.specs.Means.{most}
 use Rattle.spelling.proofs.PageLaws.{with-room, no-room}
 use borrow.Author.Needs.{needs}
 use Rattle.spelling.proofs.put_byte.Statement.{statement}

@@ -3,7 +3,7 @@ use Prim.Native.Nat.{_+_}
 use native.Mathlib.Omega.{arith}
 use borrow.Author.Tests.{leb-true}
 use lib.ListN.{length}
-use Rattle.spelling.specs.Spelling.{most}
+use Rattle.spelling.specs.Means.{most}
 use Rattle.spelling.proofs.PageLaws.{no-room, with-room}
 use mathlib.Core.Path.{sym, _∙_}
 use borrow.Author.Needs.{needs}

@@ -1,7 +1,7 @@
 -- `spelling::put_decimal` meets its contract.
 use Rattle.spelling.proofs.PageLaws.{was-false, was-true}
 use Rattle.spelling.proofs.NumberLaws.{not-found, found-below, found-put}
-use Rattle.spelling.specs.Spelling.{pageOf}
+use Rattle.spelling.specs.Means.{pageOf}
 use borrow.Author.Needs.{needs}
 use Rattle.spelling.proofs.put_decimal.Statement.{statement}
 use Rattle.spelling.proofs.put_decimal.Tie as tie

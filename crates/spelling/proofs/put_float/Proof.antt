@@ -1,6 +1,6 @@
 -- `spelling::put_float` meets its contract.
 use Rattle.spelling.proofs.NumberLaws.{found-float, float-spellable}
-use Rattle.spelling.specs.Spelling.{pageOf, Spellable}
+use Rattle.spelling.specs.Means.{pageOf, Spellable}
 use mathlib.Core.Path.{sym, subst}
 use borrow.Author.Needs.{needs}
 use Rattle.spelling.proofs.put_float.Statement.{statement}

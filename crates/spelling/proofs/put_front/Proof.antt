@@ -7,11 +7,11 @@ use native.Mathlib.Nat.{add-zero, div-one, div-eq-of-lt, lt-of-lt-of-le, pow-le-
 use native.Mathlib.Omega.{arith}
 use lib.Dec.{eqb, lit<}
 use borrow.Author.Tests.{eqb-true, eqb-false}
-use Rattle.digits.specs.Answer.{wholeNumber, Neat}
+use Rattle.digits.specs.AnswerMeans.{wholeNumber, Neat}
 use Rattle.digits.specs.declared.Decimal.{Decimal}
 use Rattle.digits.specs.Fewest.{wholeDigits}
 use Rattle.digits.proofs.NumeralLaws.{ten-pos, both}
-use Rattle.spelling.specs.Spelling.{Page, putOn, pageOf, Below, Large}
+use Rattle.spelling.specs.Means.{Page, putOn, pageOf, Below, Large}
 use borrow.Author.Needs.{needs}
 use Rattle.spelling.proofs.put_front.Statement.{statement}
 use Rattle.spelling.proofs.put_front.Tie as tie

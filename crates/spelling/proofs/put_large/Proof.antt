@@ -6,7 +6,7 @@ use native.Mathlib.Nat.{lt-of-lt-of-le}
 use native.Mathlib.Omega.{arith}
 use lib.Dec.{lit≤}
 use Rattle.digits.specs.Fewest.{wholeDigits, lastDigits}
-use Rattle.spelling.specs.Spelling.{putOn, pageOf}
+use Rattle.spelling.specs.Means.{putOn, pageOf}
 use Rattle.spelling.proofs.PageLaws.{put-both}
 use Rattle.spelling.proofs.NumberLaws.{two-parts, three-parts}
 use borrow.Author.Needs.{needs}

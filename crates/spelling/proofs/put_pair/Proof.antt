@@ -3,7 +3,7 @@ use mathlib.Core.List.{[], _∷_}
 use mathlib.Core.Path.{refl, _∙_, ap}
 use borrow.Author.Needs.{needs}
 use Rattle.pieces.specs.Pieces.{aPair, fits, spelt}
-use Rattle.spelling.specs.Spelling.{putOn}
+use Rattle.spelling.specs.Means.{putOn}
 use Rattle.spelling.proofs.PageLaws.{piece-put, put-both}
 use Rattle.spelling.proofs.put_pair.Statement.{statement}
 use Rattle.spelling.proofs.put_pair.Tie as tie

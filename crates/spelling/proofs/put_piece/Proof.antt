@@ -1,6 +1,6 @@
 -- `spelling::put_piece` meets its contract.
 use mathlib.Core.Path.{ap, _∙_}
-use Rattle.spelling.specs.Spelling.{putOn}
+use Rattle.spelling.specs.Means.{putOn}
 use mathlib.Core.List.{[], _∷_}
 use borrow.Author.Needs.{needs}
 use Rattle.spelling.proofs.put_piece.Statement.{statement}

@@ -2,7 +2,7 @@
 use Prim.Native.Nat.{_+_, _<_, _^_}
 use native.Mathlib.Omega.{arith}
 use Rattle.node.proofs.EndsLaws.{case-most, word-most}
-use Rattle.encode.specs.Of.{optCaseOf, optFloatOf}
+use Rattle.encode.specs.Means.{optCaseOf, optFloatOf}
 use Rattle.encode.proofs.OverLaws.{writes-then}
 use borrow.Author.Needs.{needs}
 use Rattle.spring.proofs.put_spring_fields.Statement.{statement}

@@ -7,7 +7,7 @@ use lib.ListN.{drop, length, length-set}
 use borrow.Author.Needs.{needs}
 use Rattle.text.proofs.ByteLaws.{lowered-at, lowered-end}
 use Rattle.text.proofs.WriteLaws.{puts-one, puts-full, puts-none, puts-then}
-use Rattle.text.specs.Write.{Puts}
+use Rattle.text.specs.WriteMeans.{Puts}
 use Rattle.text.specs.Bytes.{lowered}
 use Rattle.text.proofs.lower_into.Statement.{statement}
 use Rattle.text.proofs.lower_into.Tie as tie

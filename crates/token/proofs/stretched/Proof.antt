@@ -12,7 +12,7 @@ use lib.Pow.{pow-add}
 use borrow.Author.Needs.{needs}
 use borrow.Author.Tests.{leb-true}
 use Rattle.text.specs.Bytes.{decimal, part}
-use Rattle.number.specs.Answer.{Capped}
+use Rattle.number.specs.Means.{Capped}
 use Rattle.limbs.proofs.NumberLaws.{ten-fits, ten-positive, whole-small, digits-small}
 use Rattle.token.specs.declared.Figures.{Figures}
 use Rattle.token.specs.Means.{FiguresAre}

@@ -1,7 +1,7 @@
 -- `token_c::token_split` meets its contract; a text over the limit is refused before `split` sees it.
 use mathlib.Core.Path.{refl, sym, _∙_}
 use borrow.Author.Tests.{lt-ltb, le-ltb}
-use Rattle.token_c.specs.Answer.{limited}
+use Rattle.token_c.specs.Means.{limited}
 use borrow.Author.Needs.{needs}
 use Rattle.token_c.proofs.token_split.Statement.{statement}
 use Rattle.token_c.proofs.token_split.Tie as tie

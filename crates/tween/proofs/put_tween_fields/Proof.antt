@@ -5,7 +5,7 @@ use Rattle.number.specs.Number.{bits}
 use Rattle.encode.proofs.EnumLaws.{easing-most, loop-most, opt-most}
 use Rattle.sheet.specs.Sheet.{easingForm, loopForm}
 use Rattle.sheet.proofs.FormLaws.{length-word}
-use Rattle.encode.specs.Of.{optEasingOf, optFloatOf, optLoopOf, optWordOf}
+use Rattle.encode.specs.Means.{optEasingOf, optFloatOf, optLoopOf, optWordOf}
 use Rattle.node.proofs.EndsLaws.{word-most}
 use Rattle.encode.proofs.OverLaws.{writes-then}
 use borrow.Author.Needs.{needs}

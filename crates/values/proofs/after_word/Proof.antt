@@ -1,6 +1,6 @@
 -- `values::after_word` meets its contract.
 use Rattle.grammar.specs.Values.{curves}
-use Rattle.words.specs.Lists.{listOf}
+use Rattle.words.specs.ListMeans.{listOf}
 use Rattle.words.proofs.KeyLaws.{place-some, place-none}
 use Rattle.values.proofs.NameLaws.{under-row, under-none}
 use Rattle.values.proofs.EasingLaws.{no-curve, some-curve}

@@ -4,7 +4,7 @@ use Rattle.grammar.specs.Values.{roughFields}
 use Rattle.text.specs.Bytes.{same}
 use Rattle.text.specs.Words.{find}
 use Rattle.token.specs.Names.{isKeyword}
-use Rattle.words.specs.Lists.{listOf}
+use Rattle.words.specs.ListMeans.{listOf}
 use Rattle.cursor.specs.Means.{noKeywords}
 use Rattle.values.proofs.next_rough.Statement.{statement}
 use Rattle.values.proofs.next_rough.Tie as tie

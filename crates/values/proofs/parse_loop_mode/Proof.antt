@@ -1,7 +1,7 @@
 -- `values::parse_loop_mode` meets its contract.
 use Rattle.text.specs.Bytes.{at}
 use Rattle.grammar.specs.Values.{loopModes, parseLoopMode}
-use Rattle.words.specs.Lists.{listOf}
+use Rattle.words.specs.ListMeans.{listOf}
 use Rattle.words.proofs.KeyLaws.{place-some, place-none}
 use Rattle.values.proofs.NameLaws.{under-row, under-none}
 use Rattle.values.proofs.EasingLaws.{mode-found}

@@ -15,7 +15,7 @@ use Rattle.values.proofs.CurveLaws.{rough-none}
 use Rattle.grammar.specs.Values.{roughFields}
 use Rattle.values.proofs.rough_fields.Statement.{statement}
 use Rattle.values.proofs.rough_fields.Tie as tie
-use Rattle.cursor.specs.Word.{atOf}
+use Rattle.cursor.specs.WordMeans.{atOf}
 
 abbrev Inv-loop : tie.InvT-loop
 Inv-loop text m₀ f₀ m f = (fs : Fields) × Listed (listStep (onePair roughFields)) text m₀ m [] fs × RoughHeld f fs

@@ -15,7 +15,7 @@ use Rattle.values.proofs.CurveLaws.{slow-none}
 use Rattle.grammar.specs.Values.{slowMoFields}
 use Rattle.values.proofs.slow_mo_fields.Statement.{statement}
 use Rattle.values.proofs.slow_mo_fields.Tie as tie
-use Rattle.cursor.specs.Word.{atOf}
+use Rattle.cursor.specs.WordMeans.{atOf}
 
 abbrev Inv-loop : tie.InvT-loop
 Inv-loop text m₀ f₀ m f = (fs : Fields) × Listed (listStep (onePair slowMoFields)) text m₀ m [] fs × SlowMoHeld f fs

@@ -4,7 +4,7 @@ use Rattle.error.specs.declared.Refusal.the-variants.{Malformed}
 use Rattle.text.specs.Bytes.{same}
 use Rattle.text.specs.Words.{find}
 use Rattle.token.specs.Names.{isKeyword}
-use Rattle.words.specs.Lists.{listOf}
+use Rattle.words.specs.ListMeans.{listOf}
 use Rattle.cursor.specs.Means.{noKeywords}
 use Rattle.values.proofs.NameLaws.{choice-below}
 use Rattle.waveform.proofs.WaveformLaws.{no-waveform, noise-refused, waveform-node}

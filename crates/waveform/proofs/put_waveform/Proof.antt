@@ -1,7 +1,7 @@
 -- `waveform::put_waveform` meets its contract.
 use Rattle.encode.proofs.OverLaws.{writes-keeps, writes-then}
 use native.Mathlib.Omega.{arith}
-use Rattle.encode.specs.Of.{optFloatOf, optWordOf}
+use Rattle.encode.specs.Means.{optFloatOf, optWordOf}
 use Rattle.node.proofs.PutLaws.{opt-word}
 use Rattle.waveform.proofs.put_waveform.Statement.{statement}
 use Rattle.waveform.proofs.put_waveform.Tie as tie

@@ -3,8 +3,8 @@ use mathlib.Core.Path.{refl}
 use native.Mathlib.Omega.{arith}
 use borrow.Author.Needs.{needs}
 use Rattle.text.specs.Bytes.{oneOf}
-use Rattle.words.specs.Lists.{listOf}
-use Rattle.words.specs.Keys.{onto, packs, keysOf, seek}
+use Rattle.words.specs.ListMeans.{listOf}
+use Rattle.words.specs.KeyMeans.{onto, packs, keysOf, seek}
 use Rattle.words.proofs.KeyLaws.{every}
 use Rattle.words.proofs.ListLaws.{middle, is-middle, same-head, headIn, heads, no-head}
 use Rattle.words.proofs.long_easings.Statement.{statement}

@@ -5,8 +5,8 @@ use mathlib.Core.Path.{refl}
 use native.Mathlib.Omega.{arith}
 use borrow.Author.Needs.{needs}
 use Rattle.text.specs.Bytes.{oneOf}
-use Rattle.words.specs.Lists.{listOf}
-use Rattle.words.specs.Keys.{onto, packs}
+use Rattle.words.specs.ListMeans.{listOf}
+use Rattle.words.specs.KeyMeans.{onto, packs}
 use Rattle.words.proofs.KeyLaws.{every}
 use Rattle.words.proofs.ListLaws.{limb, far, is-far, headIn, noneOf, everyList, no-word, by-number}
 use Rattle.words.proofs.longest.Statement.{statement}

@@ -4,7 +4,7 @@ use Rattle.text.specs.Bytes.{oneOf}
 use Rattle.sheet.specs.Sheet.{toEntry, ofEntry}
 use Rattle.fresh.specs.Fresh.{mark, frame}
 use Rattle.copying.proofs.CopyLaws.{behind, _then_, made}
-use Rattle.bodies.specs.Body.{frameOf}
+use Rattle.bodies.specs.Means.{frameOf}
 use borrow.Author.Needs.{needs}
 use Rattle.bodies.proofs.frames.copy_frame.Statement.{statement}
 use Rattle.bodies.proofs.frames.copy_frame.Tie as tie

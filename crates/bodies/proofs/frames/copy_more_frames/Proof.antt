@@ -8,9 +8,9 @@ use lib.ListN.{length}
 use Rattle.text.specs.Bytes.{oneOf}
 use Rattle.sheet.specs.Sheet.{entryForm}
 use Rattle.fresh.specs.Fresh.{mark}
-use Rattle.spelling.specs.Spelling.{pageOf}
+use Rattle.spelling.specs.Means.{pageOf}
 use Rattle.copying.proofs.CopyLaws.{copy-keeps, in-front, Walked, walk-start, walk-next, walk-done}
-use Rattle.bodies.specs.Body.{framesOf, commaFrames}
+use Rattle.bodies.specs.Means.{framesOf, commaFrames}
 use borrow.Author.Needs.{needs}
 use Rattle.bodies.proofs.frames.copy_more_frames.Statement.{statement}
 use Rattle.bodies.proofs.frames.copy_more_frames.Tie as tie

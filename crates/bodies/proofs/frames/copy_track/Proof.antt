@@ -9,7 +9,7 @@ use Rattle.sheet.specs.Sheet.{entryForm}
 use Rattle.decode.proofs.ReadLaws.{counted, each-none}
 use Rattle.fresh.specs.Fresh.{track}
 use Rattle.copying.proofs.CopyLaws.{renamed}
-use Rattle.bodies.specs.Body.{framesOf, commaFrames, joinedFrames, loopBy}
+use Rattle.bodies.specs.Means.{framesOf, commaFrames, joinedFrames, loopBy}
 use Rattle.bodies.proofs.ThenLaws.{known-then, keyed-then, isEmpty, some-copied, track-is, track-of}
 use borrow.Author.Needs.{needs}
 use Rattle.bodies.proofs.frames.copy_track.Statement.{statement}

@@ -5,7 +5,7 @@ use Rattle.sheet.specs.Sheet.{loopForm}
 use Rattle.pieces.specs.Pieces.{wordLike}
 use Rattle.fresh.specs.Fresh.{trackLoop}
 use Rattle.copying.proofs.CopyLaws.{_and_, is-absent, is-present, put-before}
-use Rattle.bodies.specs.Body.{loopBy}
+use Rattle.bodies.specs.Means.{loopBy}
 use borrow.Author.Needs.{needs}
 use Rattle.bodies.proofs.frames.copy_track_loop.Statement.{statement}
 use Rattle.bodies.proofs.frames.copy_track_loop.Tie as tie

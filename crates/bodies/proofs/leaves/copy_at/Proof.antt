@@ -6,7 +6,7 @@ use Rattle.sheet.specs.Sheet.{toAt, ofAt}
 use Rattle.fresh.specs.Fresh.{mark, leafBody}
 use Rattle.copying.proofs.CopyLaws.{one-piece, _and_, made}
 use Rattle.curves.proofs.PairLaws.{two-read}
-use Rattle.bodies.specs.Body.{body}
+use Rattle.bodies.specs.Means.{body}
 use borrow.Author.Needs.{needs}
 use Rattle.bodies.proofs.leaves.copy_at.Statement.{statement}
 use Rattle.bodies.proofs.leaves.copy_at.Tie as tie

@@ -8,7 +8,7 @@ use Rattle.pieces.specs.Pieces.{wordLike}
 use Rattle.fresh.specs.Meaning.{optionSense}
 use Rattle.fresh.specs.Fresh.{mark, field, commaIf}
 use Rattle.copying.proofs.CopyLaws.{one-piece, _and_, is-absent, is-present, put-before}
-use Rattle.bodies.specs.Body.{presetFields}
+use Rattle.bodies.specs.Means.{presetFields}
 use borrow.Author.Needs.{needs}
 use Rattle.bodies.proofs.leaves.copy_only_easing.Statement.{statement}
 use Rattle.bodies.proofs.leaves.copy_only_easing.Tie as tie

@@ -5,7 +5,7 @@ use Rattle.ast.specs.Tree as Tree
 use Rattle.sheet.specs.Sheet.{toPreset, ofPreset}
 use Rattle.fresh.specs.Fresh.{mark, leafBody}
 use Rattle.copying.proofs.CopyLaws.{copy-keeps, behind, _then_, made}
-use Rattle.bodies.specs.Body.{body}
+use Rattle.bodies.specs.Means.{body}
 use borrow.Author.Needs.{needs}
 use Rattle.bodies.proofs.leaves.copy_preset.Statement.{statement}
 use Rattle.bodies.proofs.leaves.copy_preset.Tie as tie

@@ -9,7 +9,7 @@ use Rattle.pieces.specs.Pieces.{wordLike}
 use Rattle.fresh.specs.Meaning.{optionSense}
 use Rattle.fresh.specs.Fresh.{mark, f32, easing, field, commaIf}
 use Rattle.copying.proofs.CopyLaws.{in-front}
-use Rattle.bodies.specs.Body.{presetFields}
+use Rattle.bodies.specs.Means.{presetFields}
 use Rattle.bodies.proofs.ThenLaws.{none-then, some-then}
 use borrow.Author.Needs.{needs}
 use Rattle.bodies.proofs.leaves.copy_preset_fields.Statement.{statement}

@@ -9,9 +9,9 @@ use Rattle.sheet.specs.Sheet.{toSpring, ofSpring}
 use Rattle.pieces.specs.Pieces.{wordLike}
 use Rattle.fresh.specs.Fresh.{mark, two, leafBody}
 use Rattle.grammar.specs.Grammar.{presetNames, integratorNames}
-use Rattle.copying.specs.Words.{allWords}
+use Rattle.copying.specs.WordMeans.{allWords}
 use Rattle.copying.proofs.CopyLaws.{copy-keeps, behind, _then_, made}
-use Rattle.bodies.specs.Body.{body}
+use Rattle.bodies.specs.Means.{body}
 use borrow.Author.Needs.{needs}
 use Rattle.bodies.proofs.leaves.copy_spring.Statement.{statement}
 use Rattle.bodies.proofs.leaves.copy_spring.Tie as tie

@@ -8,7 +8,7 @@ use Rattle.sheet.specs.Sheet.{toWaveform, ofWaveform}
 use Rattle.pieces.specs.Pieces.{wordLike}
 use Rattle.fresh.specs.Fresh.{mark, choose, waveNames, leafBody}
 use Rattle.copying.proofs.CopyLaws.{copy-keeps, read-put, behind, _then_, made}
-use Rattle.bodies.specs.Body.{body}
+use Rattle.bodies.specs.Means.{body}
 use borrow.Author.Needs.{needs}
 use Rattle.bodies.proofs.leaves.copy_waveform.Statement.{statement}
 use Rattle.bodies.proofs.leaves.copy_waveform.Tie as tie

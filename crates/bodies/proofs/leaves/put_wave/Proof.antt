@@ -7,7 +7,7 @@ use Rattle.text.specs.Words.{entries}
 use Rattle.digits.specs.Numeral.{all}
 use Rattle.pieces.specs.Pieces.{aName, wordLike}
 use Rattle.fresh.specs.Fresh.{choose, waveNames}
-use Rattle.copying.specs.Words.{allWords}
+use Rattle.copying.specs.WordMeans.{allWords}
 use Rattle.copying.proofs.CopyLaws.{one-piece, called}
 use Rattle.bodies.proofs.ThenLaws.{noise-wordless}
 use borrow.Author.Needs.{needs}

@@ -2,7 +2,7 @@
 use borrow.Author.Tests.{eq-eqb, ne-eqb}
 use Rattle.text.specs.Words.{entries}
 use Rattle.grammar.specs.Grammar.{spaceNames}
-use Rattle.copying.specs.Words.{allWords}
+use Rattle.copying.specs.WordMeans.{allWords}
 use mathlib.Core.Path.{refl}
 use native.Mathlib.Omega.{arith}
 use Rattle.digits.specs.Numeral.{all}

@@ -2,7 +2,7 @@
 use Prim.Native.Nat.{_-_, _≤_}
 use Rattle.text.specs.Bytes.{at}
 use Rattle.grammar.specs.Rule.{next}
-use Rattle.spelling.specs.Spelling.{pageOf}
+use Rattle.spelling.specs.Means.{pageOf}
 use mathlib.Core.Path.{refl}
 use native.Mathlib.Omega.{arith}
 use Rattle.text.specs.Bytes.{oneOf}

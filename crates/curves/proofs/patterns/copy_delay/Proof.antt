@@ -4,7 +4,7 @@ use Rattle.digits.specs.Numeral.{all}
 use Rattle.sheet.specs.Sheet.{word}
 use Rattle.pieces.specs.Pieces.{wordLike}
 use Rattle.copying.proofs.CopyLaws.{is-absent, is-present, put-before}
-use Rattle.curves.specs.Pairs.{delayBy}
+use Rattle.curves.specs.Means.{delayBy}
 use borrow.Author.Needs.{needs}
 use Rattle.curves.proofs.patterns.copy_delay.Statement.{statement}
 use Rattle.curves.proofs.patterns.copy_delay.Tie as tie

@@ -8,7 +8,7 @@ use Rattle.digits.specs.Numeral.{all}
 use Rattle.pieces.specs.Pieces.{wordLike}
 use Rattle.fresh.specs.Fresh.{choose}
 use Rattle.grammar.specs.Grammar.{originNames}
-use Rattle.copying.specs.Words.{allWords}
+use Rattle.copying.specs.WordMeans.{allWords}
 use Rattle.curves.proofs.PairLaws.{omitted, not-omitted}
 use borrow.Author.Needs.{needs}
 use Rattle.curves.proofs.patterns.put_origin.Statement.{statement}

@@ -4,7 +4,7 @@ use mathlib.Core.Path.{ap, _∙_}
 use lib.Dec.{leb}
 use borrow.Author.Needs.{needs}
 use borrow.Author.Tests.{le-leb, lt-leb}
-use Rattle.ast.specs.View.{spanView}
+use Rattle.ast.specs.Means.{spanView}
 use Rattle.ast.specs.declared.Span.{Span}
 use Rattle.sheet.specs.Sheet.{ofSpan, toSpan}
 use Rattle.decode.proofs.ReadLaws.{_&_}

@@ -1,7 +1,7 @@
 -- `decode::nodes::take_entry` meets its contract: one field after the other.
 use mathlib.Core.Path.{_∙_, sym}
 use borrow.Author.Needs.{needs}
-use Rattle.ast.specs.View.{entryOf}
+use Rattle.ast.specs.Means.{entryOf}
 use Rattle.sheet.specs.Sheet.{ofEntry, toEntry}
 use Rattle.decode.proofs.ReadLaws.{_&_}
 use Rattle.decode.proofs.ReadLaws as laws

@@ -3,7 +3,7 @@ use mathlib.Core.Path.{refl}
 use native.Mathlib.Omega.{arith}
 use borrow.Author.Needs.{needs}
 use Rattle.ast.specs.declared.LoopSpec.the-variants as loop
-use Rattle.decode.specs.Reads.{same}
+use Rattle.decode.specs.Means.{same}
 use Rattle.sheet.specs.Sheet.{loops, splitLoop}
 use Rattle.decode.proofs.ReadLaws as laws
 use Rattle.decode.proofs.values.take_loop.Statement.{statement}

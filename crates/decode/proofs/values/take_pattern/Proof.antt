@@ -3,7 +3,7 @@ use mathlib.Core.Path.{refl}
 use native.Mathlib.Omega.{arith}
 use borrow.Author.Needs.{needs}
 use Rattle.ast.specs.declared.StaggerPatternSpec.the-variants as pattern
-use Rattle.decode.specs.Reads.{same}
+use Rattle.decode.specs.Means.{same}
 use Rattle.sheet.specs.Sheet.{patterns, splitPattern}
 use Rattle.decode.proofs.ReadLaws.{_&_}
 use Rattle.decode.proofs.ReadLaws as laws

@@ -3,7 +3,7 @@ use Prim.Native.Nat.{_-_}
 use mathlib.Core.Path.{_≡_, refl, _∙_}
 use native.Mathlib.Omega.{arith}
 use lib.ListN.{length}
-use Rattle.plane.specs.Carry.{Records, BeforeAll}
+use Rattle.plane.specs.CarryMeans.{Records, BeforeAll}
 use Rattle.plane.proofs.AllMoveLaws.{ready, moved, further, tail, ended}
 use Rattle.plane.proofs.moves.move_all.Statement.{statement}
 use Rattle.plane.proofs.moves.move_all.Tie as tie

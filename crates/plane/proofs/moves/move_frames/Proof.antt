@@ -6,7 +6,7 @@ use Rattle.plane.proofs.FramesMoveLaws.{frame-ready, frame-done, last, 
 use Prim.Native.Nat.{_-_, _≤_}
 use mathlib.Core.Path.{_≡_}
 use lib.ListN.{length}
-use Rattle.plane.specs.Carry.{Frames, BeforeFrames}
+use Rattle.plane.specs.CarryMeans.{Frames, BeforeFrames}
 use Rattle.plane.proofs.moves.move_frames.Statement.{statement}
 use Rattle.plane.proofs.moves.move_frames.Tie as tie
 

@@ -1,6 +1,6 @@
 -- `validate::frames::take_head` meets its contract: the target, then the count.
 use borrow.Author.Needs.{needs}
-use Rattle.decode.specs.Reads.{passed}
+use Rattle.decode.specs.Means.{passed}
 use Rattle.decode.proofs.ReadLaws.{mapped}
 use Rattle.validate.proofs.frames.take_head.Statement.{statement}
 use Rattle.validate.proofs.frames.take_head.Tie as tie

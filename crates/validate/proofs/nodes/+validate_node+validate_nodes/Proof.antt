@@ -10,7 +10,7 @@ use borrow.Fn.PlainCycle.{Measures, is, falls, and}
 use Rattle.records.proofs.RecordLaws.{moves}
 use Rattle.records.proofs.WalkLaws.{nearer, node-end}
 use Rattle.sheet.specs.Sheet.{inner}
-use Rattle.validate.specs.Walks.{foundOf, Reached}
+use Rattle.validate.specs.WalkMeans.{foundOf, Reached}
 use Rattle.validate.proofs.KindLaws as kind-laws
 use Rattle.validate.proofs.WalkLaws as walks
 use Rattle.validate.proofs.nodes.validate_node.Reads as validate-node

@@ -6,7 +6,7 @@ use native.Mathlib.Omega.{arith}
 use borrow.Author.Needs.{needs}
 use lib.ListN.{getD}
 use Rattle.text.specs.Bytes.{part}
-use Rattle.words.specs.Keys.{onto}
+use Rattle.words.specs.KeyMeans.{onto}
 use Rattle.words.proofs.KeyLaws.{onto-end, onto-more, onto-room, onto-fits}
 use Rattle.words.proofs.packing.onto.Statement.{statement}
 use Rattle.words.proofs.packing.onto.Tie as tie

@@ -10,7 +10,7 @@ use lib.Seq.{sets}
 use Rattle.text.specs.Limits.{textLimit, wholeLimit, placesLimit}
 use Rattle.digits.specs.Numeral.{fraction}
 use Rattle.digits.specs.Fewest.{form, spelled}
-use Rattle.digits.specs.Answer.{wholeNumber}
+use Rattle.digits.specs.AnswerMeans.{wholeNumber}
 use Rattle.digits.specs.declared.Decimal.{Decimal}
 use Rattle.pieces.specs.Pieces.{Piece, spelt, fits}
 use Rattle.spelling.specs.declared.Pen.{Pen}

@@ -3,10 +3,10 @@ use Prim.Native.Nat.{ℕ}
 use mathlib.Core.List.{List}
 use mathlib.Core.Path.{_≡_}
 use Rattle.codec.specs.Codec.{Form}
-use Rattle.decode.specs.Reads.{Reads}
+use Rattle.decode.specs.Means.{Reads}
 use Rattle.pieces.specs.Pieces.{Piece}
 use Rattle.fresh.specs.Fresh.{Writer}
-use Rattle.spelling.specs.Spelling.{Page, size, run, pageOf}
+use Rattle.spelling.specs.Means.{Page, size, run, pageOf}
 use Rattle.spelling.specs.declared.Pen.{Pen}
 use Rattle.copying.specs.declared.values.Copied.{Copied}
 

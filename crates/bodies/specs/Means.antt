@@ -6,7 +6,7 @@ use mathlib.Core.Option.{Option, none, some}
 use Rattle.ast.specs.Tree.{KeyframeTime, KeyframeEntry, Leaf, LoopSpec}
 use Rattle.fresh.specs.Meaning.{EasingSense, FrameSense, optionSense, framesSense, leafSense}
 use Rattle.fresh.specs.Fresh.{Writer, mark, frame, f32, easing, field, commaIf, trackLoop, leafBody}
-use Rattle.curves.specs.Pairs.{commaUnless}
+use Rattle.curves.specs.Means.{commaUnless}
 
 -- a sheet's times are as they are stored
 abbrev pub stored : KeyframeTime → KeyframeTime

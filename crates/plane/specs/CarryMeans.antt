@@ -10,7 +10,7 @@ use Rattle.codec.specs.Codec.{Form, big, opt, many, eachOut}
 use Rattle.ast.specs.Tree.{ValueExpr, scalar, array, KeyframeTime, KeyframeEntry, KeyframeSpec, keyframes, single, holding}
 use Rattle.sheet.specs.Sheet.{word, easingForm, loopForm, entryFormOf, Node}
 use Rattle.sheet.specs.Records.{recordAs, kindOf}
-use Rattle.records.specs.Record.{recordForm}
+use Rattle.records.specs.Means.{recordForm}
 use Rattle.planed.specs.Planes.{entryNumbers, frameNumbers, leafNumbers}
 use Rattle.error.specs.declared.LineAnswer.{LineAnswer}
 use Rattle.plane.specs.Means.{Right, FourBytes}

@@ -6,18 +6,18 @@ use lib.ListN.{length, drop}
 use Rattle.codec.specs.Codec.{Form, big}
 use Rattle.ast.specs.Tree.{Nodes, single, holding, push}
 use Rattle.sheet.specs.Sheet.{Node, Forest, nodeForm, forest, inner}
-use Rattle.decode.specs.Reads.{Reads, KindAndStart, same}
-use Rattle.records.specs.Record.{recordForm, kindView}
+use Rattle.decode.specs.Means.{Reads, KindAndStart, same}
+use Rattle.records.specs.Means.{recordForm, kindView}
 use Rattle.records.specs.declared.Kind.{Kind}
 use Rattle.records.specs.declared.Kind.the-variants.{Leaf, Container}
-use Rattle.places.specs.Stands.{Stands}
+use Rattle.places.specs.Means.{Stands}
 use Rattle.pieces.specs.Pieces.{Piece}
 use Rattle.fresh.specs.Meaning.{leafSense, sense}
 use Rattle.fresh.specs.Fresh.{Writer, spell, mark, leafWord, boxWord, boxBody, pieces}
-use Rattle.spelling.specs.Spelling.{Page, put, run}
-use Rattle.copying.specs.Copies.{Written}
+use Rattle.spelling.specs.Means.{Page, put, run}
+use Rattle.copying.specs.Means.{Written}
 use Rattle.copying.specs.declared.values.Copied.{Copied}
-use Rattle.bodies.specs.Body.{stored, body}
+use Rattle.bodies.specs.Means.{stored, body}
 use Rattle.preorder.specs.declared.RecordCopy.{RecordCopy}
 
 -- ---- a record

@@ -4,7 +4,7 @@ use mathlib.Core.Bool.{cond}
 use mathlib.Core.List.{List, [], _∷_}
 use mathlib.Core.Option.{Option, none, some}
 use lib.Dec.{eqb}
-use Rattle.words.specs.Lists.{listOf}
+use Rattle.words.specs.ListMeans.{listOf}
 
 -- the bytes of a word below a number, the first the least
 unfoldable pub onto : ℕ → List ℕ → ℕ

@@ -6,8 +6,8 @@ use lib.ListN.{length}
 use Rattle.codec.specs.Codec.{Form}
 use Rattle.ast.specs.Tree.{Nodes, single, holding, push, records}
 use Rattle.sheet.specs.Sheet.{Node, Forest, nodeForm, forest, inner}
-use Rattle.decode.specs.Reads.{Reads, KindAndStart}
-use Rattle.records.specs.Record.{recordForm, kindView}
+use Rattle.decode.specs.Means.{Reads, KindAndStart}
+use Rattle.records.specs.Means.{recordForm, kindView}
 use Rattle.records.specs.declared.Kind.{Kind}
 use Rattle.colors.specs.Css.{namesOf}
 use Rattle.error.specs.declared.Refusal.{Refusal}

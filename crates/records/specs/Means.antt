@@ -11,7 +11,7 @@ use Rattle.codec.specs.Codec.{Form, via, big}
 use Rattle.ast.specs.Tree.{Nodes, box, sequence, single, holding, width}
 use Rattle.sheet.specs.Sheet.{Node, Forest, nodeForm, decode}
 use Rattle.sheet.specs.Records.{allRecords, kindOf, entriesOf}
-use Rattle.decode.specs.Reads.{Reads, passed}
+use Rattle.decode.specs.Means.{Reads, passed}
 use Rattle.records.specs.declared.Kind.{Kind}
 use Rattle.records.specs.declared.Kind.the-variants.{Leaf, Container}
 use Rattle.records.specs.declared.RecordAt.{RecordAt}

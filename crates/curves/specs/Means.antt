@@ -6,7 +6,7 @@ use mathlib.Core.Path.{_≡_}
 use Prim.Native.Nat.{ℕ}
 use Rattle.pieces.specs.Pieces.{Piece}
 use Rattle.fresh.specs.Fresh.{Writer, Pair, spell, mark, f32, pairs, morePairs, unless}
-use Rattle.spelling.specs.Spelling.{Page, run}
+use Rattle.spelling.specs.Means.{Page, run}
 
 abbrev pub commaUnless : Bool → Writer
 commaUnless true ps = ps
