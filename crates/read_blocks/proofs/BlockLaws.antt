@@ -29,7 +29,8 @@ use Rattle.read_heads.proofs.RowLaws.{Each, by-row}
 use Rattle.read_arrays.proofs.ArrayLaws.{mark-seen, mark-unseen}
 use Rattle.read_node.specs.Means.{leafKind, leafFields}
 use Rattle.read_blocks.specs.Means.{containerKind, containerKindAt, frontBytes, LeafBegun, ContainerBegun, HeadWent, Reached, Headed}
-use Rattle.read_blocks.specs.Means.{Counted, nodeBytes, nodesBytes, NodeWent, NodeMeans, BlockWent, BlockMeans, Held, heldBy, HeldMeans}
+use Rattle.read_blocks.specs.Means.{Counted, nodeBytes, nodesBytes, NodeWent, NodeMeans, BlockWent, BlockMeans, Held, heldBy}
+use Rattle.read_blocks.specs.Means.{HeldMeans}
 use Rattle.read_blocks.specs.Means.{Standing, Stepped, Ended, parseNodes, NodesWent}
 use Rattle.read_blocks.specs.declared.ParsedNode.{ParsedNode}
 use Rattle.read_blocks.specs.declared.ParsedNode.the-variants as node

@@ -8,7 +8,8 @@ use lib.ListN.{getElem?}
 use Rattle.text.specs.Bytes.{bytes}
 use Rattle.text.specs.Words.{default}
 use Rattle.ast.specs.Tree as tree
-use Rattle.sheet_encode.specs.Means.{PlainPattern, PlainOptFloat, PlainOptPattern, patternOf, optFloatOf, optWordOf, optCaseOf, optPatternOf}
+use Rattle.sheet_encode.specs.Means.{PlainPattern, PlainOptFloat, PlainOptPattern, patternOf, optFloatOf, optWordOf, optCaseOf}
+use Rattle.sheet_encode.specs.Means.{optPatternOf}
 use Rattle.error.specs.declared.Refusal.{Refusal}
 use Rattle.error.specs.declared.Refusal.the-variants.{UnknownKeyword, StaggerGridIncomplete}
 use Rattle.grammar.specs.Rule.{refused, Rule, _>>=_, give, need}

@@ -1,7 +1,8 @@
 -- `read_cursor::past_group` meets its contract.
 use Prim.Native.Nat.{_-_}
 use Rattle.token.specs.Token.{Kind}
-use Rattle.read_cursor.proofs.CursorLaws.{Leaving, head-told, leaving-closes, leaving-goes, leaving-halts, leaving-moves, leaving-start}
+use Rattle.read_cursor.proofs.CursorLaws.{Leaving, head-told, leaving-closes, leaving-goes, leaving-halts, leaving-moves}
+use Rattle.read_cursor.proofs.CursorLaws.{leaving-start}
 use mathlib.Core.Path.{ap, sym, _∙_}
 use native.Mathlib.Omega.{arith}
 use lib.ListN.{length}

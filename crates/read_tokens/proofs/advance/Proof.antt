@@ -1,5 +1,6 @@
 -- `read_tokens::advance` meets its contract.
--- A walk of its MIR, by hand: the struct is taken apart, `read_cursor::advance` is called on the text and the cursor, and a reader is made of
+-- A walk of its MIR, by hand: the struct is taken apart, `read_cursor::advance` is called on the text and the cursor, and a reader is
+-- made of
 -- the text and of the cursor that it gives. All that is known of the callee is that it meets its contract.
 use mathlib.Core.Path.{refl}
 use mathlib.Core.List.{[], _∷_}

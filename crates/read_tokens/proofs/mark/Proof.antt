@@ -1,5 +1,6 @@
 -- `read_tokens::mark` meets its contract.
--- A walk of its MIR, by hand: the struct is taken apart, and `read_cursor::mark` is called on the text, the cursor and the byte. All that is
+-- A walk of its MIR, by hand: the struct is taken apart, and `read_cursor::mark` is called on the text, the cursor and the byte. All that
+-- is
 -- known of the callee is that it meets its contract.
 use mathlib.Core.Path.{refl}
 use Prim.Native.Nat.{ℕ, _<_, _^_}

@@ -1,5 +1,6 @@
 -- `read_tokens::new` meets its contract.
--- A walk of its MIR, by hand: `readable` gives the part of the text that is read and `read_cursor::first` a cursor in it, and a reader is made
+-- A walk of its MIR, by hand: `readable` gives the part of the text that is read and `read_cursor::first` a cursor in it, and a reader is
+-- made
 -- of both. All that is known of either is that it meets its contract.
 -- A `&[u8]` is Copy, so what it owns is had for the callee, for the exit and for the result.
 use mathlib.Core.Path.{_≡_, refl, subst⁻¹}

@@ -1,5 +1,6 @@
 -- `read_tokens::sees` meets its contract.
--- A walk of its MIR, by hand: the struct is taken apart, and `read_cursor::sees` is called on the cursor and the byte. All that is known of the
+-- A walk of its MIR, by hand: the struct is taken apart, and `read_cursor::sees` is called on the cursor and the byte. All that is known
+-- of the
 -- callee is that it meets its contract.
 -- The callee takes no reference, so the lifetime's token is kept over the call.
 use mathlib.Core.Path.{_≡_, refl}

@@ -1,5 +1,6 @@
 -- `read_tokens::word` meets its contract.
--- A walk of its MIR, by hand: the struct is taken apart, and `read_cursor::word` is called on the text and the cursor. All that is known of the
+-- A walk of its MIR, by hand: the struct is taken apart, and `read_cursor::word` is called on the text and the cursor. All that is known
+-- of the
 -- callee is that it meets its contract.
 use mathlib.Core.Path.{refl}
 use mathlib.Core.List.{[], _∷_}

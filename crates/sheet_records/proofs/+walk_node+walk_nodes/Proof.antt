@@ -1,4 +1,5 @@
--- `sheet_records::walk_node` and `sheet_records::walk_nodes` meet their contracts: a node is its record and then the nodes in it; bytes left fall from
+-- `sheet_records::walk_node` and `sheet_records::walk_nodes` meet their contracts: a node is its record and then the nodes in it; bytes
+-- left fall from
 -- a node to the nodes in it.
 use Prim.Native.Nat.{_*_, _+_, _-_, _≤_, ℕ, _<_}
 use mathlib.Core.Option.{some}

@@ -1,4 +1,5 @@
--- `sheet_records::find_record` meets its contract: where the bytes are a sheet, the walk has noted the place behind the records before this one.
+-- `sheet_records::find_record` meets its contract: where the bytes are a sheet, the walk has noted the place behind the records before
+-- this one.
 use native.Mathlib.Omega.{arith}
 use borrow.Author.Needs.{needs}
 use Rattle.sheet_records.proofs.RecordLaws.{moves}

@@ -1,4 +1,5 @@
--- `sheet_shape::walk::pass_node` and `sheet_shape::walk::pass_nodes` meet their contracts: a node is its record and then the nodes in it; bytes left
+-- `sheet_shape::walk::pass_node` and `sheet_shape::walk::pass_nodes` meet their contracts: a node is its record and then the nodes in it;
+-- bytes left
 -- fall from a node to the nodes in it.
 use Prim.Native.Nat.{ℕ, _+_, _*_, _-_, _^_, _≤_, _<_}
 use native.Mathlib.Omega.{arith}
