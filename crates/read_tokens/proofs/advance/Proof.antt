@@ -46,9 +46,9 @@ use Rattle.read_tokens.proofs.Held.{B, D, L, textVal, cursorVal, reader
 use Rattle.read_tokens.proofs.Held.{Typed, madeVal, cursor-typed, apart, made, made-typed}
 use Rattle.read_cursor.proofs.advance as callee
 use Rattle.read_cursor.proofs.advance.Symbol as callee-def
-use Rattle.read_cursor.proofs.advance.Symbol.{name as #cursor·advance}
+use Rattle.read_cursor.proofs.advance.Symbol.{name as #read-cursor·advance}
 use Rattle.read_cursor.proofs.advance.Met as callee-thm
-use Rattle.read_tokens.proofs.advance.Key.{name as #reader·advance}
+use Rattle.read_tokens.proofs.advance.Key.{name as #read-tokens·advance}
 use Rattle.read_tokens.proofs.advance as advance
 use Rattle.read_tokens.proofs.advance.Statement as stated
 use Rattle.read_tokens.proofs.advance.Code as code
@@ -109,7 +109,7 @@ module _ {M : Type 1} (𝓤 : URA M) (H : Heap 𝓤) (A : Atoms 𝓤) (W : Given
       -- [what the fields own; what the struct owns; what the new cursor owns]
       nothing ! $ move ! (2 ∷ 0 ∷ []) $ fjoin ! $ frame ! $ fsplit ! $ move ! (1 ∷ []) $ drop ! $ by ! (made 𝓤 H A W κ (reader c) u is)
 
-  module _ (C : Calls 𝓤 H) (Λ : Loops 𝓤 H) (fm : FmC 𝓤 H (W .laws) C) (known : Triple 𝓤 (C #cursor·advance) (Callee 𝓤 H A mem run)) where
+  module _ (C : Calls 𝓤 H) (Λ : Loops 𝓤 H) (fm : FmC 𝓤 H (W .laws) C) (known : Triple 𝓤 (C #read-cursor·advance) (Callee 𝓤 H A mem run)) where
     walk : Holds (hasTy (T′.mir (named 0)) mach) × WT mach
         → Is (ShrSlice (named 0) κ u8) (d .text) (textVal d ∷ [])
         → Typed (cursorVal (d .cursor))
@@ -146,7 +146,7 @@ module _ {M : Type 1} (𝓤 : URA M) (H : Heap 𝓤) (A : Atoms 𝓤) (W : Given
         free1 ! $ move ! (5 ∷ 6 ∷ []) $ free1 ! $ move ! (3 ∷ 4 ∷ []) $ free1 ! $ free0 ! $ by ! (exits c u is e)))))))))))
 
 module _ {M : Type 1} (𝓤 : URA M) (H : Heap 𝓤) (A : Atoms 𝓤) (W : Given 𝓤 H A) (mem : Memory → SProp 𝓤) (run : Routine → Fun 𝓤) where
-  advance-walks : (C : Calls 𝓤 H) (Λ : Loops 𝓤 H) → FmC 𝓤 H (W .laws) C → Triple 𝓤 (C #cursor·advance) (Callee 𝓤 H A mem run)
+  advance-walks : (C : Calls 𝓤 H) (Λ : Loops 𝓤 H) → FmC 𝓤 H (W .laws) C → Triple 𝓤 (C #read-cursor·advance) (Callee 𝓤 H A mem run)
       → Walks 𝓤 H A advance.ended stayed (WpFn 𝓤 H C Λ code.function) (advance.clauses 𝓤 H A mem run)
   advance-walks C Λ fm known =
       walked 𝓤 H A advance.ended stayed (advance.clauses 𝓤 H A mem run) (WpFn 𝓤 H C Λ code.function)
@@ -165,7 +165,7 @@ module _ {M : Type 1} (𝓤 : URA M) (H : Heap 𝓤) (A : Atoms 𝓤) (W : Given
 
 advance-meets : {M : Type 1} (𝓤 : URA M) (H : Heap 𝓤) (A : Atoms 𝓤) (W : Given 𝓤 H A) (mem : Memory → SProp 𝓤) (run : Routine → Fun 𝓤)
     (𝓣 : Tables 𝓤 H)
-    → Triple 𝓤 (𝓣 .C #cursor·advance) (Callee 𝓤 H A mem run)
+    → Triple 𝓤 (𝓣 .C #read-cursor·advance) (Callee 𝓤 H A mem run)
     → Meets 𝓤 H A advance.signature (WpFn 𝓤 H (𝓣 .C) (𝓣 .Λ) code.function) (advance.spec 𝓤 H A mem run)
 advance-meets 𝓤 H A W mem run 𝓣 known =
     walk-meets 𝓤 H A advance.ended stayed W (goes-none 𝓤 H A W 1 B yes (λ κs x f. refl), tt) (advance.clauses 𝓤 H A mem run)
@@ -176,7 +176,7 @@ pub advance-spec : {M : Type 1} → stated.statement M
 unfolding code.routine tablesOf
 advance-spec 𝓤 H 𝓜 𝓖 𝓡 =
     entered 𝓤 H (tripleOf 𝓤 H (𝓖 .A) advance.signature (advance.spec 𝓤 H (𝓖 .A) (𝓜 .mem) (𝓡 .run)))
-    (tables 𝓤 H 𝓜 𝓡 code.env .C) (tables 𝓤 H 𝓜 𝓡 code.env .Λ) #reader·advance code.function (code.unfolded 𝓤 H 𝓜 𝓡)
+    (tables 𝓤 H 𝓜 𝓡 code.env .C) (tables 𝓤 H 𝓜 𝓡 code.env .Λ) #read-tokens·advance code.function (code.unfolded 𝓤 H 𝓜 𝓡)
     (advance-meets 𝓤 H (𝓖 .A) (givenOf 𝓤 H 𝓜 𝓖) (𝓜 .mem) (𝓡 .run) (tablesOf 𝓤 H 𝓜 (tables 𝓤 H 𝓜 𝓡 code.env))
-    (cited 𝓤 H (Callee 𝓤 H (𝓖 .A) (𝓜 .mem) (𝓡 .run)) 𝓜 𝓡 code.env #cursor·advance callee-def.routine code.calls-cursor·advance
+    (cited 𝓤 H (Callee 𝓤 H (𝓖 .A) (𝓜 .mem) (𝓡 .run)) 𝓜 𝓡 code.env #read-cursor·advance callee-def.routine code.calls-read-cursor·advance
     (callee-thm.met 𝓤 H 𝓜 𝓖 𝓡)))

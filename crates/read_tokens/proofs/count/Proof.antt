@@ -44,9 +44,9 @@ use Rattle.read_tokens.proofs.TokenReader.Laws as T′
 use Rattle.read_tokens.proofs.Held.{B, D, L, textVal, cursorVal, readerVal, Own, Fields, Typed, cursor-typed, apart}
 use Rattle.read_tokens.proofs.count_from as callee
 use Rattle.read_tokens.proofs.count_from.Symbol as callee-def
-use Rattle.read_tokens.proofs.count_from.Symbol.{name as #reader·count-from}
+use Rattle.read_tokens.proofs.count_from.Symbol.{name as #read-tokens·count-from}
 use Rattle.read_tokens.proofs.count_from.Met as callee-thm
-use Rattle.read_tokens.proofs.count.Key.{name as #reader·count}
+use Rattle.read_tokens.proofs.count.Key.{name as #read-tokens·count}
 use Rattle.read_tokens.proofs.count as count
 use Rattle.read_tokens.proofs.count.Statement as stated
 use Rattle.read_tokens.proofs.count.Code as code
@@ -102,7 +102,7 @@ module _ {M : Type 1} (𝓤 : URA M) (H : Heap 𝓤) (A : Atoms 𝓤) (W : Given
       says ! e $
       move ! (1 ∷ []) $ frame ! $ nothing ! $ move ! (2 ∷ 0 ∷ []) $ fjoin ! $ frame ! $ done !
 
-  module _ (C : Calls 𝓤 H) (Λ : Loops 𝓤 H) (fm : FmC 𝓤 H (W .laws) C) (known : Triple 𝓤 (C #reader·count-from) (Callee 𝓤 H A mem run)) where
+  module _ (C : Calls 𝓤 H) (Λ : Loops 𝓤 H) (fm : FmC 𝓤 H (W .laws) C) (known : Triple 𝓤 (C #read-tokens·count-from) (Callee 𝓤 H A mem run)) where
     walk : Holds (hasTy (T′.mir (named 0)) mach) × WT mach → Typed (cursorVal (d .cursor))
         → ent 𝓤 (onEntry 𝓤 H A count.signature (κ, tt) (q, tt) (d, tt) (mach ∷ [], tt)) (WpFn 𝓤 H C Λ code.function (mach ∷ []) Post)
     walk wt ct =
@@ -128,7 +128,7 @@ module _ {M : Type 1} (𝓤 : URA M) (H : Heap 𝓤) (A : Atoms 𝓤) (W : Given
         free0 ! $ by ! (exits n u e)))))))))
 
 module _ {M : Type 1} (𝓤 : URA M) (H : Heap 𝓤) (A : Atoms 𝓤) (W : Given 𝓤 H A) (mem : Memory → SProp 𝓤) (run : Routine → Fun 𝓤) where
-  count-walks : (C : Calls 𝓤 H) (Λ : Loops 𝓤 H) → FmC 𝓤 H (W .laws) C → Triple 𝓤 (C #reader·count-from) (Callee 𝓤 H A mem run)
+  count-walks : (C : Calls 𝓤 H) (Λ : Loops 𝓤 H) → FmC 𝓤 H (W .laws) C → Triple 𝓤 (C #read-tokens·count-from) (Callee 𝓤 H A mem run)
       → Walks 𝓤 H A count.ended stayed (WpFn 𝓤 H C Λ code.function) (count.clauses 𝓤 H A mem run)
   count-walks C Λ fm known =
       walked 𝓤 H A count.ended stayed (count.clauses 𝓤 H A mem run) (WpFn 𝓤 H C Λ code.function)
@@ -141,7 +141,7 @@ module _ {M : Type 1} (𝓤 : URA M) (H : Heap 𝓤) (A : Atoms 𝓤) (W : Given
 
 count-meets : {M : Type 1} (𝓤 : URA M) (H : Heap 𝓤) (A : Atoms 𝓤) (W : Given 𝓤 H A) (mem : Memory → SProp 𝓤) (run : Routine → Fun 𝓤)
     (𝓣 : Tables 𝓤 H)
-    → Triple 𝓤 (𝓣 .C #reader·count-from) (Callee 𝓤 H A mem run)
+    → Triple 𝓤 (𝓣 .C #read-tokens·count-from) (Callee 𝓤 H A mem run)
     → Meets 𝓤 H A count.signature (WpFn 𝓤 H (𝓣 .C) (𝓣 .Λ) code.function) (count.spec 𝓤 H A mem run)
 count-meets 𝓤 H A W mem run 𝓣 known =
     walk-meets 𝓤 H A count.ended stayed W (goes-none 𝓤 H A W 1 B yes (λ κs x f. refl), tt) (count.clauses 𝓤 H A mem run)
@@ -152,7 +152,7 @@ pub count-spec : {M : Type 1} → stated.statement M
 unfolding code.routine tablesOf
 count-spec 𝓤 H 𝓜 𝓖 𝓡 =
     entered 𝓤 H (tripleOf 𝓤 H (𝓖 .A) count.signature (count.spec 𝓤 H (𝓖 .A) (𝓜 .mem) (𝓡 .run)))
-    (tables 𝓤 H 𝓜 𝓡 code.env .C) (tables 𝓤 H 𝓜 𝓡 code.env .Λ) #reader·count code.function (code.unfolded 𝓤 H 𝓜 𝓡)
+    (tables 𝓤 H 𝓜 𝓡 code.env .C) (tables 𝓤 H 𝓜 𝓡 code.env .Λ) #read-tokens·count code.function (code.unfolded 𝓤 H 𝓜 𝓡)
     (count-meets 𝓤 H (𝓖 .A) (givenOf 𝓤 H 𝓜 𝓖) (𝓜 .mem) (𝓡 .run) (tablesOf 𝓤 H 𝓜 (tables 𝓤 H 𝓜 𝓡 code.env))
-    (cited 𝓤 H (Callee 𝓤 H (𝓖 .A) (𝓜 .mem) (𝓡 .run)) 𝓜 𝓡 code.env #reader·count-from callee-def.routine code.calls-reader·count-from
+    (cited 𝓤 H (Callee 𝓤 H (𝓖 .A) (𝓜 .mem) (𝓡 .run)) 𝓜 𝓡 code.env #read-tokens·count-from callee-def.routine code.calls-read-tokens·count-from
     (callee-thm.met 𝓤 H 𝓜 𝓖 𝓡)))

@@ -48,13 +48,13 @@ use Rattle.read_tokens.proofs.TokenReader.Laws as T′
 use Rattle.read_tokens.proofs.Held.{B, Fresh, fresh-ready, fresh-tokens}
 use Rattle.read_tokens.proofs.new as new
 use Rattle.read_tokens.proofs.new.Symbol as new-def
-use Rattle.read_tokens.proofs.new.Symbol.{name as #reader·new}
+use Rattle.read_tokens.proofs.new.Symbol.{name as #read-tokens·new}
 use Rattle.read_tokens.proofs.new.Met as new-thm
 use Rattle.read_tokens.proofs.count as count
 use Rattle.read_tokens.proofs.count.Symbol as count-def
-use Rattle.read_tokens.proofs.count.Symbol.{name as #reader·count}
+use Rattle.read_tokens.proofs.count.Symbol.{name as #read-tokens·count}
 use Rattle.read_tokens.proofs.count.Met as count-thm
-use Rattle.read_tokens.proofs.count_tokens.Key.{name as #reader·count-tokens}
+use Rattle.read_tokens.proofs.count_tokens.Key.{name as #read-tokens·count-tokens}
 use Rattle.read_tokens.proofs.count_tokens as total
 use Rattle.read_tokens.proofs.count_tokens.Statement as stated
 use Rattle.read_tokens.proofs.count_tokens.Code as code
@@ -134,8 +134,8 @@ module _ {M : Type 1} (𝓤 : URA M) (H : Heap 𝓤) (A : Atoms 𝓤) (W : Given
       says ! e $
       move ! (1 ∷ []) $ frame ! $ nothing ! $ move ! (2 ∷ 0 ∷ []) $ fjoin ! $ frame ! $ done !
 
-  module _ (C : Calls 𝓤 H) (Λ : Loops 𝓤 H) (fm : FmC 𝓤 H (W .laws) C) (known-new : Triple 𝓤 (C #reader·new) (New 𝓤 H A mem run))
-      (known-count : Triple 𝓤 (C #reader·count) (Count 𝓤 H A mem run)) where
+  module _ (C : Calls 𝓤 H) (Λ : Loops 𝓤 H) (fm : FmC 𝓤 H (W .laws) C) (known-new : Triple 𝓤 (C #read-tokens·new) (New 𝓤 H A mem run))
+      (known-count : Triple 𝓤 (C #read-tokens·count) (Count 𝓤 H A mem run)) where
     walk : Is (ShrSlice (named 0) κ u8) s (v ∷ [])
         → ent 𝓤 (onEntry 𝓤 H A total.signature (κ, tt) (q, tt) (s, tt) (v ∷ [], tt)) (WpFn 𝓤 H C Λ code.function (v ∷ []) Post)
     walk p =
@@ -167,7 +167,7 @@ module _ {M : Type 1} (𝓤 : URA M) (H : Heap 𝓤) (A : Atoms 𝓤) (W : Given
 
 module _ {M : Type 1} (𝓤 : URA M) (H : Heap 𝓤) (A : Atoms 𝓤) (W : Given 𝓤 H A) (mem : Memory → SProp 𝓤) (run : Routine → Fun 𝓤) where
   total-walks : (C : Calls 𝓤 H) (Λ : Loops 𝓤 H) → FmC 𝓤 H (W .laws) C
-      → Triple 𝓤 (C #reader·new) (New 𝓤 H A mem run) → Triple 𝓤 (C #reader·count) (Count 𝓤 H A mem run)
+      → Triple 𝓤 (C #read-tokens·new) (New 𝓤 H A mem run) → Triple 𝓤 (C #read-tokens·count) (Count 𝓤 H A mem run)
       → Walks 𝓤 H A total.ended stayed (WpFn 𝓤 H C Λ code.function) (total.clauses 𝓤 H A mem run)
   total-walks C Λ fm known-new known-count =
       walked 𝓤 H A total.ended stayed (total.clauses 𝓤 H A mem run) (WpFn 𝓤 H C Λ code.function) (λ κs. (slice-vals, tt))
@@ -177,7 +177,7 @@ module _ {M : Type 1} (𝓤 : URA M) (H : Heap 𝓤) (A : Atoms 𝓤) (W : Given
 
 total-meets : {M : Type 1} (𝓤 : URA M) (H : Heap 𝓤) (A : Atoms 𝓤) (W : Given 𝓤 H A) (mem : Memory → SProp 𝓤) (run : Routine → Fun 𝓤)
     (𝓣 : Tables 𝓤 H)
-    → Triple 𝓤 (𝓣 .C #reader·new) (New 𝓤 H A mem run) → Triple 𝓤 (𝓣 .C #reader·count) (Count 𝓤 H A mem run)
+    → Triple 𝓤 (𝓣 .C #read-tokens·new) (New 𝓤 H A mem run) → Triple 𝓤 (𝓣 .C #read-tokens·count) (Count 𝓤 H A mem run)
     → Meets 𝓤 H A total.signature (WpFn 𝓤 H (𝓣 .C) (𝓣 .Λ) code.function) (total.spec 𝓤 H A mem run)
 total-meets 𝓤 H A W mem run 𝓣 known-new known-count =
     walk-meets 𝓤 H A total.ended stayed W (goes-none-slice 𝓤 H A W 1 (0 ∷ []) tt (plain (λ _. u8)) yes, tt) (total.clauses 𝓤 H A mem run)
@@ -188,8 +188,8 @@ pub count-tokens-spec : {M : Type 1} → stated.statement M
 unfolding code.routine tablesOf
 count-tokens-spec 𝓤 H 𝓜 𝓖 𝓡 =
     entered 𝓤 H (tripleOf 𝓤 H (𝓖 .A) total.signature (total.spec 𝓤 H (𝓖 .A) (𝓜 .mem) (𝓡 .run)))
-    (tables 𝓤 H 𝓜 𝓡 code.env .C) (tables 𝓤 H 𝓜 𝓡 code.env .Λ) #reader·count-tokens code.function (code.unfolded 𝓤 H 𝓜 𝓡)
+    (tables 𝓤 H 𝓜 𝓡 code.env .C) (tables 𝓤 H 𝓜 𝓡 code.env .Λ) #read-tokens·count-tokens code.function (code.unfolded 𝓤 H 𝓜 𝓡)
     (total-meets 𝓤 H (𝓖 .A) (givenOf 𝓤 H 𝓜 𝓖) (𝓜 .mem) (𝓡 .run) (tablesOf 𝓤 H 𝓜 (tables 𝓤 H 𝓜 𝓡 code.env))
-    (cited 𝓤 H (New 𝓤 H (𝓖 .A) (𝓜 .mem) (𝓡 .run)) 𝓜 𝓡 code.env #reader·new new-def.routine code.calls-reader·new (new-thm.met 𝓤 H 𝓜 𝓖 𝓡))
-    (cited 𝓤 H (Count 𝓤 H (𝓖 .A) (𝓜 .mem) (𝓡 .run)) 𝓜 𝓡 code.env #reader·count count-def.routine code.calls-reader·count
+    (cited 𝓤 H (New 𝓤 H (𝓖 .A) (𝓜 .mem) (𝓡 .run)) 𝓜 𝓡 code.env #read-tokens·new new-def.routine code.calls-read-tokens·new (new-thm.met 𝓤 H 𝓜 𝓖 𝓡))
+    (cited 𝓤 H (Count 𝓤 H (𝓖 .A) (𝓜 .mem) (𝓡 .run)) 𝓜 𝓡 code.env #read-tokens·count count-def.routine code.calls-read-tokens·count
     (count-thm.met 𝓤 H 𝓜 𝓖 𝓡)))

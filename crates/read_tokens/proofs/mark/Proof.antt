@@ -49,9 +49,9 @@ use Rattle.read_tokens.proofs.TokenReader.Laws as T′
 use Rattle.read_tokens.proofs.Held.{B, D, L, textVal, cursorVal, readerVal, Own, Fields, Typed, cursor-typed, apart}
 use Rattle.read_cursor.proofs.mark as callee
 use Rattle.read_cursor.proofs.mark.Symbol as callee-def
-use Rattle.read_cursor.proofs.mark.Symbol.{name as #cursor·mark}
+use Rattle.read_cursor.proofs.mark.Symbol.{name as #read-cursor·mark}
 use Rattle.read_cursor.proofs.mark.Met as callee-thm
-use Rattle.read_tokens.proofs.mark.Key.{name as #reader·mark}
+use Rattle.read_tokens.proofs.mark.Key.{name as #read-tokens·mark}
 use Rattle.read_tokens.proofs.mark as mark
 use Rattle.read_tokens.proofs.mark.Statement as stated
 use Rattle.read_tokens.proofs.mark.Code as code
@@ -118,7 +118,7 @@ module _ {M : Type 1} (𝓤 : URA M) (H : Heap 𝓤) (A : Atoms 𝓤) (W : Given
       fjoin ! $ move ! (2 ∷ 0 ∷ []) $ fjoin ! $ frame ! $
       done !
 
-  module _ (C : Calls 𝓤 H) (Λ : Loops 𝓤 H) (fm : FmC 𝓤 H (W .laws) C) (known : Triple 𝓤 (C #cursor·mark) (Callee 𝓤 H A mem run)) where
+  module _ (C : Calls 𝓤 H) (Λ : Loops 𝓤 H) (fm : FmC 𝓤 H (W .laws) C) (known : Triple 𝓤 (C #read-cursor·mark) (Callee 𝓤 H A mem run)) where
     walk : Holds (hasTy (T′.mir (named 0)) mach) × WT mach → Typed (cursorVal (d .cursor))
         → ent 𝓤 (onEntry 𝓤 H A mark.signature (κ, tt) (q, tt) (d, (b, tt)) at) (WpFn 𝓤 H C Λ code.function (mach ∷ vint w8 b ∷ []) Post)
     walk wt ct =
@@ -149,7 +149,7 @@ module _ {M : Type 1} (𝓤 : URA M) (H : Heap 𝓤) (A : Atoms 𝓤) (W : Given
         move ! (3 ∷ 4 ∷ []) $ free1 ! $ free0 ! $ by ! (exits n u e))))))))))
 
 module _ {M : Type 1} (𝓤 : URA M) (H : Heap 𝓤) (A : Atoms 𝓤) (W : Given 𝓤 H A) (mem : Memory → SProp 𝓤) (run : Routine → Fun 𝓤) where
-  mark-walks : (C : Calls 𝓤 H) (Λ : Loops 𝓤 H) → FmC 𝓤 H (W .laws) C → Triple 𝓤 (C #cursor·mark) (Callee 𝓤 H A mem run)
+  mark-walks : (C : Calls 𝓤 H) (Λ : Loops 𝓤 H) → FmC 𝓤 H (W .laws) C → Triple 𝓤 (C #read-cursor·mark) (Callee 𝓤 H A mem run)
       → Walks 𝓤 H A mark.ended stayed (WpFn 𝓤 H C Λ code.function) (mark.clauses 𝓤 H A mem run)
   mark-walks C Λ fm known =
       walked 𝓤 H A mark.ended stayed (mark.clauses 𝓤 H A mem run) (WpFn 𝓤 H C Λ code.function)
@@ -169,7 +169,7 @@ module _ {M : Type 1} (𝓤 : URA M) (H : Heap 𝓤) (A : Atoms 𝓤) (W : Given
 
 mark-meets : {M : Type 1} (𝓤 : URA M) (H : Heap 𝓤) (A : Atoms 𝓤) (W : Given 𝓤 H A) (mem : Memory → SProp 𝓤) (run : Routine → Fun 𝓤)
     (𝓣 : Tables 𝓤 H)
-    → Triple 𝓤 (𝓣 .C #cursor·mark) (Callee 𝓤 H A mem run)
+    → Triple 𝓤 (𝓣 .C #read-cursor·mark) (Callee 𝓤 H A mem run)
     → Meets 𝓤 H A mark.signature (WpFn 𝓤 H (𝓣 .C) (𝓣 .Λ) code.function) (mark.spec 𝓤 H A mem run)
 mark-meets 𝓤 H A W mem run 𝓣 known =
     walk-meets 𝓤 H A mark.ended stayed W
@@ -183,7 +183,7 @@ pub mark-spec : {M : Type 1} → stated.statement M
 unfolding code.routine tablesOf
 mark-spec 𝓤 H 𝓜 𝓖 𝓡 =
     entered 𝓤 H (tripleOf 𝓤 H (𝓖 .A) mark.signature (mark.spec 𝓤 H (𝓖 .A) (𝓜 .mem) (𝓡 .run)))
-    (tables 𝓤 H 𝓜 𝓡 code.env .C) (tables 𝓤 H 𝓜 𝓡 code.env .Λ) #reader·mark code.function (code.unfolded 𝓤 H 𝓜 𝓡)
+    (tables 𝓤 H 𝓜 𝓡 code.env .C) (tables 𝓤 H 𝓜 𝓡 code.env .Λ) #read-tokens·mark code.function (code.unfolded 𝓤 H 𝓜 𝓡)
     (mark-meets 𝓤 H (𝓖 .A) (givenOf 𝓤 H 𝓜 𝓖) (𝓜 .mem) (𝓡 .run) (tablesOf 𝓤 H 𝓜 (tables 𝓤 H 𝓜 𝓡 code.env))
-    (cited 𝓤 H (Callee 𝓤 H (𝓖 .A) (𝓜 .mem) (𝓡 .run)) 𝓜 𝓡 code.env #cursor·mark callee-def.routine code.calls-cursor·mark
+    (cited 𝓤 H (Callee 𝓤 H (𝓖 .A) (𝓜 .mem) (𝓡 .run)) 𝓜 𝓡 code.env #read-cursor·mark callee-def.routine code.calls-read-cursor·mark
     (callee-thm.met 𝓤 H 𝓜 𝓖 𝓡)))

@@ -49,13 +49,13 @@ use Rattle.read_tokens.proofs.Held.{builtVal, cursor-typed, built, buil
 use Rattle.read_tokens.proofs.CountLaws.{readable-short}
 use Rattle.read_tokens.proofs.readable as part
 use Rattle.read_tokens.proofs.readable.Symbol as part-def
-use Rattle.read_tokens.proofs.readable.Symbol.{name as #reader·readable}
+use Rattle.read_tokens.proofs.readable.Symbol.{name as #read-tokens·readable}
 use Rattle.read_tokens.proofs.readable.Met as part-thm
 use Rattle.read_cursor.proofs.first as first
 use Rattle.read_cursor.proofs.first.Symbol as first-def
-use Rattle.read_cursor.proofs.first.Symbol.{name as #cursor·first}
+use Rattle.read_cursor.proofs.first.Symbol.{name as #read-cursor·first}
 use Rattle.read_cursor.proofs.first.Met as first-thm
-use Rattle.read_tokens.proofs.new.Key.{name as #reader·new}
+use Rattle.read_tokens.proofs.new.Key.{name as #read-tokens·new}
 use Rattle.read_tokens.proofs.new as new
 use Rattle.read_tokens.proofs.new.Statement as stated
 use Rattle.read_tokens.proofs.new.Code as code
@@ -138,8 +138,8 @@ module _ {M : Type 1} (𝓤 : URA M) (H : Heap 𝓤) (A : Atoms 𝓤) (W : Given
       -- [what the text owns; what the cursor owns; what the part owns]
       nothing ! $ move ! (1 ∷ 0 ∷ []) $ fjoin ! $ frame ! $ move ! (1 ∷ []) $ by ! (built 𝓤 H A W κ (reader r c) u w of is)
 
-  module _ (C : Calls 𝓤 H) (Λ : Loops 𝓤 H) (fm : FmC 𝓤 H (W .laws) C) (known-part : Triple 𝓤 (C #reader·readable) (Part 𝓤 H A mem run))
-      (known-first : Triple 𝓤 (C #cursor·first) (First 𝓤 H A mem run)) where
+  module _ (C : Calls 𝓤 H) (Λ : Loops 𝓤 H) (fm : FmC 𝓤 H (W .laws) C) (known-part : Triple 𝓤 (C #read-tokens·readable) (Part 𝓤 H A mem run))
+      (known-first : Triple 𝓤 (C #read-cursor·first) (First 𝓤 H A mem run)) where
     walk : Is (ShrSlice (named 0) κ u8) s (v ∷ [])
         → ent 𝓤 (onEntry 𝓤 H A new.signature (κ, tt) (q, tt) (s, tt) (v ∷ [], tt)) (WpFn 𝓤 H C Λ code.function (v ∷ []) Post)
     walk p =
@@ -178,7 +178,7 @@ module _ {M : Type 1} (𝓤 : URA M) (H : Heap 𝓤) (A : Atoms 𝓤) (W : Given
 
 module _ {M : Type 1} (𝓤 : URA M) (H : Heap 𝓤) (A : Atoms 𝓤) (W : Given 𝓤 H A) (mem : Memory → SProp 𝓤) (run : Routine → Fun 𝓤) where
   new-walks : (C : Calls 𝓤 H) (Λ : Loops 𝓤 H) → FmC 𝓤 H (W .laws) C
-      → Triple 𝓤 (C #reader·readable) (Part 𝓤 H A mem run) → Triple 𝓤 (C #cursor·first) (First 𝓤 H A mem run)
+      → Triple 𝓤 (C #read-tokens·readable) (Part 𝓤 H A mem run) → Triple 𝓤 (C #read-cursor·first) (First 𝓤 H A mem run)
       → Walks 𝓤 H A new.ended stayed (WpFn 𝓤 H C Λ code.function) (new.clauses 𝓤 H A mem run)
   new-walks C Λ fm known-part known-first =
       walked 𝓤 H A new.ended stayed (new.clauses 𝓤 H A mem run) (WpFn 𝓤 H C Λ code.function) (λ κs. (slice-vals, tt))
@@ -188,7 +188,7 @@ module _ {M : Type 1} (𝓤 : URA M) (H : Heap 𝓤) (A : Atoms 𝓤) (W : Given
 
 new-meets : {M : Type 1} (𝓤 : URA M) (H : Heap 𝓤) (A : Atoms 𝓤) (W : Given 𝓤 H A) (mem : Memory → SProp 𝓤) (run : Routine → Fun 𝓤)
     (𝓣 : Tables 𝓤 H)
-    → Triple 𝓤 (𝓣 .C #reader·readable) (Part 𝓤 H A mem run) → Triple 𝓤 (𝓣 .C #cursor·first) (First 𝓤 H A mem run)
+    → Triple 𝓤 (𝓣 .C #read-tokens·readable) (Part 𝓤 H A mem run) → Triple 𝓤 (𝓣 .C #read-cursor·first) (First 𝓤 H A mem run)
     → Meets 𝓤 H A new.signature (WpFn 𝓤 H (𝓣 .C) (𝓣 .Λ) code.function) (new.spec 𝓤 H A mem run)
 new-meets 𝓤 H A W mem run 𝓣 known-part known-first =
     walk-meets 𝓤 H A new.ended stayed W (goes-none-slice 𝓤 H A W 1 (0 ∷ []) tt (plain (λ _. u8)) yes, tt) (new.clauses 𝓤 H A mem run)
@@ -199,9 +199,9 @@ pub new-spec : {M : Type 1} → stated.statement M
 unfolding code.routine tablesOf
 new-spec 𝓤 H 𝓜 𝓖 𝓡 =
     entered 𝓤 H (tripleOf 𝓤 H (𝓖 .A) new.signature (new.spec 𝓤 H (𝓖 .A) (𝓜 .mem) (𝓡 .run)))
-    (tables 𝓤 H 𝓜 𝓡 code.env .C) (tables 𝓤 H 𝓜 𝓡 code.env .Λ) #reader·new code.function (code.unfolded 𝓤 H 𝓜 𝓡)
+    (tables 𝓤 H 𝓜 𝓡 code.env .C) (tables 𝓤 H 𝓜 𝓡 code.env .Λ) #read-tokens·new code.function (code.unfolded 𝓤 H 𝓜 𝓡)
     (new-meets 𝓤 H (𝓖 .A) (givenOf 𝓤 H 𝓜 𝓖) (𝓜 .mem) (𝓡 .run) (tablesOf 𝓤 H 𝓜 (tables 𝓤 H 𝓜 𝓡 code.env))
-    (cited 𝓤 H (Part 𝓤 H (𝓖 .A) (𝓜 .mem) (𝓡 .run)) 𝓜 𝓡 code.env #reader·readable part-def.routine code.calls-reader·readable
+    (cited 𝓤 H (Part 𝓤 H (𝓖 .A) (𝓜 .mem) (𝓡 .run)) 𝓜 𝓡 code.env #read-tokens·readable part-def.routine code.calls-read-tokens·readable
     (part-thm.met 𝓤 H 𝓜 𝓖 𝓡))
-    (cited 𝓤 H (First 𝓤 H (𝓖 .A) (𝓜 .mem) (𝓡 .run)) 𝓜 𝓡 code.env #cursor·first first-def.routine code.calls-cursor·first
+    (cited 𝓤 H (First 𝓤 H (𝓖 .A) (𝓜 .mem) (𝓡 .run)) 𝓜 𝓡 code.env #read-cursor·first first-def.routine code.calls-read-cursor·first
     (first-thm.met 𝓤 H 𝓜 𝓖 𝓡)))

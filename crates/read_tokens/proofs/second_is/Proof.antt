@@ -49,17 +49,17 @@ use Rattle.read_tokens.proofs.TokenReader.Laws as T′
 use Rattle.read_tokens.proofs.Held.{B, Fresh, fresh-ready, fresh-tokens}
 use Rattle.read_tokens.proofs.new as new
 use Rattle.read_tokens.proofs.new.Symbol as new-def
-use Rattle.read_tokens.proofs.new.Symbol.{name as #reader·new}
+use Rattle.read_tokens.proofs.new.Symbol.{name as #read-tokens·new}
 use Rattle.read_tokens.proofs.new.Met as new-thm
 use Rattle.read_tokens.proofs.advance as advance
 use Rattle.read_tokens.proofs.advance.Symbol as advance-def
-use Rattle.read_tokens.proofs.advance.Symbol.{name as #reader·advance}
+use Rattle.read_tokens.proofs.advance.Symbol.{name as #read-tokens·advance}
 use Rattle.read_tokens.proofs.advance.Met as advance-thm
 use Rattle.read_tokens.proofs.sees as sees
 use Rattle.read_tokens.proofs.sees.Symbol as sees-def
-use Rattle.read_tokens.proofs.sees.Symbol.{name as #reader·sees}
+use Rattle.read_tokens.proofs.sees.Symbol.{name as #read-tokens·sees}
 use Rattle.read_tokens.proofs.sees.Met as sees-thm
-use Rattle.read_tokens.proofs.second_is.Key.{name as #reader·second-is}
+use Rattle.read_tokens.proofs.second_is.Key.{name as #read-tokens·second-is}
 use Rattle.read_tokens.proofs.second_is as second
 use Rattle.read_tokens.proofs.second_is.Statement as stated
 use Rattle.read_tokens.proofs.second_is.Code as code
@@ -171,9 +171,9 @@ module _ {M : Type 1} (𝓤 : URA M) (H : Heap 𝓤) (A : Atoms 𝓤) (W : Given
       fjoin ! $ move ! (2 ∷ 0 ∷ []) $ fjoin ! $ frame ! $
       done !
 
-  module _ (C : Calls 𝓤 H) (Λ : Loops 𝓤 H) (fm : FmC 𝓤 H (W .laws) C) (known-new : Triple 𝓤 (C #reader·new) (New 𝓤 H A mem run))
-      (known-advance : Triple 𝓤 (C #reader·advance) (Advance 𝓤 H A mem run))
-      (known-sees : Triple 𝓤 (C #reader·sees) (Sees 𝓤 H A mem run)) where
+  module _ (C : Calls 𝓤 H) (Λ : Loops 𝓤 H) (fm : FmC 𝓤 H (W .laws) C) (known-new : Triple 𝓤 (C #read-tokens·new) (New 𝓤 H A mem run))
+      (known-advance : Triple 𝓤 (C #read-tokens·advance) (Advance 𝓤 H A mem run))
+      (known-sees : Triple 𝓤 (C #read-tokens·sees) (Sees 𝓤 H A mem run)) where
     walk : Is (ShrSlice (named 0) κ u8) s (v ∷ [])
         → ent 𝓤 (onEntry 𝓤 H A second.signature (κ, tt) (q, tt) (s, (b, tt)) at) (WpFn 𝓤 H C Λ code.function (v ∷ vint w8 b ∷ []) Post)
     walk p =
@@ -221,9 +221,9 @@ module _ {M : Type 1} (𝓤 : URA M) (H : Heap 𝓤) (A : Atoms 𝓤) (W : Given
 
 module _ {M : Type 1} (𝓤 : URA M) (H : Heap 𝓤) (A : Atoms 𝓤) (W : Given 𝓤 H A) (mem : Memory → SProp 𝓤) (run : Routine → Fun 𝓤) where
   second-walks : (C : Calls 𝓤 H) (Λ : Loops 𝓤 H) → FmC 𝓤 H (W .laws) C
-      → Triple 𝓤 (C #reader·new) (New 𝓤 H A mem run)
-      → Triple 𝓤 (C #reader·advance) (Advance 𝓤 H A mem run)
-      → Triple 𝓤 (C #reader·sees) (Sees 𝓤 H A mem run)
+      → Triple 𝓤 (C #read-tokens·new) (New 𝓤 H A mem run)
+      → Triple 𝓤 (C #read-tokens·advance) (Advance 𝓤 H A mem run)
+      → Triple 𝓤 (C #read-tokens·sees) (Sees 𝓤 H A mem run)
       → Walks 𝓤 H A second.ended stayed (WpFn 𝓤 H C Λ code.function) (second.clauses 𝓤 H A mem run)
   second-walks C Λ fm known-new known-advance known-sees =
       walked 𝓤 H A second.ended stayed (second.clauses 𝓤 H A mem run) (WpFn 𝓤 H C Λ code.function) (λ κs. (slice-vals, (uint-vals w8, tt)))
@@ -233,9 +233,9 @@ module _ {M : Type 1} (𝓤 : URA M) (H : Heap 𝓤) (A : Atoms 𝓤) (W : Given
 
 second-meets : {M : Type 1} (𝓤 : URA M) (H : Heap 𝓤) (A : Atoms 𝓤) (W : Given 𝓤 H A) (mem : Memory → SProp 𝓤) (run : Routine → Fun 𝓤)
     (𝓣 : Tables 𝓤 H)
-    → Triple 𝓤 (𝓣 .C #reader·new) (New 𝓤 H A mem run)
-    → Triple 𝓤 (𝓣 .C #reader·advance) (Advance 𝓤 H A mem run)
-    → Triple 𝓤 (𝓣 .C #reader·sees) (Sees 𝓤 H A mem run)
+    → Triple 𝓤 (𝓣 .C #read-tokens·new) (New 𝓤 H A mem run)
+    → Triple 𝓤 (𝓣 .C #read-tokens·advance) (Advance 𝓤 H A mem run)
+    → Triple 𝓤 (𝓣 .C #read-tokens·sees) (Sees 𝓤 H A mem run)
     → Meets 𝓤 H A second.signature (WpFn 𝓤 H (𝓣 .C) (𝓣 .Λ) code.function) (second.spec 𝓤 H A mem run)
 second-meets 𝓤 H A W mem run 𝓣 known-new known-advance known-sees =
     walk-meets 𝓤 H A second.ended stayed W
@@ -249,10 +249,10 @@ pub second-is-spec : {M : Type 1} → stated.statement M
 unfolding code.routine tablesOf
 second-is-spec 𝓤 H 𝓜 𝓖 𝓡 =
     entered 𝓤 H (tripleOf 𝓤 H (𝓖 .A) second.signature (second.spec 𝓤 H (𝓖 .A) (𝓜 .mem) (𝓡 .run)))
-    (tables 𝓤 H 𝓜 𝓡 code.env .C) (tables 𝓤 H 𝓜 𝓡 code.env .Λ) #reader·second-is code.function (code.unfolded 𝓤 H 𝓜 𝓡)
+    (tables 𝓤 H 𝓜 𝓡 code.env .C) (tables 𝓤 H 𝓜 𝓡 code.env .Λ) #read-tokens·second-is code.function (code.unfolded 𝓤 H 𝓜 𝓡)
     (second-meets 𝓤 H (𝓖 .A) (givenOf 𝓤 H 𝓜 𝓖) (𝓜 .mem) (𝓡 .run) (tablesOf 𝓤 H 𝓜 (tables 𝓤 H 𝓜 𝓡 code.env))
-    (cited 𝓤 H (New 𝓤 H (𝓖 .A) (𝓜 .mem) (𝓡 .run)) 𝓜 𝓡 code.env #reader·new new-def.routine code.calls-reader·new (new-thm.met 𝓤 H 𝓜 𝓖 𝓡))
-    (cited 𝓤 H (Advance 𝓤 H (𝓖 .A) (𝓜 .mem) (𝓡 .run)) 𝓜 𝓡 code.env #reader·advance advance-def.routine code.calls-reader·advance
+    (cited 𝓤 H (New 𝓤 H (𝓖 .A) (𝓜 .mem) (𝓡 .run)) 𝓜 𝓡 code.env #read-tokens·new new-def.routine code.calls-read-tokens·new (new-thm.met 𝓤 H 𝓜 𝓖 𝓡))
+    (cited 𝓤 H (Advance 𝓤 H (𝓖 .A) (𝓜 .mem) (𝓡 .run)) 𝓜 𝓡 code.env #read-tokens·advance advance-def.routine code.calls-read-tokens·advance
     (advance-thm.met 𝓤 H 𝓜 𝓖 𝓡))
-    (cited 𝓤 H (Sees 𝓤 H (𝓖 .A) (𝓜 .mem) (𝓡 .run)) 𝓜 𝓡 code.env #reader·sees sees-def.routine code.calls-reader·sees
+    (cited 𝓤 H (Sees 𝓤 H (𝓖 .A) (𝓜 .mem) (𝓡 .run)) 𝓜 𝓡 code.env #read-tokens·sees sees-def.routine code.calls-read-tokens·sees
     (sees-thm.met 𝓤 H 𝓜 𝓖 𝓡)))

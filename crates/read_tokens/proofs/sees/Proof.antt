@@ -49,9 +49,9 @@ use Rattle.read_tokens.proofs.TokenReader.Laws as T′
 use Rattle.read_tokens.proofs.Held.{B, D, L, cursorVal, readerVal, Own, Fields, Typed, cursor-typed, apart}
 use Rattle.read_cursor.proofs.sees as callee
 use Rattle.read_cursor.proofs.sees.Symbol as callee-def
-use Rattle.read_cursor.proofs.sees.Symbol.{name as #cursor·sees}
+use Rattle.read_cursor.proofs.sees.Symbol.{name as #read-cursor·sees}
 use Rattle.read_cursor.proofs.sees.Met as callee-thm
-use Rattle.read_tokens.proofs.sees.Key.{name as #reader·sees}
+use Rattle.read_tokens.proofs.sees.Key.{name as #read-tokens·sees}
 use Rattle.read_tokens.proofs.sees as sees
 use Rattle.read_tokens.proofs.sees.Statement as stated
 use Rattle.read_tokens.proofs.sees.Code as code
@@ -116,7 +116,7 @@ module _ {M : Type 1} (𝓤 : URA M) (H : Heap 𝓤) (A : Atoms 𝓤) (W : Given
       fjoin ! $ move ! (2 ∷ 0 ∷ []) $ fjoin ! $ frame ! $
       done !
 
-  module _ (C : Calls 𝓤 H) (Λ : Loops 𝓤 H) (fm : FmC 𝓤 H (W .laws) C) (known : Triple 𝓤 (C #cursor·sees) (Callee 𝓤 H A mem run)) where
+  module _ (C : Calls 𝓤 H) (Λ : Loops 𝓤 H) (fm : FmC 𝓤 H (W .laws) C) (known : Triple 𝓤 (C #read-cursor·sees) (Callee 𝓤 H A mem run)) where
     walk : Holds (hasTy (T′.mir (named 0)) mach) × WT mach → Typed (cursorVal (d .cursor))
         → ent 𝓤 (onEntry 𝓤 H A sees.signature (κ, tt) (q, tt) (d, (b, tt)) at) (WpFn 𝓤 H C Λ code.function (mach ∷ vint w8 b ∷ []) Post)
     walk wt ct =
@@ -145,7 +145,7 @@ module _ {M : Type 1} (𝓤 : URA M) (H : Heap 𝓤) (A : Atoms 𝓤) (W : Given
         free0 ! $ by ! (exits n u e)))))))))
 
 module _ {M : Type 1} (𝓤 : URA M) (H : Heap 𝓤) (A : Atoms 𝓤) (W : Given 𝓤 H A) (mem : Memory → SProp 𝓤) (run : Routine → Fun 𝓤) where
-  sees-walks : (C : Calls 𝓤 H) (Λ : Loops 𝓤 H) → FmC 𝓤 H (W .laws) C → Triple 𝓤 (C #cursor·sees) (Callee 𝓤 H A mem run)
+  sees-walks : (C : Calls 𝓤 H) (Λ : Loops 𝓤 H) → FmC 𝓤 H (W .laws) C → Triple 𝓤 (C #read-cursor·sees) (Callee 𝓤 H A mem run)
       → Walks 𝓤 H A sees.ended stayed (WpFn 𝓤 H C Λ code.function) (sees.clauses 𝓤 H A mem run)
   sees-walks C Λ fm known =
       walked 𝓤 H A sees.ended stayed (sees.clauses 𝓤 H A mem run) (WpFn 𝓤 H C Λ code.function)
@@ -165,7 +165,7 @@ module _ {M : Type 1} (𝓤 : URA M) (H : Heap 𝓤) (A : Atoms 𝓤) (W : Given
 
 sees-meets : {M : Type 1} (𝓤 : URA M) (H : Heap 𝓤) (A : Atoms 𝓤) (W : Given 𝓤 H A) (mem : Memory → SProp 𝓤) (run : Routine → Fun 𝓤)
     (𝓣 : Tables 𝓤 H)
-    → Triple 𝓤 (𝓣 .C #cursor·sees) (Callee 𝓤 H A mem run)
+    → Triple 𝓤 (𝓣 .C #read-cursor·sees) (Callee 𝓤 H A mem run)
     → Meets 𝓤 H A sees.signature (WpFn 𝓤 H (𝓣 .C) (𝓣 .Λ) code.function) (sees.spec 𝓤 H A mem run)
 sees-meets 𝓤 H A W mem run 𝓣 known =
     walk-meets 𝓤 H A sees.ended stayed W
@@ -179,7 +179,7 @@ pub sees-spec : {M : Type 1} → stated.statement M
 unfolding code.routine tablesOf
 sees-spec 𝓤 H 𝓜 𝓖 𝓡 =
     entered 𝓤 H (tripleOf 𝓤 H (𝓖 .A) sees.signature (sees.spec 𝓤 H (𝓖 .A) (𝓜 .mem) (𝓡 .run)))
-    (tables 𝓤 H 𝓜 𝓡 code.env .C) (tables 𝓤 H 𝓜 𝓡 code.env .Λ) #reader·sees code.function (code.unfolded 𝓤 H 𝓜 𝓡)
+    (tables 𝓤 H 𝓜 𝓡 code.env .C) (tables 𝓤 H 𝓜 𝓡 code.env .Λ) #read-tokens·sees code.function (code.unfolded 𝓤 H 𝓜 𝓡)
     (sees-meets 𝓤 H (𝓖 .A) (givenOf 𝓤 H 𝓜 𝓖) (𝓜 .mem) (𝓡 .run) (tablesOf 𝓤 H 𝓜 (tables 𝓤 H 𝓜 𝓡 code.env))
-    (cited 𝓤 H (Callee 𝓤 H (𝓖 .A) (𝓜 .mem) (𝓡 .run)) 𝓜 𝓡 code.env #cursor·sees callee-def.routine code.calls-cursor·sees
+    (cited 𝓤 H (Callee 𝓤 H (𝓖 .A) (𝓜 .mem) (𝓡 .run)) 𝓜 𝓡 code.env #read-cursor·sees callee-def.routine code.calls-read-cursor·sees
     (callee-thm.met 𝓤 H 𝓜 𝓖 𝓡)))

@@ -45,9 +45,9 @@ use Rattle.read_tokens.proofs.TokenReader.Laws as T′
 use Rattle.read_tokens.proofs.Held.{B, D, L, textVal, cursorVal, readerVal, Own, Fields, Typed, cursor-typed, apart}
 use Rattle.read_cursor.proofs.word as callee
 use Rattle.read_cursor.proofs.word.Symbol as callee-def
-use Rattle.read_cursor.proofs.word.Symbol.{name as #cursor·word}
+use Rattle.read_cursor.proofs.word.Symbol.{name as #read-cursor·word}
 use Rattle.read_cursor.proofs.word.Met as callee-thm
-use Rattle.read_tokens.proofs.word.Key.{name as #reader·word}
+use Rattle.read_tokens.proofs.word.Key.{name as #read-tokens·word}
 use Rattle.read_tokens.proofs.word as word
 use Rattle.read_tokens.proofs.word.Statement as stated
 use Rattle.read_tokens.proofs.word.Code as code
@@ -105,7 +105,7 @@ module _ {M : Type 1} (𝓤 : URA M) (H : Heap 𝓤) (A : Atoms 𝓤) (W : Given
       says ! e $
       move ! (1 ∷ []) $ frame ! $ nothing ! $ move ! (2 ∷ 0 ∷ []) $ fjoin ! $ frame ! $ done !
 
-  module _ (C : Calls 𝓤 H) (Λ : Loops 𝓤 H) (fm : FmC 𝓤 H (W .laws) C) (known : Triple 𝓤 (C #cursor·word) (Callee 𝓤 H A mem run)) where
+  module _ (C : Calls 𝓤 H) (Λ : Loops 𝓤 H) (fm : FmC 𝓤 H (W .laws) C) (known : Triple 𝓤 (C #read-cursor·word) (Callee 𝓤 H A mem run)) where
     walk : Holds (hasTy (T′.mir (named 0)) mach) × WT mach → Typed (cursorVal (d .cursor))
         → ent 𝓤 (onEntry 𝓤 H A word.signature (κ, tt) (q, tt) (d, tt) (mach ∷ [], tt)) (WpFn 𝓤 H C Λ code.function (mach ∷ []) Post)
     walk wt ct =
@@ -131,7 +131,7 @@ module _ {M : Type 1} (𝓤 : URA M) (H : Heap 𝓤) (A : Atoms 𝓤) (W : Given
         free0 ! $ by ! (exits n u e)))))))))
 
 module _ {M : Type 1} (𝓤 : URA M) (H : Heap 𝓤) (A : Atoms 𝓤) (W : Given 𝓤 H A) (mem : Memory → SProp 𝓤) (run : Routine → Fun 𝓤) where
-  word-walks : (C : Calls 𝓤 H) (Λ : Loops 𝓤 H) → FmC 𝓤 H (W .laws) C → Triple 𝓤 (C #cursor·word) (Callee 𝓤 H A mem run)
+  word-walks : (C : Calls 𝓤 H) (Λ : Loops 𝓤 H) → FmC 𝓤 H (W .laws) C → Triple 𝓤 (C #read-cursor·word) (Callee 𝓤 H A mem run)
       → Walks 𝓤 H A word.ended stayed (WpFn 𝓤 H C Λ code.function) (word.clauses 𝓤 H A mem run)
   word-walks C Λ fm known =
       walked 𝓤 H A word.ended stayed (word.clauses 𝓤 H A mem run) (WpFn 𝓤 H C Λ code.function) (λ κs. (LL.vals (D (κs .0)) (L (κs .0)), tt))
@@ -144,7 +144,7 @@ module _ {M : Type 1} (𝓤 : URA M) (H : Heap 𝓤) (A : Atoms 𝓤) (W : Given
 
 word-meets : {M : Type 1} (𝓤 : URA M) (H : Heap 𝓤) (A : Atoms 𝓤) (W : Given 𝓤 H A) (mem : Memory → SProp 𝓤) (run : Routine → Fun 𝓤)
     (𝓣 : Tables 𝓤 H)
-    → Triple 𝓤 (𝓣 .C #cursor·word) (Callee 𝓤 H A mem run)
+    → Triple 𝓤 (𝓣 .C #read-cursor·word) (Callee 𝓤 H A mem run)
     → Meets 𝓤 H A word.signature (WpFn 𝓤 H (𝓣 .C) (𝓣 .Λ) code.function) (word.spec 𝓤 H A mem run)
 word-meets 𝓤 H A W mem run 𝓣 known =
     walk-meets 𝓤 H A word.ended stayed W (goes-none 𝓤 H A W 1 B yes (λ κs x f. refl), tt) (word.clauses 𝓤 H A mem run)
@@ -155,7 +155,7 @@ pub word-spec : {M : Type 1} → stated.statement M
 unfolding code.routine tablesOf
 word-spec 𝓤 H 𝓜 𝓖 𝓡 =
     entered 𝓤 H (tripleOf 𝓤 H (𝓖 .A) word.signature (word.spec 𝓤 H (𝓖 .A) (𝓜 .mem) (𝓡 .run)))
-    (tables 𝓤 H 𝓜 𝓡 code.env .C) (tables 𝓤 H 𝓜 𝓡 code.env .Λ) #reader·word code.function (code.unfolded 𝓤 H 𝓜 𝓡)
+    (tables 𝓤 H 𝓜 𝓡 code.env .C) (tables 𝓤 H 𝓜 𝓡 code.env .Λ) #read-tokens·word code.function (code.unfolded 𝓤 H 𝓜 𝓡)
     (word-meets 𝓤 H (𝓖 .A) (givenOf 𝓤 H 𝓜 𝓖) (𝓜 .mem) (𝓡 .run) (tablesOf 𝓤 H 𝓜 (tables 𝓤 H 𝓜 𝓡 code.env))
-    (cited 𝓤 H (Callee 𝓤 H (𝓖 .A) (𝓜 .mem) (𝓡 .run)) 𝓜 𝓡 code.env #cursor·word callee-def.routine code.calls-cursor·word
+    (cited 𝓤 H (Callee 𝓤 H (𝓖 .A) (𝓜 .mem) (𝓡 .run)) 𝓜 𝓡 code.env #read-cursor·word callee-def.routine code.calls-read-cursor·word
     (callee-thm.met 𝓤 H 𝓜 𝓖 𝓡)))
