@@ -1,11 +1,11 @@
 #!/bin/sh
-# Makes the texts of crates/token_cases and the answers of the text rules: a
+# Makes the texts of crates/run_token_cases and the answers of the text rules: a
 # refusal of 2 to 5 by text_rules.rs, else accept.
 # usage: oracle/store-token.sh   after oracle/build.sh
 set -eu
 here=$(cd "$(dirname "$0")" && pwd)
 oracle=$here/../target/oracle/places/release/oracle
-cases=$here/../crates/token_cases
+cases=$here/../crates/run_token_cases
 work=$(mktemp -d)
 trap 'rm -rf "$work"' EXIT
 . "$here/hex.sh"

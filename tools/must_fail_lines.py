@@ -3,7 +3,7 @@
 
   must_fail_lines.py                      in a second
   must_fail_lines.py --compile [CRATE..]  and which edits of code (of these crates; of all) no longer compile: the edited crate and those below it
-                                          go through the compiler's front end, with no proof. Some minutes for all, to be run by hand before
+                                          go through the compiler's front end, with no proof. Half a minute for all, to be run by hand before
                                           ./test.sh, which tells such an edit as bad only behind every proof
 """
 import glob, os, platform, shutil, subprocess, sys, tempfile

@@ -1,5 +1,5 @@
 #!/usr/bin/env python3
-"""Makes crates/number_vectors/stdin and stdout: numbers, and what becomes of each, by exact fractions. Run from the repository's root."""
+"""Makes crates/run_number_vectors/stdin and stdout: numbers, and what becomes of each, by exact fractions. Run from the repository's root."""
 import random
 from fractions import Fraction as F
 
@@ -103,5 +103,5 @@ for n in [0, 1, 16777217, 4294967294, 4294967295, 4294967296, 9999999999, 2**64 
         put("W", sign, n, 0, f"{'-' if sign else ''}{n}", "refused" if sign or n > 4294967295 else str(n))
 
 for name, lines in (("stdin", tests), ("stdout", answers)):
-    open(f"crates/number_vectors/{name}", "w").write("\n".join(lines) + "\n")
+    open(f"crates/run_number_vectors/{name}", "w").write("\n".join(lines) + "\n")
 print(len(tests), "vectors")

@@ -1,5 +1,5 @@
 #!/usr/bin/env python3
-"""The stored cases that the programs `sheet_cases` and `script_cases` answer. A kind's cases are the lines of the file data/KIND/cases of its
+"""The stored cases that the programs `run_sheet_cases` and `run_script_cases` answer. A kind's cases are the lines of the file data/KIND/cases of its
 program's crate; its answers stand in the crate's file stdout behind the line `== KIND`. Run it from the repository's root.
 
   stored.py answers KIND                write the kind's answers
@@ -10,8 +10,8 @@ import sys
 
 # for each program its kinds, in the order in which it answers them
 KINDS = {
-    "sheet_cases": ("sheet", "check", "color", "convert", "line", "back", "plane", "wave"),
-    "script_cases": ("script", "feed", "rounded", "book", "scratch", "number", "shelf"),
+    "run_sheet_cases": ("sheet", "check", "color", "convert", "line", "back", "plane", "wave"),
+    "run_script_cases": ("script", "feed", "rounded", "book", "scratch", "number", "shelf"),
 }
 
 

@@ -18,27 +18,27 @@ use Rattle.digits.proofs.NumeralLaws.{both}
 use Rattle.pieces.specs.Pieces.{Piece, spelt, spaced, joined, fits, allFit}
 use Rattle.fresh.specs.Meaning.{Sense}
 use Rattle.fresh.specs.Fresh.{pieces}
-use Rattle.spelling.specs.Means.{Page, spoiled, full, page, size, spoil, most, putOn, put, run, pageOf}
-use Rattle.spelling.specs.declared.Pen.{Pen}
-use Rattle.spelling.proofs.PageLaws.{size-of, size-run, put-both}
-use Rattle.copying.specs.Means.{Written}
+use Rattle.back_spelling.specs.Means.{Page, spoiled, full, page, size, spoil, most, putOn, put, run, pageOf}
+use Rattle.back_spelling.specs.declared.Pen.{Pen}
+use Rattle.back_spelling.proofs.PageLaws.{size-of, size-run, put-both}
+use Rattle.back_copying.specs.Means.{Written}
 use Rattle.error.specs.declared.Refusal.the-variants.{Unwritable, ScriptTooLong}
 use Rattle.error.specs.declared.CheckAnswer.the-variants as check
 use Rattle.error.specs.declared.LineAnswer.{LineAnswer}
 use Rattle.error.specs.declared.LineAnswer.the-variants.{Accepted}
 use Rattle.sheet.specs.Opening.{Opened, opened, shut}
-use Rattle.opening.specs.Means.{answerOf}
-use Rattle.opening.specs.declared.Opening.the-variants.{Open}
-use Rattle.opening.proofs.OpenLaws.{Tree}
+use Rattle.sheet_refusals.specs.Means.{answerOf}
+use Rattle.sheet_refusals.specs.declared.Opening.the-variants.{Open}
+use Rattle.sheet_refusals.proofs.OpenLaws.{Tree}
 use Rattle.sheet.specs.Sheet.{Forest, decode}
 use Rattle.codec.specs.Codec.{big}
-use Rattle.decode.specs.Means.{Reads, same}
+use Rattle.sheet_decode.specs.Means.{Reads, same}
 use Rattle.error.specs.declared.Refusal.{Refusal}
 use Rattle.checking.specs.Checking.{verdict, openingUnder, checking}
 use Rattle.validate.proofs.CheckLaws.{its-tree}
-use Rattle.places.proofs.StandLaws.{head}
+use Rattle.sheet_nodes.proofs.StandLaws.{head}
 use Rattle.writing.specs.Back.{refusal, written, senseOf, writing}
-use Rattle.preorder.specs.Means.{NodesPut}
+use Rattle.back_nodes.specs.Means.{NodesPut}
 
 -- ---- the bytes of pieces, each with a blank behind it
 

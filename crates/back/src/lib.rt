@@ -5,19 +5,19 @@ ghost use Prim.Native.Nat.{ℕ};
 ghost use Rattle.error.specs.Answer.{lineValues};
 ghost use Rattle.fresh.specs.Meaning.{Sense};
 ghost use Rattle.fresh.specs.Fresh.{pieces};
-ghost use Rattle.copying.specs.Means.{Written};
-ghost use Rattle.spelling.specs.Means.{page, pageOf};
+ghost use Rattle.back_copying.specs.Means.{Written};
+ghost use Rattle.back_spelling.specs.Means.{page, pageOf};
 ghost use Rattle.writing.specs.Back as Back;
 ghost use Rattle.writing.specs.Back.{written, writing};
+use back_spelling::Pen;
 use error::CheckAnswer;
 use error::LineAnswer;
 use error::Refusal;
-use spelling::Pen;
 
 fn refused(out: &mut [u8], refusal: Refusal, place: usize) -> LineAnswer
     ensures { λ r. ⌜ (r, now (out .exit)) ≡ Back.refusal refusal place (now (out .entry)) ⌝ }
 {
-    encode::clear(out, 0);
+    sheet_encode::clear(out, 0);
     LineAnswer::Refused { refusal, place }
 }
 
@@ -30,7 +30,7 @@ fn finish(out: &mut [u8], pen: Pen) -> LineAnswer
     }
     let at = pen.at;
     if at == 0 {
-        encode::clear(out, 0);
+        sheet_encode::clear(out, 0);
         return LineAnswer::Accepted { length: 0 };
     }
     let length = at - 1;
@@ -40,7 +40,7 @@ fn finish(out: &mut [u8], pen: Pen) -> LineAnswer
     if out.len() < length {
         return refused(out, Refusal::ScriptTooLong, 0);
     }
-    encode::clear(out, length);
+    sheet_encode::clear(out, length);
     LineAnswer::Accepted { length }
 }
 
@@ -52,8 +52,8 @@ pub fn write(text: &[u8], sheet: &[u8], out: &mut [u8], list: u32) -> LineAnswer
     match validate::check(text, sheet, list) {
         CheckAnswer::Refused { refusal, place } => refused(out, refusal, place),
         CheckAnswer::Accepted => {
-            let head = decode::fields::take_field(sheet, 0, 2);
-            let w = preorder::copy_nodes(
+            let head = sheet_decode::fields::take_field(sheet, 0, 2);
+            let w = back_nodes::copy_nodes(
                 text,
                 sheet,
                 head.next,

@@ -18,11 +18,11 @@ use Rattle.token.specs.declared.SplitAnswer.{SplitAnswer}
 use Rattle.token.specs.declared.SplitAnswer.the-variants as answer
 use Rattle.token.proofs.StreamLaws.{split-reads}
 use Rattle.grammar.specs.Rule.{Notes, Out, got, refused, ends, iterate}
-use Rattle.cursor.specs.WordMeans.{atOf, leftAt, roundedOf}
-use Rattle.cursor.specs.Means.{nothing, leftOf, leftIs, Ready, Begins, notes, run}
-use Rattle.cursor.specs.Means as cursor
-use Rattle.cursor.specs.declared.Cursor.{Cursor}
-use Rattle.cursor.specs.declared.Left.the-variants as left
+use Rattle.read_cursor.specs.WordMeans.{atOf, leftAt, roundedOf}
+use Rattle.read_cursor.specs.Means.{nothing, leftOf, leftIs, Ready, Begins, notes, run}
+use Rattle.read_cursor.specs.Means as cursor
+use Rattle.read_cursor.specs.declared.Cursor.{Cursor}
+use Rattle.read_cursor.specs.declared.Left.the-variants as left
 use Rattle.books.specs.Book.{Item, item, itemsStep, items, Book, held, wrong, unlessLeft, finished}
 use Rattle.books.specs.Book.{fresh, parsed, written, names, repeated, settled, itemLimit, book}
 use Rattle.book.specs.Means.{ItemWent, Rows, rowed, Held, itemsOf}

@@ -6,20 +6,20 @@ use native.Mathlib.Omega.{arith}
 use lib.ListN.{length}
 use Rattle.error.specs.declared.Refusal.{Refusal}
 use Rattle.error.specs.declared.Refusal.the-variants.{Missing}
-use Rattle.encode.specs.WriteMeans.{Writes}
+use Rattle.sheet_encode.specs.WriteMeans.{Writes}
 use Rattle.ast.specs.declared.Span.{Span}
 use Rattle.grammar.specs.Rule.{refused, theByte, leave, inside, word}
 use Rattle.grammar.specs.Grammar.{animatoInput}
-use Rattle.cursor.specs.WordMeans.{atOf}
-use Rattle.cursor.specs.Means.{Ready, run, Took, spelled}
-use Rattle.cursor.specs.declared.Cursor.{Cursor}
-use Rattle.blocks.specs.Means.{Reached, parseNodes, NodesWent}
-use Rattle.blocks.proofs.BlockLaws.{block-bytes}
-use Rattle.encode.proofs.OverLaws.{writes-counted}
+use Rattle.read_cursor.specs.WordMeans.{atOf}
+use Rattle.read_cursor.specs.Means.{Ready, run, Took, spelled}
+use Rattle.read_cursor.specs.declared.Cursor.{Cursor}
+use Rattle.read_blocks.specs.Means.{Reached, parseNodes, NodesWent}
+use Rattle.read_blocks.proofs.BlockLaws.{block-bytes}
+use Rattle.sheet_encode.proofs.OverLaws.{writes-counted}
 use Rattle.codec.specs.Codec.{big}
 use Rattle.ast.specs.Tree.{width}
 use Rattle.sheet.specs.Sheet.{encode}
-use Rattle.blocks.specs.declared.Siblings.{Siblings}
+use Rattle.read_blocks.specs.declared.Siblings.{Siblings}
 use Rattle.books.specs.Book as book
 use Rattle.book.specs.Means.{BodyWent, ItemWent}
 use Rattle.book.specs.declared.Body.{Body}

@@ -10,12 +10,12 @@ use Rattle.number.specs.Time.{Key}
 use Rattle.text.specs.Words.{isSome, find}
 use Rattle.token.specs.Token.{tokensFrom}
 use Rattle.ast.specs.Tree.{Nodes, mapTimes}
-use Rattle.encode.specs.WriteMeans.{Writes}
+use Rattle.sheet_encode.specs.WriteMeans.{Writes}
 use Rattle.grammar.specs.Rule.{refused, inside}
 use Rattle.grammar.specs.Grammar.{stored, animatoInput}
-use Rattle.cursor.specs.WordMeans.{atOf}
-use Rattle.cursor.specs.Means.{run, Took, spelled}
-use Rattle.cursor.specs.declared.Cursor.{Cursor}
+use Rattle.read_cursor.specs.WordMeans.{atOf}
+use Rattle.read_cursor.specs.Means.{run, Took, spelled}
+use Rattle.read_cursor.specs.declared.Cursor.{Cursor}
 use Rattle.sheet.specs.Sheet.{encode}
 use Rattle.books.specs.Book as book
 use Rattle.book.specs.declared.Body.{Body}

@@ -1,7 +1,7 @@
 // 02 (i): reading a book of named scripts. What reading a script asks of scratch and sheet is its own here.
 // The functions are for our own crates: each requires a cursor that stands in a text of at most 16,384 bytes, or a table of 21,844 words.
 ghost use mathlib.Core.Path.{_≡_};
-ghost use Rattle.cursor.specs.Means.{Ready};
+ghost use Rattle.read_cursor.specs.Means.{Ready};
 ghost use Prim.Native.Nat.{_+_, _*_, _≤_, _<_};
 ghost use mathlib.Core.List.{List};
 ghost use lib.ListN.{length, getD, take};
@@ -13,12 +13,12 @@ ghost use Rattle.books.specs.Book.{names, repeated, written, book as Book·book
 ghost use Rattle.books.specs.Book as grammar;
 ghost use Rattle.book.specs.Means.{BodyMeans, ItemMeans, Rows, rowed, Before, BookMeans, itemsOf};
 use ast::Span;
-use blocks::ParsedNodes;
-use cursor::Cursor;
-use cursor::Left;
-use cursor::MarkRead;
-use cursor::WordRead;
 use error::Refusal;
+use read_blocks::ParsedNodes;
+use read_cursor::Cursor;
+use read_cursor::Left;
+use read_cursor::MarkRead;
+use read_cursor::WordRead;
 use text::Found;
 use token::SplitAnswer;
 
@@ -70,17 +70,17 @@ pub fn parse_body(text: &[u8], sheet: &mut [u8], c: Cursor) -> BodyRead
     requires { ⌜ Ready (now text) c ⌝ }
     ensures { λ r. ⌜ BodyMeans (now (text .entry)) (now (sheet .entry)) (now (sheet .exit)) c r ⌝ }
 {
-    match cursor::mark(text, c, b'{') {
+    match read_cursor::mark(text, c, b'{') {
         MarkRead::Missing(p) => BodyRead::Refused(Refusal::Missing, p),
-        MarkRead::Is(m) => match blocks::parse_nodes(text, sheet, m, 2, 16) {
+        MarkRead::Is(m) => match read_blocks::parse_nodes(text, sheet, m, 2, 16) {
             ParsedNodes::Refused(r, p) => BodyRead::Refused(r, p),
             ParsedNodes::Is(t) => {
                 let n = t.next;
-                encode::patch_count(sheet, 0, t.width);
+                sheet_encode::patch_count(sheet, 0, t.width);
                 BodyRead::Is(Body {
-                    end: cursor::place(n),
+                    end: read_cursor::place(n),
                     bytes: t.end,
-                    next: cursor::leave_group(text, n, b'}'),
+                    next: read_cursor::leave_group(text, n, b'}'),
                 })
             }
         },
@@ -92,15 +92,15 @@ pub fn parse_item(text: &[u8], sheet: &mut [u8], c: Cursor) -> ItemRead
     requires { ⌜ Ready (now text) c ⌝ }
     ensures { λ r. ⌜ ItemMeans (now (text .entry)) (now (sheet .entry)) (now (sheet .exit)) c r ⌝ }
 {
-    match cursor::word(text, c) {
+    match read_cursor::word(text, c) {
         WordRead::Missing(p) => ItemRead::Refused(Refusal::Missing, p),
-        WordRead::Is(name, m) => match cursor::mark(text, m, b'=') {
+        WordRead::Is(name, m) => match read_cursor::mark(text, m, b'=') {
             MarkRead::Missing(p) => ItemRead::Refused(Refusal::Missing, p),
             MarkRead::Is(brace) => match parse_body(text, sheet, brace) {
                 BodyRead::Refused(r, p) => ItemRead::Refused(r, p),
                 BodyRead::Is(body) => ItemRead::Is(Item {
                     name,
-                    start: cursor::place(brace) + 1,
+                    start: read_cursor::place(brace) + 1,
                     body,
                 }),
             },
@@ -187,11 +187,11 @@ fn parse_items(text: &[u8], table: &mut [u16]) -> BookRead
     ensures { λ r. ⌜ BookMeans (now (text .entry)) (now (table .exit)) (itemsOf (now (text .entry))) r ⌝ }
 {
     let mut sheet = [0u8; 1];
-    let mut c = cursor::first(text);
+    let mut c = read_cursor::first(text);
     let mut n: usize = 0;
     loop {
-        if cursor::ends(c) {
-            return match cursor::leftover(c) {
+        if read_cursor::ends(c) {
+            return match read_cursor::leftover(c) {
                 Left::At(p) => BookRead::Refused(Refusal::Leftover, p),
                 Left::Nothing => BookRead::Is(n),
             };

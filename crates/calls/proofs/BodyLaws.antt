@@ -19,20 +19,20 @@ use Rattle.codec.proofs.Laws.{All}
 use Rattle.sheet.specs.Sheet.{Node, Forest, spanForm, forest, inner, encode, decode}
 use Rattle.sheet.specs.Records.{nodesOf, kindOf, entriesOf}
 use Rattle.sheet.proofs.Laws.{innerL, Fits, decodes, decoded}
-use Rattle.decode.specs.Means.{Reads, got, bad, same}
-use Rattle.decode.proofs.ReadLaws.{le-or-lt}
-use Rattle.records.specs.Means.{recordForm, recordView}
-use Rattle.records.specs.declared.Kind.{Kind}
-use Rattle.records.proofs.PlaceLaws.{Behind, behind-head, behind-next, behind-last}
-use Rattle.encode.proofs.ClearLaws.{written}
+use Rattle.sheet_decode.specs.Means.{Reads, got, bad, same}
+use Rattle.sheet_decode.proofs.ReadLaws.{le-or-lt}
+use Rattle.sheet_records.specs.Means.{recordForm, recordView}
+use Rattle.sheet_records.specs.declared.Kind.{Kind}
+use Rattle.sheet_records.proofs.PlaceLaws.{Behind, behind-head, behind-next, behind-last}
+use Rattle.sheet_encode.proofs.ClearLaws.{written}
 use Rattle.sheet.proofs.FormLaws.{length-big}
 use Rattle.grammar.specs.Rule.{Out}
 use Rattle.grammar.specs.Grammar.{stored, block, animatoInput}
-use Rattle.cursor.specs.WordMeans.{atOf}
-use Rattle.cursor.specs.Means.{Took, notes, tokens}
-use Rattle.cursor.specs.declared.Cursor.{Cursor}
-use Rattle.rules.proofs.RunLaws.{Ends, Outcome}
-use Rattle.limits.proofs.NodeLaws.{Several, nodes-run, sized-ok, block-runs}
+use Rattle.read_cursor.specs.WordMeans.{atOf}
+use Rattle.read_cursor.specs.Means.{Took, notes, tokens}
+use Rattle.read_cursor.specs.declared.Cursor.{Cursor}
+use Rattle.law_rules.proofs.RunLaws.{Ends, Outcome}
+use Rattle.law_limits.proofs.NodeLaws.{Several, nodes-run, sized-ok, block-runs}
 use Rattle.books.specs.Book.{Item, Book, held, names}
 use Rattle.book.specs.Means.{ItemWent}
 use Rattle.book.specs.declared.Item as item

@@ -11,8 +11,8 @@ use Rattle.ast.specs.Tree.{mapTimes}
 use Rattle.sheet.specs.Sheet.{Forest, decode}
 use Rattle.grammar.specs.Rule.{refused}
 use Rattle.grammar.specs.Grammar.{stored}
-use Rattle.cursor.specs.Means.{nothing, Begins, run}
-use Rattle.cursor.specs.declared.Cursor.{Cursor}
+use Rattle.read_cursor.specs.Means.{nothing, Begins, run}
+use Rattle.read_cursor.specs.declared.Cursor.{Cursor}
 use Rattle.books.specs.Book.{Item, item, held, names, book}
 use Rattle.book.specs.Means.{ItemWent, Held}
 use Rattle.book.specs.declared.Item as code

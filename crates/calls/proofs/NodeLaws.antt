@@ -16,7 +16,7 @@ use Rattle.sheet.specs.Sheet.{Node, Forest, word, easingForm, spanForm}
 use Rattle.sheet.specs.Records.{recordOf, nodesOf, kindOf}
 use Rattle.sheet.proofs.Laws.{spanL, nodeL, innerL, OkNodes}
 use Rattle.sheet.proofs.Flat.{concat, inside}
-use Rattle.records.proofs.PlaceLaws.{Behind}
+use Rattle.sheet_records.proofs.PlaceLaws.{Behind}
 use Rattle.books.specs.Calls.{named, presets}
 use Rattle.calls.specs.Means.{namedBy, RecordHere}
 

@@ -14,9 +14,9 @@ ghost use Rattle.books.specs.Calls.{ordinals, presets};
 ghost use Rattle.calls.specs.Means.{mark, marks, namedBy, RecordHere, Sheet, Filled};
 use ast::Span;
 use book::ItemRead;
-use decode::fields::take_field;
-use decode::fields::take_span;
-use records::take_record;
+use sheet_decode::fields::take_field;
+use sheet_decode::fields::take_span;
+use sheet_records::take_record;
 use text::Found;
 
 // The bytes of calls.
@@ -82,7 +82,7 @@ pub fn fill(text: &[u8], table: &[u16], n: usize, calls: &mut [u8])
     ensures { λ _. ⌜ ((xs : List Item) → Book·book (now (text .entry)) ≡ Book.held xs → Filled (now (text .entry)) xs (now (calls .exit)) n) ⌝ }
 {
     let mut sheet = [0u8; SHEET_BYTES];
-    let mut c = cursor::first(text);
+    let mut c = read_cursor::first(text);
     let mut i: usize = 0;
     while i < n {
         match book::parse_item(text, &mut sheet, c) {

@@ -9,7 +9,7 @@ use borrow.Author.Tests.{le-ltb}
 use Rattle.text.specs.Limits.{textLimit}
 use Rattle.sheet.specs.Sheet.{Forest, decode}
 use Rattle.sheet.specs.Opening.{opened, foreignFrom, decoded, opening}
-use Rattle.opened.proofs.OpenedLaws.{text-passes}
+use Rattle.law_opened.proofs.OpenedLaws.{text-passes}
 use Rattle.error.specs.declared.Refusal.the-variants.{UnknownList}
 use Rattle.presets.specs.Colors.{colors}
 use Rattle.colors.specs.Css.{namesOf, cssNames}

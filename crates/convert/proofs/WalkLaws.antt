@@ -16,11 +16,11 @@ use Rattle.ast.specs.Tree.{single, holding, width}
 use Rattle.sheet.specs.Sheet.{Node}
 use Rattle.sheet.specs.Records.{recordOf, nodesOf, allRecords}
 use Rattle.sheet.proofs.Flat.{concat, records-are}
-use Rattle.decode.specs.Means.{Reads, same}
-use Rattle.records.proofs.PlaceLaws.{Behind, behind-head, behind-next, behind-last, first, this-one}
-use Rattle.opening.specs.declared.Opening.the-variants.{Open, Shut}
-use Rattle.opening.specs.Means.{answerOf}
-use Rattle.opening.proofs.OpenLaws.{the-tree, the-refusal}
+use Rattle.sheet_decode.specs.Means.{Reads, same}
+use Rattle.sheet_records.proofs.PlaceLaws.{Behind, behind-head, behind-next, behind-last, first, this-one}
+use Rattle.sheet_refusals.specs.declared.Opening.the-variants.{Open, Shut}
+use Rattle.sheet_refusals.specs.Means.{answerOf}
+use Rattle.sheet_refusals.proofs.OpenLaws.{the-tree, the-refusal}
 use Rattle.error.specs.declared.Refusal.{Refusal}
 use Rattle.error.specs.declared.CheckAnswer.the-variants.{Accepted, Refused}
 use Rattle.sheet.specs.Opening.{opening}

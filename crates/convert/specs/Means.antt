@@ -4,9 +4,9 @@ use mathlib.Core.List.{List}
 use mathlib.Core.Option.{some}
 use mathlib.Core.Path.{_≡_}
 use Rattle.sheet.specs.Sheet.{Forest, decode}
-use Rattle.decode.specs.Means.{Reads}
-use Rattle.records.specs.Means.{recordForm, recordView}
-use Rattle.records.specs.declared.Kind.{Kind}
+use Rattle.sheet_decode.specs.Means.{Reads}
+use Rattle.sheet_records.specs.Means.{recordForm, recordView}
+use Rattle.sheet_records.specs.declared.Kind.{Kind}
 use Rattle.converting.specs.Convert.{convertedSheet}
 
 -- the bytes are a sheet for a text of n bytes

@@ -6,11 +6,11 @@ ghost use lib.ListN.{length, take, drop};
 ghost use Rattle.error.specs.Answer.{checkValues};
 ghost use Rattle.converting.specs.Convert.{holdsNoise, convertedRecord, converting};
 ghost use Rattle.convert.specs.Means.{IsSheet, PassesRecord, Converts};
-use decode::fields::take_field;
 use error::CheckAnswer;
-use opening::Opening;
-use opening::open_sheet;
-use records::take_record;
+use sheet_decode::fields::take_field;
+use sheet_records::take_record;
+use sheet_refusals::Opening;
+use sheet_refusals::open_sheet;
 
 // The kind of a waveform's record.
 const WAVEFORM: u8 = 11;

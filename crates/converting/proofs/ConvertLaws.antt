@@ -21,7 +21,7 @@ use Rattle.sheet.proofs.Laws as sheet-laws
 use Rattle.sheet.proofs.Laws.{nodeL, innerL, OkNodes, Fits, decodes}
 use Rattle.sheet.proofs.Flat.{concat, inside, sheet-flat}
 use Rattle.ast.specs.Tree.{noise}
-use Rattle.opened.proofs.OpenedLaws.{opened-text, holds-tree}
+use Rattle.law_opened.proofs.OpenedLaws.{opened-text, holds-tree}
 use Rattle.converting.specs.Convert.{waveformKind, triangle, holdsNoise}
 use Rattle.converting.specs.Convert.{waveAt, convertedRecord, convertedSheet, convertOpened, converting}
 use Rattle.converting.specs.Triangled.{triangledKind, triangledLeaf, triangled}

@@ -19,7 +19,7 @@ use Rattle.sheet.specs.Sheet.{Forest}
 use Rattle.sheet.specs.Records.{recordOf, recordsOf, allRecords}
 use Rattle.sheet.specs.Opening.{opened, opening}
 use Rattle.sheet.proofs.Flat.{concat}
-use Rattle.opened.proofs.OpenedLaws.{holds-tree}
+use Rattle.law_opened.proofs.OpenedLaws.{holds-tree}
 use Rattle.ast.specs.Tree.{noise}
 use Rattle.converting.specs.Convert.{waveformKind, triangle, waveAt, holdsNoise, convertedRecord, convertedSheet, converting}
 use Rattle.converting.specs.Kept.{NoiseAt, Kept}

@@ -11,10 +11,10 @@ use borrow.Author.Tests.{ltb-false, eq-eqb}
 use Rattle.codec.specs.Codec.{big}
 use Rattle.sheet.specs.Sheet.{Node, Forest, sheet, whole, decode}
 use Rattle.sheet.specs.Records.{nodesOf, kindOf, entriesOf}
-use Rattle.decode.specs.Means.{Reads, same}
-use Rattle.records.specs.Means.{recordForm, recordView}
-use Rattle.records.specs.declared.Kind.{Kind}
-use Rattle.records.proofs.PlaceLaws.{Behind, behind-head, behind-next, behind-last}
+use Rattle.sheet_decode.specs.Means.{Reads, same}
+use Rattle.sheet_records.specs.Means.{recordForm, recordView}
+use Rattle.sheet_records.specs.declared.Kind.{Kind}
+use Rattle.sheet_records.proofs.PlaceLaws.{Behind, behind-head, behind-next, behind-last}
 use Rattle.totals.specs.Totals.{sumOf, added, inWord}
 use Rattle.totals.proofs.TotalsLaws.{length-added, word-added, added-same, added-twice, added-none}
 use Rattle.feeding.specs.Feed.{nodesIn}

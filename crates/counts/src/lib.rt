@@ -7,11 +7,11 @@ ghost use Rattle.totals.specs.Totals.{added};
 ghost use Rattle.sheet.specs.Sheet.{decode};
 ghost use Rattle.feeding.specs.Feed.{nodesIn, full as Feed·full};
 ghost use Rattle.feeding.specs.Means.{Words, IsSheet, nodesAdd, judgedAdd};
-use decode::fields::take_field;
 use error::CheckAnswer;
 use error::FeedAnswer;
 use error::Refusal;
-use records::take_record;
+use sheet_decode::fields::take_field;
+use sheet_records::take_record;
 
 pub const SCRIPT_LIMIT: u64 = 4096;
 

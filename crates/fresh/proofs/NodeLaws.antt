@@ -15,7 +15,7 @@ use Rattle.grammar.specs.Grammar.{stored, parseSpring, parseKeyframes, parsePat
 use Rattle.grammar.specs.Grammar.{parseWaveform, parsePresetCall, parseGroup, parseStagger, parseTween, parseDraw}
 use Rattle.grammar.specs.Grammar.{parseLabel, parseAt, parseSequence, parseParallel, leaves, containers, aLeaf}
 use Rattle.grammar.specs.Grammar.{aContainer, beginning, parseNode, oneNode, nodesStep, block}
-use Rattle.rules.proofs.TreeLaws.{append-none, append-both}
+use Rattle.law_rules.proofs.TreeLaws.{append-none, append-both}
 use Rattle.pieces.specs.Pieces.{Piece, aWord, aName, Form, ahead, laid}
 use Rattle.fresh.specs.Meaning.{EasingSense, LeafSense, tween, spring, keyframes, path, morph, draw}
 use Rattle.fresh.specs.Meaning.{color, waveform, preset, label, at, Sense, noNodes, leaf, box, leafSense, sense}

@@ -16,8 +16,8 @@ use Rattle.text.specs.Words.{isSome, words, find, shorter}
 use Rattle.text.proofs.WordLaws.{same-eq, same-refl, find-here, find-past, find-long}
 use Rattle.token.specs.Names.{keywords, isKeyword}
 use Rattle.keywords.specs.Means.{pack, packs, packedKeywords, longKeywords}
-use Rattle.lengths.specs.Means.{sized}
-use Rattle.lengths.proofs.SizedLaws.{find-sized}
+use Rattle.law_lengths.specs.Means.{sized}
+use Rattle.law_lengths.proofs.SizedLaws.{find-sized}
 use Rattle.token.proofs.WholeLaws.{never, either, both, every, every-in}
 
 -- ---- words of some lengths

@@ -4,7 +4,7 @@ use Prim.Native.String.{String}
 use mathlib.Core.Bool.{Bool, _&&_}
 use mathlib.Core.List.{List, [], _∷_}
 use lib.Dec.{ltb}
-use Rattle.lengths.specs.Means.{sized}
+use Rattle.law_lengths.specs.Means.{sized}
 use Rattle.text.specs.Words.{words}
 use Rattle.token.specs.Names.{keywords}
 

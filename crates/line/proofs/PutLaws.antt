@@ -18,10 +18,10 @@ use Rattle.text.specs.WriteMeans.{Puts}
 use Rattle.text.proofs.WriteLaws.{puts-none, puts-one, puts-then}
 use Rattle.sheet.specs.Sheet.{Forest, decode}
 use Rattle.sheet.specs.Opening.{decoded, opening}
-use Rattle.records.specs.Means.{recordIn}
-use Rattle.opening.specs.declared.Opening.the-variants.{Open, Shut}
-use Rattle.opening.specs.Means.{textAnswer}
-use Rattle.opening.proofs.OpenLaws.{first-shut, text-open, the-refusal}
+use Rattle.sheet_records.specs.Means.{recordIn}
+use Rattle.sheet_refusals.specs.declared.Opening.the-variants.{Open, Shut}
+use Rattle.sheet_refusals.specs.Means.{textAnswer}
+use Rattle.sheet_refusals.proofs.OpenLaws.{first-shut, text-open, the-refusal}
 use Rattle.lining.specs.Line.{digit, hex, line}
 use Rattle.lining.specs.Lining.{placed, ofRecord, ofOpened, lining}
 use Rattle.lining.proofs.LineLaws.{hex-at, hex-end, length-line}

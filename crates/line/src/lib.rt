@@ -10,9 +10,9 @@ ghost use Rattle.error.specs.Answer.{lineValues};
 ghost use Rattle.lining.specs.Lining.{placed, lining};
 use error::LineAnswer;
 use error::Refusal;
-use opening::Opening;
-use opening::open_text;
-use records::RecordAt;
+use sheet_records::RecordAt;
+use sheet_refusals::Opening;
+use sheet_refusals::open_text;
 
 // ---- the check byte
 
@@ -146,7 +146,7 @@ pub fn line(text: &[u8], sheet: &[u8], ordinal: usize, out: &mut [u8]) -> LineAn
     if let Opening::Shut { refusal, place } = open_text(text) {
         return LineAnswer::Refused { refusal, place };
     }
-    match records::find_record(sheet, text.len(), ordinal) {
+    match sheet_records::find_record(sheet, text.len(), ordinal) {
         RecordAt::At { start, size } => place_line(text::part(sheet, start, size), ordinal, out),
         RecordAt::Nothing => LineAnswer::Refused {
             refusal: Refusal::NoSuchRecord,

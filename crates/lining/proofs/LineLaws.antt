@@ -17,7 +17,7 @@ use Rattle.codec.specs.Codec.{big}
 use Rattle.sheet.specs.Sheet.{Forest, decode}
 use Rattle.sheet.specs.Records.{allRecords}
 use Rattle.sheet.specs.Opening.{Opened, opened, shut, opening}
-use Rattle.opened.proofs.OpenedLaws.{holds-tree}
+use Rattle.law_opened.proofs.OpenedLaws.{holds-tree}
 use Rattle.lining.specs.Line.{digit, hex, total, covered, checkByte, spelled, line}
 use Rattle.lining.specs.Lining.{ofRecord, ofOpened, lining}
 

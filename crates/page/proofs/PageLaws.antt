@@ -23,7 +23,7 @@ use Rattle.text.specs.WriteMeans.{Puts}
 use Rattle.text.proofs.WriteLaws.{puts-then}
 use Rattle.sheet.specs.Records.{allRecords}
 use Rattle.sheet.proofs.Flat.{concat}
-use Rattle.records.proofs.PlaceLaws.{Stands, no-more}
+use Rattle.sheet_records.proofs.PlaceLaws.{Stands, no-more}
 use Rattle.lining.specs.Line.{line}
 use Rattle.lining.proofs.LineLaws.{length-line}
 use Rattle.line.proofs.PutLaws.{puts-whole}

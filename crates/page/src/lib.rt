@@ -2,9 +2,9 @@
 ghost use Rattle.text.specs.WriteMeans.{Puts};
 ghost use Rattle.script.specs.Output.{decimalOut, accept, refusal};
 ghost use Rattle.page.specs.Means.{Lines};
-use decode::fields::take_field;
 use error::Refusal;
-use records::take_record;
+use sheet_decode::fields::take_field;
+use sheet_records::take_record;
 
 // The output that the program lends for a line.
 const LINE_BYTES: usize = 65536;

@@ -18,23 +18,23 @@ use Rattle.token.specs.declared.SplitAnswer.{SplitAnswer}
 use Rattle.token.specs.declared.SplitAnswer.the-variants as answer
 use Rattle.token.proofs.StreamLaws.{split-reads}
 use Rattle.token.proofs.NestLaws.{last-end, fits-splits}
-use Rattle.rules.proofs.NestLaws.{OutNests, input-nests, end-fits}
+use Rattle.law_rules.proofs.NestLaws.{OutNests, input-nests, end-fits}
 use Rattle.number.specs.Time.{Key}
 use Rattle.ast.specs.Tree.{Nodes, width, mapTimes}
 use Rattle.sheet.specs.Sheet.{encode}
-use Rattle.encode.specs.WriteMeans.{Writes}
-use Rattle.encode.proofs.OverLaws.{writes-counted}
-use Rattle.encode.proofs.ClearLaws.{written}
+use Rattle.sheet_encode.specs.WriteMeans.{Writes}
+use Rattle.sheet_encode.proofs.OverLaws.{writes-counted}
+use Rattle.sheet_encode.proofs.ClearLaws.{written}
 use Rattle.grammar.specs.Rule.{Out, refused}
 use Rattle.grammar.specs.Grammar.{stored, animatoInput}
-use Rattle.cursor.specs.WordMeans.{atOf, leftAt, roundedOf}
-use Rattle.cursor.specs.Means.{nothing, leftOf, notes, run, Begins}
-use Rattle.cursor.specs.Means as cursor
-use Rattle.cursor.specs.declared.Cursor.{Cursor}
-use Rattle.cursor.proofs.CursorLaws.{left-none}
-use Rattle.blocks.specs.Means.{parseNodes, NodesWent}
-use Rattle.blocks.specs.declared.Siblings.{Siblings}
-use Rattle.blocks.proofs.BlockLaws.{block-bytes}
+use Rattle.read_cursor.specs.WordMeans.{atOf, leftAt, roundedOf}
+use Rattle.read_cursor.specs.Means.{nothing, leftOf, notes, run, Begins}
+use Rattle.read_cursor.specs.Means as cursor
+use Rattle.read_cursor.specs.declared.Cursor.{Cursor}
+use Rattle.read_cursor.proofs.CursorLaws.{left-none}
+use Rattle.read_blocks.specs.Means.{parseNodes, NodesWent}
+use Rattle.read_blocks.specs.declared.Siblings.{Siblings}
+use Rattle.read_blocks.proofs.BlockLaws.{block-bytes}
 use Rattle.error.specs.declared.Refusal.{Refusal}
 use Rattle.error.specs.declared.Refusal.the-variants.{TextTooLong, ScratchTooShort, Leftover, SheetTooShort}
 use Rattle.error.specs.declared.ReadAnswer.{ReadAnswer}

@@ -13,7 +13,7 @@ use Rattle.token.specs.Means.{answerOf}
 use Rattle.token.specs.declared.SplitAnswer.the-variants as told
 use Rattle.ast.specs.Tree.{Nodes, mapTimes, records}
 use Rattle.sheet.specs.Sheet.{encode}
-use Rattle.encode.specs.WriteMeans.{Writes}
+use Rattle.sheet_encode.specs.WriteMeans.{Writes}
 use Rattle.grammar.specs.Grammar.{stored, animatoInput}
 use Rattle.error.specs.declared.Refusal.the-variants.{SheetTooShort}
 use Rattle.error.specs.declared.ReadAnswer.{ReadAnswer}

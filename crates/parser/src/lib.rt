@@ -8,10 +8,10 @@ ghost use Rattle.token.specs.Means.{splitOutcome, splitting};
 ghost use Rattle.error.specs.Answer.{readValues};
 ghost use Rattle.reading.specs.Reading.{reading, outcome};
 ghost use Rattle.parser.specs.Means.{inputOf, Allowed, InputMeans, settled};
-use blocks::ParsedNodes;
-use cursor::Left;
 use error::ReadAnswer;
 use error::Refusal;
+use read_blocks::ParsedNodes;
+use read_cursor::Left;
 use token::SplitAnswer;
 
 // The words that reading asks of a scratch.
@@ -38,21 +38,21 @@ fn parse_input(text: &[u8], sheet: &mut [u8]) -> Input
     requires { ⌜ length (now text) ≤ textLimit ⌝ }
     ensures { λ r. ⌜ InputMeans (now (text .entry)) (now (sheet .entry)) (now (sheet .exit)) r ⌝ }
 {
-    let c = cursor::first(text);
-    match blocks::parse_nodes(text, sheet, c, 2, 16) {
+    let c = read_cursor::first(text);
+    match read_blocks::parse_nodes(text, sheet, c, 2, 16) {
         ParsedNodes::Refused(refusal, place) => refused(refusal, place),
         ParsedNodes::Is(nodes) => {
             let m = nodes.next;
-            match cursor::leftover(m) {
+            match read_cursor::leftover(m) {
                 Left::At(place) => refused(Refusal::Leftover, place),
                 Left::Nothing => {
-                    encode::patch_count(sheet, 0, nodes.width);
+                    sheet_encode::patch_count(sheet, 0, nodes.width);
                     let answer = ReadAnswer::Accepted {
                         length: nodes.end,
                         records: nodes.records,
-                        rounded: cursor::rounded(m),
+                        rounded: read_cursor::rounded(m),
                     };
-                    let whole = cursor::place(m) == text.len();
+                    let whole = read_cursor::place(m) == text.len();
                     Input { answer, whole }
                 }
             }
@@ -79,7 +79,7 @@ fn settle(sheet: &mut [u8], answer: ReadAnswer) -> ReadAnswer
 {
     match answer {
         ReadAnswer::Refused { refusal, place } => {
-            encode::clear(sheet, 0);
+            sheet_encode::clear(sheet, 0);
             ReadAnswer::Refused { refusal, place }
         }
         ReadAnswer::Accepted {
@@ -88,13 +88,13 @@ fn settle(sheet: &mut [u8], answer: ReadAnswer) -> ReadAnswer
             rounded,
         } => {
             if sheet.len() < length {
-                encode::clear(sheet, 0);
+                sheet_encode::clear(sheet, 0);
                 return ReadAnswer::Refused {
                     refusal: Refusal::SheetTooShort,
                     place: 0,
                 };
             }
-            encode::clear(sheet, length);
+            sheet_encode::clear(sheet, length);
             ReadAnswer::Accepted {
                 length,
                 records,

@@ -11,9 +11,9 @@ use lib.ListN.{length, drop}
 use Rattle.text.specs.Limits.{textLimit}
 use Rattle.sheet.specs.Sheet.{Forest, encode, decode}
 use Rattle.sheet.specs.Opening.{foreignFrom, unlessForeign, shut}
-use Rattle.opening.specs.Means.{textAnswer, foreignAnswer}
-use Rattle.opening.specs.declared.Opening.{Opening}
-use Rattle.opening.specs.declared.Opening.the-variants.{Open, Shut}
+use Rattle.sheet_refusals.specs.Means.{textAnswer, foreignAnswer}
+use Rattle.sheet_refusals.specs.declared.Opening.{Opening}
+use Rattle.sheet_refusals.specs.declared.Opening.the-variants.{Open, Shut}
 use Rattle.planed.specs.Planes.{planed, unplaned}
 use Rattle.error.specs.declared.Refusal.{Refusal}
 use Rattle.error.specs.declared.Refusal.the-variants.{TextTooLong, NotASheet, NotPlaned, OutputTooShort}

@@ -10,8 +10,8 @@ use Rattle.codec.specs.Codec.{Form, big, opt, eachOut}
 use Rattle.ast.specs.Tree.{ValueExpr, scalar, array, EasingSpec, KeyframeTime, percent, seconds, KeyframeEntry}
 use Rattle.sheet.specs.Sheet.{word, easingForm, timeFormOf, valueFormOf, entryFormOf}
 use Rattle.planed.specs.Planes.{valueNumbers, entryNumbers}
-use Rattle.decode.specs.Means.{Reads}
-use Rattle.shape.specs.Means.{isScalar, scalarFrame}
+use Rattle.sheet_decode.specs.Means.{Reads}
+use Rattle.sheet_shape.specs.Means.{isScalar, scalarFrame}
 use Rattle.plane.specs.CarryMeans.{Side, wide, narrow, tailOf, FrameMoved, FrameMoves, Pair, At, Back, FrameFine}
 use Rattle.plane.proofs.GapLaws.{passes}
 use Rattle.plane.proofs.LandLaws.{landed, wide-there, narrow-there}

@@ -12,7 +12,7 @@ use Rattle.sheet.specs.Sheet.{easingForm}
 use Rattle.sheet.specs.Sheet.{timeFormOf, valueFormOf, entryFormOf}
 use Rattle.planed.specs.Planes.{timeNumber, valueNumbers, entryNumbers}
 use Rattle.plane.specs.Means.{Advances}
-use Rattle.shape.specs.Means.{isScalar, scalarFrame}
+use Rattle.sheet_shape.specs.Means.{isScalar, scalarFrame}
 use Rattle.plane.specs.CarryMeans.{Gap, Side, Done, valueTail, tailOf, InPlanes, FrameMoved}
 use Rattle.plane.proofs.GapLaws.{passes, jumps}
 use Rattle.plane.proofs.CarryLaws.{carried}

@@ -8,8 +8,8 @@ use lib.ListN.{length, length-append}
 use Rattle.ast.specs.Tree.{KeyframeTime, KeyframeEntry}
 use Rattle.sheet.specs.Sheet.{entryFormOf}
 use Rattle.planed.specs.Planes.{entryNumbers, frameNumbers}
-use Rattle.decode.specs.Means.{Reads}
-use Rattle.shape.specs.Means.{scalarFrame}
+use Rattle.sheet_decode.specs.Means.{Reads}
+use Rattle.sheet_shape.specs.Means.{scalarFrame}
 use Rattle.plane.specs.CarryMeans.{Side, FrameMoves, Pair, At, FrameFine, EachFine, framesOf, Frames, BeforeFrames}
 use Rattle.plane.proofs.AtLaws.{FrameNeeds, frame-needs, frame-lands, frame-moved}
 

@@ -8,12 +8,12 @@ use lib.ListN.{length, drop, length-append, length-drop}
 use lib.Seq.{drop-drop, drop-append-seam}
 use Rattle.codec.specs.Codec.{Form}
 use Rattle.ast.specs.Tree.{ValueExpr, scalar, array, KeyframeTime, KeyframeEntry}
-use Rattle.decode.specs.Means.{Reads, got, bad}
+use Rattle.sheet_decode.specs.Means.{Reads, got, bad}
 use Rattle.sheet.specs.Sheet.{entryFormOf}
 use Rattle.planed.specs.Planes.{fillValue, fillEntry}
 use Rattle.sheet.proofs.Laws.{entryLOf}
 use Rattle.planed.proofs.TakenLaws.{entry-stays, entry-fits}
-use Rattle.shape.specs.Means.{isScalar, scalarFrame}
+use Rattle.sheet_shape.specs.Means.{isScalar, scalarFrame}
 use Rattle.plane.specs.CarryMeans.{Gap}
 
 -- what is read where something stands that is read back (as in records' PlaceLaws)

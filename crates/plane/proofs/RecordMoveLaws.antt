@@ -14,9 +14,9 @@ use Rattle.sheet.specs.Sheet.{spanForm, loopForm, Node, Forest}
 use Rattle.sheet.specs.Records.{recordAs, kindOf, nodesOf}
 use Rattle.sheet.proofs.Laws.{entryLOf, nodeLOf, OkNodesOf, innerLOf, loopL}
 use Rattle.sheet.proofs.Flat.{inside}
-use Rattle.decode.specs.Means.{Reads, same}
-use Rattle.records.specs.Means.{recordForm}
-use Rattle.records.proofs.PlaceLaws.{AloneAs, all-alone}
+use Rattle.sheet_decode.specs.Means.{Reads, same}
+use Rattle.sheet_records.specs.Means.{recordForm}
+use Rattle.sheet_records.proofs.PlaceLaws.{AloneAs, all-alone}
 use Rattle.planed.specs.Planes.{frameNumbers}
 use Rattle.plane.specs.CarryMeans.{Side, wide, narrow, At, EachFine, framesOf, BeforeFrames}
 use Rattle.plane.specs.CarryMeans.{ownNumbers, BeforeTrack, Coming, track, other, BeforeRecord, EachComing}

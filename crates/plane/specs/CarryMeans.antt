@@ -10,11 +10,11 @@ use Rattle.codec.specs.Codec.{Form, big, opt, many, eachOut}
 use Rattle.ast.specs.Tree.{ValueExpr, scalar, array, KeyframeTime, KeyframeEntry, KeyframeSpec, keyframes, single, holding}
 use Rattle.sheet.specs.Sheet.{word, easingForm, loopForm, entryFormOf, Node}
 use Rattle.sheet.specs.Records.{recordAs, kindOf}
-use Rattle.records.specs.Means.{recordForm}
+use Rattle.sheet_records.specs.Means.{recordForm}
 use Rattle.planed.specs.Planes.{entryNumbers, frameNumbers, leafNumbers}
 use Rattle.error.specs.declared.LineAnswer.{LineAnswer}
 use Rattle.plane.specs.Means.{Right, FourBytes}
-use Rattle.shape.specs.Means.{scalarFrame}
+use Rattle.sheet_shape.specs.Means.{scalarFrame}
 use Rattle.planed.specs.Planing.{placed}
 
 -- behind b bytes that stay and i numbers: the bytes g in both, then A in the sheet s and B in the planed p; and the numbers C are left

@@ -6,11 +6,11 @@ ghost use Rattle.plane.specs.CarryMeans.{Carries, Carried};
 use crate::moves::move_all;
 use error::LineAnswer;
 use error::Refusal;
-use opening::Opening;
-use opening::open_text;
-use shape::Shape;
-use shape::planed_shape;
-use shape::sheet_shape;
+use sheet_refusals::Opening;
+use sheet_refusals::open_text;
+use sheet_shape::Shape;
+use sheet_shape::planed_shape;
+use sheet_shape::sheet_shape;
 
 pub mod moves;
 

@@ -6,10 +6,10 @@ ghost use lib.ListN.{length};
 ghost use Rattle.plane.specs.Means.{Copies, Puts, Advances};
 ghost use mathlib.Core.Bool.{true};
 ghost use Rattle.plane.specs.CarryMeans.{FrameMoves, BeforeFrames, FramesMove, BeforeTrack, TrackMoves, BeforeRecord, RecordMoves, BeforeAll, AllMove};
-use decode::fields::take_field;
-use decode::optional::take_opt_loop;
-use records::take_record;
-use shape::walk::take_frame;
+use sheet_decode::fields::take_field;
+use sheet_decode::optional::take_opt_loop;
+use sheet_records::take_record;
+use sheet_shape::walk::take_frame;
 
 // So many bytes.
 fn copy(src: &[u8], from: usize, out: &mut [u8], to: usize, k: usize)

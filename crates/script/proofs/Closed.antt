@@ -1,5 +1,5 @@
 -- Demand 3, closed: the three laws of the grammar are those of `limits`.
-use Rattle.limits.proofs.Limits.{parses-clean, parses-fits, parses-small}
+use Rattle.law_limits.proofs.Limits.{parses-clean, parses-fits, parses-small}
 use Rattle.script.specs.Claim.{Demand3}
 use Rattle.script.proofs.Whole.{Claimed}
 use Rattle.script.proofs.Whole as whole

@@ -18,7 +18,7 @@ use Rattle.ast.specs.Tree.{KeyframeTime, KeyframeEntry, KeyframeSpec, Leaf, key
 use Rattle.checking.specs.Rules.{timeOf, given, unknownEasing, first, validateFrames, validateKeyframes}
 use Rattle.checking.specs.Rules.{validateLeaf, validateContainer, atOrdinal, validateNodes}
 use Rattle.checking.proofs.FrameLaws.{stamps}
-use Rattle.rules.proofs.ListLaws.{none≢some}
+use Rattle.law_rules.proofs.ListLaws.{none≢some}
 use Rattle.error.specs.declared.Refusal.{Refusal}
 use Rattle.error.specs.declared.Refusal.the-variants.{DuplicateTime, UnknownEasing, TooFewFrames}
 

@@ -28,7 +28,7 @@ use Rattle.sheet.proofs.Laws.{decodes}
 use Rattle.sheet.proofs.Flat.{concat, sheet-flat}
 use Rattle.grammar.specs.Grammar.{stored}
 use Rattle.reading.specs.Reading.{reading}
-use Rattle.limits.proofs.Limits.{parses-fits, parses-small, parses-few, parses-opens}
+use Rattle.law_limits.proofs.Limits.{parses-fits, parses-small, parses-few, parses-opens}
 use Rattle.checking.specs.Checking.{checking}
 use Rattle.lining.specs.Line.{line}
 use Rattle.lining.specs.Lining.{placed, lining}

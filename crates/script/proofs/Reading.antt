@@ -13,7 +13,7 @@ use Rattle.ast.specs.Tree.{Nodes, mapTimes, records}
 use Rattle.sheet.specs.Sheet.{encode}
 use Rattle.grammar.specs.Grammar.{stored}
 use Rattle.reading.specs.Reading.{Parsed, tree, wrong, parse, early, fitting, answered, unlessEarly, reading, scratchWords}
-use Rattle.rules.proofs.ListLaws.{none≢some}
+use Rattle.law_rules.proofs.ListLaws.{none≢some}
 use Rattle.error.specs.declared.Refusal.{Refusal}
 use Rattle.error.specs.declared.Refusal.the-variants.{TextTooLong, ScratchTooShort, SheetTooShort}
 use Rattle.error.specs.declared.ReadAnswer.{ReadAnswer}

@@ -19,7 +19,7 @@ use Rattle.colors.specs.Css.{namesOf}
 use Rattle.checking.specs.Rules.{timeOf}
 use Rattle.checking.specs.Checking.{answerOf, judged}
 use Rattle.checking.proofs.FrameLaws.{stamps}
-use Rattle.rules.proofs.ListLaws.{none≢some}
+use Rattle.law_rules.proofs.ListLaws.{none≢some}
 use Rattle.error.specs.declared.Refusal.{Refusal}
 use Rattle.error.specs.declared.Refusal.the-variants.{DuplicateTime}
 use Rattle.error.specs.declared.CheckAnswer.the-variants.{Accepted, Refused}

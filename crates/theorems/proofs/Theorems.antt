@@ -4,19 +4,19 @@ use Rattle.lining.proofs.CheckLaws.{lined}
 use Rattle.script.specs.Table.{lemma}
 use Rattle.script.proofs.Closed.{demand3}
 use Rattle.script.proofs.ScratchLaws.{reading-same}
-use Rattle.limits.proofs.Limits.{parses-small}
-use Rattle.morning.proofs.History.{morning}
-use Rattle.morning.proofs.MeanLaws.{means}
-use Rattle.given_back.proofs.ReadBack.{read-back, exactly-34}
-use Rattle.given_back.proofs.Corollaries.{never-unwritable, accepted-again, reads-no-noise}
+use Rattle.law_limits.proofs.Limits.{parses-small}
+use Rattle.law_feeds.proofs.History.{morning}
+use Rattle.law_feeds.proofs.MeanLaws.{means}
+use Rattle.law_given_back.proofs.ReadBack.{read-back, exactly-34}
+use Rattle.law_given_back.proofs.Corollaries.{never-unwritable, accepted-again, reads-no-noise}
 use Rattle.converting.proofs.KeptLaws.{kept}
 use Rattle.converting.proofs.ConvertLaws.{twice}
-use Rattle.converted.proofs.ConvertedLaws.{as-with-triangle, never-retired}
+use Rattle.law_converted.proofs.ConvertedLaws.{as-with-triangle, never-retired}
 use Rattle.books.proofs.RingLaws.{ring-refused, refused-ring, listed}
 use Rattle.planed.proofs.PlaningLaws.{there-and-back, back-and-there, not-planed-refused, refused-not-planed}
 use Rattle.drawing.proofs.TableLaws.{rises, squares}
-use Rattle.renamed.proofs.Renamed.{renaming}
-use Rattle.renamed.proofs.BytewiseLaws.{bytewise}
+use Rattle.law_renamed.proofs.Renamed.{renaming}
+use Rattle.law_renamed.proofs.BytewiseLaws.{bytewise}
 use Rattle.theorems.specs.Theorems.{Theorems}
 
 pub theorems : Theorems

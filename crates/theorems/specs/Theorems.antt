@@ -20,20 +20,20 @@ use Rattle.script.specs.Output.{sheetBytes}
 use Rattle.script.specs.Table.{every, table}
 use Rattle.totals.specs.Totals.{scriptLimit}
 use Rattle.feeding.specs.Feed.{Fed}
-use Rattle.morning.specs.Morning.{Morning, Means}
-use Rattle.given_back.specs.ReadBack.{ReadBack, Exactly34}
-use Rattle.given_back.specs.Corollaries.{NeverUnwritable, AcceptedAgain, ReadsNoNoise}
+use Rattle.law_feeds.specs.Morning.{Morning, Means}
+use Rattle.law_given_back.specs.ReadBack.{ReadBack, Exactly34}
+use Rattle.law_given_back.specs.Corollaries.{NeverUnwritable, AcceptedAgain, ReadsNoNoise}
 use Rattle.converting.specs.Convert.{converting}
 use Rattle.converting.specs.Kept.{Kept}
-use Rattle.converted.specs.Converted.{AsWithTriangle, NeverRetired}
+use Rattle.law_converted.specs.Converted.{AsWithTriangle, NeverRetired}
 use Rattle.order.specs.Order.{Ring, Listing}
 use Rattle.books.specs.Book.{Item, held, book}
 use Rattle.books.specs.Calls.{calls}
 use Rattle.books.specs.Listing.{listing}
 use Rattle.planed.specs.Planing.{planing, unplaning, Plain, PlanesTo}
 use Rattle.drawing.specs.Table as wave
-use Rattle.renamed.specs.Renaming.{Renamed, Renaming}
-use Rattle.renamed.specs.Bytewise.{Bytewise}
+use Rattle.law_renamed.specs.Renaming.{Renamed, Renaming}
+use Rattle.law_renamed.specs.Bytewise.{Bytewise}
 use Rattle.error.specs.declared.Refusal.the-variants.{RingOfCalls, NotPlaned}
 use Rattle.error.specs.declared.CheckAnswer.the-variants as check
 use Rattle.error.specs.declared.LineAnswer.the-variants.{Accepted, Refused}

@@ -14,22 +14,22 @@ use Rattle.text.specs.Words.{isSome}
 use Rattle.codec.specs.Codec.{big}
 use Rattle.sheet.specs.Sheet.{Forest, forest, inner, decode}
 use Rattle.sheet.specs.Opening.{shut, foreignFrom, unlessForeign, decoded}
-use Rattle.decode.specs.Means.{Reads, got, bad, same, passed}
-use Rattle.opening.specs.Means.{answerOf, earlier, foreignAnswer, textAnswer, bytesAnswer}
-use Rattle.opening.specs.declared.Opening.{Opening}
-use Rattle.opening.specs.declared.Opening.the-variants.{Open, Shut}
+use Rattle.sheet_decode.specs.Means.{Reads, got, bad, same, passed}
+use Rattle.sheet_refusals.specs.Means.{answerOf, earlier, foreignAnswer, textAnswer, bytesAnswer}
+use Rattle.sheet_refusals.specs.declared.Opening.{Opening}
+use Rattle.sheet_refusals.specs.declared.Opening.the-variants.{Open, Shut}
 use Rattle.error.specs.declared.Refusal.{Refusal}
 use Rattle.error.specs.declared.Refusal.the-variants.{TextTooLong, NotASheet, UnknownList}
 use Rattle.error.specs.declared.CheckAnswer.the-variants.{Refused}
 use Rattle.colors.specs.Css.{namesOf}
-use Rattle.decode.proofs.ReadLaws.{le-or-lt, mapped}
-use Rattle.records.proofs.WalkLaws.{decides}
-use Rattle.opening.proofs.OpenLaws.{Tree, text-first, the-tree, the-refusal}
+use Rattle.sheet_decode.proofs.ReadLaws.{le-or-lt, mapped}
+use Rattle.sheet_records.proofs.WalkLaws.{decides}
+use Rattle.sheet_refusals.proofs.OpenLaws.{Tree, text-first, the-tree, the-refusal}
 use Rattle.checking.specs.Rules.{validateNodes}
 use Rattle.checking.specs.Checking.{answerOf as verdictOf, judged, verdict, isList, unlessUnknown, openingUnder, checking}
 use Rattle.checking.proofs.ListLaws.{known}
-use Rattle.places.specs.Means.{Stands}
-use Rattle.places.proofs.StandLaws.{none≢some, head}
+use Rattle.sheet_nodes.specs.Means.{Stands}
+use Rattle.sheet_nodes.proofs.StandLaws.{none≢some, head}
 use Rattle.validate.specs.Means.{InLimit, listAnswer}
 use Rattle.validate.specs.WalkMeans.{nodesView}
 

@@ -19,16 +19,16 @@ use Rattle.ast.specs.Tree.{KeyframeSpec, KeyframeTime, percent, seconds, LoopSp
 use Rattle.ast.specs.Means.{timeView, entryView}
 use Rattle.ast.specs.declared.KeyframeEntry as entries
 use Rattle.sheet.specs.Sheet.{timeForm, valueForm, easingForm, entryForm, keyframesForm, toKeyframes, ofKeyframes, loopForm}
-use Rattle.decode.specs.Means.{Lost, Reads, got, bad}
+use Rattle.sheet_decode.specs.Means.{Lost, Reads, got, bad}
 use Rattle.error.specs.declared.Refusal.{Refusal}
 use Rattle.error.specs.declared.Refusal.the-variants.{UnknownEasing, DuplicateTime, TooFewFrames}
 use Rattle.codec.proofs.Laws.{inverse, each-lawful}
 use Rattle.sheet.proofs.Laws.{entryL}
-use Rattle.decode.proofs.ReadLaws.{_&_, seen, through, counted, each-next}
+use Rattle.sheet_decode.proofs.ReadLaws.{_&_, seen, through, counted, each-next}
 use Rattle.checking.specs.Rules.{given, unknownEasing, first, timeOf, validateFrames, validateKeyframes}
 use Rattle.checking.proofs.FrameLaws.{Entry, stamp}
 use Rattle.node_rules.specs.Means.{Tells}
-use Rattle.places.proofs.StandLaws.{none≢some}
+use Rattle.sheet_nodes.proofs.StandLaws.{none≢some}
 use Rattle.validate.specs.Means.{InLimit, framesView, HeadStands}
 
 -- ---- times

@@ -13,16 +13,16 @@ use Rattle.ast.specs.Means.{groupView, staggerView}
 use Rattle.ast.specs.declared.GroupSpec as groups
 use Rattle.ast.specs.declared.StaggerSpec as staggers
 use Rattle.sheet.specs.Sheet.{word, patternForm, keyframesForm}
-use Rattle.decode.specs.Means.{Reads, same, KindAndStart}
-use Rattle.records.specs.Means.{blank, countForm, recordForm}
-use Rattle.records.specs.declared.Kind.{Kind}
-use Rattle.records.specs.declared.Kind.the-variants as kind
+use Rattle.sheet_decode.specs.Means.{Reads, same, KindAndStart}
+use Rattle.sheet_records.specs.Means.{blank, countForm, recordForm}
+use Rattle.sheet_records.specs.declared.Kind.{Kind}
+use Rattle.sheet_records.specs.declared.Kind.the-variants as kind
 use Rattle.colors.specs.Css.{namesOf}
 use Rattle.error.specs.declared.Refusal.{Refusal}
-use Rattle.decode.proofs.ReadLaws.{_&_}
-use Rattle.records.proofs.RecordLaws.{made, after, counts, width-blank, of-kind, three-or-four}
+use Rattle.sheet_decode.proofs.ReadLaws.{_&_}
+use Rattle.sheet_records.proofs.RecordLaws.{made, after, counts, width-blank, of-kind, three-or-four}
 use Rattle.checking.specs.Rules.{validateKeyframes, validateLeaf, validateContainer}
-use Rattle.places.specs.Means.{ContainerKind}
+use Rattle.sheet_nodes.specs.Means.{ContainerKind}
 use Rattle.node_rules.specs.Means.{faultOf, StaggerTells}
 use Rattle.validate.specs.WalkMeans.{recordView}
 use Rattle.node_rules.specs.declared.faults.Fault.{Fault}

@@ -11,13 +11,13 @@ use Rattle.text.specs.Words.{orElse}
 use Rattle.codec.specs.Codec.{Form}
 use Rattle.ast.specs.Tree.{Nodes, single, holding, push, records}
 use Rattle.sheet.specs.Sheet.{Node, Forest, nodeForm, forest, inner}
-use Rattle.decode.specs.Means.{Lost, Reads}
-use Rattle.records.specs.Means.{recordForm}
-use Rattle.records.specs.declared.Kind.{Kind}
-use Rattle.records.specs.declared.Kind.the-variants as kind
-use Rattle.records.proofs.RecordLaws.{moves}
-use Rattle.records.proofs.WalkLaws as walks
-use Rattle.records.proofs.WalkLaws.{Single, Holds}
+use Rattle.sheet_decode.specs.Means.{Lost, Reads}
+use Rattle.sheet_records.specs.Means.{recordForm}
+use Rattle.sheet_records.specs.declared.Kind.{Kind}
+use Rattle.sheet_records.specs.declared.Kind.the-variants as kind
+use Rattle.sheet_records.proofs.RecordLaws.{moves}
+use Rattle.sheet_records.proofs.WalkLaws as walks
+use Rattle.sheet_records.proofs.WalkLaws.{Single, Holds}
 use Rattle.colors.specs.Css.{namesOf}
 use Rattle.error.specs.declared.Refusal.{Refusal}
 use Rattle.checking.specs.Rules.{atOrdinal, validateLeaf, validateContainer, validateNodes}

@@ -7,9 +7,9 @@ use lib.ListN.{length}
 use Rattle.codec.specs.Codec.{big, each}
 use Rattle.ast.specs.Tree.{KeyframeEntry, KeyframeTime}
 use Rattle.sheet.specs.Sheet.{spanForm, entryForm, keyframesForm}
-use Rattle.decode.specs.Means.{Reads, same, passed}
-use Rattle.opening.specs.declared.Opening.{Opening}
-use Rattle.opening.specs.declared.Opening.the-variants.{Open, Shut}
+use Rattle.sheet_decode.specs.Means.{Reads, same, passed}
+use Rattle.sheet_refusals.specs.declared.Opening.{Opening}
+use Rattle.sheet_refusals.specs.declared.Opening.the-variants.{Open, Shut}
 use Rattle.error.specs.declared.Refusal.{Refusal}
 use Rattle.error.specs.declared.Refusal.the-variants.{UnknownList}
 use Rattle.checking.specs.Rules.{validateFrames, validateKeyframes}

@@ -6,9 +6,9 @@ use lib.ListN.{length}
 use Rattle.codec.specs.Codec.{Form}
 use Rattle.ast.specs.Tree.{Nodes, single, holding, push, records}
 use Rattle.sheet.specs.Sheet.{Node, Forest, nodeForm, forest, inner}
-use Rattle.decode.specs.Means.{Reads, KindAndStart}
-use Rattle.records.specs.Means.{recordForm, kindView}
-use Rattle.records.specs.declared.Kind.{Kind}
+use Rattle.sheet_decode.specs.Means.{Reads, KindAndStart}
+use Rattle.sheet_records.specs.Means.{recordForm, kindView}
+use Rattle.sheet_records.specs.declared.Kind.{Kind}
 use Rattle.colors.specs.Css.{namesOf}
 use Rattle.error.specs.declared.Refusal.{Refusal}
 use Rattle.checking.specs.Rules.{validateLeaf, validateContainer, atOrdinal, validateNodes}

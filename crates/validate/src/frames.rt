@@ -9,15 +9,15 @@ ghost use Rattle.checking.specs.Rules.{given, unknownEasing};
 ghost use Rattle.node_rules.specs.Means.{Tells};
 ghost use Rattle.validate.specs.Means.{InLimit, HeadStands, FramesTell, TrackTells};
 use ast::KeyframeEntry;
-use decode::fields::lost;
-use decode::fields::take_field;
-use decode::fields::take_span;
-use decode::nodes::skip_entries;
-use decode::nodes::take_entry;
-use decode::optional::take_opt_loop;
 use error::Refusal;
 use node_rules::faults::Fault;
 use node_rules::faults::some_unknown;
+use sheet_decode::fields::lost;
+use sheet_decode::fields::take_field;
+use sheet_decode::fields::take_span;
+use sheet_decode::nodes::skip_entries;
+use sheet_decode::nodes::take_entry;
+use sheet_decode::optional::take_opt_loop;
 
 // A track's first fault, and the place behind it.
 pub struct TrackCheck {

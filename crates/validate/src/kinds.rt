@@ -2,22 +2,9 @@
 ghost use Prim.Native.Nat.{ℕ, _<_};
 ghost use mathlib.Core.List.{List};
 ghost use mathlib.Core.Path.{_≡_};
-ghost use Rattle.records.specs.declared.Kind.the-variants.{Leaf, Container};
+ghost use Rattle.sheet_records.specs.declared.Kind.the-variants.{Leaf, Container};
 ghost use Rattle.validate.specs.WalkMeans.{checkOf, FieldsTell};
-ghost use Rattle.places.specs.Means.{LeafKind, ContainerKind};
-use decode::fields::take_field;
-use decode::fields::take_span;
-use decode::nodes::take_at;
-use decode::nodes::take_color;
-use decode::nodes::take_draw;
-use decode::nodes::take_group;
-use decode::nodes::take_morph;
-use decode::nodes::take_path;
-use decode::nodes::take_preset;
-use decode::nodes::take_spring;
-use decode::nodes::take_stagger;
-use decode::nodes::take_tween;
-use decode::nodes::take_waveform;
+ghost use Rattle.sheet_nodes.specs.Means.{LeafKind, ContainerKind};
 use node_rules::faults::Fault;
 use node_rules::rules::validate_color;
 use node_rules::rules::validate_draw;
@@ -28,7 +15,20 @@ use node_rules::rules::validate_spring;
 use node_rules::rules::validate_stagger;
 use node_rules::rules::validate_tween;
 use node_rules::rules::validate_waveform;
-use records::Kind;
+use sheet_decode::fields::take_field;
+use sheet_decode::fields::take_span;
+use sheet_decode::nodes::take_at;
+use sheet_decode::nodes::take_color;
+use sheet_decode::nodes::take_draw;
+use sheet_decode::nodes::take_group;
+use sheet_decode::nodes::take_morph;
+use sheet_decode::nodes::take_path;
+use sheet_decode::nodes::take_preset;
+use sheet_decode::nodes::take_spring;
+use sheet_decode::nodes::take_stagger;
+use sheet_decode::nodes::take_tween;
+use sheet_decode::nodes::take_waveform;
+use sheet_records::Kind;
 
 // A record's first fault, whether it holds nodes and how many, and the place behind it.
 pub struct RecordCheck {

@@ -5,7 +5,7 @@ ghost use lib.ListN.{length};
 ghost use Rattle.error.specs.Answer.{checkValues};
 ghost use Rattle.sheet.specs.Sheet.{decode};
 ghost use Rattle.sheet.specs.Opening.{decoded};
-ghost use Rattle.opening.specs.Means.{earlier};
+ghost use Rattle.sheet_refusals.specs.Means.{earlier};
 ghost use Rattle.checking.specs.Checking.{verdict, checking};
 ghost use Rattle.validate.specs.Means.{listAnswer, InLimit};
 
@@ -14,12 +14,12 @@ mod kinds;
 mod nodes;
 
 use crate::nodes::validate_nodes;
-use decode::fields::take_field;
 use error::CheckAnswer;
 use error::Refusal;
 use node_rules::faults::Fault;
-use opening::Opening;
-use opening::open_text;
+use sheet_decode::fields::take_field;
+use sheet_refusals::Opening;
+use sheet_refusals::open_text;
 
 // Whether there is such a list of colours.
 fn open_list(list: u32) -> Opening

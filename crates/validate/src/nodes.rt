@@ -3,7 +3,7 @@
 ghost use Prim.Native.Nat.{_+_, _≤_};
 ghost use mathlib.Core.Path.{_≡_};
 ghost use Rattle.text.specs.Words.{orElse};
-ghost use Rattle.decode.specs.Means.{Lost};
+ghost use Rattle.sheet_decode.specs.Means.{Lost};
 ghost use Rattle.checking.specs.Rules.{atOrdinal};
 ghost use Rattle.node_rules.specs.Means.{faultOf};
 ghost use Rattle.validate.specs.Means.{InLimit};
@@ -13,10 +13,10 @@ use crate::frames::short_track;
 use crate::frames::take_head;
 use crate::frames::validate_keyframes;
 use crate::kinds::validate_record;
-use decode::fields::lost;
-use decode::fields::take_kind;
 use node_rules::faults::Fault;
-use records::Kind;
+use sheet_decode::fields::lost;
+use sheet_decode::fields::take_kind;
+use sheet_records::Kind;
 
 // The first fault of some nodes, and the ordinal of its record, which means nothing where there is none.
 pub struct FirstFault {

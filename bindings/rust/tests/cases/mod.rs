@@ -1,11 +1,11 @@
-//! The stored cases (crates/sheet_cases and crates/script_cases).
+//! The stored cases (crates/run_sheet_cases and crates/run_script_cases).
 #![allow(dead_code)]
 use std::path::Path;
 
 /// The stored cases of a kind, and their answers, which stand behind the line `== KIND`.
 pub fn stored(kind: &str) -> (String, String) {
     let crates = Path::new(env!("CARGO_MANIFEST_DIR")).join("../../crates");
-    let folders = ["sheet_cases", "script_cases"].map(|name| crates.join(name));
+    let folders = ["run_sheet_cases", "run_script_cases"].map(|name| crates.join(name));
     let folder = folders.iter().find(|folder| folder.join("data").join(kind).exists()).unwrap();
     let file = |part: &str| std::fs::read_to_string(folder.join(part)).unwrap();
     let all = file("stdout");

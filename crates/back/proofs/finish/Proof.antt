@@ -3,7 +3,7 @@ use Rattle.fresh.specs.Reads.{start}
 use mathlib.Core.Path.{_∙_}
 use native.Mathlib.Omega.{arith}
 use native.Mathlib.Nat.{sub-zero}
-use Rattle.spelling.proofs.PageLaws.{was-true, was-false}
+use Rattle.back_spelling.proofs.PageLaws.{was-true, was-false}
 use Rattle.back.proofs.ScriptLaws.{unwritable, too-long, nothing-there, no-space, space}
 use borrow.Author.Needs.{needs}
 use Rattle.back.proofs.finish.Statement.{statement}

@@ -2,7 +2,7 @@
 use Rattle.error.specs.Answer.{lineValues}
 use Rattle.error.proofs.AnswerLaws.{with-values}
 use mathlib.Core.Path.{_∙_, sym}
-use Rattle.spelling.specs.Means.{pageOf}
+use Rattle.back_spelling.specs.Means.{pageOf}
 use Rattle.back.proofs.ScriptLaws.{shut-answer, open-answer}
 use borrow.Author.Needs.{needs}
 use Rattle.back.proofs.write.Statement.{statement}

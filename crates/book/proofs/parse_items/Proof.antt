@@ -11,7 +11,7 @@ use lib.ListN.{length}
 use Rattle.book.proofs.BookLaws.{Reading, reading-start, reading-left, reading-done, reading-refused, walked-room, reading-more}
 use Rattle.book.proofs.parse_items.Statement.{statement}
 use Rattle.book.proofs.parse_items.Tie as tie
-use Rattle.cursor.specs.WordMeans.{atOf}
+use Rattle.read_cursor.specs.WordMeans.{atOf}
 
 abbrev Inv-loop : tie.InvT-loop
 Inv-loop text table₀ sheet₀ c₀ n₀ table sheet c n = (length sheet ≡ 1) × Reading text table c n

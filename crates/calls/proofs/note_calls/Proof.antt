@@ -9,7 +9,7 @@ use mathlib.Core.Path.{sym, _∙_}
 use native.Mathlib.Omega.{arith}
 use borrow.Author.Needs.{needs}
 use lib.ListN.{length}
-use Rattle.records.proofs.RecordLaws.{moves}
+use Rattle.sheet_records.proofs.RecordLaws.{moves}
 use Rattle.books.specs.Book.{book}
 use Rattle.calls.proofs.BodyLaws.{Noting, noting-start, noting-next, noting-done}
 use Rattle.calls.proofs.note_calls.Statement.{statement}

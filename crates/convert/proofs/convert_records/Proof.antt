@@ -3,7 +3,7 @@ use Prim.Native.Nat.{_-_}
 use native.Mathlib.Omega.{arith}
 use borrow.Author.Needs.{needs}
 use lib.ListN.{length}
-use Rattle.records.proofs.RecordLaws.{moves}
+use Rattle.sheet_records.proofs.RecordLaws.{moves}
 use Rattle.convert.proofs.WalkLaws.{Walked, walked-start, walked-room, walked-next, walked-all}
 use Rattle.convert.proofs.convert_records.Statement.{statement}
 use Rattle.convert.proofs.convert_records.Tie as tie

@@ -5,7 +5,7 @@ use Rattle.sheet.specs.Sheet.{decode, sheet}
 use lib.ListN.{length}
 use Rattle.feeding.specs.Feed.{nodesIn}
 use Rattle.counts.proofs.WalkLaws.{Counting, counting-start, counting-next, counting-long, counting-done}
-use Rattle.records.proofs.RecordLaws.{moves}
+use Rattle.sheet_records.proofs.RecordLaws.{moves}
 use borrow.Author.Needs.{needs}
 use Rattle.counts.proofs.count_records.Statement.{statement}
 use Rattle.counts.proofs.count_records.Tie as tie

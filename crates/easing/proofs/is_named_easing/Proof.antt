@@ -12,7 +12,8 @@ returns-2 : tie.Need-returns-2
 returns-2 c =
     let at-to-snake-case = c .before .before .before in
     let at-part = at-to-snake-case .before .before in
-    easing-variant _ _ _ _ _ (at-part .before .if1 .left) (at-part .part .ensures) (puts-front (at-to-snake-case .to-snake-case .ensures))
+    let at-if1 = at-part .before in
+    easing-variant _ _ _ _ _ (at-if1 .if1 .left) (at-part .part .ensures) (puts-front (at-to-snake-case .to-snake-case .ensures))
     (c .holds2 .ensures)
 
 pub is-named-easing-spec : {M : Type 1} → statement M

@@ -4,7 +4,7 @@ use native.Mathlib.Omega.{arith}
 use borrow.Author.Needs.{needs}
 use borrow.Author.Tests.{lt-ltb}
 use lib.ListN.{length}
-use Rattle.lengths.specs.Means.{sized}
+use Rattle.law_lengths.specs.Means.{sized}
 use Rattle.keywords.specs.Means.{upTo4, upTo7}
 use Rattle.token.proofs.WholeLaws.{every}
 use Rattle.keywords.proofs.NameLaws.{allBytes, keyword-packed, keyword-eight, keyword-long}

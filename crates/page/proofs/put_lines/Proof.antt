@@ -9,8 +9,8 @@ use lib.ListN.{length}
 use borrow.Author.Needs.{needs}
 use Rattle.sheet.specs.Records.{allRecords}
 use Rattle.sheet.specs.Sheet.{Forest, decode}
-use Rattle.records.proofs.PlaceLaws.{first, next}
-use Rattle.records.proofs.RecordLaws.{moves}
+use Rattle.sheet_records.proofs.PlaceLaws.{first, next}
+use Rattle.sheet_records.proofs.RecordLaws.{moves}
 use Rattle.page.proofs.PageLaws.{Going, goes, goes-refused, goes-last, goes-on}
 use Rattle.page.proofs.put_lines.Statement.{statement}
 use Rattle.page.proofs.put_lines.Tie as tie

@@ -4,7 +4,7 @@ use Rattle.error.proofs.AnswerLaws.{and-values}
 use mathlib.Core.Path.{sym, _∙_}
 use lib.ListN.{length}
 use borrow.Author.Needs.{needs}
-use Rattle.records.proofs.WalkLaws.{too-long}
+use Rattle.sheet_records.proofs.WalkLaws.{too-long}
 use Rattle.validate.proofs.CheckLaws as laws
 use Rattle.validate.proofs.check.Statement.{statement}
 use Rattle.validate.proofs.check.Tie as tie

@@ -1,7 +1,7 @@
 -- `validate::frames::take_head` meets its contract: the target, then the count.
 use borrow.Author.Needs.{needs}
-use Rattle.decode.specs.Means.{passed}
-use Rattle.decode.proofs.ReadLaws.{mapped}
+use Rattle.sheet_decode.specs.Means.{passed}
+use Rattle.sheet_decode.proofs.ReadLaws.{mapped}
 use Rattle.validate.proofs.frames.take_head.Statement.{statement}
 use Rattle.validate.proofs.frames.take_head.Tie as tie
 

@@ -2,10 +2,10 @@
 use mathlib.Core.Path.{refl}
 use borrow.Author.Needs.{needs}
 use Rattle.ast.specs.Tree as tree
-use Rattle.decode.proofs.ReadLaws.{_&_}
-use Rattle.records.proofs.RecordLaws.{of-kind}
+use Rattle.sheet_decode.proofs.ReadLaws.{_&_}
+use Rattle.sheet_records.proofs.RecordLaws.{of-kind}
 use Rattle.checking.specs.Rules.{validateLeaf}
-use Rattle.places.proofs.StandLaws.{last-kind}
+use Rattle.sheet_nodes.proofs.StandLaws.{last-kind}
 use Rattle.validate.proofs.KindLaws as kind-laws
 use Rattle.validate.proofs.kinds.validate_leaf.Statement.{statement}
 use Rattle.validate.proofs.kinds.validate_leaf.Tie as tie

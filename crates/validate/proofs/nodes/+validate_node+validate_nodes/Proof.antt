@@ -7,8 +7,8 @@ use lib.ListN.{length}
 use borrow.Author.Needs.{needs}
 use borrow.Fn.Kinds.{In}
 use borrow.Fn.PlainCycle.{Measures, is, falls, and}
-use Rattle.records.proofs.RecordLaws.{moves}
-use Rattle.records.proofs.WalkLaws.{nearer, node-end}
+use Rattle.sheet_records.proofs.RecordLaws.{moves}
+use Rattle.sheet_records.proofs.WalkLaws.{nearer, node-end}
 use Rattle.sheet.specs.Sheet.{inner}
 use Rattle.validate.specs.WalkMeans.{foundOf, Reached}
 use Rattle.validate.proofs.KindLaws as kind-laws
@@ -19,7 +19,7 @@ use Rattle.validate.proofs.nodes.+validate_node+validate_nodes.Lts-vali
 use Rattle.validate.proofs.nodes.validate_nodes.Reads as validate-nodes
 use Rattle.validate.proofs.nodes.validate_nodes.Kinds as validate-nodes-kinds
 use Rattle.validate.proofs.nodes.+validate_node+validate_nodes.Lts-validate_nodes as validate-nodes-lts
-use Rattle.decode.proofs.fields.take_kind.Reads as take-kind-reads
+use Rattle.sheet_decode.proofs.fields.take_kind.Reads as take-kind-reads
 use Rattle.validate.proofs.frames.take_head.Reads as take-head-reads
 use Rattle.validate.proofs.frames.short_track.Reads as short-track-reads
 use Rattle.validate.proofs.frames.long_track.Reads as long-track-reads
