@@ -235,7 +235,7 @@ abbrev pub noted : Notes → ℕ → Notes
 noted l p = record { leftover = firstOf (l .leftover) p; rounded = l .rounded; bound = l .bound }
 
 -- 01: "tokens left inside a delimiter" are passed over, and the place of the first is kept: a later refusal comes first
--- A group is left by its own closer b. On tokens that nest no other closer ends it (`rules`, NestLaws: `leave-same`).
+-- A group is left by its own closer b. On tokens that nest no other closer ends it (`law_rules`, NestLaws: `leave-same`).
 abbrev pub leave : ℕ → Rule Unit
 leave b l ts = cond (seesByte b ts) (got tt l (rest ts)) (got tt (noted l (place ts)) (behind 0 ts))
 

@@ -4,7 +4,7 @@
 -- records times 2^24" plus that of the rounded numbers times 2^40 (the request for the library; 02 (d)).
 -- A place or a line's length of 2^32 or more counts by its remainder, as do a sheet's or a body's length and a body's
 -- start of 2^24 or more, and 2^16 or more records or rounded numbers.
--- No operation answers with such: the laws of the crate `unpack`.
+-- No operation answers with such: the laws of the crate `law_unpacked`.
 use Prim.Native.Nat.{ℕ, _+_, _*_, _/_, _%_, _^_}
 use mathlib.Core.List.{List, [], _∷_}
 use lib.IntN.{ℤ}

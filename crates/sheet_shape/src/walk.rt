@@ -1,5 +1,5 @@
 // The walk over a sheet whose frames' numbers have w bytes each: 4 in a sheet, 0 in the first part of a planed one. Each
-// reader gives how many numbers it passed and the place behind; a place is lost where there is no value, as in `decode`.
+// reader gives how many numbers it passed and the place behind; a place is lost where there is no value, as in `sheet_decode`.
 // For our own crates: w is at most 4.
 ghost use mathlib.Core.Path.{_≡_};
 ghost use Prim.Native.Nat.{_≤_, _+_};

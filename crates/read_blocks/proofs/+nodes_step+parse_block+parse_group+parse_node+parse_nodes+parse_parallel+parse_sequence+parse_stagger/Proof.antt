@@ -41,12 +41,6 @@ use Rattle.read_cursor.proofs.ends.Reads as ends-reads
 use Rattle.read_cursor.proofs.leave_group.Reads as leave-group-reads
 use Rattle.read_cursor.proofs.sees.Reads as sees-reads
 use Rattle.sheet_encode.proofs.patch_count.Reads as patch-count-reads
-use Rattle.read_blocks.proofs.+nodes_step+parse_block+parse_group+parse_node+parse_nodes+parse_parallel+parse_sequence+parse_stagger.{
-  statement,
-}
-use Rattle.read_blocks.proofs.+nodes_step+parse_block+parse_group+parse_node+parse_nodes+parse_parallel+parse_sequence+parse_stagger.Tie.{
-  close,
-}
 
 abbrev μ-nodes-step : Measures 2 nodes-step-kinds.ps ℕ
 μ-nodes-step κs a = 4 * (length (a .0 .now) - atOf (a .1 .1 .0 .next)) + 2
@@ -600,9 +594,9 @@ parse-stagger-returns-2 t c =
     (at-parse-block .parse-block .ensures)
 
 pub +nodes-step+parse-block+parse-group+parse-node+parse-nodes+parse-parallel+parse-sequence+parse-stagger-spec :
-    {M : Type 1} → statement M
+    {M : Type 1} → of.statement M
 +nodes-step+parse-block+parse-group+parse-node+parse-nodes+parse-parallel+parse-sequence+parse-stagger-spec =
-    close μ-nodes-step μ-parse-block μ-parse-group μ-parse-node μ-parse-nodes μ-parse-parallel μ-parse-sequence μ-parse-stagger
+    of.Tie.close μ-nodes-step μ-parse-block μ-parse-group μ-parse-node μ-parse-nodes μ-parse-parallel μ-parse-sequence μ-parse-stagger
     (λ t. of.Lts-nodes_step.spec (nodes-step-calls t) (nodes-step-at t) nodes-step.Post (λ c κs. search needs) (nodes-step-returns t)
     (λ c κs. search needs) (λ c κs. search needs) (nodes-step-returns-2 t) (λ c κs. search needs) (λ c. search needs) (λ c. search needs)
     (λ c. search needs) (nodes-step-add-t23 t) (λ c. search needs) (nodes-step-returns-3 t) (λ c. search needs) (nodes-step-returns-4 t))

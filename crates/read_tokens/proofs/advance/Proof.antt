@@ -109,7 +109,8 @@ module _ {M : Type 1} (𝓤 : URA M) (H : Heap 𝓤) (A : Atoms 𝓤) (W : Given
       -- [what the fields own; what the struct owns; what the new cursor owns]
       nothing ! $ move ! (2 ∷ 0 ∷ []) $ fjoin ! $ frame ! $ fsplit ! $ move ! (1 ∷ []) $ drop ! $ by ! (made 𝓤 H A W κ (reader c) u is)
 
-  module _ (C : Calls 𝓤 H) (Λ : Loops 𝓤 H) (fm : FmC 𝓤 H (W .laws) C) (known : Triple 𝓤 (C #read-cursor·advance) (Callee 𝓤 H A mem run)) where
+  module _ (C : Calls 𝓤 H) (Λ : Loops 𝓤 H) (fm : FmC 𝓤 H (W .laws) C)
+      (known : Triple 𝓤 (C #read-cursor·advance) (Callee 𝓤 H A mem run)) where
     walk : Holds (hasTy (T′.mir (named 0)) mach) × WT mach
         → Is (ShrSlice (named 0) κ u8) (d .text) (textVal d ∷ [])
         → Typed (cursorVal (d .cursor))
