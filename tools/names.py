@@ -5,7 +5,7 @@ README's layers are those of docs/MAP.md. Prints what it does not find. Run from
 import glob, os, re, sys
 from functools import lru_cache
 
-DOCUMENTS = ["SPEC", "REVIEW", "PORT", "DECISIONS"]
+DOCUMENTS = ["SPEC", "REVIEW", "PORT-OTHER", "DECISIONS"]
 # The toolchain's libraries, whose names are not looked for.
 KIT = {"std", "io", "os", "libc", "bytes", "check"}
 bad = []

@@ -1,5 +1,5 @@
 -- parser.rs: a rule for each function that parses a node, under its name. A rule stands behind what it uses, else in parser.rs's order
--- (docs/PORT.md).
+-- (docs/PORT-OTHER.md).
 use Rattle.std.specs.Prelude.{ℕ, zero, suc, Bool, true, false, ◌&&◌, ◌||◌, not, cond, List, [], ◌∷◌, ◌++◌, eqb}
 use Prim.Native.String.{String}
 use Rattle.std.proofs.Math.Option.{Option, none, some}
