@@ -1,9 +1,11 @@
 // ast.rs: the types of the tree, by value, one record at a time. Spans for diagnostics are left out.
+#![tactic(auto)]
+
 ghost use Rattle.std.specs.Prelude.{◌≡◌};
 ghost use Rattle.ast.specs.Means.{count_of, entry_of};
 
 // A name or a string: its place in the text, quotes left off.
-#[derive(Drop)]
+#[derive(Clone, Copy)]
 pub struct Span {
     pub start: usize,
     pub size: usize,
@@ -23,13 +25,13 @@ pub type SpringPreset = u8;
 pub type IntegratorSpec = u8;
 
 // An array is its count: its elements are walked in the sheet.
-#[derive(Drop)]
+#[derive(Clone, Copy)]
 pub enum ValueExpr {
     Scalar(f32),
     Array(usize),
 }
 
-#[derive(Drop)]
+#[derive(Clone, Copy)]
 pub enum EasingSpec {
     // Whether it is written `Easing::`, and the name.
     Named(bool, Span),
@@ -40,7 +42,7 @@ pub enum EasingSpec {
     SlowMo { linear_ratio: f32, power: f32 },
 }
 
-#[derive(Drop)]
+#[derive(Clone, Copy)]
 pub enum LoopSpec {
     Once,
     Times(u32),
@@ -49,14 +51,14 @@ pub enum LoopSpec {
     PingPongTimes(u32),
 }
 
-#[derive(Drop)]
+#[derive(Clone, Copy)]
 pub enum DampingMode {
     CriticallyDamped(f32),
     Overdamped(f32, f32),
     Underdamped(f32, f32),
 }
 
-#[derive(Drop)]
+#[derive(Clone, Copy)]
 pub enum StaggerPatternSpec {
     Grid {
         cols: u32,
@@ -74,63 +76,63 @@ pub enum StaggerPatternSpec {
 
 // ---- what is absent or present
 
-#[derive(Drop)]
+#[derive(Clone, Copy)]
 pub enum OptF32 {
     Absent,
     Present(f32),
 }
 
-#[derive(Drop)]
+#[derive(Clone, Copy)]
 pub enum OptU32 {
     Absent,
     Present(u32),
 }
 
-#[derive(Drop)]
+#[derive(Clone, Copy)]
 pub enum OptBool {
     Absent,
     Present(bool),
 }
 
 // The position of a case that holds nothing.
-#[derive(Drop)]
+#[derive(Clone, Copy)]
 pub enum OptCase {
     Absent,
     Present(u8),
 }
 
 // A start and an end.
-#[derive(Drop)]
+#[derive(Clone, Copy)]
 pub enum OptRange {
     Absent,
     Present(f32, f32),
 }
 
-#[derive(Drop)]
+#[derive(Clone, Copy)]
 pub enum OptValue {
     Absent,
     Present(ValueExpr),
 }
 
-#[derive(Drop)]
+#[derive(Clone, Copy)]
 pub enum OptEasing {
     Absent,
     Present(EasingSpec),
 }
 
-#[derive(Drop)]
+#[derive(Clone, Copy)]
 pub enum OptLoop {
     Absent,
     Present(LoopSpec),
 }
 
-#[derive(Drop)]
+#[derive(Clone, Copy)]
 pub enum OptDamping {
     Absent,
     Present(DampingMode),
 }
 
-#[derive(Drop)]
+#[derive(Clone, Copy)]
 pub enum OptPattern {
     Absent,
     Present(StaggerPatternSpec),
@@ -138,7 +140,7 @@ pub enum OptPattern {
 
 // ---- the nodes, without the nodes in them
 
-#[derive(Drop)]
+#[derive(Clone, Copy)]
 pub struct TweenSpec {
     pub target: Span,
     pub from: ValueExpr,
@@ -153,7 +155,7 @@ pub struct TweenSpec {
     pub reverse: bool,
 }
 
-#[derive(Drop)]
+#[derive(Clone, Copy)]
 pub struct SpringSpec {
     pub target: Span,
     pub from: ValueExpr,
@@ -170,7 +172,7 @@ pub struct SpringSpec {
 
 // One keyframe entry, with the cases of its time and its value as fields: `KeyframeTime` is whether it is a percent, and the f32;
 // `ValueExpr` is whether it is an array, a scalar's f32 (0.0 for an array), and the number of components.
-#[derive(Drop)]
+#[derive(Clone, Copy)]
 pub struct KeyframeEntry {
     pub percent: bool,
     pub time: f32,
@@ -181,7 +183,7 @@ pub struct KeyframeEntry {
 }
 
 // The frames are their count: they are walked in the sheet.
-#[derive(Drop)]
+#[derive(Clone, Copy)]
 pub struct KeyframeSpec {
     pub target: Span,
     pub frames: usize,
@@ -189,7 +191,7 @@ pub struct KeyframeSpec {
 }
 
 // A stagger, and how many nodes it holds.
-#[derive(Drop)]
+#[derive(Clone, Copy)]
 pub struct StaggerSpec {
     pub pattern: OptPattern,
     pub delay: OptF32,
@@ -197,13 +199,13 @@ pub struct StaggerSpec {
 }
 
 // A group, and how many nodes it holds.
-#[derive(Drop)]
+#[derive(Clone, Copy)]
 pub struct GroupSpec {
     pub mode: GroupMode,
     pub nodes: usize,
 }
 
-#[derive(Drop)]
+#[derive(Clone, Copy)]
 pub struct PathSpec {
     pub target: Span,
     pub svg: Span,
@@ -214,7 +216,7 @@ pub struct PathSpec {
     pub loop_mode: OptLoop,
 }
 
-#[derive(Drop)]
+#[derive(Clone, Copy)]
 pub struct MorphSpec {
     pub from: Span,
     pub to: Span,
@@ -223,14 +225,14 @@ pub struct MorphSpec {
     pub easing: OptEasing,
 }
 
-#[derive(Drop)]
+#[derive(Clone, Copy)]
 pub struct DrawSpec {
     pub svg: Span,
     pub duration: f32,
     pub easing: OptEasing,
 }
 
-#[derive(Drop)]
+#[derive(Clone, Copy)]
 pub struct ColorSpec {
     pub target: Span,
     pub from: Span,
@@ -240,7 +242,7 @@ pub struct ColorSpec {
     pub easing: OptEasing,
 }
 
-#[derive(Drop)]
+#[derive(Clone, Copy)]
 pub struct WaveformSpec {
     pub kind: WaveformKind,
     pub frequency: OptF32,
@@ -252,14 +254,14 @@ pub struct WaveformSpec {
     pub duration: OptF32,
 }
 
-#[derive(Drop)]
+#[derive(Clone, Copy)]
 pub struct PresetCall {
     pub name: Span,
     pub duration: OptF32,
     pub easing: OptEasing,
 }
 
-#[derive(Drop)]
+#[derive(Clone, Copy)]
 pub struct AtSpec {
     pub value: f32,
     pub relative: bool,

@@ -1,4 +1,6 @@
 // 02 (f), "Give me the script back": a fresh script from a text and its sheet.
+#![tactic(auto)]
+
 ghost use Rattle.std.specs.Prelude.{◌≡◌, List, ℕ};
 ghost use Rattle.error.specs.Answer.{line_values};
 ghost use Rattle.fresh.specs.Meaning.{Sense};

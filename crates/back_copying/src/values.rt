@@ -12,7 +12,7 @@ use back_spelling::{Pen, put_count, put_float, put_mark, put_name, put_string, p
 use sheet_decode::fields::{take_byte, take_field, take_span};
 
 // The place behind what was read, and where the writer stands.
-#[derive(Drop)]
+#[derive(Clone, Copy)]
 pub struct Copied {
     pub next: usize,
     pub pen: Pen,

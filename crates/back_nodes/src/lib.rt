@@ -1,4 +1,6 @@
 // Nodes in preorder, each written behind the one before.
+#![tactic(auto)]
+
 ghost use Rattle.std.specs.Prelude.{◌≡◌};
 ghost use Rattle.sheet_nodes.specs.Means.{LeafKind, ContainerKind};
 ghost use Rattle.back_spelling.specs.Means.{page_of};
@@ -18,7 +20,7 @@ use sheet_records::Kind;
 const MODES: [u8; 18] = *b"\x08sequence\x08parallel";
 
 // A record that was written, a container's up to its `{`: whether it holds nodes and how many, and the place behind it.
-#[derive(Drop)]
+#[derive(Clone, Copy)]
 pub struct RecordCopy {
     pub kind: Kind,
     pub next: usize,

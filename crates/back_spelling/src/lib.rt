@@ -1,5 +1,7 @@
 // 02 (f): the pieces of a fresh script, put into a lent buffer one after the other, a blank behind each. Nothing is written past the
 // buffer or past a script's limit; where there are more bytes, or a piece that no text can have, only that is kept. For our own crates.
+#![tactic(auto)]
+
 ghost use Rattle.std.specs.Prelude.{◌≡◌, true, cond, not, ◌&&◌, List, [], ◌∷◌, ℕ, suc, ◌+◌, ◌-◌, ◌/◌, ◌<◌, ◌^◌, leb, length};
 ghost use Rattle.std.proofs.lemmas.List.Edits.{sets};
 ghost use Rattle.text.specs.Limits.{whole_limit};
@@ -22,7 +24,7 @@ const CURVES: [u8; 39] = *b"\x0ccubic_bezier\x05steps\x06wiggle\x05rough\x06slow
 
 // Where a writer stands: how many bytes are written, more than MOST where there were too many; and whether a text can have every
 // piece so far.
-#[derive(Drop)]
+#[derive(Clone, Copy)]
 pub struct Pen {
     pub at: usize,
     pub fits: bool,

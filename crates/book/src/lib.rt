@@ -1,5 +1,7 @@
 // 02 (i): reading a book of named scripts. What reading a script asks of scratch and sheet is its own here.
 // The functions are for our own crates: each requires a cursor that stands in a text of at most 16,384 bytes, or a table of 21,844 words.
+#![tactic(auto)]
+
 ghost use Rattle.std.specs.Prelude.{◌≡◌, ◌+◌, ◌*◌, ◌≤◌, ◌<◌, List, length, get_or, take};
 ghost use Rattle.read_cursor.specs.Means.{Ready};
 ghost use Rattle.text.specs.Bytes.{part};
@@ -29,35 +31,35 @@ pub const TABLE_WORDS: usize = 21844;
 const SPLIT_WORDS: usize = 64;
 
 // A body: where it ends, how many bytes of the sheet its nodes have, and the cursor behind its closer.
-#[derive(Drop)]
+#[derive(Clone, Copy)]
 pub struct Body {
     pub end: usize,
     pub bytes: usize,
     pub next: Cursor,
 }
 
-#[derive(Drop)]
+#[derive(Clone, Copy)]
 pub enum BodyRead {
     Is(Body),
     Refused(Refusal, usize),
 }
 
 // An item: its name, its body's start, and the rest of it.
-#[derive(Drop)]
+#[derive(Clone, Copy)]
 pub struct Item {
     pub name: Span,
     pub start: usize,
     pub body: Body,
 }
 
-#[derive(Drop)]
+#[derive(Clone, Copy)]
 pub enum ItemRead {
     Is(Item),
     Refused(Refusal, usize),
 }
 
 // How many items a book has; or a refusal.
-#[derive(Drop)]
+#[derive(Clone, Copy)]
 pub enum BookRead {
     Is(usize),
     Refused(Refusal, usize),

@@ -1,4 +1,6 @@
 // 02 (i): the answer of a lookup, made of what each of the two books has, and the answer of a listing, made of the order that was found.
+#![tactic(auto)]
+
 ghost use Rattle.std.specs.Prelude.{ℕ, ◌≤◌, List, ◌≡◌, length, take};
 ghost use Rattle.order.specs.Means.{list_of};
 ghost use Rattle.books.specs.Book.{Book};
@@ -9,7 +11,7 @@ ghost use Rattle.book_answers.specs.Means.{looked};
 use error::{LookupAnswer, OrderAnswer, Refusal};
 
 // Where a book that is read has a name.
-#[derive(Drop)]
+#[derive(Clone, Copy)]
 pub enum Place {
     At { start: usize, size: usize },
     Nothing,

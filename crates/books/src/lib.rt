@@ -1,1 +1,2 @@
 // 02 (i), books of named scripts: reading, calls, a name looked up and the listing, as definitions.
+#![tactic(auto)]

@@ -1,5 +1,7 @@
 // 02 (i): which items of a book call which. The calls are bytes: byte 128 i + j is not 0 where item i calls item j.
 // For our own crates: a book that was read is required.
+#![tactic(auto)]
+
 ghost use Rattle.std.specs.Prelude.{◌≤◌, ◌<◌, List, ◌≡◌, length, replicate};
 ghost use Rattle.std.proofs.Math.Option.{some};
 ghost use Rattle.text.specs.Bytes.{part};

@@ -1,4 +1,6 @@
 // 02 (g): whether a string is a colour under either list of names, and the red, green, blue and alpha of one.
+#![tactic(auto)]
+
 ghost use Rattle.std.specs.Prelude.{◌≤◌, ◌<◌, [], ◌∷◌, ◌≡◌, length, get_or};
 ghost use Rattle.std.proofs.Math.Option.{some};
 ghost use Rattle.text.specs.Bytes.{part};
@@ -11,7 +13,7 @@ ghost use Rattle.colors.specs.Means.{rgba_of, values_in};
 use error::{CheckAnswer, Refusal};
 
 // The bytes of a colour, if there is one.
-#[derive(Drop)]
+#[derive(Clone, Copy)]
 enum Rgba {
     Is {
         red: u8,

@@ -1,4 +1,6 @@
 // 02 (h): the converter, which puts triangle for noise into a sheet that is lent.
+#![tactic(auto)]
+
 ghost use Rattle.std.specs.Prelude.{◌++◌, ◌≡◌, ◌+◌, ◌<◌, length, take, drop};
 ghost use Rattle.error.specs.Answer.{check_values};
 ghost use Rattle.converting.specs.Convert.{holds_noise, converted_record, converting};

@@ -1,1 +1,2 @@
 // 02 (h), "Noise goes": the converter, as a definition.
+#![tactic(auto)]

@@ -1,4 +1,6 @@
 // Counting a script in the totals of a morning sheet: whether there is room for one, its records, or its refusal. For our own crates.
+#![tactic(auto)]
+
 ghost use Rattle.std.specs.Prelude.{◌≡◌, length};
 ghost use Rattle.error.specs.declared.CheckAnswer.TheVariants as check;
 ghost use Rattle.error.specs.declared.FeedAnswer.TheVariants as answers;

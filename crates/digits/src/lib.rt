@@ -1,4 +1,6 @@
 // How a number is written: with the fewest digits that read to it, and of these the smallest.
+#![tactic(auto)]
+
 ghost use Rattle.std.specs.Prelude.{◌≡◌, ℕ, ◌+◌, ◌*◌, ◌/◌, ◌^◌, ◌<◌, ◌≤◌, length, cond};
 ghost use Rattle.limbs.specs.LimbMeans.{up_to};
 ghost use Rattle.std.proofs.Math.Option.{none, some};
@@ -9,7 +11,7 @@ ghost use Rattle.digits.specs.Means.{highest, least, infinity, doublings, first_
 use number::Stored;
 
 // A number without sign, (n + middle * 10^18 + high * 10^36) / 10^places, if one was found.
-#[derive(Drop)]
+#[derive(Clone, Copy)]
 pub struct Decimal {
     pub found: bool,
     pub n: u64,
@@ -19,7 +21,7 @@ pub struct Decimal {
 }
 
 // The middle between an f32 and the next smaller one, num / 2^shift. `tie` is 1 where it rounds up, else 0.
-#[derive(Drop)]
+#[derive(Clone, Copy)]
 struct Middle {
     num: u64,
     shift: u32,
@@ -27,7 +29,7 @@ struct Middle {
 }
 
 // The best number so far, how many digits it has, and 10 to that power.
-#[derive(Drop)]
+#[derive(Clone, Copy)]
 struct Best {
     number: Decimal,
     digits: usize,
@@ -35,7 +37,7 @@ struct Best {
 }
 
 // How many digits a number has, and 10 to that power.
-#[derive(Drop)]
+#[derive(Clone, Copy)]
 struct Width {
     digits: usize,
     limit: u64,
@@ -269,7 +271,7 @@ fn fewest_small(bits: u32) -> Decimal
 // ---- above 10^10: whole numbers of up to 39 digits
 
 // n + middle * 10^18 + high * 10^36.
-#[derive(Drop)]
+#[derive(Clone, Copy)]
 struct Parts {
     n: u64,
     middle: u64,

@@ -1,4 +1,6 @@
 // easing.rs: the named easings, and parser.rs's to_snake_case for a name behind `Easing::`.
+#![tactic(auto)]
+
 ghost use Rattle.std.specs.Prelude.{◌≡◌};
 ghost use Rattle.text.specs.Bytes.{part};
 ghost use Rattle.text.specs.WriteMeans.{Puts};

@@ -1,9 +1,11 @@
 // error.rs: the refusals of the rules' table, and the answers of the operations.
+#![tactic(auto)]
+
 ghost use Rattle.std.specs.Prelude.{◌≡◌};
 ghost use Rattle.error.specs.Refusal.{number_of};
 
 // A cause of refusal. Where error.rs has a function for it, it has that function's name.
-#[derive(Drop)]
+#[derive(Clone, Copy)]
 pub enum Refusal {
     // A text of more than 16,384 bytes.
     TextTooLong,
@@ -77,7 +79,7 @@ pub enum Refusal {
 
 // What reading answers: the sheet's length, its count of node records and how many written numbers were rounded, or a
 // refusal and its place.
-#[derive(Drop)]
+#[derive(Clone, Copy)]
 pub enum ReadAnswer {
     Accepted {
         length: usize,
@@ -91,28 +93,28 @@ pub enum ReadAnswer {
 }
 
 // What checking answers: a refusal's place is 0, a place in the text, or a record's ordinal.
-#[derive(Drop)]
+#[derive(Clone, Copy)]
 pub enum CheckAnswer {
     Accepted,
     Refused { refusal: Refusal, place: usize },
 }
 
 // What lining answers: the line's length, or a refusal and its place or the ordinal.
-#[derive(Drop)]
+#[derive(Clone, Copy)]
 pub enum LineAnswer {
     Accepted { length: usize },
     Refused { refusal: Refusal, place: usize },
 }
 
 // What feeding answers: what the script was judged, which is counted; or a refusal, and nothing is counted.
-#[derive(Drop)]
+#[derive(Clone, Copy)]
 pub enum FeedAnswer {
     Counted { answer: CheckAnswer },
     Refused { refusal: Refusal, place: usize },
 }
 
 // A mean: a fraction in lowest terms; nothing, where there is no script or no track; or a refusal.
-#[derive(Drop)]
+#[derive(Clone, Copy)]
 pub enum MeanAnswer {
     Fraction { numerator: u32, denominator: u32 },
     Nothing,
@@ -120,7 +122,7 @@ pub enum MeanAnswer {
 }
 
 // What a lookup answers: where the body stands, and in which book; or a refusal and its place.
-#[derive(Drop)]
+#[derive(Clone, Copy)]
 pub enum LookupAnswer {
     InStore { start: usize, size: usize },
     InChain { start: usize, size: usize },
@@ -128,7 +130,7 @@ pub enum LookupAnswer {
 }
 
 // What listing the items of a book answers: how many are listed; or a refusal and its place.
-#[derive(Drop)]
+#[derive(Clone, Copy)]
 pub enum OrderAnswer {
     Listed { items: usize },
     Refused { refusal: Refusal, place: usize },

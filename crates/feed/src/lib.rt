@@ -1,4 +1,6 @@
 // Feeding a script to a morning sheet: it is read and checked, and counted in the totals that are lent.
+#![tactic(auto)]
+
 ghost use Rattle.std.specs.Prelude.{◌≡◌};
 ghost use Rattle.error.specs.Answer.{feed_values};
 ghost use Rattle.feeding.specs.Feed.{fed, feeding};

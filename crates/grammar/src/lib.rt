@@ -1,1 +1,2 @@
 // The grammar: parser.rs as rules.
+#![tactic(auto)]

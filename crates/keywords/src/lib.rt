@@ -1,4 +1,6 @@
 // The words that are no names. For our own crates.
+#![tactic(auto)]
+
 ghost use Rattle.std.specs.Prelude.{◌≡◌, ◌≤◌, length};
 ghost use Rattle.text.specs.Bytes.{one_of};
 ghost use Rattle.text.specs.Words.{is_one_of};

@@ -1,1 +1,2 @@
 // Laws alone: what a sheet that is opened tells of its text and its bytes.
+#![tactic(auto)]

@@ -1,1 +1,2 @@
 // Laws: a tree that some text reads to can be written, and no other can.
+#![tactic(auto)]

@@ -2,6 +2,8 @@
 // A whole number is some limbs of 32 bits, the lowest first: as many as its digits want, of 20.
 // The functions are for our own crates: `muladd` requires a carry of at most its factor, `decimal` digits of a text and a power that
 // 02 (n) allows.
+#![tactic(auto)]
+
 ghost use Rattle.std.specs.Prelude.{◌≡◌, true, false, ℕ, ◌+◌, ◌-◌, ◌*◌, ◌^◌, ◌<◌, ◌≤◌, length, drop, ltb, eqb};
 ghost use Rattle.std.specs.Float.Ieee.Nearest.{closest};
 ghost use Rattle.text.specs.Bytes.{decimal, part, run, is_digit};

@@ -1,4 +1,6 @@
 // Lining: a record of a sheet as a line of hexadecimal.
+#![tactic(auto)]
+
 ghost use Rattle.std.specs.Prelude.{◌≡◌, ◌+◌, ◌*◌, ◌%◌, ◌<◌, ◌≤◌, [], ◌∷◌, length, nat_le};
 ghost use Rattle.text.specs.WriteMeans.{Puts};
 ghost use Rattle.lining.specs.Line.{digit, hex, total, check_byte, line};

@@ -1,4 +1,6 @@
 // 02 (i): the items of a book listed in an order in which each stands behind all it calls.
+#![tactic(auto)]
+
 ghost use Rattle.std.specs.Prelude.{◌≡◌};
 ghost use Rattle.error.specs.Answer.{order_values};
 ghost use Rattle.books.specs.Book.{book as Book·book};

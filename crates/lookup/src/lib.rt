@@ -1,4 +1,6 @@
 // 02 (i): a name looked up in two books, the store's and the chain's.
+#![tactic(auto)]
+
 ghost use Rattle.std.specs.Prelude.{◌≡◌};
 ghost use Rattle.error.specs.Answer.{lookup_values};
 ghost use Rattle.books.specs.Book.{book as Book·book};

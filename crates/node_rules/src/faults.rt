@@ -11,7 +11,7 @@ ghost use Rattle.node_rules.specs.Means.{fault_of, Tells};
 use ast::{EasingSpec, OptEasing, OptF32, OptRange, ValueExpr};
 use error::Refusal;
 
-#[derive(Drop)]
+#[derive(Clone, Copy)]
 pub enum Fault {
     None,
     Is(Refusal),

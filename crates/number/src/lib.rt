@@ -1,4 +1,6 @@
 // Numbers: the nearest f32 to a written decimal, whole percents, bit patterns, and times that are duplicates.
+#![tactic(auto)]
+
 ghost use Rattle.std.specs.Prelude.{◌≡◌, ℕ, ◌+◌, ◌*◌, ◌/◌, ◌%◌, ◌^◌, ◌<◌, ◌≤◌, Bool, false, not, T, eqb};
 ghost use Rattle.std.specs.Float.Ieee as Ieee;
 ghost use Rattle.std.specs.Float.{binary32};
@@ -24,21 +26,21 @@ pub fn ten_to(places: usize) -> u64
 }
 
 // The nearest whole number to a fraction, and whether it is another number than that.
-#[derive(Drop)]
+#[derive(Clone, Copy)]
 struct Divided {
     whole: u64,
     rounded: bool,
 }
 
 // The bits of the nearest f32 to a fraction, and whether it is another number than that.
-#[derive(Drop)]
+#[derive(Clone, Copy)]
 pub struct Bits {
     pub bits: u32,
     pub rounded: bool,
 }
 
 // The f32 that a written number is stored as, and whether it is another number than that.
-#[derive(Drop)]
+#[derive(Clone, Copy)]
 pub struct Stored {
     pub value: f32,
     pub rounded: bool,
@@ -283,7 +285,7 @@ pub fn duplicate(a: f32, b: f32) -> bool
 }
 
 // A whole number that a u32 holds, or a refusal.
-#[derive(Drop)]
+#[derive(Clone, Copy)]
 pub enum Uint {
     Is(u32),
     Refused,

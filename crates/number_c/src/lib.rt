@@ -1,4 +1,6 @@
 // number's conversion for C and Rust to link: what bench/number measures.
+#![tactic(auto)]
+
 ghost use Rattle.std.specs.Prelude.{cond, ◌≡◌, ◌^◌, ltb};
 ghost use Rattle.std.specs.Float.Ieee as Ieee;
 ghost use Rattle.std.specs.Float.{binary32};

@@ -1,5 +1,7 @@
 // 02 (i): the order of items by their calls. Items are their ordinals, and byte 128 i + j of the calls is not 0 where item i calls item j.
 // For our own crates: 16,384 bytes of calls are required, at most 128 items, and an output of 128 bytes.
+#![tactic(auto)]
+
 ghost use Rattle.std.specs.Prelude.{◌<◌, not, ◌≡◌, length, take};
 ghost use Rattle.order.specs.Order.{every, first, free, order as Order·order};
 ghost use Rattle.order.specs.Means.{calls_in, Square, not_waiting, free_of, list_of};
@@ -7,7 +9,7 @@ ghost use Rattle.order.specs.Means.{calls_in, Square, not_waiting, free_of, list
 pub const SIDE: usize = 128;
 
 // The first item that is free, if there is one.
-#[derive(Drop)]
+#[derive(Clone, Copy)]
 pub enum Free {
     At(usize),
     Nothing,

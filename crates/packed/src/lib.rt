@@ -1,4 +1,6 @@
 // An answer as one u64, for C and Rust.
+#![tactic(auto)]
+
 ghost use Rattle.std.specs.Prelude.{[], ◌∷◌, ◌≡◌, ◌%◌, ◌^◌, length};
 ghost use Rattle.packed.specs.Packed.{packed_refusal, packed_sheet, packed_read, packed_check, packed_line, packed_fed, packed_bytes, packed_color, packed_body, packed_lookup, packed_order, mean_outcome};
 

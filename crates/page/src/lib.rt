@@ -1,4 +1,6 @@
 // What the program prints, put on a page that is lent: words and numbers, the lines of all records. For our own crates.
+#![tactic(auto)]
+
 ghost use Rattle.text.specs.WriteMeans.{Puts};
 ghost use Rattle.script.specs.Output.{decimal_out, accept, refusal};
 ghost use Rattle.page.specs.Means.{Lines};

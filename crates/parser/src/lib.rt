@@ -1,4 +1,6 @@
 // parser.rs: reading a text into a sheet.
+#![tactic(auto)]
+
 ghost use Rattle.std.specs.Prelude.{false, ◌≡◌, ◌≤◌, length};
 ghost use Rattle.text.specs.Limits.{text_limit};
 ghost use Rattle.token.specs.Means.{split_outcome, splitting};
@@ -15,7 +17,7 @@ use token::SplitAnswer;
 pub const SCRATCH_WORDS: usize = 64;
 
 // What the grammar says of a text, and whether it accepted it to its end, with nothing left in a group.
-#[derive(Drop)]
+#[derive(Clone, Copy)]
 struct Input {
     answer: ReadAnswer,
     whole: bool,

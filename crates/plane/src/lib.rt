@@ -1,4 +1,6 @@
 // 02 (k): planes before storage, and their inverse.
+#![tactic(auto)]
+
 ghost use Rattle.std.specs.Prelude.{◌≡◌};
 ghost use Rattle.error.specs.Answer.{line_values};
 ghost use Rattle.planed.specs.Planing.{planing, unplaning};

@@ -68,7 +68,7 @@ pub fn advance(
 }
 
 // Where a walk that carries stands: what of src is carried, where the next byte goes, how many numbers are.
-#[derive(Drop)]
+#[derive(Clone, Copy)]
 pub struct Progress {
     pub done: usize,
     pub to: usize,
@@ -120,7 +120,7 @@ fn move_frame(
 }
 
 // Where a walk that carries stands, and the place behind what it passed.
-#[derive(Drop)]
+#[derive(Clone, Copy)]
 pub struct Moved {
     pub done: usize,
     pub to: usize,

@@ -1,4 +1,6 @@
 // presets.rs: the presets and the named colours; validate.rs's is_valid_color.
+#![tactic(auto)]
+
 ghost use Rattle.std.specs.Prelude.{◌≡◌};
 ghost use Rattle.text.specs.Bytes.{part};
 ghost use Rattle.words.specs.ListMeans.{list_of};

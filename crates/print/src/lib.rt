@@ -1,4 +1,6 @@
 // What the program prints, on a page that is lent: the lines of all records, then `accept N`; or `refuse R at P`.
+#![tactic(auto)]
+
 ghost use Rattle.std.specs.Prelude.{◌≡◌};
 ghost use Rattle.error.specs.Answer.{line_values};
 ghost use Rattle.script.specs.Output.{printing};

@@ -1,5 +1,7 @@
 // parser.rs, parse_value: a number or an array of numbers, written into the sheet as it is read.
 // The functions are for our own crates: each requires a cursor that stands in a text of at most 16,384 bytes, and a place below 2^31.
+#![tactic(auto)]
+
 ghost use Rattle.read_cursor.specs.Means.{Ready};
 ghost use Rattle.read_arrays.specs.Means.{Wide, Wider, ItemsMeans, ArrayMeans, HeldMeans, ValueMeans};
 
@@ -8,21 +10,21 @@ use error::Refusal;
 use read_cursor::{Cursor, FloatRead, MarkRead};
 
 // How many elements, the place behind what was written, and the cursor.
-#[derive(Drop)]
+#[derive(Clone, Copy)]
 pub enum ItemsRead {
     Is(usize, usize, Cursor),
     Refused(Refusal, usize),
 }
 
 // A scalar, which is not written, or an array's count; the place behind what was written, and the cursor.
-#[derive(Drop)]
+#[derive(Clone, Copy)]
 pub enum HeldRead {
     Is(ValueExpr, usize, Cursor),
     Refused(Refusal, usize),
 }
 
 // The place behind what was written, and the cursor.
-#[derive(Drop)]
+#[derive(Clone, Copy)]
 pub enum ValueRead {
     Is(usize, Cursor),
     Refused(Refusal, usize),

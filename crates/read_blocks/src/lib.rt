@@ -1,5 +1,7 @@
 // parser.rs: a node of any kind, and nodes up to a group's end, written into the sheet as they are read.
 // The functions are for our own crates: each requires a cursor that stands in a text of at most 16,384 bytes, and a place that what was read so far can have reached.
+#![tactic(auto)]
+
 ghost use Rattle.std.specs.Prelude.{◌≡◌, ℕ, ◌+◌, ◌<◌, List};
 ghost use Rattle.std.proofs.Math.Option.{none, some};
 ghost use Rattle.text.specs.Words.{find};
@@ -21,13 +23,13 @@ pub mod leaves;
 // ---- the beginning of a node
 
 // What a keyword begins: a leaf or a container, with its place in the table.
-#[derive(Drop)]
+#[derive(Clone, Copy)]
 pub enum Keyword {
     Leaf(usize),
     Container(usize),
 }
 
-#[derive(Drop)]
+#[derive(Clone, Copy)]
 pub enum Begun {
     // A leaf: the place behind its record, and the cursor behind it.
     Leaf(usize, Cursor),
@@ -135,7 +137,7 @@ fn stagger_head(text: &[u8], sheet: &mut [u8], c: Cursor, out: usize) -> NodeRea
     }
 }
 
-#[derive(Drop)]
+#[derive(Clone, Copy)]
 pub enum BraceRead {
     Is(Cursor),
     Refused(Refusal, usize),
@@ -160,14 +162,14 @@ fn open_block(text: &[u8], c: Cursor, depth: usize) -> BraceRead
 // ---- nodes and containers call each other; a container is read behind the front of its record; `depth` containers more are allowed
 
 // The place behind a node's records, the cursor behind it, and how many records there are.
-#[derive(Drop)]
+#[derive(Clone, Copy)]
 pub enum ParsedNode {
     Is(usize, Cursor, usize),
     Refused(Refusal, usize),
 }
 
 // Nodes beside each other: the place behind their records, the cursor behind them, how many they are, and how many records there are.
-#[derive(Drop)]
+#[derive(Clone, Copy)]
 pub struct Siblings {
     pub end: usize,
     pub next: Cursor,
@@ -176,14 +178,14 @@ pub struct Siblings {
 }
 
 // The nodes so far, to which more may come; or all of them.
-#[derive(Drop)]
+#[derive(Clone, Copy)]
 pub enum NodesNext {
     More(Siblings),
     Done(Siblings),
     Refused(Refusal, usize),
 }
 
-#[derive(Drop)]
+#[derive(Clone, Copy)]
 pub enum ParsedNodes {
     Is(Siblings),
     Refused(Refusal, usize),

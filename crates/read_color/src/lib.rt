@@ -1,5 +1,7 @@
 // parser.rs: the node color: its fields, its record, and its reader behind the keyword. For our own
 // crates: each function requires a cursor that stands in a text of at most 16,384 bytes, and a place below 2^30.
+#![tactic(auto)]
+
 ghost use Rattle.read_cursor.specs.Means.{Ready};
 ghost use Rattle.read_color.specs.Means.{ColorStepMeans, ColorListMeans, PlainColor, color_of, color_end, color_strings};
 ghost use Rattle.std.specs.Prelude.{◌^◌, ◌<◌};
@@ -18,14 +20,14 @@ use read_values::EasingRead;
 // ---- the fields
 
 // What the fields of a color say.
-#[derive(Drop)]
+#[derive(Clone, Copy)]
 pub struct ColorFields {
     pub duration: OptF32,
     pub space: OptCase,
     pub easing: OptEasing,
 }
 
-#[derive(Drop)]
+#[derive(Clone, Copy)]
 pub enum ColorStep {
     Is(ColorFields, Cursor),
     Refused(Refusal, usize),

@@ -1,5 +1,7 @@
 // A cursor by value over the tokens of a text, and the steps of syn's ParseStream that take one token or a few.
 // The functions are for our own crates: each requires a cursor that stands in the text.
+#![tactic(auto)]
+
 ghost use Rattle.std.specs.Prelude.{◌≡◌, true, List, ℕ, ◌+◌, ◌-◌, ◌≤◌, ◌<◌, length, get_or};
 ghost use Rattle.std.proofs.Math.Option.{none};
 ghost use Rattle.text.specs.Limits.{text_limit};
@@ -20,7 +22,7 @@ use text::Class;
 use token::{Number, Tok};
 
 // The first place where tokens were left inside a delimiter.
-#[derive(Drop)]
+#[derive(Clone, Copy)]
 pub enum Left {
     Nothing,
     At(usize),
@@ -29,7 +31,7 @@ pub enum Left {
 // Where a reader stands: the next token, and what is noted: where tokens were left, and how many numbers were rounded. In one number, so
 // that it is passed in a register: the place behind the token in 16 bits, that where tokens were left in 16, the rounded numbers in 15,
 // and in 17 the token's code: a mark's byte, 0 at the end; of a name, a number or a string, its kind and its place.
-#[derive(Drop)]
+#[derive(Clone, Copy)]
 pub struct Cursor {
     pub word: u64,
 }
@@ -45,62 +47,62 @@ const NUMBER: u64 = 65536;
 const STRING: u64 = 98304;
 
 // What was taken, and the cursor behind it; or the place where it is missing, or a refusal and its place.
-#[derive(Drop)]
+#[derive(Clone, Copy)]
 pub enum MarkRead {
     Is(Cursor),
     Missing(usize),
 }
 
-#[derive(Drop)]
+#[derive(Clone, Copy)]
 pub enum WordRead {
     Is(Span, Cursor),
     Missing(usize),
 }
 
-#[derive(Drop)]
+#[derive(Clone, Copy)]
 pub enum NumberRead {
     Is(bool, Number, Cursor),
     Missing(usize),
 }
 
-#[derive(Drop)]
+#[derive(Clone, Copy)]
 pub enum FloatRead {
     Is(f32, Cursor),
     Refused(Refusal, usize),
 }
 
-#[derive(Drop)]
+#[derive(Clone, Copy)]
 pub enum UintRead {
     Is(u32, Cursor),
     Refused(Refusal, usize),
 }
 
-#[derive(Drop)]
+#[derive(Clone, Copy)]
 pub enum TruthRead {
     Is(bool, Cursor),
     Missing(usize),
 }
 
-#[derive(Drop)]
+#[derive(Clone, Copy)]
 pub enum CaseRead {
     Is(usize, Cursor),
     Refused(Refusal, usize),
 }
 
 // Whether a mark was taken, and the cursor then.
-#[derive(Drop)]
+#[derive(Clone, Copy)]
 pub struct Eaten {
     pub taken: bool,
     pub next: Cursor,
 }
 
-#[derive(Drop)]
+#[derive(Clone, Copy)]
 pub enum NumberSeen {
     Is(Number),
     Not,
 }
 
-#[derive(Drop)]
+#[derive(Clone, Copy)]
 pub enum Passing {
     Halts,
     Closes,

@@ -1,5 +1,7 @@
 // parser.rs: the nodes draw and preset, which have the same fields: these, the records, and the readers behind the keywords. For our own
 // crates: each function requires a cursor that stands in a text of at most 16,384 bytes, and a place below 2^30.
+#![tactic(auto)]
+
 ghost use Rattle.std.specs.Prelude.{◌≡◌, ◌^◌, ◌<◌};
 ghost use Rattle.grammar.specs.Fields.{Fields, parse_field_list, pairs};
 ghost use Rattle.grammar.specs.Grammar.{draw_fields, parse_draw, parse_preset_call};
@@ -22,13 +24,13 @@ use read_values::EasingRead;
 // ---- the fields
 
 // What the fields of a draw say.
-#[derive(Drop)]
+#[derive(Clone, Copy)]
 pub struct DrawFields {
     pub duration: OptF32,
     pub easing: OptEasing,
 }
 
-#[derive(Drop)]
+#[derive(Clone, Copy)]
 pub enum DrawStep {
     Is(DrawFields, Cursor),
     Refused(Refusal, usize),

@@ -1,5 +1,7 @@
 // parser.rs, "Field-list helper": to the next field of a list, whatever the list's table.
 // The functions are for our own crates: each requires a cursor that stands in the text.
+#![tactic(auto)]
+
 ghost use Rattle.std.specs.Prelude.{◌≡◌, List, ℕ, true};
 ghost use Rattle.token.specs.Means.{kind_of};
 ghost use Rattle.std.proofs.Math.Option.{none};
@@ -17,7 +19,7 @@ use read_cursor::{Cursor, MarkRead};
 use token::Tok;
 
 // What the next token is to a list of fields.
-#[derive(Drop)]
+#[derive(Clone, Copy)]
 pub enum Item {
     Halts,
     Closes,
@@ -26,7 +28,7 @@ pub enum Item {
 }
 
 // The next field: its place in the table, and the cursor behind its `:`; or the list's end, or a refusal.
-#[derive(Drop)]
+#[derive(Clone, Copy)]
 pub enum NextField {
     Field(usize, Cursor),
     Done(Cursor),

@@ -1,5 +1,7 @@
 // parser.rs: what stands between a container's keyword and its block. `sequence` and `parallel` have nothing there.
 // The functions are for our own crates: each requires a cursor that stands in the text.
+#![tactic(auto)]
+
 ghost use Rattle.grammar.specs.Grammar.{grid_fields, grid_pattern, random_fields, random_pattern, parse_stagger_pattern};
 ghost use Rattle.read_fields.specs.Means as fields;
 ghost use Rattle.read_cursor.specs.Means.{Ready};
@@ -10,25 +12,25 @@ use error::Refusal;
 use read_cursor::{CaseRead, Cursor, FloatRead, MarkRead, UintRead};
 use read_fields::NextField;
 
-#[derive(Drop)]
+#[derive(Clone, Copy)]
 pub enum GroupRead {
     Is(GroupMode, Cursor),
     Refused(Refusal, usize),
 }
 
-#[derive(Drop)]
+#[derive(Clone, Copy)]
 pub enum OriginRead {
     Is(GridOriginSpec, Cursor),
     Refused(Refusal, usize),
 }
 
-#[derive(Drop)]
+#[derive(Clone, Copy)]
 pub enum PatternRead {
     Is(StaggerPatternSpec, Cursor),
     Refused(Refusal, usize),
 }
 
-#[derive(Drop)]
+#[derive(Clone, Copy)]
 pub enum StaggerRead {
     Is(OptPattern, OptF32, Cursor),
     Refused(Refusal, usize),
@@ -59,14 +61,14 @@ fn parse_grid_origin(text: &[u8], c: Cursor) -> OriginRead
 }
 
 // The fields so far.
-#[derive(Drop)]
+#[derive(Clone, Copy)]
 pub struct GridFields {
     pub cols: OptU32,
     pub rows: OptU32,
     pub origin: OptCase,
 }
 
-#[derive(Drop)]
+#[derive(Clone, Copy)]
 pub enum GridRead {
     Is(GridFields, Cursor),
     Refused(Refusal, usize),
@@ -180,14 +182,14 @@ fn grid_pattern(text: &[u8], c: Cursor) -> PatternRead
 // ---- random
 
 // The fields so far.
-#[derive(Drop)]
+#[derive(Clone, Copy)]
 pub struct RandomFields {
     pub seed: OptU32,
     pub min: OptF32,
     pub max: OptF32,
 }
 
-#[derive(Drop)]
+#[derive(Clone, Copy)]
 pub enum RandomRead {
     Is(RandomFields, Cursor),
     Refused(Refusal, usize),
@@ -311,13 +313,13 @@ fn parse_stagger_pattern(text: &[u8], c: Cursor) -> PatternRead
 }
 
 // The fields so far.
-#[derive(Drop)]
+#[derive(Clone, Copy)]
 pub struct Opening {
     pub pattern: OptPattern,
     pub delay: OptF32,
 }
 
-#[derive(Drop)]
+#[derive(Clone, Copy)]
 pub enum OpeningRead {
     Is(Opening, Cursor),
     Refused(Refusal, usize),

@@ -1,6 +1,8 @@
 // parser.rs, parse_keyframes and parse_keyframe_time: a track, whose frames are written into the sheet as they are read.
 // The functions are for our own crates: each requires a cursor that stands in a text of at most 16,384 bytes, and a place that leaves
 // room for every sum.
+#![tactic(auto)]
+
 ghost use Rattle.std.specs.Prelude.{◌≡◌, ◌&&◌, List, ℕ, ◌+◌, ◌<◌, ◌^◌};
 ghost use Rattle.number.specs.Rounded.{time_rounded};
 ghost use Rattle.token.specs.Means.{Known, written_in};
@@ -21,27 +23,27 @@ use read_values::{EasingRead, LoopRead};
 use token::Number;
 
 // Whether a time is a percent, the time that is stored, and the cursor.
-#[derive(Drop)]
+#[derive(Clone, Copy)]
 pub enum TimeRead {
     Is(bool, f32, Cursor),
     Refused(Refusal, usize),
 }
 
-#[derive(Drop)]
+#[derive(Clone, Copy)]
 pub enum EasingIf {
     Is(OptEasing, Cursor),
     Refused(Refusal, usize),
 }
 
 // An entry, the place behind its array's bytes, and the cursor. An array stands in the sheet as soon as it is read.
-#[derive(Drop)]
+#[derive(Clone, Copy)]
 pub enum EntryRead {
     Is(KeyframeEntry, usize, Cursor),
     Refused(Refusal, usize),
 }
 
 // The track so far: how many frames, the place behind the last one's bytes, the loop mode, and the cursor.
-#[derive(Drop)]
+#[derive(Clone, Copy)]
 pub struct Track {
     pub frames: usize,
     pub end: usize,
@@ -50,14 +52,14 @@ pub struct Track {
 }
 
 // The track behind an item, which goes on or ends.
-#[derive(Drop)]
+#[derive(Clone, Copy)]
 pub enum TrackNext {
     More(Track),
     Done(Track),
     Refused(Refusal, usize),
 }
 
-#[derive(Drop)]
+#[derive(Clone, Copy)]
 pub enum TrackRead {
     Is(Track),
     Refused(Refusal, usize),

@@ -1,5 +1,7 @@
 // parser.rs: label and at, each read behind its keyword; its fields are written at `out`. For our own
 // crates: each function requires a cursor that stands in a text of at most 16,384 bytes, and a place below 2^30.
+#![tactic(auto)]
+
 ghost use Rattle.std.specs.Prelude.{◌≡◌, not, cond};
 ghost use Rattle.grammar.specs.Grammar.{parse_label, parse_at};
 ghost use Rattle.read_cursor.specs.Means.{Ready};
@@ -25,7 +27,7 @@ pub fn parse_label(text: &[u8], sheet: &mut [u8], c: Cursor, out: usize) -> Node
 }
 
 // Whether `at` has a sign of its own, whether that is a minus, and the cursor behind it.
-#[derive(Drop)]
+#[derive(Clone, Copy)]
 pub struct Sign {
     pub relative: bool,
     pub minus: bool,

@@ -1,5 +1,7 @@
 // parser.rs: the node morph: its fields, its record, and its reader behind the keyword. For our own
 // crates: each function requires a cursor that stands in a text of at most 16,384 bytes, and a place below 2^30.
+#![tactic(auto)]
+
 ghost use Rattle.read_cursor.specs.Means.{Ready};
 ghost use Rattle.read_morph.specs.Means.{MorphStepMeans, MorphListMeans, PlainMorph, morph_of, morph_end};
 ghost use Rattle.std.specs.Prelude.{◌^◌, ◌<◌};
@@ -18,14 +20,14 @@ use read_values::EasingRead;
 // ---- the fields
 
 // What the fields of a morph say.
-#[derive(Drop)]
+#[derive(Clone, Copy)]
 pub struct MorphFields {
     pub samples: OptU32,
     pub duration: OptF32,
     pub easing: OptEasing,
 }
 
-#[derive(Drop)]
+#[derive(Clone, Copy)]
 pub enum MorphStep {
     Is(MorphFields, Cursor),
     Refused(Refusal, usize),

@@ -1,5 +1,7 @@
 // What a node's reader answers, and what tween and spring begin with. For our own crates: each function requires a cursor that
 // stands in a text of at most 16,384 bytes, and a place below 2^30.
+#![tactic(auto)]
+
 ghost use Rattle.read_cursor.specs.Means.{Ready};
 ghost use Rattle.read_arrays.specs.Means.{Room};
 ghost use Rattle.std.specs.Prelude.{◌+◌, ◌≤◌, ◌<◌, ◌^◌, length};
@@ -11,14 +13,14 @@ use read_arrays::ValueRead;
 use read_cursor::{Cursor, MarkRead, WordRead};
 
 // The place behind the fields, and the cursor behind the node.
-#[derive(Drop)]
+#[derive(Clone, Copy)]
 pub enum NodeRead {
     Is(usize, Cursor),
     Refused(Refusal, usize),
 }
 
 // A value of several numbers is kept as the cursor before it.
-#[derive(Drop)]
+#[derive(Clone, Copy)]
 pub enum OptPlace {
     Absent,
     Present(Cursor),

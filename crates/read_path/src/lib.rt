@@ -1,5 +1,7 @@
 // parser.rs: the node path: its fields, its record, and its reader behind the keyword. For our own
 // crates: each function requires a cursor that stands in a text of at most 16,384 bytes, and a place below 2^30.
+#![tactic(auto)]
+
 ghost use Rattle.read_cursor.specs.Means.{Ready};
 ghost use Rattle.read_path.specs.Means.{OffsetMeans, PathStepMeans, PathListMeans, PlainPath, path_of, path_end};
 ghost use Rattle.std.specs.Prelude.{◌^◌, ◌<◌};
@@ -18,7 +20,7 @@ use read_values::{EasingRead, LoopRead, PairRead};
 // ---- the fields
 
 // What the fields of a path say.
-#[derive(Drop)]
+#[derive(Clone, Copy)]
 pub struct PathFields {
     pub duration: OptF32,
     pub easing: OptEasing,
@@ -27,7 +29,7 @@ pub struct PathFields {
     pub loop_mode: OptLoop,
 }
 
-#[derive(Drop)]
+#[derive(Clone, Copy)]
 pub enum PathStep {
     Is(PathFields, Cursor),
     Refused(Refusal, usize),

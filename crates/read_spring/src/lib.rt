@@ -1,5 +1,7 @@
 // parser.rs: the node spring: its fields, its record, and its reader behind the keyword. For our own
 // crates: each function requires a cursor that stands in a text of at most 16,384 bytes, and a place below 2^30.
+#![tactic(auto)]
+
 ghost use Rattle.std.specs.Prelude.{◌≤◌, ℕ, ◌+◌, ◌<◌, ◌^◌, length};
 ghost use Rattle.read_cursor.specs.Means.{Ready};
 ghost use Rattle.read_spring.specs.Means.{PastMeans, SpringStepMeans, SpringListMeans, Told, VelocityPut, PlainSpring, spring_bytes};
@@ -23,7 +25,7 @@ use read_values::PairRead;
 // ---- the fields
 
 // What a spring's fields say. The velocity is the cursor before it.
-#[derive(Drop)]
+#[derive(Clone, Copy)]
 pub struct SpringFields {
     pub preset: OptCase,
     pub stiffness: OptF32,
@@ -35,13 +37,13 @@ pub struct SpringFields {
     pub damping_mode: OptDamping,
 }
 
-#[derive(Drop)]
+#[derive(Clone, Copy)]
 pub enum SpringStep {
     Is(SpringFields, Cursor),
     Refused(Refusal, usize),
 }
 
-#[derive(Drop)]
+#[derive(Clone, Copy)]
 pub enum PastRead {
     Is(Cursor),
     Refused(Refusal, usize),

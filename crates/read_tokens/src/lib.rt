@@ -1,7 +1,7 @@
 // A token reader: the text and a cursor in it, in one struct, with thin functions over the cursor by value.
-// The borrow checker covers no function over such a struct, so each takes it apart and is walked by hand; `count_tokens`
-// and `second_is` stand above them with plain parameters, so whoever calls these needs no walk. The functions over a reader are for our
-// own crates: each requires a cursor that stands in the text.
+// The functions over a reader are for our own crates: each requires a cursor that stands in the text.
+#![tactic(auto)]
+
 ghost use Rattle.std.specs.Prelude.{◌≡◌, ◌<◌};
 ghost use Rattle.token.specs.Token.{tokens_from, rest};
 ghost use Rattle.grammar.specs.Rule.{sees_byte, the_byte};
@@ -10,7 +10,7 @@ ghost use Rattle.read_tokens.specs.Reader.{readable, token_count, is_blank};
 
 use read_cursor::{Cursor, MarkRead, WordRead};
 
-#[derive(Drop)]
+#[derive(Clone, Copy)]
 pub struct TokenReader<'a> {
     pub text: &'a [u8],
     pub cursor: Cursor,
@@ -106,7 +106,7 @@ pub fn second_is(text: &[u8], b: u8) -> bool
     sees(advance(new(text)), b)
 }
 
-// Whether a text of at most the limit has no tokens. Its parameter is plain, and so is that of what it calls: it needs no walk.
+// Whether a text of at most the limit has no tokens.
 pub fn is_blank(text: &[u8]) -> bool
     ensures { result ≡ is_blank text.now }
 {

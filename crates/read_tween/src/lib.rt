@@ -1,5 +1,7 @@
 // parser.rs: the node tween: its fields, its record, and its reader behind the keyword. For our own
 // crates: each function requires a cursor that stands in a text of at most 16,384 bytes, and a place below 2^30.
+#![tactic(auto)]
+
 ghost use Rattle.std.specs.Prelude.{◌||◌, ◌≡◌, ℕ, ◌+◌, ◌<◌, ◌^◌};
 ghost use Rattle.read_cursor.specs.Means.{Ready};
 ghost use Rattle.read_tween.specs.Means.{TweenStepMeans, TweenListMeans, PlainTween, tween_bytes};
@@ -19,7 +21,7 @@ use read_values::{EasingRead, LoopRead};
 // ---- the fields
 
 // What a tween's fields say.
-#[derive(Drop)]
+#[derive(Clone, Copy)]
 pub struct TweenFields {
     pub duration: OptF32,
     pub easing: OptEasing,
@@ -31,7 +33,7 @@ pub struct TweenFields {
     pub reverse: bool,
 }
 
-#[derive(Drop)]
+#[derive(Clone, Copy)]
 pub enum TweenStep {
     Is(TweenFields, Cursor),
     Refused(Refusal, usize),

@@ -1,5 +1,7 @@
 // parser.rs, "Value / Easing / Loop primitives" and the numbers in parentheses.
 // The functions are for our own crates: each requires a cursor that stands in the text.
+#![tactic(auto)]
+
 ghost use Rattle.std.specs.Prelude.{◌≡◌, ◌+◌, ◌≤◌, length};
 ghost use Rattle.grammar.specs.Values.{parse_float_in_parens, parse_uint_in_parens, comma_float, two_floats, parse_two_floats_in_parens, comma_floats, four_floats, bezier_curve, rough_fields, slow_mo_fields, rough_curve, slow_mo_curve, steps_curve, wiggle_curve, named_easing, curve_or, parse_easing, times_mode, ping_pong_mode, parse_loop_mode};
 ghost use Rattle.read_fields.specs.Means as fields;
@@ -13,19 +15,19 @@ use error::Refusal;
 use read_cursor::{Cursor, FloatRead, MarkRead, UintRead, WordRead};
 use read_fields::NextField;
 
-#[derive(Drop)]
+#[derive(Clone, Copy)]
 pub enum PairRead {
     Is(f32, f32, Cursor),
     Refused(Refusal, usize),
 }
 
-#[derive(Drop)]
+#[derive(Clone, Copy)]
 pub enum EasingRead {
     Is(EasingSpec, Cursor),
     Refused(Refusal, usize),
 }
 
-#[derive(Drop)]
+#[derive(Clone, Copy)]
 pub enum LoopRead {
     Is(LoopSpec, Cursor),
     Refused(Refusal, usize),
@@ -140,13 +142,13 @@ fn bezier_curve(text: &[u8], c: Cursor) -> EasingRead
 // ---- rough
 
 // The fields so far.
-#[derive(Drop)]
+#[derive(Clone, Copy)]
 pub struct RoughFields {
     pub strength: OptF32,
     pub points: OptU32,
 }
 
-#[derive(Drop)]
+#[derive(Clone, Copy)]
 pub enum RoughRead {
     Is(RoughFields, Cursor),
     Refused(Refusal, usize),
@@ -222,13 +224,13 @@ fn rough_fields(text: &[u8], c: Cursor) -> RoughRead
 // ---- slowmo
 
 // The fields so far.
-#[derive(Drop)]
+#[derive(Clone, Copy)]
 pub struct SlowMoFields {
     pub linear_ratio: OptF32,
     pub power: OptF32,
 }
 
-#[derive(Drop)]
+#[derive(Clone, Copy)]
 pub enum SlowMoRead {
     Is(SlowMoFields, Cursor),
     Refused(Refusal, usize),

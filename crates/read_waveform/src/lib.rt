@@ -1,5 +1,7 @@
 // parser.rs: the node waveform: its fields, its record, and its reader behind the keyword. For our own
 // crates: each function requires a cursor that stands in a text of at most 16,384 bytes, and a place below 2^30.
+#![tactic(auto)]
+
 ghost use Rattle.read_cursor.specs.Means.{Ready};
 ghost use Rattle.read_waveform.specs.Means.{WaveformStepMeans, WaveformListMeans, PlainWaveform, waveform_of, waveform_end};
 ghost use Rattle.std.specs.Prelude.{◌^◌, ◌<◌};
@@ -16,7 +18,7 @@ use read_node::NodeRead;
 // ---- the fields
 
 // What the fields of a waveform say.
-#[derive(Drop)]
+#[derive(Clone, Copy)]
 pub struct WaveformFields {
     pub frequency: OptF32,
     pub amplitude: OptF32,
@@ -27,7 +29,7 @@ pub struct WaveformFields {
     pub duration: OptF32,
 }
 
-#[derive(Drop)]
+#[derive(Clone, Copy)]
 pub enum WaveformStep {
     Is(WaveformFields, Cursor),
     Refused(Refusal, usize),

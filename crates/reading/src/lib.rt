@@ -1,1 +1,2 @@
 // 01, "Reading": the operation, as a definition.
+#![tactic(auto)]

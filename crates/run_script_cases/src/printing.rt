@@ -4,8 +4,10 @@ use error::LineAnswer;
 use run_stored::answers::say;
 use run_stored::lines;
 use run_stored::lines::Fields;
+use std::io;
+use std::io::Write;
 
-pub fn answer(line: &[u8], f: Fields) {
+pub fn answer(to: &mut impl Write, line: &[u8], f: Fields) -> io::Result<()> {
     let mut scratch = [0u16; parser::SCRATCH_WORDS];
     let mut sheet = [0u8; print::SHEET_BYTES];
     let mut page = [0u8; print::PAGE_BYTES];
@@ -17,6 +19,7 @@ pub fn answer(line: &[u8], f: Fields) {
         &mut page,
         1,
     ) {
-        say(text::part(&page, 0, length));
+        say(to, text::part(&page, 0, length))?;
     }
+    Ok(())
 }

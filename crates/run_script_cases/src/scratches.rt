@@ -6,61 +6,71 @@ use run_stored::answers::{refuse, say, say_number};
 use run_stored::lines;
 use run_stored::lines::Fields;
 use sheet_decode::fields::take_field;
+use std::io;
+use std::io::Write;
 
-pub fn answer(line: &[u8], f: Fields) {
+pub fn answer(to: &mut impl Write, line: &[u8], f: Fields) -> io::Result<()> {
     let mut scratch = [7u16; 16384];
     let wanted = take_field(lines::field(line, f, 0), 0, 2);
-    answer_with(&mut scratch, wanted.v as usize, lines::field(line, f, 1));
-    say(b"\n");
+    answer_with(
+        to,
+        &mut scratch,
+        wanted.v as usize,
+        lines::field(line, f, 1),
+    )?;
+    say(to, b"\n")
 }
 
 // Lends the first words of a scratch. More than it has have no answer.
-fn answer_with(scratch: &mut [u16], words: usize, text: &[u8]) {
+fn answer_with(
+    to: &mut impl Write,
+    scratch: &mut [u16],
+    words: usize,
+    text: &[u8],
+) -> io::Result<()> {
     if scratch.len() < words {
-        return;
+        return Ok(());
     }
-    read_with(&mut scratch[..words], text);
+    read_with(to, &mut scratch[..words], text)
 }
 
-fn read_with(scratch: &mut [u16], text: &[u8]) {
+fn read_with(to: &mut impl Write, scratch: &mut [u16], text: &[u8]) -> io::Result<()> {
     let mut sheet = [9u8; 64];
-    let used = say_read(parser::read(text, scratch, &mut sheet));
-    say_state(all_words(scratch, 0), all_words(scratch, 7));
+    let used = say_read(to, parser::read(text, scratch, &mut sheet))?;
+    say_state(to, all_words(scratch, 0), all_words(scratch, 7))?;
     let rest = text::part(&sheet, used, 64);
-    say_state(all_bytes(rest, 0), all_bytes(rest, 9));
+    say_state(to, all_bytes(rest, 0), all_bytes(rest, 9))
 }
 
 // Writes reading's answer, and gives the sheet's length, 0 of a refusal.
-fn say_read(answer: ReadAnswer) -> usize {
+fn say_read(to: &mut impl Write, answer: ReadAnswer) -> io::Result<usize> {
     match answer {
         ReadAnswer::Accepted {
             length,
             records,
             rounded: _,
         } => {
-            say(b"accept ");
-            say_number(length as u64);
-            say(b" ");
-            say_number(records as u64);
-            length
+            say(to, b"accept ")?;
+            say_number(to, length as u64)?;
+            say(to, b" ")?;
+            say_number(to, records as u64)?;
+            Ok(length)
         }
         ReadAnswer::Refused { refusal, place } => {
-            refuse(refusal, place, b"");
-            0
+            refuse(to, refusal, place, b"")?;
+            Ok(0)
         }
     }
 }
 
-fn say_state(zero: bool, kept: bool) {
+fn say_state(to: &mut impl Write, zero: bool, kept: bool) -> io::Result<()> {
     if zero {
-        say(b"\tzero");
-        return;
+        return say(to, b"\tzero");
     }
     if kept {
-        say(b"\tkept");
-        return;
+        return say(to, b"\tkept");
     }
-    say(b"\tmixed");
+    say(to, b"\tmixed")
 }
 
 // Whether each word is a given one.

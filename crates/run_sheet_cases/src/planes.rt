@@ -8,16 +8,18 @@ use run_stored::answers::{refuse, say, say_bytes, say_number};
 use run_stored::lines;
 use run_stored::lines::Fields;
 use sheet_decode::fields::take_field;
+use std::io;
+use std::io::Write;
 
 // The longest output that two bytes tell.
 const ROOM: usize = 65535;
 
 // Lends the end of a buffer in which something stands.
-pub fn answer(line: &[u8], f: Fields) {
+pub fn answer(to: &mut impl Write, line: &[u8], f: Fields) -> io::Result<()> {
     let mut out = [7u8; ROOM];
     let wanted = take_field(lines::field(line, f, 3), 0, 2);
     let room = least(wanted.v as usize);
-    answer_into(line, f, &mut out, ROOM - room);
+    answer_into(to, line, f, &mut out, ROOM - room)
 }
 
 fn least(wanted: usize) -> usize
@@ -26,7 +28,13 @@ fn least(wanted: usize) -> usize
     if wanted < ROOM { wanted } else { ROOM }
 }
 
-fn answer_into(line: &[u8], f: Fields, out: &mut [u8], from: usize)
+fn answer_into(
+    to: &mut impl Write,
+    line: &[u8],
+    f: Fields,
+    out: &mut [u8],
+    from: usize,
+) -> io::Result<()>
     requires { from ≤ length out.old }
 {
     let back = text::byte_at(line, 0) != 0;
@@ -36,7 +44,7 @@ fn answer_into(line: &[u8], f: Fields, out: &mut [u8], from: usize)
         lines::field(line, f, 2),
         &mut out[from..],
     );
-    say_moved(answer, &out[from..]);
+    say_moved(to, answer, &out[from..])
 }
 
 fn moved(back: bool, text: &[u8], bytes: &[u8], out: &mut [u8]) -> LineAnswer {
@@ -46,15 +54,15 @@ fn moved(back: bool, text: &[u8], bytes: &[u8], out: &mut [u8]) -> LineAnswer {
     plane::plane(text, bytes, out)
 }
 
-fn say_moved(answer: LineAnswer, out: &[u8]) {
+fn say_moved(to: &mut impl Write, answer: LineAnswer, out: &[u8]) -> io::Result<()> {
     match answer {
         LineAnswer::Accepted { length } => {
-            say(b"accept ");
-            say_number(length as u64);
-            say(b" ");
+            say(to, b"accept ")?;
+            say_number(to, length as u64)?;
+            say(to, b" ")?;
         }
-        LineAnswer::Refused { refusal, place } => refuse(refusal, place, b" "),
+        LineAnswer::Refused { refusal, place } => refuse(to, refusal, place, b" ")?,
     }
-    say_bytes(out, true);
-    say(b"\n");
+    say_bytes(to, out, true)?;
+    say(to, b"\n")
 }

@@ -4,30 +4,33 @@ use run_stored::answers::{say, say_number};
 use run_stored::lines;
 use run_stored::lines::Fields;
 use sheet_records::RecordAt;
+use std::io;
+use std::io::Write;
 
-pub fn answer(line: &[u8], f: Fields) {
+pub fn answer(to: &mut impl Write, line: &[u8], f: Fields) -> io::Result<()> {
     let sheet = lines::field(line, f, 1);
     let text_len = lines::first_decimal(line, f);
     if sheet_records::is_sheet(sheet, text_len) {
-        say(b"sheet");
-        say_sizes(sheet, text_len);
-        say(b"\n");
+        say(to, b"sheet")?;
+        say_sizes(to, sheet, text_len)?;
+        say(to, b"\n")
     } else {
-        say(b"no sheet\n");
+        say(to, b"no sheet\n")
     }
 }
 
-fn say_sizes(sheet: &[u8], text_len: usize) {
+fn say_sizes(to: &mut impl Write, sheet: &[u8], text_len: usize) -> io::Result<()> {
     let mut k: usize = 0;
     while k <= sheet.len() {
         let size = size_of(sheet_records::find_record(sheet, text_len, k));
         if size == 0 {
-            return;
+            return Ok(());
         }
-        say(b" ");
-        say_number(size as u64);
+        say(to, b" ")?;
+        say_number(to, size as u64)?;
         k += 1;
     }
+    Ok(())
 }
 
 fn size_of(r: RecordAt) -> usize {

@@ -4,29 +4,36 @@ use run_stored::answers::{say, say_answer, say_bytes};
 use run_stored::lines;
 use run_stored::lines::Fields;
 use sheet_decode::fields::take_field;
+use std::io;
+use std::io::Write;
 
 // Some heights more than are drawn.
 const ROOM: usize = 512;
 
-pub fn answer(line: &[u8], f: Fields) {
+pub fn answer(to: &mut impl Write, line: &[u8], f: Fields) -> io::Result<()> {
     let mut heights = [1799i16; ROOM];
     let kind = take_field(lines::field(line, f, 0), 0, 4);
     let phase = take_field(lines::field(line, f, 1), 0, 4);
     let wanted = take_field(lines::field(line, f, 2), 0, 2);
-    answer_with(kind.v, phase.v, &mut heights, wanted.v as usize);
+    answer_with(to, kind.v, phase.v, &mut heights, wanted.v as usize)
 }
 
 // Lends the first heights. More than there are have no answer.
-fn answer_with(kind: u32, phase: u32, heights: &mut [i16], n: usize) {
+fn answer_with(
+    to: &mut impl Write,
+    kind: u32,
+    phase: u32,
+    heights: &mut [i16],
+    n: usize,
+) -> io::Result<()> {
     if heights.len() < n {
-        say(b"no case\n");
-        return;
+        return say(to, b"no case\n");
     }
-    say_answer(wave::wave(kind, phase, &mut heights[..n]), b"\t");
-    say_heights(&heights[..n]);
+    say_answer(to, wave::wave(kind, phase, &mut heights[..n]), b"\t")?;
+    say_heights(to, &heights[..n])
 }
 
-fn say_heights(heights: &[i16]) {
+fn say_heights(to: &mut impl Write, heights: &[i16]) -> io::Result<()> {
     let mut bytes = [0u8; 2 * ROOM];
     let room: &mut [u8] = &mut bytes;
     let mut end: usize = 0;
@@ -37,8 +44,8 @@ fn say_heights(heights: &[i16]) {
         end = text::put(room, next, (w % 256) as u8);
         i += 1;
     }
-    say_bytes(text::part(room, 0, end), true);
-    say(b"\n");
+    say_bytes(to, text::part(room, 0, end), true)?;
+    say(to, b"\n")
 }
 
 // The 16 bits of a height in two's complement.

@@ -1,47 +1,49 @@
 // What the answers to stored cases are written with.
 use error::{CheckAnswer, Refusal};
-use libc::STDOUT_FILENO;
+use std::io;
+use std::io::Write;
 
-pub fn say(bytes: &[u8]) {
-    io::write_all(STDOUT_FILENO, bytes);
+pub fn say(to: &mut impl Write, bytes: &[u8]) -> io::Result<()> {
+    to.write_all(bytes)
 }
 
-pub fn say_number(n: u64) {
-    io::print_decimal(STDOUT_FILENO, n);
+pub fn say_number(to: &mut impl Write, n: u64) -> io::Result<()> {
+    write!(to, "{n}")
 }
 
 // Writes a refusal, and `end` behind it.
-pub fn refuse(refusal: Refusal, place: usize, end: &[u8]) {
-    say(b"refuse ");
-    say_number(error::number_of(refusal) as u64);
-    say(b" at ");
-    say_number(place as u64);
-    say(end);
+pub fn refuse(to: &mut impl Write, refusal: Refusal, place: usize, end: &[u8]) -> io::Result<()> {
+    say(to, b"refuse ")?;
+    say_number(to, error::number_of(refusal) as u64)?;
+    say(to, b" at ")?;
+    say_number(to, place as u64)?;
+    say(to, end)
 }
 
 // Writes what checking, converting or drawing answers, and `end` behind it.
-pub fn say_answer(answer: CheckAnswer, end: &[u8]) {
+pub fn say_answer(to: &mut impl Write, answer: CheckAnswer, end: &[u8]) -> io::Result<()> {
     match answer {
         CheckAnswer::Accepted => {
-            say(b"accept");
-            say(end);
+            say(to, b"accept")?;
+            say(to, end)
         }
-        CheckAnswer::Refused { refusal, place } => refuse(refusal, place, end),
+        CheckAnswer::Refused { refusal, place } => refuse(to, refusal, place, end),
     }
 }
 
 // Writes bytes in hexadecimal, as many at a time as there is room for.
-pub fn say_bytes(bytes: &[u8], capitals: bool) {
-    let mut out = io::buffer();
-    let room: &mut [u8] = &mut out;
+pub fn say_bytes(to: &mut impl Write, bytes: &[u8], capitals: bool) -> io::Result<()> {
+    let mut buffer = [0u8; 4096];
+    let room: &mut [u8] = &mut buffer;
     let mut at: usize = 0;
     while at < bytes.len() {
-        say_part(text::part(bytes, at, 2048), capitals, room);
+        say_part(to, text::part(bytes, at, 2048), capitals, room)?;
         at += 2048;
     }
+    Ok(())
 }
 
-fn say_part(bytes: &[u8], capitals: bool, out: &mut [u8]) {
+fn say_part(to: &mut impl Write, bytes: &[u8], capitals: bool, out: &mut [u8]) -> io::Result<()> {
     let mut end: usize = 0;
     let mut i: usize = 0;
     while i < bytes.len() {
@@ -49,7 +51,7 @@ fn say_part(bytes: &[u8], capitals: bool, out: &mut [u8]) {
         end = text::put(out, next, digit(bytes[i] % 16, capitals));
         i += 1;
     }
-    say(text::part(out, 0, end));
+    say(to, text::part(out, 0, end))
 }
 
 fn digit(n: u8, capitals: bool) -> u8 {

@@ -6,7 +6,7 @@ use text::Class;
 
 // What is known of a line: how many digits stand in the buffer, how many fields have ended, the digits up to the end of each, and whether
 // all of it is digits, fits the buffer and has no more fields than can be told apart.
-#[derive(Drop)]
+#[derive(Clone, Copy)]
 pub struct Fields {
     pub digits: usize,
     pub count: usize,

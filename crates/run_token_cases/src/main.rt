@@ -1,25 +1,44 @@
 // Runs the text rules on many texts: reads lines of hexadecimal from standard input, and writes for each what
 // `token::split` answers for its bytes. oracle/store-token.sh makes the lines and the answers.
-ghost use Rattle.std.specs.Prelude.{◌≡◌, ◌+◌, ◌<◌, ◌≤◌, min, length};
+#![tactic(auto)]
+
+ghost use Rattle.std.specs.Prelude.{◌≡◌, ◌+◌, ◌<◌, ◌≤◌, min, length, IfOk};
 
 use error::Refusal;
-use libc::{STDIN_FILENO, STDOUT_FILENO};
+use std::io;
+use std::io::{Read, Write};
 use text::Class;
 use token::SplitAnswer;
 
-fn main() {
-    let mut buffer = io::large_buffer();
-    let n = io::read_full(STDIN_FILENO, &mut buffer);
-    lines(&buffer[..n]);
+fn main(rt: HostRuntime) -> io::Result<()> {
+    let mut buffer = [0u8; 65536];
+    let n = read_full(&mut rt.reader(), &mut buffer)?;
+    lines(&mut io::writer(&rt), &buffer[..n])
 }
 
-fn lines(s: &[u8]) {
+// Reads until the buffer is full or the input ends, and gives how many bytes it put there.
+fn read_full(from: &mut impl Read, buffer: &mut [u8]) -> io::Result<usize>
+    ensures { IfOk result (λ n. n ≤ length buffer.new) }
+{
+    let mut done: usize = 0;
+    while done < buffer.len() {
+        let n = from.read(&mut buffer[done..])?;
+        if n == 0 {
+            return Ok(done);
+        }
+        done += n;
+    }
+    Ok(done)
+}
+
+fn lines(to: &mut impl Write, s: &[u8]) -> io::Result<()> {
     let mut at: usize = 0;
     while at < s.len() {
         let end = line_end(s, at);
-        line(&s[at..end]);
+        line(to, &s[at..end])?;
         at = after(s, end);
     }
+    Ok(())
 }
 
 // The end of the hexadecimal digits from `at` on.
@@ -41,11 +60,11 @@ fn after(s: &[u8], end: usize) -> usize
     end
 }
 
-fn line(s: &[u8]) {
+fn line(to: &mut impl Write, s: &[u8]) -> io::Result<()> {
     let mut text = [0u8; 1024];
     let n = bytes(s, &mut text);
     let mut scratch = [0u16; 64];
-    answer(token::split(&text[..n], &mut scratch));
+    answer(to, token::split(&text[..n], &mut scratch))
 }
 
 // Writes the bytes that pairs of digits stand for, as far as there is room, and gives how many.
@@ -76,19 +95,14 @@ fn digit(b: u8) -> u8
     }
 }
 
-fn answer(a: SplitAnswer) {
+fn answer(to: &mut impl Write, a: SplitAnswer) -> io::Result<()> {
     match a {
-        SplitAnswer::Accepted => {
-            io::write_all(STDOUT_FILENO, b"accept\n");
-        }
-        SplitAnswer::Refused { refusal, place } => refused(refusal, place),
+        SplitAnswer::Accepted => to.write_all(b"accept\n"),
+        SplitAnswer::Refused { refusal, place } => refused(to, refusal, place),
     }
 }
 
-fn refused(refusal: Refusal, place: usize) {
-    io::write_all(STDOUT_FILENO, b"refuse ");
-    io::print_decimal(STDOUT_FILENO, error::number_of(refusal) as u64);
-    io::write_all(STDOUT_FILENO, b" at ");
-    io::print_decimal(STDOUT_FILENO, place as u64);
-    io::write_all(STDOUT_FILENO, b"\n");
+fn refused(to: &mut impl Write, refusal: Refusal, place: usize) -> io::Result<()> {
+    let number = error::number_of(refusal);
+    writeln!(to, "refuse {number} at {place}")
 }

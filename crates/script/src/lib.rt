@@ -1,1 +1,2 @@
 // Reading and checking together.
+#![tactic(auto)]

@@ -1,1 +1,2 @@
 // The sheet: the bytes of a tree.
+#![tactic(auto)]

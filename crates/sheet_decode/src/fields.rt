@@ -8,37 +8,37 @@ ghost use Rattle.sheet_decode.specs.Means.{Lost, Reads, Number, KindAndStart, sa
 
 use ast::Span;
 
-#[derive(Drop)]
+#[derive(Clone, Copy)]
 pub struct ByteRead {
     pub v: u8,
     pub next: usize,
 }
 
-#[derive(Drop)]
+#[derive(Clone, Copy)]
 pub struct FieldRead {
     pub v: u32,
     pub next: usize,
 }
 
-#[derive(Drop)]
+#[derive(Clone, Copy)]
 pub struct FlagRead {
     pub v: bool,
     pub next: usize,
 }
 
-#[derive(Drop)]
+#[derive(Clone, Copy)]
 pub struct FloatRead {
     pub v: f32,
     pub next: usize,
 }
 
-#[derive(Drop)]
+#[derive(Clone, Copy)]
 pub struct SpanRead {
     pub v: Span,
     pub next: usize,
 }
 
-#[derive(Drop)]
+#[derive(Clone, Copy)]
 pub struct KindRead {
     pub kind: u8,
     pub start: usize,

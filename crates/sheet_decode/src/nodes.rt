@@ -17,79 +17,79 @@ use ast::{
     PresetCall, SpringSpec, StaggerSpec, TweenSpec, WaveformSpec,
 };
 
-#[derive(Drop)]
+#[derive(Clone, Copy)]
 pub struct EntryRead {
     pub v: KeyframeEntry,
     pub next: usize,
 }
 
-#[derive(Drop)]
+#[derive(Clone, Copy)]
 pub struct TweenRead {
     pub v: TweenSpec,
     pub next: usize,
 }
 
-#[derive(Drop)]
+#[derive(Clone, Copy)]
 pub struct SpringRead {
     pub v: SpringSpec,
     pub next: usize,
 }
 
-#[derive(Drop)]
+#[derive(Clone, Copy)]
 pub struct KeyframesRead {
     pub v: KeyframeSpec,
     pub next: usize,
 }
 
-#[derive(Drop)]
+#[derive(Clone, Copy)]
 pub struct GroupRead {
     pub v: GroupSpec,
     pub next: usize,
 }
 
-#[derive(Drop)]
+#[derive(Clone, Copy)]
 pub struct StaggerRead {
     pub v: StaggerSpec,
     pub next: usize,
 }
 
-#[derive(Drop)]
+#[derive(Clone, Copy)]
 pub struct PathRead {
     pub v: PathSpec,
     pub next: usize,
 }
 
-#[derive(Drop)]
+#[derive(Clone, Copy)]
 pub struct MorphRead {
     pub v: MorphSpec,
     pub next: usize,
 }
 
-#[derive(Drop)]
+#[derive(Clone, Copy)]
 pub struct DrawRead {
     pub v: DrawSpec,
     pub next: usize,
 }
 
-#[derive(Drop)]
+#[derive(Clone, Copy)]
 pub struct ColorRead {
     pub v: ColorSpec,
     pub next: usize,
 }
 
-#[derive(Drop)]
+#[derive(Clone, Copy)]
 pub struct WaveformRead {
     pub v: WaveformSpec,
     pub next: usize,
 }
 
-#[derive(Drop)]
+#[derive(Clone, Copy)]
 pub struct PresetRead {
     pub v: PresetCall,
     pub next: usize,
 }
 
-#[derive(Drop)]
+#[derive(Clone, Copy)]
 pub struct AtRead {
     pub v: AtSpec,
     pub next: usize,

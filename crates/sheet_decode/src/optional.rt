@@ -12,61 +12,61 @@ use ast::{
     OptValue,
 };
 
-#[derive(Drop)]
+#[derive(Clone, Copy)]
 pub struct OptF32Read {
     pub v: OptF32,
     pub next: usize,
 }
 
-#[derive(Drop)]
+#[derive(Clone, Copy)]
 pub struct OptU32Read {
     pub v: OptU32,
     pub next: usize,
 }
 
-#[derive(Drop)]
+#[derive(Clone, Copy)]
 pub struct OptBoolRead {
     pub v: OptBool,
     pub next: usize,
 }
 
-#[derive(Drop)]
+#[derive(Clone, Copy)]
 pub struct OptCaseRead {
     pub v: OptCase,
     pub next: usize,
 }
 
-#[derive(Drop)]
+#[derive(Clone, Copy)]
 pub struct OptValueRead {
     pub v: OptValue,
     pub next: usize,
 }
 
-#[derive(Drop)]
+#[derive(Clone, Copy)]
 pub struct OptEasingRead {
     pub v: OptEasing,
     pub next: usize,
 }
 
-#[derive(Drop)]
+#[derive(Clone, Copy)]
 pub struct OptLoopRead {
     pub v: OptLoop,
     pub next: usize,
 }
 
-#[derive(Drop)]
+#[derive(Clone, Copy)]
 pub struct OptDampingRead {
     pub v: OptDamping,
     pub next: usize,
 }
 
-#[derive(Drop)]
+#[derive(Clone, Copy)]
 pub struct OptPatternRead {
     pub v: OptPattern,
     pub next: usize,
 }
 
-#[derive(Drop)]
+#[derive(Clone, Copy)]
 pub struct OptRangeRead {
     pub v: OptRange,
     pub next: usize,

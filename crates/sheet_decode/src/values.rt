@@ -8,39 +8,39 @@ ghost use Rattle.sheet_decode.specs.Means.{Reads};
 use crate::fields::{skip_words, take_byte, take_field, take_flag, take_float, take_span};
 use ast::{DampingMode, EasingSpec, LoopSpec, StaggerPatternSpec, ValueExpr};
 
-#[derive(Drop)]
+#[derive(Clone, Copy)]
 pub struct ValueRead {
     pub v: ValueExpr,
     pub next: usize,
 }
 
-#[derive(Drop)]
+#[derive(Clone, Copy)]
 pub struct EasingRead {
     pub v: EasingSpec,
     pub next: usize,
 }
 
-#[derive(Drop)]
+#[derive(Clone, Copy)]
 pub struct LoopRead {
     pub v: LoopSpec,
     pub next: usize,
 }
 
-#[derive(Drop)]
+#[derive(Clone, Copy)]
 pub struct DampingRead {
     pub v: DampingMode,
     pub next: usize,
 }
 
 // Whether a time is a percent, and the time.
-#[derive(Drop)]
+#[derive(Clone, Copy)]
 pub struct TimeRead {
     pub percent: bool,
     pub v: f32,
     pub next: usize,
 }
 
-#[derive(Drop)]
+#[derive(Clone, Copy)]
 pub struct PatternRead {
     pub v: StaggerPatternSpec,
     pub next: usize,

@@ -1,6 +1,8 @@
 // The writing side of the sheet: each value's bytes from a place on, as far as the lent slice goes, while the place behind
 // them goes on counting. All of it is for our own crates, whose places stay below 2^31 and whose floats are no NaN. Where a
 // contract holds for every n, a form's bound for reading (the text's length, a number of cases), n is not written.
+#![tactic(auto)]
+
 ghost use Rattle.std.specs.Prelude.{◌≡◌, cond, [], ◌∷◌, ◌++◌, ℕ, ◌+◌, ◌-◌, ◌^◌, ◌≤◌, ◌<◌, length, take, replicate};
 ghost use Rattle.number.specs.Number.{bits};
 ghost use Rattle.codec.specs.Codec.{big, below, opt, ◌▹◌};

@@ -1,4 +1,6 @@
 // The walk over a sheet: whether bytes are one, and the record with a given ordinal.
+#![tactic(auto)]
+
 ghost use Rattle.std.specs.Prelude.{◌≡◌};
 ghost use Rattle.text.specs.Words.{is_some};
 ghost use Rattle.sheet.specs.Sheet.{node_form, forest, inner, decode};
@@ -12,14 +14,14 @@ use sheet_decode::nodes::{
 };
 
 // A leaf, or a container and how many nodes stand in it.
-#[derive(Drop)]
+#[derive(Clone, Copy)]
 pub enum Kind {
     Leaf,
     Container(usize),
 }
 
 // A record: what its node holds, its kind, its count of keyframe entries, and the place behind it.
-#[derive(Drop)]
+#[derive(Clone, Copy)]
 pub struct RecordRead {
     pub v: Kind,
     pub kind: u8,
@@ -28,7 +30,7 @@ pub struct RecordRead {
 }
 
 // Where a record stands in a sheet, or that it has no such record, or that the bytes are no sheet.
-#[derive(Drop)]
+#[derive(Clone, Copy)]
 pub enum RecordAt {
     At { start: usize, size: usize },
     Nothing,

@@ -1,4 +1,6 @@
 // What checking and lining refuse first: a text that is too long, a byte that no script holds, bytes that are no sheet.
+#![tactic(auto)]
+
 ghost use Rattle.std.specs.Prelude.{◌≡◌};
 ghost use Rattle.text.specs.Words.{is_some};
 ghost use Rattle.text.specs.Means.{place_of};
@@ -8,7 +10,7 @@ ghost use Rattle.sheet_refusals.specs.Means.{answer_of, text_answer, bytes_answe
 use error::Refusal;
 use text::{Class, Found};
 
-#[derive(Drop)]
+#[derive(Clone, Copy)]
 pub enum Opening {
     // The bytes are a sheet for the text.
     Open,

@@ -1,4 +1,6 @@
 // Whether bytes are a sheet, or a planed one, and how long its first part is.
+#![tactic(auto)]
+
 ghost use Rattle.sheet.specs.Sheet.{decode};
 ghost use Rattle.planed.specs.Planes.{unplaned};
 ghost use Rattle.sheet_shape.specs.Means.{ShapeMeans};
@@ -8,7 +10,7 @@ use crate::walk::pass_sheet;
 pub mod walk;
 
 // No sheet; or how many bytes stay of it, and how many numbers are taken.
-#[derive(Drop)]
+#[derive(Clone, Copy)]
 pub enum Shape {
     Nothing,
     Of { rest: usize, numbers: usize },

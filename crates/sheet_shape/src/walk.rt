@@ -13,21 +13,21 @@ use sheet_records::{Kind, take_record};
 use std::num::wrapping_add_usize;
 
 // A frame's value, or a frame: whether the value is a scalar.
-#[derive(Drop)]
+#[derive(Clone, Copy)]
 pub struct FrameRead {
     pub scalar: bool,
     pub next: usize,
 }
 
 // How many numbers were passed.
-#[derive(Drop)]
+#[derive(Clone, Copy)]
 pub struct Tally {
     pub numbers: usize,
     pub next: usize,
 }
 
 // A record: what its node holds, and its numbers.
-#[derive(Drop)]
+#[derive(Clone, Copy)]
 pub struct NodeRead {
     pub v: Kind,
     pub numbers: usize,

@@ -1,4 +1,6 @@
-// The operations for C and Rust to link: each answers with one u64 (`packed`).
+// The operations, each answering with one u64 (`packed`). `strip_c` exports them for C and Rust to link.
+#![tactic(auto)]
+
 ghost use Rattle.std.specs.Prelude.{◌≡◌};
 ghost use Rattle.colors.specs.Css.{coloring};
 ghost use Rattle.reading.specs.Reading.{reading};
@@ -20,32 +22,28 @@ use packed::{
 };
 
 // parser::read.
-#[unsafe(no_mangle)]
-pub extern "C" fn strip_read(text: &[u8], scratch: &mut [u16], sheet: &mut [u8]) -> u64
+pub fn strip_read(text: &[u8], scratch: &mut [u16], sheet: &mut [u8]) -> u64
     ensures { (result, scratch.new, sheet.new) ≡ read_outcome (reading text.now scratch.old sheet.old) }
 {
     pack_read(parser::read(text, scratch, sheet))
 }
 
 // validate::check.
-#[unsafe(no_mangle)]
-pub extern "C" fn strip_check(text: &[u8], sheet: &[u8], list: u32) -> u64
+pub fn strip_check(text: &[u8], sheet: &[u8], list: u32) -> u64
     ensures { result ≡ packed_check (checking list text.now sheet.now) }
 {
     pack_check(validate::check(text, sheet, list))
 }
 
 // line::line.
-#[unsafe(no_mangle)]
-pub extern "C" fn strip_line(text: &[u8], sheet: &[u8], ordinal: u32, out: &mut [u8]) -> u64
+pub fn strip_line(text: &[u8], sheet: &[u8], ordinal: u32, out: &mut [u8]) -> u64
     ensures { (result, out.new) ≡ line_outcome (lining text.now sheet.now ordinal out.old) }
 {
     pack_line(line::line(text, sheet, ordinal as usize, out))
 }
 
 // print::print.
-#[unsafe(no_mangle)]
-pub extern "C" fn strip_print(
+pub fn strip_print(
     text: &[u8],
     scratch: &mut [u16],
     sheet: &mut [u8],
@@ -58,8 +56,7 @@ pub extern "C" fn strip_print(
 }
 
 // feed::feed.
-#[unsafe(no_mangle)]
-pub extern "C" fn strip_feed(
+pub fn strip_feed(
     totals: &mut [u32; 60],
     text: &[u8],
     scratch: &mut [u16],
@@ -72,24 +69,21 @@ pub extern "C" fn strip_feed(
 }
 
 // totals::mean: 1, and the fraction in `out`; 0 for nothing, and `out` as it was.
-#[unsafe(no_mangle)]
-pub extern "C" fn strip_mean(totals: &[u32; 60], which: u32, out: &mut [u32; 2]) -> u64
+pub fn strip_mean(totals: &[u32; 60], which: u32, out: &mut [u32; 2]) -> u64
     ensures { (result, out.new) ≡ mean_outcome (mean totals.now which) out.old }
 {
     pack_mean(totals::mean(totals, which), out)
 }
 
 // back::write.
-#[unsafe(no_mangle)]
-pub extern "C" fn strip_write(text: &[u8], sheet: &[u8], out: &mut [u8], list: u32) -> u64
+pub fn strip_write(text: &[u8], sheet: &[u8], out: &mut [u8], list: u32) -> u64
     ensures { (result, out.new) ≡ line_outcome (writing list text.now sheet.now out.old) }
 {
     pack_line(back::write(text, sheet, out, list))
 }
 
 // colors::color.
-#[unsafe(no_mangle)]
-pub extern "C" fn strip_color(string: &[u8]) -> u64
+pub fn strip_color(string: &[u8]) -> u64
     ensures { result ≡ color_outcome (coloring string.now) }
 {
     let mut bytes = [0u8; 4];
@@ -98,48 +92,42 @@ pub extern "C" fn strip_color(string: &[u8]) -> u64
 }
 
 // convert::convert.
-#[unsafe(no_mangle)]
-pub extern "C" fn strip_convert(text: &[u8], sheet: &mut [u8]) -> u64
+pub fn strip_convert(text: &[u8], sheet: &mut [u8]) -> u64
     ensures { (result, sheet.new) ≡ convert_outcome (converting text.now sheet.old) }
 {
     pack_check(convert::convert(text, sheet))
 }
 
 // lookup::find: the body is a part of the book, from the start that is answered.
-#[unsafe(no_mangle)]
-pub extern "C" fn strip_lookup(store: &[u8], chain: &[u8], name: &[u8]) -> u64
+pub fn strip_lookup(store: &[u8], chain: &[u8], name: &[u8]) -> u64
     ensures { result ≡ packed_lookup (looking_up store.now chain.now name.now) }
 {
     pack_lookup(lookup::find(store, chain, name))
 }
 
 // listing::list.
-#[unsafe(no_mangle)]
-pub extern "C" fn strip_order(book: &[u8], out: &mut [u8]) -> u64
+pub fn strip_order(book: &[u8], out: &mut [u8]) -> u64
     ensures { (result, out.new) ≡ order_outcome (listing book.now out.old) }
 {
     pack_order(listing::list(book, out))
 }
 
 // plane::plane.
-#[unsafe(no_mangle)]
-pub extern "C" fn strip_plane(text: &[u8], sheet: &[u8], out: &mut [u8]) -> u64
+pub fn strip_plane(text: &[u8], sheet: &[u8], out: &mut [u8]) -> u64
     ensures { (result, out.new) ≡ line_outcome (planing text.now sheet.now out.old) }
 {
     pack_line(plane::plane(text, sheet, out))
 }
 
 // plane::unplane.
-#[unsafe(no_mangle)]
-pub extern "C" fn strip_unplane(text: &[u8], planed: &[u8], out: &mut [u8]) -> u64
+pub fn strip_unplane(text: &[u8], planed: &[u8], out: &mut [u8]) -> u64
     ensures { (result, out.new) ≡ line_outcome (unplaning text.now planed.now out.old) }
 {
     pack_line(plane::unplane(text, planed, out))
 }
 
 // wave::wave.
-#[unsafe(no_mangle)]
-pub extern "C" fn strip_wave(kind: u32, phase: u32, heights: &mut [i16]) -> u64
+pub fn strip_wave(kind: u32, phase: u32, heights: &mut [i16]) -> u64
     ensures { (result, heights.new) ≡ wave_outcome (drawing kind phase heights.old) }
 {
     pack_check(wave::wave(kind, phase, heights))

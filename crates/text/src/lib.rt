@@ -1,4 +1,6 @@
 // Bytes of a text, parts of it, and words: what the other crates share. Each function answers for any numbers.
+#![tactic(auto)]
+
 ghost use Rattle.std.specs.Prelude.{◌+◌, [], ◌∷◌, ◌≡◌, drop};
 ghost use Rattle.text.specs.Bytes.{within, one_of, is_upper, is_letter, is_name, is_blank, is_inside, is_hex, is_foreign, same, run, at, part, lower, lowered};
 ghost use Rattle.text.specs.Words.{find, table, is_some};
@@ -16,7 +18,7 @@ pub const PLACES_LIMIT: u16 = 40;
 pub const POWER_LIMIT: u16 = 2;
 
 // A class of bytes.
-#[derive(Drop)]
+#[derive(Clone, Copy)]
 pub enum Class {
     Blank,
     Digit,
@@ -31,7 +33,7 @@ pub enum Class {
 }
 
 // The place of a word in a table, if it is there.
-#[derive(Drop)]
+#[derive(Clone, Copy)]
 pub enum Found {
     At(usize),
     Nothing,

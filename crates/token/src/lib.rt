@@ -2,6 +2,8 @@
 // rules. For our own crates: a text of at most the limit is required, and of what is made of a number that it stands where it was found.
 // A place in a text, a size and a depth have 16 bits, but where a public function takes or gives one. What is given as a usize is narrowed
 // at once, and an index is widened where it stands.
+#![tactic(auto)]
+
 ghost use Rattle.std.specs.Prelude.{◌≡◌, true, false, not, ◌||◌, List, ℕ, ◌+◌, ◌*◌, ◌-◌, ◌^◌, ◌≤◌, ◌<◌, length, take, drop, replicate};
 ghost use Rattle.number.specs.Number.{nearest, percent};
 ghost use Rattle.number.specs.Means.{Capped};
@@ -20,7 +22,7 @@ use text::Class;
 
 // A written number at a place: digits / 10^places, unless it is long; `point` says that a point or an exponent is written. A long one is
 // made of the text where it is wanted, and has here its whole number up to 4,294,967,295, or one above that.
-#[derive(Drop)]
+#[derive(Clone, Copy)]
 pub struct Number {
     pub digits: u64,
     pub places: usize,
@@ -31,7 +33,7 @@ pub struct Number {
 }
 
 // What a token is. Mark 0 is the end.
-#[derive(Drop)]
+#[derive(Clone, Copy)]
 pub enum Tok {
     Name,
     Num,
@@ -255,7 +257,7 @@ fn capped(t: &[u8], w: u16) -> u64
 }
 
 // A number's digits: w from its start on, q more from `from` on, over 10^q; and the exponent, up or down.
-#[derive(Drop)]
+#[derive(Clone, Copy)]
 struct Figures {
     w: u16,
     from: u16,
@@ -335,7 +337,7 @@ fn stretched(t: &[u8], at: u16, point: bool, suffix: bool) -> Number
 }
 
 // Digits read onto a number, and the place behind them.
-#[derive(Drop)]
+#[derive(Clone, Copy)]
 struct Run {
     value: u64,
     end: u16,
@@ -619,28 +621,28 @@ pub fn past_blanks(t: &[u8], at: u16) -> u16
 // ---- the pass over a whole text, with the awaited closers in the first words of the scratch, the innermost last
 
 // What a token makes of the delimiters: they do not fit, or so many are open then.
-#[derive(Drop)]
+#[derive(Clone, Copy)]
 enum Depth {
     Unfit(Refusal),
     Open(u16),
 }
 
 // Whether the text rules allow a text.
-#[derive(Drop)]
+#[derive(Clone, Copy)]
 pub enum SplitAnswer {
     Accepted,
     Refused { refusal: Refusal, place: usize },
 }
 
 // The same, with the place in 16 bits.
-#[derive(Drop)]
+#[derive(Clone, Copy)]
 enum ShortAnswer {
     Accepted,
     Refused(Refusal, u16),
 }
 
 // A step of the pass: it is over, or goes on from a place with so many delimiters open.
-#[derive(Drop)]
+#[derive(Clone, Copy)]
 enum Turn {
     Over(ShortAnswer),
     On(u16, u16),

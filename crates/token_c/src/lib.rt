@@ -1,4 +1,6 @@
 // token's pass and its keyword test for C and Rust to link: what bench/token measures.
+#![tactic(auto)]
+
 ghost use Rattle.std.specs.Prelude.{◌≡◌};
 ghost use Rattle.token.specs.Names.{is_keyword};
 ghost use Rattle.token_c.specs.Means.{limited, Answers};

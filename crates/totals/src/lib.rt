@@ -1,5 +1,7 @@
 // The totals of a morning sheet, 60 words that are lent: word 0 counts the accepted scripts, word r those refused under r, word 44 + k the
 // node records of kind k, word 59 the keyframe entries. And the two means over them.
+#![tactic(auto)]
+
 ghost use Rattle.std.specs.Prelude.{◌+◌, ◌-◌, ◌≤◌, ◌<◌, ◌≡◌, length, get_or, take, drop};
 ghost use Rattle.error.specs.Answer.{mean_values};
 ghost use Rattle.totals.specs.Totals.{sum_of, itself, over, added, in_word};

@@ -15,14 +15,14 @@ use sheet_decode::nodes::{skip_entries, take_entry};
 use sheet_decode::optional::take_opt_loop;
 
 // A track's first fault, and the place behind it.
-#[derive(Drop)]
+#[derive(Clone, Copy)]
 pub struct TrackCheck {
     pub fault: Fault,
     pub next: usize,
 }
 
 // The first fault of some frames, and where and how many of them are left to be passed.
-#[derive(Drop)]
+#[derive(Clone, Copy)]
 pub struct FramesCheck {
     pub fault: Fault,
     pub at: usize,
@@ -30,7 +30,7 @@ pub struct FramesCheck {
 }
 
 // How many frames a track has, and where they begin.
-#[derive(Drop)]
+#[derive(Clone, Copy)]
 pub struct TrackHead {
     pub count: usize,
     pub first: usize,

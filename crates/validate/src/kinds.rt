@@ -17,7 +17,7 @@ use sheet_decode::nodes::{
 use sheet_records::Kind;
 
 // A record's first fault, whether it holds nodes and how many, and the place behind it.
-#[derive(Drop)]
+#[derive(Clone, Copy)]
 pub struct RecordCheck {
     pub fault: Fault,
     pub kind: Kind,

@@ -1,5 +1,7 @@
 // validate.rs: checking a sheet under a list of colours. A bad text and an unknown list are refused first. Then one walk over the nodes in
 // preorder, each record decoded once, tells whether the bytes are a sheet and the first refusal of a rule, which is given of a sheet alone.
+#![tactic(auto)]
+
 ghost use Rattle.std.specs.Prelude.{◌≡◌, length};
 ghost use Rattle.error.specs.Answer.{check_values};
 ghost use Rattle.sheet.specs.Sheet.{decode};

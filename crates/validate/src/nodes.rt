@@ -15,14 +15,14 @@ use sheet_decode::fields::{lost, take_kind};
 use sheet_records::Kind;
 
 // The first fault of some nodes, and the ordinal of its record, which means nothing where there is none.
-#[derive(Drop)]
+#[derive(Clone, Copy)]
 pub struct FirstFault {
     pub fault: Fault,
     pub ordinal: usize,
 }
 
 // The first fault of some nodes, the place behind them, which is lost where they are not there, and the ordinal of what stands there.
-#[derive(Drop)]
+#[derive(Clone, Copy)]
 pub struct Walk {
     pub found: FirstFault,
     pub next: usize,

@@ -1,4 +1,6 @@
 // Reading a script and checking its sheet, one call after the other.
+#![tactic(auto)]
+
 ghost use Rattle.std.specs.Prelude.{◌≡◌, length};
 ghost use Rattle.reading.specs.Reading.{reading, outcome};
 ghost use Rattle.verdict.specs.Verdict.{read_of, both_answers, verdict_values, Answered, Claims};
@@ -6,7 +8,7 @@ ghost use Rattle.verdict.specs.Verdict.{read_of, both_answers, verdict_values, A
 use error::{CheckAnswer, ReadAnswer, Refusal};
 
 // What the two calls answered.
-#[derive(Drop)]
+#[derive(Clone, Copy)]
 pub enum Verdict {
     // Reading refused, and checking was not called.
     Unread {

@@ -1,4 +1,6 @@
 // 02 (l): one period of a waveform, drawn as 256 heights.
+#![tactic(auto)]
+
 mod table;
 
 ghost use Rattle.std.specs.Prelude.{◌≡◌, ◌<◌, ◌≤◌, ◌+◌, ◌%◌, pos, ◌-ℤ◌, length};

@@ -1,5 +1,7 @@
 // Made by tools/words.py. The words of the grammar and the names that checking knows, in lists: the place of a word in a list, told by
 // its bytes as numbers. For our own crates.
+#![tactic(auto)]
+
 ghost use Rattle.std.specs.Prelude.{◌≡◌, ◌+◌, ◌*◌, ◌≤◌, length};
 ghost use Rattle.text.specs.Bytes.{part};
 ghost use Rattle.text.specs.Words.{is_some, find};

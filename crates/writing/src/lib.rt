@@ -1,1 +1,2 @@
 // 02 (f), "Give me the script back": writing, as a definition.
+#![tactic(auto)]

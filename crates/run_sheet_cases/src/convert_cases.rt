@@ -3,22 +3,23 @@
 use run_stored::answers::{say, say_answer, say_bytes};
 use run_stored::lines;
 use run_stored::lines::Fields;
+use std::io;
+use std::io::Write;
 
 // The sheet has room for a byte more than the longest case, so that a longer one is still too long.
-pub fn answer(line: &[u8], f: Fields) {
+pub fn answer(to: &mut impl Write, line: &[u8], f: Fields) -> io::Result<()> {
     let mut sheet = [0u8; 65538];
     let room: &mut [u8] = &mut sheet;
     let n = lines::copy(lines::field(line, f, 1), room, 0);
-    say_converted(lines::field(line, f, 0), room, n);
+    say_converted(to, lines::field(line, f, 0), room, n)
 }
 
-fn say_converted(text: &[u8], sheet: &mut [u8], n: usize) {
+fn say_converted(to: &mut impl Write, text: &[u8], sheet: &mut [u8], n: usize) -> io::Result<()> {
     if sheet.len() < n {
-        say(b"no case\n");
-        return;
+        return say(to, b"no case\n");
     }
     let answer = convert::convert(text, &mut sheet[..n]);
-    say_answer(answer, b"\t");
-    say_bytes(&sheet[..n], false);
-    say(b"\n");
+    say_answer(to, answer, b"\t")?;
+    say_bytes(to, &sheet[..n], false)?;
+    say(to, b"\n")
 }

@@ -5,30 +5,32 @@ use error::ReadAnswer;
 use run_stored::answers::{refuse, say, say_answer, say_bytes, say_number};
 use run_stored::lines;
 use run_stored::lines::Fields;
+use std::io;
+use std::io::Write;
 use verdict::Verdict;
 
-pub fn answer(line: &[u8], f: Fields) {
+pub fn answer(to: &mut impl Write, line: &[u8], f: Fields) -> io::Result<()> {
     let mut scratch = [0u16; parser::SCRATCH_WORDS];
     let mut sheet = [0u8; 49152];
     match verdict::read_and_check(lines::field(line, f, 0), &mut scratch, &mut sheet, 1) {
-        Verdict::Unread { refusal, place } => refuse(refusal, place, b"\n"),
+        Verdict::Unread { refusal, place } => refuse(to, refusal, place, b"\n"),
         Verdict::Checked {
             length,
             records,
             rounded: _,
             answer,
         } => {
-            say(b"accept ");
-            say_number(records as u64);
-            say(b" ");
-            say_bytes(text::part(&sheet, 0, length), true);
-            say(b"\t");
-            say_answer(answer, b"\n");
+            say(to, b"accept ")?;
+            say_number(to, records as u64)?;
+            say(to, b" ")?;
+            say_bytes(to, text::part(&sheet, 0, length), true)?;
+            say(to, b"\t")?;
+            say_answer(to, answer, b"\n")
         }
     }
 }
 
-pub fn answer_rounded(line: &[u8], f: Fields) {
+pub fn answer_rounded(to: &mut impl Write, line: &[u8], f: Fields) -> io::Result<()> {
     let mut scratch = [0u16; parser::SCRATCH_WORDS];
     let mut sheet = [0u8; 49152];
     match parser::read(lines::field(line, f, 0), &mut scratch, &mut sheet) {
@@ -36,11 +38,11 @@ pub fn answer_rounded(line: &[u8], f: Fields) {
             length: _,
             records: _,
             rounded,
-        } => say_number(rounded as u64),
+        } => say_number(to, rounded as u64)?,
         ReadAnswer::Refused {
             refusal: _,
             place: _,
-        } => say(b"refused"),
+        } => say(to, b"refused")?,
     }
-    say(b"\n");
+    say(to, b"\n")
 }

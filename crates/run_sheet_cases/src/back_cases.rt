@@ -7,21 +7,24 @@ use run_stored::answers::{refuse, say, say_number};
 use run_stored::lines;
 use run_stored::lines::Fields;
 use sheet_decode::fields::take_field;
+use std::io;
+use std::io::Write;
 
 // The longest buffer that is lent.
 const ROOM: usize = 16640;
 
 // Lends the end of a buffer in which something stands.
-pub fn answer(line: &[u8], f: Fields) {
+pub fn answer(to: &mut impl Write, line: &[u8], f: Fields) -> io::Result<()> {
     let mut out = [7u8; ROOM];
     let wanted = take_field(lines::field(line, f, 2), 0, 2);
     let room = least(wanted.v as usize);
     write_to(
+        to,
         lines::field(line, f, 0),
         lines::field(line, f, 1),
         &mut out,
         ROOM - room,
-    );
+    )
 }
 
 fn least(wanted: usize) -> usize
@@ -30,34 +33,40 @@ fn least(wanted: usize) -> usize
     if wanted < ROOM { wanted } else { ROOM }
 }
 
-fn write_to(text: &[u8], sheet: &[u8], out: &mut [u8], from: usize)
+fn write_to(
+    to: &mut impl Write,
+    text: &[u8],
+    sheet: &[u8],
+    out: &mut [u8],
+    from: usize,
+) -> io::Result<()>
     requires { from ≤ length out.old }
 {
     let answer = back::write(text, sheet, &mut out[from..], 1);
-    say_written(answer, &out[from..]);
+    say_written(to, answer, &out[from..])
 }
 
-fn say_written(answer: LineAnswer, out: &[u8]) {
+fn say_written(to: &mut impl Write, answer: LineAnswer, out: &[u8]) -> io::Result<()> {
     match answer {
         LineAnswer::Accepted { length } => {
-            say(b"accept ");
-            say_number(length as u64);
-            say(b" ");
-            say(text::part(out, 0, length));
-            say_rest(text::part(out, length, out.len()));
+            say(to, b"accept ")?;
+            say_number(to, length as u64)?;
+            say(to, b" ")?;
+            say(to, text::part(out, 0, length))?;
+            say_rest(to, text::part(out, length, out.len()))
         }
         LineAnswer::Refused { refusal, place } => {
-            refuse(refusal, place, b"");
-            say_rest(out);
+            refuse(to, refusal, place, b"")?;
+            say_rest(to, out)
         }
     }
 }
 
-fn say_rest(rest: &[u8]) {
+fn say_rest(to: &mut impl Write, rest: &[u8]) -> io::Result<()> {
     if is_zero(rest) {
-        say(b"\tzero\n");
+        say(to, b"\tzero\n")
     } else {
-        say(b"\tnot zero\n");
+        say(to, b"\tnot zero\n")
     }
 }
 
