@@ -1,9 +1,8 @@
 -- A number as it is written, without its sign and a suffix: the digits before its point, and those behind it.
 use Rattle.std.specs.Prelude.{ℕ, ◌+◌, ◌≤◌, ◌<◌, Bool, true, false, ◌&&◌, List, [], ◌∷◌, ◌≡◌, length}
-use Rattle.std.proofs.Math.Option.{some}
 use Rattle.text.specs.Limits.{whole_limit, places_limit}
 use Rattle.text.specs.Bytes.{decimal, is_digit}
-use Rattle.number.specs.Number.{Written, whole}
+use Rattle.number.specs.Number.{Written}
 
 -- what a number is to the reader: an f32, a percent, a u32
 pub data Sort : Type 0 where

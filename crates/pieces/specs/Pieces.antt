@@ -78,7 +78,7 @@ word_like (b ∷ bs) = is_letter b && all is_name bs
 abbrev pub name_like : List ℕ → Bool
 name_like w = word_like w && not (is_keyword w)
 
--- the words of the grammar's `curves`, which begin an easing with parentheses: none is an easing's name (`no-curve` in `fresh`)
+-- the words of the grammar's `curves`, which begin an easing with parentheses: none is an easing's name (`no_curve` in `fresh`)
 abbrev pub curve_names : List String
 curve_names = "cubic_bezier" ∷ "steps" ∷ "wiggle" ∷ "rough" ∷ "slowmo" ∷ []
 
