@@ -245,9 +245,9 @@ module _ (y : ℕ) (lo : whole24 ≤ y) (hi : y ≤ infinity) where
   is_y : k * 2 ^ 23 + (w + 1) ≡ y
   is_y = let s = digits_sum (y - 1) in omega arith
 
-  pub float_whole_lem : bits_of (float_whole y) 1 ≡ y
+  pub float_whole_is : bits_of (float_whole y) 1 ≡ y
   unfolding bits_of
-  float_whole_lem =
+  float_whole_is =
       ap bits (round_same binary32 false (float_whole y) 1 ((w + 1) * 2 ^ k) (2 ^ 149) (lit< tt) (pow_pos 149) scaled)
       ∙ unit_bits (w + 1) k (one w (digits_high (y - 1))) (⊎_elim inl (λ (h : 2 ^ 23 ≤ w). inr (le_trans h (more w))) (digits_low (y - 1)))
       K
@@ -274,14 +274,14 @@ module _ (y : ℕ) (lo : whole24 ≤ y) (hi : y ≤ infinity) (n : ℕ) where
   percent-below h =
       ⊎_elim (λ (g : n ≤ float_whole y). percent_mono n (float_whole y) g)
       (λ (g : float_whole y < n). le_of_eq (percent-same n (float_whole y)
-      (le_antisymm (le_trans h (le_of_eq (sym (float_whole_lem y lo hi)))) (whole_mono (float_whole y) n (le_of_lt g)))))
+      (le_antisymm (le_trans h (le_of_eq (sym (float_whole_is y lo hi)))) (whole_mono (float_whole y) n (le_of_lt g)))))
       (either n (float_whole y))
 
   pub percent_above : y ≤ bits_of n 1 → percent_bits (float_whole y) ≤ percent_bits n
   percent_above h =
       ⊎_elim (λ (g : float_whole y ≤ n). percent_mono (float_whole y) n g)
       (λ (g : n < float_whole y). le_of_eq (percent-same (float_whole y) n
-      (le_antisymm (le_trans (le_of_eq (float_whole_lem y lo hi)) h) (whole_mono n (float_whole y) (le_of_lt g)))))
+      (le_antisymm (le_trans (le_of_eq (float_whole_is y lo hi)) h) (whole_mono n (float_whole y) (le_of_lt g)))))
       (either (float_whole y) n)
 
 least_24 : bits_of 16777216 1 ≡ whole24
@@ -302,11 +302,11 @@ module _ {b r n : ℕ} (f : FirstFloat b r) (g : FirstAt r 1 n) (h : percent_bit
 
   pub float_reads : bits_of n 1 ≡ r
   float_reads =
-      le_antisymm (le_trans (whole_mono n (float_whole r) (g.first (float_whole r) (le_of_eq (sym (float_whole_lem r f.low f.high)))))
-      (le_of_eq (float_whole_lem r f.low f.high))) (g.reached n (le_refl n))
+      le_antisymm (le_trans (whole_mono n (float_whole r) (g.first (float_whole r) (le_of_eq (sym (float_whole_is r f.low f.high)))))
+      (le_of_eq (float_whole_is r f.low f.high))) (g.reached n (le_refl n))
 
   pub float_percent : percent_bits n ≡ percent_bits (float_whole r)
-  float_percent = percent-same n (float_whole r) (float_reads ∙ sym (float_whole_lem r f.low f.high))
+  float_percent = percent-same n (float_whole r) (float_reads ∙ sym (float_whole_is r f.low f.high))
 
   pub float_first : FirstPercent b n
   float_first = record {
@@ -402,7 +402,7 @@ module _ {b lo hi mid : ℕ} (s : Seeking b lo hi) (l : lo ≤ mid) (h : mid < h
     before = λ y a k.
         let z : y ≤ mid = omega arith in
         lt_of_le_of_lt (percent-below mid mid_low mid_high (float_whole y)
-        (le_trans (le_of_eq (float_whole_lem y a (le_trans z mid_high))) z)) g;
+        (le_trans (le_of_eq (float_whole_is y a (le_trans z mid_high))) z)) g;
     reached = s.reached;
   }
 
@@ -423,7 +423,7 @@ seek-ends {b} {lo} {hi} s h =
 pub float_is : (y : ℕ) → whole24 ≤ y → y ≤ infinity → f32 y ≡ round binary32 false (float_whole y) 1
 unfolding bits_of
 float_is y lo hi =
-    ap f32 (sym (float_whole_lem y lo hi)) ∙ f32-bits (round binary32 false (float_whole y) 1) (round-fits binary32 false (float_whole y) 1)
+    ap f32 (sym (float_whole_is y lo hi)) ∙ f32-bits (round binary32 false (float_whole y) 1) (round-fits binary32 false (float_whole y) 1)
 
 pub measured : (n : ℕ) {r : ℕ} {x : Float} → r ≡ bits x → x ≡ percent false n → r ≡ percent_bits n
 unfolding percent_bits

@@ -18,7 +18,7 @@ use Rattle.error.specs.declared.CheckAnswer.TheVariants as check
 use Rattle.codec.specs.Codec.{big, opt, each_out}
 use Rattle.ast.specs.Tree as tree
 use Rattle.ast.specs.Tree.{KeyframeTime, KeyframeEntry, single, holding}
-use Rattle.sheet.specs.Sheet.{Node, span_form, value_form, easing_form, loop_form, time_form, entry_form, sheet, decode}
+use Rattle.sheet.specs.Sheet.{Node, span_form, value_form, easing_form, loop_form, time_form, entry_form, decode}
 use Rattle.sheet.specs.Records.{record_of, kind_of, entries_of}
 use Rattle.sheet.proofs.Flat.{concat}
 use Rattle.reading.specs.Reading.{reading}

@@ -12,7 +12,7 @@ use Rattle.ast.specs.Tree.{EasingSpec, WaveformSpec}
 use Rattle.error.specs.declared.Refusal.TheVariants.{Malformed, MissingDuration, UnknownSpringPreset}
 use Rattle.grammar.specs.Fields.{a_number, a_truth, an_easing, a_loop_mode, a_value, a_range, Fields, row_of, parse_field_list}
 use Rattle.grammar.specs.Fields.{last, last_number, last_truth, last_easing, last_loop_mode, last_value, last_damping, last_range}
-use Rattle.grammar.specs.Values.{number, count, flag, easing, loop_mode}
+use Rattle.grammar.specs.Values.{number, count, flag, loop_mode}
 use Rattle.grammar.specs.Values.{value as value_field}
 use Rattle.grammar.specs.Grammar.{stored, parse_spring_preset, spring_preset, integrator, spring_fields, parse_spring, path_fields, parse_path}
 use Rattle.grammar.specs.Grammar.{morph_fields, parse_morph, space, color_fields, parse_color}

@@ -12,7 +12,7 @@ use Rattle.ast.specs.Tree.{EasingSpec, Leaf, AtSpec}
 use Rattle.error.specs.declared.Refusal.TheVariants.{Malformed, MissingDuration}
 use Rattle.grammar.specs.Fields.{a_number, a_truth, an_easing, a_loop_mode, Fields, row_of}
 use Rattle.grammar.specs.Fields.{parse_field_list, last, last_number, last_easing, last_loop_mode, ever}
-use Rattle.grammar.specs.Values.{number, count, flag, easing, loop_mode}
+use Rattle.grammar.specs.Values.{number, count, flag, loop_mode}
 use Rattle.number.specs.Rounded.{number_rounded}
 use Rattle.grammar.specs.Grammar.{turned, stored, tween_fields, parse_tween, draw_fields, parse_draw, parse_label, at_sign, parse_at}
 use Rattle.pieces.specs.Pieces.{Piece, a_name, a_string, Form, ahead, laid}

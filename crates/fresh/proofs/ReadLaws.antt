@@ -13,7 +13,7 @@ use lib.Seq.{drop-drop, drop-append_seam, take-append_seam}
 use Rattle.digits.specs.Numeral.{Sort, counted, written}
 use Rattle.text.specs.Bytes.{part}
 use Rattle.text.specs.Words.{is_one_of}
-use Rattle.token.specs.Token.{Token, place}
+use Rattle.token.specs.Token.{Token}
 use Rattle.token.specs.Split.{closer}
 use Rattle.token.specs.Names.{is_keyword}
 use Rattle.error.specs.declared.Refusal.{Refusal}

@@ -23,7 +23,7 @@ use Rattle.pieces.specs.Means.{AllFit}
 use Rattle.pieces.proofs.SignLaws.{nearest-signed, percent-signed}
 use Rattle.fresh.specs.Meaning.{EasingSense, named, cubic_bezier, steps, wiggle, rough, slow_mo}
 use Rattle.fresh.specs.Meaning.{option_sense, FrameSense, TrackSense, frames_sense, leaf_sense, keyframes}
-use Rattle.fresh.specs.Fresh.{mark, negative, minus_if, signed_by, f32, value, easing}
+use Rattle.fresh.specs.Fresh.{mark, negative, minus_if, signed_by, f32, easing}
 use Rattle.fresh.specs.Fresh.{time, frame_easing, frame, track_loop, more_frames, track, leaf_body}
 use Rattle.fresh.proofs.ReadLaws.{Reads, Loops, IsMore, IsDone, gives, then, first, and, tallies, yes_if}
 use Rattle.fresh.proofs.ReadLaws.{no_if, yes_fit, less, weaken_loops, the-mark, skips_mark}

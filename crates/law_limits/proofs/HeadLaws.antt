@@ -16,7 +16,7 @@ use Rattle.ast.specs.Tree.{StaggerPatternSpec, grid, Container, sequence, parall
 use Rattle.sheet.specs.Sheet.{Forest, word, node_form, pattern_form}
 use Rattle.sheet.proofs.Laws.{word_l, pattern_l, start_l, node_l}
 use Rattle.error.specs.declared.Refusal.TheVariants.{Malformed, UnknownKeyword, StaggerGridIncomplete}
-use Rattle.grammar.specs.Rule.{Rule, give, need, ◌>>=◌, ◌>>◌, eat, sees, go_on}
+use Rattle.grammar.specs.Rule.{Rule, give, need, ◌>>=◌, eat, sees, go_on}
 use Rattle.grammar.specs.Fields.{last_number, pairs}
 use Rattle.grammar.specs.Values.{f32_of}
 use Rattle.grammar.specs.Grammar.{

@@ -1,4 +1,4 @@
--- Each group is left by its own closer: what the grammar takes with nothing left in a group nests, at most 18 deep (`input-nests`). On
+-- Each group is left by its own closer: what the grammar takes with nothing left in a group nests, at most 18 deep (`input_nests`). On
 -- tokens that nest, no other closer ends a group, so that it is left there as at any closer (`leave_same`, `inside-same`).
 use Prim.Native.Nat.{ℕ, zero, suc, ◌+◌, ◌≤◌, ◌<◌}
 use mathlib.Core.Bool.{Bool, true, false, ◌&&◌, ◌||◌, not, cond}

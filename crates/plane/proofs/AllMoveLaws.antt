@@ -124,8 +124,8 @@ module _ {w : ℕ} {src s p : List ℕ} {o : Side w src s p} {n : ℕ} {xs out :
           record {
             at = h;
             place = omega (arith, z);
-            «numbers-all» = c;
-            «rest_all» = omega (arith, z, e, m, h.place, h.done_is);
+            numbers_all = c;
+            rest_all = omega (arith, z, e, m, h.place, h.done_is);
           }
       go (x ∷ ns) z h = absurd (omega (arith, z, l, length-append (record_as w n x) (records_as w n ns), record_long w n x))
 
@@ -216,7 +216,7 @@ pair_as e q = record {
   planes = q.planes;
   count = q.count;
   long = q.long;
-  «goal-long» = q.goal_long ∙ sym e;
+  goal_long = q.goal_long ∙ sym e;
   fits = omega (arith, q.fits, e);
 }
 

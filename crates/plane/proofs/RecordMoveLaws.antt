@@ -95,8 +95,8 @@ module _ {w n : ℕ} {src out : List ℕ} {rest numbers done to i a : ℕ} (d : 
     A = looped d.t ++ d.A;
     B = looped d.t ++ d.B;
     C = d.C;
-    «more-wide» = omega (arith, length-append (looped d.t) d.A, loop_long d.t.loop_mode);
-    «more-narrow» = omega (arith, length-append (looped d.t) d.B, loop_long d.t.loop_mode);
+    more_wide = omega (arith, length-append (looped d.t) d.A, loop_long d.t.loop_mode);
+    more_narrow = omega (arith, length-append (looped d.t) d.B, loop_long d.t.loop_mode);
     frames = record {
       es = d.t.frames;
       long = count_is x;
@@ -173,7 +173,7 @@ module _ {w n : ℕ} {src out : List ℕ} {rest numbers done to i a : ℕ} (d : 
   -- a track, with the same behind it
   pub record IsTrack : Type 0 where
     pub before : BeforeTrack w n src out rest numbers done to i a
-    pub same-pair : {after : List ℕ} {done' to' i' next : ℕ}
+    pub same_pair : {after : List ℕ} {done' to' i' next : ℕ}
         → At before.o before.xs after rest numbers done' to' i' next before.A before.B before.C
         → At d.o d.xs after rest numbers done' to' i' next d.A d.B d.C
 
@@ -199,7 +199,7 @@ module _ {w n : ℕ} {src out : List ℕ} {rest numbers done to i a : ℕ} (d : 
               (own_numbers x ++ d.C))
               q d.at;
         };
-        «same-pair» = λ h. h;
+        same_pair = λ h. h;
       }
 
   -- another record is passed

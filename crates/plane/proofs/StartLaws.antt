@@ -109,10 +109,10 @@ module _ (n : ℕ) (ns : Forest) (ok : Fits n ns) (X Y : List ℕ) where
       p = narrow_of;
       xs = numbers_of ns;
       o = o;
-      pair = record { planes = in_planes; count = refl; long = long; «goal-long» = goal; fits = omega (arith, long, room) };
+      pair = record { planes = in_planes; count = refl; long = long; goal_long = goal; fits = omega (arith, long, room) };
       A = X;
       B = planes_of ++ Y;
-      «end_is» = refl;
+      end_is = refl;
       records = record {
         ns = nodes_of ns;
         fine = each_coming;
@@ -120,8 +120,8 @@ module _ (n : ℕ) (ns : Forest) (ok : Fits n ns) (X Y : List ℕ) where
         at = record {
           b = 0;
           g = head;
-          «done-is» = omega arith;
-          «to_is» = omega arith;
+          done_is = omega arith;
+          to_is = omega arith;
           place = refl;
           inside = omega (arith, long, head_inside);
           few = omega arith;

@@ -1,5 +1,5 @@
--- The delimiters alone: where each token of a text can be cut and the delimiters fit, the text is split (`fits-splits`), and only then
--- (`splits-fit`). The place of the last token, which tells that each can be cut, is the same wherever a reader stands (`last_rest`).
+-- The delimiters alone: where each token of a text can be cut and the delimiters fit, the text is split (`fits_splits`), and only then
+-- (`splits_fit`). The place of the last token, which tells that each can be cut, is the same wherever a reader stands (`last_rest`).
 use Prim.Native.Nat.{ℕ, zero, suc, ◌+◌, ◌-◌}
 use mathlib.Core.List.{List, [], ◌∷◌}
 use mathlib.Core.Bool.{Bool, true, false, cond}

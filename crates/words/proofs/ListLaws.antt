@@ -58,12 +58,12 @@ module _ (ms : List ℕ) (v : ℕ) where
   pub key_at : (m i : ℕ) → v ≡ m → seek ms 0 m ≡ i → i ≡ seek ms 0 v
   key_at m i e h = rw e (sym h)
 
-  none_of_lem : (ks : List ℕ) → every (short_in ks) ms ≡ true → one_of ks v ≡ false → v < limb → 255 ≡ seek ms 0 v
+  none_of : (ks : List ℕ) → every (short_in ks) ms ≡ true → one_of ks v ≡ false → v < limb → 255 ≡ seek ms 0 v
   unfolding short_in
-  none_of_lem ks h e l = sym (absent (short_in ks) ms 0 v h (rw (e, lt-ltb v limb l)))
+  none_of ks h e l = sym (absent (short_in ks) ms 0 v h (rw (e, lt-ltb v limb l)))
 
   pub no_key : every (short_in (shorts ms [])) ms ≡ true → Apart (shorts ms []) v → v < limb → 255 ≡ seek ms 0 v
-  no_key h a l = none_of_lem (shorts ms []) h (apart_none (shorts ms []) v a) l
+  no_key h a l = none_of (shorts ms []) h (apart_none (shorts ms []) v a) l
 
   -- a list with one of them
   pub one_key : (m i : ℕ) → every (short_in (m ∷ [])) ms ≡ true → seek ms 0 m ≡ i → v < limb → cond (eqb v m) i 255 ≡ seek ms 0 v
@@ -72,7 +72,7 @@ module _ (ms : List ℕ) (v : ℕ) where
     where
       go : (a : Bool) → eqb v m ≡ a → cond a i 255 ≡ seek ms 0 v
       go true q = key_at m i (eqb-true v m q) e
-      go false q = none_of_lem (m ∷ []) h (rw q) l
+      go false q = none_of (m ∷ []) h (rw q) l
 
 -- ---- longer words: the first 8 bytes, and what stands behind them
 
@@ -255,21 +255,21 @@ other_list q ks k n h a = rw (apart_none ks k a) at (at-list (besides q ks) list
     if_so true = refl
     if_so false = n
 
-unfoldable pub no_short : List (List ℕ) → Bool
-no_short ns = every (short_in []) (packs ns)
+unfoldable pub none_short : List (List ℕ) → Bool
+none_short ns = every (short_in []) (packs ns)
 
-unfoldable pub none_of : (ℕ → Bool) → List (List ℕ) → Bool
-none_of q ns = every (head_in q []) (packs ns)
+unfoldable pub none_from : (ℕ → Bool) → List (List ℕ) → Bool
+none_from q ns = every (head_in q []) (packs ns)
 
 module _ (ks : List ℕ) (k : ℕ) (a : Apart ks k) where
-  pub no_short_lem : (v : ℕ) → every_list (besides no_short ks) lists ≡ true → v < limb → 255 ≡ seek (keys_of k) 0 v
-  unfolding no_short keys_of packs every one_of
-  no_short_lem v h l = none_of_lem (packs (list_of k)) v [] (other_list no_short ks k refl h a) refl l
+  pub no_short : (v : ℕ) → every_list (besides none_short ks) lists ≡ true → v < limb → 255 ≡ seek (keys_of k) 0 v
+  unfolding none_short keys_of packs every one_of
+  no_short v h l = none_of (packs (list_of k)) v [] (other_list none_short ks k refl h a) refl l
 
-  pub no_word : (q : ℕ → Bool) (v t : ℕ) → v < limb → q t ≡ true → every_list (besides (none_of q) ks) lists ≡ true
+  pub no_word : (q : ℕ → Bool) (v t : ℕ) → v < limb → q t ≡ true → every_list (besides (none_from q) ks) lists ≡ true
       → 255 ≡ seek (keys_of k) 0 (t * limb + v)
-  unfolding none_of keys_of packs every one_of
-  no_word q v t l g h = no_head_of q (packs (list_of k)) v t l g [] (other_list (none_of q) ks k refl h a) refl
+  unfolding none_from keys_of packs every one_of
+  no_word q v t l g h = no_head_of q (packs (list_of k)) v t l g [] (other_list (none_from q) ks k refl h a) refl
 
 -- a list by its number
 pub by_number : (k j x r : ℕ) → k ≡ j → r ≡ seek (keys_of j) 0 x → r ≡ seek (keys_of k) 0 x

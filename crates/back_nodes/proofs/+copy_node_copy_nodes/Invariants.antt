@@ -1,0 +1,20 @@
+use mathlib.Core.Path.{◌≡◌}
+use Rattle.back_spelling.specs.Means.{page_of}
+use Rattle.back_nodes.proofs.NodeLaws.{Going}
+use Prim.Native.Nat.{◌+◌, ◌*◌, ◌-◌, ◌≤◌}
+use lib.ListN.{length}
+use Rattle.back_nodes.proofs.+copy_node_copy_nodes.Given as goal
+
+abbrev pub decreases-copy_node : goal.decreases-copy_node
+decreases-copy_node l = 2 * (length l.s.now - l.at)
+
+abbrev pub decreases-copy_nodes : goal.decreases-copy_nodes
+decreases-copy_nodes l = 2 * (length l.s.now - l.at) + 1
+
+abbrev pub invariant-copy_nodes-loop-k : goal.invariant-copy_nodes-loop-k
+invariant-copy_nodes-loop-k l =
+    (length l.out ≡ length l.initial.out) × (l.k ≤ l.count) × (length l.s - l.next ≤ length l.s - l.at)
+    × Going l.text l.s (page_of l.initial.out l.initial.p) l.at l.count l.next (page_of l.out l.p) l.k
+
+abbrev pub decreases-copy_nodes-loop-k : goal.decreases-copy_nodes-loop-k
+decreases-copy_nodes-loop-k l = l.count - l.k

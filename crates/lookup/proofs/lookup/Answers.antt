@@ -1,0 +1,6 @@
+-- `lookup::lookup` meets its contract.
+use Rattle.text.specs.Bytes.{at}
+use Rattle.lookup.proofs.lookup.Goals as goal
+
+pub returns : goal.returns
+returns c = rw c.find.ensures.value at c.lend.ensures

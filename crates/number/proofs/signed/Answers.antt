@@ -1,0 +1,26 @@
+-- `number::signed` meets its contract: a sign is the highest bit.
+use mathlib.Core.Path.{◌≡◌, ap, ◌∙◌}
+use mathlib.Core.Bool.{true, false}
+use Prim.Native.Nat.{ℕ, ◌+◌}
+use native.Mathlib.Omega.{arith}
+use lib.Ieee.{Float, binary32, round}
+use lib.Ieee.Fits.{round-fits}
+use Rattle.number.specs.Number.{bits, f32}
+use Rattle.number.proofs.Floats.{f32-bits}
+use Rattle.number.proofs.Round.{sign_bit}
+use Rattle.number.proofs.signed.Goals as goal
+
+turned : (m n d : ℕ) (x : Float) → m ≡ bits (round binary32 false n d) → x ≡ f32 (m + 2147483648) → x ≡ round binary32 true n d
+unfolding bits
+turned m n d x e h =
+    let sum : m + 2147483648 ≡ bits (round binary32 true n d) = omega (arith, e, sign_bit n d) in
+    h ∙ ap f32 sum ∙ f32-bits (round binary32 true n d) (round-fits binary32 true n d)
+
+plain : (m n d : ℕ) (x : Float) → m ≡ bits (round binary32 false n d) → x ≡ f32 m → x ≡ round binary32 false n d
+plain m n d x e h = h ∙ ap f32 e ∙ f32-bits (round binary32 false n d) (round-fits binary32 false n d)
+
+pub returns-then-negative-clause-value : goal.returns-then-negative-clause-value
+returns-then-negative-clause-value c = rw c.if-negative.true (λ n d e. turned _ n d _ e c.f32_of_bits-value.ensures)
+
+pub returns-clause-value : goal.returns-clause-value
+returns-clause-value c = rw c.if-negative.false (λ n d e. plain _ n d _ e c.f32_of_bits-value-2.ensures)

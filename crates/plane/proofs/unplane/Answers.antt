@@ -1,0 +1,42 @@
+-- `plane::unplane` meets its contract: the text's refusals, then 40, then what `carry` answers.
+use Rattle.error.specs.Answer.{line_values}
+use Rattle.error.proofs.AnswerLaws.{with_values}
+use Rattle.plane.proofs.StartLaws.{carries_narrow}
+use mathlib.Core.Path.{sym, ◌∙◌}
+use Rattle.plane.proofs.AnswerLaws.{unplane_shut, unplane_none, unplane_some}
+use Rattle.plane.proofs.unplane.Goals as goal
+
+pub returns-in-Shut : goal.returns-in-Shut
+returns-in-Shut c =
+    let args = c.args in
+    let the_parts = with_values line_values (unplane_shut args.text.now args.planed.now args.out.now
+    (sym c.in-Shut.is ∙ c.open_text.ensures)) in record {
+      out_after = the_parts.0;
+      values = the_parts.1;
+    }
+
+pub carry-requires : goal.carry-requires
+carry-requires c =
+    let m = rw c.in-Of.is at c.planed_shape.ensures in
+    carries_narrow _ _ m.0 _ _ m.1 m.2 m.3
+
+pub returns-in-Of : goal.returns-in-Of
+returns-in-Of c =
+    let args = c.args in
+    let m = rw c.in-Of.is at c.planed_shape.ensures in
+    let the_parts = with_values line_values (c.carry.ensures (carries_narrow _ _ m.0 _ _ m.1 m.2 m.3)
+    ∙ unplane_some args.text.now args.planed.now args.out.now m.0
+    (sym c.in_default.is ∙ c.open_text.ensures) m.1) in record {
+      out_after = the_parts.0;
+      values = the_parts.1;
+    }
+
+pub returns-in-Nothing : goal.returns-in-Nothing
+returns-in-Nothing c =
+    let args = c.args in
+    let the_parts = with_values line_values (unplane_none args.text.now args.planed.now args.out.now
+    (sym c.in_default.is ∙ c.open_text.ensures)
+    (rw c.in-Nothing.is at c.planed_shape.ensures)) in record {
+      out_after = the_parts.0;
+      values = the_parts.1;
+    }

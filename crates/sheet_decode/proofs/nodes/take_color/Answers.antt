@@ -1,0 +1,19 @@
+-- `sheet_decode::nodes::take_color` meets its contract: one field after the other.
+use Rattle.sheet.specs.Sheet.{of_color, to_color}
+use Rattle.sheet_decode.proofs.ReadLaws.{◌&◌}
+use Rattle.sheet_decode.proofs.ReadLaws as laws
+use Rattle.sheet_decode.proofs.nodes.take_color.Goals as goal
+
+pub returns : goal.returns
+returns c =
+    laws.through to_color of_color (laws.seen (c.take_span-target.ensures & c.take_span-from.ensures
+    & c.take_span-to.ensures & c.take_float-duration.ensures & c.take_byte-space.ensures.reads
+    & c.take_opt_easing-easing.ensures)
+    (λ p e i. record {
+      target = (e i).0;
+      from = (e i).1.0;
+      to = (e i).1.1.0;
+      duration = (e i).1.1.1.0;
+      space = (e i).1.1.1.1.0;
+      easing = (e i).1.1.1.1.1;
+    }))

@@ -1,0 +1,14 @@
+-- `sheet_decode::optional::take_opt_case` meets its contract: a byte 0, or 1 and the value.
+use mathlib.Core.Path.{refl}
+use Rattle.ast.specs.declared.OptCase.TheVariants.{Present}
+use Rattle.codec.specs.Codec.{below}
+use Rattle.sheet_decode.proofs.ReadLaws as laws
+use Rattle.sheet_decode.proofs.optional.take_opt_case.Goals as goal
+
+pub returns-then-k-eq0 : goal.returns-then-k-eq0
+returns-then-k-eq0 c = laws.absent (below _) c.take_byte-k.ensures c.if-k-eq0.true refl
+
+pub returns : goal.returns
+returns c =
+    laws.present (below _) c.take_byte-k.ensures c.if-k-eq0.false c.take_byte-x.ensures.reads
+    (λ a e i. Present (e i))

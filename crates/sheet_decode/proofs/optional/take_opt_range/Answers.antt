@@ -1,0 +1,16 @@
+-- `sheet_decode::optional::take_opt_range` meets its contract: a byte 0, or 1 and the value.
+use mathlib.Core.Path.{refl}
+use Rattle.ast.specs.declared.OptRange.TheVariants.{Present}
+use Rattle.codec.specs.Codec.{◌▹◌}
+use Rattle.sheet.specs.Sheet.{word}
+use Rattle.sheet_decode.proofs.ReadLaws.{◌&◌}
+use Rattle.sheet_decode.proofs.ReadLaws as laws
+use Rattle.sheet_decode.proofs.optional.take_opt_range.Goals as goal
+
+pub returns-then-k-eq0 : goal.returns-then-k-eq0
+returns-then-k-eq0 c = laws.absent (word ▹ word) c.take_byte-k.ensures c.if-k-eq0.true refl
+
+pub returns : goal.returns
+returns c =
+    laws.present (word ▹ word) c.take_byte-k.ensures c.if-k-eq0.false
+    (c.take_float-x.ensures & c.take_float-y.ensures) (λ a e i. Present (e i).0 (e i).1)

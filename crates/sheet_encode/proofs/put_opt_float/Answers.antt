@@ -1,0 +1,5 @@
+-- `sheet_encode::put_opt_float` meets its contract.
+use Rattle.sheet_encode.proofs.put_opt_float.Goals as goal
+
+pub returns-in-Present : goal.returns-in-Present
+returns-in-Present c = rw c.in-Present.is c.put_case_float.ensures

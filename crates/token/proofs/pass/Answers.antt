@@ -1,0 +1,9 @@
+-- `token::pass` meets its contract; the loop keeps the answer: that from `at` on, with the closers that the words hold, is the one for the
+-- text.
+use mathlib.Core.Path.{refl}
+use native.Mathlib.Omega.{arith}
+use Rattle.token.proofs.SplitLaws.{from_zero}
+use Rattle.token.proofs.pass.Goals as goal
+
+pub loop-a-init : goal.loop-a-init
+loop-a-init c = (refl, omega arith, omega arith, from_zero _ _)

@@ -1,0 +1,27 @@
+-- `token::power_of` meets its contract.
+use mathlib.Core.Path.{◌≡◌, sym}
+use mathlib.Core.List.{List}
+use Prim.Native.Nat.{ℕ}
+use native.Mathlib.Omega.{arith}
+use Rattle.limbs.proofs.NumberLaws.{ten_positive, decimal_nil}
+use Rattle.token.specs.Token.{power_size}
+use Rattle.token.proofs.LexLaws.{PowerIs, power_is, power_small}
+use Rattle.token.proofs.power_of.Goals as goal
+
+sized : (t : List ℕ) (n k : ℕ) → k ≡ power_size t n → PowerIs t n k
+sized t n k e = rw (sym e) at (power_is t n)
+
+pub returns-then-size-eq0 : goal.returns-then-size-eq0
+returns-then-size-eq0 c =
+    let args = c.args in
+    sym (decimal_nil 0 _ args.size c.if-size-eq0.true)
+
+pub value-requires : goal.value-requires
+value-requires c =
+    let p = sized c.args.t.now c.args.n c.args.size c.requires.1 in
+    (rw c.power_from.ensures p.two.run, ten_positive _, omega (arith, p.few))
+
+pub overflow_cast-result : goal.overflow_cast-result
+overflow_cast-result c =
+    let d = power_small c.args.t.now c.args.n c.args.size c.requires.1 in
+    omega (arith, rw c.power_from.ensures at c.value.ensures, d)

@@ -1,0 +1,73 @@
+-- `token::stretched` meets its contract: from the number's figures.
+use Prim.Native.Nat.{ℕ, ◌+◌, ◌*◌, ◌^◌, ◌≤◌, ◌<◌}
+use mathlib.Core.Bool.{true, ◌&&◌}
+use mathlib.Core.Path.{◌≡◌, sym, subst}
+use native.Mathlib.Nat.{le_refl, le_of_eq, lt_of_lt_of_le, mul-lt-mul_of_pos_right}
+use native.Mathlib.Omega.{arith}
+use lib.Dec.{leb}
+use lib.ListN.{drop}
+use lib.Pow.{pow-add}
+use borrow.Author.Tests.{leb-true}
+use Rattle.limbs.proofs.NumberLaws.{ten_fits, ten_positive, whole_small, digits_small}
+use Rattle.token.specs.declared.Figures.{Figures}
+use Rattle.token.proofs.WholeLaws.{both}
+use Rattle.token.proofs.stretched.Goals.{After-value, After-value-whole, Then-d-places}
+use Rattle.token.proofs.stretched.Goals as goal
+
+-- the figures of a number that is multiplied out in 64 bits
+record Fits (d : Figures) : Type 0 where
+  up : d.up ≤ 9
+  all : d.w + d.q + d.up ≤ 19
+  places : d.q + d.down ≤ 9
+
+fits : (d : Figures) → ((leb d.up 9 && leb (d.w + d.q + d.up) 19) && leb (d.q + d.down) 9) ≡ true → Fits d
+fits d h =
+    let a = both (leb d.up 9 && leb (d.w + d.q + d.up) 19) (leb (d.q + d.down) 9) h in
+    let b = both (leb d.up 9) (leb (d.w + d.q + d.up) 19) a.0 in
+    record { up = leb-true d.up 9 b.0; all = leb-true (d.w + d.q + d.up) 19 b.1; places = leb-true (d.q + d.down) 9 a.1 }
+
+small : (w : Then-d-places) →
+    Fits w.figures_of-d.result
+small w = fits w.figures_of-d.result w.if-d-places.true
+
+-- the digits before the point
+whole : (w : After-value-whole) →
+    w.value-whole.result < 10 ^ w.figures_of-d.result.w
+whole w = whole_small w.args.t.now w.figures_of-d.result.w _ w.figures_of-d.result.w w.value-whole.ensures w.figures_of-d.ensures.w (le_refl _)
+
+-- and those behind it
+all : (w : After-value) →
+    let d = w.figures_of-d.result in
+    w.value.result < 10 ^ (d.w + d.q)
+all w =
+    let t = w.args.t.now in
+    subst (λ (z : ℕ). z < 10 ^ (w.figures_of-d.result.w + w.figures_of-d.result.q)) (sym w.value.ensures)
+    (digits_small (drop w.figures_of-d.result.from t) w.figures_of-d.result.q w.figures_of-d.result.w _ (whole (goal.at.After-value w).After-value-whole) w.figures_of-d.ensures.q)
+
+times_below : (v x u r : ℕ) → v < 10 ^ x → r ≡ 10 ^ u → x + u ≤ 19 → v * r < 10 ^ 19
+times_below v x u r h e l =
+    subst (λ (z : ℕ). v * z < 10 ^ 19) (sym e)
+    (ten_fits (v * 10 ^ u) (x + u) 19 (lt_of_lt_of_le (mul-lt-mul_of_pos_right h (ten_positive u)) (le_of_eq (sym (pow-add 10 x u)))) l)
+
+pub value-whole-requires : goal.value-whole-requires
+value-whole-requires c = (c.figures_of-d.ensures.w, ten_positive _, omega (arith, (small c).all))
+
+pub value-requires : goal.value-requires
+value-requires c =
+    let s = small (goal.at.value-requires c).Then-d-places in
+    (c.figures_of-d.ensures.q, ten_fits c.value-whole.result c.figures_of-d.result.w _ (whole c) (omega (arith, s.all)), omega (arith, s.all))
+
+pub overflow_mul-digits : goal.overflow_mul-digits
+overflow_mul-digits c =
+    let d = c.figures_of-d.result in
+    omega (
+      arith,
+      times_below
+          c.value.result
+          (d.w + d.q)
+          d.up
+          c.ten_to.result
+          (all (goal.at.overflow_mul-digits c).After-value)
+          c.ten_to.ensures
+          (small (goal.at.overflow_mul-digits c).Then-d-places).all,
+    )
