@@ -1,6 +1,6 @@
 #!/bin/sh
 # Puts the library under a prefix: lib/libstrip.a, include/strip.h, lib/pkgconfig/strip.pc, and bin/shelfstrip where it can be built; where
-# not, a line says so. The archive is the one that `rt staticlib strip` has written; STRIP_LIB names the folder of another.
+# not, a line says so. The archive is the one that `tools/staticlib.py strip` has written; STRIP_LIB names the folder of another.
 # usage: bindings/install.sh PREFIX
 set -eu
 if [ $# -ne 1 ] || [ -z "$1" ]; then
@@ -11,7 +11,7 @@ here=$(cd "$(dirname "$0")" && pwd)
 root=$(cd "$here/.." && pwd)
 lib=$(cd "${STRIP_LIB:-$root/target/staticlib}" 2> /dev/null && pwd) || lib=
 if [ ! -f "$lib/libstrip.a" ]; then
-    echo "$0: there is no libstrip.a: run \`rt staticlib strip\` in $root, or name its folder by STRIP_LIB" >&2
+    echo "$0: there is no libstrip.a: run \`tools/staticlib.py strip\` in $root, or name its folder by STRIP_LIB" >&2
     exit 1
 fi
 mkdir -p "$1"

@@ -1,14 +1,15 @@
 #!/bin/sh
 # Builds the library, tests both of its bindings, the program shelfstrip and an install, and runs the examples of docs/LANGUAGE.md,
 # docs/REFUSALS.md and README.md. Needs rt, cargo, a C compiler and Python 3; no packages, but shelfstrip is tested only where its libraries
-# are there, and what is installed only where pkg-config is.
+# are there, and what is installed only where pkg-config is. With --after-ci the archive is made of what `rt ci` has just proved.
+# usage: bindings/test.sh [--after-ci]
 set -eu
 # cargo's own folder, where the search path leaves it out
 PATH=$PATH:${CARGO_HOME:-${HOME:-/root}/.cargo}/bin
 root=$(cd "$(dirname "$0")/.." && pwd)
 out=$root/target/bindings
 cd "$root"
-rt staticlib strip
+tools/staticlib.py "$@" strip
 cargo test -j 1 --offline --manifest-path bindings/rust/Cargo.toml --target-dir "$out/rust"
 
 mkdir -p "$out"

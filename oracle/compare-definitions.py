@@ -3,28 +3,25 @@
 
     oracle/compare-definitions.py [LONGEST [FIRST [COUNT]]]
 
-Each answer of oracle/answers/read.txt.gz and check.txt.gz becomes a case of an antt module, of which the checker computes
-those that disagree. Texts and sheets of more than LONGEST bytes (600) are left out. Cases go in modules of 200; a module that
-the checker refuses shows the numbers of the lines that disagree. It works in target/compare/ and changes nothing else.
+Each answer of oracle/answers/read.txt.gz and check.txt.gz becomes a case of an antt module, of which the checker computes whether
+all agree. Texts and sheets of more than LONGEST bytes (600) are left out. Cases go in modules of 200; a module that the checker
+refuses is halved until the cases that disagree are found. It works on a copy of the crates in the folder strip-compare of the
+system's temporary files, with what was proved in them, and changes nothing else.
 """
-import glob, gzip, os, re, subprocess, sys
+import glob, gzip, os, re, shutil, subprocess, sys, tempfile
 
 ROOT = os.path.dirname(os.path.dirname(os.path.abspath(__file__)))
-WORK = os.path.join(ROOT, "target/compare")
+WORK = os.path.join(tempfile.gettempdir(), "strip-compare")
 PART = 200
 
 HEAD = """-- Answers of the Rust, and those that the definitions do not give.
-use Prim.Native.Nat.{ℕ, suc}
+use Rattle.std.specs.Prelude.{ℕ, Bool, true, false, ◌&&◌, cond, List, [], ◌∷◌, T, replicate}
 use Prim.Native.String.{String}
-use mathlib.Core.Bool.{Bool, true, false, cond}
-use mathlib.Core.List.{List, [], _∷_}
-use mathlib.Core.Path.{_≡_, refl}
-use lib.ListN.{replicate}
-use Rattle·text.specs.Bytes.{bytes, same}
-use Rattle·reading.specs.Reading.{reading}
-use Rattle·validate.specs.Checking.{checking}
-use Rattle·error.specs.Answer.{checkValues}
-use Rattle·script.specs.Table.{hexBytes, sheetValues, checkRead}
+use Rattle.text.specs.Bytes.{bytes, same}
+use Rattle.reading.specs.Reading.{reading}
+use Rattle.checking.specs.Checking.{checking}
+use Rattle.error.specs.Answer.{check_values}
+use Rattle.script.specs.Table.{hex_bytes, sheet_values, check_read}
 
 pub data Case : Type 0 where
   gives : String → String → List ℕ → Case
@@ -32,17 +29,17 @@ pub data Case : Type 0 where
   checks : String → String → List ℕ → Case
 
 abbrev read : String → List ℕ
-read t = sheetValues (reading (hexBytes (bytes t)) (replicate 64 0) (replicate 4096 0))
+read t = sheet_values (reading (hex_bytes (bytes t)) (replicate 64 0) (replicate 4096 0))
 
 -- the sheet that reading gives, and checking's values of it; reading's refusal; checking's values of a sheet
 abbrev agrees : Case → Bool
-agrees (gives t s v) = cond (same (read t) (0 ∷ hexBytes (bytes s))) (same (checkRead (hexBytes (bytes t)) (read t)) v) false
+agrees (gives t s v) = cond (same (read t) (0 ∷ hex_bytes (bytes s))) (same (check_read (hex_bytes (bytes t)) (read t)) v) false
 agrees (refuses t r) = same (read t) r
-agrees (checks t s v) = same (checkValues (checking 1 (hexBytes (bytes t)) (hexBytes (bytes s)))) v
+agrees (checks t s v) = same (check_values (checking 1 (hex_bytes (bytes t)) (hex_bytes (bytes s)))) v
 
-abbrev wrong : ℕ → List Case → List ℕ
-wrong i [] = []
-wrong i (c ∷ cs) = elim (agrees c) [ true ↦ wrong (suc i) cs | false ↦ i ∷ wrong (suc i) cs ]
+abbrev every : List Case → Bool
+every [] = true
+every (c ∷ cs) = agrees c && every cs
 
 """
 
@@ -75,41 +72,49 @@ def check_cases(longest):
 
 def shut_names():
     names = []
-    for path in sorted(glob.glob(f"{ROOT}/crates/*/specs/*.antt")):
+    for path in sorted(glob.glob(f"{WORK}/crates/*/specs/*.antt")):
         crate, module = path.split("/")[-3], os.path.basename(path)[:-5]
         for line in open(path):
             if m := re.match(r"unfoldable pub (\S+)", line):
-                names.append(f"Rattle·{crate}.specs.{module}.{m.group(1)}")
-    return " ".join(names + [f"lib.Ieee.{x}" for x in "round div toBits ofBits lt le sub".split()])
+                names.append(f"Rattle.{crate}.specs.{module}.{m.group(1)}")
+    return " ".join(names + [f"lib.Ieee.{x}" for x in "round div to_bits of_bits lt le sub".split()])
 
 
 def run(cases):
-    spec = f"{WORK}/crates/compare/specs/Compare.antt"
+    """The cases that disagree."""
     rows = "".join(f"    {c} ∷\n" for _, _, c in cases)
-    with open(spec, "w") as f:
+    with open(f"{WORK}/crates/compare/specs/Compare.antt", "w") as f:
         f.write(HEAD + f"abbrev cases : List Case\ncases =\n{rows}    []\n\n")
-        f.write(f"pub lemma : wrong 0 cases ≡ []\nunfolding {shut_names()}\nlemma = refl\n")
-    out = subprocess.run(["rt", "dev", "compare"], cwd=WORK, capture_output=True, text=True, env={**os.environ, "RT_CUT": "0"})
-    text = out.stdout + out.stderr
-    if "logic=proved" in text:
+        f.write(f"pub lemma : T (every cases)\nunfolding {shut_names()}\nlemma = tt\n")
+    out = subprocess.run(["rt", "check"], cwd=f"{WORK}/crates/compare", stdout=subprocess.PIPE, stderr=subprocess.STDOUT, text=True).stdout
+    if "\nlogic=proved" in out:
         return []
-    found = re.findall(r"(\d+)", " ".join(re.findall(r"((?:\d+ ∷ )+)", text)))
-    return [cases[int(i)][:2] for i in dict.fromkeys(found) if int(i) < len(cases)] or [("no verdict", "see target/compare")]
+    if "`lemma`: expected type" not in out:
+        sys.exit(f"no verdict, see {WORK}:\n{out[-2000:]}")
+    half = len(cases) // 2
+    return [*run(cases[:half]), *run(cases[half:])] if half else [cases[0][:2]]
 
 
 def main():
     args = [int(a) for a in sys.argv[1:]] + [600, 0, 10**9][len(sys.argv) - 1 :]
     cases = [c for c in list(read_cases(args[0])) + list(check_cases(args[0]))][args[1] : args[1] + args[2]]
-    os.makedirs(f"{WORK}/crates/compare/specs", exist_ok=True)
-    os.makedirs(f"{WORK}/crates/compare/src", exist_ok=True)
-    listed = open(f"{ROOT}/crates.txt").read()
-    for name in os.listdir(f"{ROOT}/crates"):
-        if not os.path.lexists(f"{WORK}/crates/{name}"):
-            os.symlink(f"{ROOT}/crates/{name}", f"{WORK}/crates/{name}")
-    names = [l.split(":")[0] for l in listed.split("\n") if ":" in l and not l.startswith("#")]
-    open(f"{WORK}/crates.txt", "w").write(listed + f"compare: {' '.join(n for n in names if os.path.isdir(f'{ROOT}/crates/{n}/specs'))}\n")
-    open(f"{WORK}/crates/compare/specs/Lib.antt", "w").write("pub mod Compare\n")
-    open(f"{WORK}/crates/compare/src/lib.rt", "w").write("// Answers of the Rust.\n")
+    rows = [row for row in open(f"{ROOT}/crates.txt").read().split("\n") if ":" in row.split("#")[0]]
+    uses = {row.split(":")[0].split()[0]: row.split("#")[0].split(":")[1].split() for row in rows}
+    below = ["script"]
+    for name in below:  # which grows
+        below += [used for used in uses[name] if used in uses and used not in below]
+    for name in [*below, "compare"]:
+        shutil.rmtree(f"{WORK}/crates/{name}", ignore_errors=True)
+    for name in below:
+        shutil.copytree(f"{ROOT}/crates/{name}", f"{WORK}/crates/{name}", symlinks=True)
+    for part in ("specs", "src"):
+        os.makedirs(f"{WORK}/crates/compare/{part}")
+    with open(f"{WORK}/crates.txt", "w") as f:
+        f.write("".join(f"{name}: {' '.join(uses[name])}\n" for name in below) + f"compare: {' '.join(below)}\n")
+    with open(f"{WORK}/crates/compare/specs/Lib.antt", "w") as f:
+        f.write("pub mod Compare\n")
+    with open(f"{WORK}/crates/compare/src/lib.rt", "w") as f:
+        f.write("// Answers of the Rust.\n#![tactic(auto)]\n")
     bad = []
     print(f"{len(cases)} cases, {PART} at a time; the crates below `script` are proved first if they are not, in minutes", flush=True)
     for k in range(0, len(cases), PART):

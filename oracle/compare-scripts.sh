@@ -1,13 +1,13 @@
 #!/bin/sh
-# Compares the answers of `target/bin/run_script_cases script` with the oracle's, and prints the differences. Those with the same two refusals
-# (or accept) are one sort, of which it prints how many there are and the shortest text, made shorter as long as it still
-# differs so.
-# usage: oracle/compare-scripts.sh [-x WORDS] [TEXTS ANSWERS]   after oracle/build.sh and `rt check run_script_cases`
+# Compares the answers of `run_script_cases script` (crates/run_script_cases/out) with the oracle's, and prints the differences. Those with
+# the same two refusals (or accept) are one sort, of which it prints how many there are and the shortest text, made shorter as long as it
+# still differs so.
+# usage: oracle/compare-scripts.sh [-x WORDS] [TEXTS ANSWERS]   after oracle/build.sh and `rt run` in crates/run_script_cases
 # TEXTS and ANSWERS are the stored cases if left out. Texts in which one of WORDS stands are left out.
 set -eu
 here=$(cd "$(dirname "$0")" && pwd)
 oracle=$here/../target/oracle/places/release/oracle
-program=$here/../target/bin/run_script_cases
+program=$here/../crates/run_script_cases/out/run_script_cases
 crate=$here/../crates/run_script_cases
 words=
 if [ "${1:-}" = -x ]; then

@@ -1,7 +1,7 @@
 #!/bin/sh
-# Answers generated scripts with the oracle and with `target/bin/run_script_cases script`: how often each answer and each kind of node came up,
-# then the differences, as compare-scripts.sh prints them. One script in ten is of the kind `rare`, one in ten of the kind `long`.
-# usage: oracle/fuzz-scripts.sh SEED COUNT [-x WORDS]   after oracle/build.sh and `rt check run_script_cases`
+# Answers generated scripts with the oracle and with `run_script_cases script` (crates/run_script_cases/out): how often each answer and each
+# kind of node came up, then the differences, as compare-scripts.sh prints them. One script in ten is of the kind `rare`, one in ten of the kind `long`.
+# usage: oracle/fuzz-scripts.sh SEED COUNT [-x WORDS]   after oracle/build.sh and `rt run` in crates/run_script_cases
 # With `short` for SEED, and any COUNT, the scripts are all short strings of tokens at the chosen spots.
 set -eu
 here=$(cd "$(dirname "$0")" && pwd)

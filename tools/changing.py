@@ -6,19 +6,19 @@ import os, re, sys
 
 PAGE = "docs/CHANGING.md"
 FOLDERS = ["crates", "bindings", "bench", "docs", "oracle", "tools"]
-# Not searched: what is built, stored cases (in hexadecimal), notes on requests, this page and this script.
-SKIPPED = {"target", "data", "requests"}
+# Not searched: what is built (target/, out/), stored cases (in hexadecimal), notes on requests, this page and this script.
+SKIPPED = {"target", "out", "data", "requests"}
 PASSED_OVER = {PAGE, "tools/changing.py"}
 # A field: two fields of one kind that are alike; and what has a part for each field of the kind, with no name: the form's parts in their
 # order, the cells, the rules of the rows.
 WORDS = re.compile(r"\bepsilon\b"), re.compile(r"\bmass\b")
-SPRING_PARTS = re.compile(r"\bofSpring\b|\bspringCells\b|\bspring-rows\b")
+SPRING_PARTS = re.compile(r"\bof_spring\b|\bspring_cells\b|(?:\b|_)spring[-_]rows\b")
 # A kind: its name; and what counts the kinds: 15 of them, 11 of these leaves, so that totals have 60 words, of which the last, 59, counts
 # entries.
 MORPH = ("morph", "Morph", "MORPH")
 KIND_COUNT = re.compile(
-    r"below 15|< 1[15]\b|\b44 15\b|at, 15\)|kindWords = 15|last-kind\b|[wW]ord 59|(?:WORD|entriesWord)(?:: usize)?(?: =)? 59"
-    r"|u32; 60\b|[≡<] 60 ?[⌝→]|length \w+ ≡ 60|\b60 - i|replicate 60|60 words|WORDS(?:: usize =)? 60|\(44, 60\)"
+    r"below 15|< 1[15]\b|\b44 15\b|at, 15\)|kind_words = 15|last[-_]kind\b|[wW]ord 59|(?:WORD|entries_word)(?:: usize)?(?: =)? 59"
+    r"|u32; 60\b|[≡<] 60 ?[}→]|length \w+(?:\.now)? ≡ 60|\b60 - i|replicate 60|60 words|WORDS(?:: usize =)? 60|\(44, 60\)"
 )
 
 

@@ -1,5 +1,5 @@
 #!/usr/bin/env bash
-# check-time.sh REV..: proves each commit given from nothing (`rt prove`), one after the other, in a worktree of its own, and tells
+# check-time.sh REV..: proves each commit given from nothing (`rt all check`), one after the other, in a worktree of its own, and tells
 # wall clock and processor time. Nothing else should run meanwhile. Four checks at a time, as in test.sh, unless RT_JOBS says otherwise.
 set -eu
 cd "$(git rev-parse --show-toplevel)"
@@ -11,7 +11,7 @@ for rev in "$@"; do
     (
         cd "$room/tree"
         TIMEFORMAT="$(git rev-parse --short HEAD): %0R s, %0U s of processor time and %0S s in the system"
-        time rt prove >"$room/log" 2>&1 || { tail -n 5 "$room/log" && exit 1; }
+        time rt all check --jobs "$RT_JOBS" >"$room/log" 2>&1 || { tail -n 5 "$room/log" && exit 1; }
         tail -n 1 "$room/log"
     )
     git worktree remove --force "$room/tree"

@@ -6,7 +6,7 @@ by more than 5 %. Run from the repository's root. With --files it prints the fil
 import glob, os, re, sys
 
 DOCUMENTS = ["docs/SPEC.md", "docs/REVIEW.md"]
-OWN = r"Rattle·(\w+?)(?:·specs)?\.specs\.([A-Z]\w*)"
+OWN = r"Rattle\.(\w+)\.specs\.([A-Z]\w*)"
 # In a file of definitions, and in a file of code, with the names that are imported.
 USE = re.compile(rf"^use {OWN}", re.M)
 GHOST_USE = re.compile(rf"^ghost use {OWN}(?:\.\{{([^}}]*)\}}| as ([^;]+))", re.M)
@@ -35,11 +35,11 @@ def cited_by_documents():
 
 
 def operations():
-    """The operations of docs/REVIEW.md's promises, and the exports: a crate and a function."""
+    """The operations of docs/REVIEW.md's promises, and those that are exported: a crate and a function."""
     promises = text_of("docs/REVIEW.md").split("The promises of step 2:")[1].split("\n# ")[0]
     yield from re.findall(r"^\| `([a-z_]+)::([a-z_]+)` \|", promises, re.M)
     for text in code_of("strip"):
-        yield from (("strip", name) for name in re.findall(r'^pub extern "C" fn (\w+)', text, re.M))
+        yield from (("strip", name) for name in re.findall(r"^pub fn (\w+)", text, re.M))
 
 
 def cited_by_contract(crate, function):
@@ -47,7 +47,7 @@ def cited_by_contract(crate, function):
     for text in code_of(crate):
         contract = re.search(rf"^pub (?:extern \"C\" )?fn {function}\b.*?^\{{", text, re.M | re.S)
         if contract:
-            words = set(re.findall(r"[^\s(){}⌜⌝,.;:]+", contract[0]))
+            words = set(re.findall(r"[^\s(){},.;:]+", contract[0]))
             for owner, file, names, alias in GHOST_USE.findall(text):
                 given = {name.split(" as ")[-1].strip() for name in names.split(",")} | {alias.strip()}
                 if (owner, file) in FILES and words & given:

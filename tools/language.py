@@ -13,7 +13,7 @@ PRINTED = re.compile(r"((?:back|rounded|color|order|lookup \w+)?)>(?: (.*))?")
 # The grammar's table of the fields in each section, and what the page calls the rules in it.
 TABLES = {"tween": "tween", "spring": "spring", "stagger": "opening", "path": "path", "morph": "morph", "draw": "draw", "color": "color"}
 TABLES |= {"waveform": "waveform", "preset": "draw"}
-HOLDS = {"number": "number", "count": "whole", "flag": "truth value", "easing": "easing", "loopMode": "loop mode", "value": "value"}
+HOLDS = {"number": "number", "count": "whole", "flag": "truth value", "easing": "easing", "loop_mode": "loop mode", "value": "value"}
 
 
 def long_track(numbers):
@@ -124,7 +124,7 @@ def field_faults(page):
     """Sections whose table of fields is not the grammar's."""
     grammar = read("crates/grammar/specs/Grammar.antt")
     for section, table in TABLES.items():
-        body = re.search(rf"^{table}Fields(?: s)? =\n?(.*?)\n\n", grammar, re.M | re.S)[1]
+        body = re.search(rf"^{table}_fields(?: s)? =\n?(.*?)\n\n", grammar, re.M | re.S)[1]
         defined = re.findall(r'\("(\w+)", (\w+)', body)
         shown = re.findall(r"^\| `(\w+)` \| (.*?) \|", re.search(rf"^### {section}\n(.*?)^###? ", page, re.M | re.S)[1], re.M)
         shown = [field for field in shown if field[0] not in ("center_out", "edges_in")]

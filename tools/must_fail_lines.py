@@ -3,10 +3,10 @@
 
   must_fail_lines.py                      in a second
   must_fail_lines.py --compile [CRATE..]  and which edits of code (of these crates; of all) no longer compile: the edited crate and those below it
-                                          go through the compiler's front end, with no proof. Half a minute for all, to be run by hand before
-                                          ./test.sh, which tells such an edit as bad only behind every proof
+                                          go through the compiler's front end, with no proof. Some seconds to a minute for each, to be run by hand
+                                          before ./test.sh, which tells such an edit as bad only behind every proof
 """
-import glob, os, platform, shutil, subprocess, sys, tempfile
+import glob, os, re, shutil, subprocess, sys, tempfile
 
 
 def edit_of(path):
@@ -27,40 +27,55 @@ def crate_of(path):
 
 
 def unapplied(path):
-    """What of an edit does not apply."""
-    for file, old, _ in edit_of(path):
-        count = open(f"{crate_of(path)}/{file}").read().count(old)
+    """What of an edit does not apply. Each replacement is made in what the earlier ones left."""
+    texts = {}
+    for file, old, new in edit_of(path):
+        if file not in texts:
+            texts[file] = open(f"{crate_of(path)}/{file}").read()
+        count = texts[file].count(old)
         if count != 1:
             yield f"{count} times: {old.strip()}"
+        texts[file] = texts[file].replace(old, new)
 
 
 def listed(path):
     """The crates of a crates.txt, and what each uses."""
     rows = (line.split("#")[0].partition(":") for line in open(path))
-    return {name.strip(): uses.split() for name, colon, uses in rows if colon}
+    return {name.split()[0]: uses.split() for name, colon, uses in rows if colon}
 
 
-def compiled(path, home, front_end):
-    """What the compiler says of a crate with an edit; nothing where it compiles."""
+def compiled(path, home):
+    """What the compiler says of a crate with an edit; nothing where it compiles. `--only ""` proves no function."""
     crate = os.path.basename(crate_of(path))
     ours = listed("crates.txt")
-    uses = {**listed(f"{home}/libs/libs.txt"), **ours}
     with tempfile.TemporaryDirectory() as work:
-        shutil.copytree(f"crates/{crate}/src", f"{work}/src")
+        for part in ("src", "specs", "proofs"):
+            if os.path.isdir(f"crates/{crate}/{part}"):
+                shutil.copytree(f"crates/{crate}/{part}", f"{work}/{part}")
         for file, old, new in edit_of(path):
             text = open(f"{work}/{file}").read()
             open(f"{work}/{file}", "w").write(text.replace(old, new))
-        os.mkdir(f"{work}/main")
-        with open(f"{work}/main/main.rt", "w") as program:
-            program.write("fn main() {}\n")
-        words, reached = ["--lib", f"std:={home}/libs/std/src/lib.rt"], [crate]
-        for name in reached:  # which grows
-            folder = work if name == crate else f"crates/{name}" if name in ours else f"{home}/libs/{name}"
-            words += ["--lib", f"{name}:{','.join(['std', *uses[name]])}={folder}/src/lib.rt"]
-            reached += [used for used in uses[name] if used not in reached]
-        command = [front_end, f"{work}/main/main.rt", "--crate-name", "edited", *words]
-        ended = subprocess.run(command, stdout=subprocess.DEVNULL, stderr=subprocess.PIPE, text=True)
-        return ended.stderr.replace(work, f"crates/{crate}").strip() if ended.returncode else None
+        root = next(file for file in ("src/main.rt", "src/lib.rt") if os.path.exists(f"{work}/{file}"))
+        below, kit = [], {"core", "std"}
+
+        def reach(name):
+            for used in ours[name]:
+                if used not in ours:
+                    kit.add(used)
+                elif used not in below:
+                    reach(used)
+                    below.append(used)
+
+        reach(crate)
+        words = ["--crate-name", crate, root, "-L", f"dependency={home}/rlibs"]
+        for name in sorted(kit):
+            words += ["--extern", f"{name}={home}/rlibs/{name}.rlib"]
+        for name in below:  # each behind those that it uses
+            uses = dict.fromkeys(["core", "std", *ours[name]])
+            words += ["--lib", f"{name}:{','.join(uses)}={os.path.abspath(f'crates/{name}')}/src/lib.rt"]
+        words += ["--antt-project", f"{home}/rattle/logic/antt-project.json", "--logic-built", f"{home}/logic_built", "--jobs", "1", "--only", ""]
+        ended = subprocess.run([f"{home}/bin/rattle", "check", *words], cwd=work, stdout=subprocess.PIPE, stderr=subprocess.STDOUT, text=True)
+        return None if re.search(r"^only=", ended.stdout, re.M) else ended.stdout.replace(work, f"crates/{crate}").strip()
 
 
 def main():
@@ -74,11 +89,11 @@ def main():
             bad += 1
     print(f"{len(edits)} edits, {bad} do not apply")
     if words and not bad:
-        home = os.path.dirname(os.path.dirname(subprocess.run(["rt", "doc"], capture_output=True, text=True, check=True).stdout.strip()))
+        home = os.path.dirname(subprocess.run(["rt", "doc"], capture_output=True, text=True, check=True).stdout.strip())
         of_code = [e for e in edits if all(file.startswith("src/") for file, _, _ in edit_of(e))]
         chosen = [e for e in of_code if not words[1:] or os.path.basename(crate_of(e)) in words[1:]]
         for edit in chosen:
-            if said := compiled(edit, home, f"{home}/on/{platform.machine()}/bin/rattle-print-mir"):
+            if said := compiled(edit, home):
                 print(f"{edit}: does not compile\n{said}")
                 bad += 1
         print(f"{len(chosen)} edits of code, {bad} do not compile")

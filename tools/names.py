@@ -14,7 +14,7 @@ bad = []
 def dependencies():
     """Each crate of crates.txt and those that it uses."""
     rows = (row.split("#")[0] for row in open("crates.txt"))
-    return {row.split(":")[0].strip(): row.split(":")[1].split() for row in rows if ":" in row}
+    return {row.split(":")[0].split()[0]: row.split(":")[1].split() for row in rows if ":" in row}
 
 
 CRATES = dependencies()
@@ -30,6 +30,11 @@ def in_logic(crate, file, name):
     text = text_of(f"crates/{crate}/specs/{file}.antt") + "\n" + text_of(f"crates/{crate}/proofs/{file}.antt")
     words = r"(?:(?:abbrev|unfoldable|pub|data|record)\s+)*"
     return re.search(rf"^\s*{words}{re.escape(name)}(?=[\s:])", text, re.M) is not None
+
+
+def defined(name):
+    """Whether some file of definitions declares a name."""
+    return re.search(rf"^(?:(?:abbrev|unfoldable|pub|data|record)\s+)*{re.escape(name)}\s+:", text_of("crates/*/specs/**/*.antt"), re.M) is not None
 
 
 def in_code(crate, name):
@@ -79,7 +84,7 @@ def cited_edits(text):
     for row in table.splitlines():
         if row.startswith("| ") and "|" in row[2:]:
             for name in re.findall(r"`([a-z0-9_]+)`", row.split("|", 2)[2]):
-                if name not in edits and name not in CRATES and "_" in name:
+                if name not in edits and name not in CRATES and "_" in name and not defined(name):
                     bad.append(f"REVIEW: no edit {name}")
 
 

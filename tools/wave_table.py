@@ -2,7 +2,7 @@
 """02 (l)'s quarter-wave table: 1,025 whole numbers, entry i the nearest to 32,767 times the sine of i/1,024 of a quarter turn. Run it from
 the repository's root.
 
-  wave_table.py make      write crates/wave/src/table.rt and crates/wave/specs/Table.antt, from a sine of 50 digits
+  wave_table.py make      write crates/wave/src/table.rt and crates/drawing/specs/Table.antt, from a sine of 50 digits
   wave_table.py compare   compare the entries of both files with a double-precision sine; say how near one comes to a tie
 """
 import math
@@ -13,8 +13,8 @@ from decimal import Decimal, getcontext
 PEAK = 32767
 LAST = 1024
 CODE = "crates/wave/src/table.rt"
-DEFINITION = "crates/wave/specs/Table.antt"
-WIDTH = 140
+DEFINITION = "crates/drawing/specs/Table.antt"
+WIDTH, CODE_WIDTH = 140, 99
 
 CODE_HEAD = """\
 // 02 (l): the quarter-wave table: entry i is the nearest to 32,767 times the sine of i/1,024 of a quarter turn. tools/wave_table.py makes
@@ -25,8 +25,7 @@ pub const QUARTER: [u16; 1025] = [
 DEFINITION_HEAD = """\
 -- 02 (l): the quarter-wave table, "1,025 whole numbers from 0 to 32,767". tools/wave_table.py makes this file and src/table.rt, and
 -- compares them with a sine; proofs/TableLaws has its two rules.
-use Prim.Native.Nat.{ℕ}
-use mathlib.Core.List.{List, [], _∷_}
+use Rattle.std.specs.Prelude.{ℕ, List, [], ◌∷◌}
 
 unfoldable pub table : List ℕ
 table =
@@ -63,11 +62,11 @@ def nearest(height):
     return int((height + Decimal("0.5")).to_integral_value(rounding="ROUND_FLOOR"))
 
 
-def listed(entries):
-    """The entries as a list of antt, in full lines."""
+def laid(words, width):
+    """Words in full lines."""
     lines = [""]
-    for word in [f"{entry} ∷" for entry in entries] + ["[]"]:
-        if len(lines[-1]) + 1 + len(word) > WIDTH - 4:
+    for word in words:
+        if len(lines[-1]) + 1 + len(word) > width - 4:
             lines.append("")
         lines[-1] += f" {word}" if lines[-1] else word
     return "".join(f"    {line}\n" for line in lines)
@@ -76,13 +75,13 @@ def listed(entries):
 def make():
     entries = [nearest(height) for height in heights()]
     with open(CODE, "w", newline="\n") as file:
-        file.write(CODE_HEAD + "".join(f"    {entry},\n" for entry in entries) + "];\n")
+        file.write(CODE_HEAD + laid([f"{entry}," for entry in entries], CODE_WIDTH) + "];\n")
     with open(DEFINITION, "w", newline="\n") as file:
-        file.write(DEFINITION_HEAD + listed(entries))
+        file.write(DEFINITION_HEAD + laid([*(f"{entry} ∷" for entry in entries), "[]"], WIDTH))
 
 
 def entries_of_code():
-    return [int(row) for row in re.findall(r"^    (\d+),$", open(CODE).read(), re.M)]
+    return [int(row) for row in re.findall(r"(\d+),", open(CODE).read().split("= [\n")[1])]
 
 
 def entries_of_definition():

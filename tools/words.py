@@ -110,7 +110,7 @@ def arms(rows):
 def short_function(l):
     rows = [f"{pack(w):#x} => {i}, // {w}" for i, w in l.short]
     return f"""fn short_{l.name.lower()}(v: u64) -> u8
-    ensures {{ λ r. ⌜ r ≡ seek (keysOf {l.number}) 0 v ⌝ }}
+    ensures {{ result ≡ seek (keys_of {l.number}) 0 v }}
 {{
     match v {{
 {arms(rows)}
@@ -124,8 +124,8 @@ def long_group(l, g):
     rows = [f"{parts(w)[1]:#x} => {i}, // {w}" for i, w in g.rows]
     return f"""// Behind `{g.first}`.
 fn {g.function}(rest: u64) -> u8
-    requires {{ ⌜ 1 ≤ rest ⌝ }}
-    ensures {{ λ r. ⌜ r ≡ seek (keysOf {l.number}) 0 (rest * {LIMB} + {g.number}) ⌝ }}
+    requires {{ 1 ≤ rest }}
+    ensures {{ result ≡ seek (keys_of {l.number}) 0 (rest * {LIMB} + {g.number}) }}
 {{
     match rest {{
 {arms(rows)}
@@ -144,8 +144,8 @@ def long_arm(g):
 
 def long_function(l):
     return f"""fn {l.stem("long")}(v: u64, rest: u64) -> u8
-    requires {{ ⌜ 1 ≤ rest ⌝ }}
-    ensures {{ λ r. ⌜ r ≡ seek (keysOf {l.number}) 0 (rest * {LIMB} + v) ⌝ }}
+    requires {{ 1 ≤ rest }}
+    ensures {{ result ≡ seek (keys_of {l.number}) 0 (rest * {LIMB} + v) }}
 {{
     match v {{
 {arms(map(long_arm, l.longs))}
@@ -159,8 +159,8 @@ def longest_group(l, g):
     rows = [f"{parts(w)[1]:#x} => if_equal(last, {parts(w)[2]:#x}, {i}), // {w}" for i, w in g.rows]
     return f"""// Behind `{g.first}`.
 fn {g.function}(rest: u64, last: u64) -> u8
-    requires {{ ⌜ 1 ≤ last ⌝ }}
-    ensures {{ λ r. ⌜ r ≡ seek (keysOf {l.number}) 0 ((last * {LIMB} + rest) * {LIMB} + {g.number}) ⌝ }}
+    requires {{ 1 ≤ last }}
+    ensures {{ result ≡ seek (keys_of {l.number}) 0 ((last * {LIMB} + rest) * {LIMB} + {g.number}) }}
 {{
     match rest {{
 {arms(rows)}
@@ -179,8 +179,8 @@ def longest_arm(g):
 
 def longest_function(l):
     return f"""fn {l.stem("longest")}(v: u64, rest: u64, last: u64) -> u8
-    requires {{ ⌜ 1 ≤ last ⌝ }}
-    ensures {{ λ r. ⌜ r ≡ seek (keysOf {l.number}) 0 ((last * {LIMB} + rest) * {LIMB} + v) ⌝ }}
+    requires {{ 1 ≤ last }}
+    ensures {{ result ≡ seek (keys_of {l.number}) 0 ((last * {LIMB} + rest) * {LIMB} + v) }}
 {{
     match v {{
 {arms(map(longest_arm, l.longests))}
@@ -218,17 +218,15 @@ def code():
     functions = "\n".join(functions)
     return f"""// Made by tools/words.py. The words of the grammar and the names that checking knows, in lists: the place of a word in a list, told by
 // its bytes as numbers. For our own crates.
-ghost use mathlib.Core.Path.{{_≡_}};
-ghost use Prim.Native.Nat.{{_+_, _*_, _≤_}};
-ghost use lib.ListN.{{length}};
-ghost use Rattle·text.specs.Bytes.{{part}};
-ghost use Rattle·text.specs.Words.{{isSome, find}};
-ghost use Rattle·words·specs.specs.ListMeans.{{listOf}};
-ghost use Rattle·words·specs.specs.KeyMeans.{{keysOf, seek, placeIs}};
-use packing::eight;
-use packing::if_equal;
-use packing::if_long;
-use packing::packed;
+#![tactic(auto)]
+
+ghost use Rattle.std.specs.Prelude.{{◌≡◌, ◌+◌, ◌*◌, ◌≤◌, length}};
+ghost use Rattle.text.specs.Bytes.{{part}};
+ghost use Rattle.text.specs.Words.{{is_some, find}};
+ghost use Rattle.words.specs.ListMeans.{{list_of}};
+ghost use Rattle.words.specs.KeyMeans.{{keys_of, seek, place_is}};
+
+use packing::{{eight, if_equal, if_long, packed}};
 
 mod packing;
 
@@ -246,7 +244,7 @@ pub const NONE: u8 = 255;
 
 // A word of at most 7 bytes.
 fn short(list: u8, v: u64) -> u8
-    ensures {{ λ r. ⌜ r ≡ seek (keysOf list) 0 v ⌝ }}
+    ensures {{ result ≡ seek (keys_of list) 0 v }}
 {{
     match list {{
 {arms(short_row(l) for l in ALL if l.short)}
@@ -256,8 +254,8 @@ fn short(list: u8, v: u64) -> u8
 
 // A word of 8 to 15 bytes: its first 8, and the others under a 1.
 fn long(list: u8, v: u64, rest: u64) -> u8
-    requires {{ ⌜ 1 ≤ rest ⌝ }}
-    ensures {{ λ r. ⌜ r ≡ seek (keysOf list) 0 (rest * {LIMB} + v) ⌝ }}
+    requires {{ 1 ≤ rest }}
+    ensures {{ result ≡ seek (keys_of list) 0 (rest * {LIMB} + v) }}
 {{
     match list {{
 {arms(long_row(l) for l in ALL if l.long)}
@@ -267,8 +265,8 @@ fn long(list: u8, v: u64, rest: u64) -> u8
 
 // A word of 16 to 23 bytes: twice 8, and the others under a 1.
 fn longest(list: u8, v: u64, rest: u64, last: u64) -> u8
-    requires {{ ⌜ 1 ≤ last ⌝ }}
-    ensures {{ λ r. ⌜ r ≡ seek (keysOf list) 0 ((last * {LIMB} + rest) * {LIMB} + v) ⌝ }}
+    requires {{ 1 ≤ last }}
+    ensures {{ result ≡ seek (keys_of list) 0 ((last * {LIMB} + rest) * {LIMB} + v) }}
 {{
     match list {{
 {arms(map(longest_row, LONGEST))}
@@ -278,8 +276,8 @@ fn longest(list: u8, v: u64, rest: u64, last: u64) -> u8
 
 // The place in a list of the word of n bytes at a place of a text.
 pub fn find(list: u8, text: &[u8], at: usize, n: usize) -> u8
-    requires {{ ⌜ at + n ≤ length (now text) ⌝ }}
-    ensures {{ λ r. ⌜ placeIs r ≡ find (listOf list) 0 (part (now (text .entry)) at n) ⌝ }}
+    requires {{ at + n ≤ length text.now }}
+    ensures {{ place_is result ≡ find (list_of list) 0 (part text.now at n) }}
 {{
     if n < 8 {{
         return short(list, packed(text, at, n));
@@ -300,7 +298,7 @@ pub fn find(list: u8, text: &[u8], at: usize, n: usize) -> u8
 
 // Whether the bytes of a text from a place, at most n, are a word of a list.
 pub fn holds(list: u8, text: &[u8], at: usize, n: usize) -> bool
-    ensures {{ λ r. ⌜ r ≡ isSome (find (listOf list) 0 (part (now (text .entry)) at n)) ⌝ }}
+    ensures {{ result ≡ is_some (find (list_of list) 0 (part text.now at n)) }}
 {{
     let size = text::part(text, at, n).len();
     if size == 0 {{
@@ -325,10 +323,8 @@ def joined(names):
 def definition():
     rows = "\n    ∷ ".join("words (" + joined([f'"{w}"' for w in l.words]) + ")" for l in ALL)
     return f"""-- Made by tools/words.py. The lists of the grammar's words and of the names that checking knows, by their numbers.
-use Prim.Native.Nat.{{ℕ}}
-use mathlib.Core.List.{{List, [], _∷_}}
-use lib.ListN.{{getD}}
-use Rattle·text.specs.Words.{{words}}
+use Rattle.std.specs.Prelude.{{ℕ, List, [], ◌∷◌, get_or}}
+use Rattle.text.specs.Words.{{words}}
 
 abbrev pub lists : List (List (List ℕ))
 lists =
@@ -336,47 +332,33 @@ lists =
     ∷ []
 
 -- a number that is no list's has no words
-unfoldable pub listOf : ℕ → List (List ℕ)
-listOf k = getD lists k []
+unfoldable pub list_of : ℕ → List (List ℕ)
+list_of k = get_or lists k []
 """
 
 
 # ---- the proofs
 
 
-def number_of(k):
-    return "returns" if k == 1 else f"returns-{k}"
-
-
-def proof(function, about, uses, answers, calls):
-    """The proof of a function: what each of its returns means, after as many calls as `search` answers for."""
-    spec = function.replace("_", "-") + "-spec"
+def proof(function, about, uses, answers):
+    """What is answered of the proof of a function: what its returns mean, in the arms of its match, by the number of each. The returns
+    that are a call in the same words need no answer."""
     lines = [f"-- Made by tools/words.py. `words::{function}` meets its contract{about}."]
     lines += uses
-    lines += [
-        f"use Rattle·words·proofs.proofs.{function}.Statement.{{statement}}",
-        f"use Rattle·words·proofs.proofs.{function}.Tie as tie",
-        "",
-    ]
-    for k, (unfolding, term) in enumerate(answers, 1):
-        lines += [f"{number_of(k)} : tie.Need-{number_of(k)}", *([f"unfolding {unfolding}"] if unfolding else []), *laid(f"{number_of(k)} c =", term), ""]
-    lines += [f"pub {spec} : {{M : Type 1}} → statement M"]
-    parts = ["(λ c κs. search needs)"] * calls + [number_of(k) for k in range(1, len(answers) + 1)]
-    parts[-1] += ")"
-    return "\n".join(lines + laid(f"{spec} =", ["tie.close", "(tie.spec", *parts])) + "\n"
+    lines += [f"use Rattle.words.proofs.{function}.Goals as goal"]
+    for arm, unfolding, term in answers:
+        name = f"returns-{arm}"
+        lines += ["", f"pub {name} : goal.{name}", f"unfolding {unfolding}", *laid(f"{name} c =", term)]
+    return "\n".join(lines) + "\n"
 
 
 def laid(head, term):
     """A clause in lines of at most 140 characters: on one line, or its `let`s and then its words."""
-    if isinstance(term, str):
-        *lets, term = term.split(" in ")
-        parts = re.findall(r"\([^()]*\)\)*|[^ ]+", term)
-    else:
-        lets, parts = [], term
-    if not lets and len(f"{head} {' '.join(parts)}") <= 140:
-        return [f"{head} {' '.join(parts)}"]
+    *lets, term = term.split(" in ")
+    if not lets and len(f"{head} {term}") <= 140:
+        return [f"{head} {term}"]
     lines, row = [head, *(f"    {bound} in" for bound in lets)], "   "
-    for part in parts:
+    for part in re.findall(r"\([^()]*\)\)*|[^ ]+", term):
         if len(row) + 1 + len(part) > 140:
             lines.append(row)
             row = "   "
@@ -384,35 +366,49 @@ def laid(head, term):
     return lines + [row]
 
 
-KEYS = "use Rattle·words·specs.specs.ListMeans.{listOf}\nuse Rattle·words·specs.specs.KeyMeans.{%s}"
-LAWS = "use Rattle·words·proofs.proofs.KeyLaws.{%s}\nuse Rattle·words·proofs.proofs.ListLaws.{%s}"
-TABLE = "listOf keysOf packs onto seek"
+def of_words(key, keys, every, laws):
+    """The lines of import from this crate."""
+    return [
+        f"use Rattle.words.specs.ListMeans.{{{key}}}",
+        f"use Rattle.words.specs.KeyMeans.{{{keys}}}",
+        f"use Rattle.words.proofs.KeyLaws.{{{every}}}",
+        f"use Rattle.words.proofs.ListLaws.{{{laws}}}",
+    ]
+
+
+TABLE = "list_of keys_of packs onto seek"
+REFL = "use mathlib.Core.Path.{refl}"
+ARITH = "use native.Mathlib.Omega.{arith}"
+LIST = "use mathlib.Core.List.{[], ◌∷◌}"
+
+
+def bytes_of(names):
+    return f"use Rattle.text.specs.Bytes.{{{names}}}"
+
+
+def arm(number):
+    """A place in an arm of the match, by its number."""
+    return f"in-{number}"
+
+
+# the last arm, and that the value is none of the others'
+REST = "c.in_default.in_default-own.rest"
+LAST = "in_default"
 
 
 def short_proof(l):
-    answers = [(TABLE, f'key-at (keysOf {l.number}) (c .before .args .v) (pack (bytes "{w}")) {i} (c .match .keys{k}) refl') for k, (i, w) in enumerate(l.short, 1)]
-    answers.append((f"{TABLE} every oneOf shortIn shorts", f"no-key (keysOf {l.number}) (c .before .args .v) refl (c .match .rest) (omega arith)"))
-    uses = [
-        "use mathlib.Core.Path.{refl}",
-        "use native.Mathlib.Omega.{arith}",
-        "use Rattle·text.specs.Bytes.{bytes, oneOf}",
-        KEYS % "onto, pack, packs, keysOf, seek",
-        LAWS % ("every", "shortIn, shorts, key-at, no-key"),
-    ]
-    return proof(f"short_{l.name.lower()}", "", uses, answers, 0)
+    answers = [(arm(pack(w)), TABLE, f'key_at (keys_of {l.number}) c.args.v {word(w)} {i} c.{arm(pack(w))}.is refl') for i, w in l.short]
+    answers.append((LAST, f"{TABLE} every one_of short_in shorts", f"no_key (keys_of {l.number}) c.args.v refl {REST} (omega arith)"))
+    uses = [REFL, ARITH, bytes_of("bytes, one_of"), *of_words("list_of", "onto, pack, packs, keys_of, seek", "every", "short_in, shorts, key_at, no_key")]
+    return proof(f"short_{l.name.lower()}", "", uses, answers)
 
 
-def spoken(name):
-    """A function's name as its place is named."""
-    return name.replace("_", "-")
-
-
-def counted(names):
-    """Each name with its number among the same ones, as the places of calls are named."""
-    seen = []
-    for name in names:
-        seen.append(name)
-        yield call(spoken(name), seen.count(name))
+def called(rows):
+    """The numbers of arms that call a function, each with the place of its call: the first has the function's name alone."""
+    seen = set()
+    for number, name in rows:
+        yield number, name if name not in seen else f"{name}-{arm(number)}"
+        seen.add(name)
 
 
 def word(w):
@@ -424,106 +420,76 @@ def tail(w):
 
 
 # what stands behind the first 8 bytes, in a function over `v` and `rest` and in one over `v`, `rest` and `last`
-MIDDLE = "(args .v) (args .rest) (omega arith) (is-middle (args .rest) (start .pre) (omega arith))"
-FAR = "(args .v) (args .last * limb + args .rest) (omega arith) (is-far (args .last) (args .rest) (start .pre))"
-PRE = "let start = {} in let args = start .args in "
+MIDDLE = "args.v args.rest (omega arith) (is_middle args.rest c.requires (omega arith))"
+FAR = "args.v (args.last * limb + args.rest) (omega arith) (is_far args.last args.rest c.requires)"
+ARGS = "let args = c.args in "
 
 
 def long_group_proof(l, g):
-    answers = [
-        (TABLE, f"tail-at (keysOf {l.number}) {g.number} (c .before .args .rest) {word(w)} {i} (c .match .keys{k}) refl refl")
-        for k, (i, w) in enumerate(g.rows, 1)
-    ]
+    answers = []
+    for i, w in g.rows:
+        at = arm(parts(w)[1])
+        answers.append((at, TABLE, f"tail_at (keys_of {l.number}) {g.number} c.args.rest {word(w)} {i} c.{at}.is refl refl"))
     answers.append((
-        f"{TABLE} every oneOf middle tailIn tails",
-        PRE.format("c .before") + f"no-tail middle (keysOf {l.number}) {g.number} (args .rest) (omega arith)"
-        " (is-middle (args .rest) (start .pre) (omega arith)) refl (c .match .rest)",
+        LAST,
+        f"{TABLE} every one_of middle tail_in tails",
+        f"{ARGS}no_tail middle (keys_of {l.number}) {g.number} args.rest (omega arith) (is_middle args.rest c.requires (omega arith)) refl {REST}",
     ))
-    uses = [
-        "use mathlib.Core.Path.{refl}",
-        "use native.Mathlib.Omega.{arith}",
-        "use Rattle·text.specs.Bytes.{bytes, oneOf}",
-        KEYS % "onto, pack, packs, keysOf, seek",
-        LAWS % ("every", "middle, is-middle, tailIn, tails, tail-at, no-tail"),
-    ]
-    return proof(g.function, "", uses, answers, 0)
+    laws = of_words("list_of", "onto, pack, packs, keys_of, seek", "every", "middle, is_middle, tail_in, tails, tail_at, no_tail")
+    return proof(g.function, "", [REFL, ARITH, bytes_of("bytes, one_of"), *laws], answers)
 
 
 def long_proof(l):
-    places = counted("if_equal" if g.alone else g.function for g in l.longs)
     answers = []
-    for k, (g, place) in enumerate(zip(l.longs, places), 1):
+    for g, (number, place) in zip(l.longs, called((g.number, "if_equal" if g.alone else g.function) for g in l.longs)):
         if g.alone:
             ((i, w),) = g.rows
-            term = f"word-at middle (keysOf {l.number}) {MIDDLE} {word(w)} {i} _ (c .before .match .keys{k}) (c .{place} .ensures) refl refl"
-            answers.append((f"{TABLE} every oneOf middle tailIn", PRE.format("c .before .before") + term))
-        else:
-            answers.append(("", f"same-head (keysOf {l.number}) _ {g.number} _ _ (c .before .match .keys{k}) (c .{place} .ensures)"))
-    answers.append((
-        f"{TABLE} every oneOf middle headIn heads",
-        PRE.format("c .before") + f"no-head middle (keysOf {l.number}) {MIDDLE} refl (c .match .rest)",
-    ))
-    lone, shared = any(g.alone for g in l.longs), any(not g.alone for g in l.longs)
-    uses = [
-        "use mathlib.Core.Path.{refl}",
-        "use native.Mathlib.Omega.{arith}",
-        "use borrow.Author.Needs.{needs}",
-        f"use Rattle·text.specs.Bytes.{{{'bytes, ' * lone}oneOf}}",
-        KEYS % f"onto, {'pack, ' * lone}packs, keysOf, seek",
-        LAWS % ("every", f"middle, is-middle, {'tailIn, word-at, ' * lone}{'same-head, ' * shared}headIn, heads, no-head"),
-    ]
-    return proof(l.stem("long"), "", uses, answers, len(l.longs))
+            term = f"word-at middle (keys_of {l.number}) {MIDDLE} {word(w)} {i} _ c.{arm(number)}.is c.{place}.ensures refl refl"
+            answers.append((arm(number), f"{TABLE} every one_of middle tail_in", ARGS + term))
+    answers.append((LAST, f"{TABLE} every one_of middle head_in heads", f"{ARGS}no_head middle (keys_of {l.number}) {MIDDLE} refl {REST}"))
+    lone = any(g.alone for g in l.longs)
+    laws = of_words(
+        "list_of", f"onto, {'pack, ' * lone}packs, keys_of, seek", "every", f"middle, is_middle, {'tail_in, word-at, ' * lone}head_in, heads, no_head"
+    )
+    return proof(l.stem("long"), "", [REFL, ARITH, bytes_of(f"{'bytes, ' * lone}one_of"), *laws], answers)
 
 
 def longest_group_proof(l, g):
     answers = []
-    for k, ((i, w), place) in enumerate(zip(g.rows, counted("if_equal" for _ in g.rows)), 1):
+    for (i, w), (number, place) in zip(g.rows, called((parts(w)[1], "if_equal") for _, w in g.rows)):
         answers.append((
+            arm(number),
             f"{TABLE} every alone",
-            PRE.format("c .before .before") + f"next-at (keysOf {l.number}) {g.number} (args .rest) (args .last) {word(w)} {i} _ (omega arith) (omega arith)"
-            f" refl (c .before .match .keys{k}) (c .{place} .ensures) refl refl",
+            f"{ARGS}next-at (keys_of {l.number}) {g.number} args.rest args.last {word(w)} {i} _ (omega arith) (omega arith)"
+            f" refl c.{arm(number)}.is c.{place}.ensures refl refl",
         ))
     answers.append((
-        f"{TABLE} every oneOf far nextIn nexts",
-        PRE.format("c .before") + f"no-next (keysOf {l.number}) {g.number} (args .rest) (args .last) (omega arith) (omega arith) (start .pre) refl (c .match .rest)",
+        LAST,
+        f"{TABLE} every one_of far next_in nexts",
+        f"{ARGS}no_next (keys_of {l.number}) {g.number} args.rest args.last (omega arith) (omega arith) c.requires refl {REST}",
     ))
-    uses = [
-        "use mathlib.Core.Path.{refl}",
-        "use native.Mathlib.Omega.{arith}",
-        "use borrow.Author.Needs.{needs}",
-        "use Rattle·text.specs.Bytes.{bytes, oneOf}",
-        KEYS % "onto, pack, packs, keysOf, seek",
-        LAWS % ("every", "far, alone, next-at, nextIn, nexts, no-next"),
-    ]
-    return proof(g.function, "", uses, answers, len(g.rows))
+    laws = of_words("list_of", "onto, pack, packs, keys_of, seek", "every", "far, alone, next-at, next_in, nexts, no_next")
+    return proof(g.function, "", [REFL, ARITH, bytes_of("bytes, one_of"), *laws], answers)
 
 
 def longest_proof(l):
-    places = counted("if_long" if g.alone else g.function for g in l.longests)
     answers = []
-    for k, (g, place) in enumerate(zip(l.longests, places), 1):
+    for g, (number, place) in zip(l.longests, called((g.number, "if_long" if g.alone else g.function) for g in l.longests)):
         if g.alone:
             ((i, w),) = g.rows
-            given = f"(pair-is (args .rest) (args .last) {tail(w)} {i} _ (omega arith) (c .{place} .ensures))"
-            term = f"word-at far (keysOf {l.number}) {FAR} {word(w)} {i} _ (c .before .match .keys{k}) {given} refl refl"
-            answers.append((f"{TABLE} every oneOf far tailIn", PRE.format("c .before .before") + term))
-        else:
-            answers.append(("", f"same-head (keysOf {l.number}) _ {g.number} _ _ (c .before .match .keys{k}) (c .{place} .ensures)"))
-    answers.append((
-        f"{TABLE} every oneOf far headIn heads",
-        PRE.format("c .before") + f"no-head far (keysOf {l.number}) {FAR} refl (c .match .rest)",
-    ))
-    lone, shared = any(g.alone for g in l.longests), any(not g.alone for g in l.longests)
-    uses = [
-        f"use Prim.Native.Nat.{{_+_, _*_{', _/_' * lone}}}",
-        "use mathlib.Core.Path.{refl}",
-        "use native.Mathlib.Omega.{arith}",
-        "use borrow.Author.Needs.{needs}",
-        f"use Rattle·text.specs.Bytes.{{{'bytes, ' * lone}oneOf}}",
-        KEYS % f"onto, {'pack, ' * lone}packs, keysOf, seek",
-        LAWS % ("every", f"limb, far, is-far, {'tailIn, word-at, pair-is, ' * lone}{'same-head, ' * shared}headIn, heads, no-head"),
-    ]
-    return proof(l.stem("longest"), "", uses, answers, len(l.longests))
+            given = f"(pair_is args.rest args.last {tail(w)} {i} _ (omega arith) c.{place}.ensures)"
+            term = f"word-at far (keys_of {l.number}) {FAR} {word(w)} {i} _ c.{arm(number)}.is {given} refl refl"
+            answers.append((arm(number), f"{TABLE} every one_of far tail_in", ARGS + term))
+    answers.append((LAST, f"{TABLE} every one_of far head_in heads", f"{ARGS}no_head far (keys_of {l.number}) {FAR} refl {REST}"))
+    lone = any(g.alone for g in l.longests)
+    laws = of_words(
+        "list_of",
+        f"onto, {'pack, ' * lone}packs, keys_of, seek",
+        "every",
+        f"limb, far, is_far, {'tail_in, word-at, pair_is, ' * lone}head_in, heads, no_head",
+    )
+    uses = [f"use Prim.Native.Nat.{{◌+◌, ◌*◌{', ◌/◌' * lone}}}", REFL, ARITH, bytes_of(f"{'bytes, ' * lone}one_of"), *laws]
+    return proof(l.stem("longest"), "", uses, answers)
 
 
 def numbers(lists):
@@ -531,99 +497,54 @@ def numbers(lists):
     return " ∷ ".join(str(l.number) for l in reversed(lists)) + " ∷ []"
 
 
-def call(name, k):
-    """The k-th call of a function, as its place is named."""
-    return name if k == 1 else f"{name}{k}"
-
-
 def any_short_proof():
-    rows, answers, ones = [l for l in ALL if l.short], [], 0
-    for k, l in enumerate(rows, 1):
-        front = f"by-number _ {l.number} _ _ (c .before .match .keys{k})"
-        if l in SHORT:
-            answers.append(("", f"{front} (c .short-{l.name.lower().replace('_', '-')} .ensures)"))
-            continue
-        ones, (i, w) = ones + 1, l.short[0]
-        one = f'one-key (keysOf {l.number}) (start .args .v) (pack (bytes "{w}")) {i} refl refl (omega arith)'
-        answers.append((f"{TABLE} every oneOf shortIn", f"let start = c .before .before in {front} (c .{call('if-equal', ones)} .ensures ∙ {one})"))
-    none = f"no-short ({numbers(rows)}) (c .before .args .list) (c .match .rest) (c .before .args .v) refl (omega arith)"
-    answers.append(("listOf packs onto every oneOf shortIn noShort everyList", none))
-    uses = [
-        "use mathlib.Core.List.{[], _∷_}",
-        "use mathlib.Core.Path.{refl, _∙_}",
-        "use native.Mathlib.Omega.{arith}",
-        "use borrow.Author.Needs.{needs}",
-        "use Rattle·text.specs.Bytes.{bytes, oneOf}",
-        KEYS % "onto, pack, packs, keysOf, seek",
-        LAWS % ("every", "shortIn, noShort, everyList, one-key, no-short, by-number"),
-    ]
-    return proof("short", "", uses, answers, len(rows))
+    rows, answers = [l for l in ALL if l.short], []
+    for l, (number, place) in zip(rows, called((l.number, f"short_{l.name.lower()}" if l in SHORT else "if_equal") for l in rows)):
+        if l not in SHORT:
+            i, w = l.short[0]
+            one = f"one_key (keys_of {number}) c.args.v {word(w)} {i} refl refl (omega arith)"
+            answers.append((arm(number), f"{TABLE} every one_of short_in", f"by_number _ {number} _ _ c.{arm(number)}.is (c.{place}.ensures ∙ {one})"))
+    none = f"no_short ({numbers(rows)}) c.args.list {REST} c.args.v refl (omega arith)"
+    answers.append((LAST, "list_of packs onto every one_of short_in none_short every_list", none))
+    laws = of_words("list_of", "onto, pack, packs, keys_of, seek", "every", "short_in, none_short, every_list, one_key, no_short, by_number")
+    return proof("short", "", [LIST, "use mathlib.Core.Path.{refl, ◌∙◌}", ARITH, bytes_of("bytes, one_of"), *laws], answers)
 
 
 def any_long_proof():
-    rows = [l for l in ALL if l.long]
-    places, answers = counted(l.stem("long") if l in LONG else "if_long" for l in rows), []
-    for k, (l, place) in enumerate(zip(rows, places), 1):
-        front = f"by-number _ {l.number} _ _ (c .before .match .keys{k})"
-        if l in LONG:
-            answers.append(("", f"{front} (c .{place} .ensures)"))
-            continue
-        i, w = l.long[0]
-        answers.append((
-            f"{TABLE} every oneOf middle tailIn headIn",
-            PRE.format("c .before .before") + f"{front} (one-word middle (keysOf {l.number}) {MIDDLE} {word(w)} {i} _ (c .{place} .ensures) refl refl refl)",
-        ))
-    answers.append((
-        "listOf packs onto every oneOf middle headIn noneOf everyList",
-        PRE.format("c .before") + f"no-word ({numbers(rows)}) (args .list) (c .match .rest) middle {MIDDLE} refl",
-    ))
-    uses = [
-        "use mathlib.Core.List.{[], _∷_}",
-        "use mathlib.Core.Path.{refl}",
-        "use native.Mathlib.Omega.{arith}",
-        "use borrow.Author.Needs.{needs}",
-        "use Rattle·text.specs.Bytes.{bytes, oneOf}",
-        KEYS % "onto, pack, packs, keysOf, seek",
-        LAWS % ("every", "middle, is-middle, tailIn, headIn, one-word, noneOf, everyList, no-word, by-number"),
-    ]
-    return proof("long", "", uses, answers, len(rows))
+    rows, answers = [l for l in ALL if l.long], []
+    for l, (number, place) in zip(rows, called((l.number, l.stem("long") if l in LONG else "if_long") for l in rows)):
+        if l not in LONG:
+            i, w = l.long[0]
+            one = f"(one_word middle (keys_of {number}) {MIDDLE} {word(w)} {i} _ c.{place}.ensures refl refl refl)"
+            answers.append((arm(number), f"{TABLE} every one_of middle tail_in head_in", f"{ARGS}by_number _ {number} _ _ c.{arm(number)}.is {one}"))
+    none = f"{ARGS}no_word ({numbers(rows)}) args.list {REST} middle {MIDDLE} refl"
+    answers.append((LAST, "list_of packs onto every one_of middle head_in none_from every_list", none))
+    laws = of_words(
+        "list_of", "onto, pack, packs, keys_of, seek", "every", "middle, is_middle, tail_in, head_in, one_word, none_from, every_list, no_word, by_number"
+    )
+    return proof("long", "", [LIST, REFL, ARITH, bytes_of("bytes, one_of"), *laws], answers)
 
 
 def any_longest_proof():
-    places = counted(l.stem("longest") for l in LONGEST)
-    answers = [
-        ("", f"by-number _ {l.number} _ _ (c .before .match .keys{k}) (c .{place} .ensures)") for k, (l, place) in enumerate(zip(LONGEST, places), 1)
-    ]
-    answers.append((
-        "listOf packs onto every oneOf far headIn noneOf everyList",
-        PRE.format("c .before") + f"no-word ({numbers(LONGEST)}) (args .list) (c .match .rest) far {FAR} refl",
-    ))
-    uses = [
-        "use Prim.Native.Nat.{_+_, _*_}",
-        "use mathlib.Core.List.{[], _∷_}",
-        "use mathlib.Core.Path.{refl}",
-        "use native.Mathlib.Omega.{arith}",
-        "use borrow.Author.Needs.{needs}",
-        "use Rattle·text.specs.Bytes.{oneOf}",
-        KEYS % "onto, packs",
-        LAWS % ("every", "limb, far, is-far, headIn, noneOf, everyList, no-word, by-number"),
-    ]
-    return proof("longest", "", uses, answers, len(LONGEST))
+    none = f"{ARGS}no_word ({numbers(LONGEST)}) args.list {REST} far {FAR} refl"
+    answers = [(LAST, "list_of packs onto every one_of far head_in none_from every_list", none)]
+    laws = of_words("list_of", "onto, packs", "every", "limb, far, is_far, head_in, none_from, every_list, no_word")
+    return proof("longest", "", ["use Prim.Native.Nat.{◌+◌, ◌*◌}", LIST, REFL, ARITH, bytes_of("one_of"), *laws], answers)
 
 
 def files():
     written = {f"{CRATE}/src/lib.rt": code(), f"{CRATE}/specs/ListMeans.antt": definition()}
     for l in SHORT:
-        written[f"{CRATE}/proofs/short_{l.name.lower()}/Proof.antt"] = short_proof(l)
+        written[f"{CRATE}/proofs/short_{l.name.lower()}/Answers.antt"] = short_proof(l)
     for l in LONG:
-        written[f"{CRATE}/proofs/{l.stem('long')}/Proof.antt"] = long_proof(l)
-        written |= {f"{CRATE}/proofs/{g.function}/Proof.antt": long_group_proof(l, g) for g in l.longs if not g.alone}
+        written[f"{CRATE}/proofs/{l.stem('long')}/Answers.antt"] = long_proof(l)
+        written |= {f"{CRATE}/proofs/{g.function}/Answers.antt": long_group_proof(l, g) for g in l.longs if not g.alone}
     for l in LONGEST:
-        written[f"{CRATE}/proofs/{l.stem('longest')}/Proof.antt"] = longest_proof(l)
-        written |= {f"{CRATE}/proofs/{g.function}/Proof.antt": longest_group_proof(l, g) for g in l.longests if not g.alone}
-    written[f"{CRATE}/proofs/short/Proof.antt"] = any_short_proof()
-    written[f"{CRATE}/proofs/long/Proof.antt"] = any_long_proof()
-    written[f"{CRATE}/proofs/longest/Proof.antt"] = any_longest_proof()
+        written[f"{CRATE}/proofs/{l.stem('longest')}/Answers.antt"] = longest_proof(l)
+        written |= {f"{CRATE}/proofs/{g.function}/Answers.antt": longest_group_proof(l, g) for g in l.longests if not g.alone}
+    written[f"{CRATE}/proofs/short/Answers.antt"] = any_short_proof()
+    written[f"{CRATE}/proofs/long/Answers.antt"] = any_long_proof()
+    written[f"{CRATE}/proofs/longest/Answers.antt"] = any_longest_proof()
     return written
 
 

@@ -1,6 +1,6 @@
 #!/bin/sh
 # Measures `shelfstrip check` against the Rust's parser and validator on the same 1,860 files. usage: bench/check/run.sh [FOLDER OF THE RUST
-# SOURCES]. Needs libstrip.a (`rt staticlib strip`, or its folder in STRIP_LIB), shelfstrip's libraries, and oracle/build.sh to have run, for
+# SOURCES]. Needs libstrip.a (`tools/staticlib.py strip`, or its folder in STRIP_LIB), shelfstrip's libraries, and oracle/build.sh to have run, for
 # the folder of the crates; syn is the unchanged one.
 set -eu
 here=$(cd "$(dirname "$0")" && pwd)

@@ -5,7 +5,7 @@ set -eu
 here=$(cd "$(dirname "$0")" && pwd)
 root=$(cd "$here/../.." && pwd)
 sources=$(cd "${1:-$root/../shared/docs/src}" && pwd)
-(cd "$root" && rt staticlib strip)
+(cd "$root" && tools/staticlib.py strip)
 cd "$here"
 ORACLE_SOURCES=$sources cargo --config "$root/target/oracle/plain.toml" \
     run --offline --release -j 1 --target-dir "$root/target/bench/read"

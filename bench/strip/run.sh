@@ -5,7 +5,7 @@ set -eu
 here=$(cd "$(dirname "$0")" && pwd)
 root=$(cd "$here/../.." && pwd)
 sources=$(cd "${1:-$root/../shared/docs/src}" && pwd)
-(cd "$root" && rt staticlib strip) >&2
+(cd "$root" && tools/staticlib.py strip) >&2
 cd "$here"
 export ORACLE_SOURCES=$sources
 run="--offline --release -j 1 --target-dir $root/target/bench/strip"

@@ -1,4 +1,4 @@
-// Links the archive that `rt staticlib token_c` writes at the repository's root.
+// Links the archive that `tools/staticlib.py token_c` writes at the repository's root.
 fn main() {
     let root = std::path::Path::new(env!("CARGO_MANIFEST_DIR")).join("../../target/staticlib");
     println!("cargo:rustc-link-search=native={}", root.display());

@@ -2,7 +2,7 @@
  * Motion scripts of shelf-edge strips: reading a script into a sheet of bytes, checking the sheet, lining its records in
  * hexadecimal, all of it at once on a page, writing a fresh script from text and sheet, telling the bytes of a colour, converting old
  * sheets, putting like bytes of a sheet together for storage and back, counting many scripts in the totals of a morning sheet, looking a
- * name up in books of named scripts, listing a book's items by their calls, and drawing a waveform as heights. `rt staticlib strip`
+ * name up in books of named scripts, listing a book's items by their calls, and drawing a waveform as heights. `tools/staticlib.py strip`
  * writes the library, target/staticlib/libstrip.a.
  *
  * No pointer is NULL, not even where its length is 0. What is written to overlaps nothing else that is lent. A length is in

@@ -1,4 +1,4 @@
-//! Finds libstrip.a, which `rt staticlib strip` writes: in the folder that STRIP_LIB names, or else in target/staticlib of the
+//! Finds libstrip.a, which `tools/staticlib.py strip` writes: in the folder that STRIP_LIB names, or else in target/staticlib of the
 //! repository that this crate stands in.
 use std::env;
 use std::path::{Path, PathBuf};
@@ -12,7 +12,7 @@ fn main() {
     let archive = folder.join("libstrip.a");
     println!("cargo:rerun-if-changed={}", archive.display());
     if !archive.is_file() {
-        eprintln!("{} is not there: run `rt staticlib strip` at the repository's root, or set STRIP_LIB", archive.display());
+        eprintln!("{} is not there: run `tools/staticlib.py strip` at the repository's root, or set STRIP_LIB", archive.display());
         std::process::exit(1);
     }
     println!("cargo:rustc-link-search=native={}", folder.canonicalize().unwrap().display());

@@ -1,4 +1,4 @@
-//! Measures feeding 4,096 scripts of 1 to 11 KB against reading and checking them alone, by turns in one run. `rt staticlib strip` goes
+//! Measures feeding 4,096 scripts of 1 to 11 KB against reading and checking them alone, by turns in one run. `tools/staticlib.py strip` goes
 //! first:
 //!
 //!     cargo run --release --offline --manifest-path bench/feed/Cargo.toml --target-dir target/bench/feed

@@ -1,6 +1,6 @@
 //! Compares number::decimal with `str::parse::<f32>`, from the same texts to the same f32, in one run.
 //! Our side scans the digits here, in Rust, and calls the proved function; parse does both by itself.
-//! Run at the repository's root: rt staticlib number_c && cargo run -j1 --release --manifest-path bench/number/Cargo.toml
+//! Run at the repository's root: tools/staticlib.py number_c && cargo run -j1 --release --manifest-path bench/number/Cargo.toml
 use std::hint::black_box;
 use std::time::Instant;
 

@@ -1,5 +1,5 @@
 //! Measures token::split for each byte of a text, at 1,024 and at 16,384 bytes, and token::is_keyword for each word.
-//! Run at the repository's root: rt staticlib token_c && cargo run -j1 --release --manifest-path bench/token/Cargo.toml
+//! Run at the repository's root: tools/staticlib.py token_c && cargo run -j1 --release --manifest-path bench/token/Cargo.toml
 use std::hint::black_box;
 use std::time::Instant;
 
