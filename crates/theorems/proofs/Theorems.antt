@@ -1,7 +1,7 @@
 -- Each promise of the front page, by one application.
 use mathlib.Core.Path.{ap}
 use Rattle.lining.proofs.CheckLaws.{lined}
-use Rattle.script.proofs.Table.{lemma}
+use Rattle.script.specs.Table.{lemma}
 use Rattle.script.proofs.Closed.{demand3}
 use Rattle.script.proofs.ScratchLaws.{reading-same}
 use Rattle.law_limits.proofs.Limits.{parses_small}

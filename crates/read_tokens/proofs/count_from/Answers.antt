@@ -1,5 +1,4 @@
 -- `read_tokens::count_from` meets its contract.
-use Prim.Native.Nat.{◌-◌}
 use mathlib.Core.Path.{sym, ◌∙◌}
 use Rattle.read_tokens.proofs.CountLaws.{counted-all}
 use Rattle.read_tokens.proofs.CountLaws.{counted_next}
