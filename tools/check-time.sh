@@ -1,6 +1,6 @@
 #!/usr/bin/env bash
 # check-time.sh REV..: proves each commit given from nothing (`rt all check`), one after the other, in a worktree of its own, and tells
-# wall clock and processor time. Nothing else should run meanwhile. Four checks at a time, as in test.sh, unless RT_JOBS says otherwise.
+# wall clock and processor time. Nothing else should run meanwhile. Four checks at a time, unless RT_JOBS says otherwise.
 set -eu
 cd "$(git rev-parse --show-toplevel)"
 export RT_JOBS=${RT_JOBS:-4}
