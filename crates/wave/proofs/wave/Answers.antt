@@ -2,6 +2,7 @@
 use Rattle.error.specs.Answer.{check_values}
 use Rattle.error.proofs.AnswerLaws.{with_values}
 use mathlib.Core.Path.{sym}
+use native.Mathlib.Omega.{arith}
 use Rattle.drawing.proofs.WaveLaws as laws
 use Rattle.wave.proofs.FillLaws as filling
 use Rattle.wave.proofs.wave.Goals as goal
@@ -15,7 +16,7 @@ returns-then-kind-ge4 c =
 
 pub returns-then-phase-ge256 : goal.returns-then-phase-ge256
 returns-then-phase-ge256 c =
-    let the_parts = with_values check_values (sym (laws.bad_phase _ _ _ c.if-kind-ge4.false c.if-phase-ge256.true)) in record {
+    let the_parts = with_values check_values (sym (laws.bad_phase c.args.kind c.args.phase _ (omega arith) c.if-phase-ge256.true)) in record {
       heights_after = the_parts.0;
       values = the_parts.1;
     }
