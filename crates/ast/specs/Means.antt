@@ -1,5 +1,5 @@
 -- How the code holds a tree's values: floats for bit patterns, counts for arrays and frames.
-use Rattle.std.specs.Prelude.{ℕ, Bool, true, false, Float, length}
+use Rattle.std.specs.Prelude.{ℕ, Bool, true, false, Float, length, Some, None, Option as Optional}
 use Rattle.std.proofs.Math.Option.{Option, none, some}
 use Rattle.number.specs.Number.{f32}
 use Rattle.ast.specs.Tree as tree
@@ -14,26 +14,6 @@ use Rattle.ast.specs.declared.DampingMode as dampings
 use Rattle.ast.specs.declared.DampingMode.TheVariants as damping
 use Rattle.ast.specs.declared.StaggerPatternSpec as patterns
 use Rattle.ast.specs.declared.StaggerPatternSpec.TheVariants as pattern
-use Rattle.ast.specs.declared.OptF32 as opt_floats
-use Rattle.ast.specs.declared.OptF32.TheVariants as opt_float
-use Rattle.ast.specs.declared.OptU32 as opt_words
-use Rattle.ast.specs.declared.OptU32.TheVariants as opt_word
-use Rattle.ast.specs.declared.OptBool as opt_bools
-use Rattle.ast.specs.declared.OptBool.TheVariants as opt_bool
-use Rattle.ast.specs.declared.OptCase as opt_cases
-use Rattle.ast.specs.declared.OptCase.TheVariants as opt_case
-use Rattle.ast.specs.declared.OptRange as opt_ranges
-use Rattle.ast.specs.declared.OptRange.TheVariants as opt_range
-use Rattle.ast.specs.declared.OptValue as opt_values
-use Rattle.ast.specs.declared.OptValue.TheVariants as opt_value
-use Rattle.ast.specs.declared.OptEasing as opt_easings
-use Rattle.ast.specs.declared.OptEasing.TheVariants as opt_easing
-use Rattle.ast.specs.declared.OptLoop as opt_loops
-use Rattle.ast.specs.declared.OptLoop.TheVariants as opt_loop
-use Rattle.ast.specs.declared.OptDamping as opt_dampings
-use Rattle.ast.specs.declared.OptDamping.TheVariants as opt_damping
-use Rattle.ast.specs.declared.OptPattern as opt_patterns
-use Rattle.ast.specs.declared.OptPattern.TheVariants as opt_pattern
 use Rattle.ast.specs.declared.TweenSpec as tweens
 use Rattle.ast.specs.declared.SpringSpec as springs
 use Rattle.ast.specs.declared.KeyframeEntry as entries
@@ -102,45 +82,45 @@ pattern_view tree.edges_in = pattern.EdgesIn
 
 -- ---- what is absent or present
 
-abbrev pub opt_float_view : Option ℕ → opt_floats.OptF32
-opt_float_view none = opt_float.Absent
-opt_float_view (some x) = opt_float.Present (f32 x)
+abbrev pub opt_float_view : Option ℕ → Optional Float
+opt_float_view none = None
+opt_float_view (some x) = Some (f32 x)
 
-abbrev pub opt_word_view : Option ℕ → opt_words.OptU32
-opt_word_view none = opt_word.Absent
-opt_word_view (some n) = opt_word.Present n
+abbrev pub opt_word_view : Option ℕ → Optional ℕ
+opt_word_view none = None
+opt_word_view (some n) = Some n
 
-abbrev pub opt_bool_view : Option Bool → opt_bools.OptBool
-opt_bool_view none = opt_bool.Absent
-opt_bool_view (some b) = opt_bool.Present b
+abbrev pub opt_bool_view : Option Bool → Optional Bool
+opt_bool_view none = None
+opt_bool_view (some b) = Some b
 
-abbrev pub opt_case_view : Option ℕ → opt_cases.OptCase
-opt_case_view none = opt_case.Absent
-opt_case_view (some i) = opt_case.Present i
+abbrev pub opt_case_view : Option ℕ → Optional ℕ
+opt_case_view none = None
+opt_case_view (some i) = Some i
 
-abbrev pub opt_range_view : Option (ℕ × ℕ) → opt_ranges.OptRange
-opt_range_view none = opt_range.Absent
-opt_range_view (some p) = opt_range.Present (f32 p.0) (f32 p.1)
+abbrev pub opt_range_view : Option (ℕ × ℕ) → Optional (Float × Float)
+opt_range_view none = None
+opt_range_view (some p) = Some (f32 p.0, f32 p.1)
 
-abbrev pub opt_value_view : Option tree.ValueExpr → opt_values.OptValue
-opt_value_view none = opt_value.Absent
-opt_value_view (some v) = opt_value.Present (value_view v)
+abbrev pub opt_value_view : Option tree.ValueExpr → Optional values.ValueExpr
+opt_value_view none = None
+opt_value_view (some v) = Some (value_view v)
 
-abbrev pub opt_easing_view : Option tree.EasingSpec → opt_easings.OptEasing
-opt_easing_view none = opt_easing.Absent
-opt_easing_view (some e) = opt_easing.Present (easing_view e)
+abbrev pub opt_easing_view : Option tree.EasingSpec → Optional easings.EasingSpec
+opt_easing_view none = None
+opt_easing_view (some e) = Some (easing_view e)
 
-abbrev pub opt_loop_view : Option tree.LoopSpec → opt_loops.OptLoop
-opt_loop_view none = opt_loop.Absent
-opt_loop_view (some m) = opt_loop.Present (loop_view m)
+abbrev pub opt_loop_view : Option tree.LoopSpec → Optional loops.LoopSpec
+opt_loop_view none = None
+opt_loop_view (some m) = Some (loop_view m)
 
-abbrev pub opt_damping_view : Option tree.DampingMode → opt_dampings.OptDamping
-opt_damping_view none = opt_damping.Absent
-opt_damping_view (some d) = opt_damping.Present (damping_view d)
+abbrev pub opt_damping_view : Option tree.DampingMode → Optional dampings.DampingMode
+opt_damping_view none = None
+opt_damping_view (some d) = Some (damping_view d)
 
-abbrev pub opt_pattern_view : Option tree.StaggerPatternSpec → opt_patterns.OptPattern
-opt_pattern_view none = opt_pattern.Absent
-opt_pattern_view (some p) = opt_pattern.Present (pattern_view p)
+abbrev pub opt_pattern_view : Option tree.StaggerPatternSpec → Optional patterns.StaggerPatternSpec
+opt_pattern_view none = None
+opt_pattern_view (some p) = Some (pattern_view p)
 
 -- ---- the nodes
 
@@ -175,7 +155,7 @@ spring_view x = record {
 }
 
 -- an entry of a time, percent or not, a value and an easing
-abbrev pub entry_of : Bool → Float → values.ValueExpr → opt_easings.OptEasing → entries.KeyframeEntry
+abbrev pub entry_of : Bool → Float → values.ValueExpr → Optional easings.EasingSpec → entries.KeyframeEntry
 entry_of percent time v easing = record {
   percent = percent;
   time = time;

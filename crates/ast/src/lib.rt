@@ -74,70 +74,6 @@ pub enum StaggerPatternSpec {
     EdgesIn,
 }
 
-// ---- what is absent or present
-
-#[derive(Clone, Copy)]
-pub enum OptF32 {
-    Absent,
-    Present(f32),
-}
-
-#[derive(Clone, Copy)]
-pub enum OptU32 {
-    Absent,
-    Present(u32),
-}
-
-#[derive(Clone, Copy)]
-pub enum OptBool {
-    Absent,
-    Present(bool),
-}
-
-// The position of a case that holds nothing.
-#[derive(Clone, Copy)]
-pub enum OptCase {
-    Absent,
-    Present(u8),
-}
-
-// A start and an end.
-#[derive(Clone, Copy)]
-pub enum OptRange {
-    Absent,
-    Present(f32, f32),
-}
-
-#[derive(Clone, Copy)]
-pub enum OptValue {
-    Absent,
-    Present(ValueExpr),
-}
-
-#[derive(Clone, Copy)]
-pub enum OptEasing {
-    Absent,
-    Present(EasingSpec),
-}
-
-#[derive(Clone, Copy)]
-pub enum OptLoop {
-    Absent,
-    Present(LoopSpec),
-}
-
-#[derive(Clone, Copy)]
-pub enum OptDamping {
-    Absent,
-    Present(DampingMode),
-}
-
-#[derive(Clone, Copy)]
-pub enum OptPattern {
-    Absent,
-    Present(StaggerPatternSpec),
-}
-
 // ---- the nodes, without the nodes in them
 
 #[derive(Clone, Copy)]
@@ -146,12 +82,12 @@ pub struct TweenSpec {
     pub from: ValueExpr,
     pub to: ValueExpr,
     pub duration: f32,
-    pub easing: OptEasing,
-    pub delay: OptF32,
-    pub time_scale: OptF32,
-    pub loop_mode: OptLoop,
-    pub snap: OptF32,
-    pub round: OptU32,
+    pub easing: Option<EasingSpec>,
+    pub delay: Option<f32>,
+    pub time_scale: Option<f32>,
+    pub loop_mode: Option<LoopSpec>,
+    pub snap: Option<f32>,
+    pub round: Option<u32>,
     pub reverse: bool,
 }
 
@@ -160,14 +96,14 @@ pub struct SpringSpec {
     pub target: Span,
     pub from: ValueExpr,
     pub to: ValueExpr,
-    pub preset: OptCase,
-    pub stiffness: OptF32,
-    pub damping: OptF32,
-    pub mass: OptF32,
-    pub velocity: OptValue,
-    pub epsilon: OptF32,
-    pub integrator: OptCase,
-    pub damping_mode: OptDamping,
+    pub preset: Option<u8>,
+    pub stiffness: Option<f32>,
+    pub damping: Option<f32>,
+    pub mass: Option<f32>,
+    pub velocity: Option<ValueExpr>,
+    pub epsilon: Option<f32>,
+    pub integrator: Option<u8>,
+    pub damping_mode: Option<DampingMode>,
 }
 
 // One keyframe entry, with the cases of its time and its value as fields: `KeyframeTime` is whether it is a percent, and the f32;
@@ -179,7 +115,7 @@ pub struct KeyframeEntry {
     pub array: bool,
     pub value: f32,
     pub count: usize,
-    pub easing: OptEasing,
+    pub easing: Option<EasingSpec>,
 }
 
 // The frames are their count: they are walked in the sheet.
@@ -187,14 +123,14 @@ pub struct KeyframeEntry {
 pub struct KeyframeSpec {
     pub target: Span,
     pub frames: usize,
-    pub loop_mode: OptLoop,
+    pub loop_mode: Option<LoopSpec>,
 }
 
 // A stagger, and how many nodes it holds.
 #[derive(Clone, Copy)]
 pub struct StaggerSpec {
-    pub pattern: OptPattern,
-    pub delay: OptF32,
+    pub pattern: Option<StaggerPatternSpec>,
+    pub delay: Option<f32>,
     pub nodes: usize,
 }
 
@@ -210,10 +146,10 @@ pub struct PathSpec {
     pub target: Span,
     pub svg: Span,
     pub duration: f32,
-    pub easing: OptEasing,
-    pub auto_rotate: OptBool,
-    pub offset: OptRange,
-    pub loop_mode: OptLoop,
+    pub easing: Option<EasingSpec>,
+    pub auto_rotate: Option<bool>,
+    pub offset: Option<(f32, f32)>,
+    pub loop_mode: Option<LoopSpec>,
 }
 
 #[derive(Clone, Copy)]
@@ -222,14 +158,14 @@ pub struct MorphSpec {
     pub to: Span,
     pub samples: u32,
     pub duration: f32,
-    pub easing: OptEasing,
+    pub easing: Option<EasingSpec>,
 }
 
 #[derive(Clone, Copy)]
 pub struct DrawSpec {
     pub svg: Span,
     pub duration: f32,
-    pub easing: OptEasing,
+    pub easing: Option<EasingSpec>,
 }
 
 #[derive(Clone, Copy)]
@@ -239,26 +175,26 @@ pub struct ColorSpec {
     pub to: Span,
     pub duration: f32,
     pub space: ColorSpace,
-    pub easing: OptEasing,
+    pub easing: Option<EasingSpec>,
 }
 
 #[derive(Clone, Copy)]
 pub struct WaveformSpec {
     pub kind: WaveformKind,
-    pub frequency: OptF32,
-    pub amplitude: OptF32,
-    pub phase: OptF32,
-    pub duty_cycle: OptF32,
-    pub seed: OptU32,
-    pub smoothness: OptF32,
-    pub duration: OptF32,
+    pub frequency: Option<f32>,
+    pub amplitude: Option<f32>,
+    pub phase: Option<f32>,
+    pub duty_cycle: Option<f32>,
+    pub seed: Option<u32>,
+    pub smoothness: Option<f32>,
+    pub duration: Option<f32>,
 }
 
 #[derive(Clone, Copy)]
 pub struct PresetCall {
     pub name: Span,
-    pub duration: OptF32,
-    pub easing: OptEasing,
+    pub duration: Option<f32>,
+    pub easing: Option<EasingSpec>,
 }
 
 #[derive(Clone, Copy)]
@@ -278,7 +214,12 @@ pub fn component_count(value: ValueExpr) -> usize
 }
 
 // The entry that holds a time, a value and an easing.
-pub fn entry_of(percent: bool, time: f32, value: ValueExpr, easing: OptEasing) -> KeyframeEntry
+pub fn entry_of(
+    percent: bool,
+    time: f32,
+    value: ValueExpr,
+    easing: Option<EasingSpec>,
+) -> KeyframeEntry
     ensures { result ≡ entry_of percent time value easing }
 {
     match value {

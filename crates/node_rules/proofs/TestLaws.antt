@@ -1,4 +1,5 @@
 -- The tests, over what the code holds: each agrees with its definition through the view.
+use Rattle.std.specs.Prelude.{Some, None, unwrap_or}
 use Prim.Native.Nat.{ℕ}
 use mathlib.Core.Bool.{Bool, true, false, not, ◌&&◌, ◌||◌}
 use mathlib.Core.List.{List}
@@ -18,10 +19,6 @@ use Rattle.ast.specs.declared.EasingSpec as easings
 use Rattle.ast.specs.declared.EasingSpec.TheVariants as easing
 use Rattle.ast.specs.declared.StaggerPatternSpec as patterns
 use Rattle.ast.specs.declared.StaggerPatternSpec.TheVariants as pattern
-use Rattle.ast.specs.declared.OptPattern.TheVariants as opt_pattern
-use Rattle.ast.specs.declared.OptF32.TheVariants as opt_float
-use Rattle.ast.specs.declared.OptRange.TheVariants as opt_range
-use Rattle.ast.specs.declared.OptEasing.TheVariants as opt_easing
 use Rattle.checking.specs.Rules.{nought, one, negative, not_positive, outside_unit, given, unknown_easing, mismatched, empty_grid}
 use Rattle.node_rules.specs.Means.{Tells}
 
@@ -53,32 +50,36 @@ module _ (x : Float) where
 -- ---- what may be absent
 
 module _ (p : ℕ → Bool) where
-  pub float_absent : Tells opt_float_view (given p) opt_float.Absent false
+  pub float_absent : Tells opt_float_view (given p) None false
   float_absent none e = refl
   float_absent (some a) e = let z : ◌≡◌ {A = ℕ} 0 1 = cc in absurd (omega arith)
 
-  pub float_present : {y : Float} {r : Bool} → Tells f32 p y r → Tells opt_float_view (given p) (opt_float.Present y) r
+  pub float_present : {y : Float} {r : Bool} → Tells f32 p y r → Tells opt_float_view (given p) (Some y) r
   float_present t none e = let z : ◌≡◌ {A = ℕ} 0 1 = cc in absurd (omega arith)
   float_present t (some a) e = t a (cc)
 
 abbrev outside : ℕ × ℕ → Bool
 outside p = outside_unit p.0 || outside_unit p.1
 
-pub range_absent : Tells opt_range_view (given outside) opt_range.Absent false
+pub range_absent : Tells opt_range_view (given outside) None false
 range_absent none e = refl
 range_absent (some p) e = let z : ◌≡◌ {A = ℕ} 0 1 = cc in absurd (omega arith)
 
 -- the start is outside; it is not, and the end decides
 pub range_start : {x y : Float} {q : Bool} → q ≡ true → Tells f32 outside_unit x q
-    → Tells opt_range_view (given outside) (opt_range.Present x y) true
+    → Tells opt_range_view (given outside) (Some (x, y)) true
 range_start h t none e = let z : ◌≡◌ {A = ℕ} 0 1 = cc in absurd (omega arith)
-range_start h t (some p) e = let z = sym (t p.0 (cc)) ∙ h in rw z
+range_start {x = x} {y = y} h t (some p) e =
+    let z = sym (t p.0 (ap (λ o. (unwrap_or o (x, y)).0) e)) ∙ h in
+    rw z
 
 pub range_end : {x y : Float} {q r : Bool} → q ≡ false → Tells f32 outside_unit x q
     → Tells f32 outside_unit y r
-    → Tells opt_range_view (given outside) (opt_range.Present x y) r
+    → Tells opt_range_view (given outside) (Some (x, y)) r
 range_end h t u none e = let z : ◌≡◌ {A = ℕ} 0 1 = cc in absurd (omega arith)
-range_end h t u (some p) e = let z = sym (t p.0 (cc)) ∙ h in rw z (u p.1 (cc))
+range_end {x = x} {y = y} h t u (some p) e =
+    let z = sym (t p.0 (ap (λ o. (unwrap_or o (x, y)).0) e)) ∙ h in
+    rw z (u p.1 (ap (λ o. (unwrap_or o (x, y)).1) e))
 
 -- ---- values
 
@@ -114,11 +115,11 @@ pub easing_tells : (t : List ℕ) (x : easings.EasingSpec) → Tells easing_view
 easing_tells t x e h = sym (ap (unknown t) h) ∙ unknown_is t e
 
 module _ (p : tree.EasingSpec → Bool) where
-  pub easing_absent : Tells opt_easing_view (given p) opt_easing.Absent false
+  pub easing_absent : Tells opt_easing_view (given p) None false
   easing_absent none e = refl
   easing_absent (some a) e = let z : ◌≡◌ {A = ℕ} 0 1 = cc in absurd (omega arith)
 
-  pub easing_present : {y : easings.EasingSpec} {r : Bool} → Tells easing_view p y r → Tells opt_easing_view (given p) (opt_easing.Present y) r
+  pub easing_present : {y : easings.EasingSpec} {r : Bool} → Tells easing_view p y r → Tells opt_easing_view (given p) (Some y) r
   easing_present t none e = let z : ◌≡◌ {A = ℕ} 0 1 = cc in absurd (omega arith)
   easing_present t (some a) e = t a (cc)
 
@@ -148,11 +149,11 @@ module _ (cols rows origin : ℕ) where
   grid_rows n p h = sym (rw (ne_eqb cols 0 n)) ∙ pattern_tells (pattern.Grid cols rows origin) p h
 
 module _ (q : tree.StaggerPatternSpec → Bool) where
-  pub pattern_absent : Tells opt_pattern_view (given q) opt_pattern.Absent false
+  pub pattern_absent : Tells opt_pattern_view (given q) None false
   pattern_absent none e = refl
   pattern_absent (some a) e = let z : ◌≡◌ {A = ℕ} 0 1 = cc in absurd (omega arith)
 
   pub pattern_present : {y : patterns.StaggerPatternSpec} {r : Bool} → Tells pattern_view q y r
-      → Tells opt_pattern_view (given q) (opt_pattern.Present y) r
+      → Tells opt_pattern_view (given q) (Some y) r
   pattern_present t none e = let z : ◌≡◌ {A = ℕ} 0 1 = cc in absurd (omega arith)
   pattern_present t (some a) e = t a (cc)

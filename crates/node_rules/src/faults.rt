@@ -8,7 +8,7 @@ ghost use Rattle.error.specs.declared.Refusal.TheVariants.{UnknownEasing};
 ghost use Rattle.checking.specs.Rules.{negative, not_positive, outside_unit, given, unknown_easing, mismatched, first};
 ghost use Rattle.node_rules.specs.Means.{fault_of, Tells};
 
-use ast::{EasingSpec, OptEasing, OptF32, OptRange, ValueExpr};
+use ast::{EasingSpec, ValueExpr};
 use error::Refusal;
 
 #[derive(Clone, Copy)]
@@ -55,30 +55,30 @@ fn is_outside_unit(x: f32) -> bool
     true
 }
 
-pub fn some_negative(x: OptF32) -> bool
+pub fn some_negative(x: Option<f32>) -> bool
     ensures { Tells opt_float_view (given negative) x result }
 {
     match x {
-        OptF32::Absent => false,
-        OptF32::Present(y) => is_negative(y),
+        None => false,
+        Some(y) => is_negative(y),
     }
 }
 
-pub fn some_not_positive(x: OptF32) -> bool
+pub fn some_not_positive(x: Option<f32>) -> bool
     ensures { Tells opt_float_view (given not_positive) x result }
 {
     match x {
-        OptF32::Absent => false,
-        OptF32::Present(y) => is_not_positive(y),
+        None => false,
+        Some(y) => is_not_positive(y),
     }
 }
 
-pub fn some_outside_unit(x: OptRange) -> bool
+pub fn some_outside_unit(x: Option<(f32, f32)>) -> bool
     ensures { Tells opt_range_view (given (λ p. outside_unit p.0 || outside_unit p.1)) x result }
 {
     match x {
-        OptRange::Absent => false,
-        OptRange::Present(start, end) => {
+        None => false,
+        Some((start, end)) => {
             if is_outside_unit(start) {
                 return true;
             }
@@ -121,17 +121,17 @@ fn is_unknown(text: &[u8], easing: EasingSpec) -> bool
     }
 }
 
-pub fn some_unknown(text: &[u8], easing: OptEasing) -> bool
+pub fn some_unknown(text: &[u8], easing: Option<EasingSpec>) -> bool
     ensures { Tells opt_easing_view (given (unknown_easing text.now)) easing result }
 {
     match easing {
-        OptEasing::Absent => false,
-        OptEasing::Present(e) => is_unknown(text, e),
+        None => false,
+        Some(e) => is_unknown(text, e),
     }
 }
 
 // The fault so far, or that an easing has no known name.
-pub fn validate_easing(text: &[u8], fault: Fault, easing: OptEasing) -> Fault
+pub fn validate_easing(text: &[u8], fault: Fault, easing: Option<EasingSpec>) -> Fault
     ensures { Tells opt_easing_view (λ o. or_else (fault_of fault) (first ((given (unknown_easing text.now) o, UnknownEasing) ∷ []))) easing (fault_of result) }
 {
     rule(fault, some_unknown(text, easing), Refusal::UnknownEasing)

@@ -9,8 +9,8 @@ use crate::faults::{
     validate_easing,
 };
 use ast::{
-    ColorSpec, DrawSpec, MorphSpec, OptPattern, PathSpec, PresetCall, SpringSpec,
-    StaggerPatternSpec, StaggerSpec, TweenSpec, WaveformSpec,
+    ColorSpec, DrawSpec, MorphSpec, PathSpec, PresetCall, SpringSpec, StaggerPatternSpec,
+    StaggerSpec, TweenSpec, WaveformSpec,
 };
 use error::Refusal;
 
@@ -144,12 +144,12 @@ fn is_empty_grid(pattern: StaggerPatternSpec) -> bool
     }
 }
 
-fn some_empty_grid(pattern: OptPattern) -> bool
+fn some_empty_grid(pattern: Option<StaggerPatternSpec>) -> bool
     ensures { Tells opt_pattern_view (given empty_grid) pattern result }
 {
     match pattern {
-        OptPattern::Absent => false,
-        OptPattern::Present(p) => is_empty_grid(p),
+        None => false,
+        Some(p) => is_empty_grid(p),
     }
 }
 

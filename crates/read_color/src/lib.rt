@@ -10,7 +10,7 @@ ghost use Rattle.sheet_encode.specs.Means.{span_of};
 ghost use Rattle.grammar.specs.Grammar.{parse_color};
 ghost use Rattle.read_arrays.specs.Means.{Room};
 
-use ast::{ColorSpec, OptCase, OptEasing, OptF32, Span};
+use ast::{ColorSpec, Span};
 use error::Refusal;
 use read_cursor::{CaseRead, Cursor, FloatRead, MarkRead, WordRead};
 use read_fields::NextField;
@@ -22,9 +22,9 @@ use read_values::EasingRead;
 // What the fields of a color say.
 #[derive(Clone, Copy)]
 pub struct ColorFields {
-    pub duration: OptF32,
-    pub space: OptCase,
-    pub easing: OptEasing,
+    pub duration: Option<f32>,
+    pub space: Option<u8>,
+    pub easing: Option<EasingSpec>,
 }
 
 #[derive(Clone, Copy)]
@@ -42,21 +42,21 @@ fn color_step(text: &[u8], c: Cursor, row: usize, kept: ColorFields) -> ColorSte
         0 => match read_cursor::parse_float(text, c) {
             FloatRead::Refused(r, p) => ColorStep::Refused(r, p),
             FloatRead::Is(x, m) => {
-                let duration = OptF32::Present(x);
+                let duration = Some(x);
                 ColorStep::Is(ColorFields { duration, ..kept }, m)
             }
         },
         1 => match read_cursor::choice(text, c, words::SPACES, Refusal::Malformed) {
             CaseRead::Refused(r, p) => ColorStep::Refused(r, p),
             CaseRead::Is(i, m) => {
-                let space = OptCase::Present(i as u8);
+                let space = Some(i as u8);
                 ColorStep::Is(ColorFields { space, ..kept }, m)
             }
         },
         _ => match read_values::parse_easing(text, c) {
             EasingRead::Refused(r, p) => ColorStep::Refused(r, p),
             EasingRead::Is(x, m) => {
-                let easing = OptEasing::Present(x);
+                let easing = Some(x);
                 ColorStep::Is(ColorFields { easing, ..kept }, m)
             }
         },
@@ -70,9 +70,9 @@ fn color_fields(text: &[u8], c: Cursor) -> ColorStep
 {
     let mut m = c;
     let mut kept = ColorFields {
-        duration: OptF32::Absent,
-        space: OptCase::Absent,
-        easing: OptEasing::Absent,
+        duration: None,
+        space: None,
+        easing: None,
     };
     loop {
         match read_fields::parse_field_list(text, m, words::COLOR_ROWS) {
@@ -124,7 +124,7 @@ fn color_end(
         ColorStep::Refused(r, p) => NodeRead::Refused(r, p),
         ColorStep::Is(f, e) => {
             let written = f.duration;
-            let OptF32::Present(duration) = written else {
+            let Some(duration) = written else {
                 return NodeRead::Refused(Refusal::MissingDuration, read_cursor::place(e));
             };
             let written_space = f.space;

@@ -1,8 +1,6 @@
 -- What the fields of draw and preset keep, and the ends of these nodes. Contracts cite these.
-use Rattle.std.specs.Prelude.{ℕ, List, [], ◌∷◌, ◌≡◌}
+use Rattle.std.specs.Prelude.{ℕ, List, [], ◌∷◌, ◌≡◌, None}
 use Rattle.number.specs.Number.{bits}
-use Rattle.ast.specs.declared.OptF32.TheVariants as opt_float
-use Rattle.ast.specs.declared.OptEasing.TheVariants as opt_easing
 use Rattle.sheet_encode.specs.Means.{Plain, PlainOptFloat, PlainOptEasing, span_of, opt_float_of, opt_easing_of}
 use Rattle.grammar.specs.Rule.{Rule, refused, give, ◌>>=◌, ◌>>◌, if, sees, skip, inside}
 use Rattle.grammar.specs.Fields.{Fields, parse_field_list, last_number, last_easing, pairs}
@@ -24,7 +22,7 @@ abbrev pub draw_cells : DrawFields → List Cell
 draw_cells f = float "duration" f.duration ∷ easing f.easing ∷ []
 
 abbrev pub no_draw_fields : DrawFields
-no_draw_fields = record { duration = opt_float.Absent; easing = opt_easing.Absent }
+no_draw_fields = record { duration = None; easing = None }
 
 abbrev pub DrawStepMeans : List ℕ → Cursor → ℕ → DrawFields → DrawStep → Type 0
 DrawStepMeans s c i f (draw.Is g m) = StepTook s c m draw_fields i (draw_cells f) (draw_cells g)

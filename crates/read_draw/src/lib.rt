@@ -14,7 +14,7 @@ ghost use Rattle.read_node.specs.Means.{Put, LeafMeans, EndMeans};
 ghost use Rattle.sheet_encode.specs.Means.{span_of};
 ghost use Rattle.read_arrays.specs.Means.{Room};
 
-use ast::{DrawSpec, OptEasing, OptF32, PresetCall, Span};
+use ast::{DrawSpec, PresetCall, Span};
 use error::Refusal;
 use read_cursor::{Cursor, FloatRead, WordRead};
 use read_fields::NextField;
@@ -26,8 +26,8 @@ use read_values::EasingRead;
 // What the fields of a draw say.
 #[derive(Clone, Copy)]
 pub struct DrawFields {
-    pub duration: OptF32,
-    pub easing: OptEasing,
+    pub duration: Option<f32>,
+    pub easing: Option<EasingSpec>,
 }
 
 #[derive(Clone, Copy)]
@@ -45,14 +45,14 @@ fn draw_step(text: &[u8], c: Cursor, row: usize, kept: DrawFields) -> DrawStep
         0 => match read_cursor::parse_float(text, c) {
             FloatRead::Refused(r, p) => DrawStep::Refused(r, p),
             FloatRead::Is(x, m) => {
-                let duration = OptF32::Present(x);
+                let duration = Some(x);
                 DrawStep::Is(DrawFields { duration, ..kept }, m)
             }
         },
         _ => match read_values::parse_easing(text, c) {
             EasingRead::Refused(r, p) => DrawStep::Refused(r, p),
             EasingRead::Is(x, m) => {
-                let easing = OptEasing::Present(x);
+                let easing = Some(x);
                 DrawStep::Is(DrawFields { easing, ..kept }, m)
             }
         },
@@ -64,8 +64,8 @@ fn no_draw_fields() -> DrawFields
     ensures { result ≡ no_draw_fields }
 {
     DrawFields {
-        duration: OptF32::Absent,
-        easing: OptEasing::Absent,
+        duration: None,
+        easing: None,
     }
 }
 
@@ -140,7 +140,7 @@ fn draw_end(text: &[u8], sheet: &mut [u8], c: Cursor, out: usize, svg: Span) -> 
         DrawStep::Refused(r, p) => NodeRead::Refused(r, p),
         DrawStep::Is(f, e) => {
             let written = f.duration;
-            let OptF32::Present(duration) = written else {
+            let Some(duration) = written else {
                 return NodeRead::Refused(Refusal::MissingDuration, read_cursor::place(e));
             };
             let easing = f.easing;

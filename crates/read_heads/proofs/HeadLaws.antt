@@ -1,4 +1,5 @@
 -- Laws of the fields of `grid` and `random`, and of patterns.
+use Rattle.std.specs.Prelude.{Some, None}
 use Prim.Native.Nat.{ℕ}
 use Prim.Native.String.{String}
 use mathlib.Core.List.{List, []}
@@ -9,9 +10,6 @@ use Rattle.text.specs.Bytes.{bytes, same}
 use Rattle.text.specs.Words.{default}
 use Rattle.number.specs.Number.{bits}
 use Rattle.ast.specs.Tree.{StaggerPatternSpec, grid, random}
-use Rattle.ast.specs.declared.OptF32.TheVariants as opt_float
-use Rattle.ast.specs.declared.OptU32.TheVariants as opt_word
-use Rattle.ast.specs.declared.OptCase.TheVariants as opt_case
 use Rattle.sheet_encode.specs.Means.{Plain, opt_word_of, opt_case_of, pattern_of}
 use Rattle.error.specs.declared.Refusal.{Refusal}
 use Rattle.error.specs.declared.Refusal.TheVariants.{Malformed, StaggerGridIncomplete}
@@ -45,59 +43,59 @@ pub no_origin : (s : List ℕ) (c : Cursor) (r : Refusal) (q : ℕ) → run s c 
 unfolding origin
 no_origin s c r q h = rw h
 
-pub grid_none : GridHeld (record { cols = opt_word.Absent; rows = opt_word.Absent; origin = opt_case.Absent }) []
+pub grid_none : GridHeld (record { cols = None; rows = None; origin = None }) []
 unfolding last
 grid_none = record { cols = refl; rows = refl; origin = refl }
 
 pub grid_cols : (f : GridFields) (n : ℕ)
-    → Holds GridHeld f (record { cols = opt_word.Present n; rows = f.rows; origin = f.origin }) (bytes "cols") (a_number n)
+    → Holds GridHeld f (record { cols = Some n; rows = f.rows; origin = f.origin }) (bytes "cols") (a_number n)
 unfolding last same
 grid_cols f n fs h = record { cols = refl; rows = h.rows; origin = h.origin }
 
 pub grid_rows : (f : GridFields) (n : ℕ)
-    → Holds GridHeld f (record { cols = f.cols; rows = opt_word.Present n; origin = f.origin }) (bytes "rows") (a_number n)
+    → Holds GridHeld f (record { cols = f.cols; rows = Some n; origin = f.origin }) (bytes "rows") (a_number n)
 unfolding last same
 grid_rows f n fs h = record { cols = h.cols; rows = refl; origin = h.origin }
 
 pub grid_origin : (f : GridFields) (k : ℕ)
-    → Holds GridHeld f (record { cols = f.cols; rows = f.rows; origin = opt_case.Present k }) (bytes "origin") (a_number k)
+    → Holds GridHeld f (record { cols = f.cols; rows = f.rows; origin = Some k }) (bytes "origin") (a_number k)
 unfolding last same
 grid_origin f k fs h = record { cols = h.cols; rows = h.rows; origin = refl }
 
 -- ---- random
 
-pub random_none : RandomHeld (record { seed = opt_word.Absent; min = opt_float.Absent; max = opt_float.Absent }) []
+pub random_none : RandomHeld (record { seed = None; min = None; max = None }) []
 unfolding last
 random_none = record { seed = refl; min = refl; plain-min = tt; max = refl; plain-max = tt }
 
 pub random_seed : (f : RandomFields) (n : ℕ)
-    → Holds RandomHeld f (record { seed = opt_word.Present n; min = f.min; max = f.max }) (bytes "seed") (a_number n)
+    → Holds RandomHeld f (record { seed = Some n; min = f.min; max = f.max }) (bytes "seed") (a_number n)
 unfolding last same
 random_seed f n fs h = record { seed = refl; min = h.min; plain-min = h.plain-min; max = h.max; plain-max = h.plain-max }
 
 pub random_min : (f : RandomFields) (x : Float) → Plain x
-    → Holds RandomHeld f (record { seed = f.seed; min = opt_float.Present x; max = f.max }) (bytes "min") (a_number (bits x))
+    → Holds RandomHeld f (record { seed = f.seed; min = Some x; max = f.max }) (bytes "min") (a_number (bits x))
 unfolding last same
 random_min f x p fs h = record { seed = h.seed; min = refl; plain-min = p; max = h.max; plain-max = h.plain-max }
 
 pub random_max : (f : RandomFields) (x : Float) → Plain x
-    → Holds RandomHeld f (record { seed = f.seed; min = f.min; max = opt_float.Present x }) (bytes "max") (a_number (bits x))
+    → Holds RandomHeld f (record { seed = f.seed; min = f.min; max = Some x }) (bytes "max") (a_number (bits x))
 unfolding last same
 random_max f x p fs h = record { seed = h.seed; min = h.min; plain-min = h.plain-min; max = refl; plain-max = p }
 
 -- ---- patterns
 
 module _ (s : List ℕ) (c m : Cursor) (f : GridFields) (h : TookRows GridHeld grid_fields s c m f) where
-  pub no_cols : f.cols ≡ opt_word.Absent → run s c grid_inside ≡ refused StaggerGridIncomplete (at_of m)
+  pub no_cols : f.cols ≡ None → run s c grid_inside ≡ refused StaggerGridIncomplete (at_of m)
   unfolding grid_inside
   no_cols e = rw (h.1.is, ← h.2.cols, e, h.1.ready.head.place)
 
-  pub no_rows : (a : ℕ) → f.cols ≡ opt_word.Present a → f.rows ≡ opt_word.Absent
+  pub no_rows : (a : ℕ) → f.cols ≡ Some a → f.rows ≡ None
       → run s c grid_inside ≡ refused StaggerGridIncomplete (at_of m)
   unfolding grid_inside
   no_rows a d e = rw (h.1.is, ← h.2.cols, d, ← h.2.rows, e, h.1.ready.head.place)
 
-  pub took_grid : (a b k : ℕ) → f.cols ≡ opt_word.Present a → f.rows ≡ opt_word.Present b
+  pub took_grid : (a b k : ℕ) → f.cols ≡ Some a → f.rows ≡ Some b
       → k ≡ default (opt_case_of f.origin) 4 → Took 0 s c m grid_inside (grid a b k)
   unfolding grid_inside
   took_grid a b k d e o = record {

@@ -7,7 +7,7 @@ ghost use Rattle.read_fields.specs.Means as fields;
 ghost use Rattle.read_cursor.specs.Means.{Ready};
 ghost use Rattle.read_heads.specs.Means.{GroupMeans, OriginMeans, GridFieldMeans, GridMeans, RandomFieldMeans, RandomMeans, PatternMeans, grid_inside, NamedMeans, opening_of, PlainOpening, one_opening, OpeningMeans, ValueMeans, StaggerMeans};
 
-use ast::{GridOriginSpec, GroupMode, OptCase, OptF32, OptPattern, OptU32, StaggerPatternSpec};
+use ast::{GridOriginSpec, GroupMode, StaggerPatternSpec};
 use error::Refusal;
 use read_cursor::{CaseRead, Cursor, FloatRead, MarkRead, UintRead};
 use read_fields::NextField;
@@ -32,7 +32,7 @@ pub enum PatternRead {
 
 #[derive(Clone, Copy)]
 pub enum StaggerRead {
-    Is(OptPattern, OptF32, Cursor),
+    Is(Option<StaggerPatternSpec>, Option<f32>, Cursor),
     Refused(Refusal, usize),
 }
 
@@ -63,9 +63,9 @@ fn parse_grid_origin(text: &[u8], c: Cursor) -> OriginRead
 // The fields so far.
 #[derive(Clone, Copy)]
 pub struct GridFields {
-    pub cols: OptU32,
-    pub rows: OptU32,
-    pub origin: OptCase,
+    pub cols: Option<u32>,
+    pub rows: Option<u32>,
+    pub origin: Option<u8>,
 }
 
 #[derive(Clone, Copy)]
@@ -86,7 +86,7 @@ fn grid_field(text: &[u8], c: Cursor, f: GridFields, i: usize) -> GridRead
         return match parse_grid_origin(text, c) {
             OriginRead::Refused(r, p) => GridRead::Refused(r, p),
             OriginRead::Is(k, m) => {
-                let origin = OptCase::Present(k);
+                let origin = Some(k);
                 GridRead::Is(GridFields { cols, rows, origin }, m)
             }
         };
@@ -95,10 +95,10 @@ fn grid_field(text: &[u8], c: Cursor, f: GridFields, i: usize) -> GridRead
         UintRead::Refused(r, p) => GridRead::Refused(r, p),
         UintRead::Is(n, m) => {
             if i == 0 {
-                let cols = OptU32::Present(n);
+                let cols = Some(n);
                 return GridRead::Is(GridFields { cols, rows, origin }, m);
             }
-            let rows = OptU32::Present(n);
+            let rows = Some(n);
             GridRead::Is(GridFields { cols, rows, origin }, m)
         }
     }
@@ -117,9 +117,9 @@ fn grid_fields(text: &[u8], c: Cursor) -> GridRead
 {
     let mut m = c;
     let mut f = GridFields {
-        cols: OptU32::Absent,
-        rows: OptU32::Absent,
-        origin: OptCase::Absent,
+        cols: None,
+        rows: None,
+        origin: None,
     };
     loop {
         match next_grid(text, m) {
@@ -151,11 +151,11 @@ fn grid_inside(text: &[u8], c: Cursor) -> PatternRead
         GridRead::Is(f, m) => {
             let place = read_cursor::place(m);
             let counted = f.cols;
-            let OptU32::Present(cols) = counted else {
+            let Some(cols) = counted else {
                 return PatternRead::Refused(Refusal::StaggerGridIncomplete, place);
             };
             let counted_rows = f.rows;
-            let OptU32::Present(rows) = counted_rows else {
+            let Some(rows) = counted_rows else {
                 return PatternRead::Refused(Refusal::StaggerGridIncomplete, place);
             };
             let written = f.origin;
@@ -184,9 +184,9 @@ fn grid_pattern(text: &[u8], c: Cursor) -> PatternRead
 // The fields so far.
 #[derive(Clone, Copy)]
 pub struct RandomFields {
-    pub seed: OptU32,
-    pub min: OptF32,
-    pub max: OptF32,
+    pub seed: Option<u32>,
+    pub min: Option<f32>,
+    pub max: Option<f32>,
 }
 
 #[derive(Clone, Copy)]
@@ -207,7 +207,7 @@ fn random_field(text: &[u8], c: Cursor, f: RandomFields, i: usize) -> RandomRead
         return match read_cursor::parse_uint(text, c) {
             UintRead::Refused(r, p) => RandomRead::Refused(r, p),
             UintRead::Is(n, m) => {
-                let seed = OptU32::Present(n);
+                let seed = Some(n);
                 RandomRead::Is(RandomFields { seed, min, max }, m)
             }
         };
@@ -216,10 +216,10 @@ fn random_field(text: &[u8], c: Cursor, f: RandomFields, i: usize) -> RandomRead
         FloatRead::Refused(r, p) => RandomRead::Refused(r, p),
         FloatRead::Is(x, m) => {
             if i == 1 {
-                let min = OptF32::Present(x);
+                let min = Some(x);
                 return RandomRead::Is(RandomFields { seed, min, max }, m);
             }
-            let max = OptF32::Present(x);
+            let max = Some(x);
             RandomRead::Is(RandomFields { seed, min, max }, m)
         }
     }
@@ -238,9 +238,9 @@ fn random_fields(text: &[u8], c: Cursor) -> RandomRead
 {
     let mut m = c;
     let mut f = RandomFields {
-        seed: OptU32::Absent,
-        min: OptF32::Absent,
-        max: OptF32::Absent,
+        seed: None,
+        min: None,
+        max: None,
     };
     loop {
         match next_random(text, m) {
@@ -315,8 +315,8 @@ fn parse_stagger_pattern(text: &[u8], c: Cursor) -> PatternRead
 // The fields so far.
 #[derive(Clone, Copy)]
 pub struct Opening {
-    pub pattern: OptPattern,
-    pub delay: OptF32,
+    pub pattern: Option<StaggerPatternSpec>,
+    pub delay: Option<f32>,
 }
 
 #[derive(Clone, Copy)]
@@ -339,7 +339,7 @@ fn opening_value(text: &[u8], c: Cursor, f: Opening, i: usize) -> OpeningRead
                 return match parse_stagger_pattern(text, m) {
                     PatternRead::Refused(r, p) => OpeningRead::Refused(r, p),
                     PatternRead::Is(x, n) => {
-                        let pattern = OptPattern::Present(x);
+                        let pattern = Some(x);
                         OpeningRead::Is(Opening { pattern, delay }, n)
                     }
                 };
@@ -347,7 +347,7 @@ fn opening_value(text: &[u8], c: Cursor, f: Opening, i: usize) -> OpeningRead
             match read_cursor::parse_float(text, m) {
                 FloatRead::Refused(r, p) => OpeningRead::Refused(r, p),
                 FloatRead::Is(x, n) => {
-                    let delay = OptF32::Present(x);
+                    let delay = Some(x);
                     OpeningRead::Is(Opening { pattern, delay }, n)
                 }
             }
@@ -372,8 +372,8 @@ pub fn parse_stagger(text: &[u8], c: Cursor) -> StaggerRead
 {
     let mut m = c;
     let mut f = Opening {
-        pattern: OptPattern::Absent,
-        delay: OptF32::Absent,
+        pattern: None,
+        delay: None,
     };
     loop {
         if read_cursor::sees(m, b'{') {

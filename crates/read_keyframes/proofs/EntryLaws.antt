@@ -1,4 +1,5 @@
 -- A frame's entry, read and written.
+use Rattle.std.specs.Prelude.{Option as Optional}
 use Prim.Native.Nat.{ℕ, ◌+◌, ◌*◌, ◌-◌, ◌≤◌}
 use mathlib.Core.Bool.{Bool, true, false}
 use mathlib.Core.List.{List, [], ◌∷◌, ◌++◌, append-nil, append_assoc}
@@ -14,7 +15,6 @@ use Rattle.ast.specs.Means.{is_array, scalar_of, entry_of}
 use Rattle.ast.specs.declared.ValueExpr as values
 use Rattle.ast.specs.declared.ValueExpr.TheVariants.{Scalar, Array}
 use Rattle.ast.specs.declared.KeyframeEntry as entries
-use Rattle.ast.specs.declared.OptEasing as easings
 use Rattle.sheet.specs.Sheet.{time_form, value_form, easing_form}
 use Rattle.sheet_encode.specs.Means.{key_time_of, opt_easing_of, Plain, PlainOptEasing}
 use Rattle.sheet_encode.specs.WriteMeans.{Writes}
@@ -67,7 +67,7 @@ module _ {s : List ℕ} {c m : Cursor} {p : Bool} {x : Float} (t : TookTime s c 
     unfolding behind_key
     frame_no_easing h = frame-run s c ∙ (rw (t.took.is, w.took.is, h))
 
-    pub entry_went : {u : Cursor} {e : easings.OptEasing} → Took 0 s n u easing_if (opt_easing_of e) → PlainOptEasing e
+    pub entry_went : {u : Cursor} {e : Optional easings.EasingSpec} → Took 0 s n u easing_if (opt_easing_of e) → PlainOptEasing e
         → EntryWent s b a c u out end (entry_of p x v e)
     unfolding behind_key
     entry_went {e = e} y z = record {

@@ -1,4 +1,5 @@
 -- The items of a track.
+use Rattle.std.specs.Prelude.{Some, None}
 use Prim.Native.Nat.{ℕ, ◌+◌, ◌*◌, ◌-◌, ◌≤◌}
 use mathlib.Core.Bool.{Bool, true, false}
 use mathlib.Core.List.{List, [], ◌∷◌, ◌++◌, append-nil}
@@ -12,7 +13,6 @@ use Rattle.codec.specs.Codec.{big, opt}
 use Rattle.ast.specs.Tree.{KeyframeEntry, map_frames, keyframes}
 use Rattle.ast.specs.declared.Span.{Span}
 use Rattle.ast.specs.declared.LoopSpec as loops
-use Rattle.ast.specs.declared.OptLoop.TheVariants as opt_loop
 use Rattle.sheet.specs.Sheet.{entry_form, loop_form, span_form}
 use Rattle.sheet_encode.specs.Means.{span_of, loop_of, opt_loop_of}
 use Rattle.sheet_encode.specs.WriteMeans.{Writes}
@@ -68,7 +68,7 @@ module _ (s b : List ℕ) (t : tracks.Track) (m : Cursor) (f : Follows s t.next 
 
     pub loop-step : Ready s t.next → (v u : Cursor) (x : loops.LoopSpec) (y : Bool)
         → Took 1 s n v parse_loop_mode (loop_of x) → Took 0 s v u (eat_byte 44) y
-        → Stepped 1 s b b t (record { frames = t.frames; end = t.end; loop_mode = opt_loop.Present x; next = u }) track_loop more
+        → Stepped 1 s b b t (record { frames = t.frames; end = t.end; loop_mode = Some x; next = u }) track_loop more
     unfolding track_loop
     loop-step r v u x y l e = record {
       added = [];
@@ -179,7 +179,7 @@ pub record Tracked (s b a : List ℕ) (c : Cursor) (out : ℕ) (t : tracks.Track
   pub paid : t.end ≤ out + 64 * (at_of t.next - at_of c)
 
 pub tracked_start : (s b : List ℕ) (c : Cursor) (out : ℕ) → Ready s c
-    → Tracked s b b c out (record { frames = 0; end = out; loop_mode = opt_loop.Absent; next = c })
+    → Tracked s b b c out (record { frames = 0; end = out; loop_mode = None; next = c })
 tracked_start s b c out r = record {
   frames = [];
   listed = listed_start track_step s c ([], none) r;

@@ -13,7 +13,7 @@ ghost use Rattle.read_arrays.specs.Means.{Room};
 ghost use Rattle.read_node.specs.Means.{LeafMeans};
 ghost use Rattle.read_keyframes.specs.Means.{Inner, percent_sign, key_of, Stores, TimeMeans, key_mark, EasingMeans, ValuePut, EntryPut, EntryMeans, separator, StepMeans, Standing, TrackMeans, BlockMeans};
 
-use ast::{KeyframeEntry, OptEasing, OptLoop};
+use ast::KeyframeEntry;
 use error::Refusal;
 use number::Stored;
 use read_arrays::HeldRead;
@@ -31,7 +31,7 @@ pub enum TimeRead {
 
 #[derive(Clone, Copy)]
 pub enum EasingIf {
-    Is(OptEasing, Cursor),
+    Is(Option<EasingSpec>, Cursor),
     Refused(Refusal, usize),
 }
 
@@ -47,7 +47,7 @@ pub enum EntryRead {
 pub struct Track {
     pub frames: usize,
     pub end: usize,
-    pub loop_mode: OptLoop,
+    pub loop_mode: Option<LoopSpec>,
     pub next: Cursor,
 }
 
@@ -143,11 +143,11 @@ fn keyframe_easing(text: &[u8], c: Cursor) -> EasingIf
     ensures { EasingMeans text.now c result }
 {
     if !read_cursor::sees_name(text, c) {
-        return EasingIf::Is(OptEasing::Absent, c);
+        return EasingIf::Is(None, c);
     }
     match read_values::parse_easing(text, c) {
         EasingRead::Refused(r, p) => EasingIf::Refused(r, p),
-        EasingRead::Is(e, m) => EasingIf::Is(OptEasing::Present(e), m),
+        EasingRead::Is(e, m) => EasingIf::Is(Some(e), m),
     }
 }
 
@@ -224,7 +224,7 @@ fn track_loop(text: &[u8], t: Track) -> TrackNext
                 TrackNext::More(Track {
                     frames: t.frames,
                     end: t.end,
-                    loop_mode: OptLoop::Present(mode),
+                    loop_mode: Some(mode),
                     next,
                 })
             }
@@ -282,7 +282,7 @@ fn track_items(text: &[u8], sheet: &mut [u8], c: Cursor, out: usize) -> TrackRea
     let mut t = Track {
         frames: 0,
         end: out,
-        loop_mode: OptLoop::Absent,
+        loop_mode: None,
         next: c,
     };
     loop {

@@ -10,7 +10,7 @@ ghost use Rattle.sheet_encode.specs.Means.{span_of};
 ghost use Rattle.grammar.specs.Grammar.{parse_morph};
 ghost use Rattle.read_arrays.specs.Means.{Room};
 
-use ast::{MorphSpec, OptEasing, OptF32, OptU32, Span};
+use ast::{MorphSpec, Span};
 use error::Refusal;
 use read_cursor::{Cursor, FloatRead, MarkRead, UintRead, WordRead};
 use read_fields::NextField;
@@ -22,9 +22,9 @@ use read_values::EasingRead;
 // What the fields of a morph say.
 #[derive(Clone, Copy)]
 pub struct MorphFields {
-    pub samples: OptU32,
-    pub duration: OptF32,
-    pub easing: OptEasing,
+    pub samples: Option<u32>,
+    pub duration: Option<f32>,
+    pub easing: Option<EasingSpec>,
 }
 
 #[derive(Clone, Copy)]
@@ -42,21 +42,21 @@ fn morph_step(text: &[u8], c: Cursor, row: usize, kept: MorphFields) -> MorphSte
         0 => match read_cursor::parse_uint(text, c) {
             UintRead::Refused(r, p) => MorphStep::Refused(r, p),
             UintRead::Is(n, m) => {
-                let samples = OptU32::Present(n);
+                let samples = Some(n);
                 MorphStep::Is(MorphFields { samples, ..kept }, m)
             }
         },
         1 => match read_cursor::parse_float(text, c) {
             FloatRead::Refused(r, p) => MorphStep::Refused(r, p),
             FloatRead::Is(x, m) => {
-                let duration = OptF32::Present(x);
+                let duration = Some(x);
                 MorphStep::Is(MorphFields { duration, ..kept }, m)
             }
         },
         _ => match read_values::parse_easing(text, c) {
             EasingRead::Refused(r, p) => MorphStep::Refused(r, p),
             EasingRead::Is(x, m) => {
-                let easing = OptEasing::Present(x);
+                let easing = Some(x);
                 MorphStep::Is(MorphFields { easing, ..kept }, m)
             }
         },
@@ -70,9 +70,9 @@ fn morph_fields(text: &[u8], c: Cursor) -> MorphStep
 {
     let mut m = c;
     let mut kept = MorphFields {
-        samples: OptU32::Absent,
-        duration: OptF32::Absent,
-        easing: OptEasing::Absent,
+        samples: None,
+        duration: None,
+        easing: None,
     };
     loop {
         match read_fields::parse_field_list(text, m, words::MORPH_ROWS) {
@@ -114,7 +114,7 @@ fn morph_end(text: &[u8], sheet: &mut [u8], c: Cursor, out: usize, from: Span, t
         MorphStep::Refused(r, p) => NodeRead::Refused(r, p),
         MorphStep::Is(f, e) => {
             let written = f.duration;
-            let OptF32::Present(duration) = written else {
+            let Some(duration) = written else {
                 return NodeRead::Refused(Refusal::MissingDuration, read_cursor::place(e));
             };
             let written_samples = f.samples;

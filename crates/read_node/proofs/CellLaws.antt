@@ -1,4 +1,5 @@
 -- An entry onto fields: the cell of its row takes its value, and the others stay.
+use Rattle.std.specs.Prelude.{Some, None, Option as Optional}
 use Prim.Native.Nat.{ℕ, zero, suc, ◌≤◌}
 use mathlib.Core.Bool.{Bool, true, false, not, ◌&&◌}
 use mathlib.Core.List.{List, [], ◌∷◌}
@@ -9,8 +10,6 @@ use lib.ListN.{get_elem?, set}
 use Rattle.text.specs.Bytes.{bytes, same}
 use Rattle.grammar.specs.Fields as fields
 use Rattle.grammar.specs.Fields.{Fields, Content, last}
-use Rattle.read_node.specs.declared.OptPlace.{OptPlace}
-use Rattle.read_node.specs.declared.OptPlace.TheVariants as opt_place
 use Rattle.ast.specs.Tree.{ValueExpr}
 use Rattle.read_node.specs.CellMeans.{Cell, float, whole, case, truth, ever, easing, loop_mode, range, damping, place}
 use Rattle.read_node.specs.CellMeans.{ValueAt, PlaceSays, CellSays, AllSay}
@@ -64,9 +63,9 @@ none≢some {A = A} e = absurd (let z : ◌≡◌ {A = ℕ} 0 1 = cc in omega ar
 
 -- between wider places
 module _ (s : List ℕ) (lo hi hi' : ℕ) (b : hi ≤ hi') (fs : Fields) where
-  place_wider : (p : OptPlace) (v : Option ValueExpr) → PlaceSays s lo hi p v → PlaceSays s lo hi' p v
-  place_wider opt_place.Absent v h = h
-  place_wider (opt_place.Present c) v h =
+  place_wider : (p : Optional Cursor) (v : Option ValueExpr) → PlaceSays s lo hi p v → PlaceSays s lo hi' p v
+  place_wider None v h = h
+  place_wider (Some c) v h =
       let z = h.2 in
       let at : ValueAt s lo hi' c h.0 = record {
         ready = z.ready;

@@ -1,4 +1,5 @@
 -- The end of a node: its fields are taken, and its record is written.
+use Rattle.std.specs.Prelude.{Some, None, Option as Optional}
 use Prim.Native.Nat.{ℕ, ◌+◌, ◌≤◌}
 use mathlib.Core.List.{List, []}
 use mathlib.Core.Path.{◌≡◌, sym}
@@ -8,8 +9,6 @@ use lib.Ieee.{Float}
 use Rattle.number.specs.Number.{bits}
 use Rattle.number.specs.Time.{Key}
 use Rattle.ast.specs.Tree.{Leaf}
-use Rattle.ast.specs.declared.OptF32.{OptF32}
-use Rattle.ast.specs.declared.OptF32.TheVariants as opt_float
 use Rattle.sheet_encode.specs.Means.{opt_float_of}
 use Rattle.error.specs.declared.Refusal.{Refusal}
 use Rattle.error.specs.declared.Refusal.TheVariants.{MissingDuration}
@@ -30,12 +29,12 @@ module _ {s b a : List ℕ} {c : Cursor} {out : ℕ} (t : Table) (k : Fields →
       → EndMeans s b a c out (timed_end t k) (node.Refused r q)
   end_refused h = record { by = rw h }
 
-  module _ {e : Cursor} {xs : List Cell} (h : ListTook s c e (parse_field_list t []) xs) {o : OptF32}
+  module _ {e : Cursor} {xs : List Cell} (h : ListTook s c e (parse_field_list t []) xs) {o : Optional Float}
       (d : opt_float_of o ≡ last_number "duration" h.fields) where
-    pub end_untimed : o ≡ opt_float.Absent → EndMeans s b a c out (timed_end t k) (node.Refused MissingDuration (at_of e))
+    pub end_untimed : o ≡ None → EndMeans s b a c out (timed_end t k) (node.Refused MissingDuration (at_of e))
     end_untimed n = record { by = rw (h.took.is, sym d, n, h.took.ready.head.place) }
 
-    pub end_went : {x : Float} → o ≡ opt_float.Present x → (v : Leaf Key) → k h.fields (bits x) ≡ v
+    pub end_went : {x : Float} → o ≡ Some x → (v : Leaf Key) → k h.fields (bits x) ≡ v
         → {q : ℕ} → Put b out v a q → EndMeans s b a c out (timed_end t k) (node.Is q e)
     end_went n v z w = record {
       by = record {

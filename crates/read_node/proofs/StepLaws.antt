@@ -1,4 +1,5 @@
 -- A step and the loop of any kind.
+use Rattle.std.specs.Prelude.{Some, Option as Optional}
 use Prim.Native.Nat.{ℕ, zero, suc, ◌*◌, ◌-◌, ◌≤◌, ◌<◌}
 use Prim.Native.String.{String}
 use mathlib.Core.Bool.{Bool, true, false, ◌||◌}
@@ -12,27 +13,9 @@ use Rattle.text.specs.Bytes.{bytes}
 use Rattle.text.proofs.WordLaws.{same_refl}
 use Rattle.number.specs.Number.{bits}
 use Rattle.error.specs.declared.Refusal.{Refusal}
-use Rattle.ast.specs.declared.OptF32 as opt_floats
-use Rattle.ast.specs.declared.OptF32.TheVariants as opt_float
-use Rattle.ast.specs.declared.OptU32 as opt_words
-use Rattle.ast.specs.declared.OptU32.TheVariants as opt_word
-use Rattle.ast.specs.declared.OptBool as opt_bools
-use Rattle.ast.specs.declared.OptBool.TheVariants as opt_bool
-use Rattle.ast.specs.declared.OptRange as opt_ranges
-use Rattle.ast.specs.declared.OptRange.TheVariants as opt_range
-use Rattle.ast.specs.declared.OptEasing as opt_easings
-use Rattle.ast.specs.declared.OptEasing.TheVariants as opt_easing
-use Rattle.ast.specs.declared.OptLoop as opt_loops
-use Rattle.ast.specs.declared.OptLoop.TheVariants as opt_loop
-use Rattle.ast.specs.declared.OptCase as opt_cases
-use Rattle.ast.specs.declared.OptCase.TheVariants as opt_case
-use Rattle.ast.specs.declared.OptDamping as opt_dampings
-use Rattle.ast.specs.declared.OptDamping.TheVariants as opt_damping
 use Rattle.ast.specs.declared.DampingMode.{DampingMode}
 use Rattle.ast.specs.Tree as tree
 use Rattle.sheet.specs.Sheet.{value_form}
-use Rattle.read_node.specs.declared.OptPlace.{OptPlace}
-use Rattle.read_node.specs.declared.OptPlace.TheVariants as opt_place
 use Rattle.ast.specs.declared.EasingSpec.{EasingSpec}
 use Rattle.ast.specs.declared.LoopSpec.{LoopSpec}
 use Rattle.sheet_encode.specs.Means as of
@@ -107,36 +90,36 @@ module _ {s : List ℕ} {c : Cursor} {t : Table} {i : ℕ} (j : ℕ) (n : String
   unfolding number
   no_float e h = step_refused parse_float a_number e h
 
-  pub a_float : {m : Cursor} {xs : List Cell} (k : ℕ) (x : Float) {o : opt_floats.OptF32}
+  pub a_float : {m : Cursor} {xs : List Cell} (k : ℕ) (x : Float) {o : Optional Float}
       → get_elem? t j ≡ some (n, number) → get_elem? xs k ≡ some (float n o)
       → quiet_but xs k (bytes n) (a_number (bits x)) ≡ true
-      → Took 1 s c m parse_float (bits x) × of.Plain x → StepTook s c m t i xs (set xs k (float n (opt_float.Present x)))
+      → Took 1 s c m parse_float (bits x) × of.Plain x → StepTook s c m t i xs (set xs k (float n (Some x)))
   unfolding number last
   a_float k x {o} e z q h =
-      step_took parse_float a_number k (float n o) (float n (opt_float.Present x)) e z q (λ lo fs b u. (rw (same_refl (bytes n)), h.1)) h.0
+      step_took parse_float a_number k (float n o) (float n (Some x)) e z q (λ lo fs b u. (rw (same_refl (bytes n)), h.1)) h.0
 
   pub no_whole : {r : Refusal} {q : ℕ} → get_elem? t j ≡ some (n, count) → run s c parse_uint ≡ refused r q → StepRefused s c t i r q
   unfolding count
   no_whole e h = step_refused parse_uint a_number e h
 
-  pub a_whole : {m : Cursor} {xs : List Cell} (k : ℕ) (x : ℕ) {o : opt_words.OptU32}
+  pub a_whole : {m : Cursor} {xs : List Cell} (k : ℕ) (x : ℕ) {o : Optional ℕ}
       → get_elem? t j ≡ some (n, count) → get_elem? xs k ≡ some (whole n o)
       → quiet_but xs k (bytes n) (a_number x) ≡ true
-      → Took 1 s c m parse_uint x → StepTook s c m t i xs (set xs k (whole n (opt_word.Present x)))
+      → Took 1 s c m parse_uint x → StepTook s c m t i xs (set xs k (whole n (Some x)))
   unfolding count last
   a_whole k x {o} e z q h =
-      step_took parse_uint a_number k (whole n o) (whole n (opt_word.Present x)) e z q (λ lo fs b u. rw (same_refl (bytes n))) h
+      step_took parse_uint a_number k (whole n o) (whole n (Some x)) e z q (λ lo fs b u. rw (same_refl (bytes n))) h
 
   pub no_truth : {r : Refusal} {q : ℕ} → get_elem? t j ≡ some (n, flag) → run s c truth_rule ≡ refused r q → StepRefused s c t i r q
   unfolding flag
   no_truth e h = step_refused truth_rule a_truth e h
 
-  pub a_truth_lem : {m : Cursor} {xs : List Cell} (k : ℕ) (b : Bool) {o : opt_bools.OptBool} → get_elem? t j ≡ some (n, flag)
+  pub a_truth_lem : {m : Cursor} {xs : List Cell} (k : ℕ) (b : Bool) {o : Optional Bool} → get_elem? t j ≡ some (n, flag)
       → get_elem? xs k ≡ some (truth n o) → quiet_but xs k (bytes n) (a_truth b) ≡ true
-      → Took 1 s c m truth_rule b → StepTook s c m t i xs (set xs k (truth n (opt_bool.Present b)))
+      → Took 1 s c m truth_rule b → StepTook s c m t i xs (set xs k (truth n (Some b)))
   unfolding flag last
   a_truth_lem k b {o} e z q h =
-      step_took truth_rule a_truth k (truth n o) (truth n (opt_bool.Present b)) e z q (λ lo fs l u. rw (same_refl (bytes n))) h
+      step_took truth_rule a_truth k (truth n o) (truth n (Some b)) e z q (λ lo fs l u. rw (same_refl (bytes n))) h
 
   -- a truth value that stays true once it is
   pub ever-truth : {m : Cursor} {xs : List Cell} (k : ℕ) (b : Bool) {o : Bool}
@@ -150,67 +133,67 @@ module _ {s : List ℕ} {c : Cursor} {t : Table} {i : ℕ} (j : ℕ) (n : String
   unfolding easing_rule
   no_easing e h = step_refused parse_easing an_easing e h
 
-  pub an_easing_lem : {m : Cursor} {xs : List Cell} (k : ℕ) (x : EasingSpec) {o : opt_easings.OptEasing}
+  pub an_easing_lem : {m : Cursor} {xs : List Cell} (k : ℕ) (x : EasingSpec) {o : Optional easings.EasingSpec}
       → get_elem? t j ≡ some (n, easing_rule) → get_elem? xs k ≡ some (easing o)
       → quiet_but xs k (bytes n) (an_easing (of.easing_of x)) ≡ true
-      → Took 1 s c m parse_easing (of.easing_of x) × of.PlainEasing x → StepTook s c m t i xs (set xs k (easing (opt_easing.Present x)))
+      → Took 1 s c m parse_easing (of.easing_of x) × of.PlainEasing x → StepTook s c m t i xs (set xs k (easing (Some x)))
   unfolding easing_rule last
   an_easing_lem k x {o} e z q h =
-      step_took parse_easing an_easing k (easing o) (easing (opt_easing.Present x)) e z q (λ lo fs b u. (refl, h.1)) h.0
+      step_took parse_easing an_easing k (easing o) (easing (Some x)) e z q (λ lo fs b u. (refl, h.1)) h.0
 
   pub no_loop : {r : Refusal} {q : ℕ} → get_elem? t j ≡ some (n, loop_rule) → run s c parse_loop_mode ≡ refused r q → StepRefused s c t i r q
   unfolding loop_rule
   no_loop e h = step_refused parse_loop_mode a_loop_mode e h
 
-  pub a_loop : {m : Cursor} {xs : List Cell} (k : ℕ) (x : LoopSpec) {o : opt_loops.OptLoop}
+  pub a_loop : {m : Cursor} {xs : List Cell} (k : ℕ) (x : LoopSpec) {o : Optional loops.LoopSpec}
       → get_elem? t j ≡ some (n, loop_rule) → get_elem? xs k ≡ some (loop_mode o)
       → quiet_but xs k (bytes n) (a_loop_mode (of.loop_of x)) ≡ true
-      → Took 1 s c m parse_loop_mode (of.loop_of x) → StepTook s c m t i xs (set xs k (loop_mode (opt_loop.Present x)))
+      → Took 1 s c m parse_loop_mode (of.loop_of x) → StepTook s c m t i xs (set xs k (loop_mode (Some x)))
   unfolding loop_rule last
-  a_loop k x {o} e z q h = step_took parse_loop_mode a_loop_mode k (loop_mode o) (loop_mode (opt_loop.Present x)) e z q (λ lo fs b u. refl) h
+  a_loop k x {o} e z q h = step_took parse_loop_mode a_loop_mode k (loop_mode o) (loop_mode (Some x)) e z q (λ lo fs b u. refl) h
 
   -- a name among some
-  pub a_case : {m : Cursor} {xs : List Cell} (p : Rule ℕ) (k x : ℕ) {o : opt_cases.OptCase}
+  pub a_case : {m : Cursor} {xs : List Cell} (p : Rule ℕ) (k x : ℕ) {o : Optional ℕ}
       → get_elem? t j ≡ some (n, (p >>= λ a. give (a_number a)))
       → get_elem? xs k ≡ some (case n o) → quiet_but xs k (bytes n) (a_number x) ≡ true
-      → Took 1 s c m p x → StepTook s c m t i xs (set xs k (case n (opt_case.Present x)))
+      → Took 1 s c m p x → StepTook s c m t i xs (set xs k (case n (Some x)))
   unfolding last
-  a_case p k x {o} e z q h = step_took p a_number k (case n o) (case n (opt_case.Present x)) e z q (λ lo fs b u. rw (same_refl (bytes n))) h
+  a_case p k x {o} e z q h = step_took p a_number k (case n o) (case n (Some x)) e z q (λ lo fs b u. rw (same_refl (bytes n))) h
 
   -- `start..end`
-  pub a_range_lem : {p : Rule Content} {m : Cursor} {xs : List Cell} (k : ℕ) (x y : Float) {o : opt_ranges.OptRange} → get_elem? t j ≡ some (n, p)
+  pub a_range_lem : {p : Rule Content} {m : Cursor} {xs : List Cell} (k : ℕ) (x y : Float) {o : Optional (Float × Float)} → get_elem? t j ≡ some (n, p)
       → get_elem? xs k ≡ some (range o) → quiet_but xs k (bytes n) (a_range (bits x, bits y)) ≡ true
-      → Took 1 s c m p (a_range (bits x, bits y)) → of.Plain x → of.Plain y → StepTook s c m t i xs (set xs k (range (opt_range.Present x y)))
+      → Took 1 s c m p (a_range (bits x, bits y)) → of.Plain x → of.Plain y → StepTook s c m t i xs (set xs k (range (Some (x, y))))
   unfolding last
-  a_range_lem k x y {o} e z q h f g = row_took k (range o) (range (opt_range.Present x y)) e z q (λ lo fs b u. (refl, (f, g))) h
+  a_range_lem k x y {o} e z q h f g = row_took k (range o) (range (Some (x, y))) e z q (λ lo fs b u. (refl, (f, g))) h
 
   -- a damping, by a rule that gives the parts of it
   pub a_damping_lem : {A : Type 0} {m : Cursor} {xs : List Cell} (p : Rule A) (f : A → tree.DampingMode) (k : ℕ) (a : A) (x : DampingMode)
-      {o : opt_dampings.OptDamping}
+      {o : Optional dampings.DampingMode}
       → f a ≡ of.damping_of x
       → get_elem? t j ≡ some (n, (p >>= λ a. give (a_damping (f a))))
       → get_elem? xs k ≡ some (damping o)
       → quiet_but xs k (bytes n) (a_damping (f a)) ≡ true → Took 1 s c m p a
       → of.PlainDamping x
-      → StepTook s c m t i xs (set xs k (damping (opt_damping.Present x)))
+      → StepTook s c m t i xs (set xs k (damping (Some x)))
   unfolding last
   a_damping_lem p f k a x {o} d e z q h g =
-      step_took p (λ a. a_damping (f a)) k (damping o) (damping (opt_damping.Present x)) e z q (λ lo fs b u. (rw d, g)) h
+      step_took p (λ a. a_damping (f a)) k (damping o) (damping (Some x)) e z q (λ lo fs b u. (rw d, g)) h
 
   pub no_value : {r : Refusal} {q : ℕ} → get_elem? t j ≡ some (n, value_rule) → run s c parse_value ≡ refused r q → StepRefused s c t i r q
   unfolding value_rule
   no_value e h = step_refused parse_value a_value e h
 
   -- a value, kept as the cursor before it
-  pub a_value_lem : {m : Cursor} {xs : List Cell} (k : ℕ) (v : tree.ValueExpr) {o : OptPlace}
+  pub a_value_lem : {m : Cursor} {xs : List Cell} (k : ℕ) (v : tree.ValueExpr) {o : Optional Cursor}
       → get_elem? t j ≡ some (n, value_rule) → get_elem? xs k ≡ some (place o)
       → quiet_but xs k (bytes n) (a_value v) ≡ true
       → Ready s c → Took 1 s c m parse_value v
       → length (value_form.write v) ≤ 64 * (at_of m - at_of c)
-      → StepTook s c m t i xs (set xs k (place (opt_place.Present c)))
+      → StepTook s c m t i xs (set xs k (place (Some c)))
   unfolding value_rule last
   a_value_lem {m} k v {o} e z q r h g =
-      step_took parse_value a_value k (place o) (place (opt_place.Present c)) e z q
+      step_took parse_value a_value k (place o) (place (Some c)) e z q
       (λ lo fs b u. (v, refl, record { ready = r; next = m; took = h; low = b; high = omega arith; paid = g })) h
 
 -- ---- the loop

@@ -1,18 +1,10 @@
 -- What is kept of a node's fields, whatever its kind: one cell for each field of its struct. Contracts cite these.
-use Rattle.std.specs.Prelude.{ℕ, ◌*◌, ◌-◌, ◌≤◌, Bool, List, [], ◌∷◌, ◌≡◌, length}
+use Rattle.std.specs.Prelude.{ℕ, ◌*◌, ◌-◌, ◌≤◌, Bool, List, [], ◌∷◌, ◌≡◌, length, Some, None, Option as Optional}
 use Prim.Native.String.{String}
 use Rattle.std.proofs.Math.Option.{Option, none, some}
 use Rattle.std.proofs.Math.ListN.{get_elem?}
 use Rattle.text.specs.Bytes.{bytes}
 use Rattle.error.specs.declared.Refusal.{Refusal}
-use Rattle.ast.specs.declared.OptF32.{OptF32}
-use Rattle.ast.specs.declared.OptU32.{OptU32}
-use Rattle.ast.specs.declared.OptCase.{OptCase}
-use Rattle.ast.specs.declared.OptBool.{OptBool}
-use Rattle.ast.specs.declared.OptEasing.{OptEasing}
-use Rattle.ast.specs.declared.OptLoop.{OptLoop}
-use Rattle.ast.specs.declared.OptRange.{OptRange}
-use Rattle.ast.specs.declared.OptDamping.{OptDamping}
 use Rattle.sheet_encode.specs.Means as of
 use Rattle.ast.specs.Tree.{ValueExpr}
 use Rattle.sheet.specs.Sheet.{value_form}
@@ -24,21 +16,19 @@ use Rattle.grammar.specs.Fields.{last_value, last_range, last_damping}
 use Rattle.read_cursor.specs.WordMeans.{at_of}
 use Rattle.read_cursor.specs.Means.{Ready, run, Took}
 use Rattle.read_cursor.specs.declared.Cursor.{Cursor}
-use Rattle.read_node.specs.declared.OptPlace.{OptPlace}
-use Rattle.read_node.specs.declared.OptPlace.TheVariants as opt_place
 
 -- a field of a kind's struct: its sort, the name it is under in the text where its value goes by that, and what it holds
 pub data Cell : Type 0 where
-  float : String → OptF32 → Cell
-  whole : String → OptU32 → Cell
-  case : String → OptCase → Cell
-  truth : String → OptBool → Cell
+  float : String → Optional Float → Cell
+  whole : String → Optional ℕ → Cell
+  case : String → Optional ℕ → Cell
+  truth : String → Optional Bool → Cell
   ever : String → Bool → Cell
-  easing : OptEasing → Cell
-  loop_mode : OptLoop → Cell
-  range : OptRange → Cell
-  damping : OptDamping → Cell
-  place : OptPlace → Cell
+  easing : Optional EasingSpec → Cell
+  loop_mode : Optional LoopSpec → Cell
+  range : Optional (Float × Float) → Cell
+  damping : Optional DampingMode → Cell
+  place : Optional Cursor → Cell
 
 -- the value v stands at the cursor c, between the places lo and hi, and its text pays for its bytes
 pub record ValueAt (s : List ℕ) (lo hi : ℕ) (c : Cursor) (v : ValueExpr) : Type 0 where
@@ -50,9 +40,9 @@ pub record ValueAt (s : List ℕ) (lo hi : ℕ) (c : Cursor) (v : ValueExpr) : T
   pub paid : length (value_form.write v) ≤ 64 * (at_of next - at_of c)
 
 -- a value is kept as the cursor before it
-abbrev pub PlaceSays : List ℕ → ℕ → ℕ → OptPlace → Option ValueExpr → Type 0
-PlaceSays s lo hi opt_place.Absent v = v ≡ none
-PlaceSays s lo hi (opt_place.Present c) v = (x : ValueExpr) × (v ≡ some x) × ValueAt s lo hi c x
+abbrev pub PlaceSays : List ℕ → ℕ → ℕ → Optional Cursor → Option ValueExpr → Type 0
+PlaceSays s lo hi None v = v ≡ none
+PlaceSays s lo hi (Some c) v = (x : ValueExpr) × (v ≡ some x) × ValueAt s lo hi c x
 
 -- it holds what the fields fs say, which stand between the places lo and hi
 abbrev pub CellSays : List ℕ → ℕ → ℕ → Cell → Fields → Type 0

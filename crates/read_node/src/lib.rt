@@ -19,13 +19,6 @@ pub enum NodeRead {
     Refused(Refusal, usize),
 }
 
-// A value of several numbers is kept as the cursor before it.
-#[derive(Clone, Copy)]
-pub enum OptPlace {
-    Absent,
-    Present(Cursor),
-}
-
 // ---- the target and the two values of tween and spring
 
 // The target and its `:`.

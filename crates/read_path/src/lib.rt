@@ -10,7 +10,7 @@ ghost use Rattle.sheet_encode.specs.Means.{span_of};
 ghost use Rattle.grammar.specs.Grammar.{parse_path};
 ghost use Rattle.read_arrays.specs.Means.{Room};
 
-use ast::{OptBool, OptEasing, OptF32, OptLoop, OptRange, PathSpec, Span};
+use ast::{PathSpec, Span};
 use error::Refusal;
 use read_cursor::{CaseRead, Cursor, FloatRead, MarkRead, TruthRead, WordRead};
 use read_fields::NextField;
@@ -22,11 +22,11 @@ use read_values::{EasingRead, LoopRead, PairRead};
 // What the fields of a path say.
 #[derive(Clone, Copy)]
 pub struct PathFields {
-    pub duration: OptF32,
-    pub easing: OptEasing,
-    pub auto_rotate: OptBool,
-    pub offset: OptRange,
-    pub loop_mode: OptLoop,
+    pub duration: Option<f32>,
+    pub easing: Option<EasingSpec>,
+    pub auto_rotate: Option<bool>,
+    pub offset: Option<(f32, f32)>,
+    pub loop_mode: Option<LoopSpec>,
 }
 
 #[derive(Clone, Copy)]
@@ -61,21 +61,21 @@ fn path_step(text: &[u8], c: Cursor, row: usize, kept: PathFields) -> PathStep
         0 => match read_cursor::parse_float(text, c) {
             FloatRead::Refused(r, p) => PathStep::Refused(r, p),
             FloatRead::Is(x, m) => {
-                let duration = OptF32::Present(x);
+                let duration = Some(x);
                 PathStep::Is(PathFields { duration, ..kept }, m)
             }
         },
         1 => match read_values::parse_easing(text, c) {
             EasingRead::Refused(r, p) => PathStep::Refused(r, p),
             EasingRead::Is(x, m) => {
-                let easing = OptEasing::Present(x);
+                let easing = Some(x);
                 PathStep::Is(PathFields { easing, ..kept }, m)
             }
         },
         2 => match read_cursor::truth(text, c) {
             TruthRead::Missing(p) => PathStep::Refused(Refusal::Missing, p),
             TruthRead::Is(b, m) => {
-                let auto_rotate = OptBool::Present(b);
+                let auto_rotate = Some(b);
                 PathStep::Is(
                     PathFields {
                         auto_rotate,
@@ -88,14 +88,14 @@ fn path_step(text: &[u8], c: Cursor, row: usize, kept: PathFields) -> PathStep
         3 => match offset_range(text, c) {
             PairRead::Refused(r, p) => PathStep::Refused(r, p),
             PairRead::Is(start, end, m) => {
-                let offset = OptRange::Present(start, end);
+                let offset = Some((start, end));
                 PathStep::Is(PathFields { offset, ..kept }, m)
             }
         },
         _ => match read_values::parse_loop_mode(text, c) {
             LoopRead::Refused(r, p) => PathStep::Refused(r, p),
             LoopRead::Is(x, m) => {
-                let loop_mode = OptLoop::Present(x);
+                let loop_mode = Some(x);
                 PathStep::Is(PathFields { loop_mode, ..kept }, m)
             }
         },
@@ -109,11 +109,11 @@ fn path_fields(text: &[u8], c: Cursor) -> PathStep
 {
     let mut m = c;
     let mut kept = PathFields {
-        duration: OptF32::Absent,
-        easing: OptEasing::Absent,
-        auto_rotate: OptBool::Absent,
-        offset: OptRange::Absent,
-        loop_mode: OptLoop::Absent,
+        duration: None,
+        easing: None,
+        auto_rotate: None,
+        offset: None,
+        loop_mode: None,
     };
     loop {
         match read_fields::parse_field_list(text, m, words::PATH_ROWS) {
@@ -167,7 +167,7 @@ fn path_end(
         PathStep::Refused(r, p) => NodeRead::Refused(r, p),
         PathStep::Is(f, e) => {
             let written = f.duration;
-            let OptF32::Present(duration) = written else {
+            let Some(duration) = written else {
                 return NodeRead::Refused(Refusal::MissingDuration, read_cursor::place(e));
             };
             let easing = f.easing;

@@ -1,4 +1,5 @@
 -- A spring is read and written.
+use Rattle.std.specs.Prelude.{Some, None, Option as Optional}
 use Prim.Native.Nat.{ℕ, ◌+◌, ◌*◌, ◌-◌, ◌≤◌}
 use mathlib.Core.List.{List, [], ◌∷◌}
 use mathlib.Core.Option.{Option}
@@ -23,8 +24,6 @@ use Rattle.read_cursor.specs.WordMeans.{at_of}
 use Rattle.read_cursor.specs.Means.{run}
 use Rattle.read_cursor.specs.declared.Cursor.{Cursor}
 use Rattle.read_node.specs.CellMeans.{PlaceSays, ListTook}
-use Rattle.read_node.specs.declared.OptPlace.{OptPlace}
-use Rattle.read_node.specs.declared.OptPlace.TheVariants as opt_place
 use Rattle.read_spring.specs.Means.{spring_cells}
 use Rattle.read_spring.specs.declared.SpringFields.{SpringFields}
 use Rattle.read_arrays.specs.Means.{Went}
@@ -36,10 +35,10 @@ use Rattle.read_node.proofs.EndsLaws.{flat_run, record_written, eight, word-most
 -- ---- the velocity
 
 module _ (s : List ℕ) (at : ℕ) (lo hi : ℕ) (v : Option ValueExpr) where
-  pub velocity_absent : {b a : List ℕ} {q : ℕ} → Writes b at (0 ∷ []) a q → PlaceSays s lo hi opt_place.Absent v → VelocityPut b a at v q
+  pub velocity_absent : {b a : List ℕ} {q : ℕ} → Writes b at (0 ∷ []) a q → PlaceSays s lo hi None v → VelocityPut b a at v q
   velocity_absent w e = record { writes = rw e w; most = let p = w.place in omega arith }
 
-  module _ (c : Cursor) (h : PlaceSays s lo hi (opt_place.Present c) v) where
+  module _ (c : Cursor) (h : PlaceSays s lo hi (Some c) v) where
     pub velocity_present : {b b' a : List ℕ} {f q : ℕ} (m : Cursor) → length s ≤ text_limit
         → Writes b at (1 ∷ []) b' f
         → Went 1 s b' a c m f q parse_value value_form.write
@@ -55,11 +54,11 @@ module _ (s : List ℕ) (at : ℕ) (lo hi : ℕ) (v : Option ValueExpr) where
     pub velocity_refused : {A : Type 0} (r : Refusal) (q : ℕ) → run s c parse_value ≡ refused r q → A
     velocity_refused r q e = let z = sym e ∙ h.2.took.is in absurd (let y : ◌≡◌ {A = ℕ} 0 1 = cc in omega arith)
 
-velocity_paid : (s : List ℕ) (lo hi : ℕ) (p : OptPlace) (v : Option ValueExpr)
+velocity_paid : (s : List ℕ) (lo hi : ℕ) (p : Optional Cursor) (v : Option ValueExpr)
     → PlaceSays s lo hi p v
     → length ((opt value_form).write v) ≤ 1 + 64 * (hi - lo)
-velocity_paid s lo hi opt_place.Absent v e = rw e (omega arith)
-velocity_paid s lo hi (opt_place.Present c) v h =
+velocity_paid s lo hi None v e = rw e (omega arith)
+velocity_paid s lo hi (Some c) v h =
     rw h.1 (omega (arith, h.2.paid, h.2.low, h.2.high))
 
 -- ---- the fields

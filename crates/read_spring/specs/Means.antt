@@ -1,5 +1,5 @@
 -- What a spring's fields keep, and what is written of them. Contracts cite these.
-use Rattle.std.specs.Prelude.{ℕ, ◌*◌, ◌-◌, ◌≤◌, ◌+◌, List, [], ◌∷◌, ◌++◌, ◌≡◌, length}
+use Rattle.std.specs.Prelude.{ℕ, ◌*◌, ◌-◌, ◌≤◌, ◌+◌, List, [], ◌∷◌, ◌++◌, ◌≡◌, length, Option as Optional}
 use Rattle.ast.specs.Tree.{ValueExpr}
 use Rattle.sheet.specs.Sheet.{value_form, word, damping_form}
 use Rattle.grammar.specs.Rule.{refused}
@@ -20,7 +20,6 @@ use Rattle.text.specs.Limits.{text_limit}
 use Rattle.codec.specs.Codec.{opt, below}
 use Rattle.sheet_encode.specs.Means.{PlainOptFloat, PlainOptDamping, opt_float_of, opt_case_of, opt_damping_of}
 use Rattle.sheet_encode.specs.WriteMeans.{Writes}
-use Rattle.read_node.specs.declared.OptPlace.{OptPlace}
 
 -- a number or an array is passed, and its text pays for its bytes
 abbrev pub PastMeans : List ℕ → Cursor → PastRead → Type 0
@@ -43,7 +42,7 @@ SpringListMeans s c (step.Refused r q) = run s c (parse_field_list spring_fields
 -- ---- the record
 
 -- a value stands at the place that is kept of one
-abbrev pub Told : List ℕ → OptPlace → Type 0
+abbrev pub Told : List ℕ → Optional Cursor → Type 0
 Told s p = (v : Option ValueExpr) × (lo : ℕ) × (hi : ℕ) × PlaceSays s lo hi p v
 
 -- the velocity v is written; a text of 16,384 bytes has none of more

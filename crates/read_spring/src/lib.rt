@@ -14,12 +14,12 @@ ghost use Rattle.read_arrays.specs.Means.{Room, Wide};
 ghost use Rattle.read_node.specs.Means.{LeafMeans};
 ghost use Rattle.read_node.specs.CellMeans.{PlaceSays};
 
-use ast::{DampingMode, OptCase, OptDamping, OptF32};
+use ast::DampingMode;
 use error::Refusal;
 use read_arrays::ValueRead;
 use read_cursor::{CaseRead, Cursor, FloatRead};
 use read_fields::NextField;
-use read_node::{NodeRead, OptPlace};
+use read_node::NodeRead;
 use read_values::PairRead;
 
 // ---- the fields
@@ -27,14 +27,14 @@ use read_values::PairRead;
 // What a spring's fields say. The velocity is the cursor before it.
 #[derive(Clone, Copy)]
 pub struct SpringFields {
-    pub preset: OptCase,
-    pub stiffness: OptF32,
-    pub damping: OptF32,
-    pub mass: OptF32,
-    pub velocity: OptPlace,
-    pub epsilon: OptF32,
-    pub integrator: OptCase,
-    pub damping_mode: OptDamping,
+    pub preset: Option<u8>,
+    pub stiffness: Option<f32>,
+    pub damping: Option<f32>,
+    pub mass: Option<f32>,
+    pub velocity: Option<Cursor>,
+    pub epsilon: Option<f32>,
+    pub integrator: Option<u8>,
+    pub damping_mode: Option<DampingMode>,
 }
 
 #[derive(Clone, Copy)]
@@ -71,7 +71,7 @@ fn damping_step(text: &[u8], c: Cursor, row: usize, kept: SpringFields) -> Sprin
             FloatRead::Refused(r, p) => SpringStep::Refused(r, p),
             FloatRead::Is(x, m) => {
                 let mode = DampingMode::CriticallyDamped(x);
-                let damping_mode = OptDamping::Present(mode);
+                let damping_mode = Some(mode);
                 SpringStep::Is(
                     SpringFields {
                         damping_mode,
@@ -85,7 +85,7 @@ fn damping_step(text: &[u8], c: Cursor, row: usize, kept: SpringFields) -> Sprin
             PairRead::Refused(r, p) => SpringStep::Refused(r, p),
             PairRead::Is(x, y, m) => {
                 let mode = DampingMode::Overdamped(x, y);
-                let damping_mode = OptDamping::Present(mode);
+                let damping_mode = Some(mode);
                 SpringStep::Is(
                     SpringFields {
                         damping_mode,
@@ -99,7 +99,7 @@ fn damping_step(text: &[u8], c: Cursor, row: usize, kept: SpringFields) -> Sprin
             PairRead::Refused(r, p) => SpringStep::Refused(r, p),
             PairRead::Is(x, y, m) => {
                 let mode = DampingMode::Underdamped(x, y);
-                let damping_mode = OptDamping::Present(mode);
+                let damping_mode = Some(mode);
                 SpringStep::Is(
                     SpringFields {
                         damping_mode,
@@ -126,49 +126,49 @@ fn spring_step(text: &[u8], c: Cursor, row: usize, kept: SpringFields) -> Spring
         ) {
             CaseRead::Refused(r, p) => SpringStep::Refused(r, p),
             CaseRead::Is(i, m) => {
-                let preset = OptCase::Present(i as u8);
+                let preset = Some(i as u8);
                 SpringStep::Is(SpringFields { preset, ..kept }, m)
             }
         },
         1 => match read_cursor::parse_float(text, c) {
             FloatRead::Refused(r, p) => SpringStep::Refused(r, p),
             FloatRead::Is(x, m) => {
-                let stiffness = OptF32::Present(x);
+                let stiffness = Some(x);
                 SpringStep::Is(SpringFields { stiffness, ..kept }, m)
             }
         },
         2 => match read_cursor::parse_float(text, c) {
             FloatRead::Refused(r, p) => SpringStep::Refused(r, p),
             FloatRead::Is(x, m) => {
-                let damping = OptF32::Present(x);
+                let damping = Some(x);
                 SpringStep::Is(SpringFields { damping, ..kept }, m)
             }
         },
         3 => match read_cursor::parse_float(text, c) {
             FloatRead::Refused(r, p) => SpringStep::Refused(r, p),
             FloatRead::Is(x, m) => {
-                let mass = OptF32::Present(x);
+                let mass = Some(x);
                 SpringStep::Is(SpringFields { mass, ..kept }, m)
             }
         },
         4 => match past_value(text, c) {
             PastRead::Refused(r, p) => SpringStep::Refused(r, p),
             PastRead::Is(m) => {
-                let velocity = OptPlace::Present(c);
+                let velocity = Some(c);
                 SpringStep::Is(SpringFields { velocity, ..kept }, m)
             }
         },
         5 => match read_cursor::parse_float(text, c) {
             FloatRead::Refused(r, p) => SpringStep::Refused(r, p),
             FloatRead::Is(x, m) => {
-                let epsilon = OptF32::Present(x);
+                let epsilon = Some(x);
                 SpringStep::Is(SpringFields { epsilon, ..kept }, m)
             }
         },
         6 => match read_cursor::choice(text, c, words::INTEGRATORS, Refusal::Malformed) {
             CaseRead::Refused(r, p) => SpringStep::Refused(r, p),
             CaseRead::Is(i, m) => {
-                let integrator = OptCase::Present(i as u8);
+                let integrator = Some(i as u8);
                 SpringStep::Is(SpringFields { integrator, ..kept }, m)
             }
         },
@@ -183,14 +183,14 @@ fn spring_fields(text: &[u8], c: Cursor) -> SpringStep
 {
     let mut m = c;
     let mut kept = SpringFields {
-        preset: OptCase::Absent,
-        stiffness: OptF32::Absent,
-        damping: OptF32::Absent,
-        mass: OptF32::Absent,
-        velocity: OptPlace::Absent,
-        epsilon: OptF32::Absent,
-        integrator: OptCase::Absent,
-        damping_mode: OptDamping::Absent,
+        preset: None,
+        stiffness: None,
+        damping: None,
+        mass: None,
+        velocity: None,
+        epsilon: None,
+        integrator: None,
+        damping_mode: None,
     };
     loop {
         match read_fields::parse_field_list(text, m, words::SPRING_ROWS) {
@@ -210,13 +210,13 @@ fn spring_fields(text: &[u8], c: Cursor) -> SpringStep
 // ---- the node
 
 // Writes the velocity, read again from its cursor. A value stands there, so it is not refused.
-fn put_velocity(text: &[u8], sheet: &mut [u8], at: usize, velocity: OptPlace) -> usize
+fn put_velocity(text: &[u8], sheet: &mut [u8], at: usize, velocity: Option<Cursor>) -> usize
     requires { Wide text.now (at + 64) × Told text.now velocity }
     ensures { (lo hi : ℕ) (v : Option ValueExpr) → PlaceSays text.now lo hi velocity v → VelocityPut sheet.old sheet.new at v result }
 {
     match velocity {
-        OptPlace::Absent => sheet_encode::put_byte(sheet, at, 0),
-        OptPlace::Present(c) => {
+        None => sheet_encode::put_byte(sheet, at, 0),
+        Some(c) => {
             let value_at = sheet_encode::put_byte(sheet, at, 1);
             match read_arrays::parse_value(text, sheet, c, value_at) {
                 ValueRead::Refused(_, _) => value_at,

@@ -1,4 +1,5 @@
 -- A tween is read and written.
+use Rattle.std.specs.Prelude.{Some, None}
 use Prim.Native.Nat.{ℕ, ◌≤◌}
 use mathlib.Core.List.{List, []}
 use mathlib.Core.Path.{◌≡◌, sym, subst, ◌∙◌}
@@ -9,7 +10,6 @@ use Rattle.number.specs.Number.{bits}
 use Rattle.number.specs.Time.{Key}
 use Rattle.codec.specs.Codec.{opt}
 use Rattle.ast.specs.Tree.{Leaf}
-use Rattle.ast.specs.declared.OptF32.TheVariants as opt_float
 use Rattle.sheet.specs.Sheet.{word, flag, span_form, value_form, easing_form, loop_form}
 use Rattle.sheet_encode.specs.Means.{PlainOptFloat, opt_float_of, opt_word_of, opt_easing_of, opt_loop_of}
 use Rattle.sheet_encode.specs.WriteMeans.{Writes}
@@ -84,12 +84,12 @@ module _ {s b a : List ℕ} {c m : Cursor} {out at : ℕ} (e : EndsWent s b a c 
   tween_no_fields h = record { by = tween_run s c ∙ (rw (e.took.is, h)) }
 
   module _ {u : Cursor} {f : TweenFields} (t : ListTook s m u (parse_field_list tween_fields []) (tween_cells f)) where
-    pub tween_untimed : {a' : List ℕ} → f.duration ≡ opt_float.Absent
+    pub tween_untimed : {a' : List ℕ} → f.duration ≡ None
         → LeafMeans s b a' c out parse_tween (node.Refused MissingDuration (at_of u))
     tween_untimed d =
         record { by = tween_run s c ∙ (rw (e.took.is, t.took.is, sym t.say.0.0, d, t.took.ready.head.place)) }
 
-    module _ {x : Float} (d : f.duration ≡ opt_float.Present x) where
+    module _ {x : Float} (d : f.duration ≡ Some x) where
       pub tween_plain : PlainTween x f
       tween_plain =
           let easing = t.say.1 in

@@ -10,7 +10,6 @@ ghost use Rattle.sheet_encode.specs.WriteMeans.{Writes};
 ghost use Rattle.read_arrays.specs.Means.{Room};
 ghost use Rattle.read_node.specs.Means.{LeafMeans};
 
-use ast::{OptEasing, OptF32, OptLoop, OptU32};
 use error::Refusal;
 use read_arrays::ValueRead;
 use read_cursor::{Cursor, FloatRead, TruthRead, UintRead};
@@ -23,13 +22,13 @@ use read_values::{EasingRead, LoopRead};
 // What a tween's fields say.
 #[derive(Clone, Copy)]
 pub struct TweenFields {
-    pub duration: OptF32,
-    pub easing: OptEasing,
-    pub delay: OptF32,
-    pub time_scale: OptF32,
-    pub loop_mode: OptLoop,
-    pub snap: OptF32,
-    pub round: OptU32,
+    pub duration: Option<f32>,
+    pub easing: Option<EasingSpec>,
+    pub delay: Option<f32>,
+    pub time_scale: Option<f32>,
+    pub loop_mode: Option<LoopSpec>,
+    pub snap: Option<f32>,
+    pub round: Option<u32>,
     pub reverse: bool,
 }
 
@@ -57,49 +56,49 @@ fn tween_step(text: &[u8], c: Cursor, row: usize, kept: TweenFields) -> TweenSte
         0 => match read_cursor::parse_float(text, c) {
             FloatRead::Refused(r, p) => TweenStep::Refused(r, p),
             FloatRead::Is(x, m) => {
-                let duration = OptF32::Present(x);
+                let duration = Some(x);
                 TweenStep::Is(TweenFields { duration, ..kept }, m)
             }
         },
         1 => match read_values::parse_easing(text, c) {
             EasingRead::Refused(r, p) => TweenStep::Refused(r, p),
             EasingRead::Is(x, m) => {
-                let easing = OptEasing::Present(x);
+                let easing = Some(x);
                 TweenStep::Is(TweenFields { easing, ..kept }, m)
             }
         },
         2 => match read_cursor::parse_float(text, c) {
             FloatRead::Refused(r, p) => TweenStep::Refused(r, p),
             FloatRead::Is(x, m) => {
-                let delay = OptF32::Present(x);
+                let delay = Some(x);
                 TweenStep::Is(TweenFields { delay, ..kept }, m)
             }
         },
         3 => match read_cursor::parse_float(text, c) {
             FloatRead::Refused(r, p) => TweenStep::Refused(r, p),
             FloatRead::Is(x, m) => {
-                let time_scale = OptF32::Present(x);
+                let time_scale = Some(x);
                 TweenStep::Is(TweenFields { time_scale, ..kept }, m)
             }
         },
         4 => match read_values::parse_loop_mode(text, c) {
             LoopRead::Refused(r, p) => TweenStep::Refused(r, p),
             LoopRead::Is(x, m) => {
-                let loop_mode = OptLoop::Present(x);
+                let loop_mode = Some(x);
                 TweenStep::Is(TweenFields { loop_mode, ..kept }, m)
             }
         },
         5 => match read_cursor::parse_float(text, c) {
             FloatRead::Refused(r, p) => TweenStep::Refused(r, p),
             FloatRead::Is(x, m) => {
-                let snap = OptF32::Present(x);
+                let snap = Some(x);
                 TweenStep::Is(TweenFields { snap, ..kept }, m)
             }
         },
         6 => match read_cursor::parse_uint(text, c) {
             UintRead::Refused(r, p) => TweenStep::Refused(r, p),
             UintRead::Is(n, m) => {
-                let round = OptU32::Present(n);
+                let round = Some(n);
                 TweenStep::Is(TweenFields { round, ..kept }, m)
             }
         },
@@ -120,13 +119,13 @@ fn tween_fields(text: &[u8], c: Cursor) -> TweenStep
 {
     let mut m = c;
     let mut kept = TweenFields {
-        duration: OptF32::Absent,
-        easing: OptEasing::Absent,
-        delay: OptF32::Absent,
-        time_scale: OptF32::Absent,
-        loop_mode: OptLoop::Absent,
-        snap: OptF32::Absent,
-        round: OptU32::Absent,
+        duration: None,
+        easing: None,
+        delay: None,
+        time_scale: None,
+        loop_mode: None,
+        snap: None,
+        round: None,
         reverse: false,
     };
     loop {
@@ -177,7 +176,7 @@ pub fn parse_tween(text: &[u8], sheet: &mut [u8], c: Cursor, out: usize) -> Node
             TweenStep::Refused(r, p) => NodeRead::Refused(r, p),
             TweenStep::Is(fields, e) => {
                 let written = fields.duration;
-                let OptF32::Present(duration) = written else {
+                let Some(duration) = written else {
                     return NodeRead::Refused(Refusal::MissingDuration, read_cursor::place(e));
                 };
                 NodeRead::Is(put_tween_fields(sheet, at, duration, fields), e)

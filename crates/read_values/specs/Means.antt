@@ -1,5 +1,5 @@
 -- What the answers of the functions mean, in terms of the grammar's rules. Contracts cite these.
-use Rattle.std.specs.Prelude.{ℕ, List, [], ◌∷◌, ◌≡◌, Float}
+use Rattle.std.specs.Prelude.{ℕ, List, [], ◌∷◌, ◌≡◌, Float, Option as Optional}
 use Prim.Native.String.{String}
 use Rattle.std.proofs.Math.Option.{some}
 use Rattle.std.proofs.Math.ListN.{get_elem?}
@@ -18,7 +18,6 @@ use Rattle.read_values.specs.declared.PairRead.{PairRead}
 use Rattle.read_values.specs.declared.PairRead.TheVariants as pair
 use Rattle.read_values.specs.declared.EasingRead.{EasingRead}
 use Rattle.read_values.specs.declared.EasingRead.TheVariants as easing
-use Rattle.ast.specs.declared.OptF32.{OptF32}
 use Rattle.read_values.specs.declared.SlowMoFields.{SlowMoFields}
 use Rattle.read_values.specs.declared.SlowMoRead.{SlowMoRead}
 use Rattle.read_values.specs.declared.SlowMoRead.TheVariants as slow_mo
@@ -67,7 +66,7 @@ abbrev pub ModeAtMeans : List ℕ → Cursor → ℕ → LoopRead → Type 0
 ModeAtMeans s c i a = (row : String × Rule tree.LoopSpec) → get_elem? loop_modes i ≡ some row → ModeMeans s c row.1 a
 
 -- the float of o, or else d
-pub record FloatOr (o : OptF32) (d r : Float) : Type 0 where
+pub record FloatOr (o : Optional Float) (d r : Float) : Type 0 where
   pub is : bits r ≡ default (opt_float_of o) (bits d)
   pub plain : PlainOptFloat o → Plain d → Plain r
 

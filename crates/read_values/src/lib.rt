@@ -10,7 +10,7 @@ ghost use Rattle.text.specs.Words.{default};
 ghost use Rattle.sheet_encode.specs.Means.{opt_word_of, opt_case_of};
 ghost use Rattle.read_values.specs.Means.{PairMeans, EasingMeans, CurveMeans, NamedMeans, LoopMeans, ModeMeans, ModeAtMeans, RoughFieldMeans, RoughMeans, SlowMoFieldMeans, SlowMoMeans, FloatOr};
 
-use ast::{EasingSpec, LoopSpec, OptCase, OptF32, OptU32, Span};
+use ast::{EasingSpec, LoopSpec, Span};
 use error::Refusal;
 use read_cursor::{Cursor, FloatRead, MarkRead, UintRead, WordRead};
 use read_fields::NextField;
@@ -144,8 +144,8 @@ fn bezier_curve(text: &[u8], c: Cursor) -> EasingRead
 // The fields so far.
 #[derive(Clone, Copy)]
 pub struct RoughFields {
-    pub strength: OptF32,
-    pub points: OptU32,
+    pub strength: Option<f32>,
+    pub points: Option<u32>,
 }
 
 #[derive(Clone, Copy)]
@@ -166,7 +166,7 @@ fn rough_field(text: &[u8], c: Cursor, f: RoughFields, i: usize) -> RoughRead
             FloatRead::Refused(r, p) => RoughRead::Refused(r, p),
             FloatRead::Is(x, m) => RoughRead::Is(
                 RoughFields {
-                    strength: OptF32::Present(x),
+                    strength: Some(x),
                     points,
                 },
                 m,
@@ -178,7 +178,7 @@ fn rough_field(text: &[u8], c: Cursor, f: RoughFields, i: usize) -> RoughRead
         UintRead::Is(n, m) => RoughRead::Is(
             RoughFields {
                 strength,
-                points: OptU32::Present(n),
+                points: Some(n),
             },
             m,
         ),
@@ -198,8 +198,8 @@ fn rough_fields(text: &[u8], c: Cursor) -> RoughRead
 {
     let mut m = c;
     let mut f = RoughFields {
-        strength: OptF32::Absent,
-        points: OptU32::Absent,
+        strength: None,
+        points: None,
     };
     loop {
         match next_rough(text, m) {
@@ -226,8 +226,8 @@ fn rough_fields(text: &[u8], c: Cursor) -> RoughRead
 // The fields so far.
 #[derive(Clone, Copy)]
 pub struct SlowMoFields {
-    pub linear_ratio: OptF32,
-    pub power: OptF32,
+    pub linear_ratio: Option<f32>,
+    pub power: Option<f32>,
 }
 
 #[derive(Clone, Copy)]
@@ -248,7 +248,7 @@ fn slow_mo_field(text: &[u8], c: Cursor, f: SlowMoFields, i: usize) -> SlowMoRea
             FloatRead::Refused(r, p) => SlowMoRead::Refused(r, p),
             FloatRead::Is(x, m) => SlowMoRead::Is(
                 SlowMoFields {
-                    linear_ratio: OptF32::Present(x),
+                    linear_ratio: Some(x),
                     power,
                 },
                 m,
@@ -260,7 +260,7 @@ fn slow_mo_field(text: &[u8], c: Cursor, f: SlowMoFields, i: usize) -> SlowMoRea
         FloatRead::Is(n, m) => SlowMoRead::Is(
             SlowMoFields {
                 linear_ratio,
-                power: OptF32::Present(n),
+                power: Some(n),
             },
             m,
         ),
@@ -280,8 +280,8 @@ fn slow_mo_fields(text: &[u8], c: Cursor) -> SlowMoRead
 {
     let mut m = c;
     let mut f = SlowMoFields {
-        linear_ratio: OptF32::Absent,
-        power: OptF32::Absent,
+        linear_ratio: None,
+        power: None,
     };
     loop {
         match next_slow_mo(text, m) {
@@ -305,30 +305,30 @@ fn slow_mo_fields(text: &[u8], c: Cursor) -> SlowMoRead
 
 // ---- what is present, or else a default
 
-pub fn word_or(o: OptU32, d: u32) -> u32
+pub fn word_or(o: Option<u32>, d: u32) -> u32
     ensures { result ≡ default (opt_word_of o) d }
 {
     match o {
-        OptU32::Absent => d,
-        OptU32::Present(n) => n,
+        None => d,
+        Some(n) => n,
     }
 }
 
-pub fn case_or(o: OptCase, d: u8) -> u8
+pub fn case_or(o: Option<u8>, d: u8) -> u8
     ensures { result ≡ default (opt_case_of o) d }
 {
     match o {
-        OptCase::Absent => d,
-        OptCase::Present(k) => k,
+        None => d,
+        Some(k) => k,
     }
 }
 
-pub fn float_or(o: OptF32, d: f32) -> f32
+pub fn float_or(o: Option<f32>, d: f32) -> f32
     ensures { FloatOr o d result }
 {
     match o {
-        OptF32::Absent => d,
-        OptF32::Present(x) => x,
+        None => d,
+        Some(x) => x,
     }
 }
 

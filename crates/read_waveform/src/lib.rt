@@ -9,7 +9,7 @@ ghost use Rattle.read_node.specs.Means.{Put, LeafMeans, EndMeans};
 ghost use Rattle.grammar.specs.Grammar.{parse_waveform};
 ghost use Rattle.read_arrays.specs.Means.{Room};
 
-use ast::{OptF32, OptU32, WaveformKind, WaveformSpec};
+use ast::{WaveformKind, WaveformSpec};
 use error::Refusal;
 use read_cursor::{CaseRead, Cursor, FloatRead, UintRead};
 use read_fields::NextField;
@@ -20,13 +20,13 @@ use read_node::NodeRead;
 // What the fields of a waveform say.
 #[derive(Clone, Copy)]
 pub struct WaveformFields {
-    pub frequency: OptF32,
-    pub amplitude: OptF32,
-    pub phase: OptF32,
-    pub duty_cycle: OptF32,
-    pub seed: OptU32,
-    pub smoothness: OptF32,
-    pub duration: OptF32,
+    pub frequency: Option<f32>,
+    pub amplitude: Option<f32>,
+    pub phase: Option<f32>,
+    pub duty_cycle: Option<f32>,
+    pub seed: Option<u32>,
+    pub smoothness: Option<f32>,
+    pub duration: Option<f32>,
 }
 
 #[derive(Clone, Copy)]
@@ -44,49 +44,49 @@ fn waveform_step(text: &[u8], c: Cursor, row: usize, kept: WaveformFields) -> Wa
         0 => match read_cursor::parse_float(text, c) {
             FloatRead::Refused(r, p) => WaveformStep::Refused(r, p),
             FloatRead::Is(x, m) => {
-                let frequency = OptF32::Present(x);
+                let frequency = Some(x);
                 WaveformStep::Is(WaveformFields { frequency, ..kept }, m)
             }
         },
         1 => match read_cursor::parse_float(text, c) {
             FloatRead::Refused(r, p) => WaveformStep::Refused(r, p),
             FloatRead::Is(x, m) => {
-                let amplitude = OptF32::Present(x);
+                let amplitude = Some(x);
                 WaveformStep::Is(WaveformFields { amplitude, ..kept }, m)
             }
         },
         2 => match read_cursor::parse_float(text, c) {
             FloatRead::Refused(r, p) => WaveformStep::Refused(r, p),
             FloatRead::Is(x, m) => {
-                let phase = OptF32::Present(x);
+                let phase = Some(x);
                 WaveformStep::Is(WaveformFields { phase, ..kept }, m)
             }
         },
         3 => match read_cursor::parse_float(text, c) {
             FloatRead::Refused(r, p) => WaveformStep::Refused(r, p),
             FloatRead::Is(x, m) => {
-                let duty_cycle = OptF32::Present(x);
+                let duty_cycle = Some(x);
                 WaveformStep::Is(WaveformFields { duty_cycle, ..kept }, m)
             }
         },
         4 => match read_cursor::parse_uint(text, c) {
             UintRead::Refused(r, p) => WaveformStep::Refused(r, p),
             UintRead::Is(n, m) => {
-                let seed = OptU32::Present(n);
+                let seed = Some(n);
                 WaveformStep::Is(WaveformFields { seed, ..kept }, m)
             }
         },
         5 => match read_cursor::parse_float(text, c) {
             FloatRead::Refused(r, p) => WaveformStep::Refused(r, p),
             FloatRead::Is(x, m) => {
-                let smoothness = OptF32::Present(x);
+                let smoothness = Some(x);
                 WaveformStep::Is(WaveformFields { smoothness, ..kept }, m)
             }
         },
         _ => match read_cursor::parse_float(text, c) {
             FloatRead::Refused(r, p) => WaveformStep::Refused(r, p),
             FloatRead::Is(x, m) => {
-                let duration = OptF32::Present(x);
+                let duration = Some(x);
                 WaveformStep::Is(WaveformFields { duration, ..kept }, m)
             }
         },
@@ -100,13 +100,13 @@ fn waveform_fields(text: &[u8], c: Cursor) -> WaveformStep
 {
     let mut m = c;
     let mut kept = WaveformFields {
-        frequency: OptF32::Absent,
-        amplitude: OptF32::Absent,
-        phase: OptF32::Absent,
-        duty_cycle: OptF32::Absent,
-        seed: OptU32::Absent,
-        smoothness: OptF32::Absent,
-        duration: OptF32::Absent,
+        frequency: None,
+        amplitude: None,
+        phase: None,
+        duty_cycle: None,
+        seed: None,
+        smoothness: None,
+        duration: None,
     };
     loop {
         match read_fields::parse_field_list(text, m, words::WAVEFORM_ROWS) {

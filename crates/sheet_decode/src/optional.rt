@@ -7,68 +7,65 @@ ghost use Rattle.sheet_decode.specs.Means.{Reads};
 
 use crate::fields::{take_byte, take_field, take_flag, take_float};
 use crate::values::{take_damping, take_easing, take_loop, take_pattern, take_value};
-use ast::{
-    OptBool, OptCase, OptDamping, OptEasing, OptF32, OptLoop, OptPattern, OptRange, OptU32,
-    OptValue,
-};
+use ast::{DampingMode, EasingSpec, LoopSpec, StaggerPatternSpec, ValueExpr};
 
 #[derive(Clone, Copy)]
 pub struct OptF32Read {
-    pub v: OptF32,
+    pub v: Option<f32>,
     pub next: usize,
 }
 
 #[derive(Clone, Copy)]
 pub struct OptU32Read {
-    pub v: OptU32,
+    pub v: Option<u32>,
     pub next: usize,
 }
 
 #[derive(Clone, Copy)]
 pub struct OptBoolRead {
-    pub v: OptBool,
+    pub v: Option<bool>,
     pub next: usize,
 }
 
 #[derive(Clone, Copy)]
 pub struct OptCaseRead {
-    pub v: OptCase,
+    pub v: Option<u8>,
     pub next: usize,
 }
 
 #[derive(Clone, Copy)]
 pub struct OptValueRead {
-    pub v: OptValue,
+    pub v: Option<ValueExpr>,
     pub next: usize,
 }
 
 #[derive(Clone, Copy)]
 pub struct OptEasingRead {
-    pub v: OptEasing,
+    pub v: Option<EasingSpec>,
     pub next: usize,
 }
 
 #[derive(Clone, Copy)]
 pub struct OptLoopRead {
-    pub v: OptLoop,
+    pub v: Option<LoopSpec>,
     pub next: usize,
 }
 
 #[derive(Clone, Copy)]
 pub struct OptDampingRead {
-    pub v: OptDamping,
+    pub v: Option<DampingMode>,
     pub next: usize,
 }
 
 #[derive(Clone, Copy)]
 pub struct OptPatternRead {
-    pub v: OptPattern,
+    pub v: Option<StaggerPatternSpec>,
     pub next: usize,
 }
 
 #[derive(Clone, Copy)]
 pub struct OptRangeRead {
-    pub v: OptRange,
+    pub v: Option<(f32, f32)>,
     pub next: usize,
 }
 
@@ -78,13 +75,13 @@ pub fn take_opt_float(s: &[u8], at: usize) -> OptF32Read
     let k = take_byte(s, at, 2);
     if k.v == 0 {
         return OptF32Read {
-            v: OptF32::Absent,
+            v: None,
             next: k.next,
         };
     }
     let x = take_float(s, k.next);
     OptF32Read {
-        v: OptF32::Present(x.v),
+        v: Some(x.v),
         next: x.next,
     }
 }
@@ -95,13 +92,13 @@ pub fn take_opt_word(s: &[u8], at: usize) -> OptU32Read
     let k = take_byte(s, at, 2);
     if k.v == 0 {
         return OptU32Read {
-            v: OptU32::Absent,
+            v: None,
             next: k.next,
         };
     }
     let x = take_field(s, k.next, 4);
     OptU32Read {
-        v: OptU32::Present(x.v),
+        v: Some(x.v),
         next: x.next,
     }
 }
@@ -112,13 +109,13 @@ pub fn take_opt_flag(s: &[u8], at: usize) -> OptBoolRead
     let k = take_byte(s, at, 2);
     if k.v == 0 {
         return OptBoolRead {
-            v: OptBool::Absent,
+            v: None,
             next: k.next,
         };
     }
     let x = take_flag(s, k.next);
     OptBoolRead {
-        v: OptBool::Present(x.v),
+        v: Some(x.v),
         next: x.next,
     }
 }
@@ -131,13 +128,13 @@ pub fn take_opt_case(s: &[u8], at: usize, n: u8) -> OptCaseRead
     let k = take_byte(s, at, 2);
     if k.v == 0 {
         return OptCaseRead {
-            v: OptCase::Absent,
+            v: None,
             next: k.next,
         };
     }
     let x = take_byte(s, k.next, n);
     OptCaseRead {
-        v: OptCase::Present(x.v),
+        v: Some(x.v),
         next: x.next,
     }
 }
@@ -148,14 +145,14 @@ pub fn take_opt_value(s: &[u8], at: usize) -> OptValueRead
     let k = take_byte(s, at, 2);
     if k.v == 0 {
         return OptValueRead {
-            v: OptValue::Absent,
+            v: None,
             next: k.next,
         };
     }
     let x = take_value(s, k.next);
     let v = x.v;
     OptValueRead {
-        v: OptValue::Present(v),
+        v: Some(v),
         next: x.next,
     }
 }
@@ -166,14 +163,14 @@ pub fn take_opt_easing(s: &[u8], at: usize, n: usize) -> OptEasingRead
     let k = take_byte(s, at, 2);
     if k.v == 0 {
         return OptEasingRead {
-            v: OptEasing::Absent,
+            v: None,
             next: k.next,
         };
     }
     let x = take_easing(s, k.next, n);
     let v = x.v;
     OptEasingRead {
-        v: OptEasing::Present(v),
+        v: Some(v),
         next: x.next,
     }
 }
@@ -184,14 +181,14 @@ pub fn take_opt_loop(s: &[u8], at: usize) -> OptLoopRead
     let k = take_byte(s, at, 2);
     if k.v == 0 {
         return OptLoopRead {
-            v: OptLoop::Absent,
+            v: None,
             next: k.next,
         };
     }
     let x = take_loop(s, k.next);
     let v = x.v;
     OptLoopRead {
-        v: OptLoop::Present(v),
+        v: Some(v),
         next: x.next,
     }
 }
@@ -202,14 +199,14 @@ pub fn take_opt_damping(s: &[u8], at: usize) -> OptDampingRead
     let k = take_byte(s, at, 2);
     if k.v == 0 {
         return OptDampingRead {
-            v: OptDamping::Absent,
+            v: None,
             next: k.next,
         };
     }
     let x = take_damping(s, k.next);
     let v = x.v;
     OptDampingRead {
-        v: OptDamping::Present(v),
+        v: Some(v),
         next: x.next,
     }
 }
@@ -220,14 +217,14 @@ pub fn take_opt_pattern(s: &[u8], at: usize) -> OptPatternRead
     let k = take_byte(s, at, 2);
     if k.v == 0 {
         return OptPatternRead {
-            v: OptPattern::Absent,
+            v: None,
             next: k.next,
         };
     }
     let x = take_pattern(s, k.next);
     let v = x.v;
     OptPatternRead {
-        v: OptPattern::Present(v),
+        v: Some(v),
         next: x.next,
     }
 }
@@ -239,14 +236,14 @@ pub fn take_opt_range(s: &[u8], at: usize) -> OptRangeRead
     let k = take_byte(s, at, 2);
     if k.v == 0 {
         return OptRangeRead {
-            v: OptRange::Absent,
+            v: None,
             next: k.next,
         };
     }
     let x = take_float(s, k.next);
     let y = take_float(s, x.next);
     OptRangeRead {
-        v: OptRange::Present(x.v, y.v),
+        v: Some((x.v, y.v)),
         next: y.next,
     }
 }

@@ -1,5 +1,5 @@
 -- The tree's value of what the code holds, each float as its bits; and that no float in it is a NaN.
-use Rattle.std.specs.Prelude.{ℕ, Bool, true, false, not, T, Float}
+use Rattle.std.specs.Prelude.{ℕ, Bool, true, false, not, T, Float, Some, None, Option as Optional}
 use Rattle.std.proofs.Math.Option.{Option, none, some}
 use Rattle.std.specs.Float.Ieee.{is_nan}
 use Rattle.number.specs.Number.{bits}
@@ -14,24 +14,6 @@ use Rattle.ast.specs.declared.DampingMode.TheVariants as damping
 use Rattle.ast.specs.declared.KeyframeEntry as entries
 use Rattle.ast.specs.declared.StaggerPatternSpec as patterns
 use Rattle.ast.specs.declared.StaggerPatternSpec.TheVariants as pattern
-use Rattle.ast.specs.declared.OptF32 as opt_floats
-use Rattle.ast.specs.declared.OptF32.TheVariants as opt_float
-use Rattle.ast.specs.declared.OptU32 as opt_words
-use Rattle.ast.specs.declared.OptU32.TheVariants as opt_word
-use Rattle.ast.specs.declared.OptBool as opt_bools
-use Rattle.ast.specs.declared.OptBool.TheVariants as opt_bool
-use Rattle.ast.specs.declared.OptCase as opt_cases
-use Rattle.ast.specs.declared.OptCase.TheVariants as opt_case
-use Rattle.ast.specs.declared.OptRange as opt_ranges
-use Rattle.ast.specs.declared.OptRange.TheVariants as opt_range
-use Rattle.ast.specs.declared.OptEasing as opt_easings
-use Rattle.ast.specs.declared.OptEasing.TheVariants as opt_easing
-use Rattle.ast.specs.declared.OptLoop as opt_loops
-use Rattle.ast.specs.declared.OptLoop.TheVariants as opt_loop
-use Rattle.ast.specs.declared.OptDamping as opt_dampings
-use Rattle.ast.specs.declared.OptDamping.TheVariants as opt_damping
-use Rattle.ast.specs.declared.OptPattern as opt_patterns
-use Rattle.ast.specs.declared.OptPattern.TheVariants as opt_pattern
 
 abbrev pub span_of : spans.Span → tree.Span
 span_of s = record { start = s.start; size = s.size }
@@ -69,41 +51,41 @@ pattern_of pattern.EdgesIn = tree.edges_in
 
 -- ---- what is absent or present
 
-abbrev pub opt_float_of : opt_floats.OptF32 → Option ℕ
-opt_float_of opt_float.Absent = none
-opt_float_of (opt_float.Present x) = some (bits x)
+abbrev pub opt_float_of : Optional Float → Option ℕ
+opt_float_of None = none
+opt_float_of (Some x) = some (bits x)
 
-abbrev pub opt_word_of : opt_words.OptU32 → Option ℕ
-opt_word_of opt_word.Absent = none
-opt_word_of (opt_word.Present n) = some n
+abbrev pub opt_word_of : Optional ℕ → Option ℕ
+opt_word_of None = none
+opt_word_of (Some n) = some n
 
-abbrev pub opt_bool_of : opt_bools.OptBool → Option Bool
-opt_bool_of opt_bool.Absent = none
-opt_bool_of (opt_bool.Present b) = some b
+abbrev pub opt_bool_of : Optional Bool → Option Bool
+opt_bool_of None = none
+opt_bool_of (Some b) = some b
 
-abbrev pub opt_case_of : opt_cases.OptCase → Option ℕ
-opt_case_of opt_case.Absent = none
-opt_case_of (opt_case.Present i) = some i
+abbrev pub opt_case_of : Optional ℕ → Option ℕ
+opt_case_of None = none
+opt_case_of (Some i) = some i
 
-abbrev pub opt_range_of : opt_ranges.OptRange → Option (ℕ × ℕ)
-opt_range_of opt_range.Absent = none
-opt_range_of (opt_range.Present a b) = some (bits a, bits b)
+abbrev pub opt_range_of : Optional (Float × Float) → Option (ℕ × ℕ)
+opt_range_of None = none
+opt_range_of (Some (a, b)) = some (bits a, bits b)
 
-abbrev pub opt_easing_of : opt_easings.OptEasing → Option tree.EasingSpec
-opt_easing_of opt_easing.Absent = none
-opt_easing_of (opt_easing.Present e) = some (easing_of e)
+abbrev pub opt_easing_of : Optional easings.EasingSpec → Option tree.EasingSpec
+opt_easing_of None = none
+opt_easing_of (Some e) = some (easing_of e)
 
-abbrev pub opt_loop_of : opt_loops.OptLoop → Option tree.LoopSpec
-opt_loop_of opt_loop.Absent = none
-opt_loop_of (opt_loop.Present m) = some (loop_of m)
+abbrev pub opt_loop_of : Optional loops.LoopSpec → Option tree.LoopSpec
+opt_loop_of None = none
+opt_loop_of (Some m) = some (loop_of m)
 
-abbrev pub opt_damping_of : opt_dampings.OptDamping → Option tree.DampingMode
-opt_damping_of opt_damping.Absent = none
-opt_damping_of (opt_damping.Present d) = some (damping_of d)
+abbrev pub opt_damping_of : Optional dampings.DampingMode → Option tree.DampingMode
+opt_damping_of None = none
+opt_damping_of (Some d) = some (damping_of d)
 
-abbrev pub opt_pattern_of : opt_patterns.OptPattern → Option tree.StaggerPatternSpec
-opt_pattern_of opt_pattern.Absent = none
-opt_pattern_of (opt_pattern.Present p) = some (pattern_of p)
+abbrev pub opt_pattern_of : Optional patterns.StaggerPatternSpec → Option tree.StaggerPatternSpec
+opt_pattern_of None = none
+opt_pattern_of (Some p) = some (pattern_of p)
 
 -- ---- no NaN
 
@@ -129,25 +111,25 @@ PlainPattern (pattern.Random s a b) = Plain a × Plain b
 PlainPattern pattern.CenterOut = Unit {0}
 PlainPattern pattern.EdgesIn = Unit {0}
 
-abbrev pub PlainOptFloat : opt_floats.OptF32 → Type 0
-PlainOptFloat opt_float.Absent = Unit {0}
-PlainOptFloat (opt_float.Present x) = Plain x
+abbrev pub PlainOptFloat : Optional Float → Type 0
+PlainOptFloat None = Unit {0}
+PlainOptFloat (Some x) = Plain x
 
-abbrev pub PlainOptRange : opt_ranges.OptRange → Type 0
-PlainOptRange opt_range.Absent = Unit {0}
-PlainOptRange (opt_range.Present a b) = Plain a × Plain b
+abbrev pub PlainOptRange : Optional (Float × Float) → Type 0
+PlainOptRange None = Unit {0}
+PlainOptRange (Some (a, b)) = Plain a × Plain b
 
-abbrev pub PlainOptEasing : opt_easings.OptEasing → Type 0
-PlainOptEasing opt_easing.Absent = Unit {0}
-PlainOptEasing (opt_easing.Present e) = PlainEasing e
+abbrev pub PlainOptEasing : Optional easings.EasingSpec → Type 0
+PlainOptEasing None = Unit {0}
+PlainOptEasing (Some e) = PlainEasing e
 
-abbrev pub PlainOptDamping : opt_dampings.OptDamping → Type 0
-PlainOptDamping opt_damping.Absent = Unit {0}
-PlainOptDamping (opt_damping.Present d) = PlainDamping d
+abbrev pub PlainOptDamping : Optional dampings.DampingMode → Type 0
+PlainOptDamping None = Unit {0}
+PlainOptDamping (Some d) = PlainDamping d
 
-abbrev pub PlainOptPattern : opt_patterns.OptPattern → Type 0
-PlainOptPattern opt_pattern.Absent = Unit {0}
-PlainOptPattern (opt_pattern.Present p) = PlainPattern p
+abbrev pub PlainOptPattern : Optional patterns.StaggerPatternSpec → Type 0
+PlainOptPattern None = Unit {0}
+PlainOptPattern (Some p) = PlainPattern p
 
 abbrev pub PlainEntry : entries.KeyframeEntry → Type 0
 PlainEntry e = Plain e.time × Plain e.value × PlainOptEasing e.easing

@@ -12,10 +12,7 @@ ghost use Rattle.sheet_encode.specs.WriteMeans.{Writes};
 ghost use Rattle.sheet_encode.specs.Means as of;
 ghost use Rattle.sheet_encode.specs.Means.{Plain};
 
-use ast::{
-    DampingMode, EasingSpec, LoopSpec, OptBool, OptCase, OptDamping, OptEasing, OptF32, OptLoop,
-    OptPattern, OptRange, OptU32, Span, StaggerPatternSpec,
-};
+use ast::{DampingMode, EasingSpec, LoopSpec, Span, StaggerPatternSpec};
 
 // ---- bytes and fields
 
@@ -258,33 +255,33 @@ pub fn put_pattern(sheet: &mut [u8], at: usize, p: StaggerPatternSpec) -> usize
 
 // ---- what is absent or present
 
-pub fn put_opt_float(sheet: &mut [u8], at: usize, o: OptF32) -> usize
+pub fn put_opt_float(sheet: &mut [u8], at: usize, o: Option<f32>) -> usize
     requires { (at < 2 ^ 31) × of.PlainOptFloat o }
     ensures { Writes sheet.old at ((opt word).write (of.opt_float_of o)) sheet.new result }
 {
     match o {
-        OptF32::Absent => put_byte(sheet, at, 0),
-        OptF32::Present(x) => put_case_float(sheet, at, 1, x),
+        None => put_byte(sheet, at, 0),
+        Some(x) => put_case_float(sheet, at, 1, x),
     }
 }
 
-pub fn put_opt_word(sheet: &mut [u8], at: usize, o: OptU32) -> usize
+pub fn put_opt_word(sheet: &mut [u8], at: usize, o: Option<u32>) -> usize
     requires { at < 2 ^ 31 }
     ensures { Writes sheet.old at ((opt word).write (of.opt_word_of o)) sheet.new result }
 {
     match o {
-        OptU32::Absent => put_byte(sheet, at, 0),
-        OptU32::Present(v) => put_case_word(sheet, at, 1, v),
+        None => put_byte(sheet, at, 0),
+        Some(v) => put_case_word(sheet, at, 1, v),
     }
 }
 
-pub fn put_opt_bool(sheet: &mut [u8], at: usize, o: OptBool) -> usize
+pub fn put_opt_bool(sheet: &mut [u8], at: usize, o: Option<bool>) -> usize
     requires { at < 2 ^ 31 }
     ensures { Writes sheet.old at ((opt flag).write (of.opt_bool_of o)) sheet.new result }
 {
     match o {
-        OptBool::Absent => put_byte(sheet, at, 0),
-        OptBool::Present(b) => {
+        None => put_byte(sheet, at, 0),
+        Some(b) => {
             let next = put_byte(sheet, at, 1);
             put_flag(sheet, next, b)
         }
@@ -292,75 +289,75 @@ pub fn put_opt_bool(sheet: &mut [u8], at: usize, o: OptBool) -> usize
 }
 
 // The position of a case that holds nothing, of n cases.
-pub fn put_opt_case(sheet: &mut [u8], at: usize, o: OptCase) -> usize
+pub fn put_opt_case(sheet: &mut [u8], at: usize, o: Option<u8>) -> usize
     requires { at < 2 ^ 31 }
     ensures { (n : ℕ) → Writes sheet.old at ((opt (below n)).write (of.opt_case_of o)) sheet.new result }
 {
     match o {
-        OptCase::Absent => put_byte(sheet, at, 0),
-        OptCase::Present(i) => {
+        None => put_byte(sheet, at, 0),
+        Some(i) => {
             let next = put_byte(sheet, at, 1);
             put_byte(sheet, next, i)
         }
     }
 }
 
-pub fn put_opt_range(sheet: &mut [u8], at: usize, o: OptRange) -> usize
+pub fn put_opt_range(sheet: &mut [u8], at: usize, o: Option<(f32, f32)>) -> usize
     requires { (at < 2 ^ 31) × of.PlainOptRange o }
     ensures { Writes sheet.old at ((opt (word ▹ word)).write (of.opt_range_of o)) sheet.new result }
 {
     match o {
-        OptRange::Absent => put_byte(sheet, at, 0),
-        OptRange::Present(a, b) => put_case_floats(sheet, at, 1, a, b),
+        None => put_byte(sheet, at, 0),
+        Some((a, b)) => put_case_floats(sheet, at, 1, a, b),
     }
 }
 
-pub fn put_opt_easing(sheet: &mut [u8], at: usize, o: OptEasing) -> usize
+pub fn put_opt_easing(sheet: &mut [u8], at: usize, o: Option<EasingSpec>) -> usize
     requires { (at < 2 ^ 31) × of.PlainOptEasing o }
     ensures { (n : ℕ) → Writes sheet.old at ((opt (easing_form n)).write (of.opt_easing_of o)) sheet.new result }
 {
     match o {
-        OptEasing::Absent => put_byte(sheet, at, 0),
-        OptEasing::Present(e) => {
+        None => put_byte(sheet, at, 0),
+        Some(e) => {
             let next = put_byte(sheet, at, 1);
             put_easing(sheet, next, e)
         }
     }
 }
 
-pub fn put_opt_loop(sheet: &mut [u8], at: usize, o: OptLoop) -> usize
+pub fn put_opt_loop(sheet: &mut [u8], at: usize, o: Option<LoopSpec>) -> usize
     requires { at < 2 ^ 31 }
     ensures { Writes sheet.old at ((opt loop_form).write (of.opt_loop_of o)) sheet.new result }
 {
     match o {
-        OptLoop::Absent => put_byte(sheet, at, 0),
-        OptLoop::Present(m) => {
+        None => put_byte(sheet, at, 0),
+        Some(m) => {
             let next = put_byte(sheet, at, 1);
             put_loop(sheet, next, m)
         }
     }
 }
 
-pub fn put_opt_damping(sheet: &mut [u8], at: usize, o: OptDamping) -> usize
+pub fn put_opt_damping(sheet: &mut [u8], at: usize, o: Option<DampingMode>) -> usize
     requires { (at < 2 ^ 31) × of.PlainOptDamping o }
     ensures { Writes sheet.old at ((opt damping_form).write (of.opt_damping_of o)) sheet.new result }
 {
     match o {
-        OptDamping::Absent => put_byte(sheet, at, 0),
-        OptDamping::Present(d) => {
+        None => put_byte(sheet, at, 0),
+        Some(d) => {
             let next = put_byte(sheet, at, 1);
             put_damping(sheet, next, d)
         }
     }
 }
 
-pub fn put_opt_pattern(sheet: &mut [u8], at: usize, o: OptPattern) -> usize
+pub fn put_opt_pattern(sheet: &mut [u8], at: usize, o: Option<StaggerPatternSpec>) -> usize
     requires { (at < 2 ^ 31) × of.PlainOptPattern o }
     ensures { Writes sheet.old at ((opt pattern_form).write (of.opt_pattern_of o)) sheet.new result }
 {
     match o {
-        OptPattern::Absent => put_byte(sheet, at, 0),
-        OptPattern::Present(p) => {
+        None => put_byte(sheet, at, 0),
+        Some(p) => {
             let next = put_byte(sheet, at, 1);
             put_pattern(sheet, next, p)
         }

@@ -1,4 +1,5 @@
 -- `read_draw::draw_end` meets its contract.
+use Rattle.std.specs.Prelude.{Some}
 use mathlib.Core.List.{[]}
 use mathlib.Core.Path.{refl}
 use Rattle.sheet_encode.specs.Means.{span_of}
@@ -31,7 +32,7 @@ put_draw-requires c =
     let h = rw c.in-Is.is
     at (listed (goal.at.put_draw-requires c).After-draw_fields)
     in
-    (c.requires.1.low, (rw c.in-Present.is at h.say.0.1, h.say.1.0.1))
+    (c.requires.1.low, (rw c.in-Some.is at h.say.0.1, h.say.1.0.1))
 
 pub returns-in-Refused : goal.returns-in-Refused
 returns-in-Refused c =
@@ -40,17 +41,17 @@ returns-in-Refused c =
     (rw c.in-Refused.is
     at (listed (goal.at.returns-in-Refused c).After-draw_fields))
 
-pub returns-in-Present : goal.returns-in-Present
-returns-in-Present c =
+pub returns-in-Some : goal.returns-in-Some
+returns-in-Some c =
     let args = c.args in
     let h = rw c.in-Is.is
-    at (listed (goal.at.returns-in-Present c).After-draw_fields)
+    at (listed (goal.at.returns-in-Some c).After-draw_fields)
     in
     end_went draw_fields
     (draw_leaf (span_of args.svg))
     h
     h.say.0.0
-    c.in-Present.is
+    c.in-Some.is
     _
     (rw h.say.1.0.0)
     c.put_draw.ensures

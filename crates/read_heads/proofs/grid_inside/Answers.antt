@@ -1,4 +1,5 @@
 -- `read_heads::grid_inside` meets its contract.
+use Rattle.std.specs.Prelude.{Some}
 use Rattle.text.specs.Bytes.{at}
 use Rattle.read_heads.specs.Means.{grid_inside}
 use Rattle.read_heads.proofs.HeadLaws.{no_cols, no_rows, took_grid}
@@ -16,18 +17,18 @@ returns-in_default-counted_rows c =
     let args = c.args in
     rw c.place-place.ensures
     (no_rows args.text.now args.c _ c.in-Is.f (rw c.in-Is.is at c.grid_fields.ensures) _
-    c.in-Present.is
+    c.in-Some.is
     c.in_default-counted_rows.is)
 
 pub returns-in-Refused : goal.returns-in-Refused
 unfolding grid_inside
 returns-in-Refused c = let h = rw c.in-Refused.is at c.grid_fields.ensures in rw h
 
-pub returns-in-Present-counted_rows : goal.returns-in-Present-counted_rows
-returns-in-Present-counted_rows c =
+pub returns-in-Some-counted_rows : goal.returns-in-Some-counted_rows
+returns-in-Some-counted_rows c =
     let args = c.args in (
       took_grid args.text.now args.c _ c.in-Is.f (rw c.in-Is.is at c.grid_fields.ensures)
-          _ _ _ c.in-Present.is
-          c.in-Present-counted_rows.is c.case_or-origin.ensures,
+          _ _ _ c.in-Some.is
+          c.in-Some-counted_rows.is c.case_or-origin.ensures,
       tt,
     )

@@ -1,6 +1,5 @@
+use Rattle.std.specs.Prelude.{Some}
 use Rattle.read_heads.proofs.StaggerLaws.{by_opening, marked_refused, marked_took, with_delay, with_pattern}
-use Rattle.ast.specs.declared.OptF32.TheVariants as opt_float
-use Rattle.ast.specs.declared.OptPattern.TheVariants as opt_pattern
 use Rattle.error.specs.declared.Refusal.TheVariants.{Missing}
 use Rattle.read_heads.specs.declared.OpeningRead.TheVariants.{Is, Refused}
 use native.Mathlib.Omega.{arith}
@@ -33,7 +32,7 @@ returns-in-Is-parse_stagger_pattern c =
     args.c
     args.f
     args.i
-    (Is (record { pattern = opt_pattern.Present c.in-Is-parse_stagger_pattern.x; delay = args.f.delay }) c.in-Is-parse_stagger_pattern.n)
+    (Is (record { pattern = Some c.in-Is-parse_stagger_pattern.x; delay = args.f.delay }) c.in-Is-parse_stagger_pattern.n)
     (λ z. (h, (t.1, c.requires.1.1)), (λ z. absurd (omega arith), tt))
 
 pub returns-in-Missing : goal.returns-in-Missing
@@ -66,5 +65,5 @@ returns-in-Is-parse_float c =
     args.c
     args.f
     args.i
-    (Is (record { pattern = args.f.pattern; delay = opt_float.Present c.in-Is-parse_float.x }) c.in-Is-parse_float.n)
+    (Is (record { pattern = args.f.pattern; delay = Some c.in-Is-parse_float.x }) c.in-Is-parse_float.n)
     (λ z. absurd (c.if-i-eq0.false z), (λ z. (h, (c.requires.1.0, t.1)), tt))

@@ -1,4 +1,5 @@
 -- `read_tween::parse_tween` meets its contract.
+use Rattle.std.specs.Prelude.{Some}
 use Rattle.read_tween.proofs.TweenLaws.{tween_no_ends, tween_no_fields, tween_untimed, tween_went}
 use Rattle.read_tween.proofs.parse_tween.Goals as goal
 
@@ -16,10 +17,10 @@ returns-in-Refused-tween_fields c =
     tween_no_fields (rw c.in-Is.is at c.parse_ends.ensures)
     (rw c.in-Refused-tween_fields.is at c.tween_fields.ensures)
 
-pub returns-in-Present : goal.returns-in-Present
-returns-in-Present c =
+pub returns-in-Some : goal.returns-in-Some
+returns-in-Some c =
     tween_went
     (rw c.in-Is.is at c.parse_ends.ensures)
     (rw c.in-Is-tween_fields.is at c.tween_fields.ensures)
-    c.in-Present.is
+    c.in-Some.is
     c.put_tween_fields.ensures

@@ -1,5 +1,4 @@
 -- `read_values::bezier_curve` meets its contract.
-use Rattle.text.specs.Bytes.{at}
 use Rattle.grammar.specs.Values.{bezier_curve, four_floats}
 use Rattle.read_values.proofs.ValueLaws.{inside_missing, inside_refused, inside_took}
 use Rattle.read_values.proofs.bezier_curve.Goals as goal

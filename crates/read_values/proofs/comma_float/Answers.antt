@@ -1,5 +1,4 @@
 -- `read_values::comma_float` meets its contract.
-use Rattle.text.specs.Bytes.{at}
 use Rattle.grammar.specs.Values.{comma_float, parse_float}
 use Rattle.read_values.proofs.ValueLaws.{float_behind}
 use Rattle.read_values.proofs.comma_float.Goals as goal

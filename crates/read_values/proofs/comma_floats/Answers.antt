@@ -1,5 +1,4 @@
 -- `read_values::comma_floats` meets its contract.
-use Rattle.text.specs.Bytes.{at}
 use Rattle.grammar.specs.Values.{comma_floats, two_floats}
 use Rattle.read_values.proofs.ValueLaws.{pair-behind}
 use Rattle.read_values.proofs.comma_floats.Goals as goal

@@ -1,6 +1,5 @@
 -- `read_values::four_floats` meets its contract.
 use native.Mathlib.Omega.{arith}
-use Rattle.text.specs.Bytes.{at}
 use Rattle.grammar.specs.Values.{four_floats}
 use Rattle.read_values.proofs.four_floats.Goals as goal
 

@@ -1,6 +1,5 @@
 -- `read_values::named_easing` meets its contract.
 use mathlib.Core.Logic.{inl, inr}
-use Rattle.text.specs.Bytes.{at}
 use Rattle.read_values.proofs.EasingLaws.{pair_missing, plain_name, tested, variant_refused, variant_took}
 use mathlib.Core.Path.{◌∙◌}
 use Rattle.read_cursor.proofs.CursorLaws.{stays}

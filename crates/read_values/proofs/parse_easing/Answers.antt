@@ -1,5 +1,4 @@
 -- `read_values::parse_easing` meets its contract.
-use Rattle.text.specs.Bytes.{at}
 use Rattle.read_values.proofs.EasingLaws.{easing-behind}
 use Rattle.grammar.specs.Values.{parse_easing}
 use mathlib.Core.Path.{sym, ◌∙◌}

@@ -1,5 +1,4 @@
 -- `read_values::parse_float_in_parens` meets its contract.
-use Rattle.text.specs.Bytes.{at}
 use Rattle.read_values.proofs.ValueLaws.{inside_missing, inside_refused, inside_took}
 use Rattle.grammar.specs.Values.{parse_float, parse_float_in_parens}
 use Rattle.read_values.proofs.parse_float_in_parens.Goals as goal

@@ -1,5 +1,4 @@
 -- `read_values::parse_loop_mode` meets its contract.
-use Rattle.text.specs.Bytes.{at}
 use Rattle.grammar.specs.Values.{loop_modes, parse_loop_mode}
 use Rattle.words.specs.ListMeans.{list_of}
 use Rattle.words.proofs.KeyLaws.{place_some, place_none}

@@ -1,8 +1,6 @@
 -- `read_values::parse_two_floats_in_parens` meets its contract.
-use Rattle.text.specs.Bytes.{at}
 use Rattle.read_values.proofs.ValueLaws.{inside_missing, inside_refused, inside_took}
 use Rattle.grammar.specs.Values.{parse_two_floats_in_parens, two_floats}
-use Rattle.read_cursor.proofs.CursorLaws.{took}
 use Rattle.read_values.proofs.parse_two_floats_in_parens.Goals as goal
 
 pub returns-in-Missing : goal.returns-in-Missing

@@ -1,6 +1,5 @@
 -- `read_values::ping_pong_mode` meets its contract.
 use native.Mathlib.Omega.{arith}
-use Rattle.text.specs.Bytes.{at}
 use Rattle.grammar.specs.Values.{ping_pong_mode}
 use Rattle.read_cursor.proofs.CursorLaws.{stays}
 use mathlib.Core.Path.{sym, ◌∙◌}

@@ -1,6 +1,5 @@
 -- `read_values::rough_curve` meets its contract.
 use Rattle.read_values.proofs.CurveLaws.{a_half, float_or, plain_half}
-use Rattle.text.specs.Bytes.{at}
 use Rattle.grammar.specs.Values.{rough_curve, rough_fields}
 use Rattle.read_values.proofs.ValueLaws.{inside_any, inside_missing, inside_refused}
 use Rattle.grammar.specs.Fields.{pairs}

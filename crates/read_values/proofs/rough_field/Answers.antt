@@ -1,6 +1,5 @@
 -- `read_values::rough_field` meets its contract.
 use Rattle.read_values.specs.Means.{RoughHeld}
-use Rattle.text.specs.Bytes.{at}
 use Rattle.read_values.proofs.RowLaws.{by_row, no_count, no_number, refused_row, row_at, second_row, took_count, took_number}
 use mathlib.Core.Path.{refl}
 use Rattle.read_values.proofs.CurveLaws.{rough_points, rough_strength}

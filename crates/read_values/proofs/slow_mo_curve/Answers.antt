@@ -1,5 +1,4 @@
 -- `read_values::slow_mo_curve` meets its contract.
-use Rattle.text.specs.Bytes.{at}
 use Rattle.grammar.specs.Values.{slow_mo_curve, slow_mo_fields}
 use Rattle.read_values.proofs.CurveLaws.{float_or, plain_seven, plain-two, seven_tenths, two_wholes}
 use Rattle.read_values.proofs.ValueLaws.{inside_any, inside_missing, inside_refused}

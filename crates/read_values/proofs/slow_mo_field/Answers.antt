@@ -1,6 +1,5 @@
 -- `read_values::slow_mo_field` meets its contract.
 use Rattle.read_values.specs.Means.{SlowMoHeld}
-use Rattle.text.specs.Bytes.{at}
 use Rattle.read_values.proofs.RowLaws.{by_row, no_number, refused_row, row_at, second_row, took_number}
 use mathlib.Core.Path.{refl}
 use Rattle.read_values.proofs.CurveLaws.{slow_power, slow_ratio}

@@ -1,10 +1,8 @@
 -- `read_values::slow_mo_fields` meets its contract.
 use mathlib.Core.List.{[]}
-use Prim.Native.Nat.{◌-◌}
 use Rattle.grammar.specs.Fields.{one_pair, pairs}
 use Rattle.read_fields.proofs.ListLaws.{listed_done, listed_gives, listed_start, pair-last, pair-more, pair_refused}
 use native.Mathlib.Omega.{arith}
-use Rattle.text.specs.Bytes.{at}
 use Rattle.grammar.specs.Rule.{list_step}
 use borrow.Author.Tests.{not-false, not-true}
 use Rattle.read_values.proofs.CurveLaws.{slow_none}

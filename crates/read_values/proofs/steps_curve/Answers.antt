@@ -1,5 +1,4 @@
 -- `read_values::steps_curve` meets its contract.
-use Rattle.text.specs.Bytes.{at}
 use Rattle.grammar.specs.Values.{steps_curve}
 use Rattle.read_values.proofs.steps_curve.Goals as goal
 

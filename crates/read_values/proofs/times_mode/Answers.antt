@@ -1,5 +1,4 @@
 -- `read_values::times_mode` meets its contract.
-use Rattle.text.specs.Bytes.{at}
 use Rattle.grammar.specs.Values.{times_mode}
 use Rattle.read_values.proofs.times_mode.Goals as goal
 

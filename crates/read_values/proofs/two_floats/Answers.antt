@@ -1,7 +1,5 @@
 -- `read_values::two_floats` meets its contract.
 use native.Mathlib.Omega.{arith}
-use Rattle.text.specs.Bytes.{at}
-use Rattle.read_cursor.proofs.CursorLaws.{took}
 use Rattle.grammar.specs.Values.{two_floats}
 use Rattle.read_values.proofs.two_floats.Goals as goal
 

@@ -1,5 +1,4 @@
 -- `read_values::wiggle_curve` meets its contract.
-use Rattle.text.specs.Bytes.{at}
 use Rattle.grammar.specs.Values.{wiggle_curve}
 use Rattle.read_values.proofs.wiggle_curve.Goals as goal
 

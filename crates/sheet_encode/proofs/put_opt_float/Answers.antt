@@ -1,5 +1,6 @@
 -- `sheet_encode::put_opt_float` meets its contract.
+use Rattle.std.specs.Prelude.{Some}
 use Rattle.sheet_encode.proofs.put_opt_float.Goals as goal
 
-pub returns-in-Present : goal.returns-in-Present
-returns-in-Present c = rw c.in-Present.is c.put_case_float.ensures
+pub returns-in-Some : goal.returns-in-Some
+returns-in-Some c = rw c.in-Some.is c.put_case_float.ensures

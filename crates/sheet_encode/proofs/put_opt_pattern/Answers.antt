@@ -1,6 +1,7 @@
 -- `sheet_encode::put_opt_pattern` meets its contract.
+use Rattle.std.specs.Prelude.{Some}
 use Rattle.sheet_encode.proofs.OverLaws.{writes_then}
 use Rattle.sheet_encode.proofs.put_opt_pattern.Goals as goal
 
-pub returns-in-Present : goal.returns-in-Present
-returns-in-Present c = rw c.in-Present.is (writes_then c.put_byte-next.ensures c.put_pattern.ensures)
+pub returns-in-Some : goal.returns-in-Some
+returns-in-Some c = rw c.in-Some.is (writes_then c.put_byte-next.ensures c.put_pattern.ensures)

@@ -1,6 +1,6 @@
 -- `sheet_decode::optional::take_opt_case` meets its contract: a byte 0, or 1 and the value.
+use Rattle.std.specs.Prelude.{Some}
 use mathlib.Core.Path.{refl}
-use Rattle.ast.specs.declared.OptCase.TheVariants.{Present}
 use Rattle.codec.specs.Codec.{below}
 use Rattle.sheet_decode.proofs.ReadLaws as laws
 use Rattle.sheet_decode.proofs.optional.take_opt_case.Goals as goal
@@ -11,4 +11,4 @@ returns-then-k-eq0 c = laws.absent (below _) c.take_byte-k.ensures c.if-k-eq0.tr
 pub returns : goal.returns
 returns c =
     laws.present (below _) c.take_byte-k.ensures c.if-k-eq0.false c.take_byte-x.ensures.reads
-    (λ a e i. Present (e i))
+    (λ a e i. Some (e i))

@@ -1,6 +1,6 @@
 -- `sheet_decode::optional::take_opt_pattern` meets its contract: a byte 0, or 1 and the value.
+use Rattle.std.specs.Prelude.{Some}
 use mathlib.Core.Path.{refl}
-use Rattle.ast.specs.declared.OptPattern.TheVariants.{Present}
 use Rattle.sheet.specs.Sheet.{pattern_form}
 use Rattle.sheet_decode.proofs.ReadLaws as laws
 use Rattle.sheet_decode.proofs.optional.take_opt_pattern.Goals as goal
@@ -9,4 +9,4 @@ pub returns-then-k-eq0 : goal.returns-then-k-eq0
 returns-then-k-eq0 c = laws.absent pattern_form c.take_byte-k.ensures c.if-k-eq0.true refl
 
 pub returns : goal.returns
-returns c = laws.present pattern_form c.take_byte-k.ensures c.if-k-eq0.false c.take_pattern-x.ensures (λ a e i. Present (e i))
+returns c = laws.present pattern_form c.take_byte-k.ensures c.if-k-eq0.false c.take_pattern-x.ensures (λ a e i. Some (e i))

@@ -1,6 +1,6 @@
 -- `sheet_decode::optional::take_opt_range` meets its contract: a byte 0, or 1 and the value.
+use Rattle.std.specs.Prelude.{Some}
 use mathlib.Core.Path.{refl}
-use Rattle.ast.specs.declared.OptRange.TheVariants.{Present}
 use Rattle.codec.specs.Codec.{◌▹◌}
 use Rattle.sheet.specs.Sheet.{word}
 use Rattle.sheet_decode.proofs.ReadLaws.{◌&◌}
@@ -13,4 +13,4 @@ returns-then-k-eq0 c = laws.absent (word ▹ word) c.take_byte-k.ensures c.if-k-
 pub returns : goal.returns
 returns c =
     laws.present (word ▹ word) c.take_byte-k.ensures c.if-k-eq0.false
-    (c.take_float-x.ensures & c.take_float-y.ensures) (λ a e i. Present (e i).0 (e i).1)
+    (c.take_float-x.ensures & c.take_float-y.ensures) (λ a e i. Some ((e i).0, (e i).1))

@@ -1,6 +1,6 @@
 -- `sheet_decode::optional::take_opt_value` meets its contract: a byte 0, or 1 and the value.
+use Rattle.std.specs.Prelude.{Some}
 use mathlib.Core.Path.{refl}
-use Rattle.ast.specs.declared.OptValue.TheVariants.{Present}
 use Rattle.sheet.specs.Sheet.{value_form}
 use Rattle.sheet_decode.proofs.ReadLaws as laws
 use Rattle.sheet_decode.proofs.optional.take_opt_value.Goals as goal
@@ -9,4 +9,4 @@ pub returns-then-k-eq0 : goal.returns-then-k-eq0
 returns-then-k-eq0 c = laws.absent value_form c.take_byte-k.ensures c.if-k-eq0.true refl
 
 pub returns : goal.returns
-returns c = laws.present value_form c.take_byte-k.ensures c.if-k-eq0.false c.take_value-x.ensures (λ a e i. Present (e i))
+returns c = laws.present value_form c.take_byte-k.ensures c.if-k-eq0.false c.take_value-x.ensures (λ a e i. Some (e i))
