@@ -10,7 +10,7 @@ ghost use Rattle.sheet_encode.specs.Means.{span_of};
 ghost use Rattle.grammar.specs.Grammar.{parse_color};
 ghost use Rattle.read_arrays.specs.Means.{Room};
 
-use ast::{ColorSpec, Span};
+use ast::{ColorSpec, EasingSpec, Span};
 use error::Refusal;
 use read_cursor::{CaseRead, Cursor, FloatRead, MarkRead, WordRead};
 use read_fields::NextField;

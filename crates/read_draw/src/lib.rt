@@ -14,7 +14,7 @@ ghost use Rattle.read_node.specs.Means.{Put, LeafMeans, EndMeans};
 ghost use Rattle.sheet_encode.specs.Means.{span_of};
 ghost use Rattle.read_arrays.specs.Means.{Room};
 
-use ast::{DrawSpec, PresetCall, Span};
+use ast::{DrawSpec, EasingSpec, PresetCall, Span};
 use error::Refusal;
 use read_cursor::{Cursor, FloatRead, WordRead};
 use read_fields::NextField;

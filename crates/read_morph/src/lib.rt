@@ -10,7 +10,7 @@ ghost use Rattle.sheet_encode.specs.Means.{span_of};
 ghost use Rattle.grammar.specs.Grammar.{parse_morph};
 ghost use Rattle.read_arrays.specs.Means.{Room};
 
-use ast::{MorphSpec, Span};
+use ast::{EasingSpec, MorphSpec, Span};
 use error::Refusal;
 use read_cursor::{Cursor, FloatRead, MarkRead, UintRead, WordRead};
 use read_fields::NextField;

@@ -10,7 +10,7 @@ ghost use Rattle.sheet_encode.specs.Means.{span_of};
 ghost use Rattle.grammar.specs.Grammar.{parse_path};
 ghost use Rattle.read_arrays.specs.Means.{Room};
 
-use ast::{PathSpec, Span};
+use ast::{EasingSpec, LoopSpec, PathSpec, Span};
 use error::Refusal;
 use read_cursor::{CaseRead, Cursor, FloatRead, MarkRead, TruthRead, WordRead};
 use read_fields::NextField;

@@ -10,6 +10,7 @@ ghost use Rattle.sheet_encode.specs.WriteMeans.{Writes};
 ghost use Rattle.read_arrays.specs.Means.{Room};
 ghost use Rattle.read_node.specs.Means.{LeafMeans};
 
+use ast::{EasingSpec, LoopSpec};
 use error::Refusal;
 use read_arrays::ValueRead;
 use read_cursor::{Cursor, FloatRead, TruthRead, UintRead};
