@@ -211,7 +211,7 @@ fn read(a: &mut [u32], digits: &[u8])
     let mut rest = digits;
     while !rest.is_empty() {
         let (first, after) = rest.split_at(rest.len().min(9));
-        muladd(a, 10u32.pow(first.len() as u32), few(first));
+        muladd(a, number::ten_to(first.len()) as u32, few(first));
         rest = after;
     }
 }

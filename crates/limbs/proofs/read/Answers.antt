@@ -59,13 +59,13 @@ loop-rest-preserved c =
     read_room a r s (length after) p c.few.ensures.1
     (subst (λ (z : ℕ). (a + 1) * 10 ^ z ≤ p) (omega (arith, f.left, f.size)) c.loop-rest.invariant.3)
     in
-    let small : a * c.pow.result + r < 4294967296 ^ length c.loop-rest.a = subst (λ (z : ℕ). a * c.pow.result + r < 4294967296 ^ z)
+    let small : a * c.ten_to.result + r < 4294967296 ^ length c.loop-rest.a = subst (λ (z : ℕ). a * c.ten_to.result + r < 4294967296 ^ z)
     (sym c.loop-rest.invariant.1)
-    (subst (λ (z : ℕ). a * z + r < p) (sym c.pow.ensures) (read_fits _ _ _ room))
+    (subst (λ (z : ℕ). a * z + r < p) (sym c.ten_to.ensures) (read_fits _ _ _ room))
     in
-    let is : val c.muladd.new.a ≡ a * 10 ^ s + r = product c.loop-rest.a c.muladd.new.a c.muladd.result c.pow.result r c.muladd.auto.a
+    let is : val c.muladd.new.a ≡ a * 10 ^ s + r = product c.loop-rest.a c.muladd.new.a c.muladd.result c.ten_to.result r c.muladd.auto.a
     (c.muladd.ensures.by_index (length c.loop-rest.a) refl) small
-    ∙ ap (λ (z : ℕ). a * z + r) c.pow.ensures
+    ∙ ap (λ (z : ℕ). a * z + r) c.ten_to.ensures
     in (
       subst (λ (z : List ℕ). length z ≤ run is_digit z) (sym f.after) (run-drop is_digit l c.min.result c.loop-rest.invariant.0),
       c.muladd.auto.a ∙ c.loop-rest.invariant.1,
