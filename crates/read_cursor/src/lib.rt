@@ -603,8 +603,8 @@ pub fn parse_uint(text: &[u8], c: Cursor) -> UintRead
                 return UintRead::Refused(Refusal::Missing, place(c));
             }
             match number::whole(negative, n.digits) {
-                number::Uint::Is(v) => UintRead::Is(v, m),
-                number::Uint::Refused => UintRead::Refused(Refusal::Malformed, place(m)),
+                Some(v) => UintRead::Is(v, m),
+                None => UintRead::Refused(Refusal::Malformed, place(m)),
             }
         }
     }

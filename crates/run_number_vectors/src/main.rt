@@ -5,7 +5,7 @@
 
 ghost use Rattle.std.specs.Prelude.{◌+◌, ◌≤◌, length, IfOk};
 
-use number::{Stored, Uint};
+use number::Stored;
 use std::io;
 use std::io::{Read, Write};
 
@@ -125,9 +125,9 @@ fn truth(to: &mut impl Write, b: bool) -> io::Result<()> {
     }
 }
 
-fn whole(to: &mut impl Write, w: Uint) -> io::Result<()> {
+fn whole(to: &mut impl Write, w: Option<u32>) -> io::Result<()> {
     match w {
-        Uint::Is(n) => write!(to, "{n}"),
-        Uint::Refused => to.write_all(b"refused"),
+        Some(n) => write!(to, "{n}"),
+        None => to.write_all(b"refused"),
     }
 }
