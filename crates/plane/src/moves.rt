@@ -69,14 +69,14 @@ pub struct Source<'a> {
 
 impl Source<'_> {
     // The k bytes before a number, then the number.
-    pub fn advance(&self, out: &mut [u8], progress: Progress, k: usize) -> Progress
-        requires width_in_bounds { progress.done + k + self.now.width ≤ length self.now.bytes.now }
-        requires k_in_bounds { progress.to + k + 4 ≤ length out.old + self.now.width }
-        requires numbers_in_bounds { self.now.rest + 4 * self.now.numbers ≤ length out.old }
-        requires number_left { progress.numbers < self.now.numbers }
-        ensures advances { Advances self.now.width self.now.bytes.now progress.done out.old progress.to k self.now.rest self.now.numbers progress.numbers out.new }
-        ensures done { result.done ≡ progress.done + k + self.now.width }
-        ensures to { result.to + self.now.width ≡ progress.to + k + 4 }
+    pub fn advance(self, out: &mut [u8], progress: Progress, k: usize) -> Progress
+        requires width_in_bounds { progress.done + k + self.width ≤ length self.bytes.now }
+        requires k_in_bounds { progress.to + k + 4 ≤ length out.old + self.width }
+        requires numbers_in_bounds { self.rest + 4 * self.numbers ≤ length out.old }
+        requires number_left { progress.numbers < self.numbers }
+        ensures advances { Advances self.entry.width self.entry.bytes.now progress.done out.old progress.to k self.entry.rest self.entry.numbers progress.numbers out.new }
+        ensures done { result.done ≡ progress.done + k + self.entry.width }
+        ensures to { result.to + self.entry.width ≡ progress.to + k + 4 }
         ensures numbers { result.numbers ≡ progress.numbers + 1 }
     {
         let Progress { done, to, numbers } = progress;
@@ -95,14 +95,14 @@ impl Source<'_> {
     }
 
     // The numbers of the frame at a place, and the bytes before them.
-    fn move_frame(&self, out: &mut [u8], progress: Progress, at: usize, scalar: bool) -> Progress
+    fn move_frame(self, out: &mut [u8], progress: Progress, at: usize, scalar: bool) -> Progress
         requires done_le_at { progress.done ≤ at }
-        requires width_in_bounds { at + 2 + 2 * self.now.width ≤ length self.now.bytes.now }
-        requires at_in_bounds { progress.to + at + 10 ≤ length out.old + progress.done + 2 * self.now.width }
-        requires numbers_in_bounds { self.now.rest + 4 * self.now.numbers ≤ length out.old }
-        requires number_left { progress.numbers < self.now.numbers }
-        requires two_left { scalar ≡ true → progress.numbers + 1 < self.now.numbers }
-        ensures { FrameMoves self.now.width self.now.text_len self.now.bytes.now out.old out.new self.now.rest self.now.numbers progress.done progress.to progress.numbers at scalar result.done result.to result.numbers }
+        requires width_in_bounds { at + 2 + 2 * self.width ≤ length self.bytes.now }
+        requires at_in_bounds { progress.to + at + 10 ≤ length out.old + progress.done + 2 * self.width }
+        requires numbers_in_bounds { self.rest + 4 * self.numbers ≤ length out.old }
+        requires number_left { progress.numbers < self.numbers }
+        requires two_left { scalar ≡ true → progress.numbers + 1 < self.numbers }
+        ensures { FrameMoves self.entry.width self.entry.text_len self.entry.bytes.now out.old out.new self.entry.rest self.entry.numbers progress.done progress.to progress.numbers at scalar result.done result.to result.numbers }
     {
         let behind_time = self.advance(out, progress, at + 1 - progress.done);
         if !scalar {
@@ -112,9 +112,9 @@ impl Source<'_> {
     }
 
     // The numbers of so many frames, and the bytes before them.
-    fn move_frames(&self, out: &mut [u8], progress: Progress, at: usize, count: usize) -> Moved
-        requires { BeforeFrames self.now.width self.now.text_len self.now.bytes.now out.old self.now.rest self.now.numbers progress.done progress.to progress.numbers at count }
-        ensures { FramesMove self.now.width self.now.text_len self.now.bytes.now out.old out.new self.now.rest self.now.numbers progress.done progress.to progress.numbers at count result.progress.done result.progress.to result.progress.numbers result.next }
+    fn move_frames(self, out: &mut [u8], progress: Progress, at: usize, count: usize) -> Moved
+        requires { BeforeFrames self.width self.text_len self.bytes.now out.old self.rest self.numbers progress.done progress.to progress.numbers at count }
+        ensures { FramesMove self.entry.width self.entry.text_len self.entry.bytes.now out.old out.new self.entry.rest self.entry.numbers progress.done progress.to progress.numbers at count result.progress.done result.progress.to result.progress.numbers result.next }
     {
         let mut progress = progress;
         let mut at = at;
@@ -127,9 +127,9 @@ impl Source<'_> {
     }
 
     // Those of the track at a place.
-    fn move_track(&self, out: &mut [u8], progress: Progress, at: usize) -> Moved
-        requires { BeforeTrack self.now.width self.now.text_len self.now.bytes.now out.old self.now.rest self.now.numbers progress.done progress.to progress.numbers at }
-        ensures { TrackMoves self.now.width self.now.text_len self.now.bytes.now out.old out.new self.now.rest self.now.numbers progress.done progress.to progress.numbers at result.progress.done result.progress.to result.progress.numbers result.next }
+    fn move_track(self, out: &mut [u8], progress: Progress, at: usize) -> Moved
+        requires { BeforeTrack self.width self.text_len self.bytes.now out.old self.rest self.numbers progress.done progress.to progress.numbers at }
+        ensures { TrackMoves self.entry.width self.entry.text_len self.entry.bytes.now out.old out.new self.entry.rest self.entry.numbers progress.done progress.to progress.numbers at result.progress.done result.progress.to result.progress.numbers result.next }
     {
         let count = take_field(self.bytes, at + 7, 2);
         let frames = self.move_frames(out, progress, at + 9, count.v as usize);
@@ -141,9 +141,9 @@ impl Source<'_> {
     }
 
     // Those of the record at a place.
-    fn move_record(&self, out: &mut [u8], progress: Progress, at: usize) -> Moved
-        requires { BeforeRecord self.now.width self.now.text_len self.now.bytes.now out.old self.now.rest self.now.numbers progress.done progress.to progress.numbers at }
-        ensures { RecordMoves self.now.width self.now.text_len self.now.bytes.now out.old out.new self.now.rest self.now.numbers progress.done progress.to progress.numbers at result.progress.done result.progress.to result.progress.numbers result.next }
+    fn move_record(self, out: &mut [u8], progress: Progress, at: usize) -> Moved
+        requires { BeforeRecord self.width self.text_len self.bytes.now out.old self.rest self.numbers progress.done progress.to progress.numbers at }
+        ensures { RecordMoves self.entry.width self.entry.text_len self.entry.bytes.now out.old out.new self.entry.rest self.entry.numbers progress.done progress.to progress.numbers at result.progress.done result.progress.to result.progress.numbers result.next }
     {
         if self.bytes[at] == 2 {
             return self.move_track(out, progress, at);
@@ -156,9 +156,9 @@ impl Source<'_> {
     }
 
     // All of a sheet, or of what stays of a planed one.
-    pub fn move_all(&self, out: &mut [u8])
-        requires { BeforeAll self.now.width self.now.text_len self.now.bytes.now out.old (self.now.rest + self.now.width * self.now.numbers) self.now.rest self.now.numbers }
-        ensures { AllMove self.now.width self.now.text_len self.now.bytes.now out.old out.new (self.now.rest + self.now.width * self.now.numbers) self.now.rest self.now.numbers }
+    pub fn move_all(self, out: &mut [u8])
+        requires { BeforeAll self.width self.text_len self.bytes.now out.old (self.rest + self.width * self.numbers) self.rest self.numbers }
+        ensures { AllMove self.entry.width self.entry.text_len self.entry.bytes.now out.old out.new (self.entry.rest + self.entry.width * self.entry.numbers) self.entry.rest self.entry.numbers }
     {
         let end = self.rest + self.width * self.numbers;
         let mut progress = Progress {
@@ -182,9 +182,9 @@ impl Source<'_> {
     }
 
     // Carries a sheet to its planed form, or a planed one back, if there is room.
-    pub fn carry(&self, out: &mut [u8]) -> LineAnswer
-        requires { Carries self.now.width self.now.text_len self.now.bytes.now (self.now.rest + self.now.width * self.now.numbers) self.now.rest self.now.numbers }
-        ensures { Carried self.now.width self.now.text_len self.now.bytes.now out.old (self.now.rest + self.now.width * self.now.numbers) self.now.rest self.now.numbers result out.new }
+    pub fn carry(self, out: &mut [u8]) -> LineAnswer
+        requires { Carries self.width self.text_len self.bytes.now (self.rest + self.width * self.numbers) self.rest self.numbers }
+        ensures { Carried self.entry.width self.entry.text_len self.entry.bytes.now out.old (self.entry.rest + self.entry.width * self.entry.numbers) self.entry.rest self.entry.numbers result out.new }
     {
         if out.len() < self.bytes.len() {
             return LineAnswer::Refused {

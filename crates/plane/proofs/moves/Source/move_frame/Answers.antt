@@ -11,7 +11,7 @@ returns-then-not-scalar c =
     let q = c.requires in
     let z = c.advance-behind_time.ensures in
     λ s p xs o planes k g e A B C d t l f h r.
-    moved_array o args.self.now.text_len xs args.out.now _ args.self.now.rest args.self.now.numbers
+    moved_array o args.self.text_len xs args.out.now _ args.self.rest args.self.numbers
     (args.at + 1 - args.progress.done) k args.progress.numbers args.progress.done args.progress.to
     q.number_left planes g e A B C d t (omega (arith, l, q.done_le_at)) h z.advances r _ _ _ (f ∙ c.if-not-scalar.true) z.done z.to z.numbers
 
@@ -21,7 +21,7 @@ returns c =
     let q = c.requires in
     let z = c.advance-behind_time.ensures in
     λ s p xs o planes k g e A B C d t l f h r.
-    moved_scalar o args.self.now.text_len xs args.out.now _ args.self.now.rest args.self.now.numbers
+    moved_scalar o args.self.text_len xs args.out.now _ args.self.rest args.self.numbers
     (args.at + 1 - args.progress.done) k args.progress.numbers args.progress.done args.progress.to
     q.number_left planes g e A B C d t (omega (arith, l, q.done_le_at)) h z.advances r _ _ _ _ _ _ _ (f ∙ c.if-not-scalar.false)
     (q.two_left c.if-not-scalar.false) z.done z.to z.numbers c.advance.ensures.advances c.advance.ensures.done
