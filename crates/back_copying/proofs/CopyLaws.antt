@@ -20,9 +20,9 @@ use Rattle.sheet.specs.Sheet.{span_form}
 use Rattle.pieces.specs.Pieces.{Piece, a_word, a_numeral}
 use Rattle.ast.specs.Tree.{span_bytes}
 use Rattle.fresh.specs.Fresh.{Writer, mark, negative, minus_if, size_of, signed_by, f32, field}
-use Rattle.back_spelling.specs.Means.{Page, size, put, run, page_of}
+use Rattle.back_spelling.specs.Means.{Page, lent, put, run, page_of}
 use Rattle.back_spelling.specs.declared.Pen.{Pen}
-use Rattle.back_spelling.proofs.PageLaws.{size_of_lem, size-run}
+use Rattle.back_spelling.proofs.PageLaws.{same_buffer, lent-run}
 use Rattle.back_copying.specs.Means.{Written, Copies}
 
 -- the same page whatever follows
@@ -45,22 +45,20 @@ pub ◌and◌ : {w v : Writer} {p q r : Page} → Written w p q → Written v q 
 pub called : {w v : Writer} {p q : Page} → Written v p q → ((ps : List Piece) → w ps ≡ v ps) → Written w p q
 called {p = p} x h = record { is = λ ps. ap (λ (xs : List Piece). run xs p) (h ps) ∙ x.is ps }
 
--- ---- the buffer keeps its length
+-- ---- the buffer stays the same, and keeps its length
 
-pub written_kept : {w : Writer} {p q : Page} → Written w p q → size q ≡ size p
+pub written_kept : {w : Writer} {p q : Page} → Written w p q → lent q ≡ lent p
 unfolding run
-written_kept {w} {p} {q} x = ap size (sym (x.is [])) ∙ size-run (w []) p
+written_kept {w} {p} {q} x = ap lent (sym (x.is [])) ∙ lent-run (w []) p
 
-module _ (out after : List ℕ) (c d : Pen) where
-  length_of : size (page_of after d) ≡ size (page_of out c) → length after ≡ length out
-  length_of e = sym (size_of_lem after d) ∙ e ∙ size_of_lem out c
+module _ (c d : Pen) where
+  pub put_keeps : {w : Writer} → Written w (page_of c) (page_of d)
+      → (d.out.ghost_name ≡ c.out.ghost_name) × (length d.out.now ≡ length c.out.now)
+  put_keeps x = same_buffer c d (written_kept x)
 
-  pub put_keeps : {w : Writer} → Written w (page_of out c) (page_of after d) → length after ≡ length out
-  put_keeps x = length_of (written_kept x)
-
-  pub copy_keeps : {A : Type 0} {f : Form A} {w : A → Writer} {s : List ℕ} {at m : ℕ}
-      → Copies f w s at (page_of out c) (page_of after d) m → length after ≡ length out
-  copy_keeps y = length_of y.kept
+  pub copy_keeps : {A : Type 0} {f : Form A} {w : A → Writer} {s : List ℕ} {at m : ℕ} → Copies f w s at (page_of c) (page_of d) m
+      → (d.out.ghost_name ≡ c.out.ghost_name) × (length d.out.now ≡ length c.out.now)
+  copy_keeps y = same_buffer c d y.kept
 
 -- an f32 without a sign, and with one
 pub positive : (b : ℕ) → b < 2147483648 → (ps : List Piece) → f32 b ps ≡ a_numeral float b ∷ ps
@@ -208,7 +206,7 @@ one_copied vs ws {p = p} j h y z = record {
 module _ {A : Type 0} (c : Form A) (ws : List A → Writer) (s : List ℕ) (at n : ℕ) (start : Page) where
   pub record Walked (p : Page) (a k : ℕ) : Type 0 where
     pub on : (q : Page) (m : ℕ) → Copies (each c (n - k)) ws s a p q m → Copies (each c n) ws s at start q m
-    pub kept : size p ≡ size start
+    pub kept : lent p ≡ lent start
 
   pub walk_start : Walked start at 0
   walk_start = record { on = λ q m y. let e : n - 0 ≡ n = omega arith in rw e at y; kept = refl }

@@ -6,6 +6,7 @@ use mathlib.Core.Option.{Option, none, some}
 use mathlib.Core.Path.{◌≡◌, refl, sym, ap, ◌∙◌, subst}
 use native.Mathlib.Nat.{div-one, add-zero, lt_of_lt_of_le, pow-suc, mul_assoc, mul-pos, one-le-pow}
 use lib.Dec.{ltb, lit<, lit≤}
+use lib.ListN.{length}
 use borrow.Author.Tests.{le-ltb}
 use Rattle.digits.proofs.DigitLaws.{tenth_below}
 use native.Mathlib.Omega.{arith}
@@ -19,9 +20,9 @@ use Rattle.digits.proofs.PercentLaws.{percent_of}
 use Rattle.pieces.specs.Pieces.{a_numeral, spelt, fits}
 use Rattle.pieces.proofs.FitLaws.{is_fits}
 use Rattle.pieces.proofs.FormLaws.{float_fits, percent-fits, counted-fits}
-use Rattle.back_spelling.specs.Means.{Page, spoil, put_on, put, page_of, Spellable, Below, Large, put_number}
+use Rattle.back_spelling.specs.Means.{Page, spoiled, spoil, put_on, put, page_of, Spellable, Below, Large, put_number}
 use Rattle.back_spelling.specs.declared.Pen.{Pen}
-use Rattle.back_spelling.proofs.PageLaws.{size_of_lem, put_both}
+use Rattle.back_spelling.proofs.PageLaws.{lent_of_lem, put_both}
 
 -- ---- where nothing is found, it does not fit
 
@@ -100,9 +101,9 @@ count-put n p h e f =
 
 -- ---- a number that may be there
 
-pub not_found : (d : Decimal) (at : ℕ) (out : List ℕ) (c : Pen) → d.found ≡ false
-    → page_of out (record { at = at; fits = false }) ≡ put_number (number_of d) (page_of out c)
-not_found d at out c h = rw (h, size_of_lem out c) (unfold page_of in refl)
+pub not_found : (d : Decimal) (c : Pen) → d.found ≡ false
+    → spoiled (c.out.ghost_name, length c.out.now) ≡ put_number (number_of d) (page_of c)
+not_found d c h = rw (h, lent_of_lem c) refl
 
 module _ (d : Decimal) (s : Spellable (number_of d)) (h : d.found ≡ true) where
   found_some : number_of d ≡ some (whole_number d, d.places)

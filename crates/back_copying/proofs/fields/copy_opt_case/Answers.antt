@@ -10,5 +10,5 @@ returns-then-k-eq0 c = λ f ns e g. absent_field f (choose ns) (below c.args.n) 
 pub returns : goal.returns
 returns c =
     λ f ns e g. present_field f (choose ns) (below c.args.n) c.take_byte-k.ensures c.if-k-eq0.false e
-    c.put_field-p.ensures
+    c.put_field.ensures
     (read-put (choose ns) c.take_byte-x.ensures.reads (c.put_choice.ensures ns g))

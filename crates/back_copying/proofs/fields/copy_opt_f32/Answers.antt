@@ -9,5 +9,5 @@ returns-then-k-eq0 c = λ n e. absent_field n f32 word c.take_byte-k.ensures c.i
 
 pub returns : goal.returns
 returns c =
-    λ n e. present_field n f32 word c.take_byte-k.ensures c.if-k-eq0.false e c.put_field-p.ensures
+    λ n e. present_field n f32 word c.take_byte-k.ensures c.if-k-eq0.false e c.put_field.ensures
     c.copy_f32.ensures

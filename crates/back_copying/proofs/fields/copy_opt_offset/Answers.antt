@@ -12,12 +12,6 @@ use Rattle.back_copying.proofs.fields.copy_opt_offset.Goals as goal
 pub returns-then-k-eq0 : goal.returns-then-k-eq0
 returns-then-k-eq0 c = absent_field "offset" offset (word ▹ word) c.take_byte-k.ensures c.if-k-eq0.true
 
-pub put_field-p-requires : goal.put_field-p-requires
-put_field-p-requires c = unfold word_like all in refl
-
-pub put_pair-q-requires : goal.put_pair-q-requires
-put_pair-q-requires c = unfold one_of in (refl, refl)
-
 pub returns : goal.returns
 unfolding offset
 returns c =
@@ -26,5 +20,5 @@ returns c =
     c.take_byte-k.ensures
     c.if-k-eq0.false
     refl
-    c.put_field-p.ensures
-    (behind (two "." ".") c.copy_f32-a.ensures c.put_pair-q.ensures then c.copy_f32.ensures)
+    c.put_field.ensures
+    (behind (two "." ".") c.copy_f32-next.ensures c.put_pair.ensures then c.copy_f32.ensures)

@@ -10,10 +10,7 @@ use Rattle.back_easings.proofs.options.copy_opt_loop.Goals as goal
 pub returns-then-k-eq0 : goal.returns-then-k-eq0
 returns-then-k-eq0 c = absent_field "loop" loop_mode loop_form c.take_byte-k.ensures c.if-k-eq0.true
 
-pub put_field-p-requires : goal.put_field-p-requires
-put_field-p-requires c = unfold word_like all in refl
-
 pub returns : goal.returns
 returns c =
-    present_field "loop" loop_mode loop_form c.take_byte-k.ensures c.if-k-eq0.false refl c.put_field-p.ensures
+    present_field "loop" loop_mode loop_form c.take_byte-k.ensures c.if-k-eq0.false refl c.put_field.ensures
     c.copy_loop.ensures
