@@ -9,7 +9,8 @@ use borrow.Author.Tests.{lt-leb, le-leb}
 use Rattle.codec.specs.Codec.{Form, ◌▹◌, via, opt, Case, FieldsAt, enum, big, sized, each}
 use Rattle.codec.proofs.Laws.{make_at}
 use Rattle.sheet_decode.specs.Means.{Reads, Number, same}
-use Rattle.sheet_decode.proofs.ReadLaws.{◌&◌, seen, through, counted, form_at, chosen, absent, present, each_none, each_next}
+use Rattle.sheet_decode.proofs.ReadLaws.{◌&◌, seen, through, counted, form_at, chosen, each_none, each_next}
+use Rattle.sheet_decode.proofs.ReadLaws as read
 use lib.ListN.{length}
 use Rattle.codec.specs.Codec.{below}
 use Rattle.text.specs.Bytes.{bytes, part}
@@ -24,6 +25,9 @@ use Rattle.back_spelling.specs.Means.{Page, lent, put, run, page_of}
 use Rattle.back_spelling.specs.declared.Pen.{Pen}
 use Rattle.back_spelling.proofs.PageLaws.{same_buffer, lent-run}
 use Rattle.back_copying.specs.Means.{Written, Copies}
+use Rattle.back_copying.specs.WordMeans.{Step, FieldPut, absent, present}
+use denote.MutBor.{MutBor}
+
 
 -- the same page whatever follows
 same_page : {p q : List Piece → Page} → ((ps : List Piece) → p ps ≡ q ps) → p ≡ q
@@ -142,11 +146,11 @@ module _ {B : Type 0} (cs : List (Case B)) (split : B → (i : ℕ) × FieldsAt 
 -- an optional value
 pub is_absent : {A : Type 0} (c : Form A) {s : List ℕ} {at m b : ℕ} {p : Page} (w : Option A → Writer)
     → Number (below 2) 2 s at b m → b ≡ 0 → ((ps : List Piece) → w none ps ≡ ps) → Copies (opt c) w s at p p m
-is_absent c {p = p} w r e h = record { reads = absent c r e (same_page (λ ps. ap (λ (xs : List Piece). run xs p) (h ps))); kept = refl }
+is_absent c {p = p} w r e h = record { reads = read.absent c r e (same_page (λ ps. ap (λ (xs : List Piece). run xs p) (h ps))); kept = refl }
 
 pub is_present : {A : Type 0} (c : Form A) {s : List ℕ} {at m k b : ℕ} {p q : Page} (w : Option A → Writer)
     → Number (below 2) 2 s at b m → (b ≡ 0 → ⊥) → Copies c (λ a. w (some a)) s m p q k → Copies (opt c) w s at p q k
-is_present c w r n y = record { reads = present c r n y.reads (λ a h. h); kept = y.kept }
+is_present c w r n y = record { reads = read.present c r n y.reads (λ a h. h); kept = y.kept }
 
 -- a size, then what has that size
 pub sized_copied : {A : Type 0} (size : A → ℕ) (c : ℕ → Form A) {w : A → Writer} {s : List ℕ} {at m k n : ℕ} {p q : Page}
@@ -180,6 +184,14 @@ pub present_field : {A : Type 0} (n : String) (w : A → Writer) (c : Form A) {n
     → Number (below 2) 2 s at b m → (b ≡ 0 → ⊥) → bytes n ≡ name
     → Written (λ ps. a_word name ∷ mark ":" ∷ ps) p q → Copies c w s m q r k → Copies (opt c) (field n w) s at p r k
 present_field n w c r h e x y = is_present c (field n w) r h (under_name n w e x y)
+
+-- a field that may be absent, by what is told of the step that writes its value
+pub field_put : {A : Type 0} (n : String) (w : A → Writer) (c : Form A) {step : Step} {name s : List ℕ} {at next : ℕ} {p q : Pen} → bytes n ≡ name
+    → FieldPut name step s at p q next
+    → ((m k : ℕ) (o r : MutBor Pen) → step m o k r → Copies c w s m (page_of o.now) (page_of r.now) k)
+    → Copies (opt c) (field n w) s at (page_of p) (page_of q) next
+field_put n w c e (absent h z) f = absent_field n w c h z
+field_put n w c e (present o r h z x y) f = present_field n w c h z e x (f _ _ o r y)
 
 -- ---- so many of a form
 

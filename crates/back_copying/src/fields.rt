@@ -2,20 +2,20 @@
 ghost use Rattle.std.specs.Prelude.{◌^◌, ◌<◌, true, List, ◌∷◌, ◌≡◌, length};
 ghost use Rattle.std.proofs.Math.Option.{some};
 ghost use Rattle.text.specs.Bytes.{bytes};
-ghost use Rattle.text.specs.Words.{words, table};
+ghost use Rattle.text.specs.Words.{words};
 ghost use Rattle.codec.specs.Codec.{◌▹◌, below, opt};
 ghost use Rattle.sheet.specs.Sheet.{word, flag, value_form, damping_form};
 ghost use Rattle.pieces.specs.Pieces.{a_word, word_like};
 ghost use Rattle.fresh.specs.Fresh as fresh;
 ghost use Rattle.grammar.specs.Grammar.{space_names, space_default};
 ghost use Rattle.back_copying.specs.Means.{Puts, CopiesTo};
-ghost use Rattle.back_copying.specs.WordMeans.{Literal, all_words};
+ghost use Rattle.back_copying.specs.WordMeans.{Literal, FieldPut, texts, all_words};
 
-use crate::values::{copy_f32, copy_u32, copy_value, put_truth};
+use crate::values::copy_f32;
 use back_spelling::Pen;
 use sheet_decode::fields::{take_byte, take_field, take_flag};
 
-const SPACES: [u8; 17] = *b"\x06linear\x03lab\x05oklch";
+const SPACES: [&str; 3] = ["linear", "lab", "oklch"];
 
 // A field's name and its `:`.
 pub fn put_field(pen: &mut Pen, name: &[u8])
@@ -35,96 +35,60 @@ pub fn copy_f32_field(s: &[u8], at: usize, pen: &mut Pen, name: &[u8]) -> usize
     copy_f32(s, at, pen)
 }
 
-pub fn copy_opt_f32(s: &[u8], at: usize, pen: &mut Pen, name: &[u8]) -> usize
-    requires { word_like name.now ≡ true }
-    ensures { (n : Literal) → bytes n ≡ name.now → CopiesTo (opt word) (fresh.field n fresh.f32) s.now at pen.old pen.new result }
+// A field under a name that may be absent, whose value a step copies.
+pub fn copy_opt<F: FnOnce(&[u8], usize, &mut Pen) -> usize>(
+    s: &[u8],
+    at: usize,
+    pen: &mut Pen,
+    name: &[u8],
+    copy: F,
+) -> usize
+    requires named { word_like name.now ≡ true }
+    requires callable { F.IsAlwaysCallable copy }
+    ensures { FieldPut name.now (F.post copy s.entry) s.now at pen.old pen.new result }
 {
     let k = take_byte(s, at, 2);
     if k.v == 0 {
         return k.next;
     }
     put_field(pen, name);
-    copy_f32(s, k.next, pen)
-}
-
-pub fn copy_opt_u32(s: &[u8], at: usize, pen: &mut Pen, name: &[u8]) -> usize
-    requires { word_like name.now ≡ true }
-    ensures { (n : Literal) → bytes n ≡ name.now → CopiesTo (opt word) (fresh.field n fresh.u32) s.now at pen.old pen.new result }
-{
-    let k = take_byte(s, at, 2);
-    if k.v == 0 {
-        return k.next;
-    }
-    put_field(pen, name);
-    copy_u32(s, k.next, pen)
-}
-
-// `auto_rotate`.
-pub fn copy_opt_flag(s: &[u8], at: usize, pen: &mut Pen, name: &[u8]) -> usize
-    requires { word_like name.now ≡ true }
-    ensures { (n : Literal) → bytes n ≡ name.now → CopiesTo (opt flag) (fresh.field n fresh.truth) s.now at pen.old pen.new result }
-{
-    let k = take_byte(s, at, 2);
-    if k.v == 0 {
-        return k.next;
-    }
-    put_field(pen, name);
-    let x = take_flag(s, k.next);
-    put_truth(pen, x.v);
-    x.next
-}
-
-pub fn copy_opt_value(s: &[u8], at: usize, pen: &mut Pen, name: &[u8]) -> usize
-    requires { word_like name.now ≡ true }
-    ensures { (n : Literal) → bytes n ≡ name.now → CopiesTo (opt value_form) (fresh.field n fresh.value) s.now at pen.old pen.new result }
-{
-    let k = take_byte(s, at, 2);
-    if k.v == 0 {
-        return k.next;
-    }
-    put_field(pen, name);
-    copy_value(s, k.next, pen)
+    copy(s, k.next, pen)
 }
 
 // The word at a position of a table of words.
-pub fn put_choice(pen: &mut Pen, names: &[u8], position: usize)
-    requires { (all_words (table names.now) ≡ true) × (position < length (table names.now)) × (length names.now < 2 ^ 16) }
-    ensures { (ns : List Literal) → words ns ≡ table names.now → Puts (fresh.choose ns position) pen.old pen.new }
+pub fn put_choice(pen: &mut Pen, names: &[&str], position: usize)
+    requires { (all_words (texts names.now) ≡ true) × (position < length names.now) }
+    ensures { (ns : List Literal) → words ns ≡ texts names.now → Puts (fresh.choose ns position) pen.old pen.new }
 {
-    let mut at: usize = 0;
-    let mut k: usize = 0;
-    while k < position {
-        at = at + 1 + text::byte_at(names, at) as usize;
-        k += 1;
-    }
-    let size = text::byte_at(names, at) as usize;
-    pen.put_word(text::part(names, at + 1, size));
+    pen.put_word(names[position].as_bytes());
 }
 
-pub fn copy_opt_case(s: &[u8], at: usize, pen: &mut Pen, name: &[u8], names: &[u8], n: u8) -> usize
-    requires { (word_like name.now ≡ true) × (all_words (table names.now) ≡ true) × (n ≡ length (table names.now)) × (0 < n) × (length names.now < 2 ^ 16) }
-    ensures { (f : Literal) (ns : List Literal) → bytes f ≡ name.now → words ns ≡ table names.now → CopiesTo (opt (below n)) (fresh.field f (fresh.choose ns)) s.now at pen.old pen.new result }
+fn copy_choice(s: &[u8], at: usize, pen: &mut Pen, names: &[&str]) -> usize
+    requires { (all_words (texts names.now) ≡ true) × (0 < length names.now) × (length names.now < 2 ^ 8) }
+    ensures { (ns : List Literal) → words ns ≡ texts names.now → CopiesTo (below (length names.now)) (fresh.choose ns) s.now at pen.old pen.new result }
 {
-    let k = take_byte(s, at, 2);
-    if k.v == 0 {
-        return k.next;
-    }
-    put_field(pen, name);
-    let x = take_byte(s, k.next, n);
+    let x = take_byte(s, at, names.len() as u8);
     put_choice(pen, names, x.v as usize);
     x.next
 }
 
-// `offset`: two numbers with `..` between them.
-pub fn copy_opt_offset(s: &[u8], at: usize, pen: &mut Pen) -> usize
-    ensures { CopiesTo (opt (word ▹ word)) (fresh.field "offset" fresh.offset) s.now at pen.old pen.new result }
+pub fn copy_opt_case(s: &[u8], at: usize, pen: &mut Pen, name: &[u8], names: &[&str]) -> usize
+    requires { (word_like name.now ≡ true) × (all_words (texts names.now) ≡ true) × (0 < length names.now) × (length names.now < 2 ^ 8) }
+    ensures { (f : Literal) (ns : List Literal) → bytes f ≡ name.now → words ns ≡ texts names.now → CopiesTo (opt (below (length names.now))) (fresh.field f (fresh.choose ns)) s.now at pen.old pen.new result }
 {
     let k = take_byte(s, at, 2);
     if k.v == 0 {
         return k.next;
     }
-    put_field(pen, b"offset");
-    let next = copy_f32(s, k.next, pen);
+    put_field(pen, name);
+    copy_choice(s, k.next, pen, names)
+}
+
+// `offset`: two numbers with `..` between them.
+pub fn copy_offset(s: &[u8], at: usize, pen: &mut Pen) -> usize
+    ensures { CopiesTo (word ▹ word) fresh.offset s.now at pen.old pen.new result }
+{
+    let next = copy_f32(s, at, pen);
     pen.put_pair(b'.', b'.');
     copy_f32(s, next, pen)
 }

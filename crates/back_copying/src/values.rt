@@ -2,14 +2,14 @@
 ghost use Rattle.std.specs.Prelude.{◌∷◌, length};
 ghost use Rattle.codec.specs.Codec.{each, many};
 ghost use Rattle.ast.specs.Tree.{array};
-ghost use Rattle.sheet.specs.Sheet.{word, span_form, value_form};
+ghost use Rattle.sheet.specs.Sheet.{word, flag, span_form, value_form};
 ghost use Rattle.pieces.specs.Pieces.{a_name, a_string};
 ghost use Rattle.ast.specs.Tree.{span_bytes};
 ghost use Rattle.fresh.specs.Fresh as fresh;
 ghost use Rattle.back_copying.specs.Means.{Puts, CopiesTo};
 
 use back_spelling::Pen;
-use sheet_decode::fields::{take_byte, take_field, take_span};
+use sheet_decode::fields::{take_byte, take_field, take_flag, take_span};
 
 // An f32 by its bits: its sign, if it has one, and its size.
 pub fn put_f32(pen: &mut Pen, bits: u32)
@@ -83,7 +83,7 @@ pub fn copy_value(s: &[u8], at: usize, pen: &mut Pen) -> usize
     copy_array(s, k.next, pen)
 }
 
-pub fn put_truth(pen: &mut Pen, v: bool)
+fn put_truth(pen: &mut Pen, v: bool)
     ensures { Puts (fresh.truth v) pen.old pen.new }
 {
     if v {
@@ -91,6 +91,14 @@ pub fn put_truth(pen: &mut Pen, v: bool)
     } else {
         pen.put_word(b"false");
     }
+}
+
+pub fn copy_truth(s: &[u8], at: usize, pen: &mut Pen) -> usize
+    ensures { CopiesTo flag fresh.truth s.now at pen.old pen.new result }
+{
+    let x = take_flag(s, at);
+    put_truth(pen, x.v);
+    x.next
 }
 
 // A name of the tree.

@@ -15,8 +15,17 @@ use back_copying::values::copy_f32;
 use back_spelling::Pen;
 use sheet_decode::fields::{take_byte, take_field};
 
-const ORIGINS: [u8; 73] =
-    *b"\x08top_left\x09top_right\x0bbottom_left\x0cbottom_right\x06center\x03top\x06bottom\x04left\x05right";
+const ORIGINS: [&str; 9] = [
+    "top_left",
+    "top_right",
+    "bottom_left",
+    "bottom_right",
+    "center",
+    "top",
+    "bottom",
+    "left",
+    "right",
+];
 
 // `origin`, whose absence reads to `center`.
 fn put_origin(pen: &mut Pen, origin: u8)

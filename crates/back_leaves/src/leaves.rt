@@ -12,20 +12,22 @@ ghost use Rattle.back_leaves.specs.Means.{body, preset_fields};
 
 use crate::frames::copy_track;
 use back_copying::fields::{
-    copy_f32_field, copy_opt_case, copy_opt_damping, copy_opt_f32, copy_opt_flag, copy_opt_offset,
-    copy_opt_u32, copy_opt_value, copy_reverse, copy_samples, copy_space, put_choice, put_field,
+    copy_f32_field, copy_offset, copy_opt, copy_opt_case, copy_opt_damping, copy_reverse, copy_samples, copy_space,
+    put_choice, put_field,
 };
-use back_copying::values::{copy_name, copy_string, copy_value, put_f32};
-use back_easings::easings::copy_easing;
-use back_easings::options::{copy_opt_easing, copy_opt_loop};
+use back_copying::values::{
+    copy_f32, copy_name, copy_string, copy_truth, copy_u32, copy_value, put_f32,
+};
+use back_easings::easings::{copy_easing, copy_loop};
+use back_easings::options::copy_opt_easing;
 use back_spelling::Pen;
 use sheet_decode::fields::{take_byte, take_field, take_flag};
 
-const PRESETS: [u8; 32] = *b"\x06gentle\x06wobbly\x05stiff\x04slow\x06snappy";
+const PRESETS: [&str; 5] = ["gentle", "wobbly", "stiff", "slow", "snappy"];
 
-const INTEGRATORS: [u8; 24] = *b"\x13semi_implicit_euler\x03rk4";
+const INTEGRATORS: [&str; 2] = ["semi_implicit_euler", "rk4"];
 
-const WAVES: [u8; 30] = *b"\x04sine\x08sawtooth\x06square\x08triangle";
+const WAVES: [&str; 4] = ["sine", "sawtooth", "square", "triangle"];
 
 pub fn copy_tween(text: &[u8], s: &[u8], at: usize, pen: &mut Pen) -> usize
     ensures { CopiesTo (tween_form (length text.now)) (λ d. body text.now (tween d)) s.now at pen.old pen.new result }
@@ -37,11 +39,11 @@ pub fn copy_tween(text: &[u8], s: &[u8], at: usize, pen: &mut Pen) -> usize
     let at = copy_value(s, at, pen);
     let at = copy_f32_field(s, at, pen, b"duration");
     let at = copy_opt_easing(text, s, at, pen);
-    let at = copy_opt_f32(s, at, pen, b"delay");
-    let at = copy_opt_f32(s, at, pen, b"time_scale");
-    let at = copy_opt_loop(s, at, pen);
-    let at = copy_opt_f32(s, at, pen, b"snap");
-    let at = copy_opt_u32(s, at, pen, b"round");
+    let at = copy_opt(s, at, pen, b"delay", copy_f32);
+    let at = copy_opt(s, at, pen, b"time_scale", copy_f32);
+    let at = copy_opt(s, at, pen, b"loop", copy_loop);
+    let at = copy_opt(s, at, pen, b"snap", copy_f32);
+    let at = copy_opt(s, at, pen, b"round", copy_u32);
     let at = copy_reverse(s, at, pen);
     pen.put_mark(b';');
     at
@@ -55,13 +57,13 @@ pub fn copy_spring(text: &[u8], s: &[u8], at: usize, pen: &mut Pen) -> usize
     let at = copy_value(s, at, pen);
     pen.put_pair(b'=', b'>');
     let at = copy_value(s, at, pen);
-    let at = copy_opt_case(s, at, pen, b"preset", &PRESETS, 5);
-    let at = copy_opt_f32(s, at, pen, b"stiffness");
-    let at = copy_opt_f32(s, at, pen, b"damping");
-    let at = copy_opt_f32(s, at, pen, b"mass");
-    let at = copy_opt_value(s, at, pen, b"velocity");
-    let at = copy_opt_f32(s, at, pen, b"epsilon");
-    let at = copy_opt_case(s, at, pen, b"integrator", &INTEGRATORS, 2);
+    let at = copy_opt_case(s, at, pen, b"preset", &PRESETS);
+    let at = copy_opt(s, at, pen, b"stiffness", copy_f32);
+    let at = copy_opt(s, at, pen, b"damping", copy_f32);
+    let at = copy_opt(s, at, pen, b"mass", copy_f32);
+    let at = copy_opt(s, at, pen, b"velocity", copy_value);
+    let at = copy_opt(s, at, pen, b"epsilon", copy_f32);
+    let at = copy_opt_case(s, at, pen, b"integrator", &INTEGRATORS);
     let at = copy_opt_damping(s, at, pen);
     pen.put_mark(b';');
     at
@@ -86,9 +88,9 @@ pub fn copy_path(text: &[u8], s: &[u8], at: usize, pen: &mut Pen) -> usize
     let at = copy_string(text, s, at, pen);
     let at = copy_f32_field(s, at, pen, b"duration");
     let at = copy_opt_easing(text, s, at, pen);
-    let at = copy_opt_flag(s, at, pen, b"auto_rotate");
-    let at = copy_opt_offset(s, at, pen);
-    let at = copy_opt_loop(s, at, pen);
+    let at = copy_opt(s, at, pen, b"auto_rotate", copy_truth);
+    let at = copy_opt(s, at, pen, b"offset", copy_offset);
+    let at = copy_opt(s, at, pen, b"loop", copy_loop);
     pen.put_mark(b';');
     at
 }
@@ -146,13 +148,13 @@ pub fn copy_waveform(s: &[u8], at: usize, pen: &mut Pen) -> usize
 {
     let kind = take_byte(s, at, 5);
     put_wave(pen, kind.v as usize);
-    let at = copy_opt_f32(s, kind.next, pen, b"frequency");
-    let at = copy_opt_f32(s, at, pen, b"amplitude");
-    let at = copy_opt_f32(s, at, pen, b"phase");
-    let at = copy_opt_f32(s, at, pen, b"duty_cycle");
-    let at = copy_opt_u32(s, at, pen, b"seed");
-    let at = copy_opt_f32(s, at, pen, b"smoothness");
-    let at = copy_opt_f32(s, at, pen, b"duration");
+    let at = copy_opt(s, kind.next, pen, b"frequency", copy_f32);
+    let at = copy_opt(s, at, pen, b"amplitude", copy_f32);
+    let at = copy_opt(s, at, pen, b"phase", copy_f32);
+    let at = copy_opt(s, at, pen, b"duty_cycle", copy_f32);
+    let at = copy_opt(s, at, pen, b"seed", copy_u32);
+    let at = copy_opt(s, at, pen, b"smoothness", copy_f32);
+    let at = copy_opt(s, at, pen, b"duration", copy_f32);
     pen.put_mark(b';');
     at
 }

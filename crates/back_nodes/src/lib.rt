@@ -17,7 +17,7 @@ use back_spelling::Pen;
 use sheet_decode::fields::{take_byte, take_field, take_kind};
 use sheet_records::Kind;
 
-const MODES: [u8; 18] = *b"\x08sequence\x08parallel";
+const MODES: [&str; 2] = ["sequence", "parallel"];
 
 // A record that was written, a container's up to its `{`: whether it holds nodes and how many, and the place behind it.
 #[derive(Clone, Copy)]

@@ -11,6 +11,11 @@ use lib.Dec.{leb, eqb}
 use lib.ListN.{length, length-append, length-set, drop, get_or, drop_of_length-le}
 use lib.Seq.{sets, drop-cons, length-sets}
 use borrow.Author.Tests.{lt-ltb, le-ltb, le-leb, lt-leb, leb-true, leb-false, eqb-true, eqb-false, eq-eqb, ne_eqb}
+use denote.Bor.{Bor}
+use mathlib.Core.Option.{some}
+use Rattle.std.specs.Prelude.{map}
+use Rattle.std.specs.List.{list_any}
+use Rattle.text.specs.Words.{is_some, find}
 use Rattle.text.proofs.WriteLaws.{sets_append}
 use Rattle.text.specs.Bytes as bytes
 use Rattle.text.specs.Bytes.{at, is_letter, is_digit, is_name}
@@ -202,6 +207,18 @@ module _ (w : List ℕ) {b : ℕ} {x : Bool} (e : x ≡ is_letter b) (f : b ≡ 
 
   pub a_name_lem : {y k : Bool} → x ≡ true → y ≡ all is_name w → y ≡ true → k ≡ is_keyword w → not k ≡ name_like w
   a_name_lem h g n q = rw (word_is w, first-is, h, ← g, n, q)
+
+-- a word that is one of some names is found among them
+pub listed : (names : List (Bor (List ℕ))) (i : ℕ) (w : List ℕ)
+    → list_any (λ n. bytes.same w n.now) names ≡ is_some (find (map (λ n. n.now) names) i w)
+unfolding find
+listed [] i w = refl
+listed (n ∷ ns) i w = go (bytes.same w n.now) (listed ns (suc i) w)
+  where
+    go : (b : Bool) → list_any (λ n. bytes.same w n.now) ns ≡ is_some (find (map (λ n. n.now) ns) (suc i) w)
+        → (b || list_any (λ n. bytes.same w n.now) ns) ≡ is_some {A = ℕ} (elim b [ true ↦ some i | false ↦ find (map (λ n. n.now) ns) (suc i) w ])
+    go true h = refl
+    go false h = h
 
 pub no_curve : (n k : Bool) → k ≡ false → n ≡ (n && not k)
 no_curve true k h = rw h

@@ -2,11 +2,11 @@
 // buffer or past a script's limit; where there are more bytes, or a piece that no text can have, only that is kept. For our own crates.
 #![tactic(auto)]
 
-ghost use Rattle.std.specs.Prelude.{◌≡◌, true, cond, not, ◌&&◌, List, [], ◌∷◌, ℕ, suc, ◌+◌, ◌-◌, ◌/◌, ◌<◌, ◌^◌, leb, length};
+ghost use Rattle.std.specs.Prelude.{◌≡◌, true, cond, not, ◌&&◌, List, [], ◌∷◌, ℕ, suc, ◌+◌, ◌-◌, ◌/◌, ◌<◌, ◌^◌, leb, length, map};
 ghost use Rattle.std.proofs.lemmas.List.Edits.{sets};
 ghost use Rattle.text.specs.Limits.{whole_limit};
 ghost use Rattle.text.specs.Means.{passes};
-ghost use Rattle.text.specs.Words.{is_one_of};
+ghost use Rattle.text.specs.Words.{is_some, find, is_one_of};
 ghost use Rattle.digits.specs.Numeral.{float, percentage, counted, all, fraction};
 ghost use Rattle.digits.specs.Fewest.{whole_digits, last_digits};
 ghost use Rattle.pieces.specs.Pieces.{a_word, a_name, a_plain, a_string, a_mark, a_pair, a_numeral, word_like, name_like, curve_names, known_mark, plain_mark};
@@ -19,8 +19,8 @@ use text::Class;
 // A script's limit, and the blank behind its last piece.
 pub const MOST: usize = 16385;
 
-// The words that begin an easing with parentheses, each behind its length.
-const CURVES: [u8; 39] = *b"\x0ccubic_bezier\x05steps\x06wiggle\x05rough\x06slowmo";
+// The words that begin an easing with parentheses.
+const CURVES: [&str; 5] = ["cubic_bezier", "steps", "wiggle", "rough", "slowmo"];
 
 // A writer on a lent buffer: how many bytes are written, more than MOST where there were too many; and whether a text can have every
 // piece so far.
@@ -61,11 +61,20 @@ fn is_name_like(word: &[u8]) -> bool
     !keywords::is_keyword(word)
 }
 
+// Whether a word is one of some names.
+fn is_among(names: &[&str], word: &[u8]) -> bool
+    ensures { result ≡ is_some (find (map (λ name. name.now) names.now) 0 word.now) }
+{
+    names
+        .iter()
+        .any(|name| text::is_word(word, name.as_bytes()))
+}
+
 // Whether a word begins an easing with parentheses.
 fn is_curve(word: &[u8]) -> bool
     ensures { result ≡ is_one_of curve_names word.now }
 {
-    text::is_listed(&CURVES, word)
+    is_among(&CURVES, word)
 }
 
 // Whether a word is the name of an easing without `Easing::`.

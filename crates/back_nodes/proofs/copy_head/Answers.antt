@@ -15,7 +15,7 @@ use Rattle.back_nodes.proofs.copy_head.Goals as goal
 
 pub put_choice-requires : goal.put_choice-requires
 unfolding all_words entries word_like all
-put_choice-requires c = (refl, omega (arith, c.take_byte-mode.ensures.small), omega arith)
+put_choice-requires c = (refl, omega (arith, c.take_byte-mode.ensures.small))
 
 pub returns-in-3 : goal.returns-in-3
 returns-in-3 c = λ t from start b r k end g. sequence_told t b c.in-3.is c.put_word.ensures g

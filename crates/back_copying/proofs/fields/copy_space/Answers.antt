@@ -19,7 +19,7 @@ returns-then-x-eq0 c =
 
 pub put_choice-requires : goal.put_choice-requires
 unfolding all_words entries word_like all
-put_choice-requires c = (refl, omega (arith, c.take_byte-x.ensures.small), omega arith)
+put_choice-requires c = (refl, omega (arith, c.take_byte-x.ensures.small))
 
 pub returns : goal.returns
 unfolding field unless_is entries

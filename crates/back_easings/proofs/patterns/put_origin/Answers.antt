@@ -17,7 +17,7 @@ returns-else-origin-ne4 c = omitted false ("origin", choose origin_names c.args.
 
 pub put_choice-requires : goal.put_choice-requires
 unfolding all_words entries word_like all
-put_choice-requires c = (refl, omega (arith, c.requires), omega arith)
+put_choice-requires c = (refl, omega (arith, c.requires))
 
 pub returns-then-origin-ne4 : goal.returns-then-origin-ne4
 unfolding entries

@@ -3,10 +3,11 @@ use mathlib.Core.Path.{refl}
 use Rattle.text.specs.Bytes.{one_of}
 use Rattle.digits.specs.Numeral.{all}
 use Rattle.ast.specs.Tree as Tree
-use Rattle.sheet.specs.Sheet.{to_path, of_path}
+use Rattle.codec.specs.Codec.{◌▹◌}
+use Rattle.sheet.specs.Sheet.{word, flag, loop_form, to_path, of_path}
 use Rattle.pieces.specs.Pieces.{word_like}
-use Rattle.fresh.specs.Fresh.{mark, spell, leaf_body}
-use Rattle.back_copying.proofs.CopyLaws.{behind, ◌then◌, made}
+use Rattle.fresh.specs.Fresh.{truth, offset, loop_mode, mark, spell, leaf_body}
+use Rattle.back_copying.proofs.CopyLaws.{field_put, behind, ◌then◌, made}
 use Rattle.back_leaves.specs.Means.{body}
 use Rattle.back_leaves.proofs.leaves.copy_path.Goals as goal
 
@@ -18,6 +19,6 @@ returns c =
     then c.copy_string-at.ensures
     then c.copy_f32_field-at.ensures "duration" refl
     then c.copy_opt_easing-at.ensures
-    then c.copy_opt_flag-at.ensures "auto_rotate" refl
-    then c.copy_opt_offset-at.ensures
-    then behind (mark ";") c.copy_opt_loop-at.ensures c.put_mark.ensures)
+    then field_put "auto_rotate" truth flag refl c.copy_opt-at.ensures (λ m k o r h. h)
+    then field_put "offset" offset (word ▹ word) refl c.copy_opt-at-2.ensures (λ m k o r h. h)
+    then behind (mark ";") (field_put "loop" loop_mode loop_form refl c.copy_opt-at-3.ensures (λ m k o r h. h)) c.put_mark.ensures)

@@ -3,10 +3,10 @@ use mathlib.Core.Path.{refl}
 use Rattle.text.specs.Bytes.{one_of}
 use Rattle.digits.specs.Numeral.{all}
 use Rattle.ast.specs.Tree as Tree
-use Rattle.sheet.specs.Sheet.{to_tween, of_tween}
+use Rattle.sheet.specs.Sheet.{word, loop_form, to_tween, of_tween}
 use Rattle.pieces.specs.Pieces.{word_like}
-use Rattle.fresh.specs.Fresh.{mark, two, leaf_body}
-use Rattle.back_copying.proofs.CopyLaws.{behind, ◌then◌, made}
+use Rattle.fresh.specs.Fresh.{f32, u32, loop_mode, mark, two, leaf_body}
+use Rattle.back_copying.proofs.CopyLaws.{field_put, behind, ◌then◌, made}
 use Rattle.back_leaves.specs.Means.{body}
 use Rattle.back_leaves.proofs.leaves.copy_tween.Goals as goal
 
@@ -19,9 +19,9 @@ returns c =
     then c.copy_value-at-2.ensures
     then c.copy_f32_field-at.ensures "duration" refl
     then c.copy_opt_easing-at.ensures
-    then c.copy_opt_f32-at.ensures "delay" refl
-    then c.copy_opt_f32-at-2.ensures "time_scale" refl
-    then c.copy_opt_loop-at.ensures
-    then c.copy_opt_f32-at-3.ensures "snap" refl
-    then c.copy_opt_u32-at.ensures "round" refl
+    then field_put "delay" f32 word refl c.copy_opt-at.ensures (λ m k o r h. h)
+    then field_put "time_scale" f32 word refl c.copy_opt-at-2.ensures (λ m k o r h. h)
+    then field_put "loop" loop_mode loop_form refl c.copy_opt-at-3.ensures (λ m k o r h. h)
+    then field_put "snap" f32 word refl c.copy_opt-at-4.ensures (λ m k o r h. h)
+    then field_put "round" u32 word refl c.copy_opt-at-5.ensures (λ m k o r h. h)
     then behind (mark ";") c.copy_reverse-at.ensures c.put_mark-2.ensures)
