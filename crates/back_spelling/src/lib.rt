@@ -2,7 +2,7 @@
 // buffer or past a script's limit; where there are more bytes, or a piece that no text can have, only that is kept. For our own crates.
 #![tactic(auto)]
 
-ghost use Rattle.std.specs.Prelude.{◌≡◌, true, cond, not, ◌&&◌, List, [], ◌∷◌, ℕ, suc, ◌+◌, ◌-◌, ◌/◌, ◌<◌, ◌^◌, leb, length};
+ghost use Rattle.std.specs.Prelude.{◌≡◌, true, cond, not, ◌&&◌, List, [], ◌∷◌, ℕ, suc, ◌+◌, ◌-◌, ◌/◌, ◌<◌, ◌^◌, leb, length, IfSome};
 ghost use Rattle.std.proofs.lemmas.List.Edits.{sets};
 ghost use Rattle.text.specs.Limits.{whole_limit};
 ghost use Rattle.text.specs.Means.{passes};
@@ -266,19 +266,21 @@ fn put_front(pen: Pen, out: &mut [u8], d: Decimal) -> Pen
 }
 
 // A number as it is written, if there is one.
-fn put_decimal(pen: Pen, out: &mut [u8], d: Decimal) -> Pen
-    requires { Spellable (number_of d) × Neat d }
-    ensures { page_of out.new result ≡ put_number (number_of d) (page_of out.old pen) }
+fn put_decimal(pen: Pen, out: &mut [u8], number: Option<Decimal>) -> Pen
+    requires { Spellable (number_of number) × IfSome number Neat }
+    ensures { page_of out.new result ≡ put_number (number_of number) (page_of out.old pen) }
 {
-    if !d.found {
-        return Pen {
+    match number {
+        None => Pen {
             at: pen.at,
             fits: false,
-        };
+        },
+        Some(d) => {
+            let p = put_front(pen, out, d);
+            let q = put_fraction(p, out, d.places, d.n);
+            put_byte(q, out, b' ')
+        }
     }
-    let p = put_front(pen, out, d);
-    let q = put_fraction(p, out, d.places, d.n);
-    put_byte(q, out, b' ')
 }
 
 // An f32 without sign, by its bits.
