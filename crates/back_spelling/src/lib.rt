@@ -2,7 +2,7 @@
 // buffer or past a script's limit; where there are more bytes, or a piece that no text can have, only that is kept. For our own crates.
 #![tactic(auto)]
 
-ghost use Rattle.std.specs.Prelude.{◌≡◌, true, cond, not, ◌&&◌, List, [], ◌∷◌, ℕ, suc, ◌+◌, ◌-◌, ◌/◌, ◌<◌, ◌^◌, leb, length, map};
+ghost use Rattle.std.specs.Prelude.{◌≡◌, true, cond, not, ◌&&◌, List, [], ◌∷◌, ℕ, suc, ◌+◌, ◌-◌, ◌/◌, ◌<◌, ◌^◌, leb, length, map, IfSome};
 ghost use Rattle.std.proofs.lemmas.List.Edits.{sets};
 ghost use Rattle.text.specs.Limits.{whole_limit};
 ghost use Rattle.text.specs.Means.{passes};
@@ -268,17 +268,18 @@ impl<'a> Pen<'a> {
     }
 
     // A number as it is written, if there is one.
-    fn put_decimal(&mut self, d: Decimal)
-        requires { Spellable (number_of d) × Neat d }
-        ensures { page_of self.new ≡ put_number (number_of d) (page_of self.old) }
+    fn put_decimal(&mut self, number: Option<Decimal>)
+        requires { Spellable (number_of number) × IfSome number Neat }
+        ensures { page_of self.new ≡ put_number (number_of number) (page_of self.old) }
     {
-        if !d.found {
-            self.fits = false;
-            return;
+        match number {
+            None => self.fits = false,
+            Some(d) => {
+                self.put_front(d);
+                self.put_fraction(d.places, d.n);
+                self.put_byte(b' ');
+            }
         }
-        self.put_front(d);
-        self.put_fraction(d.places, d.n);
-        self.put_byte(b' ');
     }
 
     // An f32 without sign, by its bits.
