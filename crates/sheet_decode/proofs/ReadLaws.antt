@@ -267,10 +267,10 @@ module _ (s : List ℕ) (at : ℕ) where
   pub big_short : (j : ℕ) {m : ℕ} → at ≤ length s → length s - at < j → Lost s m → Number (big j) (256 ^ j) s at 0 m
   big_short j h l o = record { reads = bad o (λ i. big_needs j (drop at s) (rw length-drop l)); small = some_room j }
 
-  pub big_got : (j k v : ℕ) → k ≡ j → (big k).read (drop at s) ≡ some (v, drop (at + k) s) → at + k ≤ length s → v < 256 ^ k
-      → Number (big j) (256 ^ j) s at v (at + k)
-  big_got j k v q e l r =
-      subst (λ (j : ℕ). Number (big j) (256 ^ j) s at v (at + k)) q (record { reads = got v e refl (omega arith) l; small = r })
+  pub big_got : (j k v : ℕ) → k ≡ j → (big k).read (drop at s) ≡ some (v, drop (at + k) s) → at + j ≤ length s → v < 256 ^ k
+      → Number (big j) (256 ^ j) s at v (at + j)
+  big_got j k v q e l r = subst (λ (k : ℕ). Number (big k) (256 ^ k) s at v (at + k)) q
+      (record { reads = got v e refl (omega arith) (omega (arith, q, l)); small = r })
 
 -- ---- so many of a form
 

@@ -65,12 +65,13 @@ pub fn take_field(s: &[u8], at: usize, width: usize) -> Taken<u32>
         };
     }
     let mut v: u32 = 0;
-    let mut k: usize = 0;
-    while k < width {
+    for k in 0..width {
         v = v * 256 + s[at + k] as u32;
-        k += 1;
     }
-    Taken { v, next: at + k }
+    Taken {
+        v,
+        next: at + width,
+    }
 }
 
 pub fn take_flag(s: &[u8], at: usize) -> Taken<bool>
@@ -136,12 +137,9 @@ pub fn take_kind(s: &[u8], at: usize, n: usize) -> KindRead
 pub fn skip_words(s: &[u8], at: usize, n: usize) -> usize
     ensures { Reads (each word n) length s.now at n result }
 {
-    let mut k: usize = 0;
-    let mut a = at;
-    while k < n {
-        let w = take_field(s, a, 4);
-        a = w.next;
-        k += 1;
+    let mut next = at;
+    for _ in 0..n {
+        next = take_field(s, next, 4).next;
     }
-    a
+    next
 }

@@ -101,14 +101,11 @@ pub fn take_spring(s: &[u8], at: usize, n: usize) -> Taken<SpringSpec>
 pub fn skip_entries(s: &[u8], at: usize, n: usize, count: usize) -> usize
     ensures { Reads (each (entry_form n) count) length s.now at count result }
 {
-    let mut k: usize = 0;
-    let mut a = at;
-    while k < count {
-        let e = take_entry(s, a, n);
-        a = e.next;
-        k += 1;
+    let mut next = at;
+    for _ in 0..count {
+        next = take_entry(s, next, n).next;
     }
-    a
+    next
 }
 
 // A track, and how many entries it has; they are passed.
