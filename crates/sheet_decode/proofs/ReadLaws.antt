@@ -3,7 +3,7 @@ use Prim.Native.Nat.{ℕ, zero, suc, ◌+◌, ◌*◌, ◌-◌, ◌/◌, ◌^◌
 use mathlib.Core.Bool.{Bool, true, false, cond}
 use mathlib.Core.List.{List, [], ◌∷◌}
 use mathlib.Core.Option.{Option, none, some}
-use mathlib.Core.Path.{◌≡◌, refl, ◌∙◌, ap, subst}
+use mathlib.Core.Path.{◌≡◌, refl, ◌∙◌, ap, subst, sym}
 use mathlib.Core.Logic.{◌⊎◌, inl, inr, ⊎_elim}
 use native.Mathlib.Nat.{le_trans, le_of_suc-le-suc, pow-suc}
 use native.Mathlib.Numerals.{add-one}
@@ -35,7 +35,13 @@ use Rattle.codec.specs.Codec.{
   each,
 }
 use Rattle.codec.proofs.Laws.{make_at, below_lawful, big_lawful}
+use Rattle.std.specs.Prelude.{Some, None, Option as Optional, Float, eqb}
+use Rattle.number.specs.Number.{f32}
+use Rattle.ast.specs.Means.{time_view}
+use Rattle.sheet.specs.Sheet.{word, time_form, time_cases, split_time}
 use Rattle.sheet_decode.specs.Means.{Lost, Reads, got, bad, Number, same}
+use Rattle.sheet_decode.specs.Optional.{ReadsOption, missing, there}
+use Rattle.sheet_decode.specs.declared.fields.Taken.{Taken}
 
 -- ---- places
 
@@ -185,6 +191,30 @@ module _ {A : Type 0} (c : Form A) {X : Type 0} {view : Option A → X} {s : Lis
       one : (b : ℕ) → b < 2 → (b ≡ 0 → ⊥) → b ≡ 1
       one b h n = omega arith
 
+-- what `take_opt` gives, where `take` reads a form
+pub optional : {A X : Type 0} (c : Form A) {f : A → X} (view : Option A → Optional X) {take : ℕ → Taken X → Type 0} {s : List ℕ}
+    {at next : ℕ} {v : Optional X}
+    → view none ≡ None → ((a : A) → view (some a) ≡ Some (f a)) → ReadsOption take s at v next
+    → ((m : ℕ) (x : Taken X) → take m x → Reads c f s m x.v x.next) → Reads (opt c) view s at v next
+optional c view n t (missing r p q) g = absent c r p (n ∙ sym q)
+optional c view {s = s} {at = at} {v = v} n t (there {m = m} {x = x} r p y q e) g =
+    subst (λ (k : ℕ). Reads (opt c) view s at v k) (sym e) (present c r p (g m x y) (λ a i. t a ∙ ap Some i ∙ sym q))
+
+-- the same for what is equal
+pub given : {A X : Type 0} {c : Form A} {f : A → X} {s : List ℕ} {m : ℕ} {x y : Taken X} → x ≡ y → Reads c f s m y.v y.next
+    → Reads c f s m x.v x.next
+given {c = c} {f = f} {s = s} {m = m} e r = subst (λ (z : Taken _). Reads c f s m z.v z.next) (sym e) r
+
+-- a keyframe's time: the first case is a percent
+pub time : {s : List ℕ} {at m b k : ℕ} {v : Float} → Number (below 2) 2 s at b m → Reads word f32 s m v k
+    → Reads time_form time_view s at (eqb b 0, v) k
+time {b = zero} r x = chosen time_cases split_time 0 r.reads refl x (λ y e i. (true, e i))
+time {b = suc zero} r x = chosen time_cases split_time 1 r.reads refl x (λ y e i. (false, e i))
+time {b = suc (suc b)} r x = absurd (no b r.small)
+  where
+    no : (b : ℕ) → suc (suc b) < 2 → ⊥
+    no b h = omega arith
+
 -- ---- a number in bytes: one law for every width
 
 some_room : (k : ℕ) → 0 < 256 ^ k
@@ -237,10 +267,10 @@ module _ (s : List ℕ) (at : ℕ) where
   pub big_short : (j : ℕ) {m : ℕ} → at ≤ length s → length s - at < j → Lost s m → Number (big j) (256 ^ j) s at 0 m
   big_short j h l o = record { reads = bad o (λ i. big_needs j (drop at s) (rw length-drop l)); small = some_room j }
 
-  pub big_got : (j k v : ℕ) → k ≡ j → (big k).read (drop at s) ≡ some (v, drop (at + k) s) → at + k ≤ length s → v < 256 ^ k
-      → Number (big j) (256 ^ j) s at v (at + k)
-  big_got j k v q e l r =
-      subst (λ (j : ℕ). Number (big j) (256 ^ j) s at v (at + k)) q (record { reads = got v e refl (omega arith) l; small = r })
+  pub big_got : (j k v : ℕ) → k ≡ j → (big k).read (drop at s) ≡ some (v, drop (at + k) s) → at + j ≤ length s → v < 256 ^ k
+      → Number (big j) (256 ^ j) s at v (at + j)
+  big_got j k v q e l r = subst (λ (k : ℕ). Number (big k) (256 ^ k) s at v (at + k)) q
+      (record { reads = got v e refl (omega arith) (omega (arith, q, l)); small = r })
 
 -- ---- so many of a form
 

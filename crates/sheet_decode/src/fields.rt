@@ -8,36 +8,14 @@ ghost use Rattle.sheet_decode.specs.Means.{Lost, Reads, Number, KindAndStart, sa
 
 use ast::Span;
 
+// A value, and the place behind it.
 #[derive(Clone, Copy)]
-pub struct ByteRead {
-    pub v: u8,
+pub struct Taken<T> {
+    pub v: T,
     pub next: usize,
 }
 
-#[derive(Clone, Copy)]
-pub struct FieldRead {
-    pub v: u32,
-    pub next: usize,
-}
-
-#[derive(Clone, Copy)]
-pub struct FlagRead {
-    pub v: bool,
-    pub next: usize,
-}
-
-#[derive(Clone, Copy)]
-pub struct FloatRead {
-    pub v: f32,
-    pub next: usize,
-}
-
-#[derive(Clone, Copy)]
-pub struct SpanRead {
-    pub v: Span,
-    pub next: usize,
-}
-
+// A record's kind, the start of its node's keyword, and the place behind them.
 #[derive(Clone, Copy)]
 pub struct KindRead {
     pub kind: u8,
@@ -53,71 +31,72 @@ pub fn lost(s: &[u8]) -> usize
 }
 
 // A byte below n.
-pub fn take_byte(s: &[u8], at: usize, n: u8) -> ByteRead
+pub fn take_byte(s: &[u8], at: usize, n: u8) -> Taken<u8>
     requires { 0 < n }
     ensures { Number (below n) n s.now at result.v result.next }
 {
     if at < s.len() {
         let b = s[at];
         if b < n {
-            return ByteRead { v: b, next: at + 1 };
+            return Taken { v: b, next: at + 1 };
         }
     }
-    ByteRead {
+    Taken {
         v: 0,
         next: lost(s),
     }
 }
 
 // A number in so many bytes, the highest first.
-pub fn take_field(s: &[u8], at: usize, width: usize) -> FieldRead
+pub fn take_field(s: &[u8], at: usize, width: usize) -> Taken<u32>
     requires { width ≤ 4 }
     ensures { Number (big width) (256 ^ width) s.now at result.v result.next }
 {
     if s.len() < at {
-        return FieldRead {
+        return Taken {
             v: 0,
             next: lost(s),
         };
     }
     if s.len() - at < width {
-        return FieldRead {
+        return Taken {
             v: 0,
             next: lost(s),
         };
     }
     let mut v: u32 = 0;
-    let mut k: usize = 0;
-    while k < width {
+    for k in 0..width {
         v = v * 256 + s[at + k] as u32;
-        k += 1;
     }
-    FieldRead { v, next: at + k }
+    Taken {
+        v,
+        next: at + width,
+    }
 }
 
-pub fn take_flag(s: &[u8], at: usize) -> FlagRead
+pub fn take_flag(s: &[u8], at: usize) -> Taken<bool>
     ensures { Reads flag same s.now at result.v result.next }
 {
     let b = take_byte(s, at, 2);
-    FlagRead {
+    Taken {
         v: b.v == 1,
         next: b.next,
     }
 }
 
 // Any bit pattern; every NaN's gives a NaN.
-pub fn take_float(s: &[u8], at: usize) -> FloatRead
+pub fn take_float(s: &[u8], at: usize) -> Taken<f32>
     ensures { Reads word f32 s.now at result.v result.next }
 {
     let w = take_field(s, at, 4);
-    FloatRead {
+    Taken {
         v: number::f32_of_bits(w.v),
         next: w.next,
     }
 }
 
 // A name or a string within a text of n bytes.
-pub fn take_span(s: &[u8], at: usize, n: usize) -> SpanRead
+pub fn take_span(s: &[u8], at: usize, n: usize) -> Taken<Span>
     ensures { Reads (span_form n) span_view s.now at result.v result.next }
 {
     let a = take_field(s, at, 2);
@@ -126,9 +105,9 @@ pub fn take_span(s: &[u8], at: usize, n: usize) -> SpanRead
     let size = b.v as usize;
     let v = Span { start, size };
     if start + size <= n {
-        SpanRead { v, next: b.next }
+        Taken { v, next: b.next }
     } else {
-        SpanRead { v, next: lost(s) }
+        Taken { v, next: lost(s) }
     }
 }
 
@@ -158,12 +137,9 @@ pub fn take_kind(s: &[u8], at: usize, n: usize) -> KindRead
 pub fn skip_words(s: &[u8], at: usize, n: usize) -> usize
     ensures { Reads (each word n) length s.now at n result }
 {
-    let mut k: usize = 0;
-    let mut a = at;
-    while k < n {
-        let w = take_field(s, a, 4);
-        a = w.next;
-        k += 1;
+    let mut next = at;
+    for _ in 0..n {
+        next = take_field(s, next, 4).next;
     }
-    a
+    next
 }

@@ -49,11 +49,10 @@ pub fn take_record(s: &[u8], at: usize, n: usize) -> RecordRead
         1 => take_spring(s, a, n).next,
         2 => {
             let t = take_keyframes(s, a, n);
-            let track = t.v;
             return RecordRead {
                 v: Kind::Leaf,
                 kind,
-                entries: track.frames,
+                entries: t.v.frames,
                 next: t.next,
             };
         }
@@ -68,9 +67,8 @@ pub fn take_record(s: &[u8], at: usize, n: usize) -> RecordRead
         }
         5 => {
             let g = take_group(s, a);
-            let group = g.v;
             return RecordRead {
-                v: Kind::Container(group.nodes),
+                v: Kind::Container(g.v.nodes),
                 kind,
                 entries: 0,
                 next: g.next,
@@ -78,9 +76,8 @@ pub fn take_record(s: &[u8], at: usize, n: usize) -> RecordRead
         }
         6 => {
             let g = take_stagger(s, a);
-            let stagger = g.v;
             return RecordRead {
-                v: Kind::Container(stagger.nodes),
+                v: Kind::Container(g.v.nodes),
                 kind,
                 entries: 0,
                 next: g.next,
@@ -135,8 +132,7 @@ fn walk_node(
     let r = take_record(s, at, n);
     let next = r.next;
     pass(next, left, from);
-    let kind = r.v;
-    match kind {
+    match r.v {
         Kind::Leaf => next,
         Kind::Container(count) => {
             if depth == 0 {
@@ -160,13 +156,11 @@ fn walk_nodes(
 ) -> usize
     ensures { Walks (forest n (inner n depth) count) n s.now at left.old from.old result left.new from.new }
 {
-    let mut a = at;
-    let mut k: usize = 0;
-    while k < count {
-        a = walk_node(s, a, n, depth, left, from);
-        k += 1;
+    let mut next = at;
+    for _ in 0..count {
+        next = walk_node(s, next, n, depth, left, from);
     }
-    a
+    next
 }
 
 // Over bytes as a sheet for a text of so many bytes, the head being the first record.

@@ -38,28 +38,26 @@ walk_node-returns-else-depth-eq0 t c =
       seeks = λ ns i e k. w.seeks ns i e (seeks_pass _ _ ns e k c.if-s-at.false r c.pass.ensures);
     }
 
-pub walk_nodes-loop-k-init : goal.walk_nodes-loop-k-init
-walk_nodes-loop-k-init t c = (
-  omega arith,
+pub walk_nodes-loop-init : goal.walk_nodes-loop-init
+walk_nodes-loop-init t c = (
   omega arith,
   walks.going_start c.args.n (inner c.args.n c.args.depth) _ _ c.args.count,
   λ ns i e k. k,
 )
 
-pub walk_nodes-walk_node-a-requires : goal.walk_nodes-walk_node-a-requires
-walk_nodes-walk_node-a-requires t c = (omega (arith, c.loop-k.invariant.1), tt)
+pub walk_nodes-walk_node-next-requires : goal.walk_nodes-walk_node-next-requires
+walk_nodes-walk_node-next-requires t c = (omega (arith, c.loop.invariant.0), tt)
 
-pub walk_nodes-loop-k-preserved : goal.walk_nodes-loop-k-preserved
-walk_nodes-loop-k-preserved t c =
-    let w = c.walk_node-a.ensures in (
-      omega arith,
-      omega (arith, walks.nearer w.reads, c.loop-k.invariant.1),
-      walks.going_next c.args.n (inner c.args.n c.args.depth) _ _ _ _ _ _ c.loop-k-test.true w.reads c.loop-k.invariant.2,
-      λ ns i e k. w.seeks ns i e (c.loop-k.invariant.3 ns i e k),
+pub walk_nodes-loop-preserved : goal.walk_nodes-loop-preserved
+walk_nodes-loop-preserved t c =
+    let w = c.walk_node-next.ensures in (
+      omega (arith, walks.nearer w.reads, c.loop.invariant.0),
+      walks.going_next c.args.n (inner c.args.n c.args.depth) _ _ _ _ _ _ c.loop-test.true w.reads c.loop.invariant.1,
+      λ ns i e k. w.seeks ns i e (c.loop.invariant.2 ns i e k),
     )
 
 pub walk_nodes-returns : goal.walk_nodes-returns
 walk_nodes-returns t c = record {
-  reads = walks.going_done c.args.n (inner c.args.n c.args.depth) _ _ _ _ _ c.loop-k-test.false c.loop-k.invariant.2;
-  seeks = c.loop-k.invariant.3;
+  reads = walks.going_done c.args.n (inner c.args.n c.args.depth) _ _ _ _ _ c.loop-test.false c.loop.invariant.1;
+  seeks = c.loop.invariant.2;
 }

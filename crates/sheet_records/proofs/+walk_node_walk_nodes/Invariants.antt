@@ -12,11 +12,8 @@ decreases-walk_node l = 2 * (length l.s.now - l.at)
 abbrev pub decreases-walk_nodes : goal.decreases-walk_nodes
 decreases-walk_nodes l = 2 * (length l.s.now - l.at) + 1
 
-abbrev pub invariant-walk_nodes-loop-k : goal.invariant-walk_nodes-loop-k
-invariant-walk_nodes-loop-k l =
-    (l.k ≤ l.count) × (length l.s - l.a ≤ length l.s - l.at) × walks.Going l.n (inner l.n l.depth) l.s l.at l.count l.a l.k
+abbrev pub invariant-walk_nodes-loop : goal.invariant-walk_nodes-loop
+invariant-walk_nodes-loop l =
+    (length l.s - l.next ≤ length l.s - l.at) × walks.Going l.n (inner l.n l.depth) l.s l.at l.count l.next l.counter
     × ((ns : Forest) (i : ℕ) → decode l.n l.s ≡ some ns → Seeks l.n l.s ns i l.at l.initial.left l.initial.from
-    → Seeks l.n l.s ns i l.a l.left l.from)
-
-abbrev pub decreases-walk_nodes-loop-k : goal.decreases-walk_nodes-loop-k
-decreases-walk_nodes-loop-k l = l.count - l.k
+    → Seeks l.n l.s ns i l.next l.left l.from)

@@ -1,4 +1,4 @@
-use Prim.Native.Nat.{◌+◌, ◌-◌, ◌<◌, ◌^◌, ◌≤◌}
+use Prim.Native.Nat.{◌+◌, ◌<◌, ◌^◌, ◌≤◌}
 use mathlib.Core.Option.{some}
 use mathlib.Core.Path.{◌≡◌}
 use lib.ListN.{drop, length}
@@ -6,7 +6,4 @@ use Rattle.codec.specs.Codec.{big}
 use Rattle.sheet_decode.proofs.fields.take_field.Given as goal
 
 abbrev pub invariant-loop-k : goal.invariant-loop-k
-invariant-loop-k l = (l.k ≤ l.width) × (l.at + l.width ≤ length l.s) × (l.v < 256 ^ l.k) × ((big l.k).read (drop l.at l.s) ≡ some (l.v, drop (l.at + l.k) l.s))
-
-abbrev pub decreases-loop-k : goal.decreases-loop-k
-decreases-loop-k l = l.width - l.k
+invariant-loop-k l = (l.at + l.width ≤ length l.s) × (l.v < 256 ^ l.k) × ((big l.k).read (drop l.at l.s) ≡ some (l.v, drop (l.at + l.k) l.s))

@@ -1,5 +1,8 @@
 -- `sheet_decode::nodes::take_spring` meets its contract: one field after the other.
-use Rattle.sheet.specs.Sheet.{of_spring, to_spring}
+use mathlib.Core.Path.{refl}
+use Rattle.ast.specs.Means.{opt_case_view, opt_damping_view, opt_float_view, opt_value_view}
+use Rattle.codec.specs.Codec.{below}
+use Rattle.sheet.specs.Sheet.{damping_form, of_spring, to_spring, value_form, word}
 use Rattle.sheet_decode.proofs.ReadLaws.{◌&◌}
 use Rattle.sheet_decode.proofs.ReadLaws as laws
 use Rattle.sheet_decode.proofs.nodes.take_spring.Goals as goal
@@ -8,11 +11,11 @@ pub returns : goal.returns
 returns c =
     laws.through to_spring of_spring
     (laws.seen (c.take_span-target.ensures & c.take_value-from.ensures
-    & c.take_value-to.ensures & c.take_opt_case-preset.ensures & c.take_opt_float-stiffness.ensures
-    & c.take_opt_float-damping.ensures & c.take_opt_float-mass.ensures
-    & c.take_opt_value-velocity.ensures
-    & c.take_opt_float-epsilon.ensures & c.take_opt_case-integrator.ensures
-    & c.take_opt_damping-damping_mode.ensures)
+    & c.take_value-to.ensures & laws.optional (below 5) opt_case_view refl (λ a. refl) c.take_opt-preset.ensures (λ m x r. search laws.given) & laws.optional word opt_float_view refl (λ a. refl) c.take_opt-stiffness.ensures (λ m x r. search laws.given)
+    & laws.optional word opt_float_view refl (λ a. refl) c.take_opt-damping.ensures (λ m x r. search laws.given) & laws.optional word opt_float_view refl (λ a. refl) c.take_opt-mass.ensures (λ m x r. search laws.given)
+    & laws.optional value_form opt_value_view refl (λ a. refl) c.take_opt-velocity.ensures (λ m x r. search laws.given)
+    & laws.optional word opt_float_view refl (λ a. refl) c.take_opt-epsilon.ensures (λ m x r. search laws.given) & laws.optional (below 2) opt_case_view refl (λ a. refl) c.take_opt-integrator.ensures (λ m x r. search laws.given)
+    & laws.optional damping_form opt_damping_view refl (λ a. refl) c.take_opt-damping_mode.ensures (λ m x r. search laws.given))
     (λ p e i.
     record {
       target = (e i).0;

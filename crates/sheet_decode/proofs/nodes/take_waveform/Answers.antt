@@ -1,5 +1,7 @@
 -- `sheet_decode::nodes::take_waveform` meets its contract: one field after the other.
-use Rattle.sheet.specs.Sheet.{of_waveform, to_waveform}
+use mathlib.Core.Path.{refl}
+use Rattle.ast.specs.Means.{opt_float_view, opt_word_view}
+use Rattle.sheet.specs.Sheet.{of_waveform, to_waveform, word}
 use Rattle.sheet_decode.proofs.ReadLaws.{◌&◌}
 use Rattle.sheet_decode.proofs.ReadLaws as laws
 use Rattle.sheet_decode.proofs.nodes.take_waveform.Goals as goal
@@ -7,10 +9,10 @@ use Rattle.sheet_decode.proofs.nodes.take_waveform.Goals as goal
 pub returns : goal.returns
 returns c =
     laws.through to_waveform of_waveform
-    (laws.seen (c.take_byte-kind.ensures.reads & c.take_opt_float-frequency.ensures
-    & c.take_opt_float-amplitude.ensures & c.take_opt_float-phase.ensures
-    & c.take_opt_float-duty_cycle.ensures
-    & c.take_opt_word-seed.ensures & c.take_opt_float-smoothness.ensures & c.take_opt_float-duration.ensures)
+    (laws.seen (c.take_byte-kind.ensures.reads & laws.optional word opt_float_view refl (λ a. refl) c.take_opt-frequency.ensures (λ m x r. search laws.given)
+    & laws.optional word opt_float_view refl (λ a. refl) c.take_opt-amplitude.ensures (λ m x r. search laws.given) & laws.optional word opt_float_view refl (λ a. refl) c.take_opt-phase.ensures (λ m x r. search laws.given)
+    & laws.optional word opt_float_view refl (λ a. refl) c.take_opt-duty_cycle.ensures (λ m x r. search laws.given)
+    & laws.optional word opt_word_view refl (λ a. refl) c.take_opt-seed.ensures (λ m x r. search laws.given) & laws.optional word opt_float_view refl (λ a. refl) c.take_opt-smoothness.ensures (λ m x r. search laws.given) & laws.optional word opt_float_view refl (λ a. refl) c.take_opt-duration.ensures (λ m x r. search laws.given))
     (λ p e i.
     record {
       kind = (e i).0;
