@@ -105,7 +105,6 @@ count-put n p h e f =
 pub not_found : (c : Pen) → spoiled (c.out.ghost_name, length c.out.now) ≡ put_number (number_of None) (page_of c)
 not_found c = rw (lent_of_lem c) refl
 
-
 module _ (d : Decimal) (s : Spellable (number_of (Some d))) where
   pub found_below : Below d
   found_below = s.1
