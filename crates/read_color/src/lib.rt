@@ -46,7 +46,7 @@ fn color_step(text: &[u8], c: Cursor, row: usize, kept: ColorFields) -> ColorSte
                 ColorStep::Is(ColorFields { duration, ..kept }, m)
             }
         },
-        1 => match read_cursor::choice(text, c, words::SPACES, Refusal::Malformed) {
+        1 => match read_cursor::choice(text, c, words::List::Spaces, Refusal::Malformed) {
             CaseRead::Refused(r, p) => ColorStep::Refused(r, p),
             CaseRead::Is(i, m) => {
                 let space = OptCase::Present(i as u8);
@@ -75,7 +75,7 @@ fn color_fields(text: &[u8], c: Cursor) -> ColorStep
         easing: OptEasing::Absent,
     };
     loop {
-        match read_fields::parse_field_list(text, m, words::COLOR_ROWS) {
+        match read_fields::parse_field_list(text, m, words::List::ColorRows) {
             NextField::Refused(r, p) => return ColorStep::Refused(r, p),
             NextField::Done(e) => return ColorStep::Is(kept, e),
             NextField::Field(i, v) => match color_step(text, v, i, kept) {

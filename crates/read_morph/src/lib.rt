@@ -75,7 +75,7 @@ fn morph_fields(text: &[u8], c: Cursor) -> MorphStep
         easing: OptEasing::Absent,
     };
     loop {
-        match read_fields::parse_field_list(text, m, words::MORPH_ROWS) {
+        match read_fields::parse_field_list(text, m, words::List::MorphRows) {
             NextField::Refused(r, p) => return MorphStep::Refused(r, p),
             NextField::Done(e) => return MorphStep::Is(kept, e),
             NextField::Field(i, v) => match morph_step(text, v, i, kept) {

@@ -116,7 +116,7 @@ fn path_fields(text: &[u8], c: Cursor) -> PathStep
         loop_mode: OptLoop::Absent,
     };
     loop {
-        match read_fields::parse_field_list(text, m, words::PATH_ROWS) {
+        match read_fields::parse_field_list(text, m, words::List::PathRows) {
             NextField::Refused(r, p) => return PathStep::Refused(r, p),
             NextField::Done(e) => return PathStep::Is(kept, e),
             NextField::Field(i, v) => match path_step(text, v, i, kept) {
@@ -197,7 +197,7 @@ pub fn parse_path(text: &[u8], sheet: &mut [u8], c: Cursor, out: usize) -> NodeR
         WordRead::Is(target, m) => match read_cursor::choice(
             text,
             m,
-            words::ALONG,
+            words::List::Along,
             Refusal::Malformed,
         ) {
             CaseRead::Refused(r, p) => NodeRead::Refused(r, p),
