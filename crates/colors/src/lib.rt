@@ -166,7 +166,7 @@ const VALUES: [u32; 148] = [
     0x9acd32, // yellowgreen
 ];
 
-// The number of the i-th colour. A table is put on the stack when its function is entered, so it has one of its own.
+// The number of the i-th colour.
 fn value_at(i: u8) -> u32
     requires { i < 148 }
     ensures { result ≡ get_or (values_in css_colors) i 0 }
