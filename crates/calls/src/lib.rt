@@ -16,7 +16,6 @@ use ast::Span;
 use book::ItemRead;
 use sheet_decode::fields::{take_field, take_span};
 use sheet_records::take_record;
-use text::Found;
 
 // The bytes of calls.
 pub const CALL_BYTES: usize = 16384;
@@ -32,10 +31,10 @@ fn note(text: &[u8], table: &[u16], n: usize, calls: &mut [u8], i: usize, name: 
     ensures { (xs : List Item) → Book·book text.now ≡ Book.held xs → calls.new ≡ mark calls.old i (find (names xs) 0 (part text.now name.start name.size)) }
 {
     match book::find_name(text, table, n, text::part(text, name.start, name.size)) {
-        Found::At(j) => {
+        Some(j) => {
             calls[i * order::SIDE + j] = 1;
         }
-        Found::Nothing => {}
+        None => {}
     }
 }
 

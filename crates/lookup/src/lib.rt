@@ -10,7 +10,6 @@ ghost use Rattle.book_answers.specs.Means.{looked};
 use book::BookRead;
 use book_answers::Place;
 use error::LookupAnswer;
-use text::Found;
 
 // Where a book has a name.
 fn look_in(text: &[u8], name: &[u8]) -> Place
@@ -20,8 +19,8 @@ fn look_in(text: &[u8], name: &[u8]) -> Place
     match book::read(text, &mut table) {
         BookRead::Refused(r, p) => Place::Refused(r, p),
         BookRead::Is(n) => match book::find_name(text, &table, n, name) {
-            Found::Nothing => Place::Nothing,
-            Found::At(k) => Place::At {
+            None => Place::Nothing,
+            Some(k) => Place::At {
                 start: book::cell(&table, k, 2),
                 size: book::cell(&table, k, 3),
             },
