@@ -28,14 +28,10 @@ pub fn join(store: Place, chain: Place) -> LookupAnswer
         Place::Refused(refusal, place) => LookupAnswer::Refused { refusal, place },
         Place::At { start, size } => match chain {
             Place::Refused(refusal, place) => LookupAnswer::Refused { refusal, place },
-            Place::At { start: _, size: _ } => LookupAnswer::InStore { start, size },
-            Place::Nothing => LookupAnswer::InStore { start, size },
+            _ => LookupAnswer::InStore { start, size },
         },
         Place::Nothing => match chain {
-            Place::Refused(fault, at) => LookupAnswer::Refused {
-                refusal: fault,
-                place: at,
-            },
+            Place::Refused(refusal, place) => LookupAnswer::Refused { refusal, place },
             Place::At { start, size } => LookupAnswer::InChain { start, size },
             Place::Nothing => LookupAnswer::Refused {
                 refusal: Refusal::NoSuchItem,
@@ -52,10 +48,7 @@ pub fn lend<'a>(store: &'a [u8], chain: &'a [u8], answer: LookupAnswer) -> &'a [
     match answer {
         LookupAnswer::InStore { start, size } => text::part(store, start, size),
         LookupAnswer::InChain { start, size } => text::part(chain, start, size),
-        LookupAnswer::Refused {
-            refusal: _,
-            place: _,
-        } => &store[0..0],
+        LookupAnswer::Refused { .. } => &[],
     }
 }
 
@@ -72,11 +65,7 @@ fn put(from: &[u8], n: usize, out: &mut [u8]) -> OrderAnswer
             place: 0,
         };
     }
-    let mut i: usize = 0;
-    while i < n {
-        out[i] = from[i];
-        i += 1;
-    }
+    out[..n].copy_from_slice(&from[..n]);
     OrderAnswer::Listed { items: n }
 }
 

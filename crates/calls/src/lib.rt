@@ -30,9 +30,11 @@ fn note(text: &[u8], table: &[u16], n: usize, calls: &mut [u8], i: usize, name: 
     requires { Held text.now table.now (Book·book text.now) n × (n ≤ item_limit) × (i < 128) × (length calls.old ≡ 16384) }
     ensures { (xs : List Item) → Book·book text.now ≡ Book.held xs → calls.new ≡ mark calls.old i (find (names xs) 0 (part text.now name.start name.size)) }
 {
-    let name = text::part(text, name.start, name.size);
-    if let Some(j) = book::find_name(text, table, n, name) {
-        calls[i * order::SIDE + j] = 1;
+    match book::find_name(text, table, n, text::part(text, name.start, name.size)) {
+        Some(j) => {
+            calls[i * order::SIDE + j] = 1;
+        }
+        None => {}
     }
 }
 
@@ -54,7 +56,8 @@ fn note_record(
         return;
     }
     let name = take_span(sheet, at + 3, text.len());
-    note(text, table, n, calls, i, name.v);
+    let span = name.v;
+    note(text, table, n, calls, i, span);
 }
 
 // Notes the calls of item i, whose sheet is lent.
@@ -78,13 +81,16 @@ pub fn fill(text: &[u8], table: &[u16], n: usize, calls: &mut [u8])
 {
     let mut sheet = [0u8; SHEET_BYTES];
     let mut c = read_cursor::first(text);
-    for i in 0..n {
+    let mut i: usize = 0;
+    while i < n {
         match book::parse_item(text, &mut sheet, c) {
             ItemRead::Refused(_, _) => return,
             ItemRead::Is(x) => {
-                note_calls(text, table, n, calls, i, text::part(&sheet, 0, x.body.bytes));
-                c = x.body.next;
+                let body = x.body;
+                note_calls(text, table, n, calls, i, text::part(&sheet, 0, body.bytes));
+                c = body.next;
             }
         }
+        i += 1;
     }
 }

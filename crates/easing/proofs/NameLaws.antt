@@ -8,28 +8,21 @@ use native.Mathlib.Numerals.{add-one}
 use lib.ListN.{length, get_or, take, drop, drop_of_length-le}
 use lib.Seq.{drop-cons}
 use borrow.Author.Tests.{not-true, not-false}
-use Rattle.text.specs.Bytes.{is_upper, lower}
+use Rattle.text.specs.Bytes.{lower}
 use Rattle.text.specs.Words.{is_some, words, find}
 use Rattle.words.specs.declared.List.TheVariants.{Easings}
 use Rattle.words.specs.ListMeans.{list_of}
 use Rattle.words.proofs.ListLaws.{list_clip}
 use Rattle.easing.specs.Names.{named_easings, snake_byte, snake_rest, snake, is_easing}
 
-pub byte_capital : (b l : ℕ) → is_upper b ≡ true → l ≡ lower b → snake_byte b ≡ (95 ∷ []) ++ (l ∷ [])
-byte_capital b l h e = rw (e, h)
-
-pub byte_other : (b : ℕ) → is_upper b ≡ false → snake_byte b ≡ b ∷ []
-byte_other b h = rw h
-
 pub snake_nil : (w : List ℕ) → length w ≡ 0 → snake w ≡ []
 unfolding snake
 snake_nil [] h = refl
 snake_nil (b ∷ w) h = absurd (omega arith)
 
-pub snake-first : (w : List ℕ) (l : ℕ) → (length w ≡ 0 → ⊥) → l ≡ lower (get_or w 0 0) → snake w ≡ (l ∷ []) ++ snake_rest (drop 1 w)
+pub snake-first : (w : List ℕ) (b l : ℕ) (t : List ℕ) → w ≡ b ∷ t → l ≡ lower b → snake w ≡ (l ∷ []) ++ snake_rest t
 unfolding snake
-snake-first [] l h e = absurd (h refl)
-snake-first (b ∷ w) l h e = rw e
+snake-first w b l t h e = rw (h, e)
 
 pub rest_at : (w : List ℕ) (i : ℕ) → i < length w → snake_rest (drop i w) ≡ snake_byte (get_or w i 0) ++ snake_rest (drop (i + 1) w)
 unfolding snake_rest

@@ -23,17 +23,15 @@ fn put_snake(out: &mut [u8], at: usize, b: u8) -> usize
 pub fn to_snake_case(w: &[u8], out: &mut [u8]) -> usize
     ensures { Puts out.old 0 (snake w.now) out.new result }
 {
-    if w.len() == 0 {
+    let Some((&first, rest)) = w.split_first() else {
         return 0;
-    }
-    let mut n = text::put(out, 0, text::lower(w[0]));
-    let mut i = 1;
-    while i < w.len() {
+    };
+    let mut n = text::put(out, 0, text::lower(first));
+    for &b in rest {
         if out.len() <= n {
             return n;
         }
-        n = put_snake(out, n, w[i]);
-        i += 1;
+        n = put_snake(out, n, b);
     }
     n
 }

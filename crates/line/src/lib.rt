@@ -18,10 +18,8 @@ fn total(before: u8, part: &[u8]) -> u8
     ensures { result ≡ (before + total part.now) % 256 }
 {
     let mut sum = before;
-    let mut i = 0;
-    while i < part.len() {
-        sum = std::num::wrapping_add_u8(sum, part[i]);
-        i += 1;
+    for &b in part {
+        sum = sum.wrapping_add(b);
     }
     sum
 }
@@ -31,8 +29,8 @@ fn check_byte(bytes: &[u8]) -> u8
     ensures { result ≡ check_byte bytes.now }
 {
     let n = bytes.len();
-    let length = std::num::wrapping_add_u8((n / 256 % 256) as u8, (n % 256) as u8);
-    std::num::wrapping_sub_u8(0, total(length, bytes))
+    let length = ((n / 256 % 256) as u8).wrapping_add((n % 256) as u8);
+    0u8.wrapping_sub(total(length, bytes))
 }
 
 // ---- writing
@@ -58,10 +56,8 @@ fn put_clipped(out: &mut [u8], at: usize, bytes: &[u8]) -> usize
     ensures { Puts out.old at (hex bytes.now) out.new result }
 {
     let mut end = at;
-    let mut i = 0;
-    while i < bytes.len() {
-        end = put_byte(out, end, bytes[i]);
-        i += 1;
+    for &b in bytes {
+        end = put_byte(out, end, b);
     }
     end
 }
@@ -71,13 +67,10 @@ fn put_whole(out: &mut [u8], at: usize, bytes: &[u8])
     requires { at + 2 * length bytes.now ≤ length out.old }
     ensures { Puts out.old at (hex bytes.now) out.new (at + 2 * length bytes.now) }
 {
-    let mut i = 0;
-    while i < bytes.len() {
-        let b = bytes[i];
+    for (i, &b) in bytes.iter().enumerate() {
         let high = at + 2 * i;
         out[high] = digit(b / 16);
         out[high + 1] = digit(b % 16);
-        i += 1;
     }
 }
 
@@ -114,10 +107,7 @@ pub fn put_line(out: &mut [u8], at: usize, bytes: &[u8]) -> usize
 pub fn has_room(room: usize, n: usize) -> bool
     ensures { result ≡ nat_le (2 * n + 7) room }
 {
-    if room < 7 {
-        return false;
-    }
-    n <= (room - 7) / 2
+    7 <= room && n <= (room - 7) / 2
 }
 
 // Writes a record's line if there is room for it.

@@ -9,7 +9,5 @@ returns c =
     (omega (
       arith,
       total-covered c.args.bytes.now,
-      c.wrapping_add_u8-length.ensures.value,
       c.total.ensures,
-      c.wrapping_sub_u8.ensures.value,
     ))

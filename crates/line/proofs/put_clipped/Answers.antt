@@ -4,12 +4,12 @@ use Rattle.lining.proofs.LineLaws.{hex-at, hex_end}
 use Rattle.text.proofs.WriteLaws.{puts_none, puts_then}
 use Rattle.line.proofs.put_clipped.Goals as goal
 
-pub loop-i-preserved : goal.loop-i-preserved
-loop-i-preserved c = (
-  c.put_byte-end.auto.out ∙ c.loop-i.invariant.0,
-  λ after e p. c.loop-i.invariant.1 after e
-      (rw (hex-at c.args.bytes.now c.loop-i.i c.loop-i-test.true) (puts_then c.put_byte-end.ensures p)),
+pub loop-b-preserved : goal.loop-b-preserved
+loop-b-preserved c = (
+  c.put_byte-end.auto.out ∙ c.loop-b.invariant.0,
+  λ after e p. c.loop-b.invariant.1 after e
+      (rw (hex-at c.args.bytes.now c.loop-b.b-index c.loop-b-test.true) (puts_then c.put_byte-end.ensures p)),
 )
 
 pub returns : goal.returns
-returns c = c.loop-i.invariant.1 _ _ (rw (hex_end c.args.bytes.now c.loop-i.i c.loop-i-test.false) (puts_none _ _))
+returns c = c.loop-b.invariant.1 _ _ (rw (hex_end c.args.bytes.now c.loop-b.b-index c.loop-b-test.false) (puts_none _ _))
