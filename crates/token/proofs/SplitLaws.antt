@@ -17,7 +17,8 @@ use Rattle.token.specs.Split.{Nest, unfit, awaits, closer, closed, nest_mark, ne
 use Rattle.token.specs.Split.{nested, step, Split, unlexed, tokens, before, ended, split_from, split}
 use Rattle.token.specs.Means.{kind_of, Pieces, held, after_opener, Awaits, DepthMeans}
 use Rattle.token.specs.Means.{answer_of, answer_from, GoesOn, split_outcome, splitting}
-use Rattle.token.specs.declared.Depth.{Depth}
+use Rattle.std.specs.Prelude.{Result}
+use Rattle.error.specs.declared.Refusal.{Refusal}
 use Rattle.token.specs.declared.SplitAnswer.{SplitAnswer}
 use Rattle.token.specs.declared.SplitAnswer.TheVariants.{Refused}
 use Rattle.token.specs.declared.Tok.{Tok}
@@ -74,7 +75,7 @@ pub mark_is : (b : ℕ) (cs : List ℕ) (t u : Bool) → among "([{" b ≡ t
 unfolding nest_mark
 mark_is b cs t u h g = rw (h, g)
 
-pub depth_is : (x y : Nest) → x ≡ y → (words : List ℕ) (r : Depth) → DepthMeans y words r → DepthMeans x words r
+pub depth_is : (x y : Nest) → x ≡ y → (words : List ℕ) (r : Result ℕ Refusal) → DepthMeans y words r → DepthMeans x words r
 depth_is x y e words r m = rw e m
 
 -- ---- one step

@@ -1,5 +1,5 @@
 -- What the answers of the code mean. Contracts cite these.
-use Rattle.std.specs.Prelude.{ℕ, zero, suc, ◌+◌, ◌-◌, ◌*◌, ◌^◌, ◌≤◌, ◌<◌, List, [], ◌∷◌, Bool, true, false, cond, ◌≡◌, ltb, eqb, length, get_or, take, drop, replicate}
+use Rattle.std.specs.Prelude.{ℕ, zero, suc, ◌+◌, ◌-◌, ◌*◌, ◌^◌, ◌≤◌, ◌<◌, List, [], ◌∷◌, Bool, true, false, cond, ◌≡◌, ltb, eqb, length, get_or, take, drop, replicate, Result, Ok, Err, Option, Some, None}
 use Rattle.text.specs.Limits.{text_limit, whole_limit, places_limit}
 use Rattle.text.specs.Bytes.{run, part, decimal, is_digit, is_letter}
 use Rattle.text.specs.Words.{words}
@@ -7,6 +7,7 @@ use Rattle.number.specs.Number.{Written}
 use Rattle.number.specs.Means.{Capped}
 use Rattle.token.specs.Token.{Kind, name, number, quoted, mark, Token, token, Lexeme, bad, piece, written_at, places_at}
 use Rattle.token.specs.Token.{tokens_from, place, kind, is_mark, rest}
+use Rattle.error.specs.declared.Refusal.{Refusal}
 use Rattle.error.specs.declared.Refusal.TheVariants.{TooManyOpen, ScratchTooShort}
 use Rattle.token.specs.Split.{Nest, unfit, awaits, closer, nest, Split, unlexed, tokens, split_from, split}
 use Rattle.token.specs.declared.Number.{Number}
@@ -14,14 +15,8 @@ use Rattle.token.specs.declared.Figures.{Figures}
 use Rattle.token.specs.declared.Run.{Run}
 use Rattle.token.specs.declared.Tok.{Tok}
 use Rattle.token.specs.declared.Tok.TheVariants as tok
-use Rattle.token.specs.declared.Depth.{Depth}
-use Rattle.token.specs.declared.Depth.TheVariants as depth
 use Rattle.token.specs.declared.SplitAnswer.{SplitAnswer}
 use Rattle.token.specs.declared.SplitAnswer.TheVariants as answer
-use Rattle.token.specs.declared.ShortAnswer.{ShortAnswer}
-use Rattle.token.specs.declared.ShortAnswer.TheVariants as short
-use Rattle.token.specs.declared.Turn.{Turn}
-use Rattle.token.specs.declared.Turn.TheVariants as turn
 
 -- ---- a token
 
@@ -146,18 +141,18 @@ pub record Awaits (x : Nest) (words : List ℕ) (d : ℕ) : Type 0 where
   pub few : d ≤ 64
 
 -- what a token makes of the awaited closers, x, as the code has it
-abbrev pub DepthMeans : Nest → List ℕ → Depth → Type 0
-DepthMeans x words (depth.Unfit r) = x ≡ unfit r
-DepthMeans x words (depth.Open d) = Awaits x words d
+abbrev pub DepthMeans : Nest → List ℕ → Result ℕ Refusal → Type 0
+DepthMeans x words (Err r) = x ≡ unfit r
+DepthMeans x words (Ok d) = Awaits x words d
 
 abbrev pub answer_of : Split → SplitAnswer
 answer_of (unlexed r p) = answer.Refused r p
 answer_of (tokens ts) = answer.Accepted
 
 -- the answer to the caller, of one whose place has 16 bits
-abbrev pub wide_answer : ShortAnswer → SplitAnswer
-wide_answer short.Accepted = answer.Accepted
-wide_answer (short.Refused r p) = answer.Refused r p
+abbrev pub wide_answer : {A : Type 0} → Result A (Refusal × ℕ) → SplitAnswer
+wide_answer (Ok x) = answer.Accepted
+wide_answer (Err e) = answer.Refused e.0 e.1
 
 -- the answer for what stands from a place on, the closers cs being awaited there
 abbrev pub answer_from : List ℕ → ℕ → List ℕ → SplitAnswer
@@ -171,9 +166,10 @@ pub record GoesOn (s : List ℕ) (at : ℕ) (a : SplitAnswer) (words : List ℕ)
   pub few : d ≤ 64
 
 -- what a step from `at` makes of the answer a from there on
-abbrev pub TurnMeans : List ℕ → ℕ → SplitAnswer → List ℕ → Turn → Type 0
-TurnMeans s at a words (turn.Over b) = wide_answer b ≡ a
-TurnMeans s at a words (turn.On next d) = GoesOn s at a words next d
+abbrev pub TurnMeans : List ℕ → ℕ → SplitAnswer → List ℕ → Result (Option (ℕ × ℕ)) (Refusal × ℕ) → Type 0
+TurnMeans s at a words (Err e) = answer.Refused e.0 e.1 ≡ a
+TurnMeans s at a words (Ok None) = answer.Accepted ≡ a
+TurnMeans s at a words (Ok (Some x)) = GoesOn s at a words x.0 x.1
 
 -- an answer, and the scratch then
 abbrev pub split_outcome : SplitAnswer → List ℕ → SplitAnswer × List ℕ

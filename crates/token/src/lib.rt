@@ -12,7 +12,7 @@ ghost use Rattle.number.specs.Rounded.{fraction, rounded, number_rounded};
 ghost use Rattle.text.specs.Limits.{text_limit};
 ghost use Rattle.text.specs.Bytes.{run, part, among, decimal, is_digit, is_blank};
 ghost use Rattle.token.specs.Token.{name_at, point_at, past_fraction, suffix_at, past_suffix, clings, places_of, power_from, power_digits, power_size, past_power, number_at, quoted_at, written_at, bad, lexeme};
-ghost use Rattle.token.specs.Split.{closer, closed, nest_mark, nest, ended, split};
+ghost use Rattle.token.specs.Split.{closer, closed, nest_mark, nest, split};
 ghost use Rattle.token.specs.Means.{kind_of, Digits, NumberIs, FiguresAre, RunIs, FractionIs, written_in, Known, lexeme_size, kind_from, held, after_opener, DepthMeans, answer_of, wide_answer, answer_from, TurnMeans, split_outcome, splitting};
 ghost use Rattle.error.specs.declared.Refusal.{Refusal};
 
@@ -73,10 +73,8 @@ pub fn quoted_size(t: &[u8]) -> u16
 fn has_point(t: &[u8], w: u16) -> bool
     ensures { result ≡ point_at t.now w }
 {
-    if text::byte_at(t, w as usize) == b'.' {
-        return text::in_class(Class::Digit, text::byte_at(t, w as usize + 1));
-    }
-    false
+    text::byte_at(t, w as usize) == b'.'
+        && text::in_class(Class::Digit, text::byte_at(t, w as usize + 1))
 }
 
 // The end of the digits, of which w stand before the point, if there is one.
@@ -185,16 +183,14 @@ fn clinging(t: &[u8], point: bool, suffix: bool, n: u16) -> bool
     false
 }
 
-// The n digits from `from` on, onto a number below 10^(19 - n).
-fn value(t: &[u8], seed: u64, from: u16, n: u16) -> u64
-    requires { (n ≤ run is_digit (drop from t.now)) × (seed < 10 ^ (19 - n)) × (n ≤ 19) }
-    ensures { result ≡ decimal seed (part t.now from n) }
+// Digits, onto a number below 10^(19 - n), n being their count.
+fn value(seed: u64, digits: &[u8]) -> u64
+    requires { (length digits.now ≤ run is_digit digits.now) × (seed < 10 ^ (19 - length digits.now)) × (length digits.now ≤ 19) }
+    ensures { result ≡ decimal seed digits.now }
 {
     let mut v = seed;
-    let mut i: u16 = 0;
-    while i < n {
-        v = v * 10 + (t[from as usize + i as usize] - b'0') as u64;
-        i += 1;
+    for b in digits {
+        v = v * 10 + u64::from(b - b'0');
     }
     v
 }
@@ -242,16 +238,14 @@ fn grown(v: u64, d: u64) -> u64
     v
 }
 
-// The w digits that a text begins with, up to 4,294,967,295, or a number above that where they are more.
-fn capped(t: &[u8], w: u16) -> u64
-    requires { w ≤ run is_digit t.now }
-    ensures { Capped result (decimal 0 (take w t.now)) }
+// The number of some digits, up to 4,294,967,295, or a number above that where they are more.
+fn capped(digits: &[u8]) -> u64
+    requires { length digits.now ≤ run is_digit digits.now }
+    ensures { Capped result (decimal 0 digits.now) }
 {
-    let mut v: u64 = 0;
-    let mut i: u16 = 0;
-    while i < w {
-        v = grown(v, (t[i as usize] - b'0') as u64);
-        i += 1;
+    let mut v = 0;
+    for b in digits {
+        v = grown(v, u64::from(b - b'0'));
     }
     v
 }
@@ -274,7 +268,7 @@ fn power_of(t: &[u8], n: u16, size: u16) -> u16
     if size == 0 {
         return 0;
     }
-    value(t, 0, power_from(t, n), size) as u16
+    value(0, text::part(t, power_from(t, n) as usize, size as usize)) as u16
 }
 
 fn figures_of(t: &[u8]) -> Figures
@@ -314,8 +308,9 @@ fn stretched(t: &[u8], at: u16, point: bool, suffix: bool) -> Number
     let d = figures_of(t);
     let places = d.q + d.down;
     if (d.up <= 9) & (d.w + d.q + d.up <= 19) & (places <= 9) {
-        let whole = value(t, 0, 0, d.w);
-        let digits = value(t, whole, d.from, d.q) * number::ten_to(d.up as usize);
+        let whole = value(0, text::part(t, 0, d.w as usize));
+        let all = value(whole, text::part(t, d.from as usize, d.q as usize));
+        let digits = all * number::ten_to(d.up as usize);
         return Number {
             digits,
             places: places as usize,
@@ -325,9 +320,8 @@ fn stretched(t: &[u8], at: u16, point: bool, suffix: bool) -> Number
             long: false,
         };
     }
-    let least = capped(t, d.w);
     Number {
-        digits: least,
+        digits: capped(text::part(t, 0, d.w as usize)),
         places: 0,
         at,
         point,
@@ -350,16 +344,14 @@ fn digits_from(t: &[u8], seed: u64, from: u16, most: u16) -> Run
 {
     let stop = from + most;
     let mut value = seed;
-    let mut i = from;
-    while i < stop {
+    for i in from..stop {
         let b = text::byte_at(t, i as usize);
         if !text::in_class(Class::Digit, b) {
             return Run { value, end: i };
         }
         value = value * 10 + (b - b'0') as u64;
-        i += 1;
     }
-    Run { value, end: i }
+    Run { value, end: stop }
 }
 
 // The digits before a point, if there is one, and those behind it.
@@ -578,10 +570,8 @@ fn has_8_spaces(t: &[u8], at: u16) -> bool
     ensures { result ≡ true → 8 ≤ run is_blank (drop at t.now) }
 {
     let mut all = true;
-    let mut n: u16 = 0;
-    while n < 8 {
-        all = all & (t[at as usize + n as usize] == b' ');
-        n += 1;
+    for n in 0..8 {
+        all = all & (t[at as usize + n] == b' ');
     }
     all
 }
@@ -620,32 +610,11 @@ pub fn past_blanks(t: &[u8], at: u16) -> u16
 
 // ---- the pass over a whole text, with the awaited closers in the first words of the scratch, the innermost last
 
-// What a token makes of the delimiters: they do not fit, or so many are open then.
-#[derive(Clone, Copy)]
-enum Depth {
-    Unfit(Refusal),
-    Open(u16),
-}
-
 // Whether the text rules allow a text.
 #[derive(Clone, Copy)]
 pub enum SplitAnswer {
     Accepted,
     Refused { refusal: Refusal, place: usize },
-}
-
-// The same, with the place in 16 bits.
-#[derive(Clone, Copy)]
-enum ShortAnswer {
-    Accepted,
-    Refused(Refusal, u16),
-}
-
-// A step of the pass: it is over, or goes on from a place with so many delimiters open.
-#[derive(Clone, Copy)]
-enum Turn {
-    Over(ShortAnswer),
-    On(u16, u16),
 }
 
 // A byte as a word.
@@ -666,35 +635,34 @@ fn closer(b: u8) -> u16
 }
 
 // An opener's closer is awaited next.
-fn take_opener(b: u8, words: &mut [u16], depth: u16) -> Depth
+fn take_opener(b: u8, words: &mut [u16], depth: u16) -> Result<u16, Refusal>
     requires { (64 ≤ length words.old) × (depth ≤ 64) }
     ensures { DepthMeans (after_opener b (held words.old depth)) words.new result }
 {
     if depth < 64 {
         words[depth as usize] = closer(b);
-        let deeper = depth + 1;
-        return Depth::Open(deeper);
+        return Ok(depth + 1);
     }
-    Depth::Unfit(Refusal::TooManyOpen)
+    Err(Refusal::TooManyOpen)
 }
 
 // A closer is the one that is awaited, or it does not fit.
-fn take_closer(b: u8, words: &[u16], depth: u16) -> Depth
+fn take_closer(b: u8, words: &[u16], depth: u16) -> Result<u16, Refusal>
     requires { (64 ≤ length words.now) × (depth ≤ 64) }
     ensures { DepthMeans (closed b (held words.now depth)) words.now result }
 {
     if depth == 0 {
-        return Depth::Unfit(Refusal::Unbalanced);
+        return Err(Refusal::Unbalanced);
     }
     let last = depth - 1;
     if words[last as usize] == wide(b) {
-        return Depth::Open(last);
+        return Ok(last);
     }
-    Depth::Unfit(Refusal::Unbalanced)
+    Err(Refusal::Unbalanced)
 }
 
-// What a mark makes of the delimiters.
-fn nest_mark(b: u8, words: &mut [u16], depth: u16) -> Depth
+// What a mark makes of the delimiters: so many are open then, or they do not fit.
+fn nest_mark(b: u8, words: &mut [u16], depth: u16) -> Result<u16, Refusal>
     requires { (64 ≤ length words.old) × (depth ≤ 64) }
     ensures { DepthMeans (nest_mark b (held words.old depth)) words.new result }
 {
@@ -704,89 +672,68 @@ fn nest_mark(b: u8, words: &mut [u16], depth: u16) -> Depth
     if text::has(b")]}", b) {
         return take_closer(b, words, depth);
     }
-    Depth::Open(depth)
+    Ok(depth)
 }
 
 // What a token makes of the delimiters.
-fn nest(k: Tok, words: &mut [u16], depth: u16) -> Depth
+fn nest(k: Tok, words: &mut [u16], depth: u16) -> Result<u16, Refusal>
     requires { (64 ≤ length words.old) × (depth ≤ 64) }
     ensures { (t : List ℕ) (n : ℕ) → DepthMeans (nest (kind_of t n k) (held words.old depth)) words.new result }
 {
     match k {
         Tok::Mark(b) => nest_mark(b, words, depth),
-        Tok::Name => Depth::Open(depth),
-        Tok::Num => Depth::Open(depth),
-        Tok::Quoted => Depth::Open(depth),
+        Tok::Name | Tok::Num | Tok::Quoted => Ok(depth),
     }
 }
 
-// The answer at the end of the text.
-fn ended(place: u16, depth: u16) -> ShortAnswer
-    ensures { (s : List ℕ) → wide_answer result ≡ answer_of (ended place (held s depth)) }
-{
-    if depth == 0 {
-        return ShortAnswer::Accepted;
-    }
-    ShortAnswer::Refused(Refusal::Unbalanced, place)
-}
-
-// The pass ends with a refusal.
-fn halt(refusal: Refusal, place: u16) -> Turn
-    ensures { result ≡ Turn.Over (ShortAnswer.Refused refusal place) }
-{
-    Turn::Over(ShortAnswer::Refused(refusal, place))
-}
-
-// One step of the pass: past blanks to the end of the text, or past a token.
-fn step(text: &[u8], at: u16, words: &mut [u16], depth: u16) -> Turn
+// One step of the pass: past blanks to the end of the text, where none may be open, or past a token, to a place with so many delimiters
+// open. A refusal has its place.
+fn step(
+    text: &[u8],
+    at: u16,
+    words: &mut [u16],
+    depth: u16,
+) -> Result<Option<(u16, u16)>, (Refusal, u16)>
     requires { (at ≤ length text.now) × (length text.now ≤ text_limit) × (64 ≤ length words.old) × (depth ≤ 64) }
     ensures { TurnMeans text.now at (answer_from text.now at (held words.old depth)) words.new result }
 {
     let start = past_blanks(text, at);
     if text.len() <= start as usize {
-        return Turn::Over(ended(start, depth));
+        if depth == 0 {
+            return Ok(None);
+        }
+        return Err((Refusal::Unbalanced, start));
     }
     let t = &text[start as usize..];
     let n = size_of(t);
     if n == 0 {
-        return halt(why(t), start);
+        return Err((why(t), start));
     }
     match nest(kind_of(text::byte_at(t, 0)), words, depth) {
-        Depth::Unfit(r) => halt(r, start),
-        Depth::Open(d) => {
-            let next = start + n;
-            Turn::On(next, d)
-        }
+        Ok(d) => Ok(Some((start + n, d))),
+        Err(refusal) => Err((refusal, start)),
     }
 }
 
 // The answer for a text.
-fn pass(text: &[u8], words: &mut [u16]) -> ShortAnswer
+fn pass(text: &[u8], words: &mut [u16]) -> Result<(), (Refusal, u16)>
     requires { (length text.now ≤ text_limit) × (64 ≤ length words.old) }
     ensures { wide_answer result ≡ answer_of (split text.now) }
 {
     let mut at: u16 = 0;
     let mut depth: u16 = 0;
-    loop {
-        match step(text, at, words, depth) {
-            Turn::Over(a) => return a,
-            Turn::On(next, d) => {
-                at = next;
-                depth = d;
-            }
-        }
+    while let Some((next, d)) = step(text, at, words, depth)? {
+        at = next;
+        depth = d;
     }
+    Ok(())
 }
 
 // Zeroes a scratch, which may have more words than 16 bits count.
 pub fn clear(words: &mut [u16])
     ensures { words.new ≡ replicate (length words.old) 0 }
 {
-    let mut i = 0;
-    while i < words.len() {
-        words[i] = 0;
-        i += 1;
-    }
+    words.fill(0);
 }
 
 // Judges a text of at most the limit by the text rules. It uses the first 64 words of the scratch, and leaves all of it zero.
@@ -803,8 +750,8 @@ pub fn split(text: &[u8], scratch: &mut [u16]) -> SplitAnswer
     let answer = pass(text, scratch);
     clear(scratch);
     match answer {
-        ShortAnswer::Accepted => SplitAnswer::Accepted,
-        ShortAnswer::Refused(refusal, place) => SplitAnswer::Refused {
+        Ok(()) => SplitAnswer::Accepted,
+        Err((refusal, place)) => SplitAnswer::Refused {
             refusal,
             place: place as usize,
         },

@@ -1,4 +1,4 @@
-use Prim.Native.Nat.{◌-◌, ◌≤◌}
+use Prim.Native.Nat.{◌≤◌}
 use mathlib.Core.Path.{◌≡◌}
 use mathlib.Core.Bool.{true}
 use lib.ListN.{drop}
@@ -6,7 +6,4 @@ use Rattle.text.specs.Bytes.{run, is_blank}
 use Rattle.token.proofs.has_8_spaces.Given as goal
 
 abbrev pub invariant-loop-n : goal.invariant-loop-n
-invariant-loop-n l = (l.n ≤ 8) × (l.all ≡ true → l.n ≤ run is_blank (drop l.at l.t))
-
-abbrev pub decreases-loop-n : goal.decreases-loop-n
-decreases-loop-n l = 8 - l.n
+invariant-loop-n l = l.all ≡ true → l.n ≤ run is_blank (drop l.at l.t)

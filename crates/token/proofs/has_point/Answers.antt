@@ -11,6 +11,6 @@ returns-then-byte_at-eq46 c =
     rw (eq-eqb _ 46 (sym c.byte_at.ensures ∙ c.if-byte_at-eq46.true))
     (c.in_class.ensures ∙ (rw (c.byte_at-then-byte_at-eq46.ensures, add-one)))
 
-pub returns : goal.returns
+pub returns-else-byte_at-eq46 : goal.returns-else-byte_at-eq46
 unfolding point_at
-returns c = rw (ne_eqb _ 46 (λ q. c.if-byte_at-eq46.false (c.byte_at.ensures ∙ q)))
+returns-else-byte_at-eq46 c = rw (ne_eqb _ 46 (λ q. c.if-byte_at-eq46.false (c.byte_at.ensures ∙ q))) (ne_eqb _ 46 c.if-byte_at-eq46.false)

@@ -5,5 +5,5 @@ use native.Mathlib.Omega.{arith}
 use Rattle.token.proofs.SplitLaws.{from_zero}
 use Rattle.token.proofs.pass.Goals as goal
 
-pub loop-a-init : goal.loop-a-init
-loop-a-init c = (refl, omega arith, omega arith, from_zero _ _)
+pub loop-next-init : goal.loop-next-init
+loop-next-init c = (refl, omega arith, omega arith, from_zero _ _)

@@ -5,8 +5,8 @@ use Rattle.token.specs.Means.{answer_from, answer_of, held}
 use Rattle.token.specs.Split.{split}
 use Rattle.token.proofs.pass.Given as goal
 
-abbrev pub invariant-loop-a : goal.invariant-loop-a
-invariant-loop-a l = (length l.words ≡ length l.initial.words) × (l.at ≤ length l.text) × (l.depth ≤ 64) × (answer_of (split l.text) ≡ answer_from l.text l.at (held l.words l.depth))
+abbrev pub invariant-loop-next : goal.invariant-loop-next
+invariant-loop-next l = (length l.words ≡ length l.initial.words) × (l.at ≤ length l.text) × (l.depth ≤ 64) × (answer_of (split l.text) ≡ answer_from l.text l.at (held l.words l.depth))
 
-abbrev pub decreases-loop-a : goal.decreases-loop-a
-decreases-loop-a l = length l.text - l.at
+abbrev pub decreases-loop-next : goal.decreases-loop-next
+decreases-loop-next l = length l.text - l.at

@@ -26,8 +26,8 @@ answered w a e =
 pub returns-then-scratch-lt64 : goal.returns-then-scratch-lt64
 returns-then-scratch-lt64 c = too_short _ _ (omega arith)
 
-pub returns-in-Accepted : goal.returns-in-Accepted
-returns-in-Accepted c = answered (goal.at.returns-in-Accepted c).After-clear _ (ap wide_answer c.in-Accepted.is)
+pub returns-in-Ok : goal.returns-in-Ok
+returns-in-Ok c = answered (goal.at.returns-in-Ok c).After-clear _ (ap wide_answer c.in-Ok.is)
 
-pub returns-in-Refused : goal.returns-in-Refused
-returns-in-Refused c = answered (goal.at.returns-in-Refused c).After-clear _ (ap wide_answer c.in-Refused.is)
+pub returns-in-Err : goal.returns-in-Err
+returns-in-Err c = answered (goal.at.returns-in-Err c).After-clear _ (ap wide_answer c.in-Err.is)

@@ -1,52 +1,46 @@
 -- `token::value` meets its contract; the loop keeps the number that the digits left make of `v`, and a bound on `v`.
-use Prim.Native.Nat.{◌+◌, ◌-◌}
-use mathlib.Core.Path.{◌≡◌, sym, ◌∙◌}
+use Prim.Native.Nat.{ℕ, ◌+◌, ◌-◌, ◌*◌, ◌≤◌}
+use mathlib.Core.Path.{◌≡◌, sym, ap, ◌∙◌}
 use native.Mathlib.Omega.{arith}
-use lib.ListN.{get_or}
-use Rattle.text.proofs.ByteLaws.{within_is}
-use Rattle.text.specs.Bytes.{is_digit}
-use Rattle.limbs.proofs.NumberLaws.{digits_inside, run_in_at, decimal-at, decimal_nil, ten_more, ten_fits}
+use lib.ListN.{length, get_or, drop, length-drop}
+use Rattle.text.proofs.ByteLaws.{run_in, within_is}
+use Rattle.text.specs.Bytes.{decimal, is_digit}
+use Rattle.limbs.proofs.NumberLaws.{decimal_next, decimal_none, ten_more, ten_fits}
+use Rattle.token.proofs.value.Goals.{In-loop-b}
 use Rattle.token.proofs.value.Goals as goal
 
+-- the byte is a digit
+figure : (w : In-loop-b) →
+    let b = get_or w.args.digits.now w.loop-b.b-index 0 in
+    (48 ≤ b) × (b ≤ 57)
+figure w =
+    within_is 48 57 (get_or w.args.digits.now w.loop-b.b-index 0)
+    (run_in is_digit w.args.digits.now w.loop-b.b-index (omega (arith, w.requires.0, w.loop-b-test.true)))
+
 pub overflow_mul-v : goal.overflow_mul-v
-overflow_mul-v c = omega (arith, ten_fits c.loop-i.v _ 18 c.loop-i.invariant.2 (omega arith))
+overflow_mul-v c = omega (arith, ten_fits c.loop-b.v _ 18 c.loop-b.invariant.1 (omega (arith, c.requires.2, c.loop-b-test.true)))
 
-pub bounds-t-from : goal.bounds-t-from
-bounds-t-from c = omega (arith, digits_inside c.args.t.now c.args.from c.args.n c.requires.0 (omega arith))
+pub overflow_sub-b : goal.overflow_sub-b
+overflow_sub-b c = let f = figure (goal.at.overflow_sub-b c).In-loop-b in omega (arith, f.0)
 
-pub overflow_sub-v : goal.overflow_sub-v
-overflow_sub-v c =
-    let a = c.args in
-    omega (
-      arith,
-      within_is 48 57 (get_or a.t.now (a.from + c.loop-i.i) 0)
-          (run_in_at is_digit a.t.now a.from c.loop-i.i (omega (arith, c.requires))),
-    )
+pub overflow_add-v : goal.overflow_add-v
+overflow_add-v c =
+    let f = figure (goal.at.overflow_add-v c).In-loop-b in
+    omega (arith, f.1, ten_fits c.loop-b.v _ 18 c.loop-b.invariant.1 (omega (arith, c.requires.2, c.loop-b-test.true)))
 
-pub overflow_add-v-in-loop-i : goal.overflow_add-v-in-loop-i
-overflow_add-v-in-loop-i c =
-    let a = c.args in
-    omega (
-      arith,
-      c.type_inv.t (a.from + c.loop-i.i),
-      ten_fits c.loop-i.v _ 18 c.loop-i.invariant.2 (omega arith),
-    )
-
-pub loop-i-preserved : goal.loop-i-preserved
-loop-i-preserved c =
-    let a = c.args in
-    let d = within_is 48 57 (get_or a.t.now (a.from + c.loop-i.i) 0)
-    (run_in_at is_digit a.t.now a.from c.loop-i.i (omega (arith, c.requires)))
-    in
-    let f = digits_inside a.t.now a.from a.n c.requires.0 (omega arith) in
-    let e : 19 - a.n + c.loop-i.i + 1 ≡ 19 - a.n + (c.loop-i.i + 1) = omega arith in (
-      omega arith,
-      sym (decimal-at c.loop-i.v a.t.now a.from a.n c.loop-i.i f (omega arith)) ∙ c.loop-i.invariant.1,
-      rw e at (ten_more c.loop-i.v (get_or a.t.now (a.from + c.loop-i.i) 0 - 48) (19 - a.n + c.loop-i.i) c.loop-i.invariant.2 (omega arith)),
+pub loop-b-preserved : goal.loop-b-preserved
+loop-b-preserved c =
+    let t = c.args.digits.now in
+    let i = c.loop-b.b-index in
+    let f = figure (goal.at.loop-b-preserved c).In-loop-b in
+    let e : 19 - length t + i + 1 ≡ 19 - length t + (i + 1) = omega arith in (
+      ap (λ (z : ℕ). decimal (c.loop-b.v * 10 + z) (drop (i + 1) t)) c.from.ensures
+          ∙ sym (decimal_next c.loop-b.v t i c.loop-b-test.true) ∙ c.loop-b.invariant.0,
+      rw e at (ten_more c.loop-b.v c.from.result (19 - length t + i) c.loop-b.invariant.1 (omega (arith, f.1, c.from.ensures))),
     )
 
 pub returns : goal.returns
 returns c =
-    let args = c.args in
-    let e : args.n - c.loop-i.i ≡ 0 = omega arith in
-    sym (decimal_nil c.loop-i.v _ (args.n - c.loop-i.i) e) ∙ c.loop-i.invariant.1
+    let t = c.args.digits.now in
+    let i = c.loop-b.b-index in
+    sym (decimal_none c.loop-b.v (drop i t) (omega (arith, length-drop i t))) ∙ c.loop-b.invariant.0
