@@ -2,74 +2,53 @@
 // bytes, and its items are listed. The answer to a lookup is the book, the body's start, its size and its bytes; to a listing the count,
 // and the output afterwards, in which 07 stood. tools/book_cases.py makes the cases.
 use error::{LookupAnswer, OrderAnswer};
-use run_stored::answers::{refuse, say, say_bytes, say_number};
-use run_stored::lines;
-use run_stored::lines::Fields;
-use sheet_decode::fields::take_field;
+use run_stored::answers::Refused;
+use run_stored::cases::Case;
+use std::alloc::Global;
 use std::io;
 use std::io::Write;
 
-// The longest output that is lent.
+// The longest output that is lent. A longer one has no answer.
 const ROOM: usize = 256;
 
-pub fn answer(to: &mut impl Write, line: &[u8], f: Fields) -> io::Result<()> {
-    if text::byte_at(line, 0) == 0 {
-        look_up(
-            to,
-            lines::field(line, f, 1),
-            lines::field(line, f, 2),
-            lines::field(line, f, 3),
-        )?;
+pub fn answer(alloc: Global, to: &mut impl Write, case: &Case<'_>) -> io::Result<()> {
+    if case.first_byte() == 0 {
+        look_up(alloc, to, case.field(1), case.field(2), case.field(3))?;
     } else {
-        answer_order(to, line, f)?;
+        let wanted = case
+            .field(2)
+            .first_chunk()
+            .map_or(0, |bytes| u16::from_be_bytes(*bytes));
+        let wanted = usize::from(wanted);
+        if wanted <= ROOM {
+            list(alloc, to, case.field(1), wanted)?;
+        }
     }
-    say(to, b"\n")
+    writeln!(to)
 }
 
-fn look_up<'a>(
+fn look_up(
+    alloc: Global,
     to: &mut impl Write,
-    store: &'a [u8],
-    chain: &'a [u8],
+    store: &[u8],
+    chain: &[u8],
     name: &[u8],
 ) -> io::Result<()> {
     match lookup::find(store, chain, name) {
-        LookupAnswer::InStore { start, size } => say_body(to, b"store ", start, size)?,
-        LookupAnswer::InChain { start, size } => say_body(to, b"chain ", start, size)?,
-        LookupAnswer::Refused { refusal, place } => refuse(to, refusal, place, b"")?,
+        LookupAnswer::InStore { start, size } => write!(to, "store {start} {size} ")?,
+        LookupAnswer::InChain { start, size } => write!(to, "chain {start} {size} ")?,
+        LookupAnswer::Refused { refusal, place } => write!(to, "{}", Refused { refusal, place })?,
     }
-    say_bytes(to, lookup::lookup(store, chain, name), true)
+    let body = hex::encode_upper(alloc, lookup::lookup(store, chain, name))?;
+    write!(to, "{body}")
 }
 
-fn say_body(to: &mut impl Write, book: &[u8], start: usize, size: usize) -> io::Result<()> {
-    say(to, book)?;
-    say_number(to, start as u64)?;
-    say(to, b" ")?;
-    say_number(to, size as u64)?;
-    say(to, b" ")
-}
-
-fn answer_order(to: &mut impl Write, line: &[u8], f: Fields) -> io::Result<()> {
-    let mut out = [7u8; ROOM];
-    let wanted = take_field(lines::field(line, f, 2), 0, 2);
-    list_into(to, &mut out, wanted.v as usize, lines::field(line, f, 1))
-}
-
-// Lends the first bytes of an output. More than it has have no answer.
-fn list_into(to: &mut impl Write, out: &mut [u8], room: usize, book: &[u8]) -> io::Result<()> {
-    if out.len() < room {
-        return Ok(());
+fn list(alloc: Global, to: &mut impl Write, book: &[u8], room: usize) -> io::Result<()> {
+    let mut out = vec![in alloc; 7; room]?;
+    match listing::list(book, &mut out) {
+        OrderAnswer::Listed { items } => write!(to, "list {items} ")?,
+        OrderAnswer::Refused { refusal, place } => write!(to, "{} ", Refused { refusal, place })?,
     }
-    say_listed(to, &mut out[..room], book)
-}
-
-fn say_listed(to: &mut impl Write, out: &mut [u8], book: &[u8]) -> io::Result<()> {
-    match listing::list(book, out) {
-        OrderAnswer::Listed { items } => {
-            say(to, b"list ")?;
-            say_number(to, items as u64)?;
-            say(to, b" ")?;
-        }
-        OrderAnswer::Refused { refusal, place } => refuse(to, refusal, place, b" ")?,
-    }
-    say_bytes(to, out, true)
+    let out = hex::encode_upper(alloc, out)?;
+    write!(to, "{out}")
 }

@@ -2,127 +2,121 @@
 // that is a word short, 2 with a sheet of 8 bytes; 3 empties the totals; 4 sets a word, its number in one byte and its value in four;
 // 5 writes the totals, 6 the two means. tools/feed_cases.py makes the cases.
 use error::{FeedAnswer, MeanAnswer};
-use run_stored::answers::{refuse, say, say_answer, say_number};
-use run_stored::lines;
-use run_stored::lines::Fields;
-use sheet_decode::fields::{take_byte, take_field};
+use parser::SCRATCH_WORDS;
+use run_stored::answers::{Checked, Refused};
+use run_stored::cases::Case;
 use std::io;
 use std::io::Write;
 
-pub fn answer(
-    to: &mut impl Write,
-    line: &[u8],
-    f: Fields,
-    totals: &mut [u32; 60],
-) -> io::Result<()> {
-    let bytes = lines::field(line, f, 0);
-    let rest = text::part(bytes, 1, bytes.len());
-    match text::byte_at(bytes, 0) {
-        0 => feed_whole(to, totals, rest),
-        1 => feed_with_less_scratch(to, totals, rest),
-        2 => feed_with_less_sheet(to, totals, rest),
-        3 => {
-            empty(totals);
-            Ok(())
+pub type Totals = [u32; 60];
+
+pub const NO_TOTALS: Totals = [0; 60];
+
+const LESS_SCRATCH_WORDS: usize = SCRATCH_WORDS - 1;
+
+// The longest sheet of a script.
+const SHEET_BYTES: usize = 49152;
+
+enum Task {
+    Feed,
+    FeedWithLessScratch,
+    FeedWithLessSheet,
+    Empty,
+    SetWord,
+    SayTotals,
+    SayMeans,
+}
+
+impl From<u8> for Task {
+    fn from(first: u8) -> Task {
+        match first {
+            0 => Task::Feed,
+            1 => Task::FeedWithLessScratch,
+            2 => Task::FeedWithLessSheet,
+            3 => Task::Empty,
+            4 => Task::SetWord,
+            5 => Task::SayTotals,
+            _ => Task::SayMeans,
         }
-        4 => {
-            set_word(totals, rest);
-            Ok(())
-        }
-        5 => say_totals(to, totals),
-        _ => say_means(to, totals),
     }
 }
 
-fn feed_whole(to: &mut impl Write, totals: &mut [u32; 60], text: &[u8]) -> io::Result<()> {
-    let mut scratch = [0u16; parser::SCRATCH_WORDS];
-    let mut sheet = [0u8; 49152];
-    feed_to(to, totals, text, &mut scratch, &mut sheet)
-}
-
-fn feed_with_less_scratch(
-    to: &mut impl Write,
-    totals: &mut [u32; 60],
-    text: &[u8],
-) -> io::Result<()> {
-    let mut scratch = [0u16; 63];
-    let mut sheet = [0u8; 49152];
-    feed_to(to, totals, text, &mut scratch, &mut sheet)
-}
-
-fn feed_with_less_sheet(
-    to: &mut impl Write,
-    totals: &mut [u32; 60],
-    text: &[u8],
-) -> io::Result<()> {
-    let mut scratch = [0u16; parser::SCRATCH_WORDS];
-    let mut sheet = [0u8; 8];
-    feed_to(to, totals, text, &mut scratch, &mut sheet)
+pub fn answer(to: &mut impl Write, case: &Case<'_>, totals: &mut Totals) -> io::Result<()> {
+    let (first, rest) = case.field(0).split_first().unwrap_or((&0, &[]));
+    match Task::from(*first) {
+        Task::Feed => feed(
+            to,
+            totals,
+            rest,
+            &mut [0; SCRATCH_WORDS],
+            &mut [0; SHEET_BYTES],
+        ),
+        Task::FeedWithLessScratch => {
+            feed(
+                to,
+                totals,
+                rest,
+                &mut [0; LESS_SCRATCH_WORDS],
+                &mut [0; SHEET_BYTES],
+            )
+        }
+        Task::FeedWithLessSheet => feed(to, totals, rest, &mut [0; SCRATCH_WORDS], &mut [0; 8]),
+        Task::Empty => {
+            totals.fill(0);
+            Ok(())
+        }
+        Task::SetWord => {
+            set_word(totals, rest);
+            Ok(())
+        }
+        Task::SayTotals => say_totals(to, totals),
+        Task::SayMeans => {
+            say_mean(to, totals, 0)?;
+            say_mean(to, totals, 1)
+        }
+    }
 }
 
 // Feeds a text, and writes the answer.
-fn feed_to(
+fn feed(
     to: &mut impl Write,
-    totals: &mut [u32; 60],
+    totals: &mut Totals,
     text: &[u8],
     scratch: &mut [u16],
     sheet: &mut [u8],
 ) -> io::Result<()> {
     match feed::feed(totals, text, scratch, sheet, 1) {
-        FeedAnswer::Counted { answer } => say_answer(to, answer, b"\n"),
+        FeedAnswer::Counted { answer } => writeln!(to, "{}", Checked(answer)),
         FeedAnswer::Refused { refusal, place } => {
-            say(to, b"unfed ")?;
-            refuse(to, refusal, place, b"\n")
+            writeln!(to, "unfed {}", Refused { refusal, place })
         }
     }
 }
 
-fn empty(totals: &mut [u32; 60]) {
-    let mut i: usize = 0;
-    while i < 60 {
-        totals[i] = 0;
-        i += 1;
+// The word's number in the first byte, its value in the next four, the highest first. What is missing or too high is 0.
+fn set_word(totals: &mut Totals, bytes: &[u8]) {
+    let (word, value) = bytes.split_first().unwrap_or((&0, &[]));
+    let word = usize::from(*word);
+    let value = value
+        .first_chunk()
+        .map_or(0, |bytes| u32::from_be_bytes(*bytes));
+    totals[if word < totals.len() { word } else { 0 }] = value;
+}
+
+fn say_totals(to: &mut impl Write, totals: &Totals) -> io::Result<()> {
+    for total in totals {
+        write!(to, "{total} ")?;
     }
+    writeln!(to)
 }
 
-// The word's number in the first byte, its value in the next four, the highest first.
-fn set_word(totals: &mut [u32; 60], bytes: &[u8]) {
-    let word = take_byte(bytes, 0, 60);
-    let value = take_field(bytes, 1, 4);
-    totals[word.v as usize] = value.v;
-}
-
-fn say_totals(to: &mut impl Write, totals: &[u32; 60]) -> io::Result<()> {
-    let mut i: usize = 0;
-    while i < 60 {
-        say_word(to, totals[i])?;
-        i += 1;
-    }
-    say(to, b"\n")
-}
-
-fn say_word(to: &mut impl Write, n: u32) -> io::Result<()> {
-    say_number(to, n as u64)?;
-    say(to, b" ")
-}
-
-fn say_means(to: &mut impl Write, totals: &[u32; 60]) -> io::Result<()> {
-    say_mean(to, totals, 0)?;
-    say_mean(to, totals, 1)
-}
-
-fn say_mean(to: &mut impl Write, totals: &[u32; 60], which: u32) -> io::Result<()> {
+fn say_mean(to: &mut impl Write, totals: &Totals, which: u32) -> io::Result<()> {
     match totals::mean(totals, which) {
         MeanAnswer::Fraction {
             numerator,
             denominator,
-        } => {
-            say_number(to, numerator as u64)?;
-            say(to, b"/")?;
-            say_number(to, denominator as u64)?;
-            say(to, b"\n")
-        }
-        MeanAnswer::Nothing => say(to, b"none\n"),
-        MeanAnswer::Refused { refusal, place } => refuse(to, refusal, place, b"\n"),
+        } => writeln!(to, "{numerator}/{denominator}"),
+        MeanAnswer::Nothing => writeln!(to, "none"),
+        MeanAnswer::Refused { refusal, place } => writeln!(to, "{}", Refused { refusal, place }),
     }
 }

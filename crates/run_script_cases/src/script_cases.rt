@@ -2,47 +2,46 @@
 // what checking answers to that (oracle/store-scripts.sh, tools/number_cases.py); of `rounded` how many of its numbers were rounded, or
 // `refused` (tools/rounded_cases.py).
 use error::ReadAnswer;
-use run_stored::answers::{refuse, say, say_answer, say_bytes, say_number};
-use run_stored::lines;
-use run_stored::lines::Fields;
+use run_stored::answers::{Checked, Refused};
+use run_stored::cases::Case;
+use std::alloc::Global;
 use std::io;
 use std::io::Write;
 use verdict::Verdict;
 
-pub fn answer(to: &mut impl Write, line: &[u8], f: Fields) -> io::Result<()> {
+// The longest sheet of a script.
+const SHEET_BYTES: usize = 49152;
+
+pub fn answer(alloc: Global, to: &mut impl Write, case: &Case<'_>) -> io::Result<()> {
     let mut scratch = [0u16; parser::SCRATCH_WORDS];
-    let mut sheet = [0u8; 49152];
-    match verdict::read_and_check(lines::field(line, f, 0), &mut scratch, &mut sheet, 1) {
-        Verdict::Unread { refusal, place } => refuse(to, refusal, place, b"\n"),
+    let mut sheet = [0u8; SHEET_BYTES];
+    match verdict::read_and_check(case.field(0), &mut scratch, &mut sheet, 1) {
+        Verdict::Unread { refusal, place } => writeln!(to, "{}", Refused { refusal, place }),
         Verdict::Checked {
             length,
             records,
             rounded: _,
             answer,
         } => {
-            say(to, b"accept ")?;
-            say_number(to, records as u64)?;
-            say(to, b" ")?;
-            say_bytes(to, text::part(&sheet, 0, length), true)?;
-            say(to, b"\t")?;
-            say_answer(to, answer, b"\n")
+            let sheet = hex::encode_upper(alloc, &sheet[..length.min(sheet.len())])?;
+            let answer = Checked(answer);
+            writeln!(to, "accept {records} {sheet}\t{answer}")
         }
     }
 }
 
-pub fn answer_rounded(to: &mut impl Write, line: &[u8], f: Fields) -> io::Result<()> {
+pub fn answer_rounded(to: &mut impl Write, case: &Case<'_>) -> io::Result<()> {
     let mut scratch = [0u16; parser::SCRATCH_WORDS];
-    let mut sheet = [0u8; 49152];
-    match parser::read(lines::field(line, f, 0), &mut scratch, &mut sheet) {
+    let mut sheet = [0u8; SHEET_BYTES];
+    match parser::read(case.field(0), &mut scratch, &mut sheet) {
         ReadAnswer::Accepted {
             length: _,
             records: _,
             rounded,
-        } => say_number(to, rounded as u64)?,
+        } => writeln!(to, "{rounded}"),
         ReadAnswer::Refused {
             refusal: _,
             place: _,
-        } => say(to, b"refused")?,
+        } => writeln!(to, "refused"),
     }
-    say(to, b"\n")
 }

@@ -1,66 +1,37 @@
-// What the answers to stored cases are written with.
+// How the answers of the operations are printed.
+ghost use Rattle.std.specs.Prelude.{◌++◌, Some, codes, decimal};
+ghost use Rattle.error.specs.Refusal.{number_of};
+
 use error::{CheckAnswer, Refusal};
-use std::io;
-use std::io::Write;
+use std::fmt;
+use std::fmt::{Display, Formatter};
 
-pub fn say(to: &mut impl Write, bytes: &[u8]) -> io::Result<()> {
-    to.write_all(bytes)
+// A refusal and its place.
+#[derive(Clone, Copy)]
+pub struct Refused {
+    pub refusal: Refusal,
+    pub place: usize,
 }
 
-pub fn say_number(to: &mut impl Write, n: u64) -> io::Result<()> {
-    write!(to, "{n}")
+impl Display for Refused {
+    ghost output = { λ r. Some (codes "refuse " ++ decimal (number_of r.refusal) ++ codes " at " ++ decimal r.place) };
+
+    fn fmt<W: fmt::Write>(&self, f: &mut Formatter<W>) -> fmt::Result {
+        let number = error::number_of(self.refusal);
+        let place = self.place;
+        write!(f, "refuse {number} at {place}")
+    }
 }
 
-// Writes a refusal, and `end` behind it.
-pub fn refuse(to: &mut impl Write, refusal: Refusal, place: usize, end: &[u8]) -> io::Result<()> {
-    say(to, b"refuse ")?;
-    say_number(to, error::number_of(refusal) as u64)?;
-    say(to, b" at ")?;
-    say_number(to, place as u64)?;
-    say(to, end)
-}
+// What checking, converting or drawing answers.
+#[derive(Clone, Copy)]
+pub struct Checked(pub CheckAnswer);
 
-// Writes what checking, converting or drawing answers, and `end` behind it.
-pub fn say_answer(to: &mut impl Write, answer: CheckAnswer, end: &[u8]) -> io::Result<()> {
-    match answer {
-        CheckAnswer::Accepted => {
-            say(to, b"accept")?;
-            say(to, end)
+impl Display for Checked {
+    fn fmt<W: fmt::Write>(&self, f: &mut Formatter<W>) -> fmt::Result {
+        match self.0 {
+            CheckAnswer::Accepted => write!(f, "accept"),
+            CheckAnswer::Refused { refusal, place } => write!(f, "{}", Refused { refusal, place }),
         }
-        CheckAnswer::Refused { refusal, place } => refuse(to, refusal, place, end),
-    }
-}
-
-// Writes bytes in hexadecimal, as many at a time as there is room for.
-pub fn say_bytes(to: &mut impl Write, bytes: &[u8], capitals: bool) -> io::Result<()> {
-    let mut buffer = [0u8; 4096];
-    let room: &mut [u8] = &mut buffer;
-    let mut at: usize = 0;
-    while at < bytes.len() {
-        say_part(to, text::part(bytes, at, 2048), capitals, room)?;
-        at += 2048;
-    }
-    Ok(())
-}
-
-fn say_part(to: &mut impl Write, bytes: &[u8], capitals: bool, out: &mut [u8]) -> io::Result<()> {
-    let mut end: usize = 0;
-    let mut i: usize = 0;
-    while i < bytes.len() {
-        let next = text::put(out, end, digit(bytes[i] / 16, capitals));
-        end = text::put(out, next, digit(bytes[i] % 16, capitals));
-        i += 1;
-    }
-    say(to, text::part(out, 0, end))
-}
-
-fn digit(n: u8, capitals: bool) -> u8 {
-    let few = n % 16;
-    if few < 10 {
-        48 + few
-    } else if capitals {
-        55 + few
-    } else {
-        87 + few
     }
 }

@@ -1,7 +1,7 @@
-// What the programs that answer stored cases share: lines of fields in hexadecimal, which are read from a file, and what answers are written
-// with. No contract can say what the system reads or writes, and these functions have none.
+// What the programs that answer stored cases share: their kinds of cases, the lines of fields in hexadecimal that a case is written in, and
+// how answers are printed. No contract can say what the system reads or writes, and what reads or writes has none.
 #![tactic(auto)]
 
 pub mod answers;
-pub mod files;
-pub mod lines;
+pub mod cases;
+pub mod kinds;

@@ -1,6 +1,0 @@
--- `run_script_cases::answer_files` ends.
-use Rattle.std.proofs.Common.{length, ◌-◌}
-use Rattle.run_script_cases.proofs.answer_files.Given as goal
-
-abbrev pub decreases-loop-at : goal.decreases-loop-at
-decreases-loop-at g l = length l.kinds - l.at
