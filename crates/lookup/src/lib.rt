@@ -35,7 +35,10 @@ pub fn find(store: &[u8], chain: &[u8], name: &[u8]) -> LookupAnswer
 {
     match look_in(store, name) {
         Place::Refused(refusal, place) => LookupAnswer::Refused { refusal, place },
-        found => book_answers::join(found, look_in(chain, name)),
+        Place::At { start, size } => {
+            book_answers::join(Place::At { start, size }, look_in(chain, name))
+        }
+        Place::Nothing => book_answers::join(Place::Nothing, look_in(chain, name)),
     }
 }
 
