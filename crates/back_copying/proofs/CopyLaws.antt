@@ -28,7 +28,6 @@ use Rattle.back_copying.specs.Means.{Written, Copies}
 use Rattle.back_copying.specs.WordMeans.{Step, FieldPut, absent, present}
 use denote.MutBor.{MutBor}
 
-
 -- the same page whatever follows
 same_page : {p q : List Piece → Page} → ((ps : List Piece) → p ps ≡ q ps) → p ≡ q
 same_page h = λ i ps. h ps i

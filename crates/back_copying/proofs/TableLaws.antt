@@ -1,18 +1,13 @@
 -- The words of a table.
-use Prim.Native.Nat.{ℕ, zero, suc, ◌+◌, ◌≤◌, ◌<◌}
+use Prim.Native.Nat.{ℕ, zero, suc, ◌<◌}
 use Prim.Native.String.{String}
 use mathlib.Core.Bool.{true}
 use mathlib.Core.List.{List, [], ◌∷◌}
-use mathlib.Core.Logic.{⊎_elim}
 use mathlib.Core.Path.{◌≡◌, refl, sym, ap, ◌∙◌}
-use native.Mathlib.Numerals.{add-one}
 use denote.Bor.{Bor}
 use native.Mathlib.Omega.{arith}
-use lib.ListN.{length, length-drop, take, drop, get_or, drop_of_length-le}
-use lib.Seq.{drop-cons, drop-drop}
-use Rattle.text.specs.Bytes.{part}
+use lib.ListN.{length, get_or}
 use Rattle.text.specs.Words.{words}
-use Rattle.sheet_decode.proofs.ReadLaws.{le_or_lt}
 use Rattle.digits.proofs.NumeralLaws.{both}
 use Rattle.pieces.specs.Pieces.{Piece, a_word, word_like}
 use Rattle.fresh.specs.Fresh.{word_at, choose}

@@ -12,8 +12,8 @@ ghost use Rattle.back_leaves.specs.Means.{body, preset_fields};
 
 use crate::frames::copy_track;
 use back_copying::fields::{
-    copy_f32_field, copy_offset, copy_opt, copy_opt_case, copy_opt_damping, copy_reverse, copy_samples, copy_space,
-    put_choice, put_field,
+    copy_f32_field, copy_offset, copy_opt, copy_opt_case, copy_opt_damping, copy_reverse,
+    copy_samples, copy_space, put_choice, put_field,
 };
 use back_copying::values::{
     copy_f32, copy_name, copy_string, copy_truth, copy_u32, copy_value, put_f32,

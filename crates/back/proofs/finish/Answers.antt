@@ -1,5 +1,4 @@
 -- `back::finish` meets its contract: each way out is a case of the definition.
-use Rattle.fresh.specs.Reads.{start}
 use mathlib.Core.Path.{◌∙◌}
 use native.Mathlib.Omega.{arith}
 use native.Mathlib.Nat.{sub-zero}

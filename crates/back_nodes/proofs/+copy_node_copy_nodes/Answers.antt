@@ -1,5 +1,4 @@
 -- `back_nodes::copy_node` and `back_nodes::copy_nodes` meet their contracts.
-use Rattle.text.specs.Bytes.{one_of}
 use mathlib.Core.Path.{refl, ◌∙◌}
 use native.Mathlib.Omega.{arith}
 use Rattle.sheet_records.proofs.RecordLaws.{moves}
@@ -9,8 +8,6 @@ use Rattle.fresh.specs.Fresh.{mark}
 use Rattle.back_spelling.proofs.PageLaws.{same_buffer}
 use Rattle.back_copying.proofs.CopyLaws.{one_piece, ◌and◌, written_kept}
 use Rattle.back_nodes.proofs.NodeLaws.{leaf_placed, box_placed, going_start, going_next, going_done}
-use Prim.Native.Nat.{◌-◌}
-use borrow.Author.Rules.{rules}
 use Rattle.back_nodes.proofs.+copy_node_copy_nodes.Goals as goal
 
 pub copy_node-returns-then-s-at : goal.copy_node-returns-then-s-at

@@ -1,4 +1,3 @@
-use mathlib.Core.Path.{◌≡◌}
 use Rattle.back_spelling.specs.Means.{page_of}
 use Rattle.back_nodes.proofs.NodeLaws.{Going}
 use Prim.Native.Nat.{◌+◌, ◌*◌, ◌-◌, ◌≤◌}

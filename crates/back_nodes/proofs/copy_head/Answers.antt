@@ -1,5 +1,4 @@
 -- `back_nodes::copy_head` meets its contract: the word and the fields of each kind.
-use Rattle.fresh.specs.Reads.{start}
 use mathlib.Core.List.{◌∷◌}
 use mathlib.Core.Path.{refl}
 use native.Mathlib.Omega.{arith}

@@ -1,10 +1,6 @@
 -- `back_nodes::copy_leaf` meets its contract.
-use Rattle.digits.specs.Fewest.{reads}
-use Rattle.fresh.specs.Reads.{start}
 use mathlib.Core.Path.{refl}
 use Rattle.ast.specs.Tree as tree
-use Rattle.digits.specs.Numeral.{all}
-use Rattle.pieces.specs.Pieces.{word_like}
 use Rattle.fresh.specs.Fresh.{leaf_word}
 use Rattle.sheet_records.proofs.RecordLaws.{of_kind}
 use Rattle.sheet_nodes.proofs.StandLaws.{last-kind}

@@ -1,7 +1,4 @@
 -- `back_nodes::holding` meets its contract: its count, then its `{`.
-use Rattle.digits.specs.Fewest.{count, reads}
-use Rattle.pieces.specs.Pieces.{holds}
-use Rattle.text.specs.Bytes.{one_of}
 use mathlib.Core.Path.{refl}
 use Rattle.back_nodes.proofs.holding.Goals as goal
 

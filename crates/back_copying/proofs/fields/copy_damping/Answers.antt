@@ -1,10 +1,7 @@
 -- `back_copying::fields::copy_damping` meets its contract.
 use mathlib.Core.Option.{some}
-use mathlib.Core.Path.{refl}
 use native.Mathlib.Omega.{arith}
-use Rattle.digits.specs.Numeral.{all}
 use Rattle.sheet.specs.Sheet.{dampings, split_damping}
-use Rattle.pieces.specs.Pieces.{word_like}
 use Rattle.fresh.specs.Fresh.{damping}
 use Rattle.back_copying.proofs.CopyLaws.{in_case, put-before}
 use Rattle.back_copying.proofs.fields.copy_damping.Goals as goal

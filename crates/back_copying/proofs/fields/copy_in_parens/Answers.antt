@@ -1,6 +1,4 @@
 -- `back_copying::fields::copy_in_parens` meets its contract.
-use mathlib.Core.Path.{refl}
-use Rattle.text.specs.Bytes.{one_of}
 use Rattle.fresh.specs.Fresh.{mark}
 use Rattle.back_copying.proofs.CopyLaws.{in_front, behind}
 use Rattle.back_copying.proofs.fields.copy_in_parens.Goals as goal

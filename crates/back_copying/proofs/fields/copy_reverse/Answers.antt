@@ -1,7 +1,5 @@
 -- `back_copying::fields::copy_reverse` meets its contract.
 use mathlib.Core.Path.{refl}
-use Rattle.digits.specs.Numeral.{all}
-use Rattle.pieces.specs.Pieces.{word_like}
 use Rattle.fresh.specs.Fresh.{spell, truth, field, only_true}
 use Rattle.back_copying.proofs.CopyLaws.{no_piece, one_piece, ◌and◌, called, read-put}
 use Rattle.back_copying.proofs.fields.copy_reverse.Goals as goal

@@ -2,8 +2,7 @@
 use borrow.Author.Tests.{eq-eqb, ne_eqb}
 use Rattle.digits.specs.Numeral.{counted}
 use mathlib.Core.Path.{refl}
-use Rattle.digits.specs.Numeral.{all}
-use Rattle.pieces.specs.Pieces.{a_numeral, word_like}
+use Rattle.pieces.specs.Pieces.{a_numeral}
 use Rattle.fresh.specs.Fresh.{u32, field, unless_is}
 use Rattle.back_copying.proofs.CopyLaws.{no_piece, one_piece, ◌and◌, called, read-put}
 use Rattle.back_copying.proofs.fields.copy_samples.Goals as goal

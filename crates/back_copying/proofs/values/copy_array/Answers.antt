@@ -1,6 +1,5 @@
 -- `back_copying::values::copy_array` meets its contract.
 use mathlib.Core.Path.{refl}
-use Rattle.text.specs.Bytes.{one_of}
 use Rattle.codec.specs.Codec.{each}
 use Rattle.sheet.specs.Sheet.{word}
 use Rattle.fresh.specs.Fresh.{mark, value}

@@ -1,6 +1,4 @@
 -- `back_copying::values::put_f32` meets its contract.
-use mathlib.Core.Path.{refl}
-use Rattle.text.specs.Bytes.{one_of}
 use Rattle.digits.specs.Numeral.{float}
 use Rattle.pieces.specs.Pieces.{a_numeral}
 use Rattle.fresh.specs.Fresh.{mark}

@@ -1,7 +1,4 @@
 -- `back_copying::values::put_truth` meets its contract.
-use mathlib.Core.Path.{refl}
-use Rattle.digits.specs.Numeral.{all}
-use Rattle.pieces.specs.Pieces.{word_like}
 use Rattle.fresh.specs.Fresh.{spell, truth}
 use Rattle.back_copying.proofs.CopyLaws.{one_piece}
 use Rattle.back_copying.proofs.values.put_truth.Goals as goal

@@ -1,8 +1,4 @@
 -- `back_easings::easings::copy_bezier` meets its contract.
-use mathlib.Core.Path.{refl}
-use Rattle.text.specs.Bytes.{one_of}
-use Rattle.digits.specs.Numeral.{all}
-use Rattle.pieces.specs.Pieces.{word_like}
 use Rattle.fresh.specs.Fresh.{mark, spell, easing}
 use Rattle.back_copying.proofs.CopyLaws.{in_front, behind, ◌then◌}
 use Rattle.back_easings.proofs.easings.copy_bezier.Goals as goal

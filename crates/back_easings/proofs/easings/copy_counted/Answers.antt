@@ -1,6 +1,4 @@
 -- `back_easings::easings::copy_counted` meets its contract.
-use mathlib.Core.Path.{refl}
-use Rattle.text.specs.Bytes.{one_of}
 use Rattle.pieces.specs.Pieces.{a_word}
 use Rattle.fresh.specs.Fresh.{mark}
 use Rattle.back_copying.proofs.CopyLaws.{in_front, behind}

@@ -1,8 +1,5 @@
 -- `back_easings::easings::copy_easing` meets its contract.
-use mathlib.Core.Path.{refl}
 use native.Mathlib.Omega.{arith}
-use Rattle.digits.specs.Numeral.{all}
-use Rattle.pieces.specs.Pieces.{word_like}
 use Rattle.fresh.specs.Fresh.{easing}
 use Rattle.back_easings.proofs.PairLaws.{easing-case}
 use Rattle.back_easings.proofs.easings.copy_easing.Goals as goal

@@ -1,9 +1,6 @@
 -- `back_easings::easings::copy_loop` meets its contract.
-use mathlib.Core.Path.{refl}
 use native.Mathlib.Omega.{arith}
-use Rattle.digits.specs.Numeral.{all}
 use Rattle.sheet.specs.Sheet.{loops, split_loop}
-use Rattle.pieces.specs.Pieces.{word_like}
 use Rattle.fresh.specs.Fresh.{spell, loop_mode}
 use Rattle.back_copying.proofs.CopyLaws.{one_piece, in_case}
 use Rattle.back_easings.proofs.PairLaws.{nothing_read}

@@ -1,8 +1,5 @@
 -- `back_easings::easings::copy_rough` meets its contract.
 use mathlib.Core.Path.{refl}
-use Rattle.text.specs.Bytes.{one_of}
-use Rattle.digits.specs.Numeral.{all}
-use Rattle.pieces.specs.Pieces.{word_like}
 use Rattle.fresh.specs.Meaning.{rough}
 use Rattle.fresh.specs.Fresh.{mark, spell, easing}
 use Rattle.back_copying.proofs.CopyLaws.{one_piece, ◌and◌, called}

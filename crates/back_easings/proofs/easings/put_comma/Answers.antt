@@ -1,6 +1,5 @@
 -- `back_easings::easings::put_comma` meets its contract.
 use mathlib.Core.Path.{refl}
-use Rattle.text.specs.Bytes.{one_of}
 use Rattle.fresh.specs.Fresh.{mark}
 use Rattle.back_copying.proofs.CopyLaws.{no_piece, one_piece, called}
 use Rattle.back_easings.proofs.easings.put_comma.Goals as goal

@@ -1,8 +1,5 @@
 -- `back_easings::easings::put_named` meets its contract.
-use mathlib.Core.Path.{refl}
-use Rattle.text.specs.Bytes.{one_of}
-use Rattle.digits.specs.Numeral.{all}
-use Rattle.pieces.specs.Pieces.{a_name, a_plain, word_like}
+use Rattle.pieces.specs.Pieces.{a_name, a_plain}
 use Rattle.fresh.specs.Fresh.{spell, easing}
 use Rattle.fresh.specs.Fresh as fresh
 use Rattle.back_copying.proofs.CopyLaws.{one_piece, ◌and◌}

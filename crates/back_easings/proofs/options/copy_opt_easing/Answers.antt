@@ -1,8 +1,6 @@
 -- `back_easings::options::copy_opt_easing` meets its contract.
 use mathlib.Core.Path.{refl}
-use Rattle.digits.specs.Numeral.{all}
 use Rattle.sheet.specs.Sheet.{easing_form}
-use Rattle.pieces.specs.Pieces.{word_like}
 use Rattle.fresh.specs.Meaning.{option_sense}
 use Rattle.fresh.specs.Fresh.{easing, field}
 use Rattle.back_copying.proofs.CopyLaws.{is_absent, is_present, put-before}

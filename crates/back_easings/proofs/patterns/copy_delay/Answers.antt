@@ -1,8 +1,6 @@
 -- `back_easings::patterns::copy_delay` meets its contract.
 use mathlib.Core.Path.{refl}
-use Rattle.digits.specs.Numeral.{all}
 use Rattle.sheet.specs.Sheet.{word}
-use Rattle.pieces.specs.Pieces.{word_like}
 use Rattle.back_copying.proofs.CopyLaws.{is_absent, is_present, put-before}
 use Rattle.back_easings.specs.Means.{delay_by}
 use Rattle.back_easings.proofs.patterns.copy_delay.Goals as goal

@@ -1,9 +1,7 @@
 -- `back_easings::patterns::copy_grid` meets its contract.
-use mathlib.Core.Path.{refl}
-use Rattle.text.specs.Bytes.{one_of}
-use Rattle.digits.specs.Numeral.{all, counted}
+use Rattle.digits.specs.Numeral.{counted}
 use Rattle.ast.specs.Tree.{grid}
-use Rattle.pieces.specs.Pieces.{a_numeral, word_like}
+use Rattle.pieces.specs.Pieces.{a_numeral}
 use Rattle.fresh.specs.Fresh.{mark, spell, u32, pattern}
 use Rattle.back_copying.proofs.CopyLaws.{one_piece, ◌and◌}
 use Rattle.back_easings.proofs.PairLaws.{three_read, grid_pairs}

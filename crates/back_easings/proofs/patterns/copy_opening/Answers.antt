@@ -1,7 +1,4 @@
 -- `back_easings::patterns::copy_opening` meets its contract.
-use mathlib.Core.Path.{refl}
-use Rattle.digits.specs.Numeral.{all}
-use Rattle.pieces.specs.Pieces.{word_like}
 use Rattle.fresh.specs.Fresh.{opening}
 use Rattle.back_easings.proofs.PairLaws.{opening_absent, opening_present}
 use Rattle.back_easings.proofs.patterns.copy_opening.Goals as goal

@@ -1,9 +1,6 @@
 -- `back_easings::patterns::copy_random` meets its contract.
 use mathlib.Core.Path.{refl}
-use Rattle.text.specs.Bytes.{one_of}
-use Rattle.digits.specs.Numeral.{all}
 use Rattle.ast.specs.Tree.{random}
-use Rattle.pieces.specs.Pieces.{word_like}
 use Rattle.fresh.specs.Fresh.{mark, spell, pattern}
 use Rattle.back_copying.proofs.CopyLaws.{one_piece, ◌and◌, called}
 use Rattle.back_easings.proofs.PairLaws.{three_read, no_number, tenth, three_pairs}

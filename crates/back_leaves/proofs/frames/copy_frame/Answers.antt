@@ -1,6 +1,4 @@
 -- `back_leaves::frames::copy_frame` meets its contract.
-use mathlib.Core.Path.{refl}
-use Rattle.text.specs.Bytes.{one_of}
 use Rattle.sheet.specs.Sheet.{to_entry, of_entry}
 use Rattle.fresh.specs.Fresh.{mark, frame}
 use Rattle.back_copying.proofs.CopyLaws.{behind, ◌then◌, made}

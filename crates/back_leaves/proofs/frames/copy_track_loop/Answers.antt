@@ -1,8 +1,6 @@
 -- `back_leaves::frames::copy_track_loop` meets its contract.
 use mathlib.Core.Path.{refl}
-use Rattle.digits.specs.Numeral.{all}
 use Rattle.sheet.specs.Sheet.{loop_form}
-use Rattle.pieces.specs.Pieces.{word_like}
 use Rattle.fresh.specs.Fresh.{track_loop}
 use Rattle.back_copying.proofs.CopyLaws.{◌and◌, is_absent, is_present, put-before}
 use Rattle.back_leaves.specs.Means.{loop_by}

@@ -1,6 +1,4 @@
 -- `back_leaves::frames::put_percentage` meets its contract.
-use mathlib.Core.Path.{refl}
-use Rattle.text.specs.Bytes.{one_of}
 use Rattle.digits.specs.Numeral.{percentage}
 use Rattle.pieces.specs.Pieces.{a_numeral}
 use Rattle.fresh.specs.Fresh.{mark}

@@ -1,6 +1,4 @@
 -- `back_leaves::leaves::copy_at` meets its contract.
-use mathlib.Core.Path.{refl}
-use Rattle.text.specs.Bytes.{one_of}
 use Rattle.ast.specs.Tree as Tree
 use Rattle.sheet.specs.Sheet.{to_at, of_at}
 use Rattle.fresh.specs.Fresh.{mark, leaf_body}

@@ -1,10 +1,7 @@
 -- `back_leaves::leaves::copy_draw` meets its contract.
 use mathlib.Core.Path.{refl}
-use Rattle.text.specs.Bytes.{one_of}
-use Rattle.digits.specs.Numeral.{all}
 use Rattle.ast.specs.Tree as Tree
 use Rattle.sheet.specs.Sheet.{to_draw, of_draw}
-use Rattle.pieces.specs.Pieces.{word_like}
 use Rattle.fresh.specs.Fresh.{mark, leaf_body}
 use Rattle.back_copying.proofs.CopyLaws.{behind, ◌then◌, made}
 use Rattle.back_leaves.specs.Means.{body}

@@ -1,10 +1,7 @@
 -- `back_leaves::leaves::copy_only_easing` meets its contract.
 use mathlib.Core.Option.{none}
 use mathlib.Core.Path.{refl}
-use Rattle.text.specs.Bytes.{one_of}
-use Rattle.digits.specs.Numeral.{all}
 use Rattle.sheet.specs.Sheet.{easing_form}
-use Rattle.pieces.specs.Pieces.{word_like}
 use Rattle.fresh.specs.Meaning.{option_sense}
 use Rattle.fresh.specs.Fresh.{mark, field, comma_if}
 use Rattle.back_copying.proofs.CopyLaws.{one_piece, ◌and◌, is_absent, is_present, put-before}

@@ -1,11 +1,8 @@
 -- `back_leaves::leaves::copy_path` meets its contract.
 use mathlib.Core.Path.{refl}
-use Rattle.text.specs.Bytes.{one_of}
-use Rattle.digits.specs.Numeral.{all}
 use Rattle.ast.specs.Tree as Tree
 use Rattle.codec.specs.Codec.{◌▹◌}
 use Rattle.sheet.specs.Sheet.{word, flag, loop_form, to_path, of_path}
-use Rattle.pieces.specs.Pieces.{word_like}
 use Rattle.fresh.specs.Fresh.{truth, offset, loop_mode, mark, spell, leaf_body}
 use Rattle.back_copying.proofs.CopyLaws.{field_put, behind, ◌then◌, made}
 use Rattle.back_leaves.specs.Means.{body}

@@ -2,10 +2,7 @@
 use mathlib.Core.List.{◌∷◌}
 use mathlib.Core.Option.{some}
 use mathlib.Core.Path.{refl}
-use Rattle.text.specs.Bytes.{one_of}
-use Rattle.digits.specs.Numeral.{all}
 use Rattle.sheet.specs.Sheet.{word}
-use Rattle.pieces.specs.Pieces.{word_like}
 use Rattle.fresh.specs.Meaning.{option_sense}
 use Rattle.fresh.specs.Fresh.{mark, f32, easing, field, comma_if}
 use Rattle.back_copying.proofs.CopyLaws.{in_front}

@@ -1,7 +1,6 @@
 -- `back_leaves::leaves::copy_spring` meets its contract.
 use mathlib.Core.Path.{refl}
 use native.Mathlib.Omega.{arith}
-use Rattle.text.specs.Bytes.{one_of}
 use Rattle.text.specs.Words.{entries}
 use Rattle.digits.specs.Numeral.{all}
 use Rattle.ast.specs.Tree as Tree

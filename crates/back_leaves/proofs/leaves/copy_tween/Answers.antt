@@ -1,10 +1,7 @@
 -- `back_leaves::leaves::copy_tween` meets its contract.
 use mathlib.Core.Path.{refl}
-use Rattle.text.specs.Bytes.{one_of}
-use Rattle.digits.specs.Numeral.{all}
 use Rattle.ast.specs.Tree as Tree
 use Rattle.sheet.specs.Sheet.{word, loop_form, to_tween, of_tween}
-use Rattle.pieces.specs.Pieces.{word_like}
 use Rattle.fresh.specs.Fresh.{f32, u32, loop_mode, mark, two, leaf_body}
 use Rattle.back_copying.proofs.CopyLaws.{field_put, behind, ◌then◌, made}
 use Rattle.back_leaves.specs.Means.{body}

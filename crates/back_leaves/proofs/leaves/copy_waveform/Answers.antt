@@ -1,11 +1,7 @@
 -- `back_leaves::leaves::copy_waveform` meets its contract.
-use mathlib.Core.List.{[]}
 use mathlib.Core.Path.{refl}
-use Rattle.text.specs.Bytes.{one_of}
-use Rattle.digits.specs.Numeral.{all}
 use Rattle.ast.specs.Tree as Tree
 use Rattle.sheet.specs.Sheet.{word, to_waveform, of_waveform}
-use Rattle.pieces.specs.Pieces.{word_like}
 use Rattle.fresh.specs.Fresh.{f32, u32, mark, choose, wave_names, leaf_body}
 use Rattle.back_copying.proofs.CopyLaws.{field_put, read-put, behind, ◌then◌, made}
 use Rattle.back_leaves.specs.Means.{body}
