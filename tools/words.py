@@ -4,40 +4,40 @@
 import os, re, sys
 
 LISTS = {
-    "NODES": "tween spring keyframes path morph draw color waveform preset label at sequence parallel group stagger",
-    "TWEEN_ROWS": "duration easing delay time_scale loop snap round reverse",
-    "SPRING_ROWS": "preset stiffness damping mass velocity epsilon integrator critically_damped overdamped underdamped",
-    "WAVEFORM_ROWS": "frequency amplitude phase duty_cycle seed smoothness duration",
-    "DRAW_ROWS": "duration easing",
-    "MORPH_ROWS": "samples duration easing",
-    "COLOR_ROWS": "duration space easing",
-    "PATH_ROWS": "duration easing auto_rotate offset loop",
-    "ROUGH_FIELDS": "strength points",
-    "SLOW_MO_FIELDS": "linear_ratio power",
-    "GRID_FIELDS": "cols rows origin",
-    "RANDOM_FIELDS": "seed min max",
-    "OPENING_FIELDS": "pattern delay",
-    "CURVES": "cubic_bezier steps wiggle rough slowmo",
-    "LOOP_MODES": "once forever ping_pong times",
-    "GROUP_MODES": "sequence parallel",
-    "GRID_ORIGINS": "top_left top_right bottom_left bottom_right center top bottom left right",
-    "PATTERNS": "grid random center_out edges_in",
-    "SPACES": "linear lab oklch",
-    "WAVEFORMS": "sine sawtooth square triangle noise",
-    "ALONG": "along",
-    "SPRING_PRESETS": "gentle wobbly stiff slow snappy",
-    "INTEGRATORS": "semi_implicit_euler rk4",
+    "Nodes": "tween spring keyframes path morph draw color waveform preset label at sequence parallel group stagger",
+    "TweenRows": "duration easing delay time_scale loop snap round reverse",
+    "SpringRows": "preset stiffness damping mass velocity epsilon integrator critically_damped overdamped underdamped",
+    "WaveformRows": "frequency amplitude phase duty_cycle seed smoothness duration",
+    "DrawRows": "duration easing",
+    "MorphRows": "samples duration easing",
+    "ColorRows": "duration space easing",
+    "PathRows": "duration easing auto_rotate offset loop",
+    "RoughFields": "strength points",
+    "SlowMoFields": "linear_ratio power",
+    "GridFields": "cols rows origin",
+    "RandomFields": "seed min max",
+    "OpeningFields": "pattern delay",
+    "Curves": "cubic_bezier steps wiggle rough slowmo",
+    "LoopModes": "once forever ping_pong times",
+    "GroupModes": "sequence parallel",
+    "GridOrigins": "top_left top_right bottom_left bottom_right center top bottom left right",
+    "Patterns": "grid random center_out edges_in",
+    "Spaces": "linear lab oklch",
+    "Waveforms": "sine sawtooth square triangle noise",
+    "Along": "along",
+    "SpringPresets": "gentle wobbly stiff slow snappy",
+    "Integrators": "semi_implicit_euler rk4",
     # the names that checking knows
-    "EASINGS": "linear ease_in_quad ease_out_quad ease_in_out_quad ease_in_cubic ease_out_cubic ease_in_out_cubic ease_in_quart"
+    "Easings": "linear ease_in_quad ease_out_quad ease_in_out_quad ease_in_cubic ease_out_cubic ease_in_out_cubic ease_in_quart"
     " ease_out_quart ease_in_out_quart ease_in_quint ease_out_quint ease_in_out_quint ease_in_sine ease_out_sine ease_in_out_sine"
     " ease_in_expo ease_out_expo ease_in_out_expo ease_in_circ ease_out_circ ease_in_out_circ ease_in_back ease_out_back"
     " ease_in_out_back ease_in_elastic ease_out_elastic ease_in_out_elastic ease_in_bounce ease_out_bounce ease_in_out_bounce",
-    "PRESETS": "fade_in fade_out slide_in slide_out scale_in scale_out bounce_in bounce_out modal_enter modal_exit drawer_open"
+    "Presets": "fade_in fade_out slide_in slide_out scale_in scale_out bounce_in bounce_out modal_enter modal_exit drawer_open"
     " drawer_close toast_enter toast_exit page_enter page_exit stagger_children loading_pulse loading_wave shake wiggle heartbeat"
     " float shimmer",
-    "COLORS": "black white red green blue yellow cyan magenta gray grey orange purple pink brown lime teal navy maroon olive silver"
+    "Colors": "black white red green blue yellow cyan magenta gray grey orange purple pink brown lime teal navy maroon olive silver"
     " aqua fuchsia",
-    "CSS_COLORS": "aliceblue antiquewhite aqua aquamarine azure beige bisque black blanchedalmond blue blueviolet brown burlywood"
+    "CssColors": "aliceblue antiquewhite aqua aquamarine azure beige bisque black blanchedalmond blue blueviolet brown burlywood"
     " cadetblue chartreuse chocolate coral cornflowerblue cornsilk crimson cyan darkblue darkcyan darkgoldenrod darkgray"
     " darkgreen darkgrey darkkhaki darkmagenta darkolivegreen darkorange darkorchid darkred darksalmon darkseagreen"
     " darkslateblue darkslategray darkslategrey darkturquoise darkviolet deeppink deepskyblue dimgray dimgrey dodgerblue"
@@ -80,21 +80,22 @@ class Group:
 
 
 class List:
-    def __init__(self, number, name, words):
-        self.number, self.name, self.words = number, name, words.split()
+    def __init__(self, name, words):
+        self.name, self.words = name, words.split()
         self.short, self.long, self.longest = ([(i, w) for i, w in enumerate(self.words) if len(w) // 8 == n] for n in range(3))
         assert all(len(w) < 24 for w in self.words) and len({tuple(parts(w)[:2]) for _, w in self.longest}) == len(self.longest)
         self.longs, self.longests = self.groups("long", self.long), self.groups("longest", self.longest)
 
     def stem(self, kind):
-        return f"{kind}_{self.name.lower()}"
+        """The name of a function over the list: the list's own in snake case behind a word."""
+        return kind + re.sub("([A-Z])", r"_\1", self.name).lower()
 
     def groups(self, kind, rows):
         firsts = list(dict.fromkeys(w[:8] for _, w in rows))
         return [Group(self.stem(kind), first, [(i, w) for i, w in rows if w[:8] == first]) for first in firsts]
 
 
-ALL = [List(i, name, words) for i, (name, words) in enumerate(LISTS.items())]
+ALL = [List(name, words) for name, words in LISTS.items()]
 SHORT = [l for l in ALL if len(l.short) > 1]
 LONG = [l for l in ALL if len(l.long) > 1]
 LONGEST = [l for l in ALL if l.longest]
@@ -108,28 +109,28 @@ def arms(rows):
 
 
 def short_function(l):
-    rows = [f"{pack(w):#x} => {i}, // {w}" for i, w in l.short]
-    return f"""fn short_{l.name.lower()}(v: u64) -> u8
-    ensures {{ result ≡ seek (keys_of {l.number}) 0 v }}
+    rows = [f"{pack(w):#x} => Some({i}), // {w}" for i, w in l.short]
+    return f"""fn {l.stem("short")}(v: u64) -> Option<u8>
+    ensures {{ result ≡ seek (keys_of List.{l.name}) 0 v }}
 {{
     match v {{
 {arms(rows)}
-        _ => NONE,
+        _ => None,
     }}
 }}
 """
 
 
 def long_group(l, g):
-    rows = [f"{parts(w)[1]:#x} => {i}, // {w}" for i, w in g.rows]
+    rows = [f"{parts(w)[1]:#x} => Some({i}), // {w}" for i, w in g.rows]
     return f"""// Behind `{g.first}`.
-fn {g.function}(rest: u64) -> u8
+fn {g.function}(rest: u64) -> Option<u8>
     requires {{ 1 ≤ rest }}
-    ensures {{ result ≡ seek (keys_of {l.number}) 0 (rest * {LIMB} + {g.number}) }}
+    ensures {{ result ≡ seek (keys_of List.{l.name}) 0 (rest * {LIMB} + {g.number}) }}
 {{
     match rest {{
 {arms(rows)}
-        _ => NONE,
+        _ => None,
     }}
 }}
 """
@@ -143,13 +144,13 @@ def long_arm(g):
 
 
 def long_function(l):
-    return f"""fn {l.stem("long")}(v: u64, rest: u64) -> u8
+    return f"""fn {l.stem("long")}(v: u64, rest: u64) -> Option<u8>
     requires {{ 1 ≤ rest }}
-    ensures {{ result ≡ seek (keys_of {l.number}) 0 (rest * {LIMB} + v) }}
+    ensures {{ result ≡ seek (keys_of List.{l.name}) 0 (rest * {LIMB} + v) }}
 {{
     match v {{
 {arms(map(long_arm, l.longs))}
-        _ => NONE,
+        _ => None,
     }}
 }}
 """
@@ -158,13 +159,13 @@ def long_function(l):
 def longest_group(l, g):
     rows = [f"{parts(w)[1]:#x} => if_equal(last, {parts(w)[2]:#x}, {i}), // {w}" for i, w in g.rows]
     return f"""// Behind `{g.first}`.
-fn {g.function}(rest: u64, last: u64) -> u8
+fn {g.function}(rest: u64, last: u64) -> Option<u8>
     requires {{ 1 ≤ last }}
-    ensures {{ result ≡ seek (keys_of {l.number}) 0 ((last * {LIMB} + rest) * {LIMB} + {g.number}) }}
+    ensures {{ result ≡ seek (keys_of List.{l.name}) 0 ((last * {LIMB} + rest) * {LIMB} + {g.number}) }}
 {{
     match rest {{
 {arms(rows)}
-        _ => NONE,
+        _ => None,
     }}
 }}
 """
@@ -178,13 +179,13 @@ def longest_arm(g):
 
 
 def longest_function(l):
-    return f"""fn {l.stem("longest")}(v: u64, rest: u64, last: u64) -> u8
+    return f"""fn {l.stem("longest")}(v: u64, rest: u64, last: u64) -> Option<u8>
     requires {{ 1 ≤ last }}
-    ensures {{ result ≡ seek (keys_of {l.number}) 0 ((last * {LIMB} + rest) * {LIMB} + v) }}
+    ensures {{ result ≡ seek (keys_of List.{l.name}) 0 ((last * {LIMB} + rest) * {LIMB} + v) }}
 {{
     match v {{
 {arms(map(longest_arm, l.longests))}
-        _ => NONE,
+        _ => None,
     }}
 }}
 """
@@ -192,24 +193,24 @@ def longest_function(l):
 
 def short_row(l):
     if l in SHORT:
-        return f"{l.number} => short_{l.name.lower()}(v),"
+        return f"List::{l.name} => {l.stem('short')}(v),"
     i, w = l.short[0]
-    return f"{l.number} => if_equal(v, {pack(w):#x}, {i}), // {w}"
+    return f"List::{l.name} => if_equal(v, {pack(w):#x}, {i}), // {w}"
 
 
 def long_row(l):
     if l in LONG:
-        return f"{l.number} => long_{l.name.lower()}(v, rest),"
+        return f"List::{l.name} => {l.stem('long')}(v, rest),"
     i, w = l.long[0]
-    return f"{l.number} => if_long(v, rest, {pack(w) % LIMB:#x}, {pack(w) // LIMB:#x}, {i}), // {w}"
+    return f"List::{l.name} => if_long(v, rest, {pack(w) % LIMB:#x}, {pack(w) // LIMB:#x}, {i}), // {w}"
 
 
 def longest_row(l):
-    return f"{l.number} => {l.stem('longest')}(v, rest, last),"
+    return f"List::{l.name} => {l.stem('longest')}(v, rest, last),"
 
 
 def code():
-    constants = "\n\n".join(f"pub const {l.name}: u8 = {l.number};" for l in ALL)
+    variants = "\n".join(f"    {l.name}," for l in ALL)
     functions = [short_function(l) for l in SHORT]
     for l in LONG:
         functions += [*(long_group(l, g) for g in l.longs if not g.alone), long_function(l)]
@@ -230,12 +231,11 @@ use packing::{{eight, if_equal, if_long, packed}};
 
 mod packing;
 
-// No place.
-pub const NONE: u8 = 255;
-
-// ---- the lists
-
-{constants}
+// The lists.
+#[derive(Clone, Copy, Debug, PartialEq, Eq)]
+pub enum List {{
+{variants}
+}}
 
 // ---- the words of a list of at most 7 bytes, of 8 to 15, and of 16 to 23
 
@@ -243,68 +243,61 @@ pub const NONE: u8 = 255;
 // ---- the words of any list
 
 // A word of at most 7 bytes.
-fn short(list: u8, v: u64) -> u8
+fn short(list: List, v: u64) -> Option<u8>
     ensures {{ result ≡ seek (keys_of list) 0 v }}
 {{
     match list {{
 {arms(short_row(l) for l in ALL if l.short)}
-        _ => NONE,
+        _ => None,
     }}
 }}
 
 // A word of 8 to 15 bytes: its first 8, and the others under a 1.
-fn long(list: u8, v: u64, rest: u64) -> u8
+fn long(list: List, v: u64, rest: u64) -> Option<u8>
     requires {{ 1 ≤ rest }}
     ensures {{ result ≡ seek (keys_of list) 0 (rest * {LIMB} + v) }}
 {{
     match list {{
 {arms(long_row(l) for l in ALL if l.long)}
-        _ => NONE,
+        _ => None,
     }}
 }}
 
 // A word of 16 to 23 bytes: twice 8, and the others under a 1.
-fn longest(list: u8, v: u64, rest: u64, last: u64) -> u8
+fn longest(list: List, v: u64, rest: u64, last: u64) -> Option<u8>
     requires {{ 1 ≤ last }}
     ensures {{ result ≡ seek (keys_of list) 0 ((last * {LIMB} + rest) * {LIMB} + v) }}
 {{
     match list {{
 {arms(map(longest_row, LONGEST))}
-        _ => NONE,
+        _ => None,
     }}
 }}
 
 // The place in a list of the word of n bytes at a place of a text.
-pub fn find(list: u8, text: &[u8], at: usize, n: usize) -> u8
+pub fn find(list: List, text: &[u8], at: usize, n: usize) -> Option<u8>
     requires {{ at + n ≤ length text.now }}
     ensures {{ place_is result ≡ find (list_of list) 0 (part text.now at n) }}
 {{
-    if n < 8 {{
-        return short(list, packed(text, at, n));
-    }}
-    if n < 16 {{
-        return long(list, eight(text, at), packed(text, at + 8, n - 8));
-    }}
-    if n < 24 {{
-        return longest(
+    match n {{
+        0..=7 => short(list, packed(text, at, n)),
+        8..=15 => long(list, eight(text, at), packed(text, at + 8, n - 8)),
+        16..=23 => longest(
             list,
             eight(text, at),
             eight(text, at + 8),
             packed(text, at + 16, n - 16),
-        );
+        ),
+        _ => None,
     }}
-    NONE
 }}
 
 // Whether the bytes of a text from a place, at most n, are a word of a list.
-pub fn holds(list: u8, text: &[u8], at: usize, n: usize) -> bool
+pub fn holds(list: List, text: &[u8], at: usize, n: usize) -> bool
     ensures {{ result ≡ is_some (find (list_of list) 0 (part text.now at n)) }}
 {{
     let size = text::part(text, at, n).len();
-    if size == 0 {{
-        return false;
-    }}
-    find(list, text, at, size) != NONE
+    size != 0 && find(list, text, at, size).is_some()
 }}
 """
 
@@ -321,19 +314,36 @@ def joined(names):
 
 
 def definition():
-    rows = "\n    ∷ ".join("words (" + joined([f'"{w}"' for w in l.words]) + ")" for l in ALL)
-    return f"""-- Made by tools/words.py. The lists of the grammar's words and of the names that checking knows, by their numbers.
-use Rattle.std.specs.Prelude.{{ℕ, List, [], ◌∷◌, get_or}}
+    rows = "\n".join("list_of list." + l.name + " =\n    words (" + joined([f'"{w}"' for w in l.words]) + ")" for l in ALL)
+    return f"""-- Made by tools/words.py. The lists of the grammar's words and of the names that checking knows.
+use Rattle.std.specs.Prelude.{{ℕ, List, [], ◌∷◌}}
 use Rattle.text.specs.Words.{{words}}
+use Rattle.words.specs.declared.List.{{List as WordList}}
+use Rattle.words.specs.declared.List.TheVariants as list
 
-abbrev pub lists : List (List (List ℕ))
-lists =
-    {rows}
-    ∷ []
+unfoldable pub list_of : WordList → List (List ℕ)
+{rows}
+"""
 
--- a number that is no list's has no words
-unfoldable pub list_of : ℕ → List (List ℕ)
-list_of k = get_or lists k []
+
+def numbers():
+    return f"""-- Made by tools/words.py. The lists in a row, and the place of each in it.
+use Prim.Native.Nat.{{ℕ}}
+use mathlib.Core.List.{{List, [], ◌∷◌}}
+use mathlib.Core.Path.{{◌≡◌, refl}}
+use lib.ListN.{{get_or}}
+use Rattle.words.specs.declared.List.{{List as WordList}}
+use Rattle.words.specs.declared.List.TheVariants as list
+
+abbrev pub all_lists : List WordList
+all_lists =
+    {joined([f"list.{l.name}" for l in ALL])}
+
+abbrev pub number : WordList → ℕ
+{chr(10).join(f"number list.{l.name} = {i}" for i, l in enumerate(ALL))}
+
+pub at_number : (k : WordList) → get_or all_lists (number k) list.Nodes ≡ k
+{chr(10).join(f"at_number list.{l.name} = refl" for l in ALL)}
 """
 
 
@@ -358,7 +368,8 @@ def laid(head, term):
     if not lets and len(f"{head} {term}") <= 140:
         return [f"{head} {term}"]
     lines, row = [head, *(f"    {bound} in" for bound in lets)], "   "
-    for part in re.findall(r"\([^()]*\)\)*|[^ ]+", term):
+    groups = re.findall(r"\([^()]*\)\)*|[^ ]+", term)
+    for part in (part for group in groups for part in (group.split() if len(group) > 130 else [group])):
         if len(row) + 1 + len(part) > 140:
             lines.append(row)
             row = "   "
@@ -369,6 +380,7 @@ def laid(head, term):
 def of_words(key, keys, every, laws):
     """The lines of import from this crate."""
     return [
+        "use Rattle.words.specs.declared.List.TheVariants as list",
         f"use Rattle.words.specs.ListMeans.{{{key}}}",
         f"use Rattle.words.specs.KeyMeans.{{{keys}}}",
         f"use Rattle.words.proofs.KeyLaws.{{{every}}}",
@@ -379,6 +391,7 @@ def of_words(key, keys, every, laws):
 TABLE = "list_of keys_of packs onto seek"
 REFL = "use mathlib.Core.Path.{refl}"
 ARITH = "use native.Mathlib.Omega.{arith}"
+RULES = "use Rattle.std.proofs.Common.{rules}"
 LIST = "use mathlib.Core.List.{[], ◌∷◌}"
 
 
@@ -397,10 +410,10 @@ LAST = "in_default"
 
 
 def short_proof(l):
-    answers = [(arm(pack(w)), TABLE, f'key_at (keys_of {l.number}) c.args.v {word(w)} {i} c.{arm(pack(w))}.is refl') for i, w in l.short]
-    answers.append((LAST, f"{TABLE} every one_of short_in shorts", f"no_key (keys_of {l.number}) c.args.v refl {REST} (omega arith)"))
+    answers = [(arm(pack(w)), TABLE, f'key_at (keys_of list.{l.name}) c.args.v {word(w)} {i} c.{arm(pack(w))}.is refl') for i, w in l.short]
+    answers.append((LAST, f"{TABLE} every one_of short_in shorts", f"no_key (keys_of list.{l.name}) c.args.v refl {REST} (omega arith)"))
     uses = [REFL, ARITH, bytes_of("bytes, one_of"), *of_words("list_of", "onto, pack, packs, keys_of, seek", "every", "short_in, shorts, key_at, no_key")]
-    return proof(f"short_{l.name.lower()}", "", uses, answers)
+    return proof(l.stem("short"), "", uses, answers)
 
 
 def called(rows):
@@ -429,11 +442,11 @@ def long_group_proof(l, g):
     answers = []
     for i, w in g.rows:
         at = arm(parts(w)[1])
-        answers.append((at, TABLE, f"tail_at (keys_of {l.number}) {g.number} c.args.rest {word(w)} {i} c.{at}.is refl refl"))
+        answers.append((at, TABLE, f"tail_at (keys_of list.{l.name}) {g.number} c.args.rest {word(w)} {i} c.{at}.is refl refl"))
     answers.append((
         LAST,
         f"{TABLE} every one_of middle tail_in tails",
-        f"{ARGS}no_tail middle (keys_of {l.number}) {g.number} args.rest (omega arith) (is_middle args.rest c.requires (omega arith)) refl {REST}",
+        f"{ARGS}no_tail middle (keys_of list.{l.name}) {g.number} args.rest (omega arith) (is_middle args.rest c.requires (omega arith)) refl {REST}",
     ))
     laws = of_words("list_of", "onto, pack, packs, keys_of, seek", "every", "middle, is_middle, tail_in, tails, tail_at, no_tail")
     return proof(g.function, "", [REFL, ARITH, bytes_of("bytes, one_of"), *laws], answers)
@@ -444,9 +457,9 @@ def long_proof(l):
     for g, (number, place) in zip(l.longs, called((g.number, "if_equal" if g.alone else g.function) for g in l.longs)):
         if g.alone:
             ((i, w),) = g.rows
-            term = f"word-at middle (keys_of {l.number}) {MIDDLE} {word(w)} {i} _ c.{arm(number)}.is c.{place}.ensures refl refl"
+            term = f"word-at middle (keys_of list.{l.name}) {MIDDLE} {word(w)} {i} _ c.{arm(number)}.is c.{place}.ensures refl refl"
             answers.append((arm(number), f"{TABLE} every one_of middle tail_in", ARGS + term))
-    answers.append((LAST, f"{TABLE} every one_of middle head_in heads", f"{ARGS}no_head middle (keys_of {l.number}) {MIDDLE} refl {REST}"))
+    answers.append((LAST, f"{TABLE} every one_of middle head_in heads", f"{ARGS}no_head middle (keys_of list.{l.name}) {MIDDLE} refl {REST}"))
     lone = any(g.alone for g in l.longs)
     laws = of_words(
         "list_of", f"onto, {'pack, ' * lone}packs, keys_of, seek", "every", f"middle, is_middle, {'tail_in, word-at, ' * lone}head_in, heads, no_head"
@@ -460,13 +473,13 @@ def longest_group_proof(l, g):
         answers.append((
             arm(number),
             f"{TABLE} every alone",
-            f"{ARGS}next-at (keys_of {l.number}) {g.number} args.rest args.last {word(w)} {i} _ (omega arith) (omega arith)"
+            f"{ARGS}next-at (keys_of list.{l.name}) {g.number} args.rest args.last {word(w)} {i} _ (omega arith) (omega arith)"
             f" refl c.{arm(number)}.is c.{place}.ensures refl refl",
         ))
     answers.append((
         LAST,
         f"{TABLE} every one_of far next_in nexts",
-        f"{ARGS}no_next (keys_of {l.number}) {g.number} args.rest args.last (omega arith) (omega arith) c.requires refl {REST}",
+        f"{ARGS}no_next (keys_of list.{l.name}) {g.number} args.rest args.last (omega arith) (omega arith) c.requires refl {REST}",
     ))
     laws = of_words("list_of", "onto, pack, packs, keys_of, seek", "every", "far, alone, next-at, next_in, nexts, no_next")
     return proof(g.function, "", [REFL, ARITH, bytes_of("bytes, one_of"), *laws], answers)
@@ -478,9 +491,9 @@ def longest_proof(l):
         if g.alone:
             ((i, w),) = g.rows
             given = f"(pair_is args.rest args.last {tail(w)} {i} _ (omega arith) c.{place}.ensures)"
-            term = f"word-at far (keys_of {l.number}) {FAR} {word(w)} {i} _ c.{arm(number)}.is {given} refl refl"
+            term = f"word-at far (keys_of list.{l.name}) {FAR} {word(w)} {i} _ c.{arm(number)}.is {given} refl refl"
             answers.append((arm(number), f"{TABLE} every one_of far tail_in", ARGS + term))
-    answers.append((LAST, f"{TABLE} every one_of far head_in heads", f"{ARGS}no_head far (keys_of {l.number}) {FAR} refl {REST}"))
+    answers.append((LAST, f"{TABLE} every one_of far head_in heads", f"{ARGS}no_head far (keys_of list.{l.name}) {FAR} refl {REST}"))
     lone = any(g.alone for g in l.longests)
     laws = of_words(
         "list_of",
@@ -492,50 +505,50 @@ def longest_proof(l):
     return proof(l.stem("longest"), "", uses, answers)
 
 
-def numbers(lists):
-    """The numbers of some lists, the last first."""
-    return " ∷ ".join(str(l.number) for l in reversed(lists)) + " ∷ []"
+def others(lists):
+    """Some lists. That a list is none of them, as the last arm of a `match` says it, is found."""
+    return "(" + " ∷ ".join(f"list.{l.name}" for l in lists) + " ∷ [])", "(search rules)"
 
 
 def any_short_proof():
     rows, answers = [l for l in ALL if l.short], []
-    for l, (number, place) in zip(rows, called((l.number, f"short_{l.name.lower()}" if l in SHORT else "if_equal") for l in rows)):
+    for l, (name, place) in zip(rows, called((l.name, l.stem("short") if l in SHORT else "if_equal") for l in rows)):
         if l not in SHORT:
             i, w = l.short[0]
-            one = f"one_key (keys_of {number}) c.args.v {word(w)} {i} refl refl (omega arith)"
-            answers.append((arm(number), f"{TABLE} every one_of short_in", f"by_number _ {number} _ _ c.{arm(number)}.is (c.{place}.ensures ∙ {one})"))
-    none = f"no_short ({numbers(rows)}) c.args.list {REST} c.args.v refl (omega arith)"
-    answers.append((LAST, "list_of packs onto every one_of short_in none_short every_list", none))
-    laws = of_words("list_of", "onto, pack, packs, keys_of, seek", "every", "short_in, none_short, every_list, one_key, no_short, by_number")
-    return proof("short", "", [LIST, "use mathlib.Core.Path.{refl, ◌∙◌}", ARITH, bytes_of("bytes, one_of"), *laws], answers)
+            one = f"one_key (keys_of list.{name}) c.args.v {word(w)} {i} refl refl (omega arith)"
+            answers.append((arm(name), f"{TABLE} every one_of short_in", f"by_list _ list.{name} _ _ c.{arm(name)}.is (c.{place}.ensures ∙ {one})"))
+    given, none = others(rows)
+    answers.append((LAST, "list_of packs onto every one_of short_in none_short every_list among", f"no_short {given} c.args.list {none} c.args.v refl (omega arith)"))
+    laws = of_words("list_of", "onto, pack, packs, keys_of, seek", "every", "short_in, none_short, every_list, among, one_key, no_short, by_list")
+    return proof("short", "", [LIST, "use mathlib.Core.Path.{refl, ◌∙◌}", ARITH, RULES, bytes_of("bytes, one_of"), *laws], answers)
 
 
 def any_long_proof():
     rows, answers = [l for l in ALL if l.long], []
-    for l, (number, place) in zip(rows, called((l.number, l.stem("long") if l in LONG else "if_long") for l in rows)):
+    for l, (name, place) in zip(rows, called((l.name, l.stem("long") if l in LONG else "if_long") for l in rows)):
         if l not in LONG:
             i, w = l.long[0]
-            one = f"(one_word middle (keys_of {number}) {MIDDLE} {word(w)} {i} _ c.{place}.ensures refl refl refl)"
-            answers.append((arm(number), f"{TABLE} every one_of middle tail_in head_in", f"{ARGS}by_number _ {number} _ _ c.{arm(number)}.is {one}"))
-    none = f"{ARGS}no_word ({numbers(rows)}) args.list {REST} middle {MIDDLE} refl"
-    answers.append((LAST, "list_of packs onto every one_of middle head_in none_from every_list", none))
+            one = f"(one_word middle (keys_of list.{name}) {MIDDLE} {word(w)} {i} _ c.{place}.ensures refl refl refl)"
+            answers.append((arm(name), f"{TABLE} every one_of middle tail_in head_in", f"{ARGS}by_list _ list.{name} _ _ c.{arm(name)}.is {one}"))
+    given, none = others(rows)
+    answers.append((LAST, "list_of packs onto every one_of middle head_in none_from every_list among", f"{ARGS}no_word {given} args.list {none} middle {MIDDLE} refl"))
     laws = of_words(
-        "list_of", "onto, pack, packs, keys_of, seek", "every", "middle, is_middle, tail_in, head_in, one_word, none_from, every_list, no_word, by_number"
+        "list_of", "onto, pack, packs, keys_of, seek", "every", "middle, is_middle, tail_in, head_in, one_word, none_from, every_list, among, no_word, by_list"
     )
-    return proof("long", "", [LIST, REFL, ARITH, bytes_of("bytes, one_of"), *laws], answers)
+    return proof("long", "", [LIST, REFL, ARITH, RULES, bytes_of("bytes, one_of"), *laws], answers)
 
 
 def any_longest_proof():
-    none = f"{ARGS}no_word ({numbers(LONGEST)}) args.list {REST} far {FAR} refl"
-    answers = [(LAST, "list_of packs onto every one_of far head_in none_from every_list", none)]
-    laws = of_words("list_of", "onto, packs", "every", "limb, far, is_far, head_in, none_from, every_list, no_word")
-    return proof("longest", "", ["use Prim.Native.Nat.{◌+◌, ◌*◌}", LIST, REFL, ARITH, bytes_of("one_of"), *laws], answers)
+    given, none = others(LONGEST)
+    answers = [(LAST, "list_of packs onto every one_of far head_in none_from every_list among", f"{ARGS}no_word {given} args.list {none} far {FAR} refl")]
+    laws = of_words("list_of", "onto, packs", "every", "limb, far, is_far, head_in, none_from, every_list, among, no_word")
+    return proof("longest", "", ["use Prim.Native.Nat.{◌+◌, ◌*◌}", LIST, REFL, ARITH, RULES, bytes_of("one_of"), *laws], answers)
 
 
 def files():
-    written = {f"{CRATE}/src/lib.rt": code(), f"{CRATE}/specs/ListMeans.antt": definition()}
+    written = {f"{CRATE}/src/lib.rt": code(), f"{CRATE}/specs/ListMeans.antt": definition(), f"{CRATE}/proofs/Lists.antt": numbers()}
     for l in SHORT:
-        written[f"{CRATE}/proofs/short_{l.name.lower()}/Answers.antt"] = short_proof(l)
+        written[f"{CRATE}/proofs/{l.stem('short')}/Answers.antt"] = short_proof(l)
     for l in LONG:
         written[f"{CRATE}/proofs/{l.stem('long')}/Answers.antt"] = long_proof(l)
         written |= {f"{CRATE}/proofs/{g.function}/Answers.antt": long_group_proof(l, g) for g in l.longs if not g.alone}

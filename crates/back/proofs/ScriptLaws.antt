@@ -7,6 +7,7 @@ use mathlib.Core.Option.{some}
 use mathlib.Core.Path.{◌≡◌, refl, sym, ◌∙◌, ap}
 use native.Mathlib.Nat.{zero-add, sub-zero}
 use native.Mathlib.Omega.{arith}
+use base.Fml.{GName}
 use lib.Dec.{leb}
 use lib.ListN.{length, length-append, set, take, drop, replicate}
 use lib.Seq.{sets, length-sets, sets-eq, take_at}
@@ -18,9 +19,8 @@ use Rattle.digits.proofs.NumeralLaws.{both}
 use Rattle.pieces.specs.Pieces.{Piece, spelt, spaced, joined, fits, all_fit}
 use Rattle.fresh.specs.Meaning.{Sense}
 use Rattle.fresh.specs.Fresh.{pieces}
-use Rattle.back_spelling.specs.Means.{Page, spoiled, full, page, size, spoil, most, put_on, put, run, page_of}
-use Rattle.back_spelling.specs.declared.Pen.{Pen}
-use Rattle.back_spelling.proofs.PageLaws.{size_of_lem, size-run, put_both}
+use Rattle.back_spelling.specs.Means.{Lent, Page, spoiled, full, page, lent, spoil, most, put_on, put, run, on_page}
+use Rattle.back_spelling.proofs.PageLaws.{lent_of_page, lent-run, put_both}
 use Rattle.back_copying.specs.Means.{Written}
 use Rattle.error.specs.declared.Refusal.TheVariants.{Unwritable, ScriptTooLong}
 use Rattle.error.specs.declared.CheckAnswer.TheVariants as check
@@ -73,7 +73,7 @@ put_unfit : (x : Piece) (p : Page) → fits form x ≡ false → put x p ≡ spo
 unfolding put
 put_unfit x p h = rw h
 
-put_spoiled : (x : Piece) (n : ℕ) → put x (spoiled n) ≡ spoiled n
+put_spoiled : (x : Piece) (n : Lent) → put x (spoiled n) ≡ spoiled n
 unfolding put put_on
 put_spoiled x n = go (fits form x)
   where
@@ -81,7 +81,7 @@ put_spoiled x n = go (fits form x)
     go true = refl
     go false = refl
 
-run_spoiled : (ps : List Piece) (n : ℕ) → run ps (spoiled n) ≡ spoiled n
+run_spoiled : (ps : List Piece) (n : Lent) → run ps (spoiled n) ≡ spoiled n
 unfolding run
 run_spoiled [] n = refl
 run_spoiled (x ∷ xs) n = ap (run xs) (put_spoiled x n) ∙ run_spoiled xs n
@@ -102,17 +102,17 @@ run_fit (x ∷ xs) p h e =
 abbrev sort : Page → ℕ
 sort (spoiled n) = 0
 sort (full n) = 1
-sort (page o n) = 2
+sort (page g o n) = 2
 
 abbrev bytes_on : Page → List ℕ
 bytes_on (spoiled n) = []
 bytes_on (full n) = []
-bytes_on (page o n) = o
+bytes_on (page g o n) = o
 
 abbrev place : Page → ℕ
 place (spoiled n) = 0
 place (full n) = 0
-place (page o n) = n
+place (page g o n) = n
 
 run_unfit : (ps : List Piece) (p : Page) → all_fit form ps ≡ false → sort (run ps p) ≡ 0
 unfolding run all_fit
@@ -122,12 +122,12 @@ run_unfit (x ∷ xs) p e = go (fits form x) refl e (run_unfit xs (put x p))
     go : (b : Bool) → fits form x ≡ b → (b && all_fit form xs) ≡ false → (all_fit form xs ≡ false → sort (run xs (put x p)) ≡ 0)
         → sort (run xs (put x p)) ≡ 0
     go true h q f = f q
-    go false h q f = ap sort (ap (run xs) (put_unfit x p h) ∙ run_spoiled xs (size p))
+    go false h q f = ap sort (ap (run xs) (put_unfit x p h) ∙ run_spoiled xs (lent p))
 
 -- what a pen that fits has is not spoiled
-sorted : (b : Bool) (o : List ℕ) (n m : ℕ) → 1 ≤ sort (cond b (page o n) (full m))
-sorted true o n m = omega arith
-sorted false o n m = omega arith
+sorted : (b : Bool) (g : GName) (o : List ℕ) (n : ℕ) (m : Lent) → 1 ≤ sort (cond b (page g o n) (full m))
+sorted true g o n m = omega arith
+sorted false g o n m = omega arith
 
 -- bytes over the start, of which the last may lie past the end
 take-set : (n : ℕ) (o : List ℕ) (b : ℕ) → take n (set o n b) ≡ take n o
@@ -141,83 +141,74 @@ first-bytes o u h =
     let b : sets o 0 u ≡ u ++ drop (length u) o = sets-eq u o 0 (rw zero-add h) ∙ (rw zero-add) in
     rw (a, take-set (length u) (sets o 0 u) 32, b) (take_at u (drop (length u) o) (length u) refl)
 
--- what a pen has of a page
-fit_page : (out : List ℕ) (c : Pen) → c.fits ≡ true → page_of out c ≡ cond (leb c.at most) (page out c.at) (full (length out))
-unfolding page_of
-fit_page out c f = rw f
-
-unfit_page : (out : List ℕ) (c : Pen) → c.fits ≡ false → page_of out c ≡ spoiled (length out)
-unfolding page_of
-unfit_page out c f = rw f
-
-put_page : (bs out : List ℕ) (n : ℕ)
-    → put_on bs (page out n) ≡ cond (leb (n + length bs) most) (page (sets out n bs) (n + length bs)) (full (length out))
+put_page : (g : GName) (bs out : List ℕ) (n : ℕ)
+    → put_on bs (page g out n) ≡ cond (leb (n + length bs) most) (page g (sets out n bs) (n + length bs)) (full (g, length out))
 unfolding put_on
-put_page bs out n = refl
+put_page g bs out n = refl
 
--- ---- what was written of the script of x: from the page `start` on the pen c has come to out
+-- ---- what was written of the script of x: from the page `start` on a pen has come to out
 
-module _ (start out : List ℕ) (c : Pen) (x : Sense) (w : Written (pieces x) (page start 0) (page_of out c)) where
+module _ (start out : List ℕ) (g : GName) (at : ℕ) (fit : Bool) (x : Sense) (w : Written (pieces x) (page g start 0) (on_page g out at fit)) where
   abbrev ps : List Piece
   ps = pieces x []
 
   abbrev bs : List ℕ
   bs = ended ps
 
-  came : run ps (page start 0) ≡ page_of out c
+  came : run ps (page g start 0) ≡ on_page g out at fit
   unfolding run
   came = w.is []
 
   l : length start ≡ length out
-  l = sym (size-run ps (page start 0)) ∙ ap size came ∙ size_of_lem out c
+  l = ap (λ (b : Lent). b.1) (sym (lent-run ps (page g start 0)) ∙ ap lent came ∙ lent_of_page g out at fit)
 
   -- the page with all of it
   abbrev ending : Page
-  ending = cond (leb (0 + length bs) most) (page (sets start 0 bs) (0 + length bs)) (full (length start))
+  ending = cond (leb (0 + length bs) most) (page g (sets start 0 bs) (0 + length bs)) (full (g, length start))
 
-  fit_came : all_fit form ps ≡ true → ending ≡ page_of out c
+  fit_came : all_fit form ps ≡ true → ending ≡ on_page g out at fit
   unfolding put_on
-  fit_came e = sym (put_page bs start 0) ∙ sym (run_fit ps (page start 0) refl e) ∙ came
+  fit_came e = sym (put_page g bs start 0) ∙ sym (run_fit ps (page g start 0) refl e) ∙ came
 
   -- 34
-  pub unwritable : c.fits ≡ false → refusal Unwritable 0 out ≡ written start x
+  pub unwritable : fit ≡ false → refusal Unwritable 0 out ≡ written start x
   unwritable h = go (all_fit form ps) refl
     where
       none_fits : all_fit form ps ≡ true → ⊥
       none_fits e =
-          let k : sort ending ≡ 0 = ap sort (fit_came e ∙ unfit_page out c h) in
-          let m = sorted (leb (0 + length bs) most) (sets start 0 bs) (0 + length bs) (length start) in
+          let k : sort ending ≡ 0 = ap sort (rw h at fit_came e) in
+          let m = sorted (leb (0 + length bs) most) g (sets start 0 bs) (0 + length bs) (g, length start) in
           omega (arith, k, m)
 
       go : (b : Bool) → all_fit form ps ≡ b → refusal Unwritable 0 out ≡ written start x
       go true e = absurd (none_fits e)
       go false e = rw (e, l)
 
-  module _ (f : c.fits ≡ true) where
+  module _ (f : fit ≡ true) where
     fitting : all_fit form ps ≡ true
     fitting = go (all_fit form ps) refl
       where
         go : (b : Bool) → all_fit form ps ≡ b → all_fit form ps ≡ true
         go true e = e
         go false e =
-            let k : sort (cond (leb c.at most) (page out c.at) (full (length out))) ≡ 0 =
-            ap sort (sym (fit_page out c f) ∙ sym came) ∙ run_unfit ps (page start 0) e in
-            let m = sorted (leb c.at most) out c.at (length out) in
+            let k : sort (cond (leb at most) (page g out at) (full (g, length out))) ≡ 0 =
+            ap sort (sym (rw f at came)) ∙ run_unfit ps (page g start 0) e in
+            let m = sorted (leb at most) g out at (g, length out) in
             absurd (omega (arith, k, m))
 
-    both_pages : ending ≡ cond (leb c.at most) (page out c.at) (full (length out))
-    both_pages = fit_came fitting ∙ fit_page out c f
+    both_pages : ending ≡ cond (leb at most) (page g out at) (full (g, length out))
+    both_pages = rw f at fit_came fitting
 
     -- the page is full where the script is too long
-    too_much : most < c.at → most < length bs
-    too_much h = go (leb (0 + length bs) most) refl (rw (lt-leb c.at most h) at both_pages)
+    too_much : most < at → most < length bs
+    too_much h = go (leb (0 + length bs) most) refl (rw (lt-leb at most h) at both_pages)
       where
         go : (b : Bool) → leb (0 + length bs) most ≡ b
-            → cond b (page (sets start 0 bs) (0 + length bs)) (full (length start)) ≡ full (length out) → most < length bs
+            → cond b (page g (sets start 0 bs) (0 + length bs)) (full (g, length start)) ≡ full (g, length out) → most < length bs
         go true e q = absurd (let k : ◌≡◌ {A = ℕ} 2 1 = ap sort q in omega (arith, k))
         go false e q = omega (arith, leb-false (0 + length bs) most e)
 
-    pub too_long : most < c.at → refusal ScriptTooLong 0 out ≡ written start x
+    pub too_long : most < at → refusal ScriptTooLong 0 out ≡ written start x
     too_long h = ⊎_elim none_there there (shape ps)
       where
         none_there : (bs ≡ []) × (joined form ps ≡ []) → refusal ScriptTooLong 0 out ≡ written start x
@@ -230,16 +221,16 @@ module _ (start out : List ℕ) (c : Pen) (x : Sense) (w : Written (pieces x) (p
             rw (fitting, lt-ltb text_limit (length (joined form ps)) n, l)
 
     -- else what is written are the script and a blank
-    pub all_there : c.at ≤ most → (sets start 0 bs ≡ out) × (length bs ≡ c.at)
-    all_there h = go (leb (0 + length bs) most) (rw (le-leb c.at most h) at both_pages)
+    pub all_there : at ≤ most → (sets start 0 bs ≡ out) × (length bs ≡ at)
+    all_there h = go (leb (0 + length bs) most) (rw (le-leb at most h) at both_pages)
       where
         go : (b : Bool)
-            → cond b (page (sets start 0 bs) (0 + length bs)) (full (length start)) ≡ page out c.at
-            → (sets start 0 bs ≡ out) × (length bs ≡ c.at)
+            → cond b (page g (sets start 0 bs) (0 + length bs)) (full (g, length start)) ≡ page g out at
+            → (sets start 0 bs ≡ out) × (length bs ≡ at)
         go true q = (ap bytes_on q, sym (zero-add (length bs)) ∙ ap place q)
         go false q = absurd (let k : ◌≡◌ {A = ℕ} 1 2 = ap sort q in omega (arith, k))
 
-    pub nothing_there : c.at ≡ 0 → (Accepted 0, replicate (length out) 0) ≡ written start x
+    pub nothing_there : at ≡ 0 → (Accepted 0, replicate (length out) 0) ≡ written start x
     nothing_there h = ⊎_elim none_there there (shape ps)
       where
         n : length bs ≡ 0
@@ -251,29 +242,29 @@ module _ (start out : List ℕ) (c : Pen) (x : Sense) (w : Written (pieces x) (p
         there : bs ≡ joined form ps ++ 32 ∷ [] → (Accepted 0, replicate (length out) 0) ≡ written start x
         there e = absurd (omega (arith, n, ap length e, length-append (joined form ps) (32 ∷ [])))
 
-    module _ (h : c.at ≤ most) (g : c.at ≡ 0 → ⊥) where
+    module _ (h : at ≤ most) (n : at ≡ 0 → ⊥) where
       -- the script, and its length
-      told : (bs ≡ joined form ps ++ 32 ∷ []) × (c.at ≡ length (joined form ps) + 1)
+      told : (bs ≡ joined form ps ++ 32 ∷ []) × (at ≡ length (joined form ps) + 1)
       told = ⊎_elim none_there there (shape ps)
         where
-          none_there : (bs ≡ []) × (joined form ps ≡ []) → (bs ≡ joined form ps ++ 32 ∷ []) × (c.at ≡ length (joined form ps) + 1)
-          none_there e = absurd (g (sym (all_there h).1 ∙ ap length e.0))
+          none_there : (bs ≡ []) × (joined form ps ≡ []) → (bs ≡ joined form ps ++ 32 ∷ []) × (at ≡ length (joined form ps) + 1)
+          none_there e = absurd (n (sym (all_there h).1 ∙ ap length e.0))
 
-          there : bs ≡ joined form ps ++ 32 ∷ [] → (bs ≡ joined form ps ++ 32 ∷ []) × (c.at ≡ length (joined form ps) + 1)
+          there : bs ≡ joined form ps ++ 32 ∷ [] → (bs ≡ joined form ps ++ 32 ∷ []) × (at ≡ length (joined form ps) + 1)
           there e = (e, omega (arith, (all_there h).1, ap length e, length-append (joined form ps) (32 ∷ [])))
 
-      pub no_space : length out < c.at - 1 → refusal ScriptTooLong 0 out ≡ written start x
+      pub no_space : length out < at - 1 → refusal ScriptTooLong 0 out ≡ written start x
       no_space k =
           let u : List ℕ = joined form ps in
           let a : length u ≤ text_limit = omega (arith, told.1) in
           let b : length start < length u = omega (arith, told.1, l) in
           rw (fitting, le-ltb text_limit (length u) a, lt-ltb (length start) (length u) b, l)
 
-      pub space : c.at - 1 ≤ length out
-          → (Accepted (c.at - 1), take (c.at - 1) out ++ replicate (length out - (c.at - 1)) 0) ≡ written start x
+      pub space : at - 1 ≤ length out
+          → (Accepted (at - 1), take (at - 1) out ++ replicate (length out - (at - 1)) 0) ≡ written start x
       space k =
           let u : List ℕ = joined form ps in
-          let n : c.at - 1 ≡ length u = omega (arith, told.1) in
+          let n : at - 1 ≡ length u = omega (arith, told.1) in
           let a : length u ≤ text_limit = omega (arith, told.1) in
           let b : length u ≤ length start = omega (arith, n, l) in
           let o : sets start 0 (u ++ 32 ∷ []) ≡ out = rw told.0 at (all_there h).0 in
@@ -300,9 +291,9 @@ module _ (list : ℕ) (t s out : List ℕ) where
   unfolding writing
   of_tree e d = rw (← e, d)
 
-  pub open_answer : {c m next : ℕ} {q : Page} → check.Accepted ≡ checking list t s → Reads (big 2) same s 0 c m
-      → NodesPut t s m c (page out 0) q next
-      → {r : LineAnswer} {after : List ℕ} → ((x : Sense) → Written (pieces x) (page out 0) q → (r, after) ≡ written out x)
+  pub open_answer : {c m next : ℕ} {b : GName} {q : Page} → check.Accepted ≡ checking list t s → Reads (big 2) same s 0 c m
+      → NodesPut t s m c (page b out 0) q next
+      → {r : LineAnswer} {after : List ℕ} → ((x : Sense) → Written (pieces x) (page b out 0) q → (r, after) ≡ written out x)
       → (r, after) ≡ writing list t s out
   open_answer e h g f =
       let o = the_tree e in

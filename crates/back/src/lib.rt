@@ -2,11 +2,12 @@
 #![tactic(auto)]
 
 ghost use Rattle.std.specs.Prelude.{◌≡◌, List, ℕ};
+ghost use Rattle.std.specs.Borrow.{GName};
 ghost use Rattle.error.specs.Answer.{line_values};
 ghost use Rattle.fresh.specs.Meaning.{Sense};
 ghost use Rattle.fresh.specs.Fresh.{pieces};
 ghost use Rattle.back_copying.specs.Means.{Written};
-ghost use Rattle.back_spelling.specs.Means.{page, page_of};
+ghost use Rattle.back_spelling.specs.Means.{page, on_page};
 ghost use Rattle.writing.specs.Back as Back;
 ghost use Rattle.writing.specs.Back.{written, writing};
 
@@ -21,13 +22,12 @@ fn refused(out: &mut [u8], refusal: Refusal, place: usize) -> LineAnswer
 }
 
 // What was written, or 34, or 35.
-fn finish(out: &mut [u8], pen: Pen) -> LineAnswer
-    ensures { (start : List ℕ) (x : Sense) → Written (pieces x) (page start 0) (page_of out.old pen) → (result, out.new) ≡ written start x }
+fn finish(out: &mut [u8], at: usize, fits: bool) -> LineAnswer
+    ensures { (start : List ℕ) (g : GName) (x : Sense) → Written (pieces x) (page g start 0) (on_page g out.old at fits) → (result, out.new) ≡ written start x }
 {
-    if !pen.fits {
+    if !fits {
         return refused(out, Refusal::Unwritable, 0);
     }
-    let at = pen.at;
     if at == 0 {
         sheet_encode::clear(out, 0);
         return LineAnswer::Accepted { length: 0 };
@@ -52,15 +52,10 @@ pub fn write(text: &[u8], sheet: &[u8], out: &mut [u8], list: u32) -> LineAnswer
         CheckAnswer::Refused { refusal, place } => refused(out, refusal, place),
         CheckAnswer::Accepted => {
             let head = sheet_decode::fields::take_field(sheet, 0, 2);
-            let w = back_nodes::copy_nodes(
-                text,
-                sheet,
-                head.next,
-                head.v as usize,
-                Pen { at: 0, fits: true },
-                out,
-            );
-            finish(out, w.pen)
+            let mut pen = Pen::new(out);
+            back_nodes::copy_nodes(text, sheet, head.next, head.v as usize, &mut pen);
+            let Pen { out, at, fits } = pen;
+            finish(out, at, fits)
         }
     }
 }

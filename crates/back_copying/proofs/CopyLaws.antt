@@ -9,7 +9,8 @@ use borrow.Author.Tests.{lt-leb, le-leb}
 use Rattle.codec.specs.Codec.{Form, ◌▹◌, via, opt, Case, FieldsAt, enum, big, sized, each}
 use Rattle.codec.proofs.Laws.{make_at}
 use Rattle.sheet_decode.specs.Means.{Reads, Number, same}
-use Rattle.sheet_decode.proofs.ReadLaws.{◌&◌, seen, through, counted, form_at, chosen, absent, present, each_none, each_next}
+use Rattle.sheet_decode.proofs.ReadLaws.{◌&◌, seen, through, counted, form_at, chosen, each_none, each_next}
+use Rattle.sheet_decode.proofs.ReadLaws as read
 use lib.ListN.{length}
 use Rattle.codec.specs.Codec.{below}
 use Rattle.text.specs.Bytes.{bytes, part}
@@ -20,10 +21,13 @@ use Rattle.sheet.specs.Sheet.{span_form}
 use Rattle.pieces.specs.Pieces.{Piece, a_word, a_numeral}
 use Rattle.ast.specs.Tree.{span_bytes}
 use Rattle.fresh.specs.Fresh.{Writer, mark, negative, minus_if, size_of, signed_by, f32, field}
-use Rattle.back_spelling.specs.Means.{Page, size, put, run, page_of}
+use Rattle.back_spelling.specs.Means.{Page, lent, put, run, page_of}
 use Rattle.back_spelling.specs.declared.Pen.{Pen}
-use Rattle.back_spelling.proofs.PageLaws.{size_of_lem, size-run}
+use Rattle.back_spelling.proofs.PageLaws.{same_buffer, lent-run}
 use Rattle.back_copying.specs.Means.{Written, Copies}
+use Rattle.back_copying.specs.WordMeans.{Step, FieldPut, absent, present}
+use denote.MutBor.{MutBor}
+
 
 -- the same page whatever follows
 same_page : {p q : List Piece → Page} → ((ps : List Piece) → p ps ≡ q ps) → p ≡ q
@@ -45,22 +49,20 @@ pub ◌and◌ : {w v : Writer} {p q r : Page} → Written w p q → Written v q 
 pub called : {w v : Writer} {p q : Page} → Written v p q → ((ps : List Piece) → w ps ≡ v ps) → Written w p q
 called {p = p} x h = record { is = λ ps. ap (λ (xs : List Piece). run xs p) (h ps) ∙ x.is ps }
 
--- ---- the buffer keeps its length
+-- ---- the buffer stays the same, and keeps its length
 
-pub written_kept : {w : Writer} {p q : Page} → Written w p q → size q ≡ size p
+pub written_kept : {w : Writer} {p q : Page} → Written w p q → lent q ≡ lent p
 unfolding run
-written_kept {w} {p} {q} x = ap size (sym (x.is [])) ∙ size-run (w []) p
+written_kept {w} {p} {q} x = ap lent (sym (x.is [])) ∙ lent-run (w []) p
 
-module _ (out after : List ℕ) (c d : Pen) where
-  length_of : size (page_of after d) ≡ size (page_of out c) → length after ≡ length out
-  length_of e = sym (size_of_lem after d) ∙ e ∙ size_of_lem out c
+module _ (c d : Pen) where
+  pub put_keeps : {w : Writer} → Written w (page_of c) (page_of d)
+      → (d.out.ghost_name ≡ c.out.ghost_name) × (length d.out.now ≡ length c.out.now)
+  put_keeps x = same_buffer c d (written_kept x)
 
-  pub put_keeps : {w : Writer} → Written w (page_of out c) (page_of after d) → length after ≡ length out
-  put_keeps x = length_of (written_kept x)
-
-  pub copy_keeps : {A : Type 0} {f : Form A} {w : A → Writer} {s : List ℕ} {at m : ℕ}
-      → Copies f w s at (page_of out c) (page_of after d) m → length after ≡ length out
-  copy_keeps y = length_of y.kept
+  pub copy_keeps : {A : Type 0} {f : Form A} {w : A → Writer} {s : List ℕ} {at m : ℕ} → Copies f w s at (page_of c) (page_of d) m
+      → (d.out.ghost_name ≡ c.out.ghost_name) × (length d.out.now ≡ length c.out.now)
+  copy_keeps y = same_buffer c d y.kept
 
 -- an f32 without a sign, and with one
 pub positive : (b : ℕ) → b < 2147483648 → (ps : List Piece) → f32 b ps ≡ a_numeral float b ∷ ps
@@ -144,11 +146,11 @@ module _ {B : Type 0} (cs : List (Case B)) (split : B → (i : ℕ) × FieldsAt 
 -- an optional value
 pub is_absent : {A : Type 0} (c : Form A) {s : List ℕ} {at m b : ℕ} {p : Page} (w : Option A → Writer)
     → Number (below 2) 2 s at b m → b ≡ 0 → ((ps : List Piece) → w none ps ≡ ps) → Copies (opt c) w s at p p m
-is_absent c {p = p} w r e h = record { reads = absent c r e (same_page (λ ps. ap (λ (xs : List Piece). run xs p) (h ps))); kept = refl }
+is_absent c {p = p} w r e h = record { reads = read.absent c r e (same_page (λ ps. ap (λ (xs : List Piece). run xs p) (h ps))); kept = refl }
 
 pub is_present : {A : Type 0} (c : Form A) {s : List ℕ} {at m k b : ℕ} {p q : Page} (w : Option A → Writer)
     → Number (below 2) 2 s at b m → (b ≡ 0 → ⊥) → Copies c (λ a. w (some a)) s m p q k → Copies (opt c) w s at p q k
-is_present c w r n y = record { reads = present c r n y.reads (λ a h. h); kept = y.kept }
+is_present c w r n y = record { reads = read.present c r n y.reads (λ a h. h); kept = y.kept }
 
 -- a size, then what has that size
 pub sized_copied : {A : Type 0} (size : A → ℕ) (c : ℕ → Form A) {w : A → Writer} {s : List ℕ} {at m k n : ℕ} {p q : Page}
@@ -183,6 +185,14 @@ pub present_field : {A : Type 0} (n : String) (w : A → Writer) (c : Form A) {n
     → Written (λ ps. a_word name ∷ mark ":" ∷ ps) p q → Copies c w s m q r k → Copies (opt c) (field n w) s at p r k
 present_field n w c r h e x y = is_present c (field n w) r h (under_name n w e x y)
 
+-- a field that may be absent, by what is told of the step that writes its value
+pub field_put : {A : Type 0} (n : String) (w : A → Writer) (c : Form A) {step : Step} {name s : List ℕ} {at next : ℕ} {p q : Pen} → bytes n ≡ name
+    → FieldPut name step s at p q next
+    → ((m k : ℕ) (o r : MutBor Pen) → step m o k r → Copies c w s m (page_of o.now) (page_of r.now) k)
+    → Copies (opt c) (field n w) s at (page_of p) (page_of q) next
+field_put n w c e (absent h z) f = absent_field n w c h z
+field_put n w c e (present o r h z x y) f = present_field n w c h z e x (f _ _ o r y)
+
 -- ---- so many of a form
 
 pub none_copied : {A : Type 0} (c : Form A) (ws : List A → Writer) (s : List ℕ) (at : ℕ) (p : Page) → ((ps : List Piece) → ws [] ps ≡ ps)
@@ -208,7 +218,7 @@ one_copied vs ws {p = p} j h y z = record {
 module _ {A : Type 0} (c : Form A) (ws : List A → Writer) (s : List ℕ) (at n : ℕ) (start : Page) where
   pub record Walked (p : Page) (a k : ℕ) : Type 0 where
     pub on : (q : Page) (m : ℕ) → Copies (each c (n - k)) ws s a p q m → Copies (each c n) ws s at start q m
-    pub kept : size p ≡ size start
+    pub kept : lent p ≡ lent start
 
   pub walk_start : Walked start at 0
   walk_start = record { on = λ q m y. let e : n - 0 ≡ n = omega arith in rw e at y; kept = refl }

@@ -4,23 +4,22 @@ use Rattle.codec.specs.Codec.{Form}
 use Rattle.sheet_decode.specs.Means.{Reads}
 use Rattle.pieces.specs.Pieces.{Piece}
 use Rattle.fresh.specs.Fresh.{Writer}
-use Rattle.back_spelling.specs.Means.{Page, size, run, page_of}
+use Rattle.back_spelling.specs.Means.{Page, lent, run, page_of}
 use Rattle.back_spelling.specs.declared.Pen.{Pen}
-use Rattle.back_copying.specs.declared.values.Copied.{Copied}
 
 -- the page p has become q: whatever pieces follow, those of the writer w in front of them have been put
 pub record Written (w : Writer) (p q : Page) : Type 0 where
   pub is : (ps : List Piece) → run (w ps) p ≡ run ps q
 
 -- at `at` the form reads a value, and the place behind it is `next`, and the value's pieces have been put; or none, and `next` is lost. The
--- buffer keeps its length
+-- buffer is the same, and keeps its length
 pub record Copies {A : Type 0} (c : Form A) (w : A → Writer) (s : List ℕ) (at : ℕ) (p q : Page) (next : ℕ) : Type 0 where
   pub reads : Reads {X = List Piece → Page} c (λ a ps. run (w a ps) p) s at (λ ps. run ps q) next
-  pub kept : size q ≡ size p
+  pub kept : lent q ≡ lent p
 
--- the same of the code's buffers and answers
-abbrev pub Puts : Writer → List ℕ → Pen → List ℕ → Pen → Type 0
-Puts w out c after d = Written w (page_of out c) (page_of after d)
+-- the same of the code's pens
+abbrev pub Puts : Writer → Pen → Pen → Type 0
+Puts w c d = Written w (page_of c) (page_of d)
 
-abbrev pub CopiesTo : {A : Type 0} → Form A → (A → Writer) → List ℕ → ℕ → List ℕ → Pen → List ℕ → Copied → Type 0
-CopiesTo c w s at out pen after r = Copies c w s at (page_of out pen) (page_of after r.pen) r.next
+abbrev pub CopiesTo : {A : Type 0} → Form A → (A → Writer) → List ℕ → ℕ → Pen → Pen → ℕ → Type 0
+CopiesTo c w s at pen after next = Copies c w s at (page_of pen) (page_of after) next

@@ -2,238 +2,179 @@
 ghost use Rattle.std.specs.Prelude.{◌^◌, ◌<◌, true, List, ◌∷◌, ◌≡◌, length};
 ghost use Rattle.std.proofs.Math.Option.{some};
 ghost use Rattle.text.specs.Bytes.{bytes};
-ghost use Rattle.text.specs.Words.{words, table};
+ghost use Rattle.text.specs.Words.{words};
 ghost use Rattle.codec.specs.Codec.{◌▹◌, below, opt};
 ghost use Rattle.sheet.specs.Sheet.{word, flag, value_form, damping_form};
 ghost use Rattle.pieces.specs.Pieces.{a_word, word_like};
 ghost use Rattle.fresh.specs.Fresh as fresh;
 ghost use Rattle.grammar.specs.Grammar.{space_names, space_default};
 ghost use Rattle.back_copying.specs.Means.{Puts, CopiesTo};
-ghost use Rattle.back_copying.specs.WordMeans.{Literal, all_words};
+ghost use Rattle.back_copying.specs.WordMeans.{Literal, FieldPut, texts, all_words};
 
-use crate::values::{Copied, copy_f32, copy_u32, copy_value, put_truth};
-use back_spelling::{Pen, put_count, put_mark, put_pair, put_word};
+use crate::values::copy_f32;
+use back_spelling::Pen;
 use sheet_decode::fields::{take_byte, take_field, take_flag};
 
-const SPACES: [u8; 17] = *b"\x06linear\x03lab\x05oklch";
+const SPACES: [&str; 3] = ["linear", "lab", "oklch"];
 
 // A field's name and its `:`.
-pub fn put_field(pen: Pen, out: &mut [u8], name: &[u8]) -> Pen
+pub fn put_field(pen: &mut Pen, name: &[u8])
     requires { word_like name.now ≡ true }
-    ensures { Puts (λ ps. a_word name.now ∷ fresh.mark ":" ∷ ps) out.old pen out.new result }
+    ensures { Puts (λ ps. a_word name.now ∷ fresh.mark ":" ∷ ps) pen.old pen.new }
 {
-    let p = put_word(pen, out, name);
-    put_mark(p, out, b':')
+    pen.put_word(name);
+    pen.put_mark(b':');
 }
 
 // A number under a name.
-pub fn copy_f32_field(s: &[u8], at: usize, pen: Pen, out: &mut [u8], name: &[u8]) -> Copied
+pub fn copy_f32_field(s: &[u8], at: usize, pen: &mut Pen, name: &[u8]) -> usize
     requires { word_like name.now ≡ true }
-    ensures { (n : Literal) → bytes n ≡ name.now → CopiesTo word (λ x. fresh.field n fresh.f32 (some x)) s.now at out.old pen out.new result }
+    ensures { (n : Literal) → bytes n ≡ name.now → CopiesTo word (λ x. fresh.field n fresh.f32 (some x)) s.now at pen.old pen.new result }
 {
-    let p = put_field(pen, out, name);
-    copy_f32(s, at, p, out)
+    put_field(pen, name);
+    copy_f32(s, at, pen)
 }
 
-pub fn copy_opt_f32(s: &[u8], at: usize, pen: Pen, out: &mut [u8], name: &[u8]) -> Copied
-    requires { word_like name.now ≡ true }
-    ensures { (n : Literal) → bytes n ≡ name.now → CopiesTo (opt word) (fresh.field n fresh.f32) s.now at out.old pen out.new result }
+// A field under a name that may be absent, whose value a step copies.
+pub fn copy_opt<F: FnOnce(&[u8], usize, &mut Pen) -> usize>(
+    s: &[u8],
+    at: usize,
+    pen: &mut Pen,
+    name: &[u8],
+    copy: F,
+) -> usize
+    requires named { word_like name.now ≡ true }
+    requires callable { F.IsAlwaysCallable copy }
+    ensures { FieldPut name.now (F.post copy s.entry) s.now at pen.old pen.new result }
 {
     let k = take_byte(s, at, 2);
     if k.v == 0 {
-        return Copied { next: k.next, pen };
+        return k.next;
     }
-    let p = put_field(pen, out, name);
-    copy_f32(s, k.next, p, out)
-}
-
-pub fn copy_opt_u32(s: &[u8], at: usize, pen: Pen, out: &mut [u8], name: &[u8]) -> Copied
-    requires { word_like name.now ≡ true }
-    ensures { (n : Literal) → bytes n ≡ name.now → CopiesTo (opt word) (fresh.field n fresh.u32) s.now at out.old pen out.new result }
-{
-    let k = take_byte(s, at, 2);
-    if k.v == 0 {
-        return Copied { next: k.next, pen };
-    }
-    let p = put_field(pen, out, name);
-    copy_u32(s, k.next, p, out)
-}
-
-// `auto_rotate`.
-pub fn copy_opt_flag(s: &[u8], at: usize, pen: Pen, out: &mut [u8], name: &[u8]) -> Copied
-    requires { word_like name.now ≡ true }
-    ensures { (n : Literal) → bytes n ≡ name.now → CopiesTo (opt flag) (fresh.field n fresh.truth) s.now at out.old pen out.new result }
-{
-    let k = take_byte(s, at, 2);
-    if k.v == 0 {
-        return Copied { next: k.next, pen };
-    }
-    let p = put_field(pen, out, name);
-    let x = take_flag(s, k.next);
-    Copied {
-        next: x.next,
-        pen: put_truth(p, out, x.v),
-    }
-}
-
-pub fn copy_opt_value(s: &[u8], at: usize, pen: Pen, out: &mut [u8], name: &[u8]) -> Copied
-    requires { word_like name.now ≡ true }
-    ensures { (n : Literal) → bytes n ≡ name.now → CopiesTo (opt value_form) (fresh.field n fresh.value) s.now at out.old pen out.new result }
-{
-    let k = take_byte(s, at, 2);
-    if k.v == 0 {
-        return Copied { next: k.next, pen };
-    }
-    let p = put_field(pen, out, name);
-    copy_value(s, k.next, p, out)
+    put_field(pen, name);
+    copy(s, k.next, pen)
 }
 
 // The word at a position of a table of words.
-pub fn put_choice(pen: Pen, out: &mut [u8], names: &[u8], position: usize) -> Pen
-    requires { (all_words (table names.now) ≡ true) × (position < length (table names.now)) × (length names.now < 2 ^ 16) }
-    ensures { (ns : List Literal) → words ns ≡ table names.now → Puts (fresh.choose ns position) out.old pen out.new result }
+pub fn put_choice(pen: &mut Pen, names: &[&str], position: usize)
+    requires { (all_words (texts names.now) ≡ true) × (position < length names.now) }
+    ensures { (ns : List Literal) → words ns ≡ texts names.now → Puts (fresh.choose ns position) pen.old pen.new }
 {
-    let mut at: usize = 0;
-    let mut k: usize = 0;
-    while k < position {
-        at = at + 1 + text::byte_at(names, at) as usize;
-        k += 1;
-    }
-    let size = text::byte_at(names, at) as usize;
-    put_word(pen, out, text::part(names, at + 1, size))
+    pen.put_word(names[position].as_bytes());
 }
 
-pub fn copy_opt_case(
-    s: &[u8],
-    at: usize,
-    pen: Pen,
-    out: &mut [u8],
-    name: &[u8],
-    names: &[u8],
-    n: u8,
-) -> Copied
-    requires { (word_like name.now ≡ true) × (all_words (table names.now) ≡ true) × (n ≡ length (table names.now)) × (0 < n) × (length names.now < 2 ^ 16) }
-    ensures { (f : Literal) (ns : List Literal) → bytes f ≡ name.now → words ns ≡ table names.now → CopiesTo (opt (below n)) (fresh.field f (fresh.choose ns)) s.now at out.old pen out.new result }
+fn copy_choice(s: &[u8], at: usize, pen: &mut Pen, names: &[&str]) -> usize
+    requires { (all_words (texts names.now) ≡ true) × (0 < length names.now) × (length names.now < 2 ^ 8) }
+    ensures { (ns : List Literal) → words ns ≡ texts names.now → CopiesTo (below (length names.now)) (fresh.choose ns) s.now at pen.old pen.new result }
+{
+    let x = take_byte(s, at, names.len() as u8);
+    put_choice(pen, names, x.v as usize);
+    x.next
+}
+
+pub fn copy_opt_case(s: &[u8], at: usize, pen: &mut Pen, name: &[u8], names: &[&str]) -> usize
+    requires { (word_like name.now ≡ true) × (all_words (texts names.now) ≡ true) × (0 < length names.now) × (length names.now < 2 ^ 8) }
+    ensures { (f : Literal) (ns : List Literal) → bytes f ≡ name.now → words ns ≡ texts names.now → CopiesTo (opt (below (length names.now))) (fresh.field f (fresh.choose ns)) s.now at pen.old pen.new result }
 {
     let k = take_byte(s, at, 2);
     if k.v == 0 {
-        return Copied { next: k.next, pen };
+        return k.next;
     }
-    let p = put_field(pen, out, name);
-    let x = take_byte(s, k.next, n);
-    Copied {
-        next: x.next,
-        pen: put_choice(p, out, names, x.v as usize),
-    }
+    put_field(pen, name);
+    copy_choice(s, k.next, pen, names)
 }
 
 // `offset`: two numbers with `..` between them.
-pub fn copy_opt_offset(s: &[u8], at: usize, pen: Pen, out: &mut [u8]) -> Copied
-    ensures { CopiesTo (opt (word ▹ word)) (fresh.field "offset" fresh.offset) s.now at out.old pen out.new result }
+pub fn copy_offset(s: &[u8], at: usize, pen: &mut Pen) -> usize
+    ensures { CopiesTo (word ▹ word) fresh.offset s.now at pen.old pen.new result }
 {
-    let k = take_byte(s, at, 2);
-    if k.v == 0 {
-        return Copied { next: k.next, pen };
-    }
-    let p = put_field(pen, out, b"offset");
-    let a = copy_f32(s, k.next, p, out);
-    let q = put_pair(a.pen, out, b'.', b'.');
-    copy_f32(s, a.next, q, out)
+    let next = copy_f32(s, at, pen);
+    pen.put_pair(b'.', b'.');
+    copy_f32(s, next, pen)
 }
 
 // A number in parentheses, and two.
-fn copy_in_parens(s: &[u8], at: usize, pen: Pen, out: &mut [u8]) -> Copied
-    ensures { CopiesTo word (λ x ps. fresh.mark "(" ∷ fresh.f32 x (fresh.mark ")" ∷ ps)) s.now at out.old pen out.new result }
+fn copy_in_parens(s: &[u8], at: usize, pen: &mut Pen) -> usize
+    ensures { CopiesTo word (λ x ps. fresh.mark "(" ∷ fresh.f32 x (fresh.mark ")" ∷ ps)) s.now at pen.old pen.new result }
 {
-    let p = put_mark(pen, out, b'(');
-    let a = copy_f32(s, at, p, out);
-    Copied {
-        next: a.next,
-        pen: put_mark(a.pen, out, b')'),
-    }
+    pen.put_mark(b'(');
+    let next = copy_f32(s, at, pen);
+    pen.put_mark(b')');
+    next
 }
 
-fn copy_two_in_parens(s: &[u8], at: usize, pen: Pen, out: &mut [u8]) -> Copied
-    ensures { CopiesTo (word ▹ word) (λ x ps. fresh.mark "(" ∷ fresh.f32 x.0 (fresh.mark "," ∷ fresh.f32 x.1 (fresh.mark ")" ∷ ps))) s.now at out.old pen out.new result }
+fn copy_two_in_parens(s: &[u8], at: usize, pen: &mut Pen) -> usize
+    ensures { CopiesTo (word ▹ word) (λ x ps. fresh.mark "(" ∷ fresh.f32 x.0 (fresh.mark "," ∷ fresh.f32 x.1 (fresh.mark ")" ∷ ps))) s.now at pen.old pen.new result }
 {
-    let p = put_mark(pen, out, b'(');
-    let a = copy_f32(s, at, p, out);
-    let q = put_mark(a.pen, out, b',');
-    let b = copy_f32(s, a.next, q, out);
-    Copied {
-        next: b.next,
-        pen: put_mark(b.pen, out, b')'),
-    }
+    pen.put_mark(b'(');
+    let next = copy_f32(s, at, pen);
+    pen.put_mark(b',');
+    let next = copy_f32(s, next, pen);
+    pen.put_mark(b')');
+    next
 }
 
 // A damping mode, a field under its own name.
-fn copy_damping(s: &[u8], at: usize, pen: Pen, out: &mut [u8]) -> Copied
-    ensures { CopiesTo damping_form (λ d. fresh.damping (some d)) s.now at out.old pen out.new result }
+fn copy_damping(s: &[u8], at: usize, pen: &mut Pen) -> usize
+    ensures { CopiesTo damping_form (λ d. fresh.damping (some d)) s.now at pen.old pen.new result }
 {
     let k = take_byte(s, at, 3);
     if k.v == 0 {
-        let p = put_field(pen, out, b"critically_damped");
-        return copy_in_parens(s, k.next, p, out);
+        put_field(pen, b"critically_damped");
+        return copy_in_parens(s, k.next, pen);
     }
     if k.v == 1 {
-        let p = put_field(pen, out, b"overdamped");
-        return copy_two_in_parens(s, k.next, p, out);
+        put_field(pen, b"overdamped");
+        return copy_two_in_parens(s, k.next, pen);
     }
-    let p = put_field(pen, out, b"underdamped");
-    copy_two_in_parens(s, k.next, p, out)
+    put_field(pen, b"underdamped");
+    copy_two_in_parens(s, k.next, pen)
 }
 
-pub fn copy_opt_damping(s: &[u8], at: usize, pen: Pen, out: &mut [u8]) -> Copied
-    ensures { CopiesTo (opt damping_form) fresh.damping s.now at out.old pen out.new result }
+pub fn copy_opt_damping(s: &[u8], at: usize, pen: &mut Pen) -> usize
+    ensures { CopiesTo (opt damping_form) fresh.damping s.now at pen.old pen.new result }
 {
     let k = take_byte(s, at, 2);
     if k.v == 0 {
-        return Copied { next: k.next, pen };
+        return k.next;
     }
-    copy_damping(s, k.next, pen, out)
+    copy_damping(s, k.next, pen)
 }
 
 // `samples`, whose absence reads to 32.
-pub fn copy_samples(s: &[u8], at: usize, pen: Pen, out: &mut [u8]) -> Copied
-    ensures { CopiesTo word (λ n. fresh.field "samples" fresh.u32 (fresh.unless_is 32 n)) s.now at out.old pen out.new result }
+pub fn copy_samples(s: &[u8], at: usize, pen: &mut Pen) -> usize
+    ensures { CopiesTo word (λ n. fresh.field "samples" fresh.u32 (fresh.unless_is 32 n)) s.now at pen.old pen.new result }
 {
     let x = take_field(s, at, 4);
     if x.v == 32 {
-        return Copied { next: x.next, pen };
+        return x.next;
     }
-    let p = put_field(pen, out, b"samples");
-    Copied {
-        next: x.next,
-        pen: put_count(p, out, x.v),
-    }
+    put_field(pen, b"samples");
+    pen.put_count(x.v);
+    x.next
 }
 
 // `reverse`, whose absence reads to false.
-pub fn copy_reverse(s: &[u8], at: usize, pen: Pen, out: &mut [u8]) -> Copied
-    ensures { CopiesTo flag (λ b. fresh.field "reverse" fresh.truth (fresh.only_true b)) s.now at out.old pen out.new result }
+pub fn copy_reverse(s: &[u8], at: usize, pen: &mut Pen) -> usize
+    ensures { CopiesTo flag (λ b. fresh.field "reverse" fresh.truth (fresh.only_true b)) s.now at pen.old pen.new result }
 {
     let x = take_flag(s, at);
     if x.v {
-        let p = put_field(pen, out, b"reverse");
-        return Copied {
-            next: x.next,
-            pen: put_word(p, out, b"true"),
-        };
+        put_field(pen, b"reverse");
+        pen.put_word(b"true");
     }
-    Copied { next: x.next, pen }
+    x.next
 }
 
 // `space`, whose absence reads to the first.
-pub fn copy_space(s: &[u8], at: usize, pen: Pen, out: &mut [u8]) -> Copied
-    ensures { CopiesTo (below 3) (λ k. fresh.field "space" (fresh.choose space_names) (fresh.unless_is space_default k)) s.now at out.old pen out.new result }
+pub fn copy_space(s: &[u8], at: usize, pen: &mut Pen) -> usize
+    ensures { CopiesTo (below 3) (λ k. fresh.field "space" (fresh.choose space_names) (fresh.unless_is space_default k)) s.now at pen.old pen.new result }
 {
     let x = take_byte(s, at, 3);
     if x.v == 0 {
-        return Copied { next: x.next, pen };
+        return x.next;
     }
-    let p = put_field(pen, out, b"space");
-    Copied {
-        next: x.next,
-        pen: put_choice(p, out, &SPACES, x.v as usize),
-    }
+    put_field(pen, b"space");
+    put_choice(pen, &SPACES, x.v as usize);
+    x.next
 }

@@ -1,35 +1,23 @@
-// Fields of a list that hold an easing or a loop mode.
+// A field of a list that holds an easing.
 ghost use Rattle.std.specs.Prelude.{length};
 ghost use Rattle.codec.specs.Codec.{opt};
-ghost use Rattle.sheet.specs.Sheet.{easing_form, loop_form};
+ghost use Rattle.sheet.specs.Sheet.{easing_form};
 ghost use Rattle.fresh.specs.Meaning.{option_sense};
 ghost use Rattle.fresh.specs.Fresh as fresh;
 ghost use Rattle.back_copying.specs.Means.{CopiesTo};
 
-use crate::easings::{copy_easing, copy_loop};
+use crate::easings::copy_easing;
 use back_copying::fields::put_field;
-use back_copying::values::Copied;
 use back_spelling::Pen;
 use sheet_decode::fields::take_byte;
 
-pub fn copy_opt_easing(text: &[u8], s: &[u8], at: usize, pen: Pen, out: &mut [u8]) -> Copied
-    ensures { CopiesTo (opt (easing_form (length text.now))) (λ o. fresh.field "easing" fresh.easing (option_sense text.now o)) s.now at out.old pen out.new result }
+pub fn copy_opt_easing(text: &[u8], s: &[u8], at: usize, pen: &mut Pen) -> usize
+    ensures { CopiesTo (opt (easing_form (length text.now))) (λ o. fresh.field "easing" fresh.easing (option_sense text.now o)) s.now at pen.old pen.new result }
 {
     let k = take_byte(s, at, 2);
     if k.v == 0 {
-        return Copied { next: k.next, pen };
+        return k.next;
     }
-    let p = put_field(pen, out, b"easing");
-    copy_easing(text, s, k.next, p, out)
-}
-
-pub fn copy_opt_loop(s: &[u8], at: usize, pen: Pen, out: &mut [u8]) -> Copied
-    ensures { CopiesTo (opt loop_form) (fresh.field "loop" fresh.loop_mode) s.now at out.old pen out.new result }
-{
-    let k = take_byte(s, at, 2);
-    if k.v == 0 {
-        return Copied { next: k.next, pen };
-    }
-    let p = put_field(pen, out, b"loop");
-    copy_loop(s, k.next, p, out)
+    put_field(pen, b"easing");
+    copy_easing(text, s, k.next, pen)
 }

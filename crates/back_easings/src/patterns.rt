@@ -11,102 +11,100 @@ ghost use Rattle.back_easings.specs.Means.{PairPut, delay_by};
 
 use crate::easings::{put_f32_unless, put_pair_name, put_u32_unless};
 use back_copying::fields::{put_choice, put_field};
-use back_copying::values::{Copied, copy_f32};
-use back_spelling::{Pen, put_count, put_mark, put_word};
+use back_copying::values::copy_f32;
+use back_spelling::Pen;
 use sheet_decode::fields::{take_byte, take_field};
 
-const ORIGINS: [u8; 73] =
-    *b"\x08top_left\x09top_right\x0bbottom_left\x0cbottom_right\x06center\x03top\x06bottom\x04left\x05right";
+const ORIGINS: [&str; 9] = [
+    "top_left",
+    "top_right",
+    "bottom_left",
+    "bottom_right",
+    "center",
+    "top",
+    "bottom",
+    "left",
+    "right",
+];
 
 // `origin`, whose absence reads to `center`.
-fn put_origin(pen: Pen, out: &mut [u8], origin: u8) -> Pen
+fn put_origin(pen: &mut Pen, origin: u8)
     requires { origin < 9 }
-    ensures { PairPut false (eqb origin origin_default) ("origin", fresh.choose origin_names origin) (page_of out.old pen) (page_of out.new result) }
+    ensures { PairPut false (eqb origin origin_default) ("origin", fresh.choose origin_names origin) (page_of pen.old) (page_of pen.new) }
 {
-    if origin == 4 {
-        return pen;
+    if origin != 4 {
+        put_pair_name(pen, false, b"origin");
+        put_choice(pen, &ORIGINS, origin as usize);
     }
-    put_choice(
-        put_pair_name(pen, out, false, b"origin"),
-        out,
-        &ORIGINS,
-        origin as usize,
-    )
 }
 
-fn copy_grid(s: &[u8], at: usize, pen: Pen, out: &mut [u8]) -> Copied
-    ensures { CopiesTo (word ▹ word ▹ below 9) (λ x. fresh.pattern (grid x.0 x.1.0 x.1.1)) s.now at out.old pen out.new result }
+fn copy_grid(s: &[u8], at: usize, pen: &mut Pen) -> usize
+    ensures { CopiesTo (word ▹ word ▹ below 9) (λ x. fresh.pattern (grid x.0 x.1.0 x.1.1)) s.now at pen.old pen.new result }
 {
     let cols = take_field(s, at, 4);
     let rows = take_field(s, cols.next, 4);
     let origin = take_byte(s, rows.next, 9);
-    let p = put_mark(put_word(pen, out, b"grid"), out, b'(');
-    let q = put_count(put_pair_name(p, out, true, b"cols"), out, cols.v);
-    let r = put_count(put_pair_name(q, out, false, b"rows"), out, rows.v);
-    let o = put_origin(r, out, origin.v);
-    Copied {
-        next: origin.next,
-        pen: put_mark(o, out, b')'),
-    }
+    pen.put_word(b"grid");
+    pen.put_mark(b'(');
+    put_pair_name(pen, true, b"cols");
+    pen.put_count(cols.v);
+    put_pair_name(pen, false, b"rows");
+    pen.put_count(rows.v);
+    put_origin(pen, origin.v);
+    pen.put_mark(b')');
+    origin.next
 }
 
 // Absence reads to 0, 0.0 and 0.1.
-fn copy_random(s: &[u8], at: usize, pen: Pen, out: &mut [u8]) -> Copied
-    ensures { CopiesTo (word ▹ word ▹ word) (λ x. fresh.pattern (random x.0 x.1.0 x.1.1)) s.now at out.old pen out.new result }
+fn copy_random(s: &[u8], at: usize, pen: &mut Pen) -> usize
+    ensures { CopiesTo (word ▹ word ▹ word) (λ x. fresh.pattern (random x.0 x.1.0 x.1.1)) s.now at pen.old pen.new result }
 {
     let seed = take_field(s, at, 4);
     let min = take_field(s, seed.next, 4);
     let max = take_field(s, min.next, 4);
-    let p = put_mark(put_word(pen, out, b"random"), out, b'(');
-    let q = put_u32_unless(p, out, true, b"seed", seed.v, 0);
-    let r = put_f32_unless(q, out, seed.v == 0, b"min", min.v, 0);
+    pen.put_word(b"random");
+    pen.put_mark(b'(');
+    put_u32_unless(pen, true, b"seed", seed.v, 0);
+    put_f32_unless(pen, seed.v == 0, b"min", min.v, 0);
     let first = (seed.v == 0) & (min.v == 0);
-    let o = put_f32_unless(r, out, first, b"max", max.v, 0x3dcccccd);
-    Copied {
-        next: max.next,
-        pen: put_mark(o, out, b')'),
-    }
+    put_f32_unless(pen, first, b"max", max.v, 0x3dcccccd);
+    pen.put_mark(b')');
+    max.next
 }
 
-fn copy_pattern(s: &[u8], at: usize, pen: Pen, out: &mut [u8]) -> Copied
-    ensures { CopiesTo pattern_form fresh.pattern s.now at out.old pen out.new result }
+fn copy_pattern(s: &[u8], at: usize, pen: &mut Pen) -> usize
+    ensures { CopiesTo pattern_form fresh.pattern s.now at pen.old pen.new result }
 {
     let k = take_byte(s, at, 4);
-    let case = k.v;
-    match case {
-        0 => copy_grid(s, k.next, pen, out),
-        1 => copy_random(s, k.next, pen, out),
-        2 => Copied {
-            next: k.next,
-            pen: put_word(pen, out, b"center_out"),
-        },
-        _ => Copied {
-            next: k.next,
-            pen: put_word(pen, out, b"edges_in"),
-        },
+    match k.v {
+        0 => return copy_grid(s, k.next, pen),
+        1 => return copy_random(s, k.next, pen),
+        2 => pen.put_word(b"center_out"),
+        _ => pen.put_word(b"edges_in"),
     }
+    k.next
 }
 
 // `delay`, with a `,` before it behind a pattern.
-fn copy_delay(s: &[u8], at: usize, pen: Pen, out: &mut [u8], first: bool) -> Copied
-    ensures { CopiesTo (opt word) (delay_by first) s.now at out.old pen out.new result }
+fn copy_delay(s: &[u8], at: usize, pen: &mut Pen, first: bool) -> usize
+    ensures { CopiesTo (opt word) (delay_by first) s.now at pen.old pen.new result }
 {
     let k = take_byte(s, at, 2);
     if k.v == 0 {
-        return Copied { next: k.next, pen };
+        return k.next;
     }
-    let p = put_pair_name(pen, out, first, b"delay");
-    copy_f32(s, k.next, p, out)
+    put_pair_name(pen, first, b"delay");
+    copy_f32(s, k.next, pen)
 }
 
-pub fn copy_opening(s: &[u8], at: usize, pen: Pen, out: &mut [u8]) -> Copied
-    ensures { CopiesTo (opt pattern_form ▹ opt word) (λ x. fresh.opening x.0 x.1) s.now at out.old pen out.new result }
+pub fn copy_opening(s: &[u8], at: usize, pen: &mut Pen) -> usize
+    ensures { CopiesTo (opt pattern_form ▹ opt word) (λ x. fresh.opening x.0 x.1) s.now at pen.old pen.new result }
 {
     let k = take_byte(s, at, 2);
     if k.v == 0 {
-        return copy_delay(s, k.next, pen, out, true);
+        return copy_delay(s, k.next, pen, true);
     }
-    let p = put_field(pen, out, b"pattern");
-    let x = copy_pattern(s, k.next, p, out);
-    copy_delay(s, x.next, x.pen, out, false)
+    put_field(pen, b"pattern");
+    let at = copy_pattern(s, k.next, pen);
+    copy_delay(s, at, pen, false)
 }

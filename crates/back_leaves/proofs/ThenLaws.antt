@@ -15,7 +15,7 @@ use Rattle.pieces.specs.Pieces.{Piece, a_name, a_numeral}
 use Rattle.fresh.specs.Meaning.{FrameSense}
 use Rattle.fresh.specs.Fresh.{wave_names, word_at}
 use Rattle.fresh.specs.Fresh.{Writer, mark, negative, minus_if, size_of, signed_by, time, frame, more_frames, track}
-use Rattle.back_spelling.specs.Means.{Page, size, run}
+use Rattle.back_spelling.specs.Means.{Page, lent, run}
 use Rattle.back_copying.specs.Means.{Copies}
 use Rattle.back_leaves.specs.Means.{frames_of, comma_frames, joined_frames, loop_by}
 
@@ -39,7 +39,7 @@ pub keyed-then : {A B K : Type 0} {c : Form A} {d : Form B} (key : A → K) (v :
     {s : List ℕ} {at m k : ℕ} {x : K} {p q r : Page}
     → ((a : A) (b : B) (ps : List Piece) → w (a, b) ps ≡ v a (u (key a) b ps))
     → Reads {X = K × (List Piece → Page)} c (λ a. (key a, λ ps. run (v a ps) p)) s at (x, λ ps. run ps q) m
-    → size q ≡ size p → Copies d (u x) s m q r k → Copies (c ▹ d) w s at p r k
+    → lent q ≡ lent p → Copies d (u x) s m q r k → Copies (c ▹ d) w s at p r k
 keyed-then {K = K} key v u w {x = x} {p = p} {q = q} {r = r} e y l z = record {
   reads = seen (y & z.reads) (λ a h. same_page (λ ps.
       ap (λ (xs : List Piece). run xs p) (e a.0 a.1 ps)

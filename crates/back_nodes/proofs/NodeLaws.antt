@@ -22,9 +22,9 @@ use Rattle.pieces.specs.Pieces.{Piece}
 use Rattle.fresh.specs.Fresh.{Writer, spell, mark, word_at, leaf_word, box_word, box_body, pieces}
 use Rattle.grammar.specs.Grammar.{mode_names}
 use Rattle.fresh.specs.Fresh as fresh
-use Rattle.back_spelling.specs.Means.{Page, put, run}
+use Rattle.back_spelling.specs.Means.{Page, lent, put, run}
 use Rattle.back_copying.specs.Means.{Written, Copies}
-use Rattle.back_copying.proofs.CopyLaws.{one_piece, ◌and◌, called, in_front}
+use Rattle.back_copying.proofs.CopyLaws.{one_piece, ◌and◌, called, in_front, written_kept}
 use Rattle.fresh.specs.Meaning.{leaf_sense, sense}
 use Rattle.back_leaves.specs.Means.{stored, body}
 use Rattle.back_nodes.specs.Means.{record_page, RecordTold, Begun, Placed, NodePut}
@@ -44,6 +44,10 @@ pub leaf_told : (t : List ℕ) (p : Page) {A : Type 0} {c : Form A} (l : A → L
 leaf_told t p l w b h e y =
     seen (b.start_at & (in_front (spell w) e y).reads)
     (λ z u. ap (λ (v : String). ((λ ps. run (spell v ∷ body t (l z.1) ps) p), kind.Leaf)) (h z.1) ∙ (λ i. ((u i).1, kind.Leaf)))
+
+pub leaf_kept : (x : Piece) (p : Page) {A : Type 0} {c : Form A} {w : A → Writer} {s : List ℕ} {at m : ℕ} {q r : Page}
+    → q ≡ put x p → Copies c w s at q r m → lent r ≡ lent p
+leaf_kept x p h y = y.kept ∙ written_kept (one_piece x h)
 
 -- ---- a container: its own fields, its count of nodes and its `{`
 
@@ -104,6 +108,7 @@ module _ (t : List ℕ) {s : List ℕ} {from start at k : ℕ} (b : KindAndStart
       reads = rw g.holds
           (of_kind 3 b e (b.start_at & counted t tree.sequence (called (one_piece _ w and one_piece _ g.puts) (λ ps. refl)) g.reads)
           (λ x u i. (u i).1));
+      kept = written_kept (one_piece _ w and one_piece _ g.puts);
     }
 
     pub parallel_told : k ≡ 4 → q ≡ put (spell "parallel") p → Begun s at q r h m → RecordTold t s from p r h m
@@ -112,6 +117,7 @@ module _ (t : List ℕ) {s : List ℕ} {from start at k : ℕ} (b : KindAndStart
       reads = rw g.holds
           (of_kind 4 b e (b.start_at & counted t tree.parallel (called (one_piece _ w and one_piece _ g.puts) (λ ps. refl)) g.reads)
           (λ x u i. (u i).1));
+      kept = written_kept (one_piece _ w and one_piece _ g.puts);
     }
 
   module _ {p q r : Page} {h : Kind} {n m : ℕ} where
@@ -127,6 +133,7 @@ module _ (t : List ℕ) {s : List ℕ} {from start at k : ℕ} (b : KindAndStart
           (after (below 2) (big 2) count_form blank counts) (with-count w g)
           (λ y u i. ((u i).0, (ap kind.Container (width-blank y.1) ∙ (λ j. (u j).1)) i)))
           (λ x u i. (u i).1));
+      kept = written_kept (one_piece _ g.puts) ∙ w.kept;
     }
 
     pub stagger_told : k ≡ 6 → Copies (opt pattern_form ▹ opt word) (λ x ps. spell "stagger" ∷ fresh.opening x.0 x.1 ps) s at p q n
@@ -145,6 +152,7 @@ module _ (t : List ℕ) {s : List ℕ} {from start at k : ℕ} (b : KindAndStart
           (grouped (opt pattern_form) (opt word) (big 2)) (with-count w g) (λ y u. u))
           (λ y u i. ((u i).0, (ap kind.Container (width-blank y.1.1) ∙ (λ j. (u j).1)) i)))
           (λ x u i. (u i).1));
+      kept = written_kept (one_piece _ g.puts) ∙ w.kept;
     }
 
 -- ---- a node: its record, then the nodes in it, a `}` and a `;`
@@ -242,12 +250,14 @@ module _ (t s : List ℕ) (p₀ : Page) where
   pub record Going (at count a : ℕ) (p : Page) (k : ℕ) : Type 0 where
     pub left : (d : ℕ) (ns : Forest) (h : Stands (forest (length t) (inner (length t) d) count) s at ns)
         → Left d (count - k) a p ns h.rest
+    pub kept : lent p ≡ lent p₀
 
   pub going_start : (at count : ℕ) → Going at count at p₀ 0
   going_start at count = record {
     left = λ d ns h.
         let e : count ≡ count - 0 = omega arith in
         subst (λ (j : ℕ). Left d j at p₀ ns h.rest) e (record { nodes = ns; stand = h; ends = refl; tells = λ q m y. y });
+    kept = refl;
   }
 
   module _ {at count a k : ℕ} {p : Page} (g : Going at count a p k) where
@@ -256,6 +266,7 @@ module _ (t s : List ℕ) (p₀ : Page) where
       left = λ d ns h.
           let e : count - k ≡ suc (count - (k + 1)) = omega arith in
           left_next (subst (λ (j : ℕ). Left d j a p ns h.rest) e (g.left d ns h)) w;
+      kept = w.kept ∙ g.kept;
     }
 
     pub going_done : count ≤ k → (d : ℕ) (ns : Forest) (h : Stands (forest (length t) (inner (length t) d) count) s at ns)

@@ -6,16 +6,14 @@ use Rattle.sheet.specs.Sheet.{Node, Forest, node_form, forest, inner}
 use Rattle.sheet_decode.specs.Means.{Reads, KindAndStart, same}
 use Rattle.sheet_records.specs.Means.{record_form, kind_view}
 use Rattle.sheet_records.specs.declared.Kind.{Kind}
-use Rattle.sheet_records.specs.declared.Kind.TheVariants.{Leaf, Container}
+use Rattle.sheet_records.specs.declared.Kind.TheVariants.{Container}
 use Rattle.sheet_nodes.specs.Means.{Stands}
 use Rattle.pieces.specs.Pieces.{Piece}
 use Rattle.fresh.specs.Meaning.{leaf_sense, sense}
 use Rattle.fresh.specs.Fresh.{Writer, spell, mark, leaf_word, box_word, box_body, pieces}
-use Rattle.back_spelling.specs.Means.{Page, put, run}
+use Rattle.back_spelling.specs.Means.{Page, lent, put, run}
 use Rattle.back_copying.specs.Means.{Written}
-use Rattle.back_copying.specs.declared.values.Copied.{Copied}
 use Rattle.back_leaves.specs.Means.{stored, body}
-use Rattle.back_nodes.specs.declared.RecordCopy.{RecordCopy}
 
 -- ---- a record
 
@@ -28,18 +26,16 @@ record_pieces t (holding p b ns) ps = spell (box_word b) ∷ box_body b (mark "{
 abbrev pub record_page : List ℕ → Page → Node → List Piece → Page
 record_page t p x ps = run (record_pieces t x ps) p
 
--- the page p has become q by the record at a place, whose kind and end are these
+-- the page p has become q by the record at a place, whose kind and end are these; the buffer is the same
 pub record RecordTold (t s : List ℕ) (at : ℕ) (p q : Page) (kind : Kind) (next : ℕ) : Type 0 where
   pub reads : Reads {X = (List Piece → Page) × Kind} (record_form (length t)) (λ x. (record_page t p x, kind_view x)) s at
       ((λ ps. run ps q), kind) next
+  pub kept : lent q ≡ lent p
 
 -- the same of the record whose kind and start stand before the place
 abbrev pub FieldsTold : List ℕ → List ℕ → ℕ → ℕ → Page → Page → Kind → ℕ → Type 0
 FieldsTold t s kind at p q k next =
     (from start : ℕ) → KindAndStart (length t) s from kind start at → RecordTold t s from p q k next
-
-abbrev pub leaf_of : Copied → RecordCopy
-leaf_of x = record { kind = Leaf; next = x.next; pen = x.pen }
 
 -- a container's count of nodes was read, and its `{` put
 pub record Begun (s : List ℕ) (at : ℕ) (p q : Page) (kind : Kind) (next : ℕ) : Type 0 where
@@ -62,9 +58,10 @@ pub record Placed (t s : List ℕ) (ns : Forest) (rest : List ℕ) (p q : Page) 
   pub behind : rest ≡ drop next s
   pub within : next ≤ length s
 
--- the same of whatever stands there in a form, at any depth of nesting
+-- the same of whatever stands there in a form, at any depth of nesting; the buffer is the same
 pub record Put {A : Type 0} (c : ℕ → Form A) (nodes : A → Forest) (t s : List ℕ) (at : ℕ) (p q : Page) (next : ℕ) : Type 0 where
   pub on : length s - next ≤ length s - at
+  pub kept : lent q ≡ lent p
   pub is : (d : ℕ) (a : A) (h : Stands (c d) s at a) → Placed t s (nodes a) h.rest p q next
 
 abbrev pub NodePut : List ℕ → List ℕ → ℕ → Page → Page → ℕ → Type 0

@@ -6,12 +6,14 @@ use mathlib.Core.Option.{Option, none, some}
 use mathlib.Core.Path.{◌≡◌, refl, sym, ap, ◌∙◌, subst}
 use native.Mathlib.Nat.{div-one, add-zero, lt_of_lt_of_le, pow-suc, mul_assoc, mul-pos, one-le-pow}
 use lib.Dec.{ltb, lit<, lit≤}
+use lib.ListN.{length}
 use borrow.Author.Tests.{le-ltb}
 use Rattle.digits.proofs.DigitLaws.{tenth_below}
 use native.Mathlib.Omega.{arith}
 use Rattle.digits.specs.Numeral.{float, percentage, counted, all, fraction}
 use Rattle.digits.specs.Fewest.{form, spelled, trimmed, fewest, least_percent, whole_digits, last_digits}
 use Rattle.digits.specs.AnswerMeans.{whole_number, number_of, Neat, decimal_of, whole_of}
+use Rattle.std.specs.Prelude.{Some, None}
 use Rattle.digits.specs.declared.Decimal.{Decimal}
 use Rattle.digits.proofs.NumeralLaws.{trim_same, same_low, same_whole, whole-limit}
 use Rattle.digits.proofs.FewestLaws.{fewest_of}
@@ -19,9 +21,9 @@ use Rattle.digits.proofs.PercentLaws.{percent_of}
 use Rattle.pieces.specs.Pieces.{a_numeral, spelt, fits}
 use Rattle.pieces.proofs.FitLaws.{is_fits}
 use Rattle.pieces.proofs.FormLaws.{float_fits, percent-fits, counted-fits}
-use Rattle.back_spelling.specs.Means.{Page, spoil, put_on, put, page_of, Spellable, Below, Large, put_number}
+use Rattle.back_spelling.specs.Means.{Page, spoiled, spoil, put_on, put, page_of, Spellable, Below, Large, put_number}
 use Rattle.back_spelling.specs.declared.Pen.{Pen}
-use Rattle.back_spelling.proofs.PageLaws.{size_of_lem, put_both}
+use Rattle.back_spelling.proofs.PageLaws.{lent_of_lem, put_both}
 
 -- ---- where nothing is found, it does not fit
 
@@ -100,16 +102,12 @@ count-put n p h e f =
 
 -- ---- a number that may be there
 
-pub not_found : (d : Decimal) (at : ℕ) (out : List ℕ) (c : Pen) → d.found ≡ false
-    → page_of out (record { at = at; fits = false }) ≡ put_number (number_of d) (page_of out c)
-not_found d at out c h = rw (h, size_of_lem out c) (unfold page_of in refl)
+pub not_found : (c : Pen) → spoiled (c.out.ghost_name, length c.out.now) ≡ put_number (number_of None) (page_of c)
+not_found c = rw (lent_of_lem c) refl
 
-module _ (d : Decimal) (s : Spellable (number_of d)) (h : d.found ≡ true) where
-  found_some : number_of d ≡ some (whole_number d, d.places)
-  found_some = rw h refl
-
+module _ (d : Decimal) (s : Spellable (number_of (Some d))) where
   pub found_below : Below d
-  found_below = (subst Spellable found_some s).1
+  found_below = s.1
 
   -- the digits behind the point are those of the lowest part
   low_digits : Neat d → last_digits d.places d.n ≡ last_digits d.places (whole_number d)
@@ -121,14 +119,13 @@ module _ (d : Decimal) (s : Spellable (number_of d)) (h : d.found ≡ true) wher
 
   pub found-put : Neat d → (p : Page) {q r o : Page} → q ≡ put_on (whole_digits 39 (whole_number d / 10 ^ d.places)) p
       → r ≡ put_on (fraction (last_digits d.places d.n)) q → o ≡ put_on (32 ∷ []) r
-      → o ≡ put_number (number_of d) p
+      → o ≡ put_number (number_of (Some d)) p
   found-put k p {q = q} f g i =
       let w = whole_digits 39 (whole_number d / 10 ^ d.places) in
       let v = fraction (last_digits d.places (whole_number d)) in
       i
       ∙ ap (put_on (32 ∷ []))
       (g ∙ ap (λ (x : List ℕ). put_on (fraction x) q) (low_digits k) ∙ ap (put_on v) f ∙ put_both w v p)
-      ∙ ap (λ (x : Option (ℕ × ℕ)). put_number x p) (sym found_some)
 
 -- ---- the digits before the point
 

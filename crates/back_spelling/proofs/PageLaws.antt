@@ -3,6 +3,7 @@ use Prim.Native.Nat.{ℕ, zero, suc, ◌+◌, ◌-◌, ◌*◌, ◌/◌, ◌%◌
 use mathlib.Core.Bool.{Bool, true, false, cond, ◌&&◌, ◌||◌, not}
 use mathlib.Core.List.{List, [], ◌∷◌, ◌++◌}
 use mathlib.Core.Path.{◌≡◌, refl, sym, ap, ◌∙◌}
+use base.Fml.{GName}
 use native.Mathlib.Omega.{arith}
 use native.Mathlib.Nat.{pow-suc}
 use native.Mathlib.Numerals.{add-one}
@@ -10,6 +11,11 @@ use lib.Dec.{leb, eqb}
 use lib.ListN.{length, length-append, length-set, drop, get_or, drop_of_length-le}
 use lib.Seq.{sets, drop-cons, length-sets}
 use borrow.Author.Tests.{lt-ltb, le-ltb, le-leb, lt-leb, leb-true, leb-false, eqb-true, eqb-false, eq-eqb, ne_eqb}
+use denote.Bor.{Bor}
+use mathlib.Core.Option.{some}
+use Rattle.std.specs.Prelude.{map}
+use Rattle.std.specs.List.{list_any}
+use Rattle.text.specs.Words.{is_some, find}
 use Rattle.text.proofs.WriteLaws.{sets_append}
 use Rattle.text.specs.Bytes as bytes
 use Rattle.text.specs.Bytes.{at, is_letter, is_digit, is_name}
@@ -17,65 +23,71 @@ use Rattle.digits.specs.Numeral.{all, fraction}
 use Rattle.digits.specs.Fewest.{form, whole_digits, last_digits}
 use Rattle.pieces.specs.Pieces.{Piece, spelt, fits, word_like, name_like}
 use Rattle.token.specs.Names.{is_keyword}
-use Rattle.back_spelling.specs.Means.{Page, spoiled, full, page, size, spoil, most, put_on, put, run, page_of}
+use Rattle.back_spelling.specs.Means.{Lent, Page, spoiled, full, page, lent, spoil, most, put_on, put, run, on_page, page_of}
 use Rattle.back_spelling.specs.declared.Pen.{Pen}
 
-abbrev pen : ℕ → Bool → Pen
-pen at b = record { at = at; fits = b }
+-- ---- the buffer stays the same
 
--- ---- the buffer keeps its length
-
-pub size_of_lem : (out : List ℕ) (c : Pen) → size (page_of out c) ≡ length out
-unfolding page_of
-size_of_lem out c = go c.fits (leb c.at most)
+pub lent_of_page : (g : GName) (out : List ℕ) (at : ℕ) (fits : Bool) → lent (on_page g out at fits) ≡ (g, length out)
+lent_of_page g out at fits = go fits (leb at most)
   where
-    go : (x y : Bool) → size (cond x (cond y (page out c.at) (full (length out))) (spoiled (length out))) ≡ length out
+    go : (x y : Bool) → lent (cond x (cond y (page g out at) (full (g, length out))) (spoiled (g, length out))) ≡ (g, length out)
     go false y = refl
     go true false = refl
     go true true = refl
 
-size-put_on : (bs : List ℕ) (p : Page) → size (put_on bs p) ≡ size p
+pub lent_of_lem : (c : Pen) → lent (page_of c) ≡ (c.out.ghost_name, length c.out.now)
+unfolding page_of
+lent_of_lem c = lent_of_page c.out.ghost_name c.out.now c.at c.fits
+
+lent-put_on : (bs : List ℕ) (p : Page) → lent (put_on bs p) ≡ lent p
 unfolding put_on
-size-put_on bs (spoiled n) = refl
-size-put_on bs (full n) = refl
-size-put_on bs (page out at) = go (leb (at + length bs) most)
+lent-put_on bs (spoiled n) = refl
+lent-put_on bs (full n) = refl
+lent-put_on bs (page g out at) = go (leb (at + length bs) most)
   where
-    go : (x : Bool) → size (cond x (page (sets out at bs) (at + length bs)) (full (length out))) ≡ length out
-    go true = length-sets out at bs
+    go : (x : Bool) → lent (cond x (page g (sets out at bs) (at + length bs)) (full (g, length out))) ≡ (g, length out)
+    go true = ap (λ (n : ℕ). (g, n)) (length-sets out at bs)
     go false = refl
 
-size-put : (x : Piece) (p : Page) → size (put x p) ≡ size p
+lent-put : (x : Piece) (p : Page) → lent (put x p) ≡ lent p
 unfolding put
-size-put x p = go (fits form x)
+lent-put x p = go (fits form x)
   where
-    go : (b : Bool) → size (cond b (put_on (spelt form x ++ 32 ∷ []) p) (spoil p)) ≡ size p
-    go true = size-put_on (spelt form x ++ 32 ∷ []) p
+    go : (b : Bool) → lent (cond b (put_on (spelt form x ++ 32 ∷ []) p) (spoil p)) ≡ lent p
+    go true = lent-put_on (spelt form x ++ 32 ∷ []) p
     go false = refl
 
-pub size-run : (ps : List Piece) (p : Page) → size (run ps p) ≡ size p
+pub lent-run : (ps : List Piece) (p : Page) → lent (run ps p) ≡ lent p
 unfolding run
-size-run [] p = refl
-size-run (x ∷ xs) p = size-run xs (put x p) ∙ size-put x p
+lent-run [] p = refl
+lent-run (x ∷ xs) p = lent-run xs (put x p) ∙ lent-put x p
+
+-- a buffer that is as long, reached by the same reference
+pub same_buffer : (c d : Pen) → lent (page_of d) ≡ lent (page_of c) → (d.out.ghost_name ≡ c.out.ghost_name) × (length d.out.now ≡ length c.out.now)
+same_buffer c d e =
+    let h = sym (lent_of_lem d) ∙ e ∙ lent_of_lem c in
+    (ap (λ (b : Lent). b.0) h, ap (λ (b : Lent). b.1) h)
 
 -- ---- bytes behind bytes
 
 -- there is room for the bytes bs
-pub with_room : (at : ℕ) (b : Bool) (out bs : List ℕ) → leb (at + length bs) most ≡ true
-    → page_of (sets out at bs) (pen (at + length bs) b) ≡ put_on bs (page_of out (pen at b))
-unfolding put_on page_of
-with_room at false out bs h = ap spoiled (length-sets out at bs)
-with_room at true out bs h =
+pub with_room : (g : GName) (at : ℕ) (b : Bool) (out bs : List ℕ) → leb (at + length bs) most ≡ true
+    → on_page g (sets out at bs) (at + length bs) b ≡ put_on bs (on_page g out at b)
+unfolding put_on
+with_room g at false out bs h = ap (λ (n : ℕ). spoiled (g, n)) (length-sets out at bs)
+with_room g at true out bs h =
     let k : leb at most ≡ true = le-leb at most (omega (arith, leb-true (at + length bs) most h)) in
     rw (h, k, h)
 
 -- there is none
-pub no_room : (at : ℕ) (b : Bool) (out bs : List ℕ) → leb (at + length bs) most ≡ false
-    → page_of out (pen (suc most) b) ≡ put_on bs (page_of out (pen at b))
-unfolding put_on page_of
-no_room at false out bs h = refl
-no_room at true out bs h = go (leb at most)
+pub no_room : (g : GName) (at : ℕ) (b : Bool) (out bs : List ℕ) → leb (at + length bs) most ≡ false
+    → on_page g out (suc most) b ≡ put_on bs (on_page g out at b)
+unfolding put_on
+no_room g at false out bs h = refl
+no_room g at true out bs h = go (leb at most)
   where
-    go : (x : Bool) → full (length out) ≡ put_on bs (cond x (page out at) (full (length out)))
+    go : (x : Bool) → full (g, length out) ≡ put_on bs (cond x (page g out at) (full (g, length out)))
     go true = rw h
     go false = refl
 
@@ -84,10 +96,10 @@ pub put_both : (cs bs : List ℕ) (p : Page) → put_on bs (put_on cs p) ≡ put
 unfolding put_on
 put_both cs bs (spoiled n) = refl
 put_both cs bs (full n) = refl
-put_both cs bs (page out at) = go (leb (at + length cs) most) refl
+put_both cs bs (page g out at) = go (leb (at + length cs) most) refl
   where
     go : (x : Bool) → leb (at + length cs) most ≡ x
-        → put_on bs (cond x (page (sets out at cs) (at + length cs)) (full (length out))) ≡ put_on (cs ++ bs) (page out at)
+        → put_on bs (cond x (page g (sets out at cs) (at + length cs)) (full (g, length out))) ≡ put_on (cs ++ bs) (page g out at)
     go true e =
         let n : at + length cs + length bs ≡ at + length (cs ++ bs) = omega (arith, length-append cs bs) in
         rw (n, sets_append out at cs bs, length-sets out at cs)
@@ -107,7 +119,7 @@ pub piece_judged : (x : Piece) (p : Page) {q r : Page} (bs : List ℕ) {b : Bool
     → b ≡ fits form x → cond b r (spoil r) ≡ put x p
 unfolding put
 piece_judged x p bs {b} e f s h =
-    ap (λ (y : Page). cond b y (spoil y)) (f ∙ ap (put_on (32 ∷ [])) e ∙ put_both bs (32 ∷ []) p) ∙ rw (h, s, size-put_on (bs ++ 32 ∷ []) p)
+    ap (λ (y : Page). cond b y (spoil y)) (f ∙ ap (put_on (32 ∷ [])) e ∙ put_both bs (32 ∷ []) p) ∙ rw (h, s, lent-put_on (bs ++ 32 ∷ []) p)
 
 -- what stands between quotes
 pub quoted_put : (bs : List ℕ) (p : Page) {q r o : Page} → q ≡ put_on (34 ∷ []) p → r ≡ put_on bs q → o ≡ put_on (34 ∷ []) r
@@ -196,6 +208,18 @@ module _ (w : List ℕ) {b : ℕ} {x : Bool} (e : x ≡ is_letter b) (f : b ≡ 
   pub a_name_lem : {y k : Bool} → x ≡ true → y ≡ all is_name w → y ≡ true → k ≡ is_keyword w → not k ≡ name_like w
   a_name_lem h g n q = rw (word_is w, first-is, h, ← g, n, q)
 
+-- a word that is one of some names is found among them
+pub listed : (names : List (Bor (List ℕ))) (i : ℕ) (w : List ℕ)
+    → list_any (λ n. bytes.same w n.now) names ≡ is_some (find (map (λ n. n.now) names) i w)
+unfolding find
+listed [] i w = refl
+listed (n ∷ ns) i w = go (bytes.same w n.now) (listed ns (suc i) w)
+  where
+    go : (b : Bool) → list_any (λ n. bytes.same w n.now) ns ≡ is_some (find (map (λ n. n.now) ns) (suc i) w)
+        → (b || list_any (λ n. bytes.same w n.now) ns) ≡ is_some {A = ℕ} (elim b [ true ↦ some i | false ↦ find (map (λ n. n.now) ns) (suc i) w ])
+    go true h = refl
+    go false h = h
+
 pub no_curve : (n k : Bool) → k ≡ false → n ≡ (n && not k)
 no_curve true k h = rw h
 no_curve false k h = refl
@@ -225,20 +249,20 @@ last-digit n (suc k) p h l f e =
     tenth n m h = omega arith
 
 -- no bytes
-pub put_none : (out : List ℕ) (c : Pen) → page_of out c ≡ put_on [] (page_of out c)
+pub put_none : (c : Pen) → page_of c ≡ put_on [] (page_of c)
 unfolding page_of put_on
-put_none out c = go c.fits (leb c.at most) refl
+put_none c = go c.out.ghost_name c.out.now c.fits (leb c.at most) refl
   where
-    go : (x y : Bool) → leb c.at most ≡ y
-        → cond x (cond y (page out c.at) (full (length out))) (spoiled (length out))
-        ≡ put_on [] (cond x (cond y (page out c.at) (full (length out))) (spoiled (length out)))
-    go false y e = refl
-    go true false e = refl
-    go true true e = let h : c.at + 0 ≡ c.at = omega arith in rw (h, e)
+    go : (g : GName) (out : List ℕ) (x y : Bool) → leb c.at most ≡ y
+        → cond x (cond y (page g out c.at) (full (g, length out))) (spoiled (g, length out))
+        ≡ put_on [] (cond x (cond y (page g out c.at) (full (g, length out))) (spoiled (g, length out)))
+    go g out false y e = refl
+    go g out true false e = refl
+    go g out true true e = let h : c.at + 0 ≡ c.at = omega arith in rw (h, e)
 
-pub no_digits : (n k : ℕ) (out : List ℕ) (c : Pen) → k ≡ 0 → page_of out c ≡ put_on (last_digits k n) (page_of out c)
+pub no_digits : (n k : ℕ) (c : Pen) → k ≡ 0 → page_of c ≡ put_on (last_digits k n) (page_of c)
 unfolding last_digits
-no_digits n k out c h = rw h (put_none out c)
+no_digits n k c h = rw h (put_none c)
 
 pub more_digits : (n k j : ℕ) (p : Page) {q r : Page} → k ≡ suc j → q ≡ put_on (last_digits j (n / 10)) p → r ≡ put_on ((48 + n % 10) ∷ []) q
     → r ≡ put_on (last_digits k n) p
@@ -246,9 +270,9 @@ unfolding last_digits
 more_digits n k j p h e f =
     rw h (f ∙ ap (put_on ((48 + n % 10) ∷ [])) e ∙ put_both (last_digits j (n / 10)) ((48 + n % 10) ∷ []) p)
 
-pub no_fraction : (n k : ℕ) (out : List ℕ) (c : Pen) → k ≡ 0 → page_of out c ≡ put_on (fraction (last_digits k n)) (page_of out c)
+pub no_fraction : (n k : ℕ) (c : Pen) → k ≡ 0 → page_of c ≡ put_on (fraction (last_digits k n)) (page_of c)
 unfolding last_digits fraction
-no_fraction n k out c h = rw h (put_none out c)
+no_fraction n k c h = rw h (put_none c)
 
 fraction_end : (ds : List ℕ) (d : ℕ) → fraction (ds ++ d ∷ []) ≡ 46 ∷ (ds ++ d ∷ [])
 unfolding fraction

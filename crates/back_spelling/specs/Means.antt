@@ -1,6 +1,7 @@
 -- How far a fresh script is written: what the contracts of its writers speak of. No definition of 02 (f) rests on it.
-use Rattle.std.specs.Prelude.{ℕ, suc, ◌+◌, ◌/◌, ◌^◌, ◌≤◌, ◌<◌, cond, List, [], ◌∷◌, ◌++◌, ◌≡◌, leb, length}
+use Rattle.std.specs.Prelude.{ℕ, suc, ◌+◌, ◌/◌, ◌^◌, ◌≤◌, ◌<◌, Bool, cond, List, [], ◌∷◌, ◌++◌, ◌≡◌, leb, length}
 use Rattle.std.proofs.Math.Option.{Option, none, some}
+use Rattle.std.specs.Borrow.{GName}
 use Rattle.std.proofs.lemmas.List.Edits.{sets}
 use Rattle.text.specs.Limits.{text_limit, whole_limit, places_limit}
 use Rattle.digits.specs.Numeral.{fraction}
@@ -10,30 +11,34 @@ use Rattle.digits.specs.declared.Decimal.{Decimal}
 use Rattle.pieces.specs.Pieces.{Piece, spelt, fits}
 use Rattle.back_spelling.specs.declared.Pen.{Pen}
 
--- a piece that no text can have has come, or there are more bytes than may be written, into a buffer of a length; or the buffer, and how
--- many bytes of it are written
-pub data Page : Type 0 where
-  spoiled : ℕ → Page
-  full : ℕ → Page
-  page : List ℕ → ℕ → Page
+-- the buffer that was lent: by which reference, and its length
+abbrev pub Lent : Type 0
+Lent = GName × ℕ
 
--- the buffer's length
-abbrev pub size : Page → ℕ
-size (spoiled n) = n
-size (full n) = n
-size (page out at) = length out
+-- a piece that no text can have has come, or there are more bytes than may be written, into a buffer; or the buffer's bytes, and how
+-- many of them are written
+pub data Page : Type 0 where
+  spoiled : Lent → Page
+  full : Lent → Page
+  page : GName → List ℕ → ℕ → Page
+
+-- the buffer
+abbrev pub lent : Page → Lent
+lent (spoiled b) = b
+lent (full b) = b
+lent (page g out at) = (g, length out)
 
 abbrev pub spoil : Page → Page
-spoil p = spoiled (size p)
+spoil p = spoiled (lent p)
 
 -- a script's limit, and the blank behind its last piece
 abbrev pub most : ℕ
 most = suc text_limit
 
 unfoldable pub put_on : List ℕ → Page → Page
-put_on bs (spoiled n) = spoiled n
-put_on bs (full n) = full n
-put_on bs (page out at) = cond (leb (at + length bs) most) (page (sets out at bs) (at + length bs)) (full (length out))
+put_on bs (spoiled b) = spoiled b
+put_on bs (full b) = full b
+put_on bs (page g out at) = cond (leb (at + length bs) most) (page g (sets out at bs) (at + length bs)) (full (g, length out))
 
 -- a piece, and a blank behind it
 unfoldable pub put : Piece → Page → Page
@@ -43,13 +48,16 @@ unfoldable pub run : List Piece → Page → Page
 run [] p = p
 run (x ∷ xs) p = run xs (put x p)
 
+abbrev pub on_page : GName → List ℕ → ℕ → Bool → Page
+on_page g out at fits = cond fits (cond (leb at most) (page g out at) (full (g, length out))) (spoiled (g, length out))
+
 -- what the code has of it
-unfoldable pub page_of : List ℕ → Pen → Page
-page_of out c = cond c.fits (cond (leb c.at most) (page out c.at) (full (length out))) (spoiled (length out))
+unfoldable pub page_of : Pen → Page
+page_of c = on_page c.out.ghost_name c.out.now c.at c.fits
 
 -- the piece x is put
-abbrev pub Puts : Piece → List ℕ → Pen → List ℕ → Pen → Type 0
-Puts x out c after d = page_of after d ≡ put x (page_of out c)
+abbrev pub Puts : Piece → Pen → Pen → Type 0
+Puts x c d = page_of d ≡ put x (page_of c)
 
 -- ---- numbers
 

@@ -2,15 +2,15 @@
 // buffer or past a script's limit; where there are more bytes, or a piece that no text can have, only that is kept. For our own crates.
 #![tactic(auto)]
 
-ghost use Rattle.std.specs.Prelude.{◌≡◌, true, cond, not, ◌&&◌, List, [], ◌∷◌, ℕ, suc, ◌+◌, ◌-◌, ◌/◌, ◌<◌, ◌^◌, leb, length};
+ghost use Rattle.std.specs.Prelude.{◌≡◌, true, cond, not, ◌&&◌, List, [], ◌∷◌, ℕ, suc, ◌+◌, ◌-◌, ◌/◌, ◌<◌, ◌^◌, leb, length, map, IfSome};
 ghost use Rattle.std.proofs.lemmas.List.Edits.{sets};
 ghost use Rattle.text.specs.Limits.{whole_limit};
 ghost use Rattle.text.specs.Means.{passes};
-ghost use Rattle.text.specs.Words.{is_one_of};
+ghost use Rattle.text.specs.Words.{is_some, find, is_one_of};
 ghost use Rattle.digits.specs.Numeral.{float, percentage, counted, all, fraction};
 ghost use Rattle.digits.specs.Fewest.{whole_digits, last_digits};
 ghost use Rattle.pieces.specs.Pieces.{a_word, a_name, a_plain, a_string, a_mark, a_pair, a_numeral, word_like, name_like, curve_names, known_mark, plain_mark};
-ghost use Rattle.back_spelling.specs.Means.{most, spoil, put_on, page_of, Puts, Spellable, Below, Large, put_number};
+ghost use Rattle.back_spelling.specs.Means.{most, spoil, page, put_on, page_of, Puts, Spellable, Below, Large, put_number};
 ghost use Rattle.digits.specs.AnswerMeans.{whole_number, number_of, Neat};
 
 use digits::Decimal;
@@ -19,123 +19,26 @@ use text::Class;
 // A script's limit, and the blank behind its last piece.
 pub const MOST: usize = 16385;
 
-// The words that begin an easing with parentheses, each behind its length.
-const CURVES: [u8; 39] = *b"\x0ccubic_bezier\x05steps\x06wiggle\x05rough\x06slowmo";
+// The words that begin an easing with parentheses.
+const CURVES: [&str; 5] = ["cubic_bezier", "steps", "wiggle", "rough", "slowmo"];
 
-// Where a writer stands: how many bytes are written, more than MOST where there were too many; and whether a text can have every
+// A writer on a lent buffer: how many bytes are written, more than MOST where there were too many; and whether a text can have every
 // piece so far.
-#[derive(Clone, Copy)]
-pub struct Pen {
+#[derive(Drop)]
+pub struct Pen<'a> {
+    pub out: &'a mut [u8],
     pub at: usize,
     pub fits: bool,
 }
-
-// ---- bytes
 
 // Writes bytes from a place on, as far as the buffer goes.
 fn copy(out: &mut [u8], at: usize, part: &[u8])
     requires { at + length part.now < 2 ^ 34 }
     ensures { out.new ≡ sets out.old at part.now }
 {
-    let mut i = 0;
-    while i < part.len() {
-        text::put(out, at + i, part[i]);
-        i += 1;
+    for (i, b) in part.iter().enumerate() {
+        text::put(out, at + i, *b);
     }
-}
-
-// Whether so many bytes more may be written.
-fn has_room(at: usize, n: usize) -> bool
-    ensures { result ≡ leb (at + n) most }
-{
-    if MOST < n {
-        return false;
-    }
-    at <= MOST - n
-}
-
-fn put_bytes(pen: Pen, out: &mut [u8], part: &[u8]) -> Pen
-    ensures { page_of out.new result ≡ put_on part.now (page_of out.old pen) }
-{
-    let at = pen.at;
-    if has_room(at, part.len()) {
-        copy(out, at, part);
-        return Pen {
-            at: at + part.len(),
-            fits: pen.fits,
-        };
-    }
-    Pen {
-        at: MOST + 1,
-        fits: pen.fits,
-    }
-}
-
-fn put_byte(pen: Pen, out: &mut [u8], b: u8) -> Pen
-    ensures { page_of out.new result ≡ put_on (b ∷ []) (page_of out.old pen) }
-{
-    let at = pen.at;
-    if at < MOST {
-        text::put(out, at, b);
-        return Pen {
-            at: at + 1,
-            fits: pen.fits,
-        };
-    }
-    Pen {
-        at: MOST + 1,
-        fits: pen.fits,
-    }
-}
-
-// A piece's bytes, and the blank behind it.
-fn put_piece(pen: Pen, out: &mut [u8], part: &[u8]) -> Pen
-    ensures { page_of out.new result ≡ put_on (32 ∷ []) (put_on part.now (page_of out.old pen)) }
-{
-    let p = put_bytes(pen, out, part);
-    put_byte(p, out, b' ')
-}
-
-// What is known of a piece that was put.
-fn judged(pen: Pen, fits: bool) -> Pen
-    ensures { (out : List ℕ) → page_of out result ≡ cond fits (page_of out pen) (spoil (page_of out pen)) }
-{
-    if fits {
-        return pen;
-    }
-    Pen {
-        at: pen.at,
-        fits: false,
-    }
-}
-
-// ---- pieces
-
-// A word of the grammar.
-pub fn put_word(pen: Pen, out: &mut [u8], word: &[u8]) -> Pen
-    requires { word_like word.now ≡ true }
-    ensures { Puts (a_word word.now) out.old pen out.new result }
-{
-    put_piece(pen, out, word)
-}
-
-// A mark.
-pub fn put_mark(pen: Pen, out: &mut [u8], b: u8) -> Pen
-    requires { known_mark b ≡ true }
-    ensures { Puts (a_mark b) out.old pen out.new result }
-{
-    let p = put_byte(pen, out, b);
-    put_byte(p, out, b' ')
-}
-
-// Two marks with nothing between them.
-pub fn put_pair(pen: Pen, out: &mut [u8], b: u8, c: u8) -> Pen
-    requires { (plain_mark b ≡ true) × (plain_mark c ≡ true) }
-    ensures { Puts (a_pair b c) out.old pen out.new result }
-{
-    let p = put_byte(pen, out, b);
-    let q = put_byte(p, out, c);
-    put_byte(q, out, b' ')
 }
 
 // Whether all bytes are of a class.
@@ -158,19 +61,20 @@ fn is_name_like(word: &[u8]) -> bool
     !keywords::is_keyword(word)
 }
 
-// A name of the tree.
-pub fn put_name(pen: Pen, out: &mut [u8], name: &[u8]) -> Pen
-    ensures { Puts (a_name name.now) out.old pen out.new result }
+// Whether a word is one of some names.
+fn is_among(names: &[&str], word: &[u8]) -> bool
+    ensures { result ≡ is_some (find (map (λ name. name.now) names.now) 0 word.now) }
 {
-    let p = put_piece(pen, out, name);
-    judged(p, is_name_like(name))
+    names
+        .iter()
+        .any(|name| text::is_word(word, name.as_bytes()))
 }
 
 // Whether a word begins an easing with parentheses.
 fn is_curve(word: &[u8]) -> bool
     ensures { result ≡ is_one_of curve_names word.now }
 {
-    text::is_listed(&CURVES, word)
+    is_among(&CURVES, word)
 }
 
 // Whether a word is the name of an easing without `Easing::`.
@@ -183,122 +87,220 @@ fn is_plain(word: &[u8]) -> bool
     is_name_like(word)
 }
 
-// The name of an easing without `Easing::`.
-pub fn put_plain(pen: Pen, out: &mut [u8], name: &[u8]) -> Pen
-    ensures { Puts (a_plain name.now) out.old pen out.new result }
-{
-    let p = put_piece(pen, out, name);
-    judged(p, is_plain(name))
-}
-
-// A string, in its quotes.
-pub fn put_string(pen: Pen, out: &mut [u8], inside: &[u8]) -> Pen
-    ensures { Puts (a_string inside.now) out.old pen out.new result }
-{
-    let p = put_byte(pen, out, b'"');
-    let q = put_bytes(p, out, inside);
-    let r = put_byte(q, out, b'"');
-    let end = put_byte(r, out, b' ');
-    judged(end, all_are(inside, Class::Inside))
-}
-
-// ---- numbers
-
-// All digits of a number, with no zero before the first.
-fn put_whole(pen: Pen, out: &mut [u8], n: u64) -> Pen
-    ensures { (k : ℕ) → n < 10 ^ suc k → page_of out.new result ≡ put_on (whole_digits k n) (page_of out.old pen) }
-{
-    if n < 10 {
-        return put_byte(pen, out, 48 + n as u8);
+impl<'a> Pen<'a> {
+    // A pen at the start of a buffer.
+    pub fn new(out: &'a mut [u8]) -> Self
+        ensures same_buffer { result.out.ghost_name ≡ out.entry.ghost_name }
+        ensures page { page_of result ≡ page out.entry.ghost_name out.old 0 }
+    {
+        Pen {
+            out,
+            at: 0,
+            fits: true,
+        }
     }
-    let p = put_whole(pen, out, n / 10);
-    put_byte(p, out, 48 + (n % 10) as u8)
-}
 
-// The last k digits of a number.
-fn put_last(pen: Pen, out: &mut [u8], k: usize, n: u64) -> Pen
-    ensures { page_of out.new result ≡ put_on (last_digits k n) (page_of out.old pen) }
-{
-    if k == 0 {
-        return pen;
+    // ---- bytes
+
+    // Whether so many bytes more may be written.
+    fn has_room(&self, n: usize) -> bool
+        ensures { result ≡ leb (self.now.at + n) most }
+    {
+        n <= MOST && self.at <= MOST - n
     }
-    let p = put_last(pen, out, k - 1, n / 10);
-    put_byte(p, out, 48 + (n % 10) as u8)
-}
 
-// The point and the digits behind it, if there are any.
-fn put_fraction(pen: Pen, out: &mut [u8], places: usize, n: u64) -> Pen
-    ensures { page_of out.new result ≡ put_on (fraction (last_digits places n)) (page_of out.old pen) }
-{
-    if places == 0 {
-        return pen;
+    fn put_bytes(&mut self, part: &[u8])
+        ensures { page_of self.new ≡ put_on part.now (page_of self.old) }
+    {
+        if self.has_room(part.len()) {
+            copy(self.out, self.at, part);
+            self.at += part.len();
+        } else {
+            self.at = MOST + 1;
+        }
     }
-    let p = put_byte(pen, out, b'.');
-    put_last(p, out, places, n)
-}
 
-// A whole number of up to 39 digits.
-fn put_large(pen: Pen, out: &mut [u8], d: Decimal) -> Pen
-    requires { Large d }
-    ensures { page_of out.new result ≡ put_on (whole_digits (whole_limit - 1) (whole_number d)) (page_of out.old pen) }
-{
-    if d.high == 0 {
-        let p = put_whole(pen, out, d.middle);
-        return put_last(p, out, 18, d.n);
+    fn put_byte(&mut self, b: u8)
+        ensures { page_of self.new ≡ put_on (b ∷ []) (page_of self.old) }
+    {
+        if self.at < MOST {
+            text::put(self.out, self.at, b);
+            self.at += 1;
+        } else {
+            self.at = MOST + 1;
+        }
     }
-    let p = put_whole(pen, out, d.high);
-    let q = put_last(p, out, 18, d.middle);
-    put_last(q, out, 18, d.n)
-}
 
-// The digits before the point: with more than 9 places a zero.
-fn put_front(pen: Pen, out: &mut [u8], d: Decimal) -> Pen
-    requires { Neat d × Below d }
-    ensures { page_of out.new result ≡ put_on (whole_digits (whole_limit - 1) (whole_number d / 10 ^ d.places)) (page_of out.old pen) }
-{
-    if 9 < d.places {
-        return put_whole(pen, out, 0);
+    // A piece's bytes, and the blank behind it.
+    fn put_piece(&mut self, part: &[u8])
+        ensures { page_of self.new ≡ put_on (32 ∷ []) (put_on part.now (page_of self.old)) }
+    {
+        self.put_bytes(part);
+        self.put_byte(b' ');
     }
-    if (d.middle == 0) & (d.high == 0) {
-        return put_whole(pen, out, d.n / number::ten_to(d.places));
+
+    // What is known of a piece that was put.
+    fn judge(&mut self, fits: bool)
+        ensures { page_of self.new ≡ cond fits (page_of self.old) (spoil (page_of self.old)) }
+    {
+        if !fits {
+            self.fits = false;
+        }
     }
-    put_large(pen, out, d)
-}
 
-// A number as it is written, if there is one.
-fn put_decimal(pen: Pen, out: &mut [u8], d: Decimal) -> Pen
-    requires { Spellable (number_of d) × Neat d }
-    ensures { page_of out.new result ≡ put_number (number_of d) (page_of out.old pen) }
-{
-    if !d.found {
-        return Pen {
-            at: pen.at,
-            fits: false,
-        };
+    // ---- pieces
+
+    // A word of the grammar.
+    pub fn put_word(&mut self, word: &[u8])
+        requires { word_like word.now ≡ true }
+        ensures { Puts (a_word word.now) self.old self.new }
+    {
+        self.put_piece(word);
     }
-    let p = put_front(pen, out, d);
-    let q = put_fraction(p, out, d.places, d.n);
-    put_byte(q, out, b' ')
-}
 
-// An f32 without sign, by its bits.
-pub fn put_float(pen: Pen, out: &mut [u8], bits: u32) -> Pen
-    ensures { Puts (a_numeral float bits) out.old pen out.new result }
-{
-    put_decimal(pen, out, digits::fewest(bits))
-}
+    // A mark.
+    pub fn put_mark(&mut self, b: u8)
+        requires { known_mark b ≡ true }
+        ensures { Puts (a_mark b) self.old self.new }
+    {
+        self.put_byte(b);
+        self.put_byte(b' ');
+    }
 
-// A percent without sign, by its bits.
-pub fn put_percent(pen: Pen, out: &mut [u8], bits: u32) -> Pen
-    ensures { Puts (a_numeral percentage bits) out.old pen out.new result }
-{
-    put_decimal(pen, out, digits::percent_of(bits))
-}
+    // Two marks with nothing between them.
+    pub fn put_pair(&mut self, b: u8, c: u8)
+        requires { (plain_mark b ≡ true) × (plain_mark c ≡ true) }
+        ensures { Puts (a_pair b c) self.old self.new }
+    {
+        self.put_byte(b);
+        self.put_byte(c);
+        self.put_byte(b' ');
+    }
 
-// A whole number.
-pub fn put_count(pen: Pen, out: &mut [u8], n: u32) -> Pen
-    ensures { Puts (a_numeral counted n) out.old pen out.new result }
-{
-    let p = put_whole(pen, out, n as u64);
-    put_byte(p, out, b' ')
+    // A name of the tree.
+    pub fn put_name(&mut self, name: &[u8])
+        ensures { Puts (a_name name.now) self.old self.new }
+    {
+        self.put_piece(name);
+        self.judge(is_name_like(name));
+    }
+
+    // The name of an easing without `Easing::`.
+    pub fn put_plain(&mut self, name: &[u8])
+        ensures { Puts (a_plain name.now) self.old self.new }
+    {
+        self.put_piece(name);
+        self.judge(is_plain(name));
+    }
+
+    // A string, in its quotes.
+    pub fn put_string(&mut self, inside: &[u8])
+        ensures { Puts (a_string inside.now) self.old self.new }
+    {
+        self.put_byte(b'"');
+        self.put_bytes(inside);
+        self.put_byte(b'"');
+        self.put_byte(b' ');
+        self.judge(all_are(inside, Class::Inside));
+    }
+
+    // ---- numbers
+
+    // All digits of a number, with no zero before the first.
+    fn put_whole(&mut self, n: u64)
+        ensures { (k : ℕ) → n < 10 ^ suc k → page_of self.new ≡ put_on (whole_digits k n) (page_of self.old) }
+    {
+        if n < 10 {
+            return self.put_byte(b'0' + n as u8);
+        }
+        self.put_whole(n / 10);
+        self.put_byte(b'0' + (n % 10) as u8);
+    }
+
+    // The last k digits of a number.
+    fn put_last(&mut self, k: usize, n: u64)
+        ensures { page_of self.new ≡ put_on (last_digits k n) (page_of self.old) }
+    {
+        if k == 0 {
+            return;
+        }
+        self.put_last(k - 1, n / 10);
+        self.put_byte(b'0' + (n % 10) as u8);
+    }
+
+    // The point and the digits behind it, if there are any.
+    fn put_fraction(&mut self, places: usize, n: u64)
+        ensures { page_of self.new ≡ put_on (fraction (last_digits places n)) (page_of self.old) }
+    {
+        if places == 0 {
+            return;
+        }
+        self.put_byte(b'.');
+        self.put_last(places, n);
+    }
+
+    // A whole number of up to 39 digits.
+    fn put_large(&mut self, d: Decimal)
+        requires { Large d }
+        ensures { page_of self.new ≡ put_on (whole_digits (whole_limit - 1) (whole_number d)) (page_of self.old) }
+    {
+        if d.high == 0 {
+            self.put_whole(d.middle);
+            return self.put_last(18, d.n);
+        }
+        self.put_whole(d.high);
+        self.put_last(18, d.middle);
+        self.put_last(18, d.n);
+    }
+
+    // The digits before the point: with more than 9 places a zero.
+    fn put_front(&mut self, d: Decimal)
+        requires { Neat d × Below d }
+        ensures { page_of self.new ≡ put_on (whole_digits (whole_limit - 1) (whole_number d / 10 ^ d.places)) (page_of self.old) }
+    {
+        if 9 < d.places {
+            return self.put_whole(0);
+        }
+        if d.middle == 0 && d.high == 0 {
+            return self.put_whole(d.n / number::ten_to(d.places));
+        }
+        self.put_large(d);
+    }
+
+    // A number as it is written, if there is one.
+    fn put_decimal(&mut self, number: Option<Decimal>)
+        requires { Spellable (number_of number) × IfSome number Neat }
+        ensures { page_of self.new ≡ put_number (number_of number) (page_of self.old) }
+    {
+        match number {
+            None => self.fits = false,
+            Some(d) => {
+                self.put_front(d);
+                self.put_fraction(d.places, d.n);
+                self.put_byte(b' ');
+            }
+        }
+    }
+
+    // An f32 without sign, by its bits.
+    pub fn put_float(&mut self, bits: u32)
+        ensures { Puts (a_numeral float bits) self.old self.new }
+    {
+        self.put_decimal(digits::fewest(bits));
+    }
+
+    // A percent without sign, by its bits.
+    pub fn put_percent(&mut self, bits: u32)
+        ensures { Puts (a_numeral percentage bits) self.old self.new }
+    {
+        self.put_decimal(digits::percent_of(bits));
+    }
+
+    // A whole number.
+    pub fn put_count(&mut self, n: u32)
+        ensures { Puts (a_numeral counted n) self.old self.new }
+    {
+        self.put_whole(u64::from(n));
+        self.put_byte(b' ');
+    }
 }

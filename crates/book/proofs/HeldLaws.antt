@@ -9,7 +9,7 @@ use lib.Seq.{take_all}
 use Rattle.text.specs.Bytes.{same}
 use Rattle.text.specs.Words.{find}
 use Rattle.text.specs.Means.{place_of}
-use Rattle.text.specs.declared.Found.{Found}
+use Rattle.std.specs.Prelude.{Option}
 use Rattle.text.proofs.WordLaws.{find-here, find_past}
 use Rattle.text.proofs.CaseLaws.{Case, yes!, no!, case}
 use Rattle.books.specs.Book.{Item, Book, held, names, item_limit, book}
@@ -36,12 +36,12 @@ module _ {s table : List ℕ} {v : Book} {n : ℕ} (h : Held s table v n) where
   all-names = take_all n (names h.items) (omega (arith, h.count, names-long h.items))
 
   -- what a search among the names finds
-  pub found_in : (r : Found) (w : List ℕ)
+  pub found_in : (r : Option ℕ) (w : List ℕ)
       → ((xs : List Item) → Rows s table xs → n ≤ length xs → place_of r ≡ find (take n (names xs)) 0 w)
       → place_of r ≡ find (names h.items) 0 w
   found_in r w f = f h.items h.rows (omega (arith, h.count)) ∙ ap (λ (l : List (List ℕ)). find l 0 w) all-names
 
-  pub found_for : (r : Found) (w : List ℕ)
+  pub found_for : (r : Option ℕ) (w : List ℕ)
       → ((xs : List Item) → Rows s table xs → n ≤ length xs → place_of r ≡ find (take n (names xs)) 0 w)
       → (xs : List Item) → v ≡ held xs → place_of r ≡ find (names xs) 0 w
   found_for r w f xs e = found_in r w f ∙ ap (λ (l : List Item). find (names l) 0 w) (held_same xs e)

@@ -16,7 +16,6 @@ use ast::Span;
 use error::Refusal;
 use read_blocks::ParsedNodes;
 use read_cursor::{Cursor, Left, MarkRead, WordRead};
-use text::Found;
 use token::SplitAnswer;
 
 // The items that a book may have.
@@ -141,18 +140,18 @@ pub fn name_at<'a>(text: &'a [u8], table: &[u16], k: usize) -> &'a [u8]
 }
 
 // The ordinal of the item, of the first n, that has a name.
-pub fn find_name(text: &[u8], table: &[u16], n: usize, word: &[u8]) -> Found
+pub fn find_name(text: &[u8], table: &[u16], n: usize, word: &[u8]) -> Option<usize>
     requires { (length table.now ≡ 21844) × (n ≤ 5461) }
     ensures { (xs : List grammar.Item) → Rows text.now table.now xs → n ≤ length xs → place_of result ≡ find (take n (names xs)) 0 word.now }
 {
     let mut k: usize = 0;
     while k < n {
         if text::is_word(word, name_at(text, table, k)) {
-            return Found::At(k);
+            return Some(k);
         }
         k += 1;
     }
-    Found::Nothing
+    None
 }
 
 // Whether item k has the name of one before it.
@@ -161,8 +160,8 @@ fn stands_before(text: &[u8], table: &[u16], k: usize) -> bool
     ensures { Before text.now table.now k result }
 {
     match find_name(text, table, k, name_at(text, table, k)) {
-        Found::At(_) => true,
-        Found::Nothing => false,
+        Some(_) => true,
+        None => false,
     }
 }
 

@@ -16,7 +16,6 @@ use ast::Span;
 use book::ItemRead;
 use sheet_decode::fields::{take_field, take_span};
 use sheet_records::take_record;
-use text::Found;
 
 // The bytes of calls.
 pub const CALL_BYTES: usize = 16384;
@@ -31,11 +30,9 @@ fn note(text: &[u8], table: &[u16], n: usize, calls: &mut [u8], i: usize, name: 
     requires { Held text.now table.now (Book·book text.now) n × (n ≤ item_limit) × (i < 128) × (length calls.old ≡ 16384) }
     ensures { (xs : List Item) → Book·book text.now ≡ Book.held xs → calls.new ≡ mark calls.old i (find (names xs) 0 (part text.now name.start name.size)) }
 {
-    match book::find_name(text, table, n, text::part(text, name.start, name.size)) {
-        Found::At(j) => {
-            calls[i * order::SIDE + j] = 1;
-        }
-        Found::Nothing => {}
+    let name = text::part(text, name.start, name.size);
+    if let Some(j) = book::find_name(text, table, n, name) {
+        calls[i * order::SIDE + j] = 1;
     }
 }
 
@@ -57,8 +54,7 @@ fn note_record(
         return;
     }
     let name = take_span(sheet, at + 3, text.len());
-    let span = name.v;
-    note(text, table, n, calls, i, span);
+    note(text, table, n, calls, i, name.v);
 }
 
 // Notes the calls of item i, whose sheet is lent.
@@ -82,16 +78,13 @@ pub fn fill(text: &[u8], table: &[u16], n: usize, calls: &mut [u8])
 {
     let mut sheet = [0u8; SHEET_BYTES];
     let mut c = read_cursor::first(text);
-    let mut i: usize = 0;
-    while i < n {
+    for i in 0..n {
         match book::parse_item(text, &mut sheet, c) {
             ItemRead::Refused(_, _) => return,
             ItemRead::Is(x) => {
-                let body = x.body;
-                note_calls(text, table, n, calls, i, text::part(&sheet, 0, body.bytes));
-                c = body.next;
+                note_calls(text, table, n, calls, i, text::part(&sheet, 0, x.body.bytes));
+                c = x.body.next;
             }
         }
-        i += 1;
     }
 }

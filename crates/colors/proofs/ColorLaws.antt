@@ -15,6 +15,7 @@ use Rattle.error.specs.declared.CheckAnswer.TheVariants.{Accepted, Refused}
 use Rattle.text.specs.Bytes.{at, part, lowered}
 use Rattle.text.specs.Words.{is_some, under}
 use Rattle.presets.specs.Colors.{colors, is_hex_color, is_color_of, is_color}
+use Rattle.words.specs.declared.List.TheVariants.{CssColors}
 use Rattle.words.specs.ListMeans.{list_of}
 use Rattle.colors.specs.Css.{css_colors, css_names, names_of, hex_bytes, with_alpha, hex_color}
 use Rattle.colors.specs.Css.{color_of, named_color, color_bytes, answered, coloring}
@@ -57,7 +58,7 @@ pub first-list : (list : ℕ) (s : List ℕ) → list ≡ 1 → is_color colors 
 unfolding names_of
 first-list list s h = rw h
 
-pub second_list : (list : ℕ) (s : List ℕ) → (list ≡ 1 → ⊥) → is_color_of (list_of 26) s ≡ is_color (names_of list) s
+pub second_list : (list : ℕ) (s : List ℕ) → (list ≡ 1 → ⊥) → is_color_of (list_of CssColors) s ≡ is_color (names_of list) s
 unfolding names_of
 second_list list s h = rw (ne_eqb list 1 h, names_are)
 

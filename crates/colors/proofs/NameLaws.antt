@@ -10,9 +10,11 @@ use native.Mathlib.Omega.{arith}
 use lib.Dec.{ltb}
 use lib.ListN.{length, get_or, take}
 use borrow.Author.Tests.{ltb-true}
+use Rattle.std.specs.Prelude as rust
 use Rattle.text.specs.Bytes.{bytes, same}
 use Rattle.text.specs.Words.{is_some, find, under, words}
 use Rattle.text.proofs.WordLaws.{find-here, find_past}
+use Rattle.words.specs.declared.List.TheVariants.{CssColors}
 use Rattle.words.specs.ListMeans.{list_of}
 use Rattle.words.specs.KeyMeans.{place_is}
 use Rattle.words.proofs.ListLaws.{list_clip}
@@ -24,7 +26,7 @@ pub true_is_false : true ≡ false → ⊥
 true_is_false h = let z : ◌≡◌ {A = ℕ} 0 1 = cc in omega arith
 
 -- the code's list has the standard's names: computed
-pub names_are : list_of 26 ≡ words css_names
+pub names_are : list_of CssColors ≡ words css_names
 unfolding list_of css_names css_colors
 names_are = refl
 
@@ -78,28 +80,28 @@ by_place (c ∷ cs) j w = go (same w (bytes c.0)) refl (by_place cs (suc j) w)
 
 -- ---- the standard's
 
-module _ (r : ℕ) (w : List ℕ) (h : place_is r ≡ find (list_of 26) 0 w) where
-  css_found : (r ≡ 255 → ⊥) → find (words (names_in css_colors)) 0 w ≡ some r
+module _ (r : rust.Option ℕ) (w : List ℕ) (h : place_is r ≡ find (list_of CssColors) 0 w) where
+  css_found : (i : ℕ) → r ≡ rust.Some i → find (words (names_in css_colors)) 0 w ≡ some i
   unfolding css_names
-  css_found n = rw names_are at (place_some r h n)
+  css_found i e = rw names_are at (place_some i h e)
 
-  pub css_inside : (r ≡ 255 → ⊥) → r < 148
+  pub css_inside : (i : ℕ) → r ≡ rust.Some i → i < 148
   unfolding css_colors
-  css_inside n = (rw (css_found n) at (by_place css_colors 0 w).1).1
+  css_inside i e = (rw (css_found i e) at (by_place css_colors 0 w).1).1
 
-  pub css_at : (r ≡ 255 → ⊥) → color_of (some (get_or (values_in css_colors) r 0)) ≡ color_of (under css_colors w)
-  css_at n = let e = rw (css_found n) at (by_place css_colors 0 w).0 in rw (e, sub-zero)
+  pub css_at : (i : ℕ) → r ≡ rust.Some i → color_of (some (get_or (values_in css_colors) i 0)) ≡ color_of (under css_colors w)
+  css_at i e = let p = rw (css_found i e) at (by_place css_colors 0 w).0 in rw (p, sub-zero)
 
-  pub css_none : r ≡ 255 → none ≡ color_of (under css_colors w)
+  pub css_none : r ≡ rust.None → none ≡ color_of (under css_colors w)
   unfolding css_names
-  css_none e = rw ((by_place css_colors 0 w).0, (rw names_are at (place_none r h e)))
+  css_none e = rw ((by_place css_colors 0 w).0, (rw names_are at (place_none h e)))
 
 -- of a name the first 24 bytes decide
 pub css_clip : (w : List ℕ) → under css_colors (take 24 w) ≡ under css_colors w
 unfolding css_names
 css_clip w =
     (by_place css_colors 0 (take 24 w)).0
-    ∙ ap (value_at css_colors 0) (rw names_are at (list_clip 26 w))
+    ∙ ap (value_at css_colors 0) (rw names_are at (list_clip CssColors w))
     ∙ sym (by_place css_colors 0 w).0
 
 -- a colour's number has three bytes: computed

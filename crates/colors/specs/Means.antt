@@ -1,14 +1,12 @@
--- What the code's enum and its table stand for. Contracts cite these.
-use Rattle.std.specs.Prelude.{ℕ, List, [], ◌∷◌}
+-- What the code's bytes and its table stand for. Contracts cite these.
+use Rattle.std.specs.Prelude.{ℕ, List, [], ◌∷◌, Option, None, Some}
 use Prim.Native.String.{String}
-use Rattle.std.proofs.Math.Option.{Option, none, some}
-use Rattle.colors.specs.declared.Rgba.{Rgba}
-use Rattle.colors.specs.declared.Rgba.TheVariants.{Is, Nothing}
+use Rattle.std.proofs.Math.Option as maybe
 
 -- the four bytes, if there are any
-abbrev pub rgba_of : Rgba → Option (List ℕ)
-rgba_of (Is red green blue alpha) = some (red ∷ green ∷ blue ∷ alpha ∷ [])
-rgba_of Nothing = none
+abbrev pub rgba_of : Option (List ℕ) → maybe.Option (List ℕ)
+rgba_of (Some bytes) = maybe.some bytes
+rgba_of None = maybe.none
 
 -- the numbers of some colours
 unfoldable pub values_in : List (String × ℕ) → List ℕ

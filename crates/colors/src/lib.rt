@@ -1,28 +1,16 @@
 // 02 (g): whether a string is a colour under either list of names, and the red, green, blue and alpha of one.
 #![tactic(auto)]
 
-ghost use Rattle.std.specs.Prelude.{◌≤◌, ◌<◌, [], ◌∷◌, ◌≡◌, length, get_or};
-ghost use Rattle.std.proofs.Math.Option.{some};
+ghost use Rattle.std.specs.Prelude.{◌≤◌, ◌<◌, ◌≡◌, length, get_or};
 ghost use Rattle.text.specs.Bytes.{part};
 ghost use Rattle.text.specs.Words.{under};
 ghost use Rattle.presets.specs.Colors.{is_color};
 ghost use Rattle.error.specs.Answer.{color_values};
-ghost use Rattle.colors.specs.Css.{css_colors, names_of, digit, pair, written, hex_bytes, hex_color, color_of, named_color, color_bytes, coloring};
+ghost use Rattle.colors.specs.Css.{css_colors, names_of, digit, pair, written, hex_bytes, hex_color, color_of, three_bytes, with_alpha, named_color, color_bytes, coloring};
 ghost use Rattle.colors.specs.Means.{rgba_of, values_in};
 
 use error::{CheckAnswer, Refusal};
-
-// The bytes of a colour, if there is one.
-#[derive(Clone, Copy)]
-enum Rgba {
-    Is {
-        red: u8,
-        green: u8,
-        blue: u8,
-        alpha: u8,
-    },
-    Nothing,
-}
+use words::List;
 
 // ---- names
 
@@ -187,29 +175,26 @@ fn value_at(i: u8) -> u32
 }
 
 // The bytes of the i-th colour.
-fn color_at(i: u8) -> Rgba
+fn color_at(i: u8) -> [u8; 4]
     requires { i < 148 }
-    ensures { rgba_of result ≡ color_of (some (get_or (values_in css_colors) i 0)) }
+    ensures { result ≡ with_alpha (three_bytes (get_or (values_in css_colors) i 0)) }
 {
     let v = value_at(i);
-    Rgba::Is {
-        red: (v / 65536) as u8,
-        green: (v / 256 % 256) as u8,
-        blue: (v % 256) as u8,
-        alpha: 255,
-    }
+    [
+        (v / 65536) as u8,
+        (v / 256 % 256) as u8,
+        (v % 256) as u8,
+        255,
+    ]
 }
 
 // The bytes of the name that the first n bytes are, in small letters.
-fn named(name: &[u8], n: usize) -> Rgba
+fn named(name: &[u8], n: usize) -> Option<[u8; 4]>
     requires { n ≤ length name.now }
     ensures { rgba_of result ≡ color_of (under css_colors (part name.now 0 n)) }
 {
-    let i = words::find(words::CSS_COLORS, name, 0, n);
-    if i == words::NONE {
-        return Rgba::Nothing;
-    }
-    color_at(i)
+    let i = words::find(List::CssColors, name, 0, n)?;
+    Some(color_at(i))
 }
 
 // ---- hexadecimal forms
@@ -252,24 +237,24 @@ fn written(digits: &[u8], i: usize) -> u8
 }
 
 // What stands behind a `#`.
-fn hex_color(digits: &[u8]) -> Rgba
+fn hex_color(digits: &[u8]) -> Option<[u8; 4]>
     ensures { rgba_of result ≡ hex_color digits.now }
 {
     if !presets::is_hex_color(digits) {
-        return Rgba::Nothing;
+        return None;
     }
-    Rgba::Is {
-        red: written(digits, 0),
-        green: written(digits, 1),
-        blue: written(digits, 2),
-        alpha: written(digits, 3),
-    }
+    Some([
+        written(digits, 0),
+        written(digits, 1),
+        written(digits, 2),
+        written(digits, 3),
+    ])
 }
 
 // ---- strings
 
 // The bytes of a name, whatever the case of its letters.
-fn named_color(s: &[u8]) -> Rgba
+fn named_color(s: &[u8]) -> Option<[u8; 4]>
     ensures { rgba_of result ≡ named_color s.now }
 {
     // Longer than each of the names.
@@ -279,7 +264,7 @@ fn named_color(s: &[u8]) -> Rgba
 }
 
 // The bytes of a string under the standard's list.
-fn color_bytes(s: &[u8]) -> Rgba
+fn color_bytes(s: &[u8]) -> Option<[u8; 4]>
     ensures { rgba_of result ≡ color_bytes s.now }
 {
     if text::byte_at(s, 0) == b'#' {
@@ -295,18 +280,7 @@ pub fn is_color(text: &[u8], start: usize, size: usize, list: u32) -> bool
     if list == 1 {
         return presets::is_valid_color(text, start, size);
     }
-    presets::is_color(text::part(text, start, size), words::CSS_COLORS)
-}
-
-// Writes four bytes.
-fn put_four(out: &mut [u8], a: u8, b: u8, c: u8, d: u8)
-    requires { length out.old ≡ 4 }
-    ensures { out.new ≡ a ∷ b ∷ c ∷ d ∷ [] }
-{
-    out[0] = a;
-    out[1] = b;
-    out[2] = c;
-    out[3] = d;
+    presets::is_color(text::part(text, start, size), List::CssColors)
 }
 
 // The red, green, blue and alpha of a string; four zero bytes for one that is no colour.
@@ -315,17 +289,12 @@ pub fn color(string: &[u8], out: &mut [u8; 4]) -> CheckAnswer
     ensures values { color_values (result, out.new) ≡ color_values (coloring string.now) }
 {
     match color_bytes(string) {
-        Rgba::Is {
-            red,
-            green,
-            blue,
-            alpha,
-        } => {
-            put_four(out, red, green, blue, alpha);
+        Some(bytes) => {
+            *out = bytes;
             CheckAnswer::Accepted
         }
-        Rgba::Nothing => {
-            put_four(out, 0, 0, 0, 0);
+        None => {
+            *out = [0; 4];
             CheckAnswer::Refused {
                 refusal: Refusal::InvalidColor,
                 place: 0,

@@ -36,7 +36,7 @@ module _ (s : List ℕ) (at : ℕ) where
   kind_there = get_or-drop at s 0 0 ∙ rw add-zero refl
 
   -- a record of another kind holds none
-  pub another_kind : (get_or s at 0 ≡ waveform_kind → ⊥) → false ≡ holds_noise (drop at s)
+  pub another_kind : (get_or s at 0 ≡ waveform_kind → ⊥) → eqb (get_or s at 0) waveform_kind ≡ holds_noise (drop at s)
   unfolding holds_noise
   another_kind h = rw (kind_there, ne_eqb (get_or s at 0) waveform_kind h) refl
 

@@ -24,11 +24,7 @@ fn holds_noise(sheet: &[u8], at: usize) -> bool
     requires { at + 3 < length sheet.now }
     ensures { result ≡ holds_noise (drop at sheet.now) }
 {
-    let kind = sheet[at];
-    if kind != WAVEFORM {
-        return false;
-    }
-    sheet[at + 3] == NOISE
+    sheet[at] == WAVEFORM && sheet[at + 3] == NOISE
 }
 
 // Puts triangle for noise into the record at a place, and gives the place behind the record.
@@ -37,12 +33,11 @@ fn convert_record(sheet: &mut [u8], at: usize, text_len: usize) -> usize
     ensures passes_record { PassesRecord text_len sheet.old at result }
     ensures sheet_after { sheet.new ≡ take at sheet.old ++ converted_record (drop at sheet.old) }
 {
-    let r = take_record(sheet, at, text_len);
+    let record = take_record(sheet, at, text_len);
     if holds_noise(sheet, at) {
         sheet[at + 3] = TRIANGLE;
-        return r.next;
     }
-    r.next
+    record.next
 }
 
 // Puts it into every record of a sheet. What stands behind the place is as it was.

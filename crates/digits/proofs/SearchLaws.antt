@@ -1,7 +1,7 @@
 -- The search over the places behind the point finds the number with the fewest digits, and the smallest of these.
 -- Of the numbers with p places that read to an f32 the least has the fewest digits; with more places it is no larger.
 use Prim.Native.Nat.{ℕ, zero, suc, suc-le-suc, ◌+◌, ◌-◌, ◌*◌, ◌/◌, ◌^◌, ◌≤◌, ◌<◌}
-use mathlib.Core.Bool.{Bool, true, false}
+use mathlib.Core.Bool.{false}
 use mathlib.Core.Logic.{◌⊎◌, inl, inr, ⊎_elim}
 use mathlib.Core.Option.{none, some}
 use mathlib.Core.Path.{◌≡◌, refl, sym, ap, ◌∙◌, subst}
@@ -21,6 +21,8 @@ use Rattle.digits.specs.Means.{bits_of, lowest, highest, long, Wide, FirstAt, Ha
 use Rattle.digits.specs.Means.{Placed, Spaced, Candidate, Leads, Missed, Ready, Searched}
 use Rattle.digits.specs.declared.Middle.{Middle}
 use Rattle.digits.specs.declared.Best.{Best}
+use Rattle.digits.specs.declared.Decimal.{Decimal}
+use Rattle.std.specs.Prelude.{Option as Maybe, Some, None, IfSome}
 use Rattle.digits.proofs.LeastLaws.{either}
 use Rattle.digits.proofs.DigitLaws.{trim}
 use Rattle.digits.proofs.NumeralLaws.{
@@ -142,21 +144,21 @@ missed_more {b} {p} m f = record {
 
 -- what has more digits than the best is passed over; where there is no best, there is none
 pub passed_over : {b sh p : ℕ} {s : Best}
-    → (s.number.found ≡ true → (v : ℕ) → Candidate b v p → s.digits < long v p)
-    → (s.number.found ≡ false → ((v : ℕ) → Candidate b v p → ⊥) × (10 ^ (p + 1) ≤ 5 * 2 ^ sh))
+    → ((r : Decimal) → s.number ≡ Some r → (v : ℕ) → Candidate b v p → s.digits < long v p)
+    → (s.number ≡ None → ((v : ℕ) → Candidate b v p → ⊥) × (10 ^ (p + 1) ≤ 5 * 2 ^ sh))
     → Searched b sh p s
     → Searched b sh (p + 1) s
 passed_over {b} {sh} {p} {s} more nil h = record {
   bounded = h.bounded;
   plain = h.plain;
-  found = λ e.
-      let l = h.found e in
+  found = λ r e.
+      let l = h.found r e in
       record {
         low = up l.low;
         is = l.is;
         size = l.size;
-        fewer = λ v j g c. ⊎_elim (λ (q : j ≡ p). le_of_lt (at e v j q c)) (λ (q : j < p). l.fewer v j q c) (older j p g);
-        smaller = λ v j g c z. ⊎_elim (λ (q : j ≡ p). absurd (no (at e v j q c) z)) (λ (q : j < p). l.smaller v j q c z) (older j p g);
+        fewer = λ v j g c. ⊎_elim (λ (q : j ≡ p). le_of_lt (at r e v j q c)) (λ (q : j < p). l.fewer v j q c) (older j p g);
+        smaller = λ v j g c z. ⊎_elim (λ (q : j ≡ p). absurd (no (at r e v j q c) z)) (λ (q : j < p). l.smaller v j q c z) (older j p g);
       };
   short = h.short;
   full = h.full;
@@ -164,8 +166,8 @@ passed_over {b} {sh} {p} {s} more nil h = record {
   wide = λ e. (nil e).1;
 }
   where
-    at : s.number.found ≡ true → (v j : ℕ) → j ≡ p → Candidate b v j → s.digits < long v j
-    at e v j q c = subst (λ (x : ℕ). s.digits < long v x) (sym q) (more e v (subst (λ (x : ℕ). Candidate b v x) q c))
+    at : (r : Decimal) → s.number ≡ Some r → (v j : ℕ) → j ≡ p → Candidate b v j → s.digits < long v j
+    at r e v j q c = subst (λ (x : ℕ). s.digits < long v x) (sym q) (more r e v (subst (λ (x : ℕ). Candidate b v x) q c))
 
     up : {x : ℕ} → x < p → x < p + 1
     up h = omega arith
@@ -173,24 +175,22 @@ passed_over {b} {sh} {p} {s} more nil h = record {
     no : {x y : ℕ} → x < y → y ≡ x → ⊥
     no a e = omega arith
 
+-- n over 10 ^ p
+abbrev pub at_places : ℕ → ℕ → Decimal
+at_places n p = record { n = n; middle = 0; high = 0; places = p }
+
 -- the least with p places is taken, if it has no more digits than the best
 pub taken : {b sh p n c l : ℕ} {s : Best} → FirstAt b (10 ^ p) n → Candidate b n p
-    → Wide n p c l → p < s.digits → n < s.limit → p < 10 → (s.number.found ≡ false → n < 10 ^ 10) → Searched b sh p s
-    → Searched b sh (p + 1) (record { number = record { found = true; n = n; middle = 0; high = 0; places = p }; digits = c; limit = l })
+    → Wide n p c l → p < s.digits → n < s.limit → p < 10 → (s.number ≡ None → n < 10 ^ 10) → Searched b sh p s
+    → Searched b sh (p + 1) (record { number = Some (at_places n p); digits = c; limit = l })
 taken {b} {sh} {p} {n} {c} {l} {s} f k w g i P N h = record {
   bounded = record { digits = le_trans fewer_digits h.bounded.digits; limit = w.power };
-  plain = (refl, refl);
-  found = λ e. record {
-    low = up p;
-    is = k;
-    size = wide_long w k.below;
-    fewer = λ v j q d. ⊎_elim (λ (z : j ≡ p). at v j z d) (λ (z : j < p). before v j z d) (older j p q);
-    smaller = λ v j q d z. first_smaller p f v j (down j q) d;
-  };
-  short = λ e. ten s.number.found refl;
-  full = λ e. absurd (let z : ◌≡◌ {A = ℕ} 0 1 = cc in omega arith);
-  missed = λ e. absurd (let z : ◌≡◌ {A = ℕ} 0 1 = cc in omega arith);
-  wide = λ e. absurd (let z : ◌≡◌ {A = ℕ} 0 1 = cc in omega arith);
+  plain = λ r e. let q : at_places n p ≡ r = cc in (sym (ap (λ (z : Decimal). z.middle) q), sym (ap (λ (z : Decimal). z.high) q));
+  found = λ r e. let q : at_places n p ≡ r = cc in subst (λ (z : Decimal). Leads b (p + 1) z.n z.places c) q leads;
+  short = λ r e. ten s.number refl;
+  full = λ e. cc;
+  missed = λ e. cc;
+  wide = λ e. cc;
 }
   where
     up : (p : ℕ) → p < p + 1
@@ -202,9 +202,9 @@ taken {b} {sh} {p} {n} {c} {l} {s} f k w g i P N h = record {
     fewer_digits : c ≤ s.digits
     fewer_digits = w.least s.digits g (subst (λ (x : ℕ). n < x) h.bounded.limit i)
 
-    ten : (x : Bool) → s.number.found ≡ x → c ≤ 10
-    ten true e = le_trans fewer_digits (h.short e)
-    ten false e = w.least 10 P (N e)
+    ten : (x : Maybe Decimal) → s.number ≡ x → c ≤ 10
+    ten (Some r) e = le_trans fewer_digits (h.short r e)
+    ten None e = w.least 10 P (N e)
 
     at : (v j : ℕ) → j ≡ p → Candidate b v j → c ≤ long v j
     at v j z d =
@@ -213,11 +213,20 @@ taken {b} {sh} {p} {n} {c} {l} {s} f k w g i P N h = record {
         (w.least (long v p) (long_above v p) (lt_of_le_of_lt (first_le p f e) (long_lt v p e.below)))
 
     before : (v j : ℕ) → j < p → Candidate b v j → c ≤ long v j
-    before v j z d = go s.number.found refl
+    before v j z d = go s.number refl
       where
-        go : (x : Bool) → s.number.found ≡ x → c ≤ long v j
-        go true e = le_trans fewer_digits ((h.found e).fewer v j z d)
-        go false e = absurd ((h.missed e).none v j z d)
+        go : (x : Maybe Decimal) → s.number ≡ x → c ≤ long v j
+        go (Some r) e = le_trans fewer_digits ((h.found r e).fewer v j z d)
+        go None e = absurd ((h.missed e).none v j z d)
+
+    leads : Leads b (p + 1) n p c
+    leads = record {
+      low = up p;
+      is = k;
+      size = wide_long w k.below;
+      fewer = λ v j q d. ⊎_elim (λ (z : j ≡ p). at v j z d) (λ (z : j < p). before v j z d) (older j p q);
+      smaller = λ v j q d z. first_smaller p f v j (down j q) d;
+    }
 
 -- ---- as the code has it
 
@@ -238,7 +247,7 @@ module _ {s : Best} {low high : Middle} {p scale : ℕ} (r : Ready s low high p 
   pub step_longer : {b n sh : ℕ} → b ≤ highest → FirstAt b scale n → s.limit ≤ n → Searched b sh p s → Searched b sh (p + 1) s
   step_longer {b} {n} {sh} k f h x =
       passed_over
-      (λ e v c. more_digits v p s.digits c.below
+      (λ d e v c. more_digits v p s.digits c.below
       (le_trans (le_of_eq (sym r.bounded.limit)) (le_trans h (first_le p (at_power f) c))))
       (λ e. absurd (not-le_of_lt (few_digits n p r.few (first_below p (at_power f) k))
       (le_trans (le_of_eq (ap (λ (z : ℕ). 10 ^ z) (sym (x.full e)) ∙ sym r.bounded.limit)) h)))
@@ -249,7 +258,7 @@ module _ {s : Best} {low high : Middle} {p scale : ℕ} (r : Ready s low high p 
     pub step-none : Halfway b low → Halfway (b + 1) high → Spaced low high → m ≤ n
         → Searched b low.shift p s → Searched b low.shift (p + 1) s
     step-none x y q h =
-        passed_over (λ e v c. absurd (none_reads p (at_power f) (at_power g) h c))
+        passed_over (λ d e v c. absurd (none_reads p (at_power f) (at_power g) h c))
         (λ e. (λ v c. none_reads p (at_power f) (at_power g) h c, tenfold (none_between scale_low x y q r.fair_high.tie f g h)))
       where
         plain : (d z : ℕ) → 2 * d ≤ z → d * 10 ≤ 5 * z
@@ -261,7 +270,7 @@ module _ {s : Best} {low high : Middle} {p scale : ℕ} (r : Ready s low high p 
     pub step-taken : {c l : ℕ} → b ≤ highest → Halfway b low → n < s.limit → n < m → Wide n p c l
         → Searched b low.shift p s
         → Searched b low.shift (p + 1)
-        (record { number = record { found = true; n = n; middle = 0; high = 0; places = p }; digits = c; limit = l })
+        (record { number = Some (at_places n p); digits = c; limit = l })
     step-taken h x i j w q =
         taken (at_power f)
         (record { reads = first_reads p (at_power f) (at_power g) j; below = low_enough _ (first_below p (at_power f) h) }) w r.fewer i
@@ -289,7 +298,7 @@ module _ {s : Best} {low high : Middle} {p scale : ℕ} (r : Ready s low high p 
 
 -- ---- the loop
 
-pub record Going (b : ℕ) (low high : Middle) (s : Best) (p scale : ℕ) : Type 0 where
+pub record Going (b : ℕ) (low high : Middle) (s : Best) (p : ℕ) : Type 0 where
   pub inside : b ≤ highest
   pub outside : lowest ≤ b
   pub halfway_low : Halfway b low
@@ -297,13 +306,12 @@ pub record Going (b : ℕ) (low high : Middle) (s : Best) (p scale : ℕ) : Type
   pub placed_low : Placed b low
   pub placed_high : Placed (b + 1) high
   pub few : p ≤ 10
-  pub power : scale ≡ 10 ^ p
   pub searched : Searched b low.shift p s
 
 pub search_starts : {b : ℕ} {low high : Middle} → b ≤ highest → lowest ≤ b
     → Halfway b low × Placed b low → Halfway (b + 1) high × Placed (b + 1) high
     → Going b low high
-    (record { number = record { found = false; n = 0; middle = 0; high = 0; places = 0 }; digits = 19; limit = 10000000000000000000 }) 0 1
+    (record { number = None; digits = 19; limit = 10000000000000000000 }) 0
 search_starts {low = low} h o x y = record {
   inside = h;
   outside = o;
@@ -312,12 +320,11 @@ search_starts {low = low} h o x y = record {
   placed_low = x.1;
   placed_high = y.1;
   few = lit≤ tt;
-  power = refl;
   searched = record {
     bounded = record { digits = le_refl 19; limit = refl };
-    plain = (refl, refl);
-    found = λ e. absurd (let z : ◌≡◌ {A = ℕ} 0 1 = cc in omega arith);
-    short = λ e. absurd (let z : ◌≡◌ {A = ℕ} 0 1 = cc in omega arith);
+    plain = λ r e. cc;
+    found = λ r e. cc;
+    short = λ r e. cc;
     full = λ e. refl;
     missed = λ e. record { none = λ v j q c. absurd (not-suc-le-zero q) };
     wide = λ e. some (2 ^ low.shift) (pow_pos low.shift);
@@ -327,19 +334,19 @@ search_starts {low = low} h o x y = record {
     some : (x : ℕ) → 0 < x → 1 ≤ 5 * x
     some x h = omega arith
 
-module _ {b : ℕ} {low high : Middle} {s : Best} {p scale : ℕ} (g : Going b low high s p scale) (h : p < 10) where
-  pub search_ready : p < s.digits → Ready s low high p scale
-  search_ready l = record {
+module _ {b : ℕ} {low high : Middle} {s : Best} {p : ℕ} (g : Going b low high s p) (h : p < 10) where
+  pub search_ready : {scale : ℕ} → scale ≡ 10 ^ p → p < s.digits → Ready s low high p scale
+  search_ready e l = record {
     bounded = g.searched.bounded;
     fair_low = fair_of g.outside g.placed_low;
     fair_high = fair_of (le_trans g.outside (omega arith)) g.placed_high;
     few = le_of_suc-le-suc h;
-    power = g.power;
+    power = e;
     fewer = l;
     small = g.placed_low.small;
   }
 
-  pub search_goes_on : {t : Best} → Searched b low.shift (p + 1) t → Going b low high t (p + 1) (scale * 10)
+  pub search_goes_on : {t : Best} → Searched b low.shift (p + 1) t → Going b low high t (p + 1)
   search_goes_on x = record {
     inside = g.inside;
     outside = g.outside;
@@ -348,7 +355,6 @@ module _ {b : ℕ} {low high : Middle} {s : Best} {p scale : ℕ} (g : Going b l
     placed_low = g.placed_low;
     placed_high = g.placed_high;
     few = omega arith;
-    power = ten_times scale p g.power;
     searched = x;
   }
 
@@ -443,31 +449,41 @@ missed_is {b} m = sym (ap decimal_of (none_fewest b (λ k l r. m.none _ _ (up (s
     up h = omega arith
 
 -- what the search in 64 bits has found
-pub search_found : {b sh places : ℕ} {s : Best} → Searched b sh places s → places ≤ 10 → (10 ≤ places) ⊎ (s.digits ≤ places)
-    → s.number.found ≡ true → number_of s.number ≡ decimal_of (fewest b)
-search_found {b} {sh} {places} {s} h P e q =
-    rw (q, h.plain.0, h.plain.1, add-zero) (leads_is (leads_all (le_trans P (lit≤ tt)) enough (h.found q)))
+search_found : {b sh places : ℕ} {s : Best} → Searched b sh places s → places ≤ 10 → (10 ≤ places) ⊎ (s.digits ≤ places)
+    → (r : Decimal) → s.number ≡ Some r → number_of s.number ≡ decimal_of (fewest b)
+search_found {b} {sh} {places} {s} h P e r q =
+    rw (q, (h.plain r q).0, (h.plain r q).1, add-zero) (leads_is (leads_all (le_trans P (lit≤ tt)) enough (h.found r q)))
   where
     enough : s.digits ≤ places
-    enough = ⊎_elim (λ (x : 10 ≤ places). le_trans (h.short q) x) (λ (x : s.digits ≤ places). x) e
+    enough = ⊎_elim (λ (x : 10 ≤ places). le_trans (h.short r q) x) (λ (x : s.digits ≤ places). x) e
 
-pub search_neat : {b sh places : ℕ} {s : Best} → Searched b sh places s → places ≤ 10 → s.number.found ≡ true → Neat s.number
-search_neat {s = s} h P q =
-    let l = (h.found q).low in
+search_neat : {b sh places : ℕ} {s : Best} → Searched b sh places s → places ≤ 10 → (r : Decimal) → s.number ≡ Some r → Neat r
+search_neat {s = s} h P r q =
+    let l = (h.found r q).low in
+    let p = h.plain r q in
     record {
       far = λ k. absurd (omega arith);
-      parts = λ k. h.plain;
-      n = λ k. absurd (nil s.number.middle s.number.high h.plain.0 h.plain.1 k);
-      middle = subst (λ (z : ℕ). z < 10 ^ 18) (sym h.plain.0) (lit< tt);
-      high = subst (λ (z : ℕ). z < 10 ^ 4) (sym h.plain.1) (lit< tt);
+      parts = λ k. p;
+      n = λ k. absurd (nil r.middle r.high p.0 p.1 k);
+      middle = subst (λ (z : ℕ). z < 10 ^ 18) (sym p.0) (lit< tt);
+      high = subst (λ (z : ℕ). z < 10 ^ 4) (sym p.1) (lit< tt);
     }
   where
     nil : (a b : ℕ) → a ≡ 0 → b ≡ 0 → 0 < a + b → ⊥
     nil a b e f k = omega arith
 
+-- both, of an answer that is some number
+pub search_ends : {b sh places : ℕ} {s : Best} → Searched b sh places s → places ≤ 10 → (10 ≤ places) ⊎ (s.digits ≤ places)
+    → (s.number ≡ None → ⊥) → (number_of s.number ≡ decimal_of (fewest b)) × IfSome s.number Neat
+search_ends {b} {s = s} h P e n = go s.number refl
+  where
+    go : (x : Maybe Decimal) → s.number ≡ x → (number_of s.number ≡ decimal_of (fewest b)) × IfSome s.number Neat
+    go (Some r) q = (search_found h P e r q, subst (λ (z : Maybe Decimal). IfSome z Neat) (sym q) (search_neat h P r q))
+    go None q = absurd (n q)
+
 -- and where it has found nothing
 pub search_missed : {b sh places : ℕ} {s : Best} → Searched b sh places s → places ≤ 10 → (10 ≤ places) ⊎ (s.digits ≤ places)
-    → s.number.found ≡ false → Missed b 10 × (10 ^ 10 ≤ 5 * 2 ^ sh)
+    → s.number ≡ None → Missed b 10 × (10 ^ 10 ≤ 5 * 2 ^ sh)
 search_missed {b} {sh} {places} {s} h P e q =
     let z : places ≡ 10 = ⊎_elim (λ (x : 10 ≤ places). le_antisymm P x) (λ (x : s.digits ≤ places). absurd (big (h.full q) x P)) e in
     (subst (λ (x : ℕ). Missed b x) z (h.missed q), subst (λ (x : ℕ). 10 ^ x ≤ 5 * 2 ^ sh) z (h.wide q))

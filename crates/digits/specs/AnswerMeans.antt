@@ -1,5 +1,6 @@
 -- What the code's answers stand for.
-use Rattle.std.specs.Prelude.{ℕ, ◌+◌, ◌*◌, ◌^◌, ◌<◌, ◌≡◌, cond}
+use Rattle.std.specs.Prelude.{ℕ, ◌+◌, ◌*◌, ◌^◌, ◌<◌, ◌≡◌, Some, None}
+use Rattle.std.specs.Prelude.{Option as Maybe}
 use Rattle.std.proofs.Math.Option.{Option, none, some}
 use Rattle.text.specs.Limits.{places_limit}
 use Rattle.digits.specs.Fewest.{trimmed}
@@ -10,8 +11,9 @@ abbrev pub whole_number : Decimal → ℕ
 whole_number r = r.n + (r.middle + r.high * 10 ^ 18) * 10 ^ 18
 
 -- it over 10 ^ places, if there is one
-abbrev pub number_of : Decimal → Option (ℕ × ℕ)
-number_of r = cond r.found (some (whole_number r, r.places)) none
+abbrev pub number_of : Maybe Decimal → Option (ℕ × ℕ)
+number_of (Some r) = some (whole_number r, r.places)
+number_of None = none
 
 -- so many parts, with no zero at the end
 abbrev pub decimal_of : Option ℕ → Option (ℕ × ℕ)

@@ -1,5 +1,5 @@
 -- What private functions ensure: words of contracts, which a reader need not believe.
-use Rattle.std.specs.Prelude.{ℕ, ◌+◌, ◌-◌, ◌*◌, ◌/◌, ◌%◌, ◌^◌, ◌<◌, ◌≤◌, true, false, cond, List, eqb, ◌≡◌, length}
+use Rattle.std.specs.Prelude.{ℕ, ◌+◌, ◌-◌, ◌*◌, ◌/◌, ◌%◌, ◌^◌, ◌<◌, ◌≤◌, false, cond, Some, None, List, eqb, ◌≡◌, length}
 use Rattle.limbs.specs.LimbMeans.{up_to}
 use Rattle.std.specs.Float.{binary32}
 use Rattle.std.specs.Float.Ieee.{round}
@@ -112,12 +112,12 @@ pub record Missed (b places : ℕ) : Type 0 where
 -- where nothing is found, a place's worth is no more than 5 / 2 units, so that the next number is small
 pub record Searched (b shift places : ℕ) (s : Best) : Type 0 where
   pub bounded : Bounded s
-  pub plain : (s.number.middle ≡ 0) × (s.number.high ≡ 0)
-  pub found : s.number.found ≡ true → Leads b places s.number.n s.number.places s.digits
-  pub short : s.number.found ≡ true → s.digits ≤ 10
-  pub full : s.number.found ≡ false → s.digits ≡ 19
-  pub missed : s.number.found ≡ false → Missed b places
-  pub wide : s.number.found ≡ false → 10 ^ places ≤ 5 * 2 ^ shift
+  pub plain : (r : Decimal) → s.number ≡ Some r → (r.middle ≡ 0) × (r.high ≡ 0)
+  pub found : (r : Decimal) → s.number ≡ Some r → Leads b places r.n r.places s.digits
+  pub short : (r : Decimal) → s.number ≡ Some r → s.digits ≤ 10
+  pub full : s.number ≡ None → s.digits ≡ 19
+  pub missed : s.number ≡ None → Missed b places
+  pub wide : s.number ≡ None → 10 ^ places ≤ 5 * 2 ^ shift
 
 -- what one more step asks
 pub record Ready (s : Best) (low high : Middle) (places scale : ℕ) : Type 0 where
@@ -177,7 +177,6 @@ abbrev pub whole_over : ℕ → ℕ
 whole_over b = middle_of b + 1 - digits_of (b - 1) % 2
 
 pub record LeastWhole (b : ℕ) (r : Decimal) : Type 0 where
-  pub found : r.found ≡ true
   pub places : r.places ≡ 0
   pub is : whole_number r ≡ whole_over b
 

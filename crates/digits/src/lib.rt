@@ -1,19 +1,18 @@
 // How a number is written: with the fewest digits that read to it, and of these the smallest.
 #![tactic(auto)]
 
-ghost use Rattle.std.specs.Prelude.{◌≡◌, ℕ, ◌+◌, ◌*◌, ◌/◌, ◌^◌, ◌<◌, ◌≤◌, length, cond};
+ghost use Rattle.std.specs.Prelude.{◌≡◌, ℕ, ◌+◌, ◌*◌, ◌/◌, ◌^◌, ◌<◌, ◌≤◌, length, Some, IfSome};
 ghost use Rattle.limbs.specs.LimbMeans.{up_to};
-ghost use Rattle.std.proofs.Math.Option.{none, some};
+ghost use Rattle.std.proofs.Math.Option.{some};
 ghost use Rattle.digits.specs.Fewest.{fewest, least_percent};
 ghost use Rattle.digits.specs.AnswerMeans.{number_of, Neat, decimal_of, whole_of};
 ghost use Rattle.digits.specs.Means.{highest, least, infinity, doublings, first_past, Fixed, Long, Lengthy, Doubled, LeastWhole, percent_bits, whole24, float_whole, FirstFloat, Fair, Halfway, Placed, Spaced, FirstAt, Wide, Ready, Searched};
 
 use number::Stored;
 
-// A number without sign, (n + middle * 10^18 + high * 10^36) / 10^places, if one was found.
+// A number without sign, (n + middle * 10^18 + high * 10^36) / 10^places.
 #[derive(Clone, Copy)]
 pub struct Decimal {
-    pub found: bool,
     pub n: u64,
     pub middle: u64,
     pub high: u64,
@@ -28,10 +27,10 @@ struct Middle {
     tie: u64,
 }
 
-// The best number so far, how many digits it has, and 10 to that power.
+// The best number so far, if there is one, how many digits it may have, and 10 to that power.
 #[derive(Clone, Copy)]
 struct Best {
-    number: Decimal,
+    number: Option<Decimal>,
     digits: usize,
     limit: u64,
 }
@@ -57,11 +56,7 @@ const INFINITY: u32 = 2139095040;
 fn doublings(bits: u32) -> u32
     ensures { result ≡ doublings bits }
 {
-    let e = bits / 8388608;
-    if e == 0 {
-        return 0;
-    }
-    e - 1
+    (bits / 8388608).saturating_sub(1)
 }
 
 // The middle below the f32 with these bits.
@@ -72,18 +67,20 @@ fn middle_below(bits: u32) -> Middle
     let b = bits - 1;
     let k = doublings(b);
     let w = b - k * 8388608;
-    let half = (w * 2 + 1) as u64;
-    let tie = (w % 2) as u64;
+    let half = u64::from(w * 2 + 1);
+    let tie = u64::from(w % 2);
     if k < 150 {
-        let shift = 150 - k;
         Middle {
             num: half,
-            shift,
+            shift: 150 - k,
             tie,
         }
     } else {
-        let num = half << (k - 150);
-        Middle { num, shift: 0, tie }
+        Middle {
+            num: half << (k - 150),
+            shift: 0,
+            tie,
+        }
     }
 }
 
@@ -92,8 +89,7 @@ fn past(m: Middle, scale: u64) -> u64
     requires { Fair m × (0 < scale) × (scale ≤ 10 ^ 9) }
     ensures { (b : ℕ) → Halfway b m → FirstAt b scale result }
 {
-    let one: u64 = 1;
-    (m.num * scale + (one << m.shift) - m.tie) >> m.shift
+    (m.num * scale + (1u64 << m.shift) - m.tie) >> m.shift
 }
 
 // The digits of n / 10^places, one before the point at least; `scale` is 10^places.
@@ -104,7 +100,7 @@ fn width_of(n: u64, places: usize, scale: u64) -> Width
     let mut digits = places + 1;
     let mut limit = scale * 10;
     while limit <= n {
-        limit = limit * 10;
+        limit *= 10;
         digits += 1;
     }
     Width { digits, limit }
@@ -124,15 +120,13 @@ fn step(s: Best, low: Middle, high: Middle, places: usize, scale: u64) -> Best
         return s;
     }
     let w = width_of(n, places, scale);
-    let number = Decimal {
-        found: true,
-        n,
-        middle: 0,
-        high: 0,
-        places,
-    };
     Best {
-        number,
+        number: Some(Decimal {
+            n,
+            middle: 0,
+            high: 0,
+            places,
+        }),
         digits: w.digits,
         limit: w.limit,
     }
@@ -145,10 +139,8 @@ fn shift_up(f: &mut [u32], n: u32)
     requires { (length f.old ≡ 5) × (up_to 5 f.old * 2 ^ n < 4294967296 ^ 5) }
     ensures { up_to 5 f.new ≡ up_to 5 f.old * 2 ^ n }
 {
-    let mut i: u32 = 0;
-    while i < n {
-        let over = limbs::muladd(f, 2, 0);
-        i += 1;
+    for _i in 0..n {
+        limbs::muladd(f, 2, 0);
     }
 }
 
@@ -159,7 +151,7 @@ fn lift(f: &mut [u32], whole: u64, m: u32) -> u64
     ensures below { up_to 5 f.new < 4294967296 ^ 5 }
 {
     let over = limbs::muladd(f, m, 0);
-    whole * (m as u64) + over
+    whole * u64::from(m) + over
 }
 
 // A middle times 10^10, in limbs that hold 0.
@@ -168,7 +160,7 @@ fn prepare(f: &mut [u32], m: Middle) -> u64
     ensures { Fixed m 10 result f.new }
 {
     let num = m.num as u32;
-    let none = limbs::muladd(f, num, num);
+    limbs::muladd(f, num, num);
     shift_up(f, 160 - m.shift);
     let a = lift(f, 0, 100000);
     lift(f, a, 100000)
@@ -179,52 +171,45 @@ fn first_past(whole: u64, f: &[u32], tie: u64) -> u64
     requires { (length f.now ≡ 5) × (whole ≤ 2 ^ 30) }
     ensures { result ≡ first_past tie (up_to 5 f.now) whole }
 {
-    if tie == 0 {
-        return whole + 1;
+    if tie != 0 && limbs::is_zero(f) {
+        whole
+    } else {
+        whole + 1
     }
-    if limbs::is_zero(f) {
-        return whole;
-    }
-    whole + 1
 }
 
 // The first number of 10 to 40 places that reads to the f32 with these bits, which no number of fewer places does.
-fn fewest_long(bits: u32, low: Middle, high: Middle) -> Decimal
+fn fewest_long(bits: u32, low: Middle, high: Middle) -> Option<Decimal>
     requires { Lengthy bits low high }
     ensures result_value { number_of result ≡ decimal_of (fewest bits) }
-    ensures neat { Neat result }
+    ensures neat { IfSome result Neat }
 {
     let mut f = [0u32; 5];
     let mut g = [0u32; 5];
     let mut i = prepare(&mut f, low);
     let mut j = prepare(&mut g, high);
-    let mut places: usize = 10;
-    while places < 41 {
+    for places in 10..41 {
         let n = first_past(i, &f, low.tie);
-        let m = first_past(j, &g, high.tie);
-        if n < m {
-            return Decimal {
-                found: true,
+        if n < first_past(j, &g, high.tie) {
+            return Some(Decimal {
                 n,
                 middle: 0,
                 high: 0,
                 places,
-            };
+            });
         }
         i = lift(&mut f, i, 10);
         j = lift(&mut g, j, 10);
-        places += 1;
     }
-    whole(false, 0)
+    None
 }
 
-// A whole number, or nothing.
-fn whole(found: bool, n: u64) -> Decimal
-    ensures result_value { number_of result ≡ cond found (some (n, 0)) none }
+// A whole number.
+fn whole(n: u64) -> Decimal
+    ensures result_value { number_of (Some result) ≡ some (n, 0) }
     ensures neat { Neat result }
 {
     Decimal {
-        found,
         n,
         middle: 0,
         high: 0,
@@ -233,39 +218,31 @@ fn whole(found: bool, n: u64) -> Decimal
 }
 
 // The number with the fewest digits that reads to the f32 with these bits, from the one next to 10^-40 to 10^10.
-fn fewest_small(bits: u32) -> Decimal
+fn fewest_small(bits: u32) -> Option<Decimal>
     requires { (least ≤ bits) × (bits ≤ highest) }
     ensures result_value { number_of result ≡ decimal_of (fewest bits) }
-    ensures neat { Neat result }
+    ensures neat { IfSome result Neat }
 {
     let low = middle_below(bits);
     let high = middle_below(bits + 1);
     if bits < LOWEST {
         return fewest_long(bits, low, high);
     }
-    let number = Decimal {
-        found: false,
-        n: 0,
-        middle: 0,
-        high: 0,
-        places: 0,
-    };
     let mut s = Best {
-        number,
+        number: None,
         digits: 19,
         limit: 10000000000000000000,
     };
-    let mut places: usize = 0;
-    let mut scale: u64 = 1;
-    while places < 10 && places < s.digits {
-        s = step(s, low, high, places, scale);
-        scale = scale * 10;
-        places += 1;
+    for places in 0..10 {
+        if s.digits <= places {
+            break;
+        }
+        s = step(s, low, high, places, number::ten_to(places));
     }
-    if s.number.found {
-        return s.number;
+    match s.number {
+        None => fewest_long(bits, low, high),
+        found => found,
     }
-    fewest_long(bits, low, high)
 }
 
 // ---- above 10^10: whole numbers of up to 39 digits
@@ -284,11 +261,10 @@ fn doubled(p: Parts) -> Parts
 {
     let n = p.n * 2;
     let m = p.middle * 2 + n / 1000000000000000000;
-    let high = p.high * 2 + m / 1000000000000000000;
     Parts {
         n: n % 1000000000000000000,
         middle: m % 1000000000000000000,
-        high,
+        high: p.high * 2 + m / 1000000000000000000,
     }
 }
 
@@ -302,19 +278,15 @@ fn least_whole(bits: u32) -> Decimal
     let k = doublings(b);
     let w = b - k * 8388608;
     let mut p = Parts {
-        n: (w * 2 + 1) as u64,
+        n: u64::from(w * 2 + 1),
         middle: 0,
         high: 0,
     };
-    let mut i: u32 = 150;
-    while i < k {
+    for _i in 150..k {
         p = doubled(p);
-        i += 1;
     }
-    let n = p.n + 1 - (w % 2) as u64;
     Decimal {
-        found: true,
-        n,
+        n: p.n + 1 - u64::from(w % 2),
         middle: p.middle,
         high: p.high,
         places: 0,
@@ -322,23 +294,23 @@ fn least_whole(bits: u32) -> Decimal
 }
 
 // The number with the fewest digits that reads to the f32 with these bits, and of these the smallest.
-pub fn fewest(bits: u32) -> Decimal
+pub fn fewest(bits: u32) -> Option<Decimal>
     ensures result_value { number_of result ≡ decimal_of (fewest bits) }
-    ensures neat { Neat result }
+    ensures neat { IfSome result Neat }
 {
     if bits == 0 {
-        return whole(true, 0);
+        return Some(whole(0));
     }
     if bits < LEAST {
-        return whole(false, 0);
+        return None;
     }
     if bits > INFINITY {
-        return whole(false, 0);
+        return None;
     }
     if bits <= HIGHEST {
         return fewest_small(bits);
     }
-    least_whole(bits)
+    Some(least_whole(bits))
 }
 
 // ---- percents
@@ -348,9 +320,8 @@ fn hundredth(y: u32) -> u32
     requires { (whole24 ≤ y) × (y ≤ infinity) }
     ensures { result ≡ percent_bits (float_whole y) }
 {
-    let value = number::f32_of_bits(y);
     let x = Stored {
-        value,
+        value: number::f32_of_bits(y),
         rounded: false,
     };
     let p = number::percent_from(x, x);
@@ -376,35 +347,35 @@ fn least_float(bits: u32) -> u32
 }
 
 // The least whole number whose percent is the f32 with these bits, above 2^24.
-fn large_percent(bits: u32) -> Decimal
+fn large_percent(bits: u32) -> Option<Decimal>
     requires { (bits ≤ infinity) × (percent_bits 16777216 < bits) }
     ensures result_value { number_of result ≡ whole_of (least_percent bits) }
-    ensures neat { Neat result }
+    ensures neat { IfSome result Neat }
 {
     let y = least_float(bits);
     if hundredth(y) != bits {
-        return whole(false, 0);
+        return None;
     }
     if y <= HIGHEST {
-        return whole(true, past(middle_below(y), 1));
+        return Some(whole(past(middle_below(y), 1)));
     }
-    least_whole(y)
+    Some(least_whole(y))
 }
 
 // The least whole number whose percent is the f32 with these bits. Up to 2^24 a percent is rounded once, so the first n / 100
 // past the middle is it.
-pub fn percent_of(bits: u32) -> Decimal
+pub fn percent_of(bits: u32) -> Option<Decimal>
     ensures result_value { number_of result ≡ whole_of (least_percent bits) }
-    ensures neat { Neat result }
+    ensures neat { IfSome result Neat }
 {
     if bits == 0 {
-        return whole(true, 0);
+        return Some(whole(0));
     }
     if bits < LOWEST {
-        return whole(false, 0);
+        return None;
     }
     if bits > INFINITY {
-        return whole(false, 0);
+        return None;
     }
     if bits > HIGHEST {
         return large_percent(bits);
@@ -412,7 +383,7 @@ pub fn percent_of(bits: u32) -> Decimal
     let n = past(middle_below(bits), 100);
     if n <= 16777216 {
         let end = past(middle_below(bits + 1), 100);
-        return whole(n < end, n);
+        return (n < end).then_some(whole(n));
     }
     large_percent(bits)
 }

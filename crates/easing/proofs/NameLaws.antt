@@ -10,6 +10,7 @@ use lib.Seq.{drop-cons}
 use borrow.Author.Tests.{not-true, not-false}
 use Rattle.text.specs.Bytes.{is_upper, lower}
 use Rattle.text.specs.Words.{is_some, words, find}
+use Rattle.words.specs.declared.List.TheVariants.{Easings}
 use Rattle.words.specs.ListMeans.{list_of}
 use Rattle.words.proofs.ListLaws.{list_clip}
 use Rattle.easing.specs.Names.{named_easings, snake_byte, snake_rest, snake, is_easing}
@@ -41,17 +42,17 @@ rest_end w i h = rw (drop_of_length-le w h)
 -- ---- lookups
 
 -- the code's list has the names: computed
-names_are : list_of 23 ≡ words named_easings
+names_are : list_of Easings ≡ words named_easings
 unfolding list_of
 names_are = refl
 
 module _ (variant r : Bool) (w : List ℕ) where
-  pub easing-plain : not variant ≡ true → r ≡ is_some (find (list_of 23) 0 w) → r ≡ is_easing variant w
+  pub easing-plain : not variant ≡ true → r ≡ is_some (find (list_of Easings) 0 w) → r ≡ is_easing variant w
   unfolding is_easing
   easing-plain h e = e ∙ (rw (not-true variant h, names_are))
 
   pub easing_variant : (v front : List ℕ) → not variant ≡ false → v ≡ w → front ≡ take 24 (snake v)
-      → r ≡ is_some (find (list_of 23) 0 front) → r ≡ is_easing variant w
+      → r ≡ is_some (find (list_of Easings) 0 front) → r ≡ is_easing variant w
   unfolding is_easing
   easing_variant v front h q f e =
-      e ∙ (rw (not-false variant h, f, sym q, sym names_are) (ap is_some (list_clip 23 (snake v))))
+      e ∙ (rw (not-false variant h, f, sym q, sym names_are) (ap is_some (list_clip Easings (snake v))))

@@ -6,6 +6,8 @@ ghost use Rattle.text.specs.Bytes.{part};
 ghost use Rattle.text.specs.WriteMeans.{Puts};
 ghost use Rattle.easing.specs.Names.{snake_byte, snake, is_easing};
 
+use words::List;
+
 // Writes a byte of a name behind the first one, with `_` before a capital, as far as there is room, and gives the place behind it.
 fn put_snake(out: &mut [u8], at: usize, b: u8) -> usize
     ensures { Puts out.old at (snake_byte b) out.new result }
@@ -41,10 +43,10 @@ pub fn is_named_easing(text: &[u8], start: usize, size: usize, variant: bool) ->
     ensures { result ≡ is_easing variant (part text.now start size) }
 {
     if !variant {
-        return words::holds(words::EASINGS, text, start, size);
+        return words::holds(List::Easings, text, start, size);
     }
     // Longer than each of the names.
     let mut name = [0u8; 24];
     let n = to_snake_case(text::part(text, start, size), &mut name);
-    words::holds(words::EASINGS, &name, 0, n)
+    words::holds(List::Easings, &name, 0, n)
 }

@@ -5,76 +5,76 @@ ghost use Rattle.std.specs.Prelude.{◌≡◌};
 ghost use Rattle.error.specs.Refusal.{number_of};
 
 // A cause of refusal. Where error.rs has a function for it, it has that function's name.
-#[derive(Clone, Copy)]
+#[derive(Clone, Copy, Debug, PartialEq, Eq)]
 pub enum Refusal {
     // A text of more than 16,384 bytes.
-    TextTooLong,
+    TextTooLong = 1,
     // A byte or a form outside the text rules.
-    BadForm,
+    BadForm = 2,
     // A number with too many digits.
-    TooManyDigits,
+    TooManyDigits = 3,
     // A closer without its opener, or an opener that is not closed.
-    Unbalanced,
+    Unbalanced = 4,
     // A 65th opener while 64 are open.
-    TooManyOpen,
+    TooManyOpen = 5,
     // A name, mark, string, whole number, truth value or delimiter is missing.
-    Missing,
-    UnknownKeyword,
+    Missing = 6,
+    UnknownKeyword = 7,
     // `malformed` in parser.rs.
-    Malformed,
-    UnknownSpringPreset,
-    MissingDuration,
-    StaggerGridIncomplete,
+    Malformed = 8,
+    UnknownSpringPreset = 9,
+    MissingDuration = 10,
+    StaggerGridIncomplete = 11,
     // A 17th container inside 16 others.
-    TooManyNested,
+    TooManyNested = 12,
     // Tokens left inside a delimiter.
-    Leftover,
+    Leftover = 13,
     // A sheet slice that is shorter than the encoding.
-    SheetTooShort,
+    SheetTooShort = 14,
     // A waveform of the kind noise in a text.
-    NoiseWritten,
+    NoiseWritten = 15,
     // A scratch of fewer words than reading asks for.
-    ScratchTooShort,
+    ScratchTooShort = 16,
     // Bytes that are no sheet for the text.
-    NotASheet,
+    NotASheet = 20,
     // `malformed` in validate.rs, but for the last two of its causes.
-    OutOfRange,
-    ValueTypeMismatch,
-    UnknownEasing,
-    UnknownPreset,
-    InvalidColor,
+    OutOfRange = 21,
+    ValueTypeMismatch = 22,
+    UnknownEasing = 23,
+    UnknownPreset = 24,
+    InvalidColor = 25,
     // Two keyframes of a track at the same time.
-    DuplicateTime,
+    DuplicateTime = 26,
     // A track of fewer than 2 frames.
-    TooFewFrames,
+    TooFewFrames = 27,
     // A waveform of the kind noise in a sheet.
-    NoiseHeld,
+    NoiseHeld = 28,
     // No record has the ordinal.
-    NoSuchRecord,
+    NoSuchRecord = 31,
     // An output slice that is shorter than the line.
-    OutputTooShort,
+    OutputTooShort = 32,
     // A 4,097th script, or totals with a figure above the limit.
-    TooManyScripts,
+    TooManyScripts = 33,
     // No text without an exponent reads to the tree.
-    Unwritable,
+    Unwritable = 34,
     // The script exceeds a text's limit or the buffer.
-    ScriptTooLong,
+    ScriptTooLong = 35,
     // A list of colours other than 1 and 2.
-    UnknownList,
+    UnknownList = 36,
     // Two items of a book with the same name.
-    NameTwice,
+    NameTwice = 37,
     // A 129th item in a book.
-    TooManyItems,
+    TooManyItems = 38,
     // A chain of calls that comes round to its start.
-    RingOfCalls,
+    RingOfCalls = 39,
     // Bytes that no sheet for the text planes to.
-    NotPlaned,
+    NotPlaned = 40,
     // A waveform that is not drawn: noise, or a number that is no kind.
-    NotDrawn,
+    NotDrawn = 41,
     // A phase of 256 or more.
-    PhaseTooLarge,
+    PhaseTooLarge = 42,
     // Neither book has the name.
-    NoSuchItem,
+    NoSuchItem = 43,
 }
 
 // What reading answers: the sheet's length, its count of node records and how many written numbers were rounded, or a
@@ -140,44 +140,5 @@ pub enum OrderAnswer {
 pub fn number_of(refusal: Refusal) -> u8
     ensures { result ≡ number_of refusal }
 {
-    match refusal {
-        Refusal::TextTooLong => 1,
-        Refusal::BadForm => 2,
-        Refusal::TooManyDigits => 3,
-        Refusal::Unbalanced => 4,
-        Refusal::TooManyOpen => 5,
-        Refusal::Missing => 6,
-        Refusal::UnknownKeyword => 7,
-        Refusal::Malformed => 8,
-        Refusal::UnknownSpringPreset => 9,
-        Refusal::MissingDuration => 10,
-        Refusal::StaggerGridIncomplete => 11,
-        Refusal::TooManyNested => 12,
-        Refusal::Leftover => 13,
-        Refusal::SheetTooShort => 14,
-        Refusal::NoiseWritten => 15,
-        Refusal::ScratchTooShort => 16,
-        Refusal::NotASheet => 20,
-        Refusal::OutOfRange => 21,
-        Refusal::ValueTypeMismatch => 22,
-        Refusal::UnknownEasing => 23,
-        Refusal::UnknownPreset => 24,
-        Refusal::InvalidColor => 25,
-        Refusal::DuplicateTime => 26,
-        Refusal::TooFewFrames => 27,
-        Refusal::NoiseHeld => 28,
-        Refusal::NoSuchRecord => 31,
-        Refusal::OutputTooShort => 32,
-        Refusal::TooManyScripts => 33,
-        Refusal::Unwritable => 34,
-        Refusal::ScriptTooLong => 35,
-        Refusal::UnknownList => 36,
-        Refusal::NameTwice => 37,
-        Refusal::TooManyItems => 38,
-        Refusal::RingOfCalls => 39,
-        Refusal::NotPlaned => 40,
-        Refusal::NotDrawn => 41,
-        Refusal::PhaseTooLarge => 42,
-        Refusal::NoSuchItem => 43,
-    }
+    refusal as u8
 }

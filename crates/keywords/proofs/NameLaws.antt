@@ -1,7 +1,7 @@
 -- Laws of lookups among the keywords: only the words of some lengths count, and short ones are found by their numbers.
-use Prim.Native.Nat.{ℕ, zero, suc, ◌+◌, ◌*◌, ◌^◌, ◌≤◌, ◌<◌}
+use Prim.Native.Nat.{ℕ, zero, suc, ◌+◌, ◌*◌, ◌-◌, ◌^◌, ◌≤◌, ◌<◌}
 use mathlib.Core.Bool.{Bool, true, false, ◌&&◌, ◌||◌, cond}
-use mathlib.Core.List.{List, [], ◌∷◌}
+use mathlib.Core.List.{List, [], ◌∷◌, reverse}
 use mathlib.Core.Logic.{inl, inr}
 use mathlib.Core.Path.{◌≡◌, refl, sym, ap, ◌∙◌}
 use native.Mathlib.Omega.{arith}
@@ -11,6 +11,7 @@ use lib.Seq.{drop-cons, drop-length, get_or-drop}
 use native.Mathlib.Nat.{pow-suc, pow-le-pow_right}
 use types.Run.{OneOf}
 use borrow.Author.Tests.{eqb-true, eq-eqb, ne_eqb, ltb-true}
+use Rattle.std.proofs.lemmas.List.{get_or-reverse, length-reverse, get_or_read}
 use Rattle.text.specs.Bytes.{same, one_of}
 use Rattle.text.specs.Words.{is_some, words, find, shorter}
 use Rattle.text.proofs.WordLaws.{same_eq, same_refl, find-here, find_past, find-long}
@@ -21,15 +22,6 @@ use Rattle.law_lengths.proofs.SizedLaws.{find-sized}
 use Rattle.token.proofs.WholeLaws.{never, either, both, every, every_in}
 
 -- ---- words of some lengths
-
--- one word
-pub find-last : (w n : List ℕ) (i : ℕ) → same w n ≡ is_some (find (n ∷ []) i w)
-unfolding find
-find-last w n i = go (same w n) refl
-  where
-    go : (a : Bool) → same w n ≡ a → a ≡ is_some (find (n ∷ []) i w)
-    go true e = rw (find-here w n [] i e)
-    go false e = rw (find_past w n [] i e)
 
 -- the longest have 8 bytes: one computed test
 pub keyword_long : (w : List ℕ) → 8 < length w → false ≡ is_keyword w
@@ -98,6 +90,15 @@ pack-at w i h = rw (drop-cons w i 0 h)
 pub pack_end : (w : List ℕ) → 1 ≡ pack (drop (length w) w)
 unfolding pack
 pack_end w = rw (drop-length)
+
+-- the n-th byte from the end
+pub from-end : (w : List ℕ) (n b : ℕ) → (n < length (reverse w)) × (b ≡ get_or (reverse w) n b)
+    → (n < length w) × (b ≡ get_or w (length w - suc n) 0)
+from-end w n b h =
+    let l : n < length w = omega (arith, h.0, length-reverse w) in
+    let i : length w - 1 - n ≡ length w - suc n = omega arith in
+    let e : b ≡ get_or w (length w - suc n) b = h.1 ∙ get_or-reverse w n b l ∙ ap (λ (k : ℕ). get_or w k b) i in
+    (l, get_or_read w _ _ (omega arith) e 0)
 
 -- whether the words of a list have bytes
 unfoldable pub all_bytes : List (List ℕ) → Bool

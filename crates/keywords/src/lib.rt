@@ -13,11 +13,8 @@ fn packed(word: &[u8]) -> u64
     ensures { result ≡ pack word.now }
 {
     let mut v: u64 = 1;
-    let mut n: u16 = 0;
-    while (n as usize) < word.len() {
-        n += 1;
-        let b = word[word.len() - n as usize] as u64;
-        v = v * 256 + b;
+    for &b in word.iter().rev() {
+        v = v * 256 + u64::from(b);
     }
     v
 }
@@ -26,7 +23,8 @@ fn packed(word: &[u8]) -> u64
 fn is_keyword_upto_4(v: u64) -> bool
     ensures { result ≡ one_of (packed_keywords up_to4) v }
 {
-    match v {
+    matches!(
+        v,
         0x15f // _
         | 0x17361 // as
         | 0x165736c65 // else
@@ -53,16 +51,15 @@ fn is_keyword_upto_4(v: u64) -> bool
         | 0x16f64 // do
         | 0x176697270 // priv
         | 0x1797274 // try
-        => true,
-        _ => false,
-    }
+    )
 }
 
 // The keywords of 5 to 7 bytes, packed.
 fn is_keyword_upto_7(v: u64) -> bool
     ensures { result ≡ one_of (packed_keywords up_to7) v }
 {
-    match v {
+    matches!(
+        v,
         0x16b61657262 // break
         | 0x174736e6f63 // const
         | 0x16574617263 // crate
@@ -86,36 +83,27 @@ fn is_keyword_upto_7(v: u64) -> bool
         | 0x164657a69736e75 // unsized
         | 0x16c617574726976 // virtual
         | 0x1646c656979 // yield
-        => true,
-        _ => false,
-    }
+    )
 }
 
 // The keywords of 8 bytes.
+#[tactic(auto, unfolding(text::specs::Words::find))]
 fn is_keyword_of_8(word: &[u8]) -> bool
     ensures { result ≡ is_one_of long_keywords word.now }
 {
-    if text::is_word(word, b"continue") {
-        return true;
-    }
-    if text::is_word(word, b"abstract") {
-        return true;
-    }
-    text::is_word(word, b"override")
+    text::is_word(word, b"continue")
+        || text::is_word(word, b"abstract")
+        || text::is_word(word, b"override")
 }
 
 // Whether a word is no name.
 pub fn is_keyword(word: &[u8]) -> bool
     ensures { result ≡ is_keyword word.now }
 {
-    if word.len() < 5 {
-        return is_keyword_upto_4(packed(word));
+    match word.len() {
+        0..=4 => is_keyword_upto_4(packed(word)),
+        5..=7 => is_keyword_upto_7(packed(word)),
+        8 => is_keyword_of_8(word),
+        _ => false,
     }
-    if word.len() < 8 {
-        return is_keyword_upto_7(packed(word));
-    }
-    if word.len() == 8 {
-        return is_keyword_of_8(word);
-    }
-    false
 }

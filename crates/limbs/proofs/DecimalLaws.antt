@@ -1,17 +1,17 @@
 -- Powers of ten among limbs: bounds of reading and scaling.
-use mathlib.Core.Path.{◌≡◌, sym, ap, ◌∙◌}
+use mathlib.Core.Path.{◌≡◌, refl, sym, ap, ◌∙◌}
 use mathlib.Core.List.{List, [], ◌∷◌}
 use Prim.Native.Nat.{ℕ, zero, suc, ◌+◌, ◌-◌, ◌*◌, ◌^◌, ◌≤◌, ◌<◌}
 use native.Mathlib.Nat.{le_trans, le_of_eq, lt_of_lt_of_le, lt_of_le_of_lt, mul-lt-mul_of_pos_right, mul_assoc}
 use native.Mathlib.Nat.{mul-le-mul, mul-le-mul_left, mul-le-mul_right, mul_right_comm, pow-le-pow_right, pow-suc}
-use native.Mathlib.Nat.{pow-succ', zero-mul, suc-mul, zero-add, suc-add, add-zero, mul-one, one-mul, add-mul, one-le-pow}
+use native.Mathlib.Nat.{pow-succ', zero-mul, suc-mul, add-zero, mul-one, one-mul, add-mul, one-le-pow}
 use native.Mathlib.Numerals.{add-one}
 use native.Mathlib.Omega.{arith}
 use lib.Dec.{lit<, lit≤}
-use lib.ListN.{length, take, drop, length-drop}
-use lib.Seq.{length-take-le, drop-drop}
+use lib.ListN.{length, take, drop}
+use lib.Seq.{length-take-le}
 use lib.Pow.{pow-add}
-use Rattle.text.specs.Bytes.{decimal, part}
+use Rattle.text.specs.Bytes.{decimal}
 
 pub carried_none : (v r p w : ℕ) → v + r * p ≡ w → w < p → v ≡ w
 carried_none v zero p w e h = sym (add-zero v) ∙ ap (λ (z : ℕ). v + z) (sym (zero-mul p)) ∙ e
@@ -43,32 +43,23 @@ decimal-split x y (b ∷ l) =
     sum : (x y d : ℕ) → (x + y) * 10 + d ≡ x * 10 + (y * 10 + d)
     sum x y d = omega arith
 
-decimal-run : (s k v : ℕ) (l : List ℕ) → s ≤ length l → decimal v (take (s + k) l) ≡ decimal (decimal v (take s l)) (take k (drop s l))
+decimal-run : (s v : ℕ) (l : List ℕ) → s ≤ length l → decimal v l ≡ decimal (decimal v (take s l)) (drop s l)
 unfolding decimal
-decimal-run zero k v l h = ap (λ (z : ℕ). decimal v (take z l)) (zero-add k)
-decimal-run (suc s) k v [] h = absurd (omega arith)
-decimal-run (suc s) k v (b ∷ l) h =
-    ap (λ (z : ℕ). decimal v (take z (b ∷ l))) (suc-add s k) ∙ decimal-run s k (v * 10 + (b - 48)) l (omega arith)
+decimal-run zero v l h = refl
+decimal-run (suc s) v [] h = absurd (omega arith)
+decimal-run (suc s) v (b ∷ l) h = decimal-run s (v * 10 + (b - 48)) l (omega arith)
 
 digits_behind : (s v : ℕ) (l : List ℕ) → s ≤ length l → decimal v (take s l) ≡ v * 10 ^ s + decimal 0 (take s l)
 digits_behind s v l h =
     ap (λ (z : ℕ). decimal z (take s l)) (sym (add-zero v)) ∙ decimal-split v 0 (take s l)
     ∙ ap (λ (z : ℕ). v * 10 ^ z + decimal 0 (take s l)) (length-take-le s l h)
 
--- the s digits at i, r, behind v
-pub read_next : (t : List ℕ) (from n i s v r : ℕ) → from + n ≤ length t → i + s ≤ n → r ≡ decimal 0 (part t (from + i) s)
-    → decimal (v * 10 ^ s + r) (take (n - (i + s)) (drop (from + (i + s)) t)) ≡ decimal v (take (n - i) (drop (from + i) t))
-read_next t from n i s v r h g e =
-    let l = drop (from + i) t in
-    let fits : s ≤ length l = omega (arith, length-drop (from + i) t) in
-    let far : from + (i + s) ≡ from + i + s = omega arith in
-    let left : n - i ≡ s + (n - (i + s)) = omega arith in
-    ap (λ (z : ℕ). decimal (v * 10 ^ s + r) (take (n - (i + s)) (drop z t))) far
-    ∙ ap (λ (z : List ℕ). decimal (v * 10 ^ s + r) (take (n - (i + s)) z)) (sym (drop-drop s (from + i) t))
-    ∙ ap (λ (z : ℕ). decimal (v * 10 ^ s + z) (take (n - (i + s)) (drop s l))) e
-    ∙ ap (λ (z : ℕ). decimal z (take (n - (i + s)) (drop s l))) (sym (digits_behind s v l fits))
-    ∙ sym (decimal-run s (n - (i + s)) v l fits)
-    ∙ ap (λ (z : ℕ). decimal v (take z l)) (sym left)
+-- the first s digits, r, behind v
+pub read_next : (l : List ℕ) (s v r : ℕ) → s ≤ length l → r ≡ decimal 0 (take s l) → decimal (v * 10 ^ s + r) (drop s l) ≡ decimal v l
+read_next l s v r h e =
+    ap (λ (z : ℕ). decimal (v * 10 ^ s + z) (drop s l)) e
+    ∙ ap (λ (z : ℕ). decimal z (drop s l)) (sym (digits_behind s v l h))
+    ∙ sym (decimal-run s v l h)
 
 -- so many digits still fit
 pub read_room : (v r s k p : ℕ) → r < 10 ^ s → (v + 1) * 10 ^ (s + k) ≤ p → (v * 10 ^ s + r + 1) * 10 ^ k ≤ p

@@ -5,9 +5,10 @@ use mathlib.Core.Bool.{Bool, true, false}
 use mathlib.Core.Path.{◌≡◌, refl}
 use native.Mathlib.Omega.{arith}
 use native.Mathlib.Numerals.{add-one}
-use native.Mathlib.Nat.{pow-suc, pow-le-pow_right, add-zero, sub-zero}
+use Rattle.std.proofs.Common.{zero-le, length-take}
+use native.Mathlib.Nat.{min-le_left, pow-suc, pow-le-pow_right, add-zero, sub-zero}
 use lib.ListN.{length, get_or, take, drop, length-drop}
-use lib.Seq.{drop-cons, get_or-drop}
+use lib.Seq.{drop-cons, get_or-drop, take-length}
 use Rattle.text.specs.Bytes.{run, is_digit, decimal, part}
 use Rattle.text.proofs.ByteLaws.{run_yes, run_no, run_in, run_at, run_le, within_is}
 
@@ -73,3 +74,44 @@ run_later p t from n (suc i) h g =
     let here : p (get_or t (from + i) 0) ≡ true = rw add-zero at (run_in_at p t (from + i) 0 some) in
     let next : from + suc i ≡ from + i + 1 = omega arith in
     rw next (omega (arith, run_at p t (from + i) inside here))
+
+-- ---- of digits alone
+
+pub decimal_none : (v : ℕ) (l : List ℕ) → length l ≡ 0 → decimal v l ≡ v
+unfolding decimal
+decimal_none v [] e = refl
+decimal_none v (b ∷ l) e = absurd (omega arith)
+
+pub decimal_next : (v : ℕ) (s : List ℕ) (i : ℕ) → i < length s
+    → decimal v (drop i s) ≡ decimal (v * 10 + (get_or s i 0 - 48)) (drop (i + 1) s)
+unfolding decimal
+decimal_next v s i h = rw (add-one, drop-cons s i 0)
+
+pub digits_below : (l : List ℕ) (k v : ℕ) → v < 10 ^ k → length l ≤ run is_digit l → decimal v l < 10 ^ (k + length l)
+digits_below l k v h g = rw take-length at (digits_small l (length l) k v h g)
+
+-- of bytes that all pass, those of a part do
+tail_run : (p : ℕ → Bool) (b : ℕ) (l : List ℕ) (n : ℕ) → suc n ≤ run p (b ∷ l) → (p b ≡ true) × (n ≤ run p l)
+tail_run p b l n h = go (p b) refl
+  where
+    go : (x : Bool) → p b ≡ x → (p b ≡ true) × (n ≤ run p l)
+    go true e = (e, omega (arith, run_yes p b l e))
+    go false e = absurd (omega (arith, run_no p b l e))
+
+pub run-take : (p : ℕ → Bool) (l : List ℕ) (n : ℕ) → n ≤ run p l → length (take n l) ≤ run p (take n l)
+run-take p l zero h = zero-le
+run-take p [] (suc n) h = zero-le
+run-take p (b ∷ l) (suc n) h =
+    let t = tail_run p b l n h in
+    rw (run_yes p b (take n l) t.0) (omega (arith, run-take p l n t.1))
+
+pub run-drop : (p : ℕ → Bool) (l : List ℕ) (n : ℕ) → length l ≤ run p l → length (drop n l) ≤ run p (drop n l)
+run-drop p l zero h = h
+run-drop p [] (suc n) h = zero-le
+run-drop p (b ∷ l) (suc n) h = run-drop p l n (tail_run p b l (length l) h).1
+
+pub run_part : (p : ℕ → Bool) (t : List ℕ) (from n : ℕ) → n ≤ run p (drop from t) → length (part t from n) ≤ run p (part t from n)
+run_part p t from n h = run-take p (drop from t) n h
+
+pub part_le : (t : List ℕ) (from n : ℕ) → length (part t from n) ≤ n
+part_le t from n = omega (arith, length-take n (drop from t), min-le_left n (length (drop from t)))

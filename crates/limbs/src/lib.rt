@@ -15,11 +15,11 @@ ghost use Rattle.limbs.specs.Means.{Raised, Nearest};
 
 use number::Bits;
 
-fn wide(x: u32) -> u64
-    ensures { result ≡ x }
-{
-    x as u64
-}
+// Infinity, which no fraction is.
+const INFINITY: Bits = Bits {
+    bits: 2139095040,
+    rounded: true,
+};
 
 // a * m + c in place; what does not fit is returned.
 pub fn muladd(a: &mut [u32], m: u32, c: u32) -> u64
@@ -27,14 +27,11 @@ pub fn muladd(a: &mut [u32], m: u32, c: u32) -> u64
     ensures by_index { (n : ℕ) → length a.old ≡ n → up_to n a.new + result * 4294967296 ^ n ≡ up_to n a.old * m + c }
     ensures carry { result ≤ m }
 {
-    let mut carry = wide(c);
-    let by = wide(m);
-    let mut i: usize = 0;
-    while i < a.len() {
-        let t = wide(a[i]) * by + carry;
-        a[i] = (t % 4294967296) as u32;
+    let mut carry = u64::from(c);
+    for limb in a.iter_mut() {
+        let t = u64::from(*limb) * u64::from(m) + carry;
+        *limb = (t % 4294967296) as u32;
         carry = t / 4294967296;
-        i += 1;
     }
     carry
 }
@@ -44,16 +41,9 @@ fn less(a: &[u32], b: &[u32]) -> bool
     requires { length b.now ≡ length a.now }
     ensures { result ≡ ltb (val a.now) (val b.now) }
 {
-    let mut i: usize = a.len();
-    while i > 0 {
-        i -= 1;
-        let x = a[i];
-        let y = b[i];
-        if x < y {
-            return true;
-        }
-        if y < x {
-            return false;
+    for i in (0..a.len()).rev() {
+        if a[i] != b[i] {
+            return a[i] < b[i];
         }
     }
     false
@@ -63,14 +53,7 @@ fn less(a: &[u32], b: &[u32]) -> bool
 pub fn is_zero(a: &[u32]) -> bool
     ensures { (n : ℕ) → length a.now ≡ n → result ≡ eqb (up_to n a.now) 0 }
 {
-    let mut i: usize = 0;
-    while i < a.len() {
-        if a[i] != 0 {
-            return false;
-        }
-        i += 1;
-    }
-    true
+    a.iter().all(|&limb| limb == 0)
 }
 
 // What a limb borrows from the next so that y can be taken from x: 1 or 0.
@@ -78,7 +61,7 @@ fn borrow_of(x: u64, y: u64) -> u64
     requires { (x < 4294967296) × (y ≤ 4294967296) }
     ensures { (result ≤ 1) × (y ≤ x + result * 4294967296) × (x + result * 4294967296 < y + 4294967296) }
 {
-    if x < y { 1 } else { 0 }
+    u64::from(x < y)
 }
 
 // a - b in place, for b up to a.
@@ -86,14 +69,12 @@ fn take(a: &mut [u32], b: &[u32])
     requires { (length b.now ≡ length a.old) × (val b.now ≤ val a.old) }
     ensures { val a.new + val b.now ≡ val a.old }
 {
-    let mut borrow: u64 = 0;
-    let mut i: usize = 0;
-    while i < a.len() {
-        let x = wide(a[i]);
-        let y = wide(b[i]) + borrow;
+    let mut borrow = 0;
+    for i in 0..a.len() {
+        let x = u64::from(a[i]);
+        let y = u64::from(b[i]) + borrow;
         borrow = borrow_of(x, y);
         a[i] = (x + borrow * 4294967296 - y) as u32;
-        i += 1;
     }
 }
 
@@ -102,7 +83,7 @@ fn double(a: &mut [u32])
     requires { val a.old * 2 < 4294967296 ^ length a.old }
     ensures { val a.new ≡ val a.old * 2 }
 {
-    let over = muladd(a, 2, 0);
+    muladd(a, 2, 0);
 }
 
 // One binary digit of a / b, and the remainder doubled in the place of a.
@@ -125,55 +106,24 @@ fn size(a: &[u32]) -> usize
     requires { length a.now ≤ 20 }
     ensures { (val a.now < 2 ^ result) × (0 < result → 2 ^ result ≤ val a.now * 2) }
 {
-    let mut i: usize = a.len();
-    while i > 0 {
-        i -= 1;
-        let x = a[i];
-        if x > 0 {
-            return i * 32 + 32 - u32::leading_zeros(x) as usize;
+    for i in (0..a.len()).rev() {
+        if a[i] != 0 {
+            return i * 32 + 32 - a[i].leading_zeros() as usize;
         }
     }
     0
 }
 
-// How much larger x is than y, up to a limit.
-fn excess(x: usize, y: usize, most: usize) -> usize
-    ensures { (result ≤ most) × (result ≤ x - y) }
+// a * base^n in place, where it fits, up to `most` factors at a time, whose product a limb holds.
+fn scale(a: &mut [u32], base: u32, most: u32, n: usize)
+    requires { (0 < base) × (0 < most) × (base ^ most < 4294967296) × (val a.old * base ^ n < 4294967296 ^ length a.old) }
+    ensures { val a.new ≡ val a.old * base ^ n }
 {
-    if y < x {
-        return least(x - y, most);
-    }
-    0
-}
-
-// The smaller one.
-fn least(x: usize, y: usize) -> usize
-    ensures { (result ≤ x) × (result ≤ y) × (0 < x → 0 < y → 0 < result) }
-{
-    if x < y {
-        return x;
-    }
-    y
-}
-
-// 2^n as a limb.
-fn two(n: usize) -> u32
-    requires { n ≤ 31 }
-    ensures { result ≡ 2 ^ n }
-{
-    1 << n
-}
-
-// a * 2^n in place, where it fits, 31 binary digits at a time.
-fn lift(a: &mut [u32], n: usize)
-    requires { val a.old * 2 ^ n < 4294967296 ^ length a.old }
-    ensures { val a.new ≡ val a.old * 2 ^ n }
-{
-    let mut i: usize = 0;
-    while i < n {
-        let s = least(n - i, 31);
-        let over = muladd(a, two(s), 0);
-        i += s;
+    let mut left = n;
+    while left > 0 {
+        let s = left.min(most as usize);
+        muladd(a, base.pow(s as u32), 0);
+        left -= s;
     }
 }
 
@@ -182,8 +132,8 @@ fn raise(a: &[u32], b: &mut [u32]) -> u32
     requires { (length b.old ≡ length a.now) × (val a.now * 4 < 4294967296 ^ length a.now) × (val b.old * 2 < 4294967296 ^ length a.now) × (length a.now ≤ 20) }
     ensures { Raised (4294967296 ^ length a.now) (val a.now) (val b.old) (val b.new) result }
 {
-    let n = excess(size(a), size(b), 150);
-    lift(b, n);
+    let n = size(a).saturating_sub(size(b)).min(150);
+    scale(b, 2, 31, n);
     let mut k: u32 = 150 + n as u32;
     while k < 300 && !less(a, b) {
         double(b);
@@ -197,8 +147,8 @@ fn lower(a: &mut [u32], b: &[u32], k: u32) -> u32
     requires { (length b.now ≡ length a.old) × (val a.old < val b.now) × (val b.now * 2 < 4294967296 ^ length a.old) × (length a.old ≤ 20) }
     ensures { (result ≤ k) × (val a.new * 2 ^ result ≡ val a.old * 2 ^ k) × (val a.new < val b.now * 2) }
 {
-    let n = excess(size(b), size(a), k as usize);
-    lift(a, n);
+    let n = size(b).saturating_sub(size(a)).min(k as usize);
+    scale(a, 2, 31, n);
     k - n as u32
 }
 
@@ -216,16 +166,6 @@ fn whole(a: &[u32], b: &[u32], q: u32) -> u32
     }
 }
 
-// Infinity, which no fraction is.
-fn infinity() -> Bits
-    ensures { (result.bits ≡ 2139095040) × (result.rounded ≡ true) }
-{
-    Bits {
-        bits: 2139095040,
-        rounded: true,
-    }
-}
-
 // The bits of the f32 that is nearest to a / b, and whether it is another number. Both are used up.
 fn nearest(a: &mut [u32], b: &mut [u32]) -> Bits
     requires { (length b.old ≡ length a.old) × (val a.old * 4 < 4294967296 ^ length a.old) × (val b.old * 2 < 4294967296 ^ length a.old) × (0 < val b.old) × (length a.old ≤ 20) }
@@ -233,7 +173,7 @@ fn nearest(a: &mut [u32], b: &mut [u32]) -> Bits
 {
     let top = raise(a, b);
     if top >= 300 {
-        return infinity();
+        return INFINITY;
     }
     let mut k = lower(a, b, top);
     let mut q: u32 = 0;
@@ -243,68 +183,36 @@ fn nearest(a: &mut [u32], b: &mut [u32]) -> Bits
         k -= 1;
     }
     if k >= 254 {
-        return infinity();
+        return INFINITY;
     }
-    let n = whole(a, b, q);
-    let bits = k * 8388608 + n;
-    let rounded = !is_zero(a);
-    Bits { bits, rounded }
-}
-
-// 10^n as a limb.
-fn ten(n: usize) -> u32
-    requires { n ≤ 9 }
-    ensures { result ≡ 10 ^ n }
-{
-    number::ten_to(n) as u32
-}
-
-// a * 10^n in place, where it fits, nine digits at a time.
-fn scale(a: &mut [u32], n: usize)
-    requires { val a.old * 10 ^ n < 4294967296 ^ length a.old }
-    ensures { val a.new ≡ val a.old * 10 ^ n }
-{
-    let mut i: usize = 0;
-    while i < n {
-        let s = least(n - i, 9);
-        let over = muladd(a, ten(s), 0);
-        i += s;
+    Bits {
+        bits: k * 8388608 + whole(a, b, q),
+        rounded: !is_zero(a),
     }
 }
 
-// What a digit's byte says.
-fn worth(b: u8) -> u32
-    requires { (48 ≤ b) × (b ≤ 57) }
-    ensures { result ≡ b - 48 }
+// The number of some digits, at most nine.
+fn few(digits: &[u8]) -> u32
+    requires { (length digits.now ≤ run is_digit digits.now) × (length digits.now ≤ 9) }
+    ensures { (result ≡ decimal 0 digits.now) × (result < 10 ^ length digits.now) }
 {
-    (b - 48) as u32
-}
-
-// The number of the n digits from `from` on, at most nine.
-fn few(t: &[u8], from: usize, n: usize) -> u32
-    requires { (n ≤ run is_digit (drop from t.now)) × (n ≤ 9) }
-    ensures { (result ≡ decimal 0 (part t.now from n)) × (result < 10 ^ n) }
-{
-    let mut v: u32 = 0;
-    let mut i: usize = 0;
-    while i < n {
-        v = v * 10 + worth(t[from + i]);
-        i += 1;
+    let mut v = 0;
+    for b in digits {
+        v = v * 10 + u32::from(b - b'0');
     }
     v
 }
 
-// The n digits from `from` on, behind the number that a has, nine at a time.
-fn read(a: &mut [u32], t: &[u8], from: usize, n: usize)
-    requires { (n ≤ run is_digit (drop from t.now)) × ((val a.old + 1) * 10 ^ n ≤ 4294967296 ^ length a.old) }
-    ensures { val a.new ≡ decimal (val a.old) (part t.now from n) }
+// Digits behind the number that a has, nine at a time.
+fn read(a: &mut [u32], digits: &[u8])
+    requires { (length digits.now ≤ run is_digit digits.now) × ((val a.old + 1) * 10 ^ length digits.now ≤ 4294967296 ^ length a.old) }
+    ensures { val a.new ≡ decimal (val a.old) digits.now }
 {
-    let mut i: usize = 0;
-    while i < n {
-        let s = least(n - i, 9);
-        let v = few(t, from + i, s);
-        let over = muladd(a, ten(s), v);
-        i += s;
+    let mut rest = digits;
+    while !rest.is_empty() {
+        let (first, after) = rest.split_at(rest.len().min(9));
+        muladd(a, number::ten_to(first.len()) as u32, few(first));
+        rest = after;
     }
 }
 
@@ -313,30 +221,25 @@ fn wanted(x: usize, y: usize) -> usize
     requires { (x ≤ 179) × (y ≤ 179) }
     ensures { (x < result * 9) × (y < result * 9) × (result ≤ 20) }
 {
-    if x < y {
-        return y / 9 + 1;
-    }
-    x / 9 + 1
+    x.max(y) / 9 + 1
 }
 
 // What `decimal` gives, a and b being the limbs that it works with: 0 and 1.
 fn divided(
     a: &mut [u32],
     b: &mut [u32],
-    t: &[u8],
-    w: usize,
-    from: usize,
-    q: usize,
+    whole: &[u8],
+    fraction: &[u8],
     up: usize,
     down: usize,
 ) -> Bits
-    requires { (length b.old ≡ length a.old) × (val a.old ≡ 0) × (val b.old ≡ 1) × (length a.old ≤ 20) × (w ≤ run is_digit t.now) × (q ≤ run is_digit (drop from t.now)) × (10 ^ (w + q + up) * 4 ≤ 4294967296 ^ length a.old) × (10 ^ down * 4 ≤ 4294967296 ^ length a.old) }
-    ensures { Nearest (decimal (decimal 0 (part t.now 0 w)) (part t.now from q) * 10 ^ up) (10 ^ down) result }
+    requires { (length b.old ≡ length a.old) × (val a.old ≡ 0) × (val b.old ≡ 1) × (length a.old ≤ 20) × (length whole.now ≤ run is_digit whole.now) × (length fraction.now ≤ run is_digit fraction.now) × (10 ^ (length whole.now + length fraction.now + up) * 4 ≤ 4294967296 ^ length a.old) × (10 ^ down * 4 ≤ 4294967296 ^ length a.old) }
+    ensures { Nearest (decimal (decimal 0 whole.now) fraction.now * 10 ^ up) (10 ^ down) result }
 {
-    read(a, t, 0, w);
-    read(a, t, from, q);
-    scale(a, up);
-    scale(b, down);
+    read(a, whole);
+    read(a, fraction);
+    scale(a, 10, 9, up);
+    scale(b, 10, 9, down);
     nearest(a, b)
 }
 
@@ -350,5 +253,7 @@ pub fn decimal(t: &[u8], w: usize, from: usize, q: usize, up: usize, down: usize
     let mut b = [0u32; 20];
     b[0] = 1;
     let n = wanted(w + q + up, down);
-    divided(&mut a[..n], &mut b[..n], t, w, from, q, up, down)
+    let whole = text::part(t, 0, w);
+    let fraction = text::part(t, from, q);
+    divided(&mut a[..n], &mut b[..n], whole, fraction, up, down)
 }

@@ -10,7 +10,6 @@ ghost use Rattle.book_answers.specs.Means.{looked};
 use book::BookRead;
 use book_answers::Place;
 use error::LookupAnswer;
-use text::Found;
 
 // Where a book has a name.
 fn look_in(text: &[u8], name: &[u8]) -> Place
@@ -20,8 +19,8 @@ fn look_in(text: &[u8], name: &[u8]) -> Place
     match book::read(text, &mut table) {
         BookRead::Refused(r, p) => Place::Refused(r, p),
         BookRead::Is(n) => match book::find_name(text, &table, n, name) {
-            Found::Nothing => Place::Nothing,
-            Found::At(k) => Place::At {
+            None => Place::Nothing,
+            Some(k) => Place::At {
                 start: book::cell(&table, k, 2),
                 size: book::cell(&table, k, 3),
             },
@@ -36,10 +35,7 @@ pub fn find(store: &[u8], chain: &[u8], name: &[u8]) -> LookupAnswer
 {
     match look_in(store, name) {
         Place::Refused(refusal, place) => LookupAnswer::Refused { refusal, place },
-        Place::At { start, size } => {
-            book_answers::join(Place::At { start, size }, look_in(chain, name))
-        }
-        Place::Nothing => book_answers::join(Place::Nothing, look_in(chain, name)),
+        found => book_answers::join(found, look_in(chain, name)),
     }
 }
 

@@ -1,12 +1,10 @@
 -- What the code's answers stand for.
-use Rattle.std.specs.Prelude.{ℕ, ◌<◌, ◌⊎◌, ◌≡◌}
-use Rattle.std.proofs.Math.Option.{Option, none, some}
-use Rattle.number.specs.declared.Uint.{Uint}
-use Rattle.number.specs.declared.Uint.TheVariants.{Is, Refused}
+use Rattle.std.specs.Prelude.{ℕ, ◌<◌, ◌⊎◌, ◌≡◌, Option, Some, None}
+use Rattle.std.proofs.Math.Option as math
 
-abbrev pub value_of : Uint → Option ℕ
-value_of (Is n) = some n
-value_of Refused = none
+abbrev pub value_of : Option ℕ → math.Option ℕ
+value_of (Some n) = math.some n
+value_of None = math.none
 
 -- the number n, or, where it is above 4,294,967,295, another such number
 abbrev pub Capped : ℕ → ℕ → Type 0

@@ -17,6 +17,22 @@ const POWERS: [u64; 10] = [
     1, 10, 100, 1000, 10000, 100000, 1000000, 10000000, 100000000, 1000000000,
 ];
 
+// The same as f32, and the powers of 5.
+const FLOATS: [f32; 10] = [
+    1.0,
+    10.0,
+    100.0,
+    1000.0,
+    10000.0,
+    100000.0,
+    1000000.0,
+    10000000.0,
+    100000000.0,
+    1000000000.0,
+];
+
+const FIVES: [u32; 10] = [1, 5, 25, 125, 625, 3125, 15625, 78125, 390625, 1953125];
+
 // 10 to the power of `places`. For our own crates: at most 9.
 pub fn ten_to(places: usize) -> u64
     requires { places ≤ 9 }
@@ -74,9 +90,8 @@ fn packed(a: u64, b: u64, k: u32) -> Bits
     ensures rounded { result.rounded ≡ not (eqb (a % b) 0) }
 {
     let q = quotient(a, b);
-    let bits = k * 8388608 + q.whole as u32;
     Bits {
-        bits,
+        bits: k * 8388608 + q.whole as u32,
         rounded: q.rounded,
     }
 }
@@ -94,8 +109,8 @@ fn nearest_bits(n: u64, d: u64) -> Bits
             rounded: false,
         };
     }
-    let z = u64::leading_zeros(n);
-    let y = u64::leading_zeros(d) - 24;
+    let z = n.leading_zeros();
+    let y = d.leading_zeros() - 24;
     let a = n << z;
     let b = d << y;
     let k = 149 + y - z;
@@ -111,18 +126,7 @@ fn ten(places: usize) -> f32
     requires { places ≤ 9 }
     ensures { HasValue result false (10 ^ places) 1 }
 {
-    match places {
-        0 => 1.0,
-        1 => 10.0,
-        2 => 100.0,
-        3 => 1000.0,
-        4 => 10000.0,
-        5 => 100000.0,
-        6 => 1000000.0,
-        7 => 10000000.0,
-        8 => 100000000.0,
-        _ => 1000000000.0,
-    }
+    FLOATS[places]
 }
 
 // 5^places.
@@ -130,18 +134,7 @@ fn five(places: usize) -> u32
     requires { places ≤ 9 }
     ensures { result ≡ 5 ^ places }
 {
-    match places {
-        0 => 1,
-        1 => 5,
-        2 => 25,
-        3 => 125,
-        4 => 625,
-        5 => 3125,
-        6 => 15625,
-        7 => 78125,
-        8 => 390625,
-        _ => 1953125,
-    }
+    FIVES[places]
 }
 
 // The bits of the f32 that is nearest to digits / 10^places. Both are f32 exactly, so that one rounded division gives it; it is the
@@ -153,16 +146,16 @@ fn small_bits(digits: u32, places: usize) -> Bits
 {
     let x = digits as f32;
     if places == 0 {
-        let bits = f32::to_bits(x);
         return Bits {
-            bits,
+            bits: x.to_bits(),
             rounded: false,
         };
     }
     let value = x / ten(places);
-    let bits = f32::to_bits(value);
-    let rounded = digits % five(places) != 0;
-    Bits { bits, rounded }
+    Bits {
+        bits: value.to_bits(),
+        rounded: digits % five(places) != 0,
+    }
 }
 
 // The bits of the f32 that is nearest to digits / 10^places.
@@ -174,8 +167,7 @@ fn unsigned_bits(digits: u64, places: usize) -> Bits
     if digits < 16777216 {
         return small_bits(digits as u32, places);
     }
-    let d = ten_to(places);
-    nearest_bits(digits, d)
+    nearest_bits(digits, ten_to(places))
 }
 
 // The bits of what `decimal` gives. For our own crates: the reader hands over at most 9 places.
@@ -186,10 +178,9 @@ pub fn decimal_bits(negative: bool, digits: u64, places: usize) -> Bits
 {
     let b = unsigned_bits(digits, places);
     if negative {
-        let bits = b.bits + 2147483648;
         return Bits {
-            bits,
-            rounded: b.rounded,
+            bits: b.bits + 2147483648,
+            ..b
         };
     }
     b
@@ -203,9 +194,8 @@ pub fn decimal(negative: bool, digits: u64, places: usize) -> Stored
     ensures rounded { result.rounded ≡ rounded (Ieee.round binary32 negative digits (10 ^ places)) (fraction negative digits (10 ^ places)) }
 {
     let b = decimal_bits(negative, digits, places);
-    let value = f32_of_bits(b.bits);
     Stored {
-        value,
+        value: f32_of_bits(b.bits),
         rounded: b.rounded,
     }
 }
@@ -226,7 +216,7 @@ pub fn bits_of(x: f32) -> u32
     requires { T (not (Ieee.is_nan x)) }
     ensures { result ≡ bits x }
 {
-    f32::to_bits(x)
+    x.to_bits()
 }
 
 // The f32 whose bits without sign are these, negative where `negative` says so. For our own crates: the bits are those of a number.
@@ -235,13 +225,11 @@ pub fn signed(negative: bool, b: Bits) -> Stored
     ensures value { (n d : ℕ) → b.bits ≡ bits (Ieee.round binary32 false n d) → result.value ≡ Ieee.round binary32 negative n d }
     ensures rounded { result.rounded ≡ b.rounded }
 {
-    let rounded = b.rounded;
-    if negative {
-        let value = f32_of_bits(b.bits + 2147483648);
-        return Stored { value, rounded };
+    let sign = if negative { 2147483648 } else { 0 };
+    Stored {
+        value: f32_of_bits(b.bits + sign),
+        rounded: b.rounded,
     }
-    let value = f32_of_bits(b.bits);
-    Stored { value, rounded }
 }
 
 // A whole percent, of n as an f32 with its sign and of the f32 nearest to n / 100: the first, divided by 100.0. It is n / 100 exactly if
@@ -257,8 +245,10 @@ pub fn percent_from(x: Stored, once: Stored) -> Stored
             rounded: true,
         };
     }
-    let rounded = value != once.value;
-    Stored { value, rounded }
+    Stored {
+        value,
+        rounded: value != once.value,
+    }
 }
 
 // A whole percent. Up to 2^24 n is an f32 exactly, and n / 100 is rounded once.
@@ -284,23 +274,13 @@ pub fn duplicate(a: f32, b: f32) -> bool
     s < 0.00000011920929
 }
 
-// A whole number that a u32 holds, or a refusal.
-#[derive(Clone, Copy)]
-pub enum Uint {
-    Is(u32),
-    Refused,
-}
-
 // The digits as a whole number; of one above 4,294,967,295 another such number may stand for it. Every negative is refused, -0 too,
 // and all above 4,294,967,295.
-pub fn whole(negative: bool, digits: u64) -> Uint
+pub fn whole(negative: bool, digits: u64) -> Option<u32>
     ensures { (w : Written) → Capped digits w.digits → value_of result ≡ Number.whole negative w }
 {
     if negative {
-        return Uint::Refused;
+        return None;
     }
-    if digits > 4294967295 {
-        return Uint::Refused;
-    }
-    Uint::Is(digits as u32)
+    u32::try_from(digits).ok()
 }

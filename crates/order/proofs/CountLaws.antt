@@ -4,10 +4,16 @@ use mathlib.Core.Bool.{Bool, true, false, ◌&&◌, ◌||◌}
 use mathlib.Core.Logic.{⊎_elim}
 use mathlib.Core.Option.{Option, none, some}
 use mathlib.Core.Path.{◌≡◌, refl, sym, ◌∙◌, subst}
-use native.Mathlib.Nat.{eq-or-lt_of_le}
+use native.Mathlib.Nat.{eq-or-lt_of_le, zero-add}
 use native.Mathlib.Omega.{arith}
 use borrow.Author.Tests.{eq-eqb, ne_eqb}
 use lib.Dec.{eqb}
+use Rattle.std.specs.Prelude.{Option as Found, Some, None}
+use Rattle.std.specs.List.{list_all, range_with_len}
+use Rattle.std.specs.Option.{MatchOption}
+use Rattle.std.proofs.lemmas.List.FromFn.{length-range_with_len, get_or-range_with_len}
+use Rattle.std.proofs.lemmas.List.Recursion.{and_from_places, and_fails_at}
+use Rattle.text.specs.Means.{place_of}
 use Rattle.text.specs.Words.{or_else}
 use Rattle.text.proofs.CaseLaws.{Case, yes!, no!, case}
 use Rattle.order.specs.Order.{every, only, first}
@@ -33,18 +39,6 @@ module _ (p : ℕ → Bool) where
   unfolding every
   every-at zero e j l = absurd (omega arith)
   every-at (suc n) e j l = let x = both e in below {P = λ j. p j ≡ true} (every-at n x.0) x.1 j l
-
-  pub every-all : (n : ℕ) → ((j : ℕ) → j < n → p j ≡ true) → every p n ≡ true
-  unfolding every
-  every-all zero h = refl
-  every-all (suc n) h = rw (every-all n (λ j l. h j (omega arith)), h n (omega arith))
-
-  pub every-not : (n j : ℕ) → j < n → p j ≡ false → every p n ≡ false
-  every-not n j l e = go (case (every p n))
-    where
-      go : Case (every p n) → every p n ≡ false
-      go (yes! t) = clash (every-at n t j l) e
-      go (no! f) = f
 
   -- one that does not
   pub failing : (n : ℕ) → every p n ≡ false → (j : ℕ) × (j < n) × (p j ≡ false)
@@ -186,3 +180,30 @@ module _ (p q : ℕ → Bool) (i : ℕ) (also : (j : ℕ) → q j ≡ (eqb j i |
 
       past : (i < n → tally q n ≡ suc (tally p n)) → i < n → plus (q n) (tally q n) ≡ suc (plus (p n) (tally p n))
       past ih l = rw (also n, ne_eqb n i (λ e. omega arith), ih l) (plus_suc (p n) (tally p n))
+
+-- ---- what `all` and `find` answer on the numbers below n
+
+module _ (p : ℕ → Bool) (n : ℕ) where
+  pub all-every : list_all p (range_with_len 0 n) ≡ every p n
+  all-every = go (case (every p n))
+    where
+      go : Case (every p n) → list_all p (range_with_len 0 n) ≡ every p n
+      go (yes! t) =
+          and_from_places (list_all p) p refl (λ x xs. refl) (range_with_len 0 n) 0
+          (λ i l.
+          let h : i < n = omega (arith, length-range_with_len 0 n) in
+          rw (get_or-range_with_len 0 n i 0 h, zero-add i) (every-at p n t i h))
+          ∙ sym t
+      go (no! f) =
+          let x = failing p n f in
+          and_fails_at (list_all p) p refl (λ x xs. refl) (range_with_len 0 n) x.0 0
+          (omega (arith, x.1, length-range_with_len 0 n)) (rw (get_or-range_with_len 0 n x.0 0 x.1, zero-add x.0) x.2)
+          ∙ sym f
+
+  pub find-first : (r : Found ℕ)
+      → MatchOption r
+      ((k : ℕ) → 0 ≤ k → k < n → p k ≡ false)
+      (λ i. (0 ≤ i) × (i < n) × (p i ≡ true) × ((k : ℕ) → 0 ≤ k → k < i → p k ≡ false))
+      → place_of r ≡ first p n
+  find-first None h = sym (first-none p n (λ j l. h j (omega arith) l))
+  find-first (Some i) h = sym (first-is p n i (record { low = h.1; passes = h.2; others = λ j l. h.3 j (omega arith) l }))

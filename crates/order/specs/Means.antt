@@ -3,8 +3,6 @@ use Rattle.std.specs.Prelude.{ℕ, ◌+◌, ◌*◌, ◌≤◌, Bool, true, fals
 use Rattle.std.proofs.Math.Option.{Option, none, some}
 use Rattle.text.specs.Bytes.{at, one_of}
 use Rattle.order.specs.Order.{Calls}
-use Rattle.order.specs.declared.Free.{Free}
-use Rattle.order.specs.declared.Free.TheVariants.{At, Nothing}
 
 -- calls as bytes: byte 128 i + j is not 0 where item i calls item j
 unfoldable pub calls_in : List ℕ → Calls
@@ -18,10 +16,6 @@ pub record Square (m : List ℕ) (n : ℕ) : Type 0 where
 -- item i does not wait for item j
 abbrev pub not_waiting : Calls → List ℕ → ℕ → ℕ → Bool
 not_waiting calls l i j = not (calls i j) || one_of l j
-
-abbrev pub free_of : Free → Option ℕ
-free_of (At i) = some i
-free_of Nothing = none
 
 abbrev pub list_of : Bool → List ℕ → Option (List ℕ)
 list_of true l = some l

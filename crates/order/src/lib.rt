@@ -3,27 +3,18 @@
 #![tactic(auto)]
 
 ghost use Rattle.std.specs.Prelude.{◌<◌, not, ◌≡◌, length, take};
+ghost use Rattle.text.specs.Means.{place_of};
 ghost use Rattle.order.specs.Order.{every, first, free, order as Order·order};
-ghost use Rattle.order.specs.Means.{calls_in, Square, not_waiting, free_of, list_of};
+ghost use Rattle.order.specs.Means.{calls_in, Square, not_waiting, list_of};
 
 pub const SIDE: usize = 128;
-
-// The first item that is free, if there is one.
-#[derive(Clone, Copy)]
-pub enum Free {
-    At(usize),
-    Nothing,
-}
 
 // Whether item i waits for item j: it calls it, and j is not listed.
 fn waits_for(calls: &[u8], listed: &[u8], i: usize, j: usize) -> bool
     requires { (length calls.now ≡ 16384) × (i < 128) × (j < 128) }
     ensures { result ≡ not (not_waiting (calls_in calls.now) listed.now i j) }
 {
-    if calls[i * SIDE + j] == 0 {
-        return false;
-    }
-    !text::has(listed, j as u8)
+    calls[i * SIDE + j] != 0 && !text::has(listed, j as u8)
 }
 
 // Whether item i, of n, waits for none.
@@ -31,14 +22,7 @@ fn is_ready(calls: &[u8], listed: &[u8], n: usize, i: usize) -> bool
     requires { Square calls.now n × (i < 128) }
     ensures { result ≡ every (not_waiting (calls_in calls.now) listed.now i) n }
 {
-    let mut j: usize = 0;
-    while j < n {
-        if waits_for(calls, listed, i, j) {
-            return false;
-        }
-        j += 1;
-    }
-    true
+    (0..n).all(|j| !waits_for(calls, listed, i, j))
 }
 
 // Whether it is free: not listed, and all it calls is.
@@ -46,24 +30,15 @@ fn is_free(calls: &[u8], listed: &[u8], n: usize, i: usize) -> bool
     requires { Square calls.now n × (i < 128) }
     ensures { result ≡ free (calls_in calls.now) n listed.now i }
 {
-    if text::has(listed, i as u8) {
-        return false;
-    }
-    is_ready(calls, listed, n, i)
+    !text::has(listed, i as u8) && is_ready(calls, listed, n, i)
 }
 
-fn first_free(calls: &[u8], listed: &[u8], n: usize) -> Free
+// The first item that is free, if there is one.
+fn first_free(calls: &[u8], listed: &[u8], n: usize) -> Option<usize>
     requires { Square calls.now n }
-    ensures { free_of result ≡ first (free (calls_in calls.now) n listed.now) n }
+    ensures { place_of result ≡ first (free (calls_in calls.now) n listed.now) n }
 {
-    let mut i: usize = 0;
-    while i < n {
-        if is_free(calls, listed, n, i) {
-            return Free::At(i);
-        }
-        i += 1;
-    }
-    Free::Nothing
+    (0..n).find(|&i| is_free(calls, listed, n, i))
 }
 
 // Lists n items, each behind all it calls, the first by place among those free: whether that can be done. The list is written to the front of
@@ -72,15 +47,11 @@ pub fn list(calls: &[u8], n: usize, out: &mut [u8]) -> bool
     requires { Square calls.now n × (length out.old ≡ 128) }
     ensures { list_of result (take n out.new) ≡ Order·order (calls_in calls.now) n }
 {
-    let mut k: usize = 0;
-    while k < n {
-        match first_free(calls, text::part(out, 0, k), n) {
-            Free::Nothing => return false,
-            Free::At(i) => {
-                out[k] = i as u8;
-                k += 1;
-            }
-        }
+    for k in 0..n {
+        let Some(i) = first_free(calls, &out[..k], n) else {
+            return false;
+        };
+        out[k] = i as u8;
     }
     true
 }

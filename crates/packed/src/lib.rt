@@ -4,7 +4,9 @@
 ghost use Rattle.std.specs.Prelude.{[], ◌∷◌, ◌≡◌, ◌%◌, ◌^◌, length};
 ghost use Rattle.packed.specs.Packed.{packed_refusal, packed_sheet, packed_read, packed_check, packed_line, packed_fed, packed_bytes, packed_color, packed_body, packed_lookup, packed_order, mean_outcome};
 
-use error::{CheckAnswer, FeedAnswer, LineAnswer, LookupAnswer, MeanAnswer, OrderAnswer, ReadAnswer, Refusal};
+use error::{
+    CheckAnswer, FeedAnswer, LineAnswer, LookupAnswer, MeanAnswer, OrderAnswer, ReadAnswer, Refusal,
+};
 
 // The lowest 32 bits of a place or a length.
 fn low(n: usize) -> u64

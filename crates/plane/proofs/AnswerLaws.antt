@@ -1,5 +1,5 @@
 -- What the two operations answer, from what their parts tell.
-use Prim.Native.Nat.{ℕ, ◌≤◌, ◌<◌}
+use Prim.Native.Nat.{ℕ, ◌+◌, ◌*◌, ◌≤◌, ◌<◌}
 use mathlib.Core.Bool.{Bool, true, false, cond}
 use mathlib.Core.List.{List, ◌++◌}
 use mathlib.Core.Option.{Option, none, some}
@@ -77,6 +77,10 @@ module _ {w n : ℕ} {src out : List ℕ} {end rest numbers : ℕ} (c : Carries 
   carried_all h m =
       let d = c.before out h in
       ap (λ (l : List ℕ). (Accepted (length src), l)) (m d.0 ∙ d.1) ∙ fits src out c.target c.long h
+
+-- the planes stand within
+pub planes_within : {w n : ℕ} {src : List ℕ} {end rest numbers : ℕ} → Carries w n src end rest numbers → rest + 4 * numbers ≤ length src
+planes_within {src = src} c = let d = c.before src (omega arith) in omega (arith, d.0.pair.long)
 
 -- ---- planing and its inverse
 

@@ -2,7 +2,7 @@
 use Prim.Native.Nat.{ℕ, ◌+◌, ◌*◌, ◌<◌}
 use mathlib.Core.Bool.{true, false}
 use mathlib.Core.List.{List, [], ◌∷◌, ◌++◌}
-use mathlib.Core.Path.{◌≡◌, refl, sym, ◌∙◌, ap, subst}
+use mathlib.Core.Path.{◌≡◌, refl, sym, ◌∙◌, ap, subst, subst⁻¹}
 use native.Mathlib.Nat.{mul-add}
 use native.Mathlib.Omega.{arith}
 use lib.ListN.{length, length-append}
@@ -94,14 +94,15 @@ module _ {w : ℕ} {src s p : List ℕ} (o : Side w src s p) (n : ℕ) (xs out m
       (((value_form_of 0).write e.value ++ easing) ++ B) (value_numbers e.value ++ C)) (sym long) (jumps (time_number e.time) before)
 
   -- an array: no other number
-  pub moved_array : (done' to' : ℕ) → scalar_frame e ≡ false → done' ≡ done + k + w → to' + w ≡ to + k + 4
-      → FrameMoved o n xs mid rest numbers e A B C done' to' (i + 1)
-  moved_array done' to' q u v =
+  pub moved_array : (done' to' i' : ℕ) → scalar_frame e ≡ false → done' ≡ done + k + w → to' + w ≡ to + k + 4 → i' ≡ i + 1
+      → FrameMoved o n xs mid rest numbers e A B C done' to' i'
+  moved_array done' to' i' q u v j =
       let f : (x : ℕ) → ((value_form_of x).write e.value ++ easing) ≡ tail_of n e = λ x. ap (λ (y : List ℕ). y ++ easing)
       (value_tail_lem x e.value q)
       in
       let m = mul_next w i 1 in
-      record {
+      subst⁻¹ (λ (x : ℕ). FrameMoved o n xs mid rest numbers e A B C done' to' x) j
+      (record {
         b = b + k;
         done_is = omega (arith, u, d, m);
         to_is = omega (arith, v, t, m);
@@ -112,15 +113,15 @@ module _ {w : ℕ} {src s p : List ℕ} (o : Side w src s p) (n : ℕ) (xs out m
           left = time-gap.left ∙ ap (λ (y : List ℕ). y ++ C) (no_number e.value q);
         };
         so = time_so;
-      }
+      })
 
   -- a scalar: a tag and its number
-  pub moved_scalar : (after : List ℕ) (from place done' to' : ℕ) → scalar_frame e ≡ true → i + 1 < numbers
-      → from ≡ done + k + w → place + w ≡ to + k + 4
-      → Advances w src from mid place 1 rest numbers (i + 1) after
-      → done' ≡ from + 1 + w → to' + w ≡ place + 1 + 4
-      → FrameMoved o n xs after rest numbers e A B C done' to' (i + 2)
-  moved_scalar after from place done' to' q fit u v y u' v' =
+  pub moved_scalar : (after : List ℕ) (from place j done' to' i' : ℕ) → scalar_frame e ≡ true → i + 1 < numbers
+      → from ≡ done + k + w → place + w ≡ to + k + 4 → j ≡ i + 1
+      → Advances w src from mid place 1 rest numbers j after
+      → done' ≡ from + 1 + w → to' + w ≡ place + 1 + 4 → i' ≡ j + 1
+      → FrameMoved o n xs after rest numbers e A B C done' to' i'
+  moved_scalar after from place j done' to' i' q fit u v x y u' v' x' =
       let m = mul_next w i 1 in
       let m₂ = mul_next w i 2 in
       let gap₁ : Gap s p xs (b + k) (i + 1) [] ((0 ∷ []) ++ ((big 4).write (number_of e.value) ++ (tail_of n e ++ A)))
@@ -132,17 +133,19 @@ module _ {w : ℕ} {src s p : List ℕ} (o : Side w src s p) (n : ℕ) (xs out m
       in
       let gap₂ = passes (0 ∷ []) gap₁ in
       let so₂ = carried mid after (b + k) (i + 1) (number_of e.value) from place 1 rest numbers o gap₂ (planes (i + 1) fit)
-      (omega (arith, u, d, m)) (omega (arith, v, t, m)) refl y r₁
+      (omega (arith, u, d, m)) (omega (arith, v, t, m)) refl (subst (λ (z : ℕ). Advances w src from mid place 1 rest numbers z after) x y) r₁
       in
       let two : (i + 1) + 1 ≡ i + 2 = omega arith in
-      record {
+      let last : i' ≡ i + 2 = omega (arith, x, x') in
+      subst⁻¹ (λ (z : ℕ). FrameMoved o n xs after rest numbers e A B C done' to' z) last
+      (record {
         b = b + k + 1;
         done_is = omega (arith, u, u', d, m₂);
         to_is = omega (arith, v, v', t, m₂);
         few = omega (arith, fit);
         gap = subst (λ (j : ℕ). Gap s p xs (b + k + 1) j [] (tail_of n e ++ A) (tail_of n e ++ B) C) two (jumps (number_of e.value) gap₂);
         so = subst (λ (j : ℕ). Done o after rest numbers (b + k + 1) j) two so₂;
-      }
+      })
     where
       r₁ : Done o mid rest numbers (b + k) (i + 1)
       r₁ = time_so

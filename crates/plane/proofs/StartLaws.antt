@@ -197,14 +197,14 @@ wide_long n s ns e = let d = decoded n s ns e in length-planed n ns d.fits ∙ s
 
 pub wide_before : (n : ℕ) (s : List ℕ) (ns : Forest) (rest numbers : ℕ) → decode n s ≡ some ns
     → rest ≡ length ((sheet_of 0 n).write ns) → numbers ≡ count ns → (out : List ℕ) → length s ≤ length out
-    → (d : BeforeAll 4 n s out (length s) rest numbers) × (Goal d.o ≡ planed n ns ++ drop (length (planed n ns)) out)
+    → (d : BeforeAll 4 n s out (rest + 4 * numbers) rest numbers) × (Goal d.o ≡ planed n ns ++ drop (length (planed n ns)) out)
 wide_before n s ns rest numbers e x y out h =
     let d = decoded n s ns e in
-    put_in (planed n ns) (sym (size_wide n s ns d.fits d.encodes out h)) (sym x) (sym y)
+    put_in (planed n ns) (omega (arith, x, y)) (sym x) (sym y)
     (before_wide n s ns d.fits d.encodes out h)
 
 abbrev pub carries_wide : (n : ℕ) (s : List ℕ) (ns : Forest) (rest numbers : ℕ) → decode n s ≡ some ns
-    → rest ≡ length ((sheet_of 0 n).write ns) → numbers ≡ count ns → Carries 4 n s (length s) rest numbers
+    → rest ≡ length ((sheet_of 0 n).write ns) → numbers ≡ count ns → Carries 4 n s (rest + 4 * numbers) rest numbers
 carries_wide n s ns rest numbers e x y = record {
   target = planed n ns;
   long = wide_long n s ns e;
@@ -216,13 +216,13 @@ narrow_long n p ns e = let d = unplaned_is n p ns e in sym (length-planed n ns d
 
 pub narrow_before : (n : ℕ) (p : List ℕ) (ns : Forest) (rest numbers : ℕ) → unplaned n p ≡ some ns
     → rest ≡ length ((sheet_of 0 n).write ns) → numbers ≡ count ns → (out : List ℕ) → length p ≤ length out
-    → (d : BeforeAll 0 n p out rest rest numbers) × (Goal d.o ≡ encode n ns ++ drop (length (encode n ns)) out)
+    → (d : BeforeAll 0 n p out (rest + 0 * numbers) rest numbers) × (Goal d.o ≡ encode n ns ++ drop (length (encode n ns)) out)
 narrow_before n p ns rest numbers e x y out h =
     let d = unplaned_is n p ns e in
     put_in (encode n ns) (omega (arith, x)) (sym x) (sym y) (before_narrow n p ns d.fits d.planes out h)
 
 abbrev pub carries_narrow : (n : ℕ) (p : List ℕ) (ns : Forest) (rest numbers : ℕ) → unplaned n p ≡ some ns
-    → rest ≡ length ((sheet_of 0 n).write ns) → numbers ≡ count ns → Carries 0 n p rest rest numbers
+    → rest ≡ length ((sheet_of 0 n).write ns) → numbers ≡ count ns → Carries 0 n p (rest + 0 * numbers) rest numbers
 carries_narrow n p ns rest numbers e x y = record {
   target = encode n ns;
   long = narrow_long n p ns e;

@@ -2,8 +2,9 @@
 // has room in the output.
 ghost use Rattle.std.specs.Prelude.{◌≡◌, ◌+◌, ◌*◌, ◌≤◌, ◌<◌, length, true};
 ghost use Rattle.plane.specs.Means.{Copies, Puts, Advances};
-ghost use Rattle.plane.specs.CarryMeans.{FrameMoves, BeforeFrames, FramesMove, BeforeTrack, TrackMoves, BeforeRecord, RecordMoves, BeforeAll, AllMove};
+ghost use Rattle.plane.specs.CarryMeans.{FrameMoves, BeforeFrames, FramesMove, BeforeTrack, TrackMoves, BeforeRecord, RecordMoves, BeforeAll, AllMove, Carries, Carried};
 
+use error::{LineAnswer, Refusal};
 use sheet_decode::fields::take_field;
 use sheet_decode::optional::take_opt_loop;
 use sheet_records::take_record;
@@ -15,10 +16,8 @@ fn copy(src: &[u8], from: usize, out: &mut [u8], to: usize, k: usize)
     requires k_in_bounds_2 { to + k ≤ length out.old }
     ensures { Copies src.now from out.old to k out.new }
 {
-    let mut m: usize = 0;
-    while m < k {
+    for m in 0..k {
         out[to + m] = src[from + m];
-        m += 1;
     }
 }
 
@@ -38,217 +37,164 @@ fn put_number(src: &[u8], from: usize, step: usize, out: &mut [u8], to: usize, s
     out[to + 3 * stride] = fourth;
 }
 
-// The bytes before a number, then the number, the i-th. In src its four bytes stand behind the bytes if w is 4, else in the planes.
-pub fn advance(
-    src: &[u8],
-    done: usize,
-    out: &mut [u8],
-    to: usize,
-    k: usize,
-    w: usize,
-    rest: usize,
-    numbers: usize,
-    i: usize,
-)
-    requires w_in_bounds { done + k + w ≤ length src.now }
-    requires k_in_bounds { to + k + 4 ≤ length out.old + w }
-    requires numbers_in_bounds { rest + 4 * numbers ≤ length src.now }
-    requires numbers_in_bounds_2 { rest + 4 * numbers ≤ length out.old }
-    requires i_lt_numbers { i < numbers }
-    requires w_bound { w ≤ 4 }
-    requires w_value { (w ≡ 4 → ⊥) → w ≡ 0 }
-    ensures { Advances w src.now done out.old to k rest numbers i out.new }
-{
-    copy(src, done, out, to, k);
-    if w == 4 {
-        put_number(src, done + k, 1, out, rest + i, numbers);
-        return;
-    }
-    put_number(src, rest + i, numbers, out, to + k, 1);
-}
-
-// Where a walk that carries stands: what of src is carried, where the next byte goes, how many numbers are.
+// Where a walk that carries stands: what of the source is carried, where the next byte goes, how many numbers are carried.
 #[derive(Clone, Copy)]
 pub struct Progress {
     pub done: usize,
     pub to: usize,
-    pub i: usize,
-}
-
-// The numbers of the frame at a place, and the bytes before them.
-fn move_frame(
-    src: &[u8],
-    n: usize,
-    a: usize,
-    scalar: bool,
-    out: &mut [u8],
-    done: usize,
-    to: usize,
-    i: usize,
-    w: usize,
-    rest: usize,
-    numbers: usize,
-) -> Progress
-    requires done_le_a { done ≤ a }
-    requires w_in_bounds { a + 2 + 2 * w ≤ length src.now }
-    requires a_in_bounds { to + a + 10 ≤ length out.old + done + 2 * w }
-    requires numbers_in_bounds { rest + 4 * numbers ≤ length src.now }
-    requires numbers_in_bounds_2 { rest + 4 * numbers ≤ length out.old }
-    requires i_lt_numbers { i < numbers }
-    requires i_bound { scalar ≡ true → i + 1 < numbers }
-    requires w_bound { w ≤ 4 }
-    requires w_value { (w ≡ 4 → ⊥) → w ≡ 0 }
-    ensures { FrameMoves w n src.now out.old out.new rest numbers done to i a scalar result.done result.to result.i }
-{
-    let k = a + 1 - done;
-    advance(src, done, out, to, k, w, rest, numbers, i);
-    let from = done + k + w;
-    let place = to + k + (4 - w);
-    if scalar {
-        advance(src, from, out, place, 1, w, rest, numbers, i + 1);
-        return Progress {
-            done: from + 1 + w,
-            to: place + 1 + (4 - w),
-            i: i + 2,
-        };
-    }
-    Progress {
-        done: from,
-        to: place,
-        i: i + 1,
-    }
+    pub numbers: usize,
 }
 
 // Where a walk that carries stands, and the place behind what it passed.
 #[derive(Clone, Copy)]
 pub struct Moved {
-    pub done: usize,
-    pub to: usize,
-    pub i: usize,
+    pub progress: Progress,
     pub next: usize,
 }
 
-// The numbers of so many frames, and the bytes before them.
-fn move_frames(
-    src: &[u8],
-    n: usize,
-    at: usize,
-    count: usize,
-    out: &mut [u8],
-    progress: Progress,
-    w: usize,
-    rest: usize,
-    numbers: usize,
-) -> Moved
-    requires { BeforeFrames w n src.now out.old rest numbers progress.done progress.to progress.i at count }
-    ensures { FramesMove w n src.now out.old out.new rest numbers progress.done progress.to progress.i at count result.done result.to result.i result.next }
-{
-    let mut done = progress.done;
-    let mut to = progress.to;
-    let mut i = progress.i;
-    let mut a = at;
-    let mut k: usize = 0;
-    while k < count {
-        let f = take_frame(src, a, n, w);
-        let p = move_frame(src, n, a, f.scalar, out, done, to, i, w, rest, numbers);
-        done = p.done;
-        to = p.to;
-        i = p.i;
-        a = f.next;
-        k += 1;
-    }
-    Moved {
-        done,
-        to,
-        i,
-        next: a,
-    }
+// What is carried: a sheet, or a planed one.
+#[derive(Clone, Copy)]
+pub struct Source<'a> {
+    pub bytes: &'a [u8],
+    pub text_len: usize,
+    // How many bytes a number has between the bytes that stay: 4 in a sheet, 0 in a planed one.
+    pub width: usize,
+    // How many bytes stay. In a planed one the planes begin behind them.
+    pub rest: usize,
+    pub numbers: usize,
+    ghost long: { rest + 4 * numbers ≤ length bytes.now },
+    ghost width_bound: { width ≤ 4 },
+    ghost width_value: { (width ≡ 4 → ⊥) → width ≡ 0 },
 }
 
-// Those of the track at a place.
-fn move_track(
-    src: &[u8],
-    n: usize,
-    a: usize,
-    out: &mut [u8],
-    progress: Progress,
-    w: usize,
-    rest: usize,
-    numbers: usize,
-) -> Moved
-    requires { BeforeTrack w n src.now out.old rest numbers progress.done progress.to progress.i a }
-    ensures { TrackMoves w n src.now out.old out.new rest numbers progress.done progress.to progress.i a result.done result.to result.i result.next }
-{
-    let count = take_field(src, a + 7, 2);
-    let m = move_frames(
-        src,
-        n,
-        a + 9,
-        count.v as usize,
-        out,
-        progress,
-        w,
-        rest,
-        numbers,
-    );
-    let l = take_opt_loop(src, m.next);
-    Moved {
-        done: m.done,
-        to: m.to,
-        i: m.i,
-        next: l.next,
+impl Source<'_> {
+    // The k bytes before a number, then the number.
+    pub fn advance(self, out: &mut [u8], progress: Progress, k: usize) -> Progress
+        requires width_in_bounds { progress.done + k + self.width ≤ length self.bytes.now }
+        requires k_in_bounds { progress.to + k + 4 ≤ length out.old + self.width }
+        requires numbers_in_bounds { self.rest + 4 * self.numbers ≤ length out.old }
+        requires number_left { progress.numbers < self.numbers }
+        ensures advances { Advances self.entry.width self.entry.bytes.now progress.done out.old progress.to k self.entry.rest self.entry.numbers progress.numbers out.new }
+        ensures done { result.done ≡ progress.done + k + self.entry.width }
+        ensures to { result.to + self.entry.width ≡ progress.to + k + 4 }
+        ensures numbers { result.numbers ≡ progress.numbers + 1 }
+    {
+        let Progress { done, to, numbers } = progress;
+        copy(self.bytes, done, out, to, k);
+        let plane = self.rest + numbers;
+        if self.width == 4 {
+            put_number(self.bytes, done + k, 1, out, plane, self.numbers);
+        } else {
+            put_number(self.bytes, plane, self.numbers, out, to + k, 1);
+        }
+        Progress {
+            done: done + k + self.width,
+            to: to + k + (4 - self.width),
+            numbers: numbers + 1,
+        }
     }
-}
 
-// Those of the record at a place.
-fn move_record(
-    src: &[u8],
-    n: usize,
-    a: usize,
-    out: &mut [u8],
-    progress: Progress,
-    w: usize,
-    rest: usize,
-    numbers: usize,
-) -> Moved
-    requires { BeforeRecord w n src.now out.old rest numbers progress.done progress.to progress.i a }
-    ensures { RecordMoves w n src.now out.old out.new rest numbers progress.done progress.to progress.i a result.done result.to result.i result.next }
-{
-    if src[a] == 2 {
-        return move_track(src, n, a, out, progress, w, rest, numbers);
+    // The numbers of the frame at a place, and the bytes before them.
+    fn move_frame(self, out: &mut [u8], progress: Progress, at: usize, scalar: bool) -> Progress
+        requires done_le_at { progress.done ≤ at }
+        requires width_in_bounds { at + 2 + 2 * self.width ≤ length self.bytes.now }
+        requires at_in_bounds { progress.to + at + 10 ≤ length out.old + progress.done + 2 * self.width }
+        requires numbers_in_bounds { self.rest + 4 * self.numbers ≤ length out.old }
+        requires number_left { progress.numbers < self.numbers }
+        requires two_left { scalar ≡ true → progress.numbers + 1 < self.numbers }
+        ensures { FrameMoves self.entry.width self.entry.text_len self.entry.bytes.now out.old out.new self.entry.rest self.entry.numbers progress.done progress.to progress.numbers at scalar result.done result.to result.numbers }
+    {
+        let behind_time = self.advance(out, progress, at + 1 - progress.done);
+        if !scalar {
+            return behind_time;
+        }
+        self.advance(out, behind_time, 1)
     }
-    let r = take_record(src, a, n);
-    Moved {
-        done: progress.done,
-        to: progress.to,
-        i: progress.i,
-        next: r.next,
-    }
-}
 
-// All of a sheet, or of the first part of a planed one, which ends at a place.
-pub fn move_all(
-    src: &[u8],
-    n: usize,
-    end: usize,
-    out: &mut [u8],
-    w: usize,
-    rest: usize,
-    numbers: usize,
-)
-    requires { BeforeAll w n src.now out.old end rest numbers }
-    ensures { AllMove w n src.now out.old out.new end rest numbers }
-{
-    let mut done: usize = 0;
-    let mut to: usize = 0;
-    let mut i: usize = 0;
-    let mut a: usize = 2;
-    while a < end {
-        let m = move_record(src, n, a, out, Progress { done, to, i }, w, rest, numbers);
-        done = m.done;
-        to = m.to;
-        i = m.i;
-        a = m.next;
+    // The numbers of so many frames, and the bytes before them.
+    fn move_frames(self, out: &mut [u8], progress: Progress, at: usize, count: usize) -> Moved
+        requires { BeforeFrames self.width self.text_len self.bytes.now out.old self.rest self.numbers progress.done progress.to progress.numbers at count }
+        ensures { FramesMove self.entry.width self.entry.text_len self.entry.bytes.now out.old out.new self.entry.rest self.entry.numbers progress.done progress.to progress.numbers at count result.progress.done result.progress.to result.progress.numbers result.next }
+    {
+        let mut progress = progress;
+        let mut at = at;
+        for _ in 0..count {
+            let frame = take_frame(self.bytes, at, self.text_len, self.width);
+            progress = self.move_frame(out, progress, at, frame.scalar);
+            at = frame.next;
+        }
+        Moved { progress, next: at }
     }
-    copy(src, done, out, to, end - done);
+
+    // Those of the track at a place.
+    fn move_track(self, out: &mut [u8], progress: Progress, at: usize) -> Moved
+        requires { BeforeTrack self.width self.text_len self.bytes.now out.old self.rest self.numbers progress.done progress.to progress.numbers at }
+        ensures { TrackMoves self.entry.width self.entry.text_len self.entry.bytes.now out.old out.new self.entry.rest self.entry.numbers progress.done progress.to progress.numbers at result.progress.done result.progress.to result.progress.numbers result.next }
+    {
+        let count = take_field(self.bytes, at + 7, 2);
+        let frames = self.move_frames(out, progress, at + 9, count.v as usize);
+        let loop_mode = take_opt_loop(self.bytes, frames.next);
+        Moved {
+            progress: frames.progress,
+            next: loop_mode.next,
+        }
+    }
+
+    // Those of the record at a place.
+    fn move_record(self, out: &mut [u8], progress: Progress, at: usize) -> Moved
+        requires { BeforeRecord self.width self.text_len self.bytes.now out.old self.rest self.numbers progress.done progress.to progress.numbers at }
+        ensures { RecordMoves self.entry.width self.entry.text_len self.entry.bytes.now out.old out.new self.entry.rest self.entry.numbers progress.done progress.to progress.numbers at result.progress.done result.progress.to result.progress.numbers result.next }
+    {
+        if self.bytes[at] == 2 {
+            return self.move_track(out, progress, at);
+        }
+        let record = take_record(self.bytes, at, self.text_len);
+        Moved {
+            progress,
+            next: record.next,
+        }
+    }
+
+    // All of a sheet, or of what stays of a planed one.
+    pub fn move_all(self, out: &mut [u8])
+        requires { BeforeAll self.width self.text_len self.bytes.now out.old (self.rest + self.width * self.numbers) self.rest self.numbers }
+        ensures { AllMove self.entry.width self.entry.text_len self.entry.bytes.now out.old out.new (self.entry.rest + self.entry.width * self.entry.numbers) self.entry.rest self.entry.numbers }
+    {
+        let end = self.rest + self.width * self.numbers;
+        let mut progress = Progress {
+            done: 0,
+            to: 0,
+            numbers: 0,
+        };
+        let mut at: usize = 2;
+        while at < end {
+            let moved = self.move_record(out, progress, at);
+            progress = moved.progress;
+            at = moved.next;
+        }
+        copy(
+            self.bytes,
+            progress.done,
+            out,
+            progress.to,
+            end - progress.done,
+        );
+    }
+
+    // Carries a sheet to its planed form, or a planed one back, if there is room.
+    pub fn carry(self, out: &mut [u8]) -> LineAnswer
+        requires { Carries self.width self.text_len self.bytes.now (self.rest + self.width * self.numbers) self.rest self.numbers }
+        ensures { Carried self.entry.width self.entry.text_len self.entry.bytes.now out.old (self.entry.rest + self.entry.width * self.entry.numbers) self.entry.rest self.entry.numbers result out.new }
+    {
+        if out.len() < self.bytes.len() {
+            return LineAnswer::Refused {
+                refusal: Refusal::OutputTooShort,
+                place: 0,
+            };
+        }
+        self.move_all(out);
+        LineAnswer::Accepted {
+            length: self.bytes.len(),
+        }
+    }
 }

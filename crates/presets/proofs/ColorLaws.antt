@@ -11,6 +11,8 @@ use lib.Seq.{take_all}
 use borrow.Author.Tests.{eq-eqb, ne_eqb}
 use Rattle.text.specs.Bytes.{is_hex, lowered, run, at, part}
 use Rattle.text.specs.Words.{is_some, words, find}
+use Rattle.words.specs.declared.List.{List as WordList}
+use Rattle.words.specs.declared.List.TheVariants.{Colors}
 use Rattle.words.specs.ListMeans.{list_of}
 use Rattle.words.proofs.ListLaws.{list_clip}
 use Rattle.presets.specs.Colors.{colors, hex_size, is_hex_color, is_color_of}
@@ -24,11 +26,11 @@ unfolding is_hex_color
 hex_no t h = rw h
 
 -- the code's list has the Rust's names: computed
-pub names_are : list_of 25 ≡ words colors
+pub names_are : list_of Colors ≡ words colors
 unfolding list_of
 names_are = refl
 
-module _ (list : ℕ) (s : List ℕ) (b : ℕ) (e : b ≡ at s 0) where
+module _ (list : WordList) (s : List ℕ) (b : ℕ) (e : b ≡ at s 0) where
   pub color_hex : (digits : List ℕ) → b ≡ 35 → digits ≡ part s 1 (length s) → is_hex_color digits ≡ is_color_of (list_of list) s
   unfolding is_color_of
   color_hex digits h q =

@@ -7,13 +7,15 @@ ghost use Rattle.words.specs.ListMeans.{list_of};
 ghost use Rattle.presets.specs.Presets.{is_preset};
 ghost use Rattle.presets.specs.Colors.{colors, hex_size, is_hex_color, is_color_of, is_color};
 
+use words::List;
+
 // ---- presets
 
 // Whether a part of a text names a preset.
 pub fn is_known_preset(text: &[u8], start: usize, size: usize) -> bool
     ensures { result ≡ is_preset (part text.now start size) }
 {
-    words::holds(words::PRESETS, text, start, size)
+    words::holds(List::Presets, text, start, size)
 }
 
 // ---- colours
@@ -21,30 +23,18 @@ pub fn is_known_preset(text: &[u8], start: usize, size: usize) -> bool
 fn is_hex_size(n: usize) -> bool
     ensures { result ≡ hex_size n }
 {
-    if n == 3 {
-        return true;
-    }
-    if n == 4 {
-        return true;
-    }
-    if n == 6 {
-        return true;
-    }
-    n == 8
+    matches!(n, 3 | 4 | 6 | 8)
 }
 
 // Whether what stands behind a `#` is a colour.
 pub fn is_hex_color(digits: &[u8]) -> bool
     ensures { result ≡ is_hex_color digits.now }
 {
-    if is_hex_size(digits.len()) {
-        return text::run_end(digits, 0, text::Class::Hex) == digits.len();
-    }
-    false
+    is_hex_size(digits.len()) && text::run_end(digits, 0, text::Class::Hex) == digits.len()
 }
 
 // Whether a string is a colour by one of `words`' lists of names in small letters.
-pub fn is_color(s: &[u8], list: u8) -> bool
+pub fn is_color(s: &[u8], list: List) -> bool
     ensures { result ≡ is_color_of (list_of list) s.now }
 {
     if text::byte_at(s, 0) == b'#' {
@@ -60,5 +50,5 @@ pub fn is_color(s: &[u8], list: u8) -> bool
 pub fn is_valid_color(text: &[u8], start: usize, size: usize) -> bool
     ensures { result ≡ is_color colors (part text.now start size) }
 {
-    is_color(text::part(text, start, size), words::COLORS)
+    is_color(text::part(text, start, size), List::Colors)
 }

@@ -12,6 +12,7 @@ use Rattle.sheet.specs.Sheet.{Node, word, pattern_form, node_form, forest, inner
 use Rattle.sheet_encode.specs.WriteMeans.{Writes}
 use Rattle.grammar.specs.Rule.{Rule, refused, give, ◌>>=◌, the, more, done, repeat}
 use Rattle.grammar.specs.Grammar.{stored, leaves, containers, a_leaf, a_container, beginning, node_by, nodes_step, block}
+use Rattle.words.specs.declared.List.TheVariants as list
 use Rattle.words.specs.ListMeans.{list_of}
 use Rattle.read_cursor.specs.WordMeans.{at_of}
 use Rattle.read_cursor.specs.Means.{Ready, run, Took}
@@ -38,7 +39,7 @@ use Rattle.read_blocks.specs.declared.NodesNext.TheVariants as turn
 
 -- the words that begin a node
 abbrev pub node_words : List (List ℕ)
-node_words = list_of 0
+node_words = list_of list.Nodes
 
 abbrev pub KeywordMeans : List ℕ → Keyword → Type 0
 KeywordMeans w (keyword.Leaf i) = (row : String × Rule (Leaf Key)) × (get_elem? leaves i ≡ some row) × (beginning w ≡ a_leaf row.1)

@@ -98,18 +98,17 @@ fn begin_node(text: &[u8], sheet: &mut [u8], c: Cursor, out: usize) -> Begun
     requires { Ready text.now c × Room text.now (out + 3) }
     ensures { BegunMeans 1 text.now sheet.old sheet.new c out parse_node result }
 {
-    let i = read_cursor::listed(text, c, words::NODES);
-    if i == words::NONE {
-        return no_node(text, c);
+    match read_cursor::listed(text, c, words::List::Nodes) {
+        None => no_node(text, c),
+        Some(i) => begin_word(
+            text,
+            sheet,
+            read_cursor::place(c),
+            i,
+            read_cursor::advance(text, c),
+            out,
+        ),
     }
-    begin_word(
-        text,
-        sheet,
-        read_cursor::place(c),
-        i,
-        read_cursor::advance(text, c),
-        out,
-    )
 }
 
 // ---- what stands before a container's block: its fields. The answer is the place of the count, which is left open.

@@ -10,7 +10,7 @@ ghost use Rattle.sheet_encode.specs.Means.{span_of};
 ghost use Rattle.grammar.specs.Grammar.{parse_color};
 ghost use Rattle.read_arrays.specs.Means.{Room};
 
-use ast::{ColorSpec, Span};
+use ast::{ColorSpec, EasingSpec, Span};
 use error::Refusal;
 use read_cursor::{CaseRead, Cursor, FloatRead, MarkRead, WordRead};
 use read_fields::NextField;
@@ -46,7 +46,7 @@ fn color_step(text: &[u8], c: Cursor, row: usize, kept: ColorFields) -> ColorSte
                 ColorStep::Is(ColorFields { duration, ..kept }, m)
             }
         },
-        1 => match read_cursor::choice(text, c, words::SPACES, Refusal::Malformed) {
+        1 => match read_cursor::choice(text, c, words::List::Spaces, Refusal::Malformed) {
             CaseRead::Refused(r, p) => ColorStep::Refused(r, p),
             CaseRead::Is(i, m) => {
                 let space = Some(i as u8);
@@ -75,7 +75,7 @@ fn color_fields(text: &[u8], c: Cursor) -> ColorStep
         easing: None,
     };
     loop {
-        match read_fields::parse_field_list(text, m, words::COLOR_ROWS) {
+        match read_fields::parse_field_list(text, m, words::List::ColorRows) {
             NextField::Refused(r, p) => return ColorStep::Refused(r, p),
             NextField::Done(e) => return ColorStep::Is(kept, e),
             NextField::Field(i, v) => match color_step(text, v, i, kept) {

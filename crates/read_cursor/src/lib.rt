@@ -356,16 +356,16 @@ pub fn sees_word(text: &[u8], c: Cursor, word: &[u8]) -> bool
 }
 
 // The place of the next token in a list, if it is a word that stands there, a name or a keyword.
-pub fn listed(text: &[u8], c: Cursor, list: u8) -> u8
+pub fn listed(text: &[u8], c: Cursor, list: words::List) -> Option<u8>
     requires { Ready text.now c }
     ensures { place_is result ≡ listed_in (list_of list) (tokens_from text.now (at_of c)) }
 {
     let k = kind(c);
     match k {
         Tok::Name => words::find(list, text, place(c), size(c)),
-        Tok::Mark(_) => words::NONE,
-        Tok::Num => words::NONE,
-        Tok::Quoted => words::NONE,
+        Tok::Mark(_) => None,
+        Tok::Num => None,
+        Tok::Quoted => None,
     }
 }
 
@@ -507,15 +507,14 @@ fn unlisted(text: &[u8], c: Cursor, refusal: Refusal) -> CaseRead
 }
 
 // A name of a list, as its position there. No word of the list is a keyword.
-pub fn choice(text: &[u8], c: Cursor, list: u8, refusal: Refusal) -> CaseRead
+pub fn choice(text: &[u8], c: Cursor, list: words::List, refusal: Refusal) -> CaseRead
     requires { Ready text.now c × (no_keywords (list_of list) ≡ true) }
     ensures { CaseMeans text.now c (choice_in refusal (list_of list)) result }
 {
-    let i = listed(text, c, list);
-    if i == words::NONE {
-        return unlisted(text, c, refusal);
+    match listed(text, c, list) {
+        Some(i) => CaseRead::Is(i as usize, advance(text, c)),
+        None => unlisted(text, c, refusal),
     }
-    CaseRead::Is(i as usize, advance(text, c))
 }
 
 // ---- numbers
@@ -603,8 +602,8 @@ pub fn parse_uint(text: &[u8], c: Cursor) -> UintRead
                 return UintRead::Refused(Refusal::Missing, place(c));
             }
             match number::whole(negative, n.digits) {
-                number::Uint::Is(v) => UintRead::Is(v, m),
-                number::Uint::Refused => UintRead::Refused(Refusal::Malformed, place(m)),
+                Some(v) => UintRead::Is(v, m),
+                None => UintRead::Refused(Refusal::Malformed, place(m)),
             }
         }
     }

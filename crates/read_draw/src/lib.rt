@@ -14,7 +14,7 @@ ghost use Rattle.read_node.specs.Means.{Put, LeafMeans, EndMeans};
 ghost use Rattle.sheet_encode.specs.Means.{span_of};
 ghost use Rattle.read_arrays.specs.Means.{Room};
 
-use ast::{DrawSpec, PresetCall, Span};
+use ast::{DrawSpec, EasingSpec, PresetCall, Span};
 use error::Refusal;
 use read_cursor::{Cursor, FloatRead, WordRead};
 use read_fields::NextField;
@@ -77,7 +77,7 @@ fn draw_fields(text: &[u8], c: Cursor, earlier: DrawFields) -> DrawStep
     let mut m = c;
     let mut kept = earlier;
     loop {
-        match read_fields::parse_field_list(text, m, words::DRAW_ROWS) {
+        match read_fields::parse_field_list(text, m, words::List::DrawRows) {
             NextField::Refused(r, p) => return DrawStep::Refused(r, p),
             NextField::Done(e) => return DrawStep::Is(kept, e),
             NextField::Field(i, v) => match draw_step(text, v, i, kept) {
@@ -99,7 +99,7 @@ fn draw_pairs(text: &[u8], c: Cursor) -> DrawStep
     let mut m = c;
     let mut kept = no_draw_fields();
     loop {
-        match read_fields::next_pair(text, m, words::DRAW_ROWS) {
+        match read_fields::next_pair(text, m, words::List::DrawRows) {
             NextField::Refused(r, p) => return DrawStep::Refused(r, p),
             NextField::Done(e) => return DrawStep::Is(kept, e),
             NextField::Field(i, v) => match draw_step(text, v, i, kept) {

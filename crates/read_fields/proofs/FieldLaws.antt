@@ -26,7 +26,9 @@ use Rattle.read_fields.specs.declared.NextField.{NextField}
 use Rattle.read_fields.specs.declared.NextField.TheVariants as found
 use Rattle.read_cursor.proofs.CursorLaws.{took, head_moves}
 use Rattle.read_cursor.proofs.ListedLaws.{never, none_some, Listed, took_listed, unlisted_kind, no_name, name_no_end}
+use Rattle.words.specs.declared.List.{List as WordList}
 use Rattle.words.specs.ListMeans.{list_of}
+use Rattle.words.proofs.KeyLaws.{every}
 use Rattle.words.proofs.ListLaws.{every_list, each-list}
 use Rattle.read_fields.specs.Means.{HeadMeans, StartMeans, FieldMeans, PairMeans}
 use Rattle.read_fields.specs.Means.{names, head_behind, RowAt, Gives, FieldAt, PairAt}
@@ -203,9 +205,9 @@ unfoldable pub loop_alone : List (List ℕ) → Bool
 loop_alone [] = true
 loop_alone (n ∷ ns) = (not (is_keyword n) || same n (bytes "loop")) && loop_alone ns
 
-pub all_alone : (k : ℕ) → loop_alone (list_of k) ≡ true
-unfolding loop_alone every_list is_keyword find same
-all_alone k = each-list loop_alone k refl refl
+pub all_alone : (k : WordList) → loop_alone (list_of k) ≡ true
+unfolding loop_alone every every_list list_of is_keyword find same
+all_alone k = each-list loop_alone k refl
 
 loop_or_free : (ns : List (List ℕ)) (j : ℕ) (w : List ℕ) (i : ℕ) → loop_alone ns ≡ true → find ns j w ≡ some i
     → same w (bytes "loop") ≡ false

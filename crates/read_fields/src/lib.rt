@@ -58,18 +58,16 @@ fn item_of(k: Tok) -> Item
 }
 
 // Behind a name: its `:`, and its place in the list.
-fn after_name(text: &[u8], row: u8, c: Cursor) -> NextField
+fn after_name(text: &[u8], row: Option<u8>, c: Cursor) -> NextField
     requires { Ready text.now c }
     ensures { (t : Table) (w : List ℕ) → place_is row ≡ find (names t) 0 w → HeadMeans text.now w c t result }
 {
     match read_cursor::mark(text, c, b':') {
         MarkRead::Missing(p) => NextField::Refused(Refusal::Missing, p),
-        MarkRead::Is(m) => {
-            if row == words::NONE {
-                return NextField::Refused(Refusal::UnknownKeyword, read_cursor::place(m));
-            }
-            NextField::Field(row as usize, m)
-        }
+        MarkRead::Is(m) => match row {
+            None => NextField::Refused(Refusal::UnknownKeyword, read_cursor::place(m)),
+            Some(row) => NextField::Field(row as usize, m),
+        },
     }
 }
 
@@ -79,28 +77,29 @@ fn unlisted(text: &[u8], c: Cursor) -> NextField
     ensures { (t : Table) → listed_in (names t) (tokens_from text.now (at_of c)) ≡ none → StartMeans text.now pair_name c t result }
 {
     if read_cursor::sees_name(text, c) {
-        return after_name(text, words::NONE, read_cursor::advance(text, c));
+        return after_name(text, None, read_cursor::advance(text, c));
     }
     NextField::Refused(Refusal::Missing, read_cursor::place(c))
 }
 
 // A field behind which others may follow. `loop`, which is no name elsewhere, is one here.
-fn start_field(text: &[u8], c: Cursor, list: u8) -> NextField
+fn start_field(text: &[u8], c: Cursor, list: words::List) -> NextField
     requires { Ready text.now c }
     ensures { (t : Table) → names t ≡ list_of list → StartMeans text.now field_name c t result }
 {
-    let row = read_cursor::listed(text, c, list);
-    if row == words::NONE {
-        if read_cursor::sees_word(text, c, b"loop") {
-            return after_name(text, words::NONE, read_cursor::advance(text, c));
+    match read_cursor::listed(text, c, list) {
+        None => {
+            if read_cursor::sees_word(text, c, b"loop") {
+                return after_name(text, None, read_cursor::advance(text, c));
+            }
+            unlisted(text, c)
         }
-        return unlisted(text, c);
+        Some(row) => after_name(text, Some(row), read_cursor::hop(text, c, b':')),
     }
-    after_name(text, row, read_cursor::hop(text, c, b':'))
 }
 
 // To the next field of a list, which ends at the group's end or a `{`, or behind a `;`.
-pub fn parse_field_list(text: &[u8], c: Cursor, list: u8) -> NextField
+pub fn parse_field_list(text: &[u8], c: Cursor, list: words::List) -> NextField
     requires { Ready text.now c }
     ensures { (t : Table) → names t ≡ list_of list → FieldMeans text.now c t result }
 {
@@ -119,16 +118,15 @@ pub fn parse_field_list(text: &[u8], c: Cursor, list: u8) -> NextField
 }
 
 // To the next of the fields in parentheses, which end with the group. No word of the list is a keyword.
-pub fn next_pair(text: &[u8], c: Cursor, list: u8) -> NextField
+pub fn next_pair(text: &[u8], c: Cursor, list: words::List) -> NextField
     requires { Ready text.now c × (no_keywords (list_of list) ≡ true) }
     ensures { (t : Table) → names t ≡ list_of list → PairMeans text.now c t result }
 {
     if read_cursor::ends(c) {
         return NextField::Done(c);
     }
-    let row = read_cursor::listed(text, c, list);
-    if row == words::NONE {
-        return unlisted(text, c);
+    match read_cursor::listed(text, c, list) {
+        None => unlisted(text, c),
+        Some(row) => after_name(text, Some(row), read_cursor::hop(text, c, b':')),
     }
-    after_name(text, row, read_cursor::hop(text, c, b':'))
 }

@@ -42,7 +42,7 @@ pub fn parse_group(text: &[u8], c: Cursor) -> GroupRead
     requires { Ready text.now c }
     ensures { GroupMeans text.now c result }
 {
-    match read_cursor::choice(text, c, words::GROUP_MODES, Refusal::Malformed) {
+    match read_cursor::choice(text, c, words::List::GroupModes, Refusal::Malformed) {
         CaseRead::Refused(r, p) => GroupRead::Refused(r, p),
         CaseRead::Is(i, m) => GroupRead::Is(i as u8, m),
     }
@@ -54,7 +54,7 @@ fn parse_grid_origin(text: &[u8], c: Cursor) -> OriginRead
     requires { Ready text.now c }
     ensures { OriginMeans text.now c result }
 {
-    match read_cursor::choice(text, c, words::GRID_ORIGINS, Refusal::Malformed) {
+    match read_cursor::choice(text, c, words::List::GridOrigins, Refusal::Malformed) {
         CaseRead::Refused(r, p) => OriginRead::Refused(r, p),
         CaseRead::Is(i, m) => OriginRead::Is(i as u8, m),
     }
@@ -108,7 +108,7 @@ fn next_grid(text: &[u8], c: Cursor) -> NextField
     requires { Ready text.now c }
     ensures { fields.PairMeans text.now c grid_fields result }
 {
-    read_fields::next_pair(text, c, words::GRID_FIELDS)
+    read_fields::next_pair(text, c, words::List::GridFields)
 }
 
 fn grid_fields(text: &[u8], c: Cursor) -> GridRead
@@ -229,7 +229,7 @@ fn next_random(text: &[u8], c: Cursor) -> NextField
     requires { Ready text.now c }
     ensures { fields.PairMeans text.now c random_fields result }
 {
-    read_fields::next_pair(text, c, words::RANDOM_FIELDS)
+    read_fields::next_pair(text, c, words::List::RandomFields)
 }
 
 fn random_fields(text: &[u8], c: Cursor) -> RandomRead
@@ -306,7 +306,7 @@ fn parse_stagger_pattern(text: &[u8], c: Cursor) -> PatternRead
     requires { Ready text.now c }
     ensures { PatternMeans 1 text.now c parse_stagger_pattern result }
 {
-    match read_cursor::choice(text, c, words::PATTERNS, Refusal::Malformed) {
+    match read_cursor::choice(text, c, words::List::Patterns, Refusal::Malformed) {
         CaseRead::Refused(r, p) => PatternRead::Refused(r, p),
         CaseRead::Is(i, m) => named_pattern(text, m, i),
     }
@@ -360,7 +360,7 @@ fn opening_field(text: &[u8], c: Cursor, f: Opening) -> OpeningRead
     requires { Ready text.now c × PlainOpening f }
     ensures { OpeningMeans text.now c (one_opening (opening_of f)) result }
 {
-    match read_cursor::choice(text, c, words::OPENING_FIELDS, Refusal::UnknownKeyword) {
+    match read_cursor::choice(text, c, words::List::OpeningFields, Refusal::UnknownKeyword) {
         CaseRead::Refused(r, p) => OpeningRead::Refused(r, p),
         CaseRead::Is(i, m) => opening_value(text, m, f, i),
     }

@@ -1,4 +1,5 @@
 -- A frame's entry, read and written.
+use Rattle.ast.specs.declared.EasingSpec.{EasingSpec}
 use Rattle.std.specs.Prelude.{Option as Optional}
 use Prim.Native.Nat.{ℕ, ◌+◌, ◌*◌, ◌-◌, ◌≤◌}
 use mathlib.Core.Bool.{Bool, true, false}
@@ -67,7 +68,7 @@ module _ {s : List ℕ} {c m : Cursor} {p : Bool} {x : Float} (t : TookTime s c 
     unfolding behind_key
     frame_no_easing h = frame-run s c ∙ (rw (t.took.is, w.took.is, h))
 
-    pub entry_went : {u : Cursor} {e : Optional easings.EasingSpec} → Took 0 s n u easing_if (opt_easing_of e) → PlainOptEasing e
+    pub entry_went : {u : Cursor} {e : Optional EasingSpec} → Took 0 s n u easing_if (opt_easing_of e) → PlainOptEasing e
         → EntryWent s b a c u out end (entry_of p x v e)
     unfolding behind_key
     entry_went {e = e} y z = record {

@@ -27,7 +27,7 @@ use Rattle.grammar.specs.Grammar.{stored, keyframe_entry, Track, track_loop, tra
 use Rattle.read_cursor.specs.WordMeans.{at_of}
 use Rattle.read_cursor.specs.Means.{Ready, tokens, run, Took, Follows, spelled}
 use Rattle.read_cursor.specs.declared.Cursor.{Cursor}
-use Rattle.read_cursor.proofs.CursorLaws.{took, moved_low}
+use Rattle.read_cursor.proofs.CursorLaws.{moved_low}
 use Rattle.read_fields.proofs.FieldLaws.{by_step}
 use Rattle.read_fields.proofs.ListLaws.{Listed, listed_start, listed_gives}
 use Rattle.read_values.proofs.EasingLaws.{spelled-length}

@@ -13,7 +13,7 @@ ghost use Rattle.read_arrays.specs.Means.{Room};
 ghost use Rattle.read_node.specs.Means.{LeafMeans};
 ghost use Rattle.read_keyframes.specs.Means.{Inner, percent_sign, key_of, Stores, TimeMeans, key_mark, EasingMeans, ValuePut, EntryPut, EntryMeans, separator, StepMeans, Standing, TrackMeans, BlockMeans};
 
-use ast::KeyframeEntry;
+use ast::{EasingSpec, KeyframeEntry, LoopSpec};
 use error::Refusal;
 use number::Stored;
 use read_arrays::HeldRead;

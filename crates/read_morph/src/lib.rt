@@ -10,7 +10,7 @@ ghost use Rattle.sheet_encode.specs.Means.{span_of};
 ghost use Rattle.grammar.specs.Grammar.{parse_morph};
 ghost use Rattle.read_arrays.specs.Means.{Room};
 
-use ast::{MorphSpec, Span};
+use ast::{EasingSpec, MorphSpec, Span};
 use error::Refusal;
 use read_cursor::{Cursor, FloatRead, MarkRead, UintRead, WordRead};
 use read_fields::NextField;
@@ -75,7 +75,7 @@ fn morph_fields(text: &[u8], c: Cursor) -> MorphStep
         easing: None,
     };
     loop {
-        match read_fields::parse_field_list(text, m, words::MORPH_ROWS) {
+        match read_fields::parse_field_list(text, m, words::List::MorphRows) {
             NextField::Refused(r, p) => return MorphStep::Refused(r, p),
             NextField::Done(e) => return MorphStep::Is(kept, e),
             NextField::Field(i, v) => match morph_step(text, v, i, kept) {

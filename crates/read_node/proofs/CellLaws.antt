@@ -1,4 +1,5 @@
 -- An entry onto fields: the cell of its row takes its value, and the others stay.
+use Rattle.read_cursor.specs.declared.Cursor.{Cursor}
 use Rattle.std.specs.Prelude.{Some, None, Option as Optional}
 use Prim.Native.Nat.{ℕ, zero, suc, ◌≤◌}
 use mathlib.Core.Bool.{Bool, true, false, not, ◌&&◌}

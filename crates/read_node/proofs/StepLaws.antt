@@ -133,7 +133,7 @@ module _ {s : List ℕ} {c : Cursor} {t : Table} {i : ℕ} (j : ℕ) (n : String
   unfolding easing_rule
   no_easing e h = step_refused parse_easing an_easing e h
 
-  pub an_easing_lem : {m : Cursor} {xs : List Cell} (k : ℕ) (x : EasingSpec) {o : Optional easings.EasingSpec}
+  pub an_easing_lem : {m : Cursor} {xs : List Cell} (k : ℕ) (x : EasingSpec) {o : Optional EasingSpec}
       → get_elem? t j ≡ some (n, easing_rule) → get_elem? xs k ≡ some (easing o)
       → quiet_but xs k (bytes n) (an_easing (of.easing_of x)) ≡ true
       → Took 1 s c m parse_easing (of.easing_of x) × of.PlainEasing x → StepTook s c m t i xs (set xs k (easing (Some x)))
@@ -145,7 +145,7 @@ module _ {s : List ℕ} {c : Cursor} {t : Table} {i : ℕ} (j : ℕ) (n : String
   unfolding loop_rule
   no_loop e h = step_refused parse_loop_mode a_loop_mode e h
 
-  pub a_loop : {m : Cursor} {xs : List Cell} (k : ℕ) (x : LoopSpec) {o : Optional loops.LoopSpec}
+  pub a_loop : {m : Cursor} {xs : List Cell} (k : ℕ) (x : LoopSpec) {o : Optional LoopSpec}
       → get_elem? t j ≡ some (n, loop_rule) → get_elem? xs k ≡ some (loop_mode o)
       → quiet_but xs k (bytes n) (a_loop_mode (of.loop_of x)) ≡ true
       → Took 1 s c m parse_loop_mode (of.loop_of x) → StepTook s c m t i xs (set xs k (loop_mode (Some x)))
@@ -169,7 +169,7 @@ module _ {s : List ℕ} {c : Cursor} {t : Table} {i : ℕ} (j : ℕ) (n : String
 
   -- a damping, by a rule that gives the parts of it
   pub a_damping_lem : {A : Type 0} {m : Cursor} {xs : List Cell} (p : Rule A) (f : A → tree.DampingMode) (k : ℕ) (a : A) (x : DampingMode)
-      {o : Optional dampings.DampingMode}
+      {o : Optional DampingMode}
       → f a ≡ of.damping_of x
       → get_elem? t j ≡ some (n, (p >>= λ a. give (a_damping (f a))))
       → get_elem? xs k ≡ some (damping o)

@@ -1,10 +1,13 @@
 -- What is kept of a node's fields, whatever its kind: one cell for each field of its struct. Contracts cite these.
-use Rattle.std.specs.Prelude.{ℕ, ◌*◌, ◌-◌, ◌≤◌, Bool, List, [], ◌∷◌, ◌≡◌, length, Some, None, Option as Optional}
+use Rattle.std.specs.Prelude.{ℕ, ◌*◌, ◌-◌, ◌≤◌, Bool, List, [], ◌∷◌, ◌≡◌, length, Some, None, Option as Optional, Float}
 use Prim.Native.String.{String}
 use Rattle.std.proofs.Math.Option.{Option, none, some}
 use Rattle.std.proofs.Math.ListN.{get_elem?}
 use Rattle.text.specs.Bytes.{bytes}
 use Rattle.error.specs.declared.Refusal.{Refusal}
+use Rattle.ast.specs.declared.EasingSpec.{EasingSpec}
+use Rattle.ast.specs.declared.LoopSpec.{LoopSpec}
+use Rattle.ast.specs.declared.DampingMode.{DampingMode}
 use Rattle.sheet_encode.specs.Means as of
 use Rattle.ast.specs.Tree.{ValueExpr}
 use Rattle.sheet.specs.Sheet.{value_form}

@@ -10,7 +10,7 @@ ghost use Rattle.sheet_encode.specs.Means.{span_of};
 ghost use Rattle.grammar.specs.Grammar.{parse_path};
 ghost use Rattle.read_arrays.specs.Means.{Room};
 
-use ast::{PathSpec, Span};
+use ast::{EasingSpec, LoopSpec, PathSpec, Span};
 use error::Refusal;
 use read_cursor::{CaseRead, Cursor, FloatRead, MarkRead, TruthRead, WordRead};
 use read_fields::NextField;
@@ -116,7 +116,7 @@ fn path_fields(text: &[u8], c: Cursor) -> PathStep
         loop_mode: None,
     };
     loop {
-        match read_fields::parse_field_list(text, m, words::PATH_ROWS) {
+        match read_fields::parse_field_list(text, m, words::List::PathRows) {
             NextField::Refused(r, p) => return PathStep::Refused(r, p),
             NextField::Done(e) => return PathStep::Is(kept, e),
             NextField::Field(i, v) => match path_step(text, v, i, kept) {
@@ -197,7 +197,7 @@ pub fn parse_path(text: &[u8], sheet: &mut [u8], c: Cursor, out: usize) -> NodeR
         WordRead::Is(target, m) => match read_cursor::choice(
             text,
             m,
-            words::ALONG,
+            words::List::Along,
             Refusal::Malformed,
         ) {
             CaseRead::Refused(r, p) => NodeRead::Refused(r, p),

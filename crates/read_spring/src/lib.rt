@@ -121,7 +121,7 @@ fn spring_step(text: &[u8], c: Cursor, row: usize, kept: SpringFields) -> Spring
         0 => match read_cursor::choice(
             text,
             c,
-            words::SPRING_PRESETS,
+            words::List::SpringPresets,
             Refusal::UnknownSpringPreset,
         ) {
             CaseRead::Refused(r, p) => SpringStep::Refused(r, p),
@@ -165,7 +165,7 @@ fn spring_step(text: &[u8], c: Cursor, row: usize, kept: SpringFields) -> Spring
                 SpringStep::Is(SpringFields { epsilon, ..kept }, m)
             }
         },
-        6 => match read_cursor::choice(text, c, words::INTEGRATORS, Refusal::Malformed) {
+        6 => match read_cursor::choice(text, c, words::List::Integrators, Refusal::Malformed) {
             CaseRead::Refused(r, p) => SpringStep::Refused(r, p),
             CaseRead::Is(i, m) => {
                 let integrator = Some(i as u8);
@@ -193,7 +193,7 @@ fn spring_fields(text: &[u8], c: Cursor) -> SpringStep
         damping_mode: None,
     };
     loop {
-        match read_fields::parse_field_list(text, m, words::SPRING_ROWS) {
+        match read_fields::parse_field_list(text, m, words::List::SpringRows) {
             NextField::Refused(r, p) => return SpringStep::Refused(r, p),
             NextField::Done(e) => return SpringStep::Is(kept, e),
             NextField::Field(i, v) => match spring_step(text, v, i, kept) {

@@ -10,6 +10,7 @@ ghost use Rattle.sheet_encode.specs.WriteMeans.{Writes};
 ghost use Rattle.read_arrays.specs.Means.{Room};
 ghost use Rattle.read_node.specs.Means.{LeafMeans};
 
+use ast::{EasingSpec, LoopSpec};
 use error::Refusal;
 use read_arrays::ValueRead;
 use read_cursor::{Cursor, FloatRead, TruthRead, UintRead};
@@ -129,7 +130,7 @@ fn tween_fields(text: &[u8], c: Cursor) -> TweenStep
         reverse: false,
     };
     loop {
-        match read_fields::parse_field_list(text, m, words::TWEEN_ROWS) {
+        match read_fields::parse_field_list(text, m, words::List::TweenRows) {
             NextField::Refused(r, p) => return TweenStep::Refused(r, p),
             NextField::Done(e) => return TweenStep::Is(kept, e),
             NextField::Field(i, v) => match tween_step(text, v, i, kept) {

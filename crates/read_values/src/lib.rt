@@ -189,7 +189,7 @@ fn next_rough(text: &[u8], c: Cursor) -> NextField
     requires { Ready text.now c }
     ensures { fields.PairMeans text.now c rough_fields result }
 {
-    read_fields::next_pair(text, c, words::ROUGH_FIELDS)
+    read_fields::next_pair(text, c, words::List::RoughFields)
 }
 
 fn rough_fields(text: &[u8], c: Cursor) -> RoughRead
@@ -271,7 +271,7 @@ fn next_slow_mo(text: &[u8], c: Cursor) -> NextField
     requires { Ready text.now c }
     ensures { fields.PairMeans text.now c slow_mo_fields result }
 {
-    read_fields::next_pair(text, c, words::SLOW_MO_FIELDS)
+    read_fields::next_pair(text, c, words::List::SlowMoFields)
 }
 
 fn slow_mo_fields(text: &[u8], c: Cursor) -> SlowMoRead
@@ -440,11 +440,10 @@ fn after_word(text: &[u8], name: Span, c: Cursor) -> EasingRead
     requires { Ready text.now c × (name.start + name.size ≤ length text.now) }
     ensures { NamedMeans text.now c (curve_or (name.start, spelled text.now name)) result }
 {
-    let i = words::find(words::CURVES, text, name.start, name.size);
-    if i == words::NONE {
-        return named_easing(text, name, c);
+    match words::find(words::List::Curves, text, name.start, name.size) {
+        None => named_easing(text, name, c),
+        Some(i) => curve(text, c, i as usize),
     }
-    curve(text, c, i as usize)
 }
 
 pub fn parse_easing(text: &[u8], c: Cursor) -> EasingRead
@@ -507,11 +506,10 @@ pub fn parse_loop_mode(text: &[u8], c: Cursor) -> LoopRead
     match read_cursor::word(text, c) {
         WordRead::Missing(p) => LoopRead::Refused(Refusal::Missing, p),
         WordRead::Is(name, m) => {
-            let i = words::find(words::LOOP_MODES, text, name.start, name.size);
-            if i == words::NONE {
-                return LoopRead::Refused(Refusal::Malformed, read_cursor::place(m));
+            match words::find(words::List::LoopModes, text, name.start, name.size) {
+                None => LoopRead::Refused(Refusal::Malformed, read_cursor::place(m)),
+                Some(i) => mode(text, m, i as usize),
             }
-            mode(text, m, i as usize)
         }
     }
 }

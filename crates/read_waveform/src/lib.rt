@@ -109,7 +109,7 @@ fn waveform_fields(text: &[u8], c: Cursor) -> WaveformStep
         duration: None,
     };
     loop {
-        match read_fields::parse_field_list(text, m, words::WAVEFORM_ROWS) {
+        match read_fields::parse_field_list(text, m, words::List::WaveformRows) {
             NextField::Refused(r, p) => return WaveformStep::Refused(r, p),
             NextField::Done(e) => return WaveformStep::Is(kept, e),
             NextField::Field(i, v) => match waveform_step(text, v, i, kept) {
@@ -189,7 +189,7 @@ pub fn parse_waveform(text: &[u8], sheet: &mut [u8], c: Cursor, out: usize) -> N
     requires { Ready text.now c × Room text.now out }
     ensures { LeafMeans text.now sheet.old sheet.new c out parse_waveform result }
 {
-    match read_cursor::choice(text, c, words::WAVEFORMS, Refusal::Malformed) {
+    match read_cursor::choice(text, c, words::List::Waveforms, Refusal::Malformed) {
         CaseRead::Refused(r, p) => NodeRead::Refused(r, p),
         CaseRead::Is(i, m) => {
             if i == NOISE {

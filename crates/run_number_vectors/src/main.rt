@@ -3,79 +3,51 @@
 // in words, and is not read. tools/number_vectors.py makes the lines and, by exact fractions, the answers.
 #![tactic(auto)]
 
-ghost use Rattle.std.specs.Prelude.{◌+◌, ◌≤◌, length, IfOk};
-
-use number::{Stored, Uint};
-use std::io;
+use number::Stored;
+use std::fmt::{Display, Formatter};
 use std::io::{Read, Write};
+use std::{fmt, io};
+
+// How much of the input is read.
+const INPUT_BYTES: u64 = 65536;
 
 fn main(rt: HostRuntime) -> io::Result<()> {
-    let mut buffer = [0u8; 65536];
-    let n = read_full(&mut rt.reader(), &mut buffer)?;
-    lines(&mut io::writer(&rt), &buffer[..n])
-}
-
-// Reads until the buffer is full or the input ends, and gives how many bytes it put there.
-fn read_full(from: &mut impl Read, buffer: &mut [u8]) -> io::Result<usize>
-    ensures { IfOk result (λ n. n ≤ length buffer.new) }
-{
-    let mut done: usize = 0;
-    while done < buffer.len() {
-        let n = from.read(&mut buffer[done..])?;
-        if n == 0 {
-            return Ok(done);
-        }
-        done += n;
-    }
-    Ok(done)
-}
-
-fn lines(to: &mut impl Write, s: &[u8]) -> io::Result<()> {
-    let mut at: usize = 0;
-    while s.len() - at >= 64 {
-        line(to, s, at)?;
-        at += 64;
+    let mut input = Vec::new(rt.alloc());
+    rt.reader().take(INPUT_BYTES).read_to_end(&mut input)?;
+    let mut to = io::writer(&rt);
+    let (lines, _) = input.as_slice().as_chunks::<64>();
+    for line in lines {
+        answer_line(&mut to, line)?;
     }
     Ok(())
 }
 
-fn line(to: &mut impl Write, s: &[u8], at: usize) -> io::Result<()>
-    requires { at + 64 ≤ length s.now }
-{
-    let negative = s[at + 2] == b'-';
-    let a = hex(s, at + 4, at + 20);
-    let b = hex(s, at + 21, at + 29);
-    answer(to, s[at], negative, a, b)?;
-    to.write_all(b"\n")
+fn answer_line(to: &mut impl Write, line: &[u8; 64]) -> io::Result<()> {
+    let negative = line[2] == b'-';
+    answer(to, line[0], negative, hex(&line[4..20]), hex(&line[21..29]))?;
+    writeln!(to)
 }
 
-// The number that the digits from `from` to `to` write, modulo 2^64.
-fn hex(s: &[u8], from: usize, to: usize) -> u64
-    requires { to ≤ length s.now }
-{
-    let mut v: u64 = 0;
-    for i in from..to {
-        v = v << 4 | digit(s[i]);
-    }
-    v
+// The number that digits write, modulo 2^64.
+fn hex(digits: &[u8]) -> u64 {
+    digits.iter().fold(0, |n, b| n << 4 | digit(*b))
 }
 
 fn digit(b: u8) -> u64 {
-    if b >= b'a' {
-        (b - b'a') as u64 + 10
-    } else if b >= b'0' {
-        (b - b'0') as u64
-    } else {
-        0
+    match b {
+        b'a'.. => u64::from(b - b'a') + 10,
+        b'0'.. => u64::from(b - b'0'),
+        _ => 0,
     }
 }
 
 fn answer(to: &mut impl Write, kind: u8, negative: bool, a: u64, b: u64) -> io::Result<()> {
     match kind {
         b'D' => decimal(to, negative, a, b),
-        b'%' => percent(to, negative, a),
-        b'B' => float(to, pattern(a)),
-        b'=' => truth(to, number::duplicate(pattern(a), pattern(b))),
+        b'%' => stored(to, number::percent(negative, a)),
+        b'B' => write!(to, "{}", Pattern(float(a))),
+        b'=' if number::duplicate(float(a), float(b)) => write!(to, "duplicate"),
+        b'=' => write!(to, "apart"),
         b'W' => whole(to, number::whole(negative, a)),
         _ => Ok(()),
     }
@@ -83,51 +55,42 @@ fn answer(to: &mut impl Write, kind: u8, negative: bool, a: u64, b: u64) -> io::
 
 fn decimal(to: &mut impl Write, negative: bool, digits: u64, places: u64) -> io::Result<()> {
     if places <= 9 {
-        let p = places as usize;
-        let b = number::decimal_bits(negative, digits, p);
-        let bits = b.bits;
+        let places = places as usize;
+        let bits = number::decimal_bits(negative, digits, places).bits;
         write!(to, "{bits:08x} ")?;
-        stored(to, number::decimal(negative, digits, p))?;
+        stored(to, number::decimal(negative, digits, places))?;
     }
     Ok(())
-}
-
-fn percent(to: &mut impl Write, negative: bool, n: u64) -> io::Result<()> {
-    stored(to, number::percent(negative, n))
 }
 
 fn stored(to: &mut impl Write, x: Stored) -> io::Result<()> {
-    float(to, x.value)?;
-    if x.rounded {
-        to.write_all(b" rounded")?;
-    }
-    Ok(())
+    let rounded = if x.rounded { " rounded" } else { "" };
+    write!(to, "{}{rounded}", Pattern(x.value))
 }
 
-fn pattern(a: u64) -> f32 {
-    number::f32_of_bits((a % 4294967296) as u32)
+// The float of which a number's last 32 bits are the pattern.
+fn float(a: u64) -> f32 {
+    number::f32_of_bits((a & 0xffff_ffff) as u32)
 }
 
-fn float(to: &mut impl Write, x: f32) -> io::Result<()> {
-    if x == x {
-        let bits = number::bits_of(x);
-        write!(to, "{bits:08x}")
-    } else {
-        to.write_all(b"nan")
-    }
-}
+// A float, written as its bits.
+#[derive(Clone, Copy)]
+struct Pattern(f32);
 
-fn truth(to: &mut impl Write, b: bool) -> io::Result<()> {
-    if b {
-        to.write_all(b"duplicate")
-    } else {
-        to.write_all(b"apart")
+impl Display for Pattern {
+    fn fmt<W: fmt::Write>(&self, f: &mut Formatter<W>) -> fmt::Result {
+        if self.0.is_nan() {
+            write!(f, "nan")
+        } else {
+            let bits = number::bits_of(self.0);
+            write!(f, "{bits:08x}")
+        }
     }
 }
 
-fn whole(to: &mut impl Write, w: Uint) -> io::Result<()> {
-    match w {
-        Uint::Is(n) => write!(to, "{n}"),
-        Uint::Refused => to.write_all(b"refused"),
+fn whole(to: &mut impl Write, n: Option<u32>) -> io::Result<()> {
+    match n {
+        Some(n) => write!(to, "{n}"),
+        None => write!(to, "refused"),
     }
 }

@@ -16,7 +16,6 @@ use std::env::FillError;
 use std::io;
 use std::io::{Read, Write};
 use std::rt::{Env, Files};
-use text::Found;
 
 // The kinds, each behind its length, in the order in which they are answered.
 const KINDS: [u8; 46] = *b"\x06script\x04feed\x07rounded\x04book\x07scratch\x06number\x05shelf";
@@ -77,8 +76,8 @@ fn answer_input(
 ) -> io::Result<()> {
     let mut part = [0u8; 4096];
     match text::find(&KINDS, name) {
-        Found::At(kind) => answer_lines(to, kind, from, &mut part, line, totals),
-        Found::Nothing => say(to, b"no such kind\n"),
+        Some(kind) => answer_lines(to, kind, from, &mut part, line, totals),
+        None => say(to, b"no such kind\n"),
     }
 }
 

@@ -18,7 +18,6 @@ use std::env::FillError;
 use std::io;
 use std::io::{Read, Write};
 use std::rt::{Env, Files};
-use text::Found;
 
 // The kinds, each behind its length, in the order in which they are answered.
 const KINDS: [u8; 47] = *b"\x05sheet\x05check\x05color\x07convert\x04line\x04back\x05plane\x04wave";
@@ -67,8 +66,8 @@ fn answer_input(
 ) -> io::Result<()> {
     let mut part = [0u8; 4096];
     match text::find(&KINDS, name) {
-        Found::At(kind) => answer_lines(to, kind, from, &mut part, line),
-        Found::Nothing => say(to, b"no such kind\n"),
+        Some(kind) => answer_lines(to, kind, from, &mut part, line),
+        None => say(to, b"no such kind\n"),
     }
 }
 

@@ -1,15 +1,19 @@
 -- The first foreign byte, and the first refusal.
 use Prim.Native.Nat.{ℕ, suc, ◌+◌, ◌≤◌, ◌<◌}
-use mathlib.Core.Bool.{Bool, true, false, ◌||◌, cond}
-use mathlib.Core.List.{List}
+use mathlib.Core.Bool.{Bool, true, false, ◌||◌, not, cond}
+use mathlib.Core.List.{List, [], ◌∷◌}
 use mathlib.Core.Option.{Option, none, some}
 use mathlib.Core.Path.{◌≡◌, refl, sym, ◌∙◌, ap}
-use native.Mathlib.Numerals.{add-one}
+use native.Mathlib.Numerals.{add-one, one-add}
 use native.Mathlib.Omega.{arith}
 use lib.Dec.{ltb}
 use lib.ListN.{length, drop, get_or, drop_of_length-le}
 use lib.Seq.{drop-cons}
-use borrow.Author.Tests.{lt-ltb, le-ltb}
+use borrow.Author.Tests.{lt-ltb, le-ltb, ltb-true, ltb-false}
+use native.Mathlib.Nat.{add-zero, zero-add}
+use Rattle.std.specs.Prelude.{Some, None}
+use Rattle.std.specs.List.{position_or_len}
+use Rattle.text.specs.Means.{place_of}
 use Rattle.text.specs.Limits.{text_limit}
 use Rattle.text.specs.Bytes.{is_foreign}
 use Rattle.text.specs.Words.{is_some}
@@ -41,6 +45,37 @@ module _ (t : List ℕ) (i : ℕ) where
   unfolding foreign_from
   foreign_none h = rw (drop_of_length-le t {i = i} h)
 
+both_more : (p n : ℕ) → ltb (suc p) (suc n) ≡ ltb p n
+both_more p n = go (ltb p n) refl
+  where
+    go : (x : Bool) → ltb p n ≡ x → ltb (suc p) (suc n) ≡ x
+    go true e = lt-ltb (suc p) (suc n) (omega (arith, ltb-true p n e))
+    go false e = le-ltb (suc p) (suc n) (omega (arith, ltb-false p n e))
+
+-- where the first one is, as `position` gives it
+position : (t : List ℕ) (i : ℕ)
+    → cond (ltb (position_or_len is_foreign t) (length t)) (some (i + position_or_len is_foreign t)) none ≡ foreign_from i t
+unfolding foreign_from
+position [] i = refl
+position (b ∷ t) i = go (is_foreign b) (position t (suc i))
+  where
+    go : (x : Bool)
+        → cond (ltb (position_or_len is_foreign t) (length t)) (some (suc i + position_or_len is_foreign t)) none ≡ foreign_from (suc i) t
+        → cond (ltb (cond (not x) (1 + position_or_len is_foreign t) 0) (suc (length t))) (some (i + cond (not x) (1 + position_or_len is_foreign t) 0)) none
+        ≡ elim x [ true ↦ some i | false ↦ foreign_from (suc i) t ]
+    go true e = rw (add-zero i, lt-ltb 0 (suc (length t)) (omega arith))
+    go false e =
+        let q : i + (1 + position_or_len is_foreign t) ≡ suc i + position_or_len is_foreign t = omega arith in
+        rw (q, one-add, both_more (position_or_len is_foreign t) (length t)) e
+
+pub first-foreign : (t : List ℕ)
+    → place_of (cond (ltb (position_or_len is_foreign t) (length t)) (Some (position_or_len is_foreign t)) None) ≡ foreign_from 0 t
+first-foreign t = go (ltb (position_or_len is_foreign t) (length t)) ∙ position t 0
+  where
+    go : (x : Bool) → place_of (cond x (Some (position_or_len is_foreign t)) None) ≡ cond x (some (0 + position_or_len is_foreign t)) none
+    go true = rw zero-add
+    go false = refl
+
 -- ---- whether there is one
 
 or_assoc : (a b c : Bool) → ((a || b) || c) ≡ (a || (b || c))
@@ -67,10 +102,6 @@ module _ (t : List ℕ) (i : ℕ) (any : Bool) where
       or_false : (a : Bool) → (a || false) ≡ a
       or_false true = refl
       or_false false = refl
-
-pub not_there : (o : Option ℕ) → false ≡ is_some o → none ≡ o
-not_there none e = refl
-not_there (some i) e = let z : ◌≡◌ {A = ℕ} 0 1 = cc in absurd (omega arith)
 
 -- ---- the text's refusal
 
@@ -111,6 +142,11 @@ text-first t o = go (ltb text_limit (length t)) (foreign_from 0 t)
 pub first_shut : (t s : List ℕ) {a b : Opening} → a ≡ text_answer t → b ≡ bytes_answer (length t) s → earlier a b ≡ answer_of (opening t s)
 unfolding opening bytes_answer
 first_shut t s e g = rw (e, g) (text-first t (decoded (decode (length t) s)))
+
+-- a refusal of the text stands before all others
+pub stays_shut : (a b : Opening) → (a ≡ Open → ⊥) → a ≡ earlier a b
+stays_shut Open b n = absurd (n refl)
+stays_shut (Shut r p) b n = refl
 
 -- behind an open text it is the bytes'
 pub text_open : (t s : List ℕ) → Open ≡ text_answer t → opening t s ≡ decoded (decode (length t) s)

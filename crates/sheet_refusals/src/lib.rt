@@ -8,7 +8,7 @@ ghost use Rattle.sheet.specs.Opening.{foreign_from, opening};
 ghost use Rattle.sheet_refusals.specs.Means.{answer_of, text_answer, bytes_answer};
 
 use error::Refusal;
-use text::{Class, Found};
+use text::Class;
 
 #[derive(Clone, Copy)]
 pub enum Opening {
@@ -22,29 +22,20 @@ fn has_foreign(text: &[u8]) -> bool
     ensures { result ≡ is_some (foreign_from 0 text.now) }
 {
     let mut any = false;
-    let mut i = 0;
-    while i < text.len() {
-        any = any | text::in_class(Class::Foreign, text[i]);
-        i += 1;
+    for &b in text {
+        any |= text::in_class(Class::Foreign, b);
     }
     any
 }
 
 // The place of the first byte that no script holds. It is looked for only where there is one.
-pub fn first_foreign(text: &[u8]) -> Found
+pub fn first_foreign(text: &[u8]) -> Option<usize>
     ensures { place_of result ≡ foreign_from 0 text.now }
 {
     if !has_foreign(text) {
-        return Found::Nothing;
+        return None;
     }
-    let mut i = 0;
-    while i < text.len() {
-        if text::in_class(Class::Foreign, text[i]) {
-            return Found::At(i);
-        }
-        i += 1;
-    }
-    Found::Nothing
+    text.iter().position(|&b| text::in_class(Class::Foreign, b))
 }
 
 // What is refused of a text alone.
@@ -57,8 +48,7 @@ pub fn open_text(text: &[u8]) -> Opening
             place: 0,
         };
     }
-    let foreign = first_foreign(text);
-    if let Found::At(place) = foreign {
+    if let Some(place) = first_foreign(text) {
         return Opening::Shut {
             refusal: Refusal::BadForm,
             place,
@@ -83,12 +73,8 @@ pub fn open_bytes(sheet: &[u8], text_len: usize) -> Opening
 pub fn open_sheet(text: &[u8], sheet: &[u8]) -> Opening
     ensures { result ≡ answer_of (opening text.now sheet.now) }
 {
-    let opened = open_text(text);
-    match opened {
+    match open_text(text) {
         Opening::Open => open_bytes(sheet, text.len()),
-        Opening::Shut {
-            refusal: _,
-            place: _,
-        } => opened,
+        shut => shut,
     }
 }

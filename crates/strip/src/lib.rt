@@ -17,7 +17,9 @@ ghost use Rattle.planed.specs.Planing.{planing, unplaning};
 ghost use Rattle.drawing.specs.Wave.{drawing};
 ghost use Rattle.packed.specs.Packed.{packed_check, packed_lookup, read_outcome, line_outcome, print_outcome, feed_outcome, mean_outcome, color_outcome, convert_outcome, order_outcome, wave_outcome};
 
-use packed::{pack_check, pack_color, pack_fed, pack_line, pack_lookup, pack_mean, pack_order, pack_read};
+use packed::{
+    pack_check, pack_color, pack_fed, pack_line, pack_lookup, pack_mean, pack_order, pack_read,
+};
 
 // parser::read.
 pub fn strip_read(text: &[u8], scratch: &mut [u16], sheet: &mut [u8]) -> u64

@@ -7,27 +7,22 @@ use mathlib.Core.Path.{◌≡◌, refl, sym, ap, ◌∙◌}
 use native.Mathlib.Omega.{arith}
 use native.Mathlib.Numerals.{add-one}
 use lib.Dec.{eqb, ltb}
-use lib.ListN.{length, get_or, take, drop, drop_of_length-le}
-use lib.Seq.{drop-cons, drop-drop, take_all, length-take-le}
-use borrow.Author.Tests.{eq-eqb, ne_eqb, eqb-true, ltb-true, ltb-false}
+use lib.ListN.{length, take, drop, length-drop}
+use lib.Seq.{take_all, length-take-le}
+use borrow.Author.Tests.{eq-eqb, eqb-true, ltb-true, ltb-false}
+use Rattle.std.specs.Cmp.Lexicographic.{pointwise}
 use Rattle.text.specs.Bytes.{same, part}
 use Rattle.text.specs.Words.{find, shorter, entries}
 
 -- ---- equal words
 
-pub same_next : (a b : List ℕ) (i : ℕ) → i < length a → i < length b
-    → get_or a i 0 ≡ get_or b i 0
-    → same (drop i a) (drop i b) ≡ same (drop (i + 1) a) (drop (i + 1) b)
+-- what `==` answers on two words
+pub pointwise-same : (xs ys : List ℕ) → pointwise eqb xs ys ≡ same xs ys
 unfolding same
-same_next a b i h g e = rw (add-one, drop-cons a i 0, drop-cons b i 0, eq-eqb _ _ e)
-
-pub same_not : (a b : List ℕ) (i : ℕ) → i < length a → i < length b → (get_or a i 0 ≡ get_or b i 0 → ⊥) → same (drop i a) (drop i b) ≡ false
-unfolding same
-same_not a b i h g e = rw (drop-cons a i 0, drop-cons b i 0, ne_eqb _ _ e)
-
-pub same_end : (a b : List ℕ) (i : ℕ) → length a ≤ i → length b ≤ i → same (drop i a) (drop i b) ≡ true
-unfolding same
-same_end a b i h g = rw (drop_of_length-le a h, drop_of_length-le b g)
+pointwise-same [] [] = refl
+pointwise-same [] (y ∷ ys) = refl
+pointwise-same (x ∷ xs) [] = refl
+pointwise-same (x ∷ xs) (y ∷ ys) = ap (λ (t : Bool). eqb x y && t) (pointwise-same xs ys)
 
 pub same_lengths : (a b : List ℕ) → (length a ≡ length b → ⊥) → same a b ≡ false
 unfolding same
@@ -102,22 +97,21 @@ entries-skip zero t = refl
 entries-skip (suc k) [] = refl
 entries-skip (suc k) (b ∷ t) = entries-skip k t
 
-entries_at : (t : List ℕ) (at : ℕ) → at < length t
-    → entries 0 (drop at t) ≡ part t (at + 1) (get_or t at 0) ∷ entries 0 (drop (at + (1 + get_or t at 0)) t)
+-- the first word of a table and those behind it, as parts of what stands behind its length
+pub entries-first : (b : ℕ) (t : List ℕ) → entries 0 (b ∷ t) ≡ part t 0 b ∷ entries 0 (part t b (length t))
 unfolding entries
-entries_at t at h =
-    let e : at + (1 + get_or t at 0) ≡ suc at + get_or t at 0 = omega arith in
-    rw (e, add-one, drop-cons t at 0)
-    (ap (λ (ns : List (List ℕ)). take (get_or t at 0) (drop (suc at) t) ∷ ns) (entries-skip (get_or t at 0) (drop (suc at) t) ∙ (rw drop-drop)))
+entries-first b t =
+    ap (λ (ns : List (List ℕ)). take b t ∷ ns)
+    (entries-skip b t ∙ ap (entries 0) (sym (take_all (length t) (drop b t) (rw length-drop (omega arith)))))
 
-module _ (t : List ℕ) (at i : ℕ) (w : List ℕ) (h : at < length t) where
-  pub table_here : same w (part t (at + 1) (get_or t at 0)) ≡ true → find (entries 0 (drop at t)) i w ≡ some i
-  table_here e = rw (entries_at t at h) (find-here w _ _ i e)
+module _ (t : List ℕ) (b i : ℕ) (w : List ℕ) where
+  pub table_here : same w (part t 0 b) ≡ true → find (entries 0 (b ∷ t)) i w ≡ some i
+  table_here e = rw (entries-first b t) (find-here w _ _ i e)
 
-  pub table-past : same w (part t (at + 1) (get_or t at 0)) ≡ false
-      → find (entries 0 (drop at t)) i w ≡ find (entries 0 (drop (at + (1 + get_or t at 0)) t)) (i + 1) w
-  table-past e = rw (entries_at t at h, add-one i) (find_past w _ _ i e)
+  pub table-past : same w (part t 0 b) ≡ false → find (entries 0 (b ∷ t)) i w ≡ find (entries 0 (part t b (length t))) (i + 1) w
+  table-past e = rw (entries-first b t, add-one i) (find_past w _ _ i e)
 
-pub table_end : (t : List ℕ) (at i : ℕ) (w : List ℕ) → length t ≤ at → find (entries 0 (drop at t)) i w ≡ none
+pub table_end : (t : List ℕ) (i : ℕ) (w : List ℕ) → length t ≡ 0 → find (entries 0 t) i w ≡ none
 unfolding entries find
-table_end t at i w h = rw (drop_of_length-le t {i = at} h)
+table_end [] i w h = refl
+table_end (b ∷ t) i w h = absurd (omega arith)

@@ -7,7 +7,7 @@ use native.Mathlib.Omega.{arith}
 use native.Mathlib.Nat.{add-zero, zero-add, sub-zero}
 use lib.Dec.{leb}
 use lib.ListN.{length, set, take, drop, length-append, length-set, length-take}
-use lib.Seq.{sets, set_out, length-sets, sets-eq, take-append_seam, take-nil}
+use lib.Seq.{sets, set_out, length-sets, sets-eq, take-append_seam, take-nil, take_all}
 use borrow.Author.Tests.{leb-true, leb-false}
 use Rattle.text.specs.WriteMeans.{Puts}
 
@@ -48,6 +48,18 @@ module _ (out : List ℕ) (n : ℕ) where
   pub puts_one : (b : ℕ) → n < length out → Puts out n (b ∷ []) (set out n b) (n + 1)
   puts_one b h = record { bytes = refl; place = rw length-take (omega arith) }
 
+-- at the front, as many bytes as there are and there is room for
+pub puts_upto : (out bs : List ℕ) (n : ℕ) → n ≡ min (length bs) (length out) → Puts out 0 bs (sets out 0 (take n bs)) n
+puts_upto out bs n h = record { bytes = go (leb (length out) (length bs)) refl; place = rw length-take (omega arith) }
+  where
+    go : (t : Bool) → leb (length out) (length bs) ≡ t → sets out 0 (take n bs) ≡ sets out 0 bs
+    go true e = let k : n ≡ length out - 0 = omega (arith, leb-true (length out) (length bs) e) in rw k (sets_clip out 0 bs)
+    go false e = rw (take_all n bs (omega (arith, leb-false (length out) (length bs) e)))
+
+-- one more byte behind those at the front
+pub sets_more : (l xs : List ℕ) (b : ℕ) → sets l 0 (xs ++ b ∷ []) ≡ set (sets l 0 xs) (length xs) b
+sets_more l xs b = sets_append l 0 xs (b ∷ []) ∙ ap (λ (n : ℕ). set (sets l 0 xs) n b) (zero-add (length xs))
+
 -- bytes, and others behind them
 pub puts_then : {out mid after : List ℕ} {n m end : ℕ} {bs cs : List ℕ}
     → Puts out n bs mid m → Puts mid m cs after end → Puts out n (bs ++ cs) after end
@@ -76,9 +88,3 @@ puts_front {out} {after} {bs} {end} p =
     let e : end ≡ length vs = p.place ∙ zero-add _ ∙ (rw sub-zero) in
     let s : sets out 0 vs ≡ vs ++ drop (0 + length vs) out = sets-eq vs out 0 (rw (zero-add, length-take) (omega arith)) in
     rw (e, p.bytes, sym (sets_clip out 0 bs), sub-zero, s) (take-append_seam vs _)
-
--- and no more than there is room for
-pub puts_fits : {out after : List ℕ} {bs : List ℕ} {end : ℕ} → Puts out 0 bs after end → end ≤ length after
-puts_fits {out} {after} {bs} {end} p =
-    let e : end ≡ 0 + min (length out - 0) (length bs) = rw length-take at p.place in
-    omega (arith, ap length p.bytes ∙ length-sets out 0 bs)

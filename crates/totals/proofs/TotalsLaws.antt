@@ -5,11 +5,13 @@ use mathlib.Core.List.{List, [], ◌∷◌}
 use mathlib.Core.Path.{◌≡◌, refl, sym, ap, ◌∙◌}
 use native.Mathlib.Nat.{le_of_suc-le-suc}
 use native.Mathlib.Omega.{arith}
-use native.Mathlib.Numerals.{add-one}
-use lib.Dec.{eqb, ltb}
-use lib.ListN.{length, get_or, set, take, drop, length-set, drop_of_length-le}
-use lib.Seq.{drop-cons, ext_get_or, get_or-set_same, get_or-set_other}
-use borrow.Author.Tests.{eqb-true, eqb-false, ltb-false, lt-ltb, le-ltb}
+use lib.Dec.{eqb, leb, ltb}
+use lib.ListN.{length, get_or, set, take, drop, length-set, length-take, drop_of_length-le}
+use lib.Seq.{ext_get_or, get_or-set_same, get_or-set_other}
+use borrow.Author.Tests.{leb-true, leb-false, eqb-true, eqb-false, ltb-false}
+use Rattle.std.specs.List.{list_any, sum_by}
+use Rattle.std.proofs.lemmas.List.{drop-take}
+use Rattle.std.proofs.lemmas.List.Recursion.{is_sum_by}
 use Rattle.totals.specs.Totals.{figure_limit, sum_of, itself, over, added_from, added, in_word}
 
 -- ---- numbers added to words
@@ -64,18 +66,11 @@ set-added ws i n h =
 
 -- ---- the limit of a figure
 
-module _ (ws : List ℕ) (i : ℕ) where
-  pub over-here : i < length ws → figure_limit < get_or ws i 0 → over (drop i ws) ≡ true
-  unfolding over
-  over-here h l = rw (drop-cons ws i 0 h, lt-ltb figure_limit (get_or ws i 0) l)
-
-  pub over-next : i < length ws → get_or ws i 0 ≤ figure_limit → over (drop (i + 1) ws) ≡ over (drop i ws)
-  unfolding over
-  over-next h l = rw (add-one, drop-cons ws i 0 h, le-ltb figure_limit (get_or ws i 0) l)
-
-  pub over_end : length ws ≤ i → over (drop i ws) ≡ false
-  unfolding over
-  over_end h = rw (drop_of_length-le ws {i = i} h)
+-- what `any` answers
+pub any-over : (ws : List ℕ) → list_any (ltb figure_limit) ws ≡ over ws
+unfolding over
+any-over [] = refl
+any-over (w ∷ ws) = ap (λ (b : Bool). ltb figure_limit w || b) (any-over ws)
 
 pub within : (ws : List ℕ) → over ws ≡ false → (i : ℕ) → get_or ws i 0 ≤ figure_limit
 unfolding over
@@ -90,18 +85,30 @@ within (w ∷ ws) e i = go (ltb figure_limit w) refl e (within ws) i
 
 -- ---- sums
 
--- the words from i to j
-abbrev pub between : ℕ → ℕ → List ℕ → List ℕ
-between i j ws = take (j - i) (drop i ws)
+-- the words up to one, without those before another
+pub drop-upto : (ws : List ℕ) (i j : ℕ) → drop i (take j ws) ≡ take (j - i) (drop i ws)
+drop-upto ws i j = go (leb i j) refl
+  where
+    go : (b : Bool) → leb i j ≡ b → drop i (take j ws) ≡ take (j - i) (drop i ws)
+    go true e =
+        let h = leb-true i j e in
+        let k : j ≡ i + (j - i) = omega arith in
+        ap (λ (n : ℕ). drop i (take n ws)) k ∙ drop-take i (j - i) ws
+    go false e =
+        let h = leb-false i j e in
+        let k : j - i ≡ 0 = omega arith in
+        drop_of_length-le (take j ws) {i = i} (omega (arith, length-take j ws)) ∙ (rw k)
 
-pub sum-next : (ws : List ℕ) (i j : ℕ) → i < j → i < length ws
-    → sum_of itself (between i j ws) ≡ get_or ws i 0 + sum_of itself (between (i + 1) j ws)
+pub sum-itself : (ws : List ℕ) → sum_by itself ws ≡ sum_of itself ws
 unfolding sum_of
-sum-next ws i j h l = let e : j - i ≡ suc (j - (i + 1)) = omega arith in rw (e, add-one, drop-cons ws i 0 l)
+sum-itself ws = sym (is_sum_by (sum_of itself) itself refl (λ w ws. refl) ws)
 
-pub sum_end : (ws : List ℕ) (i j : ℕ) → j ≤ i → sum_of itself (between i j ws) ≡ 0
+-- k words of 32 bits
+pub sum-fits : (k : ℕ) (ws : List ℕ) → ((i : ℕ) → get_or ws i 0 < 4294967296) → sum_of itself (take k ws) ≤ k * 4294967295
 unfolding sum_of
-sum_end ws i j h = let e : j - i ≡ 0 = omega arith in rw e refl
+sum-fits zero ws h = omega arith
+sum-fits (suc k) [] h = omega arith
+sum-fits (suc k) (w ∷ ws) h = omega (arith, h 0, sum-fits k ws (λ i. h (suc i)))
 
 -- k words within the limit
 pub sum-within : (k : ℕ) (ws : List ℕ) → ((i : ℕ) → get_or ws i 0 ≤ figure_limit) → sum_of itself (take k ws) ≤ k * figure_limit

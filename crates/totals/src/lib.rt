@@ -25,14 +25,7 @@ pub const FIGURE_LIMIT: u32 = 268431360;
 pub fn over_limit(words: &[u32]) -> bool
     ensures { result ≡ over words.now }
 {
-    let mut i: usize = 0;
-    while i < words.len() {
-        if FIGURE_LIMIT < words[i] {
-            return true;
-        }
-        i += 1;
-    }
-    false
+    words.iter().any(|&w| FIGURE_LIMIT < w)
 }
 
 // The sum of the words from one to another. For our own crates: both are words that are lent, of the 60.
@@ -41,13 +34,12 @@ pub fn sum(words: &[u32], from: usize, to: usize) -> u64
     requires to_bound { to ≤ 60 }
     ensures { result ≡ sum_of itself (take (to - from) (drop from words.now)) }
 {
-    let mut s: u64 = 0;
-    let mut i = from;
-    while i < to {
-        s += words[i] as u64;
-        i += 1;
-    }
-    s
+    words
+        .iter()
+        .take(to)
+        .skip(from)
+        .map(|&w| u64::from(w))
+        .sum()
 }
 
 // Adds a number to a word. For our own crates: it is one that is lent, and the sum is below 2^32.
@@ -60,17 +52,13 @@ pub fn add(words: &mut [u32], i: usize, n: u32)
 }
 
 // The greatest common divisor.
-fn divisor(a: u32, b: u32) -> u32
+fn divisor(mut a: u32, mut b: u32) -> u32
     ensures { result ≡ gcd a b }
 {
-    let mut x = a;
-    let mut y = b;
-    while y != 0 {
-        let rest = x % y;
-        x = y;
-        y = rest;
+    while b != 0 {
+        (a, b) = (b, a % b);
     }
-    x
+    a
 }
 
 // A quotient in lowest terms.

@@ -5,18 +5,17 @@ mod table;
 
 ghost use Rattle.std.specs.Prelude.{◌≡◌, ◌<◌, ◌≤◌, ◌+◌, ◌%◌, pos, ◌-ℤ◌, length};
 ghost use Rattle.error.specs.Answer.{check_values};
-ghost use Rattle.drawing.specs.Table.{table};
 ghost use Rattle.drawing.specs.Wave.{filled, shifted, sine_at, triangle_at, quarter_of, folded, mirrored, height, drawing};
 
 use error::{CheckAnswer, Refusal};
 use table::QUARTER;
 
 // The sine at a step of its first quarter.
-fn sine(t: &[u16], p: u32) -> u32
-    requires { (t.now ≡ table) × (p ≤ 64) }
+fn sine(p: u32) -> u32
+    requires { p ≤ 64 }
     ensures { result ≡ sine_at p }
 {
-    t[(16 * p) as usize] as u32
+    u32::from(QUARTER[(16 * p) as usize])
 }
 
 // The triangle at a step of its first quarter.
@@ -28,11 +27,11 @@ fn triangle(p: u32) -> u32
 }
 
 // The sine or the triangle at a step of its first quarter.
-fn quarter(t: &[u16], kind: u32, p: u32) -> u32
-    requires { (t.now ≡ table) × (p ≤ 64) }
+fn quarter(kind: u32, p: u32) -> u32
+    requires { p ≤ 64 }
     ensures { (result ≡ quarter_of kind p) × (result ≤ 32767) }
 {
-    if kind == 0 { sine(t, p) } else { triangle(p) }
+    if kind == 0 { sine(p) } else { triangle(p) }
 }
 
 // The step of the first quarter that a step of the first half mirrors.
@@ -52,32 +51,33 @@ fn less(a: u32, b: u32) -> i16
 }
 
 // The height of the sine or the triangle at a step: the second half is the first with the other sign.
-fn mirror(t: &[u16], kind: u32, p: u32) -> i16
-    requires { (t.now ≡ table) × (p < 256) }
+fn mirror(kind: u32, p: u32) -> i16
+    requires { p < 256 }
     ensures { result ≡ mirrored kind p }
 {
     if p < 128 {
-        less(quarter(t, kind, fold(p)), 0)
+        less(quarter(kind, fold(p)), 0)
     } else {
-        less(0, quarter(t, kind, fold(p - 128)))
+        less(0, quarter(kind, fold(p - 128)))
     }
 }
 
 // The height of a kind at a step, the kinds as WaveformKind has them: 0 sine, 1 sawtooth, 2 square, 3 triangle.
-fn height_at(t: &[u16], kind: u32, p: u32) -> i16
-    requires { (t.now ≡ table) × (p < 256) }
+fn height_at(kind: u32, p: u32) -> i16
+    requires { p < 256 }
     ensures { result ≡ height kind p }
 {
-    if kind == 1 {
-        return less(65534 * p / 255, 32767);
-    }
-    if kind == 2 {
-        if p < 128 {
-            return less(32767, 0);
+    match kind {
+        1 => less(65534 * p / 255, 32767),
+        2 => {
+            if p < 128 {
+                less(32767, 0)
+            } else {
+                less(0, 32767)
+            }
         }
-        return less(0, 32767);
+        _ => mirror(kind, p),
     }
-    mirror(t, kind, p)
 }
 
 // The step that is drawn at a place.
@@ -89,24 +89,13 @@ fn step_at(i: usize, phase: u32) -> u32
 }
 
 // Fills the first 256 heights.
-fn fill(t: &[u16], kind: u32, phase: u32, heights: &mut [i16])
-    requires { (t.now ≡ table) × ((phase < 256) × (256 ≤ length heights.old)) }
-    ensures { heights.new ≡ filled (shifted kind phase) 256 heights.old }
-{
-    let mut i = 0;
-    while i < 256 {
-        heights[i] = height_at(t, kind, step_at(i, phase));
-        i += 1;
-    }
-}
-
-// The same. The table is put on the stack when this function is entered, once for a period.
-fn draw(kind: u32, phase: u32, heights: &mut [i16])
+fn fill(kind: u32, phase: u32, heights: &mut [i16])
     requires { (phase < 256) × (256 ≤ length heights.old) }
     ensures { heights.new ≡ filled (shifted kind phase) 256 heights.old }
 {
-    let t = QUARTER;
-    fill(&t, kind, phase, heights);
+    for i in 0..256 {
+        heights[i] = height_at(kind, step_at(i, phase));
+    }
 }
 
 // Draws one period of a kind, from a phase on, into the first 256 heights; those behind them stay as lent. On a refusal all of them do.
@@ -132,6 +121,6 @@ pub fn wave(kind: u32, phase: u32, heights: &mut [i16]) -> CheckAnswer
             place: 0,
         };
     }
-    draw(kind, phase, heights);
+    fill(kind, phase, heights);
     CheckAnswer::Accepted
 }

@@ -1,8 +1,8 @@
 -- Laws of words as numbers: a word's number tells the word, and its place among a list's numbers is the word's place in the list.
 use Prim.Native.Nat.{ℕ, zero, suc, ◌+◌, ◌*◌, ◌-◌, ◌^◌, ◌%◌, ◌≤◌, ◌<◌}
-use mathlib.Core.Bool.{Bool, true, false, ◌&&◌, not, cond}
+use mathlib.Core.Bool.{Bool, true, false, ◌&&◌, cond}
 use mathlib.Core.List.{List, [], ◌∷◌}
-use mathlib.Core.Option.{Option, none, some}
+use mathlib.Core.Option as maybe
 use mathlib.Core.Path.{◌≡◌, refl, sym, ap, ◌∙◌}
 use native.Mathlib.Omega.{arith}
 use lib.Dec.{eqb, ltb}
@@ -12,6 +12,7 @@ use native.Mathlib.Nat.{pow-suc, pow-le-pow_right, mul_assoc, one-mul, zero-add,
 use lib.Pow.{pow-add}
 use lib.Arith.{mod-mul, digits_div, digits_mod}
 use borrow.Author.Tests.{eq-eqb, ne_eqb, ltb-true}
+use Rattle.std.specs.Prelude.{Option, None, Some, is_some as found}
 use Rattle.text.specs.Bytes.{same, part}
 use Rattle.text.specs.Words.{is_some, find}
 use Rattle.text.proofs.WordLaws.{same_eq, same_refl, find-here, find_past}
@@ -26,7 +27,7 @@ pub both : (a b : Bool) → (a && b) ≡ true → (a ≡ true) × (b ≡ true)
 both true b h = (refl, h)
 both false b h = never h
 
-unfoldable pub every : (ℕ → Bool) → List ℕ → Bool
+unfoldable pub every : {A : Type 0} → (A → Bool) → List A → Bool
 every p [] = true
 every p (c ∷ cs) = p c && every p cs
 
@@ -68,19 +69,18 @@ every-bytes (b ∷ w) h = go (both (ltb b 256) (every (λ (b : ℕ). ltb b 256) 
     go e f zero l = ltb-true b 256 e
     go e f (suc j) l = f j (omega arith)
 
-pub seek-find : (ns : List (List ℕ)) (i : ℕ) (w : List ℕ) → Bytes w → all_bytes ns ≡ true → i + length ns ≤ 255
+pub seek-find : (ns : List (List ℕ)) (i : ℕ) (w : List ℕ) → Bytes w → all_bytes ns ≡ true
     → place_is (seek (packs ns) i (pack w)) ≡ find ns i w
 unfolding find packs seek all_bytes place_is
-seek-find [] i w f h l = refl
-seek-find (n ∷ ns) i w f h l = go (same w n) refl (seek-find ns (suc i) w f k.1 (omega arith))
+seek-find [] i w f h = refl
+seek-find (n ∷ ns) i w f h = go (same w n) refl (seek-find ns (suc i) w f k.1)
   where
     k : (every (λ (b : ℕ). ltb b 256) n ≡ true) × (all_bytes ns ≡ true)
     k = both (every (λ (b : ℕ). ltb b 256) n) (all_bytes ns) h
 
     go : (a : Bool) → same w n ≡ a → place_is (seek (packs ns) (suc i) (pack w)) ≡ find ns (suc i) w
-        → place_is (cond (eqb (pack w) (pack n)) i (seek (packs ns) (suc i) (pack w))) ≡ find (n ∷ ns) i w
-    go true e ih =
-        rw (find-here w n ns i e, eq-eqb (pack w) (pack n) (ap pack (same_eq w n e)), ne_eqb i 255 (λ q. omega arith))
+        → place_is (cond (eqb (pack w) (pack n)) (Some i) (seek (packs ns) (suc i) (pack w))) ≡ find (n ∷ ns) i w
+    go true e ih = rw (find-here w n ns i e, eq-eqb (pack w) (pack n) (ap pack (same_eq w n e)))
     go false e ih =
         rw (
           find_past w n ns i e,
@@ -229,26 +229,23 @@ split_twice s at n v rest last l h e f g =
 
 -- ---- a place, as the code has it
 
-pub place_some : (r : ℕ) {o : Option ℕ} → place_is r ≡ o → (r ≡ 255 → ⊥) → o ≡ some r
+pub place_some : {r : Option ℕ} {o : maybe.Option ℕ} (i : ℕ) → place_is r ≡ o → r ≡ Some i → o ≡ maybe.some i
 unfolding place_is
-place_some r h n = sym h ∙ (rw (ne_eqb r 255 n))
+place_some i h e = sym h ∙ (rw e)
 
-pub place_none : (r : ℕ) {o : Option ℕ} → place_is r ≡ o → r ≡ 255 → o ≡ none
+pub place_none : {r : Option ℕ} {o : maybe.Option ℕ} → place_is r ≡ o → r ≡ None → o ≡ maybe.none
 unfolding place_is
-place_none r h e = sym h ∙ (rw (eq-eqb r 255 e))
+place_none h e = sym h ∙ (rw e)
 
-pub some_place : {r : ℕ} {o : Option ℕ} → (r ≡ 255 → ⊥) → o ≡ some r → place_is r ≡ o
+pub some_place : {i : ℕ} {o : maybe.Option ℕ} → o ≡ maybe.some i → place_is (Some i) ≡ o
 unfolding place_is
-some_place {r} n e = (rw (ne_eqb r 255 n)) ∙ sym e
+some_place e = sym e
 
-pub none_place : {o : Option ℕ} → o ≡ none → place_is 255 ≡ o
+pub none_place : {o : maybe.Option ℕ} → o ≡ maybe.none → place_is None ≡ o
 unfolding place_is
 none_place e = sym e
 
-pub place_found : (r : ℕ) {o : Option ℕ} → place_is r ≡ o → not (eqb r 255) ≡ is_some o
+pub place_found : (r : Option ℕ) {o : maybe.Option ℕ} → place_is r ≡ o → found r ≡ is_some o
 unfolding place_is
-place_found r h = go (eqb r 255) refl ∙ ap is_some h
-  where
-    go : (a : Bool) → eqb r 255 ≡ a → not a ≡ is_some (cond a none (some r))
-    go true e = refl
-    go false e = refl
+place_found None h = ap is_some h
+place_found (Some i) h = ap is_some h

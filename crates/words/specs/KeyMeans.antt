@@ -1,7 +1,8 @@
 -- A word as a number, and the place of a number among those of a list's words.
-use Rattle.std.specs.Prelude.{ℕ, suc, ◌+◌, ◌*◌, cond, List, [], ◌∷◌, eqb}
-use Rattle.std.proofs.Math.Option.{Option, none, some}
+use Rattle.std.specs.Prelude.{ℕ, suc, ◌+◌, ◌*◌, cond, List, [], ◌∷◌, eqb, Option, None, Some}
+use Rattle.std.proofs.Math.Option as maybe
 use Rattle.words.specs.ListMeans.{list_of}
+use Rattle.words.specs.declared.List.{List as WordList}
 
 -- the bytes of a word below a number, the first the least
 unfoldable pub onto : ℕ → List ℕ → ℕ
@@ -16,15 +17,16 @@ unfoldable pub packs : List (List ℕ) → List ℕ
 packs [] = []
 packs (w ∷ ws) = pack w ∷ packs ws
 
--- the words of the list with a number, as numbers
-unfoldable pub keys_of : ℕ → List ℕ
+-- the words of a list, as numbers
+unfoldable pub keys_of : WordList → List ℕ
 keys_of k = packs (list_of k)
 
--- the place of v, counted from i; 255 where it is not there
-unfoldable pub seek : List ℕ → ℕ → ℕ → ℕ
-seek [] i v = 255
-seek (m ∷ ms) i v = cond (eqb v m) i (seek ms (suc i) v)
+-- the place of v, counted from i, if it is there
+unfoldable pub seek : List ℕ → ℕ → ℕ → Option ℕ
+seek [] i v = None
+seek (m ∷ ms) i v = cond (eqb v m) (Some i) (seek ms (suc i) v)
 
--- such a place, if it is one
-unfoldable pub place_is : ℕ → Option ℕ
-place_is i = cond (eqb i 255) none (some i)
+-- such a place, as `find` gives it
+unfoldable pub place_is : Option ℕ → maybe.Option ℕ
+place_is None = maybe.none
+place_is (Some i) = maybe.some i

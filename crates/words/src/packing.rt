@@ -3,8 +3,6 @@ ghost use Rattle.std.specs.Prelude.{◌≡◌, cond, ◌&&◌, eqb, ◌+◌, ◌
 ghost use Rattle.text.specs.Bytes.{part};
 ghost use Rattle.words.specs.KeyMeans.{onto, pack};
 
-use crate::NONE;
-
 // ---- bytes as a number
 
 // The n bytes at a place, below a number.
@@ -13,10 +11,8 @@ fn onto(text: &[u8], at: usize, n: usize, top: u64) -> u64
     ensures { result ≡ onto top (part text.now at n) }
 {
     let mut v = top;
-    let mut k = n;
-    while 0 < k {
-        k -= 1;
-        v = v * 256 + text[at + k] as u64;
+    for k in (0..n).rev() {
+        v = v * 256 + u64::from(text[at + k]);
     }
     v
 }
@@ -52,21 +48,19 @@ pub fn packed(text: &[u8], at: usize, n: usize) -> u64
 // ---- one word
 
 // A row, if two numbers are equal.
-pub fn if_equal(v: u64, key: u64, row: u8) -> u8
-    ensures { result ≡ cond (eqb v key) row 255 }
+pub fn if_equal(v: u64, key: u64, row: u8) -> Option<u8>
+    ensures { result ≡ cond (eqb v key) (Some row) None }
 {
-    if v == key {
-        return row;
-    }
-    NONE
+    if v == key { Some(row) } else { None }
 }
 
 // A row, if two pairs of numbers are equal.
-pub fn if_long(v: u64, rest: u64, key: u64, other: u64, row: u8) -> u8
-    ensures { result ≡ cond (eqb v key && eqb rest other) row 255 }
+pub fn if_long(v: u64, rest: u64, key: u64, other: u64, row: u8) -> Option<u8>
+    ensures { result ≡ cond (eqb v key && eqb rest other) (Some row) None }
 {
-    if v == key {
-        return if_equal(rest, other, row);
+    if v == key && rest == other {
+        Some(row)
+    } else {
+        None
     }
-    NONE
 }

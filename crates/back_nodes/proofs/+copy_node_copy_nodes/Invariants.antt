@@ -13,8 +13,4 @@ decreases-copy_nodes l = 2 * (length l.s.now - l.at) + 1
 
 abbrev pub invariant-copy_nodes-loop-k : goal.invariant-copy_nodes-loop-k
 invariant-copy_nodes-loop-k l =
-    (length l.out ≡ length l.initial.out) × (l.k ≤ l.count) × (length l.s - l.next ≤ length l.s - l.at)
-    × Going l.text l.s (page_of l.initial.out l.initial.p) l.at l.count l.next (page_of l.out l.p) l.k
-
-abbrev pub decreases-copy_nodes-loop-k : goal.decreases-copy_nodes-loop-k
-decreases-copy_nodes-loop-k l = l.count - l.k
+    (length l.s - l.next ≤ length l.s - l.at) × Going l.text l.s (page_of l.fn.pen) l.at l.count l.next (page_of l.pen) l._k

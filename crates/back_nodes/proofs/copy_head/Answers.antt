@@ -13,21 +13,9 @@ use Rattle.back_copying.proofs.CopyLaws.{read-put, in_front}
 use Rattle.back_nodes.proofs.NodeLaws.{sequence_told, parallel_told, group_told, stagger_told}
 use Rattle.back_nodes.proofs.copy_head.Goals as goal
 
-pub put_word-requires : goal.put_word-requires
-put_word-requires c = unfold word_like all in refl
-
-pub put_word-requires-in-4 : goal.put_word-requires-in-4
-put_word-requires-in-4 c = unfold word_like all in refl
-
-pub put_word-p-requires : goal.put_word-p-requires
-put_word-p-requires c = unfold word_like all in refl
-
 pub put_choice-requires : goal.put_choice-requires
 unfolding all_words entries word_like all
-put_choice-requires c = (refl, omega (arith, c.take_byte-mode.ensures.small), omega arith)
-
-pub put_word-requires-in_default : goal.put_word-requires-in_default
-put_word-requires-in_default c = unfold word_like all in refl
+put_choice-requires c = (refl, omega (arith, c.take_byte-mode.ensures.small))
 
 pub returns-in-3 : goal.returns-in-3
 returns-in-3 c = λ t from start b r k end g. sequence_told t b c.in-3.is c.put_word.ensures g
@@ -39,7 +27,7 @@ pub returns-in-5 : goal.returns-in-5
 unfolding choose entries
 returns-in-5 c =
     λ t from start b r k end g. group_told t b c.in-5.is
-    (in_front (spell "group") c.put_word-p.ensures
+    (in_front (spell "group") c.put_word-in-5.ensures
     (read-put (λ j ps. word_at mode_names j ∷ ps) c.take_byte-mode.ensures.reads
     (c.put_choice.ensures mode_names refl)))
     g

@@ -5,8 +5,5 @@ use Rattle.text.specs.Bytes.{one_of}
 use mathlib.Core.Path.{refl}
 use Rattle.back_nodes.proofs.holding.Goals as goal
 
-pub put_mark-requires : goal.put_mark-requires
-put_mark-requires c = unfold one_of in refl
-
 pub returns : goal.returns
 returns c = record { count = _; holds = refl; reads = c.take_field-count.ensures.reads; puts = c.put_mark.ensures }

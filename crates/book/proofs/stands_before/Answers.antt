@@ -6,14 +6,14 @@ use Rattle.text.specs.Words.{is_some}
 use Rattle.book.proofs.TableLaws.{name_of}
 use Rattle.book.proofs.stands_before.Goals as goal
 
-pub returns-in-At : goal.returns-in-At
-returns-in-At c xs r y e =
+pub returns-in-Some : goal.returns-in-Some
+returns-in-Some c xs r y e =
     let args = c.args in
     let f = c.find_name.ensures xs r (omega (arith, (name_of xs args.k y e).0)) in
-    ap is_some (rw (c.in-At.is, c.name_at.ensures, (r.row args.k y e).name) at f)
+    ap is_some (rw (c.in-Some.is, c.name_at.ensures, (r.row args.k y e).name) at f)
 
-pub returns-in-Nothing : goal.returns-in-Nothing
-returns-in-Nothing c xs r y e =
+pub returns-in-None : goal.returns-in-None
+returns-in-None c xs r y e =
     let args = c.args in
     let f = c.find_name.ensures xs r (omega (arith, (name_of xs args.k y e).0)) in
-    ap is_some (rw (c.in-Nothing.is, c.name_at.ensures, (r.row args.k y e).name) at f)
+    ap is_some (rw (c.in-None.is, c.name_at.ensures, (r.row args.k y e).name) at f)

@@ -37,12 +37,6 @@ note_calls-requires c =
       rw c.part.ensures (filling_sheet pre.0 c.loop-i.invariant c.loop-i-test.true g),
     )
 
-pub overflow_add-i : goal.overflow_add-i
-overflow_add-i c = omega (arith, few_items c.requires.0, c.loop-i-test.true)
-
-pub loop-i-smaller : goal.loop-i-smaller
-loop-i-smaller c = omega (arith, c.loop-i-test.true)
-
 pub loop-i-preserved : goal.loop-i-preserved
 loop-i-preserved c =
     let g = rw c.in-Is.is at c.parse_item.ensures in

@@ -14,29 +14,29 @@ find_name-requires c =
 pub overflow_add-calls : goal.overflow_add-calls
 overflow_add-calls c =
     let pre = c.requires in
-    let f = rw c.in-At.is
-    at (found_in pre.0 c.find_name.result c.part.result.now c.find_name.ensures)
+    let f = rw c.in-Some.is
+    at (found_in pre.0 c.find_name.result c.part-name.result.now c.find_name.ensures)
     in
-    omega (arith, found_low pre.0 c.part.result.now f, pre.1, pre.2)
+    omega (arith, found_low pre.0 c.part-name.result.now f, pre.1, pre.2)
 
 pub bounds-calls-i : goal.bounds-calls-i
 bounds-calls-i c =
     let pre = c.requires in
-    let f = rw c.in-At.is
-    at (found_in pre.0 c.find_name.result c.part.result.now c.find_name.ensures)
+    let f = rw c.in-Some.is
+    at (found_in pre.0 c.find_name.result c.part-name.result.now c.find_name.ensures)
     in
-    omega (arith, found_low pre.0 c.part.result.now f, pre.1, pre.2, pre.3)
+    omega (arith, found_low pre.0 c.part-name.result.now f, pre.1, pre.2, pre.3)
 
-pub returns-in-At : goal.returns-in-At
-returns-in-At c xs e =
-    let f = rw (c.in-At.is, c.part.ensures)
-    at (found_for c.requires.0 c.find_name.result c.part.result.now c.find_name.ensures xs e)
+pub returns-in-Some : goal.returns-in-Some
+returns-in-Some c xs e =
+    let f = rw (c.in-Some.is, c.part-name.ensures)
+    at (found_for c.requires.0 c.find_name.result c.part-name.result.now c.find_name.ensures xs e)
     in
     ap (mark c.args.calls.now c.args.i) f
 
-pub returns-in-Nothing : goal.returns-in-Nothing
-returns-in-Nothing c xs e =
-    let f = rw (c.in-Nothing.is, c.part.ensures)
-    at (found_for c.requires.0 c.find_name.result c.part.result.now c.find_name.ensures xs e)
+pub returns : goal.returns
+returns c xs e =
+    let f = rw (c.in_default.is, c.part-name.ensures)
+    at (found_for c.requires.0 c.find_name.result c.part-name.result.now c.find_name.ensures xs e)
     in
     ap (mark c.args.calls.now c.args.i) f

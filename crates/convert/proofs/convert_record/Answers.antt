@@ -6,5 +6,5 @@ use Rattle.convert.proofs.convert_record.Goals as goal
 pub returns-then-holds_noise-clause-sheet_after : goal.returns-then-holds_noise-clause-sheet_after
 returns-then-holds_noise-clause-sheet_after c = overwritten c.args.sheet.now c.args.at (sym c.holds_noise.ensures ∙ c.if-holds_noise.true)
 
-pub returns-clause-sheet_after : goal.returns-clause-sheet_after
-returns-clause-sheet_after c = as_it_was c.args.sheet.now c.args.at (sym c.holds_noise.ensures ∙ c.if-holds_noise.false)
+pub returns-else-holds_noise-clause-sheet_after : goal.returns-else-holds_noise-clause-sheet_after
+returns-else-holds_noise-clause-sheet_after c = as_it_was c.args.sheet.now c.args.at (sym c.holds_noise.ensures ∙ c.if-holds_noise.false)

@@ -27,13 +27,13 @@ prepare-j-requires c = (refl, refl, c.requires.long_high)
 pub first_past-n-requires : goal.first_past-n-requires
 first_past-n-requires c = (c.loop-places.invariant.fixed_low.long, hunt_low c.requires c.loop-places.invariant)
 
-pub first_past-m-requires : goal.first_past-m-requires
-first_past-m-requires c = (c.loop-places.invariant.fixed_high.long, hunt_high c.requires c.loop-places.invariant)
+pub first_past-requires : goal.first_past-requires
+first_past-requires c = (c.loop-places.invariant.fixed_high.long, hunt_high c.requires c.loop-places.invariant)
 
-pub returns-then-n-m : goal.returns-then-n-m
-returns-then-n-m c =
+pub returns-then-n-first_past : goal.returns-then-n-first_past
+returns-then-n-first_past c =
     record {
-      result_value = answer _ _ _ _ _ _ c.first_past-n.ensures c.first_past-m.ensures c.if-n-m.true
+      result_value = answer _ _ _ _ _ _ c.first_past-n.ensures c.first_past.ensures c.if-n-first_past.true
           (hunt_found c.requires c.loop-places.invariant c.loop-places-test.true);
       neat = record {
         far = λ h. subst (λ (z : ℕ). z < 10 ^ 10) (sym c.first_past-n.ensures)
@@ -55,7 +55,7 @@ pub loop-places-preserved : goal.loop-places-preserved
 loop-places-preserved c =
     let x = c.loop-places.invariant in
     hunt_next c.requires x c.loop-places-test.true
-    (ordered _ _ _ _ c.first_past-n.ensures c.first_past-m.ensures c.if-n-m.false)
+    (ordered _ _ _ _ c.first_past-n.ensures c.first_past.ensures c.if-n-first_past.false)
     (c.lift-i.auto.f ∙ x.fixed_low.long)
     (c.lift-j.auto.f ∙ x.fixed_high.long)
     c.lift-i.ensures.below
@@ -64,4 +64,4 @@ loop-places-preserved c =
     c.lift-j.ensures.f_after
 
 pub returns-clause-result_value : goal.returns-clause-result_value
-returns-clause-result_value c = c.whole.ensures.result_value ∙ hunt_ends c.loop-places.invariant c.loop-places-test.false
+returns-clause-result_value c = hunt_ends c.loop-places.invariant c.loop-places-test.false

@@ -4,8 +4,8 @@ use mathlib.Core.Logic.{inl, inr}
 use native.Mathlib.Omega.{arith}
 use Rattle.digits.proofs.MiddleLaws.{spaced}
 use Rattle.digits.proofs.LengthyLaws.{lengthy, tiny_missed, tiny_wide}
-use Rattle.digits.proofs.SearchLaws.{search_goes_on, search_found, search_missed}
-use Rattle.digits.proofs.fewest_small.Goals.{then-loop-places-test+else-places-s, else-loop-places-test}
+use Rattle.digits.proofs.SearchLaws.{search_ready, search_goes_on, search_ends, search_missed}
+use Rattle.digits.proofs.fewest_small.Goals.{else-loop-places-test, then-loop-places-test+then-s-places}
 use Rattle.digits.proofs.fewest_small.Goals as goal
 
 pub fewest_long-requires : goal.fewest_long-requires
@@ -16,6 +16,9 @@ fewest_long-requires c =
     lengthy some low high (tiny_wide c.args.bits some c.if-bits-lt-LOWEST.true low.1)
     (tiny_missed c.args.bits some c.if-bits-lt-LOWEST.true)
 
+pub step-s-requires : goal.step-s-requires
+step-s-requires c = search_ready c.loop-places.invariant c.loop-places-test.true c.ten_to.ensures c.if-s-places.false
+
 pub loop-places-preserved : goal.loop-places-preserved
 loop-places-preserved c =
     let g = c.loop-places.invariant in
@@ -24,23 +27,26 @@ loop-places-preserved c =
     (spaced (omega (arith, c.requires.0)) g.placed_low g.placed_high)
     g.searched)
 
-pub returns-then-s-clause-result_value : goal.returns-then-s-clause-result_value
-returns-then-s-clause-result_value c =
-    let g = c.loop-places.invariant in
-    let f = c.if-s.true in search_found g.searched g.few
-    (elim c.loop-places-test.branch [
-      | then-loop-places-test+else-places-s w ↦ inr w.if-places-s.false
-      | else-loop-places-test w ↦ inl w.loop-places-test.false
-    ]) f
-
-pub fewest_long-requires-2 : goal.fewest_long-requires-2
-fewest_long-requires-2 c =
+pub fewest_long-requires-in-None : goal.fewest_long-requires-in-None
+fewest_long-requires-in-None c =
     let g = c.loop-places.invariant in
     let m = search_missed g.searched g.few
     (elim c.loop-places-test.branch [
-      | then-loop-places-test+else-places-s w ↦ inr w.if-places-s.false
+      | then-loop-places-test+then-s-places w ↦ inr w.if-s-places.true
       | else-loop-places-test w ↦ inl w.loop-places-test.false
     ])
-    c.if-s.false
+    c.in-None.is
     in
     lengthy (omega (arith, c.requires.0)) (g.halfway_low, g.placed_low) (g.halfway_high, g.placed_high) m.1 m.0
+
+pub returns-in_default : goal.returns-in_default
+returns-in_default c =
+    let g = c.loop-places.invariant in
+    let f = search_ends g.searched g.few
+    (elim c.loop-places-test.branch [
+      | then-loop-places-test+then-s-places w ↦ inr w.if-s-places.true
+      | else-loop-places-test w ↦ inl w.loop-places-test.false
+    ])
+    c.in_default.not-None
+    in
+    record { result_value = f.0; neat = f.1 }

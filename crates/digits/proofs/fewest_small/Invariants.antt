@@ -1,9 +1,5 @@
-use Prim.Native.Nat.{◌-◌}
 use Rattle.digits.proofs.SearchLaws.{Going}
 use Rattle.digits.proofs.fewest_small.Given as goal
 
 abbrev pub invariant-loop-places : goal.invariant-loop-places
-invariant-loop-places l = Going l.bits l.low l.high l.s l.places l.scale
-
-abbrev pub decreases-loop-places : goal.decreases-loop-places
-decreases-loop-places l = 10 - l.places
+invariant-loop-places l = Going l.bits l.low l.high l.s l.places

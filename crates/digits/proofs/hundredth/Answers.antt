@@ -10,7 +10,7 @@ use Rattle.digits.proofs.hundredth.Goals as goal
 divided : (w : After-percent_from-p) → w.percent_from-p.result.value ≡ percent false (float_whole w.args.y)
 divided w =
     let y = w.args.y in
-    w.percent_from-p.ensures.value false (float_whole y) (w.f32_of_bits-value.ensures ∙ float_is y w.requires.0 w.requires.1)
+    w.percent_from-p.ensures.value false (float_whole y) (w.f32_of_bits.ensures ∙ float_is y w.requires.0 w.requires.1)
 
 pub bits_of-requires : goal.bits_of-requires
 bits_of-requires c = not_nan _ (divided c)

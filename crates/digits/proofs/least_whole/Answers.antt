@@ -1,7 +1,7 @@
 -- `digits::least_whole` meets its contract: the middle below the f32, and one more where its tie goes down.
 use mathlib.Core.Path.{◌≡◌, sym, ap, ◌∙◌}
 use Prim.Native.Nat.{ℕ, suc, ◌+◌, ◌*◌, ◌-◌, ◌%◌, ◌^◌, ◌≤◌, ◌<◌}
-use native.Mathlib.Nat.{le_antisymm, pow-suc, mul-mod_left, mul_assoc, le_of_eq, lt_of_le_of_lt, lt_of_lt_of_le, lt_of_mul-lt-mul_right}
+use native.Mathlib.Nat.{pow-suc, mul-mod_left, mul_assoc, le_of_eq, lt_of_le_of_lt, lt_of_lt_of_le, lt_of_mul-lt-mul_right}
 use native.Mathlib.Omega.{arith}
 use lib.Dec.{lit≤}
 use lib.Pow.{pow-add, pow_mono, shl_lt}
@@ -91,19 +91,19 @@ pub loop-i-preserved : goal.loop-i-preserved
 loop-i-preserved c =
     let x = c.loop-i.invariant in
     let d = c.doubled-p.ensures in
-    (grown_next x.0 (omega arith) d.is d.n d.middle, omega arith, x.2, x.3)
+    (grown_next x.0 (omega arith) d.is d.n d.middle, x.1, x.2)
 
 pub returns-clause-neat : goal.returns-clause-neat
 returns-clause-neat c =
     let x = c.loop-i.invariant in
     let b = c.args.bits in
-    let e = le_antisymm x.1 c.loop-i-test.false in
+    let e : c.loop-i._i ≡ c.doublings-k.result = omega arith in
     let v = x.0.is ∙ ap (λ (z : ℕ). (2 * (b - 1 - c.doublings-k.result * 8388608) + 1) * 2 ^ (z - 150)) e in
     let g = x.0 in record {
       far = λ h. absurd (omega_no h);
       parts = λ h. absurd (zero_no h);
-      n = λ h. even_below c.loop-i.p.n (c.loop-i.p.middle + c.loop-i.p.high * 10 ^ 18) ((b - 1 - c.doublings-k.result * 8388608) % 2) _
-          c.loop-i.invariant.0.n v (even_middle _ _ x.3);
+      n = λ h. rw c.from-2.ensures (even_below c.loop-i.p.n (c.loop-i.p.middle + c.loop-i.p.high * 10 ^ 18) ((b - 1 - c.doublings-k.result * 8388608) % 2) _
+          c.loop-i.invariant.0.n v (even_middle _ _ x.2));
       middle = c.loop-i.invariant.0.middle;
       high = lt_of_lt_of_le (high_tiny (few_digits (goal.at.returns-clause-neat c).After-doublings-k) g) (lit≤ tt);
     }

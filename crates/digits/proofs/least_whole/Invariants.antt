@@ -12,7 +12,4 @@ pub record Grown (w i : ℕ) (p : Parts) : Type 0 where
   pub is : parts_number p ≡ (2 * w + 1) * 2 ^ (i - 150)
 
 abbrev pub invariant-loop-i : goal.invariant-loop-i
-invariant-loop-i l = Grown l.w l.i l.p × (l.i ≤ l.k) × (l.k ≤ 253) × (151 ≤ l.k)
-
-abbrev pub decreases-loop-i : goal.decreases-loop-i
-decreases-loop-i l = l.k - l.i
+invariant-loop-i l = Grown l.w l._i l.p × (l.k ≤ 253) × (151 ≤ l.k)

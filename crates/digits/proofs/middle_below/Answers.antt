@@ -5,10 +5,10 @@ use Rattle.digits.proofs.middle_below.Goals as goal
 
 pub returns-then-k-lt150 : goal.returns-then-k-lt150
 returns-then-k-lt150 c =
-    rw c.doublings-k.ensures
+    rw (c.from-half.ensures, c.from-tie.ensures, c.doublings-k.ensures)
     (middle_low c.args.bits c.requires.0 c.requires.1 (rw c.doublings-k.ensures at c.if-k-lt150.true))
 
 pub returns-else-k-lt150 : goal.returns-else-k-lt150
 returns-else-k-lt150 c =
-    rw c.doublings-k.ensures
+    rw (c.from-half.ensures, c.from-tie.ensures, c.doublings-k.ensures)
     (middle_high c.args.bits c.requires.0 c.requires.1 (rw c.doublings-k.ensures at c.if-k-lt150.false))

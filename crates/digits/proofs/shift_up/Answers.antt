@@ -2,7 +2,6 @@
 use mathlib.Core.Path.{◌∙◌}
 use Prim.Native.Nat.{◌*◌, ◌^◌, ◌<◌}
 use native.Mathlib.Nat.{add-zero}
-use native.Mathlib.Omega.{arith}
 use Rattle.limbs.specs.LimbMeans.{up_to}
 use Rattle.limbs.proofs.DecimalLaws.{carried_none}
 use Rattle.digits.proofs.FractionLaws.{shift_next, shift_below}
@@ -12,12 +11,11 @@ pub loop-i-preserved : goal.loop-i-preserved
 loop-i-preserved c =
     let a = up_to 5 c.args.f.now in
     let v = up_to 5 c.loop-i.f in
-    let i = c.loop-i.i in
-    let small : v * 2 < 4294967296 ^ 5 = shift_below v a i c.args.n (4294967296 ^ 5) c.loop-i.invariant.2
+    let i = c.loop-i._i in
+    let small : v * 2 < 4294967296 ^ 5 = shift_below v a i c.args.n (4294967296 ^ 5) c.loop-i.invariant.1
     c.loop-i-test.true c.requires.1
     in (
-      omega arith,
-      c.muladd-over.auto.a ∙ c.loop-i.invariant.1,
-      carried_none _ c.muladd-over.result (4294967296 ^ 5) (v * 2) (c.muladd-over.ensures.by_index 5 (c.loop-i.invariant.1 ∙ c.requires.0) ∙ add-zero (v * 2)) small
-          ∙ shift_next v a i c.loop-i.invariant.2,
+      c.muladd.auto.a ∙ c.loop-i.invariant.0,
+      carried_none _ c.muladd.result (4294967296 ^ 5) (v * 2) (c.muladd.ensures.by_index 5 (c.loop-i.invariant.0 ∙ c.requires.0) ∙ add-zero (v * 2)) small
+          ∙ shift_next v a i c.loop-i.invariant.1,
     )

@@ -9,24 +9,24 @@ use Rattle.token.proofs.WholeLaws.{every}
 use Rattle.keywords.proofs.NameLaws.{all_bytes, keyword_packed, keyword_eight, keyword_long}
 use Rattle.keywords.proofs.is_keyword.Goals as goal
 
-pub returns-then-word-lt5 : goal.returns-then-word-lt5
+pub returns-in-0-to-4 : goal.returns-in-0-to-4
 unfolding all_bytes every sized
-returns-then-word-lt5 c =
+returns-in-0-to-4 c =
     let w = c.args.word.now in
     c.is_keyword_upto_4.ensures
     ∙ keyword_packed up_to4 w (lt-ltb (length w) 5 (omega arith)) refl (λ j l. omega (arith, c.type_inv.word j)) _
     c.packed.ensures
 
-pub returns-then-word-lt8 : goal.returns-then-word-lt8
+pub returns-in-5-to-7 : goal.returns-in-5-to-7
 unfolding all_bytes every sized
-returns-then-word-lt8 c =
+returns-in-5-to-7 c =
     let w = c.args.word.now in
     c.is_keyword_upto_7.ensures
     ∙ keyword_packed up_to7 w (rw (lt-ltb 4 (length w) (omega arith), lt-ltb (length w) 8 (omega arith))) refl
-    (λ j l. omega (arith, c.type_inv.word j)) _ c.packed-then-word-lt8.ensures
+    (λ j l. omega (arith, c.type_inv.word j)) _ c.packed-in-5-to-7.ensures
 
-pub returns-then-word-eq8 : goal.returns-then-word-eq8
-returns-then-word-eq8 c = c.is_keyword_of_8.ensures ∙ keyword_eight _ c.if-word-eq8.true
+pub returns-in-8 : goal.returns-in-8
+returns-in-8 c = c.is_keyword_of_8.ensures ∙ keyword_eight _ c.in-8.is
 
-pub returns : goal.returns
-returns c = keyword_long c.args.word.now (omega arith)
+pub returns-in_default : goal.returns-in_default
+returns-in_default c = keyword_long c.args.word.now (omega arith)

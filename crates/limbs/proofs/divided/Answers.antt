@@ -2,13 +2,13 @@
 use mathlib.Core.Path.{◌≡◌, sym, ap, ◌∙◌, subst}
 use mathlib.Core.List.{List}
 use Prim.Native.Nat.{ℕ, ◌+◌, ◌*◌, ◌^◌, ◌<◌, ◌≤◌}
-use native.Mathlib.Nat.{one-mul, one-le-pow}
+use native.Mathlib.Nat.{zero-add, one-mul, one-le-pow}
 use native.Mathlib.Omega.{arith}
-use lib.ListN.{length, drop}
+use lib.ListN.{length}
 use lib.Dec.{lit<}
-use Rattle.text.specs.Bytes.{decimal, part}
+use Rattle.text.specs.Bytes.{decimal}
 use Rattle.limbs.specs.LimbMeans.{val}
-use Rattle.limbs.proofs.NumberLaws.{digits_small, whole_small}
+use Rattle.limbs.proofs.NumberLaws.{digits_below}
 use Rattle.limbs.proofs.DecimalLaws.{first_room, next_room, product_below, product_room, twice_room}
 use Rattle.limbs.proofs.divided.Goals.{After-read, After-read-2, After-scale-2}
 use Rattle.limbs.proofs.divided.Goals as goal
@@ -19,28 +19,27 @@ record Read (n v : ℕ) (a z : List ℕ) : Type 0 where
   below : val a < 10 ^ v
   long : length a ≡ length z
 
-first : (w : After-read) →
-    let args = w.args in
-    Read (decimal 0 (part args.t.now 0 args.w)) args.w w.read.new.a args.a.now
+first : (w : After-read) → Read (decimal 0 w.args.whole.now) (length w.args.whole.now) w.read.new.a w.args.a.now
 first w =
-    let is = w.read.ensures ∙ ap (λ (z : ℕ). decimal z (part w.args.t.now 0 w.args.w)) w.requires.1 in
+    let whole = w.args.whole.now in
+    let is = w.read.ensures ∙ ap (λ (z : ℕ). decimal z whole) w.requires.1 in
     record {
       is = is;
-      below = whole_small w.args.t.now w.args.w _ w.args.w is w.requires.4 (omega arith);
+      below = subst (λ (z : ℕ). z < 10 ^ length whole) (sym is) (rw zero-add at (digits_below whole 0 0 (lit< tt) w.requires.4));
       long = w.read.auto.a;
     }
 
 second : (w : After-read-2) →
     let args = w.args in
-    Read (decimal (decimal 0 (part args.t.now 0 args.w)) (part args.t.now args.from args.q)) (args.w + args.q)
-    w.read-2.new.a args.a.now
+    Read (decimal (decimal 0 args.whole.now) args.fraction.now) (length args.whole.now + length args.fraction.now) w.read-2.new.a args.a.now
 second w =
     let f = first (goal.at.After-read-2 w).After-read in
+    let fraction = w.args.fraction.now in
     let is = w.read-2.ensures in
     record {
-      is = is ∙ ap (λ (z : ℕ). decimal z (part w.args.t.now w.args.from w.args.q)) f.is;
-      below = subst (λ (z : ℕ). z < 10 ^ (w.args.w + w.args.q)) (sym is)
-          (digits_small (drop w.args.from w.args.t.now) w.args.q w.args.w _ f.below w.requires.5);
+      is = is ∙ ap (λ (z : ℕ). decimal z fraction) f.is;
+      below = subst (λ (z : ℕ). z < 10 ^ (length w.args.whole.now + length fraction)) (sym is)
+          (digits_below fraction (length w.args.whole.now) _ f.below w.requires.5);
       long = w.read-2.auto.a ∙ f.long;
     }
 
@@ -48,7 +47,7 @@ second w =
 top : (w : After-read-2) →
     let args = w.args in
     val w.read-2.new.a * 10 ^ args.up * 4 < 4294967296 ^ length args.a.now
-top w = product_below _ (w.args.w + w.args.q) w.args.up _ (second w).below w.requires.6
+top w = product_below _ (length w.args.whole.now + length w.args.fraction.now) w.args.up _ (second w).below w.requires.6
 
 -- the power below the line
 lower : (w : After-scale-2) →
@@ -59,7 +58,7 @@ pub read-requires : goal.read-requires
 read-requires c =
     let args = c.args in (
       c.requires.4,
-      first_room (val args.a.now) args.w (args.q + args.up) _ c.requires.1
+      first_room (val args.a.now) (length args.whole.now) (length args.fraction.now + args.up) _ c.requires.1
           (subst (λ (z : ℕ). 10 ^ z * 4 ≤ 4294967296 ^ length args.a.now) (omega arith) c.requires.6),
     )
 
@@ -67,23 +66,31 @@ pub read-requires-2 : goal.read-requires-2
 read-requires-2 c =
     let f = first (goal.at.read-requires-2 c).After-read in (
       c.requires.5,
-      subst (λ (z : ℕ). (val c.read.new.a + 1) * 10 ^ c.args.q ≤ 4294967296 ^ z) (sym f.long)
-          (next_room _ c.args.w c.args.q c.args.up _ f.below c.requires.6),
+      subst (λ (z : ℕ). (val c.read.new.a + 1) * 10 ^ length c.args.fraction.now ≤ 4294967296 ^ z) (sym f.long)
+          (next_room _ (length c.args.whole.now) (length c.args.fraction.now) c.args.up _ f.below c.requires.6),
     )
 
 pub scale-requires : goal.scale-requires
 scale-requires c =
-    let g = second (goal.at.scale-requires c).After-read-2 in
-    subst (λ (z : ℕ). val c.read-2.new.a * 10 ^ c.args.up < 4294967296 ^ z) (sym g.long)
-    (product_room _ 4 _ (top (goal.at.scale-requires c).After-read-2) (lit< tt))
+    let g = second (goal.at.scale-requires c).After-read-2 in (
+      omega arith,
+      omega arith,
+      omega arith,
+      subst (λ (z : ℕ). val c.read-2.new.a * 10 ^ c.args.up < 4294967296 ^ z) (sym g.long)
+          (product_room _ 4 _ (top (goal.at.scale-requires c).After-read-2) (lit< tt)),
+    )
 
 pub scale-requires-2 : goal.scale-requires-2
 scale-requires-2 c =
-    let args = c.args in
-    subst (λ (z : ℕ). val args.b.now * 10 ^ args.down < 4294967296 ^ z) (sym c.requires.0)
-    (subst (λ (z : ℕ). z * 10 ^ args.down < 4294967296 ^ length args.a.now) (sym c.requires.2)
-    (subst (λ (z : ℕ). z < 4294967296 ^ length args.a.now) (sym (one-mul (10 ^ args.down)))
-    (product_room _ 2 _ (twice_room args.down _ c.requires.7) (lit< tt))))
+    let args = c.args in (
+      omega arith,
+      omega arith,
+      omega arith,
+      subst (λ (z : ℕ). val args.b.now * 10 ^ args.down < 4294967296 ^ z) (sym c.requires.0)
+          (subst (λ (z : ℕ). z * 10 ^ args.down < 4294967296 ^ length args.a.now) (sym c.requires.2)
+          (subst (λ (z : ℕ). z < 4294967296 ^ length args.a.now) (sym (one-mul (10 ^ args.down)))
+          (product_room _ 2 _ (twice_room args.down _ c.requires.7) (lit< tt)))),
+    )
 
 pub nearest-requires : goal.nearest-requires
 nearest-requires c =

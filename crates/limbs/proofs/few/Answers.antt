@@ -1,54 +1,48 @@
 -- `limbs::few` meets its contract; the loop keeps the number that the digits left make of `v`, and a bound on `v`.
 use mathlib.Core.Path.{◌≡◌, sym, ap, ◌∙◌, subst}
-use Prim.Native.Nat.{ℕ, ◌+◌, ◌*◌, ◌-◌, ◌^◌, ◌<◌, ◌≤◌}
+use Prim.Native.Nat.{ℕ, ◌+◌, ◌*◌, ◌^◌, ◌<◌, ◌≤◌}
 use native.Mathlib.Omega.{arith}
-use lib.ListN.{get_or, drop, take}
+use lib.ListN.{length, get_or, drop, length-drop}
 use Rattle.text.specs.Bytes.{decimal, is_digit}
-use Rattle.text.proofs.ByteLaws.{within_is}
-use Rattle.limbs.proofs.NumberLaws.{digits_inside, run_in_at, decimal-at, decimal_nil, ten_more, ten_fits}
-use Rattle.limbs.proofs.few.Goals.{After-worth}
+use Rattle.text.proofs.ByteLaws.{run_in, within_is}
+use Rattle.limbs.proofs.NumberLaws.{decimal_next, decimal_none, ten_more, ten_fits}
+use Rattle.limbs.proofs.few.Goals.{In-loop-b}
 use Rattle.limbs.proofs.few.Goals as goal
 
--- the digit is one
-nine : (w : After-worth) → w.worth.result ≤ 9
-nine w =
-    let d = within_is 48 57 (get_or w.args.t.now (w.args.from + w.loop-i.i) 0)
-    (run_in_at is_digit w.args.t.now w.args.from w.loop-i.i (omega (arith, w.requires.0, w.loop-i-test.true)))
-    in
-    omega (arith, d.0, d.1, w.worth.ensures)
+-- the byte is a digit
+figure : (w : In-loop-b) →
+    let b = get_or w.args.digits.now w.loop-b.b-index 0 in
+    (48 ≤ b) × (b ≤ 57)
+figure w =
+    within_is 48 57 (get_or w.args.digits.now w.loop-b.b-index 0)
+    (run_in is_digit w.args.digits.now w.loop-b.b-index (omega (arith, w.requires.0, w.loop-b-test.true)))
 
 pub overflow_mul-v : goal.overflow_mul-v
-overflow_mul-v c = omega (arith, ten_fits c.loop-i.v _ 8 c.loop-i.invariant.2 (omega (arith, c.requires.1)))
+overflow_mul-v c = omega (arith, ten_fits c.loop-b.v _ 8 c.loop-b.invariant.1 (omega (arith, c.requires.1, c.loop-b-test.true)))
 
-pub overflow_add-from : goal.overflow_add-from
-overflow_add-from c = omega (arith, digits_inside c.args.t.now c.args.from c.args.n c.requires.0 (omega arith))
-
-pub bounds-t-from : goal.bounds-t-from
-bounds-t-from c = omega (arith, digits_inside c.args.t.now c.args.from c.args.n c.requires.0 (omega arith))
-
-pub worth-requires : goal.worth-requires
-worth-requires c =
-    within_is 48 57 (get_or c.args.t.now (c.args.from + c.loop-i.i) 0)
-    (run_in_at is_digit c.args.t.now c.args.from c.loop-i.i (omega (arith, c.requires.0)))
+pub overflow_sub-b : goal.overflow_sub-b
+overflow_sub-b c = let f = figure (goal.at.overflow_sub-b c).In-loop-b in omega (arith, f.0)
 
 pub overflow_add-v : goal.overflow_add-v
-overflow_add-v c = omega (arith, nine c, ten_fits c.loop-i.v _ 8 c.loop-i.invariant.2 (omega (arith, c.requires.1)))
+overflow_add-v c =
+    let f = figure (goal.at.overflow_add-v c).In-loop-b in
+    omega (arith, f.1, ten_fits c.loop-b.v _ 8 c.loop-b.invariant.1 (omega (arith, c.requires.1, c.loop-b-test.true)))
 
-pub loop-i-preserved : goal.loop-i-preserved
-loop-i-preserved c =
-    let t = c.args.t.now in
-    let from = c.args.from in
-    let n = c.args.n in
-    let f = digits_inside t from n c.requires.0 (omega arith) in (
-      omega arith,
-      ap (λ (z : ℕ). decimal (c.loop-i.v * 10 + z) (take (n - (c.loop-i.i + 1)) (drop (from + (c.loop-i.i + 1)) t))) c.worth.ensures
-          ∙ sym (decimal-at c.loop-i.v t from n c.loop-i.i f (omega arith)) ∙ c.loop-i.invariant.1,
-      ten_more c.loop-i.v c.worth.result c.loop-i.i c.loop-i.invariant.2 (nine c),
+pub loop-b-preserved : goal.loop-b-preserved
+loop-b-preserved c =
+    let t = c.args.digits.now in
+    let i = c.loop-b.b-index in
+    let f = figure (goal.at.loop-b-preserved c).In-loop-b in (
+      ap (λ (z : ℕ). decimal (c.loop-b.v * 10 + z) (drop (i + 1) t)) c.from.ensures
+          ∙ sym (decimal_next c.loop-b.v t i c.loop-b-test.true) ∙ c.loop-b.invariant.0,
+      ten_more c.loop-b.v c.from.result i c.loop-b.invariant.1 (omega (arith, f.1, c.from.ensures)),
     )
 
 pub returns : goal.returns
 returns c =
-    let n = c.args.n in
-    let e : n - c.loop-i.i ≡ 0 = omega arith in
-    let f : c.loop-i.i ≡ n = omega arith in
-    (sym (decimal_nil c.loop-i.v _ (n - c.loop-i.i) e) ∙ c.loop-i.invariant.1, subst (λ (z : ℕ). c.loop-i.v < 10 ^ z) f c.loop-i.invariant.2)
+    let t = c.args.digits.now in
+    let i = c.loop-b.b-index in
+    let f : i ≡ length t = omega arith in (
+      sym (decimal_none c.loop-b.v (drop i t) (omega (arith, length-drop i t))) ∙ c.loop-b.invariant.0,
+      subst (λ (z : ℕ). c.loop-b.v < 10 ^ z) f c.loop-b.invariant.1,
+    )

@@ -1,11 +1,8 @@
 use mathlib.Core.Path.{◌≡◌}
-use Prim.Native.Nat.{◌+◌, ◌-◌, ◌^◌, ◌<◌, ◌≤◌}
-use lib.ListN.{drop, take}
-use Rattle.text.specs.Bytes.{decimal, part}
+use Prim.Native.Nat.{◌^◌, ◌<◌}
+use lib.ListN.{drop}
+use Rattle.text.specs.Bytes.{decimal}
 use Rattle.limbs.proofs.few.Given as goal
 
-abbrev pub invariant-loop-i : goal.invariant-loop-i
-invariant-loop-i l = (l.i ≤ l.n) × (decimal l.v (take (l.n - l.i) (drop (l.from + l.i) l.t)) ≡ decimal 0 (part l.t l.from l.n)) × (l.v < 10 ^ l.i)
-
-abbrev pub decreases-loop-i : goal.decreases-loop-i
-decreases-loop-i l = l.n - l.i
+abbrev pub invariant-loop-b : goal.invariant-loop-b
+invariant-loop-b l = (decimal l.v (drop l.b-index l.digits) ≡ decimal 0 l.digits) × (l.v < 10 ^ l.b-index)

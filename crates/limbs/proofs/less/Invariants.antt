@@ -5,8 +5,5 @@ use Rattle.limbs.proofs.less.Given as goal
 
 abbrev pub invariant-loop-i : goal.invariant-loop-i
 invariant-loop-i l =
-    (l.i ≤ length l.a) × (up_to l.i l.a < up_to l.i l.b → up_to (length l.a) l.a < up_to (length l.a) l.b)
+    (up_to l.i l.a < up_to l.i l.b → up_to (length l.a) l.a < up_to (length l.a) l.b)
     × (up_to l.i l.b ≤ up_to l.i l.a → up_to (length l.a) l.b ≤ up_to (length l.a) l.a)
-
-abbrev pub decreases-loop-i : goal.decreases-loop-i
-decreases-loop-i l = l.i

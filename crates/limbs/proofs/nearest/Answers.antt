@@ -49,7 +49,7 @@ returns-then-top-ge300 c =
     let e : c.raise-top.result ≡ 300 = omega (arith, c.raise-top.ensures.most) in
     let q = subst (λ (z : ℕ). b * 2 ^ 150 ≡ d * 2 ^ z) e c.raise-top.ensures.scaled in
     raised_infinite n d b c.requires.3 (pos_of b d 300 c.requires.3 q) q (⊎_elim (λ w. omega arith) (λ w. w) c.raise-top.ensures.near)
-    c.infinity.ensures.0 c.infinity.ensures.1
+    refl refl
 
 pub loop-k-preserved : goal.loop-k-preserved
 loop-k-preserved c =
@@ -72,12 +72,12 @@ returns-then-k-ge254 c =
       | else-loop-k-test w ↦ omega arith
     ])
     c.if-k-ge254.true
-    c.infinity-then-k-ge254.ensures.0 c.infinity-then-k-ge254.ensures.1
+    refl refl
 
-pub overflow_add-bits : goal.overflow_add-bits
-overflow_add-bits c =
-    let w = came (goal.at.overflow_add-bits c).At-loop-k in
-    omega (arith, at_most c.loop-k.q (val c.loop-k.a) _ w.below w.few, c.whole-n.ensures)
+pub overflow_add-result : goal.overflow_add-result
+overflow_add-result c =
+    let w = came (goal.at.overflow_add-result c).At-loop-k in
+    omega (arith, at_most c.loop-k.q (val c.loop-k.a) _ w.below w.few, c.whole.ensures)
 
 pub returns : goal.returns
 returns c =
@@ -89,5 +89,5 @@ returns c =
       | else-loop-k-test w ↦ inl (omega arith)
     ])
     (omega arith)
-    (omega (arith, c.whole-n.ensures))
-    (ap not (c.is_zero-rounded.ensures (length c.loop-k.a) refl))
+    (omega (arith, c.whole.ensures))
+    (ap not (c.is_zero.ensures (length c.loop-k.a) refl))

@@ -3,12 +3,12 @@ use borrow.Author.Tests.{ltb-true, ltb-false}
 use mathlib.Core.Path.{◌≡◌, refl, sym, ◌∙◌, subst}
 use mathlib.Core.Logic.{◌⊎◌, inl, inr, ⊎_elim}
 use Prim.Native.Nat.{ℕ, ◌+◌, ◌*◌, ◌^◌, ◌<◌, ◌≤◌}
-use native.Mathlib.Nat.{mul-le-mul_right, le_of_eq, le_trans, le_refl}
+use native.Mathlib.Nat.{min-le_left, min-le_right, mul-le-mul_right, le_of_eq, le_trans, le_refl}
 use native.Mathlib.Omega.{arith}
 use lib.ListN.{length}
 use Rattle.limbs.specs.LimbMeans.{val}
 use Rattle.limbs.proofs.LongLaws.{shifted_room, half_below, raise_first, raise_step, raise_scaled, raise_fits}
-use Rattle.limbs.proofs.raise.Goals.{After-excess-n}
+use Rattle.limbs.proofs.raise.Goals.{After-min-n}
 use Rattle.limbs.proofs.raise.Goals as goal
 
 -- b doubled at first has room
@@ -17,36 +17,40 @@ record Room (p a b n : ℕ) : Type 0 where
   near : (n ≡ 0) ⊎ (b * 2 ^ n ≤ a * 2)
   few : n ≤ 150
 
-room : (w : After-excess-n) →
-    Room (4294967296 ^ length w.args.a.now) (val w.args.a.now) (val w.args.b.now) w.excess-n.result
+room : (w : After-min-n) →
+    Room (4294967296 ^ length w.args.a.now) (val w.args.a.now) (val w.args.b.now) w.min-n.result
 room w =
     let z = shifted_room (val w.args.a.now) (val w.args.b.now) w.size.result w.size-2.result
-    w.excess-n.result
+    w.min-n.result
     (4294967296 ^ length w.args.a.now)
     w.size-2.ensures.0
     w.size.ensures.1
-    w.excess-n.ensures.1
+    (omega (arith, w.min-n.ensures, w.saturating_sub.ensures, min-le_left w.saturating_sub.result 150))
     w.requires.1
     w.requires.2
     in
-    record { fits = z.0; near = z.1; few = w.excess-n.ensures.0 }
+    record { fits = z.0; near = z.1; few = omega (arith, w.min-n.ensures, min-le_right w.saturating_sub.result 150) }
 
-pub lift-requires : goal.lift-requires
-lift-requires c =
-    subst (λ (z : ℕ). val c.args.b.now * 2 ^ c.excess-n.result < 4294967296 ^ z) (sym c.requires.0)
-    (half_below _ _ (room (goal.at.lift-requires c).After-excess-n).fits)
+pub scale-requires : goal.scale-requires
+scale-requires c = (
+  omega arith,
+  omega arith,
+  omega arith,
+  subst (λ (z : ℕ). val c.args.b.now * 2 ^ c.min-n.result < 4294967296 ^ z) (sym c.requires.0)
+      (half_below _ _ (room (goal.at.scale-requires c).After-min-n).fits),
+)
 
 pub loop-k-init : goal.loop-k-init
 loop-k-init c =
-    let r = room (goal.at.loop-k-init c).After-excess-n in
-    let n = c.excess-n.result in (
+    let r = room (goal.at.loop-k-init c).After-min-n in
+    let n = c.min-n.result in (
       omega arith,
       omega (arith, r.few),
       refl,
       le_refl _,
-      raise_first (val c.lift.new.a) (150 + n),
-      ⊎_elim (λ e. inl (omega arith)) (λ h. inr (le_trans (le_of_eq c.lift.ensures) h)) r.near,
-      subst (λ (z : ℕ). z * 2 < 4294967296 ^ length c.args.a.now) (sym c.lift.ensures) r.fits,
+      raise_first (val c.scale.new.a) (150 + n),
+      ⊎_elim (λ e. inl (omega arith)) (λ h. inr (le_trans (le_of_eq c.scale.ensures) h)) r.near,
+      subst (λ (z : ℕ). z * 2 < 4294967296 ^ length c.args.a.now) (sym c.scale.ensures) r.fits,
     )
 
 pub loop-k-preserved : goal.loop-k-preserved
@@ -70,7 +74,7 @@ returns-else-not-less c =
     record {
       least = c.loop-k.invariant.0;
       most = c.loop-k.invariant.1;
-      scaled = raise_scaled (val c.args.b.now) _ _ b c.loop-k.k c.lift.ensures c.loop-k.invariant.3 c.loop-k.invariant.4;
+      scaled = raise_scaled (val c.args.b.now) _ _ b c.loop-k.k c.scale.ensures c.loop-k.invariant.3 c.loop-k.invariant.4;
       above = λ h. ltb-true a b (sym c.less.ensures ∙ c.if-not-less.false);
       near = c.loop-k.invariant.5;
       fits = c.loop-k.invariant.6;
@@ -81,7 +85,7 @@ returns-after-loop-k c =
     record {
       least = c.loop-k.invariant.0;
       most = c.loop-k.invariant.1;
-      scaled = raise_scaled (val c.args.b.now) _ _ (val c.loop-k.b) c.loop-k.k c.lift.ensures c.loop-k.invariant.3 c.loop-k.invariant.4;
+      scaled = raise_scaled (val c.args.b.now) _ _ (val c.loop-k.b) c.loop-k.k c.scale.ensures c.loop-k.invariant.3 c.loop-k.invariant.4;
       above = λ h. absurd (omega arith);
       near = c.loop-k.invariant.5;
       fits = c.loop-k.invariant.6;

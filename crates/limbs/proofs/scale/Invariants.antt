@@ -4,8 +4,8 @@ use lib.ListN.{length}
 use Rattle.limbs.specs.LimbMeans.{val}
 use Rattle.limbs.proofs.scale.Given as goal
 
-abbrev pub invariant-loop-i : goal.invariant-loop-i
-invariant-loop-i l = (l.i ≤ l.n) × (length l.a ≡ length l.initial.a) × (val l.a ≡ val l.initial.a * 10 ^ l.i)
+abbrev pub invariant-loop-left : goal.invariant-loop-left
+invariant-loop-left l = (l.left ≤ l.n) × (length l.a ≡ length l.initial.a) × (val l.a ≡ val l.initial.a * l.base ^ (l.n - l.left))
 
-abbrev pub decreases-loop-i : goal.decreases-loop-i
-decreases-loop-i l = l.n - l.i
+abbrev pub decreases-loop-left : goal.decreases-loop-left
+decreases-loop-left l = l.left

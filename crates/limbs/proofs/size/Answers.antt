@@ -30,17 +30,14 @@ nothing a i e h =
     let z : val a ≡ 0 = h ∙ ap (λ (n : ℕ). up_to n a) e in
     (subst (λ (n : ℕ). n < 2 ^ 0) (sym z) (omega arith), λ q. absurd (omega arith))
 
-pub returns-then-x-gt0 : goal.returns-then-x-gt0
-returns-then-x-gt0 c =
+pub returns-then-a-i-ne0 : goal.returns-then-a-i-ne0
+returns-then-a-i-ne0 c =
     sized c.args.a.now c.loop-i.i _ c.loop-i-test.true
     (λ k. omega (arith, c.type_inv.a k))
-    c.loop-i.invariant.1 c.if-x-gt0.true refl
+    c.loop-i.invariant (omega (arith, c.if-a-i-ne0.true)) refl
 
 pub loop-i-preserved : goal.loop-i-preserved
-loop-i-preserved c = (
-  omega arith,
-  c.loop-i.invariant.1 ∙ top_zero c.loop-i.i c.args.a.now c.loop-i-test.true (omega (arith, c.if-x-gt0.false)),
-)
+loop-i-preserved c = c.loop-i.invariant ∙ top_zero c.loop-i.i c.args.a.now c.loop-i-test.true c.if-a-i-ne0.false
 
 pub returns : goal.returns
-returns c = nothing c.args.a.now c.loop-i.i (omega arith) c.loop-i.invariant.1
+returns c = nothing c.args.a.now c.loop-i.i (omega arith) c.loop-i.invariant

@@ -19,23 +19,11 @@ returns-in-Refused c =
       values = the_parts.1;
     }
 
-pub returns-in-At : goal.returns-in-At
-returns-in-At c =
+pub returns-in_default : goal.returns-in_default
+returns-in_default c =
     let args = c.args in
     let w = args.name.now in
-    let e = rw c.in-At.is at c.look_in.ensures in
-    let f = c.join.ensures w (book args.store.now) (book args.chain.now) e c.look_in-in-At.ensures in
-    let the_parts = and_values lookup_values (looked_up args.store.now args.chain.now w f) in record {
-      value = the_parts.0;
-      values = the_parts.1;
-    }
-
-pub returns-in-Nothing : goal.returns-in-Nothing
-returns-in-Nothing c =
-    let args = c.args in
-    let w = args.name.now in
-    let e = rw c.in-Nothing.is at c.look_in.ensures in
-    let f = c.join-in-Nothing.ensures w (book args.store.now) (book args.chain.now) e c.look_in-in-Nothing.ensures in
+    let f = c.join.ensures w (book args.store.now) (book args.chain.now) c.look_in.ensures c.look_in-in_default.ensures in
     let the_parts = and_values lookup_values (looked_up args.store.now args.chain.now w f) in record {
       value = the_parts.0;
       values = the_parts.1;

@@ -19,14 +19,14 @@ pub cell-requires : goal.cell-requires
 cell-requires c =
     let args = c.args in
     let h = rw c.in-Is.is at c.read.ensures in
-    let f = rw c.in-At.is at (found_in h c.find_name.result args.name.now c.find_name.ensures) in
+    let f = rw c.in-Some.is at (found_in h c.find_name.result args.name.now c.find_name.ensures) in
     (h.rows.long, omega (arith, found_low h args.name.now f, h.rows.few, h.count), omega arith)
 
-pub cell-requires-in-At : goal.cell-requires-in-At
-cell-requires-in-At c =
+pub cell-requires-in-Some : goal.cell-requires-in-Some
+cell-requires-in-Some c =
     let args = c.args in
     let h = rw c.in-Is.is at c.read.ensures in
-    let f = rw c.in-At.is at (found_in h c.find_name.result args.name.now c.find_name.ensures) in
+    let f = rw c.in-Some.is at (found_in h c.find_name.result args.name.now c.find_name.ensures) in
     (h.rows.long, omega (arith, found_low h args.name.now f, h.rows.few, h.count), omega arith)
 
 pub returns-in-Refused : goal.returns-in-Refused
@@ -34,19 +34,19 @@ returns-in-Refused c =
     let args = c.args in
     looked_wrong args.text.now args.name.now (rw c.in-Refused.is at c.read.ensures)
 
-pub returns-in-Nothing : goal.returns-in-Nothing
-returns-in-Nothing c =
+pub returns-in-None : goal.returns-in-None
+returns-in-None c =
     let args = c.args in
     let h = rw c.in-Is.is at c.read.ensures in
     looked_none h args.name.now
-    (rw c.in-Nothing.is at (found_in h c.find_name.result args.name.now c.find_name.ensures))
+    (rw c.in-None.is at (found_in h c.find_name.result args.name.now c.find_name.ensures))
 
-pub returns-in-At : goal.returns-in-At
-returns-in-At c =
+pub returns-in-Some : goal.returns-in-Some
+returns-in-Some c =
     let args = c.args in
     let h = rw c.in-Is.is at c.read.ensures in
     looked-at h
     args.name.now
-    (rw c.in-At.is at (found_in h c.find_name.result args.name.now c.find_name.ensures))
+    (rw c.in-Some.is at (found_in h c.find_name.result args.name.now c.find_name.ensures))
     c.cell.ensures
-    c.cell-in-At.ensures
+    c.cell-in-Some.ensures

@@ -10,5 +10,5 @@ use Rattle.number.proofs.decimal.Goals as goal
 pub returns-clause-value : goal.returns-clause-value
 returns-clause-value c =
     let args = c.args in
-    let x = round binary32 args.negative args.digits (10 ^ args.places) in c.f32_of_bits-value.ensures ∙ ap f32 c.decimal_bits-b.ensures.bits
+    let x = round binary32 args.negative args.digits (10 ^ args.places) in c.f32_of_bits.ensures ∙ ap f32 c.decimal_bits-b.ensures.bits
     ∙ f32-bits x (round-fits binary32 args.negative args.digits (10 ^ args.places))

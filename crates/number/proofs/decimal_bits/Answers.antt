@@ -8,9 +8,9 @@ use Rattle.number.specs.Number.{bits}
 use Rattle.number.proofs.Round.{sign_bit, bits_room}
 use Rattle.number.proofs.decimal_bits.Goals as goal
 
-pub overflow_add-bits : goal.overflow_add-bits
+pub overflow_add-result : goal.overflow_add-result
 unfolding bits
-overflow_add-bits c =
+overflow_add-result c =
     let args = c.args in
     omega (arith, bits_room args.digits (10 ^ args.places), c.unsigned_bits-b.ensures.bits)
 

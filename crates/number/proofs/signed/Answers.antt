@@ -2,12 +2,14 @@
 use mathlib.Core.Path.{◌≡◌, ap, ◌∙◌}
 use mathlib.Core.Bool.{true, false}
 use Prim.Native.Nat.{ℕ, ◌+◌}
+use native.Mathlib.Nat.{add-zero}
 use native.Mathlib.Omega.{arith}
 use lib.Ieee.{Float, binary32, round}
 use lib.Ieee.Fits.{round-fits}
 use Rattle.number.specs.Number.{bits, f32}
 use Rattle.number.proofs.Floats.{f32-bits}
 use Rattle.number.proofs.Round.{sign_bit}
+use Rattle.number.proofs.signed.Goals.{then-negative, else-negative}
 use Rattle.number.proofs.signed.Goals as goal
 
 turned : (m n d : ℕ) (x : Float) → m ≡ bits (round binary32 false n d) → x ≡ f32 (m + 2147483648) → x ≡ round binary32 true n d
@@ -19,8 +21,15 @@ turned m n d x e h =
 plain : (m n d : ℕ) (x : Float) → m ≡ bits (round binary32 false n d) → x ≡ f32 m → x ≡ round binary32 false n d
 plain m n d x e h = h ∙ ap f32 e ∙ f32-bits (round binary32 false n d) (round-fits binary32 false n d)
 
-pub returns-then-negative-clause-value : goal.returns-then-negative-clause-value
-returns-then-negative-clause-value c = rw c.if-negative.true (λ n d e. turned _ n d _ e c.f32_of_bits-value.ensures)
-
 pub returns-clause-value : goal.returns-clause-value
-returns-clause-value c = rw c.if-negative.false (λ n d e. plain _ n d _ e c.f32_of_bits-value-2.ensures)
+returns-clause-value c n d e =
+    elim c.if-negative.branch [
+      | then-negative w ↦
+          rw w.if-negative.true
+          (turned c.args.b.bits n d c.f32_of_bits.result e
+          (c.f32_of_bits.ensures ∙ ap (λ (z : ℕ). f32 (c.args.b.bits + z)) w.sign-is))
+      | else-negative w ↦
+          rw w.if-negative.false
+          (plain c.args.b.bits n d c.f32_of_bits.result e
+          (c.f32_of_bits.ensures ∙ ap (λ (z : ℕ). f32 (c.args.b.bits + z)) w.sign-is ∙ ap f32 (add-zero c.args.b.bits)))
+    ]

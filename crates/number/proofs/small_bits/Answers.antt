@@ -20,9 +20,9 @@ unfolding of_int
 once n p y h v =
     quotient_once (round binary32 false n 1) y false n (10 ^ p) (one-le-pow p 10 (lit< tt)) (round_whole binary32 false n (omega arith)) v
 
-pub float_to_bits-bits : goal.float_to_bits-bits
+pub float_to_bits-result : goal.float_to_bits-result
 unfolding of_int
-float_to_bits-bits c = round_number false c.args.digits 1
+float_to_bits-result c = round_number false c.args.digits 1
 
 pub returns-then-places-eq0 : goal.returns-then-places-eq0
 unfolding bits of_int
@@ -35,14 +35,14 @@ returns-then-places-eq0 c =
           ∙ ap (λ (r : ℕ). not (eqb r 0)) (mod-one n));
     }
 
-pub float_to_bits-bits-2 : goal.float_to_bits-bits-2
-float_to_bits-bits-2 c =
+pub float_to_bits-result-2 : goal.float_to_bits-result-2
+float_to_bits-result-2 c =
     let args = c.args in
     subst (λ (x : Float). T (not (is_nan x))) (sym (once args.digits args.places c.ten.result c.requires.0 c.ten.ensures))
     (round_number false args.digits (10 ^ args.places))
 
-pub nonzero_rem-rounded : goal.nonzero_rem-rounded
-nonzero_rem-rounded c = omega (arith, c.five.ensures, one-le-pow c.args.places 5 (lit< tt))
+pub nonzero_rem-result : goal.nonzero_rem-result
+nonzero_rem-result c = omega (arith, c.five.ensures, one-le-pow c.args.places 5 (lit< tt))
 
 pub returns : goal.returns
 unfolding bits

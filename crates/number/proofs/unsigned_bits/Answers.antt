@@ -11,4 +11,4 @@ bound p h = pow-le-pow_right {n = 10} (lit< tt) h
 pub nearest_bits-requires : goal.nearest_bits-requires
 nearest_bits-requires c =
     let p = c.args.places in
-    omega (arith, c.ten_to-d.ensures, one-le-pow p 10 (lit< tt), bound p c.requires)
+    omega (arith, c.ten_to.ensures, one-le-pow p 10 (lit< tt), bound p c.requires)

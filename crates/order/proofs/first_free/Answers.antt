@@ -1,16 +1,16 @@
 -- `order::first_free` meets its contract.
-use mathlib.Core.Path.{◌≡◌, sym, ◌∙◌}
-use native.Mathlib.Omega.{arith}
-use Rattle.order.proofs.CountLaws.{first-is, first-none}
+use mathlib.Core.Bool.{true, false}
+use mathlib.Core.Path.{◌≡◌}
+use Rattle.std.proofs.Common.{rules, tests}
+use Rattle.std.proofs.lemmas.Iterator.{first_from_Range}
+use Rattle.order.specs.Order.{free}
+use Rattle.order.specs.Means.{calls_in}
+use Rattle.order.proofs.CountLaws.{find-first}
 use Rattle.order.proofs.first_free.Goals as goal
-
-pub returns-then-is_free : goal.returns-then-is_free
-returns-then-is_free c =
-    sym (first-is _ c.args.n c.loop-i.i
-    (record { low = omega arith; passes = sym c.is_free.ensures ∙ c.if-is_free.true; others = c.loop-i.invariant.1 }))
 
 pub returns : goal.returns
 returns c =
     let args = c.args in
-    let e : c.loop-i.i ≡ args.n = omega arith in
-    sym (first-none _ args.n (λ a l. c.loop-i.invariant.1 a (omega arith)))
+    let p = free (calls_in args.calls.now) args.n args.listed.now in
+    find-first p args.n c.find.result
+    (first_from_Range _ _ _ c.find.result (λ i. p i ≡ true) (λ i. p i ≡ false) c.find.ensures.ran (λ x q k. search (rules, tests)) (λ x q k. search (rules, tests)))

@@ -1,15 +1,15 @@
 -- `order::is_ready` meets its contract.
-use mathlib.Core.Path.{◌≡◌, sym}
+use mathlib.Core.Path.{◌∙◌}
 use native.Mathlib.Omega.{arith}
-use Rattle.order.proofs.CountLaws.{every-not, every-all}
-use Rattle.order.proofs.ListLaws.{not_waiting-not}
+use Rattle.std.proofs.Common.{rules, tests}
+use Rattle.std.proofs.lemmas.Iterator.{YieldsList-from_range}
+use Rattle.std.proofs.lemmas.Iterator.Search.{all_from_yields_List}
+use Rattle.order.specs.Means.{calls_in, not_waiting}
+use Rattle.order.proofs.CountLaws.{all-every}
 use Rattle.order.proofs.is_ready.Goals as goal
-
-pub returns-then-waits_for : goal.returns-then-waits_for
-returns-then-waits_for c = sym (every-not _ c.args.n c.loop-j.j (omega arith) (not_waiting-not c.waits_for.ensures c.if-waits_for.true))
 
 pub returns : goal.returns
 returns c =
     let args = c.args in
-    let e : c.loop-j.j ≡ args.n = omega arith in
-    sym (every-all _ args.n (λ a l. c.loop-j.invariant.1 a (omega arith)))
+    all_from_yields_List (not_waiting (calls_in args.calls.now) args.listed.now args.i) _ _ _ c.all.ensures.ran (YieldsList-from_range 0 args.n args.n (cc) (omega arith)) (λ x b q k. search (rules, tests))
+    ∙ all-every (not_waiting (calls_in args.calls.now) args.listed.now args.i) args.n

@@ -3,7 +3,7 @@ use Rattle.error.specs.Answer.{line_values}
 use Rattle.error.proofs.AnswerLaws.{with_values}
 use Rattle.plane.proofs.StartLaws.{carries_narrow}
 use mathlib.Core.Path.{sym, ◌∙◌}
-use Rattle.plane.proofs.AnswerLaws.{unplane_shut, unplane_none, unplane_some}
+use Rattle.plane.proofs.AnswerLaws.{planes_within, unplane_shut, unplane_none, unplane_some}
 use Rattle.plane.proofs.unplane.Goals as goal
 
 pub returns-in-Shut : goal.returns-in-Shut
@@ -14,6 +14,11 @@ returns-in-Shut c =
       out_after = the_parts.0;
       values = the_parts.1;
     }
+
+pub invariant_of-source-clause-long : goal.invariant_of-source-clause-long
+invariant_of-source-clause-long c =
+    let m = rw c.in-Of.is at c.planed_shape.ensures in
+    planes_within (carries_narrow _ _ m.0 _ _ m.1 m.2 m.3)
 
 pub carry-requires : goal.carry-requires
 carry-requires c =

@@ -8,5 +8,6 @@ returns-then-is_hex_size c =
     hex_digits c.args.digits.now c.run_end.result (sym c.is_hex_size.ensures ∙ c.if-is_hex_size.true)
     c.run_end.ensures
 
-pub returns : goal.returns
-returns c = hex_no c.args.digits.now (sym c.is_hex_size.ensures ∙ c.if-is_hex_size.false)
+pub returns-else-is_hex_size : goal.returns-else-is_hex_size
+returns-else-is_hex_size c =
+    c.if-is_hex_size.false ∙ hex_no c.args.digits.now (sym c.is_hex_size.ensures ∙ c.if-is_hex_size.false)

@@ -1,10 +1,8 @@
 -- `read_arrays::array_items` meets its contract.
 use Rattle.read_arrays.proofs.ArrayLaws.{few, items-last, items_more}
 use borrow.Author.Tests.{not-false, not-true}
-use Prim.Native.Nat.{◌-◌}
 use Rattle.read_arrays.proofs.ArrayLaws.{items_end, items_refused}
 use native.Mathlib.Omega.{arith}
-use Rattle.text.specs.Bytes.{at}
 use mathlib.Core.Path.{sym, ◌∙◌}
 use Rattle.read_arrays.proofs.array_items.Goals as goal
 

@@ -1,6 +1,5 @@
 -- `read_arrays::array_value` meets its contract.
 use Rattle.read_arrays.proofs.ArrayLaws.{array_went}
-use Rattle.text.specs.Bytes.{at}
 use Rattle.read_arrays.proofs.array_value.Goals as goal
 
 pub returns-in-Is : goal.returns-in-Is

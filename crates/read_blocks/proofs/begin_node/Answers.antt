@@ -9,21 +9,21 @@ use Rattle.read_blocks.proofs.NameLaws.{nodes-free}
 use Rattle.read_blocks.proofs.BeginLaws.{from_keyword}
 use Rattle.read_blocks.proofs.begin_node.Goals as goal
 
-pub returns-then-i : goal.returns-then-i
-returns-then-i c = c.no_node.ensures _ _ _ (place_none _ c.listed-i.ensures c.if-i.true)
+pub returns-in-None : goal.returns-in-None
+returns-in-None c = c.no_node.ensures _ _ _ (place_none c.listed.ensures c.in-None.is)
 
 pub begin_word-requires : goal.begin_word-requires
 begin_word-requires c =
-    let l = listed-word node_words (kind (tokens c.args.text.now c.args.c)) c.listed-i.result
-    (place_some _ c.listed-i.ensures c.if-i.false)
+    let l = listed-word node_words (kind (tokens c.args.text.now c.args.c)) c.in-Some.i
+    (place_some _ c.listed.ensures c.in-Some.is)
     in
     (c.advance.ensures.ready, c.requires.1, (l.word, l.found))
 
-pub returns : goal.returns
-returns c =
+pub returns-in-Some : goal.returns-in-Some
+returns-in-Some c =
     let args = c.args in
-    let l = listed-word node_words (kind (tokens args.text.now args.c)) c.listed-i.result
-    (place_some _ c.listed-i.ensures c.if-i.false)
+    let l = listed-word node_words (kind (tokens args.text.now args.c)) c.in-Some.i
+    (place_some _ c.listed.ensures c.in-Some.is)
     in
     from_keyword
     args.text.now

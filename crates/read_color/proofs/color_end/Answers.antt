@@ -1,5 +1,4 @@
 -- `read_color::color_end` meets its contract.
-use Rattle.std.specs.Prelude.{Some}
 use Rattle.sheet_encode.specs.Means.{span_of}
 use Rattle.grammar.specs.Grammar.{color_fields}
 use Rattle.read_color.specs.Means.{color_leaf}

@@ -1,5 +1,4 @@
 -- `read_color::color_step` meets its contract.
-use Rattle.text.specs.Bytes.{at}
 use Rattle.read_node.proofs.StepLaws.{no_float, a_float, no_easing, an_easing_lem, step_refused, a_case, last_row}
 use Rattle.read_values.proofs.NameLaws.{choice-below}
 use mathlib.Core.Path.{refl}

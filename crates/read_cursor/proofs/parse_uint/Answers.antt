@@ -19,26 +19,26 @@ pub returns-in-Missing : goal.returns-in-Missing
 unfolding parse_uint
 returns-in-Missing c = let n = rw c.in-Missing.is at c.number.ensures in rw (n.0, n.1)
 
-pub returns-in-Is-whole : goal.returns-in-Is-whole
+pub returns-in-Some : goal.returns-in-Some
 unfolding parse_uint
-returns-in-Is-whole c =
+returns-in-Some c =
     let args = c.args in
     let n = rw c.in-Is.is at c.number.ensures in
     let t = took_whole args.text.now args.c _ _ _ n Missing c.if-n.false in
-    let v = rw c.in-Is-whole.is
+    let v = rw c.in-Some.is
     at (c.whole.ensures (written_in args.text.now c.in-Is.n)
     (n.known.is.whole c.if-n.false))
     in
     record { is = rw (t.is, sym v); low = t.low; ready = t.ready }
 
-pub returns-in-Refused : goal.returns-in-Refused
+pub returns-in-None : goal.returns-in-None
 unfolding parse_uint
-returns-in-Refused c =
+returns-in-None c =
     let args = c.args in
     let n = rw c.in-Is.is at c.number.ensures in
     let t = took_whole args.text.now args.c _ _ _ n Missing c.if-n.false in
-    let v = rw c.in-Refused.is
+    let v = rw c.in-None.is
     at (c.whole.ensures (written_in args.text.now c.in-Is.n)
     (n.known.is.whole c.if-n.false))
     in
-    rw (t.is, sym v, n.ready.head.place, c.place-in-Refused.ensures)
+    rw (t.is, sym v, n.ready.head.place, c.place-in-None.ensures)

@@ -1,5 +1,4 @@
 -- `read_draw::draw_end` meets its contract.
-use Rattle.std.specs.Prelude.{Some}
 use mathlib.Core.List.{[]}
 use mathlib.Core.Path.{refl}
 use Rattle.sheet_encode.specs.Means.{span_of}

@@ -2,7 +2,6 @@
 use Rattle.words.specs.ListMeans.{list_of}
 use Rattle.read_node.proofs.StepLaws.{list_refused, list_done, value_refused, list-more, list_moves}
 use mathlib.Core.Path.{refl}
-use Prim.Native.Nat.{◌-◌}
 use native.Mathlib.Omega.{arith}
 use Rattle.grammar.specs.Grammar.{draw_fields}
 use Rattle.read_draw.proofs.draw_fields.Goals as goal

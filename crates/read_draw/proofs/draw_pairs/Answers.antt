@@ -7,7 +7,6 @@ use Rattle.words.specs.ListMeans.{list_of}
 use Rattle.read_node.proofs.StepLaws.{gathering_start, pairs_refused, pairs_done}
 use Rattle.read_node.proofs.StepLaws.{pairs-value_refused, pairs-more, pairs-last, pairs_moves}
 use mathlib.Core.Path.{refl}
-use Prim.Native.Nat.{◌-◌}
 use native.Mathlib.Omega.{arith}
 use borrow.Author.Tests.{not-false, not-true}
 use Rattle.grammar.specs.Fields.{last}

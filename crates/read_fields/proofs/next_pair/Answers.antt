@@ -13,9 +13,9 @@ returns-then-ends c t e = (
       (sym (c.ends.ensures c.args.text.now c.requires.0) ∙ c.if-ends.true),
 )
 
-pub returns-then-row : goal.returns-then-row
-returns-then-row c t e =
-    let n = rw (sym e) at (place_none _ c.listed-row.ensures c.if-row.true) in
+pub returns-in-None : goal.returns-in-None
+returns-in-None c t e =
+    let n = rw (sym e) at (place_none c.listed.ensures c.in-None.is) in
     paired
     c.args.text.now
     t
@@ -25,11 +25,11 @@ returns-then-row c t e =
     c.unlisted.result
     (c.unlisted.ensures t n)
 
-pub returns : goal.returns
-returns c t e =
+pub returns-in-Some : goal.returns-in-Some
+returns-in-Some c t e =
     let pre = c.requires in
-    let l = listed-word _ _ _ (place_some _ c.listed-row.ensures c.if-row.false) in
+    let l = listed-word _ _ _ (place_some _ c.listed.ensures c.in-Some.is) in
     paired c.args.text.now t c.args.c pre.0
     (sym (c.ends.ensures c.args.text.now pre.0) ∙ c.if-ends.false) c.after_name.result
     (started t c.after_name.result (took_pair pre.0 c.hop.ensures l pre.1)
-    (c.after_name.ensures t _ (some_place c.if-row.false (rw e l.found))))
+    (c.after_name.ensures t _ (some_place (rw e l.found))))

@@ -1,4 +1,3 @@
-use Prim.Native.Nat.{◌-◌}
 use Rattle.read_heads.specs.Means.{GridHeld}
 use Rattle.read_heads.proofs.RowLaws.{kept_done, kept_refused, kept_start, value-last, value-more, value_refused}
 use Rattle.read_heads.proofs.HeadLaws.{grid_none}

@@ -1,6 +1,4 @@
 -- `read_heads::grid_inside` meets its contract.
-use Rattle.std.specs.Prelude.{Some}
-use Rattle.text.specs.Bytes.{at}
 use Rattle.read_heads.specs.Means.{grid_inside}
 use Rattle.read_heads.proofs.HeadLaws.{no_cols, no_rows, took_grid}
 use Rattle.read_heads.proofs.grid_inside.Goals as goal

@@ -1,4 +1,3 @@
-use Prim.Native.Nat.{◌-◌}
 use Rattle.read_heads.proofs.StaggerLaws.{opened_block, opened_last, opened_more, opened_refused}
 use Rattle.read_heads.specs.Means.{opening_of}
 use borrow.Author.Tests.{not-false, not-true}

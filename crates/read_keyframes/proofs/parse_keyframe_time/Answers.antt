@@ -1,4 +1,3 @@
-use Rattle.text.specs.Bytes.{at}
 use Rattle.read_keyframes.proofs.TimeLaws.{no_time, percent_suffix, took_time}
 use mathlib.Core.Path.{sym, ◌∙◌}
 use Rattle.read_keyframes.proofs.parse_keyframe_time.Goals as goal

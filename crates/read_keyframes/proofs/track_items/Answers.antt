@@ -1,6 +1,5 @@
 -- `read_keyframes::track_items` meets its contract.
 use Rattle.read_keyframes.proofs.TrackLaws.{tracked_standing, tracked_refused, tracked_more, tracked_last}
-use Prim.Native.Nat.{◌-◌}
 use Rattle.read_keyframes.proofs.track_items.Goals as goal
 
 pub track_step-requires : goal.track_step-requires

@@ -1,5 +1,4 @@
 -- `read_marks::at_sign` meets its contract.
-use Rattle.text.specs.Bytes.{at}
 use Rattle.read_marks.proofs.MarkLaws.{other_sign, plus_sign}
 use Rattle.read_marks.proofs.at_sign.Goals as goal
 

@@ -1,6 +1,5 @@
 -- `read_marks::parse_at` meets its contract.
 use native.Mathlib.Omega.{arith}
-use Rattle.text.specs.Bytes.{at}
 use Rattle.read_marks.proofs.MarkLaws.{at_went, no_value}
 use Rattle.read_cursor.proofs.CursorLaws.{counts}
 use Rattle.number.proofs.Floats.{nearest-number}

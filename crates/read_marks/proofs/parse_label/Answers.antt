@@ -1,5 +1,4 @@
 -- `read_marks::parse_label` meets its contract.
-use Rattle.text.specs.Bytes.{at}
 use Rattle.read_marks.proofs.MarkLaws.{label_went, no_semicolon, no_string}
 use lib.ListN.{length}
 use Rattle.read_marks.proofs.parse_label.Goals as goal

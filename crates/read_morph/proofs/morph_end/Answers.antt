@@ -1,5 +1,4 @@
 -- `read_morph::morph_end` meets its contract.
-use Rattle.std.specs.Prelude.{Some}
 use Rattle.sheet_encode.specs.Means.{span_of}
 use Rattle.grammar.specs.Grammar.{morph_fields}
 use Rattle.read_morph.specs.Means.{morph_leaf}

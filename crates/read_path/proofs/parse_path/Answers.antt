@@ -1,5 +1,4 @@
 -- `read_path::parse_path` meets its contract.
-use Rattle.text.specs.Bytes.{at}
 use mathlib.Core.Path.{refl}
 use Rattle.text.specs.Bytes.{same}
 use Rattle.text.specs.Words.{find}

@@ -1,5 +1,4 @@
 -- `read_path::path_end` meets its contract.
-use Rattle.std.specs.Prelude.{Some}
 use Rattle.sheet_encode.specs.Means.{span_of}
 use Rattle.grammar.specs.Grammar.{path_fields}
 use Rattle.read_path.specs.Means.{path_leaf}

@@ -2,7 +2,6 @@
 use Rattle.words.specs.ListMeans.{list_of}
 use Rattle.read_node.proofs.StepLaws.{gathering_start, list_refused, list_done, value_refused, list-more, list_moves}
 use mathlib.Core.Path.{refl}
-use Prim.Native.Nat.{◌-◌}
 use Rattle.grammar.specs.Fields.{last, ever}
 use Rattle.grammar.specs.Grammar.{path_fields}
 use native.Mathlib.Omega.{arith}

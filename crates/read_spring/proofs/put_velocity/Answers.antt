@@ -1,5 +1,4 @@
 -- `read_spring::put_velocity` meets its contract.
-use Rattle.std.specs.Prelude.{Some}
 use Rattle.read_spring.proofs.SpringLaws.{velocity_present}
 use Rattle.read_spring.proofs.put_velocity.Goals as goal
 

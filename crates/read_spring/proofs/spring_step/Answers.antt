@@ -1,5 +1,4 @@
 -- `read_spring::spring_step` meets its contract.
-use Rattle.text.specs.Bytes.{at}
 use Rattle.read_node.proofs.StepLaws.{no_float, a_float, step_refused, a_case, no_value, a_value_lem}
 use Rattle.read_values.proofs.NameLaws.{choice-below}
 use mathlib.Core.Path.{refl}

@@ -1,5 +1,4 @@
 -- `read_tween::parse_tween` meets its contract.
-use Rattle.std.specs.Prelude.{Some}
 use Rattle.read_tween.proofs.TweenLaws.{tween_no_ends, tween_no_fields, tween_untimed, tween_went}
 use Rattle.read_tween.proofs.parse_tween.Goals as goal
 

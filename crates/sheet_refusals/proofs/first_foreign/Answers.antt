@@ -1,13 +1,15 @@
--- `sheet_refusals::first_foreign` meets its contract: there is none, or the loop keeps which byte is the first.
-use mathlib.Core.Path.{sym, ◌∙◌}
+-- `sheet_refusals::first_foreign` meets its contract.
+use mathlib.Core.Path.{ap, ◌∙◌}
+use Rattle.std.proofs.Common.{rules, tests}
+use Rattle.std.proofs.lemmas.Iterator.{YieldsList-from_slice}
+use Rattle.std.proofs.lemmas.Iterator.Search.{position_from_yields_List}
+use Rattle.text.specs.Bytes.{is_foreign}
+use Rattle.text.specs.Means.{place_of}
 use Rattle.sheet_refusals.proofs.OpenLaws as laws
 use Rattle.sheet_refusals.proofs.first_foreign.Goals as goal
 
-pub returns-then-in_class : goal.returns-then-in_class
-returns-then-in_class c = sym (laws.foreign_here _ _ c.loop-i-test.true (sym c.in_class.ensures ∙ c.if-in_class.true)) ∙ c.loop-i.invariant
-
-pub loop-i-preserved : goal.loop-i-preserved
-loop-i-preserved c = sym (laws.foreign_later _ _ c.loop-i-test.true (sym c.in_class.ensures ∙ c.if-in_class.false)) ∙ c.loop-i.invariant
-
 pub returns : goal.returns
-returns c = sym (laws.foreign_none _ _ c.loop-i-test.false) ∙ c.loop-i.invariant
+returns c =
+    let text = c.args.text.now in
+    ap place_of (position_from_yields_List is_foreign _ _ _ c.position.ensures.ran (YieldsList-from_slice text cc) (λ x b q k. search (rules, tests)))
+    ∙ laws.first-foreign text

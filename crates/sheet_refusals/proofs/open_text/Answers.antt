@@ -5,8 +5,8 @@ use Rattle.sheet_refusals.proofs.open_text.Goals as goal
 pub returns-then-text-gt-TEXT_LIMIT : goal.returns-then-text-gt-TEXT_LIMIT
 returns-then-text-gt-TEXT_LIMIT c = laws.too_long _ c.if-text-gt-TEXT_LIMIT.true
 
-pub returns-in-At : goal.returns-in-At
-returns-in-At c = laws.not-long _ c.if-text-gt-TEXT_LIMIT.false (rw c.in-At.is at c.first_foreign-foreign.ensures)
+pub returns-in-Some : goal.returns-in-Some
+returns-in-Some c = laws.not-long _ c.if-text-gt-TEXT_LIMIT.false c.in-Some.ensures
 
 pub returns : goal.returns
-returns c = laws.not-long _ c.if-text-gt-TEXT_LIMIT.false (rw c.in_default.is at c.first_foreign-foreign.ensures)
+returns c = laws.not-long _ c.if-text-gt-TEXT_LIMIT.false c.in_default.ensures

@@ -1,11 +1,11 @@
-use Prim.Native.Nat.{◌-◌, ◌≤◌}
+use Prim.Native.Nat.{◌+◌, ◌≤◌}
 use mathlib.Core.Path.{◌≡◌}
-use lib.ListN.{drop, length}
+use lib.ListN.{length}
 use Rattle.text.specs.Words.{entries, find, table}
 use Rattle.text.proofs.find.Given as goal
 
-abbrev pub invariant-loop-at : goal.invariant-loop-at
-invariant-loop-at l = (l.i ≤ l.at) × (find (table l.names) 0 l.word ≡ find (entries 0 (drop l.at l.names)) l.i l.word)
+abbrev pub invariant-loop-size : goal.invariant-loop-size
+invariant-loop-size l = record { within : l.i + length l.rest ≤ length l.names; rest : find (table l.names) 0 l.word ≡ find (entries 0 l.rest) l.i l.word }
 
-abbrev pub decreases-loop-at : goal.decreases-loop-at
-decreases-loop-at l = length l.names - l.at
+abbrev pub decreases-loop-size : goal.decreases-loop-size
+decreases-loop-size l = length l.rest

@@ -1,18 +1,14 @@
--- `text::has` meets its contract; the loop keeps what is left of the set in place of the whole.
-use mathlib.Core.Path.{sym, ◌∙◌}
-use native.Mathlib.Omega.{arith}
-use Rattle.text.proofs.ByteLaws.{has_end, has_no, has_yes}
+-- `text::has` meets its contract.
+use mathlib.Core.Path.{◌∙◌}
+use lib.Dec.{eqb}
+use Rattle.std.proofs.Common.{rules, tests}
+use Rattle.std.proofs.lemmas.Iterator.{YieldsList-from_slice}
+use Rattle.std.proofs.lemmas.Iterator.Search.{any_from_yields_List}
+use Rattle.text.proofs.ByteLaws.{any-one_of}
 use Rattle.text.proofs.has.Goals as goal
-
-pub returns-then-set-i : goal.returns-then-set-i
-returns-then-set-i c =
-    let args = c.args in
-    sym (c.loop-i.invariant.1 ∙ has_yes args.set.now c.loop-i.i args.b (omega arith) c.if-set-i.true)
-
-pub loop-i-preserved : goal.loop-i-preserved
-loop-i-preserved c = (omega arith, c.loop-i.invariant.1 ∙ has_no c.args.set.now c.loop-i.i c.args.b (omega arith) c.if-set-i.false)
 
 pub returns : goal.returns
 returns c =
     let args = c.args in
-    sym (c.loop-i.invariant.1 ∙ has_end args.set.now c.loop-i.i args.b (omega arith))
+    any_from_yields_List (eqb args.b) _ _ _ c.any.ensures.ran (YieldsList-from_slice args.set.now cc) (λ x b q k. search (rules, tests))
+    ∙ any-one_of args.b args.set.now

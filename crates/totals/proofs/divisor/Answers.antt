@@ -3,8 +3,8 @@ use borrow.Author.Rules.{rules}
 use Rattle.totals.proofs.MeanLaws.{euclid_next, euclid_last}
 use Rattle.totals.proofs.divisor.Goals as goal
 
-pub loop-y-preserved : goal.loop-y-preserved
-loop-y-preserved c = search (rules, euclid_next)
+pub loop-b-preserved : goal.loop-b-preserved
+loop-b-preserved c = search (rules, euclid_next)
 
 pub returns : goal.returns
 returns c = search (rules, euclid_last)

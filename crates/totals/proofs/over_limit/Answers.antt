@@ -1,14 +1,15 @@
--- `totals::over_limit` meets its contract: the loop keeps that the words before i are within the limit.
-use mathlib.Core.Path.{sym, ◌∙◌}
-use native.Mathlib.Omega.{arith}
-use Rattle.totals.proofs.TotalsLaws.{over-here, over-next, over_end}
+-- `totals::over_limit` meets its contract.
+use mathlib.Core.Path.{◌∙◌}
+use lib.Dec.{ltb}
+use Rattle.std.proofs.Common.{rules, tests}
+use Rattle.std.proofs.lemmas.Iterator.{YieldsList-from_slice}
+use Rattle.std.proofs.lemmas.Iterator.Search.{any_from_yields_List}
+use Rattle.totals.specs.Totals.{figure_limit}
+use Rattle.totals.proofs.TotalsLaws.{any-over}
 use Rattle.totals.proofs.over_limit.Goals as goal
 
-pub returns-then-words-i-gt-FIGURE_LIMIT : goal.returns-then-words-i-gt-FIGURE_LIMIT
-returns-then-words-i-gt-FIGURE_LIMIT c = sym (over-here _ _ c.loop-i-test.true c.if-words-i-gt-FIGURE_LIMIT.true) ∙ c.loop-i.invariant.1
-
-pub loop-i-preserved : goal.loop-i-preserved
-loop-i-preserved c = (omega arith, over-next _ _ c.loop-i-test.true c.if-words-i-gt-FIGURE_LIMIT.false ∙ c.loop-i.invariant.1)
-
 pub returns : goal.returns
-returns c = sym (over_end _ _ c.loop-i-test.false) ∙ c.loop-i.invariant.1
+returns c =
+    let words = c.args.words.now in
+    any_from_yields_List (ltb figure_limit) _ _ _ c.any.ensures.ran (YieldsList-from_slice words cc) (λ x b q k. search (rules, tests))
+    ∙ any-over words

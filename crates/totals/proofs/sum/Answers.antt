@@ -1,15 +1,55 @@
--- `totals::sum` meets its contract: the loop keeps that s and the words from i on make the sum.
-use Prim.Native.Nat.{◌<◌}
+-- `totals::sum` meets its contract.
+use Prim.Native.Nat.{◌+◌, ◌*◌, ◌-◌, ◌≤◌}
+use mathlib.Core.Path.{◌≡◌, ap, ◌∙◌}
 use native.Mathlib.Omega.{arith}
-use Rattle.totals.proofs.TotalsLaws.{sum-next, sum_end}
+use lib.ListN.{take, drop}
+use lib.Seq.{get_or-drop}
+use Rattle.std.specs.List.{sum_by}
+use Rattle.std.proofs.Common.{rules}
+use Rattle.std.proofs.lemmas.Iterator.{YieldsList-from_slice, YieldsList-from_take, YieldsList-from_map}
+use Rattle.std.proofs.lemmas.Iterator.Adapters.{YieldsList-from_skip}
+use Rattle.std.proofs.lemmas.Iterator.Consumers.{YieldsList-at, sum_by_from_yields_List, fits_by_from_yields_list}
+use Rattle.totals.specs.Totals.{itself, sum_of}
+use Rattle.totals.proofs.TotalsLaws.{drop-upto, sum-itself, sum-fits}
 use Rattle.totals.proofs.sum.Goals as goal
 
-pub loop-i-preserved : goal.loop-i-preserved
-loop-i-preserved c =
-    let h : c.loop-i.i < c.args.to = c.loop-i-test.true in (
-      omega (arith, c.loop-i.invariant.0, sum-next c.args.words.now c.loop-i.i c.args.to h (omega (arith, h, c.requires.to_in_bounds))),
-      omega (arith, c.loop-i.invariant.1, c.type_inv.words c.loop-i.i),
-    )
+pub sum-requires-clause-fits : goal.sum-requires-clause-fits
+sum-requires-clause-fits c =
+    let ws = c.args.words.now in
+    let from = c.args.from in
+    let to = c.args.to in
+    let all = drop from (take to ws) in
+    let e : sum_by itself all ≡ sum_of itself (take (to - from) (drop from ws)) =
+    sum-itself all ∙ ap (sum_of itself) (drop-upto ws from to)
+    in
+    let f : sum_of itself (take (to - from) (drop from ws)) ≤ (to - from) * 4294967295 =
+    sum-fits (to - from) (drop from ws) (λ i. rw (get_or-drop from ws i 0) (omega (arith, c.type_inv.words (from + i))))
+    in
+    fits_by_from_yields_list itself all c.map.result _
+    (YieldsList-from_map _ itself
+    (YieldsList-at c.map.ensures.source
+    (YieldsList-from_skip from
+    (YieldsList-at c.skip.ensures.source
+    (YieldsList-from_take to (YieldsList-at c.take.ensures.source (YieldsList-from_slice ws cc)) c.take.ensures.count))
+    c.skip.ensures.count))
+    c.map.ensures.closure
+    (λ x r q k. search rules))
+    (omega (arith, e, f, c.requires.to_bound))
 
 pub returns : goal.returns
-returns c = omega (arith, c.loop-i.invariant.0, sum_end c.args.words.now c.loop-i.i c.args.to c.loop-i-test.false)
+returns c =
+    let ws = c.args.words.now in
+    let from = c.args.from in
+    let to = c.args.to in
+    let all = drop from (take to ws) in
+    sum_by_from_yields_List itself all c.map.result _ c.sum.ensures.ran
+    (YieldsList-from_map _ itself
+    (YieldsList-at c.map.ensures.source
+    (YieldsList-from_skip from
+    (YieldsList-at c.skip.ensures.source
+    (YieldsList-from_take to (YieldsList-at c.take.ensures.source (YieldsList-from_slice ws cc)) c.take.ensures.count))
+    c.skip.ensures.count))
+    c.map.ensures.closure
+    (λ x r q k. search rules))
+    ∙ sum-itself all
+    ∙ ap (sum_of itself) (drop-upto ws from to)

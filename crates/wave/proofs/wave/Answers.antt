@@ -31,7 +31,7 @@ returns-then-heights-lt256 c =
 pub returns : goal.returns
 returns c =
     let the_parts = with_values check_values
-    (filling.accepts _ _ _ _ c.if-kind-ge4.false c.if-phase-ge256.false c.if-heights-lt256.false c.draw.ensures) in record {
+    (filling.accepts _ _ _ _ c.if-kind-ge4.false c.if-phase-ge256.false c.if-heights-lt256.false c.fill.ensures) in record {
       heights_after = the_parts.0;
       values = the_parts.1;
     }

@@ -4,10 +4,12 @@ use Rattle.words.proofs.KeyLaws.{part-counted, place_found}
 use Rattle.words.proofs.ListLaws.{no_empty_lem}
 use Rattle.words.proofs.holds.Goals as goal
 
-pub returns-then-size-eq0 : goal.returns-then-size-eq0
-returns-then-size-eq0 c = no_empty_lem _ _ (rw (sym c.part-size.ensures) c.if-size-eq0.true)
-
-pub returns : goal.returns
-returns c =
+pub returns-then-size-ne0 : goal.returns-then-size-ne0
+returns-then-size-ne0 c =
     let args = c.args in
-    place_found _ c.find.ensures ∙ (rw (part-counted args.text.now args.at args.n _ c.part-size.ensures))
+    c.is_some.ensures
+    ∙ place_found _ c.find.ensures
+    ∙ (rw (part-counted args.text.now args.at args.n _ c.part-size.ensures))
+
+pub returns-else-size-ne0 : goal.returns-else-size-ne0
+returns-else-size-ne0 c = (rw c.if-size-ne0.false) ∙ no_empty_lem _ _ (rw (sym c.part-size.ensures) c.if-size-ne0.false)

@@ -2,6 +2,7 @@
 use mathlib.Core.Path.{refl}
 use native.Mathlib.Omega.{arith}
 use Rattle.text.specs.Bytes.{bytes, one_of}
+use Rattle.words.specs.declared.List.TheVariants as list
 use Rattle.words.specs.ListMeans.{list_of}
 use Rattle.words.specs.KeyMeans.{onto, pack, packs, keys_of, seek}
 use Rattle.words.proofs.KeyLaws.{every}
@@ -10,16 +11,16 @@ use Rattle.words.proofs.long_css_colors_lavender.Goals as goal
 
 pub returns-in-1 : goal.returns-in-1
 unfolding list_of keys_of packs onto seek
-returns-in-1 c = tail_at (keys_of 26) 8243105118282998124 c.args.rest (pack (bytes "lavender")) 63 c.in-1.is refl refl
+returns-in-1 c = tail_at (keys_of list.CssColors) 8243105118282998124 c.args.rest (pack (bytes "lavender")) 63 c.in-1.is refl refl
 
 pub returns-in-1548125301858 : goal.returns-in-1548125301858
 unfolding list_of keys_of packs onto seek
 returns-in-1548125301858 c =
-    tail_at (keys_of 26) 8243105118282998124 c.args.rest (pack (bytes "lavenderblush")) 64 c.in-1548125301858.is refl refl
+    tail_at (keys_of list.CssColors) 8243105118282998124 c.args.rest (pack (bytes "lavenderblush")) 64 c.in-1548125301858.is refl refl
 
 pub returns-in_default : goal.returns-in_default
 unfolding list_of keys_of packs onto seek every one_of middle tail_in tails
 returns-in_default c =
     let args = c.args in
-    no_tail middle (keys_of 26) 8243105118282998124 args.rest (omega arith) (is_middle args.rest c.requires (omega arith)) refl
+    no_tail middle (keys_of list.CssColors) 8243105118282998124 args.rest (omega arith) (is_middle args.rest c.requires (omega arith)) refl
     c.in_default.in_default-own.rest

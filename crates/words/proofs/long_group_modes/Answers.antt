@@ -2,6 +2,7 @@
 use mathlib.Core.Path.{refl}
 use native.Mathlib.Omega.{arith}
 use Rattle.text.specs.Bytes.{bytes, one_of}
+use Rattle.words.specs.declared.List.TheVariants as list
 use Rattle.words.specs.ListMeans.{list_of}
 use Rattle.words.specs.KeyMeans.{onto, pack, packs, keys_of, seek}
 use Rattle.words.proofs.KeyLaws.{every}
@@ -12,19 +13,19 @@ pub returns-in-7305804402566194547 : goal.returns-in-7305804402566194547
 unfolding list_of keys_of packs onto seek every one_of middle tail_in
 returns-in-7305804402566194547 c =
     let args = c.args in
-    word-at middle (keys_of 15) args.v args.rest (omega arith) (is_middle args.rest c.requires (omega arith)) (pack (bytes "sequence")) 0 _
-    c.in-7305804402566194547.is c.if_equal.ensures refl refl
+    word-at middle (keys_of list.GroupModes) args.v args.rest (omega arith) (is_middle args.rest c.requires (omega arith)) (pack
+    (bytes "sequence")) 0 _ c.in-7305804402566194547.is c.if_equal.ensures refl refl
 
 pub returns-in-7810768341491147120 : goal.returns-in-7810768341491147120
 unfolding list_of keys_of packs onto seek every one_of middle tail_in
 returns-in-7810768341491147120 c =
     let args = c.args in
-    word-at middle (keys_of 15) args.v args.rest (omega arith) (is_middle args.rest c.requires (omega arith)) (pack (bytes "parallel")) 1 _
-    c.in-7810768341491147120.is c.if_equal-in-7810768341491147120.ensures refl refl
+    word-at middle (keys_of list.GroupModes) args.v args.rest (omega arith) (is_middle args.rest c.requires (omega arith)) (pack
+    (bytes "parallel")) 1 _ c.in-7810768341491147120.is c.if_equal-in-7810768341491147120.ensures refl refl
 
 pub returns-in_default : goal.returns-in_default
 unfolding list_of keys_of packs onto seek every one_of middle head_in heads
 returns-in_default c =
     let args = c.args in
-    no_head middle (keys_of 15) args.v args.rest (omega arith) (is_middle args.rest c.requires (omega arith)) refl
+    no_head middle (keys_of list.GroupModes) args.v args.rest (omega arith) (is_middle args.rest c.requires (omega arith)) refl
     c.in_default.in_default-own.rest

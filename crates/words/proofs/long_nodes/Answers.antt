@@ -2,6 +2,7 @@
 use mathlib.Core.Path.{refl}
 use native.Mathlib.Omega.{arith}
 use Rattle.text.specs.Bytes.{bytes, one_of}
+use Rattle.words.specs.declared.List.TheVariants as list
 use Rattle.words.specs.ListMeans.{list_of}
 use Rattle.words.specs.KeyMeans.{onto, pack, packs, keys_of, seek}
 use Rattle.words.proofs.KeyLaws.{every}
@@ -12,33 +13,33 @@ pub returns-in-7308604914265580907 : goal.returns-in-7308604914265580907
 unfolding list_of keys_of packs onto seek every one_of middle tail_in
 returns-in-7308604914265580907 c =
     let args = c.args in
-    word-at middle (keys_of 0) args.v args.rest (omega arith) (is_middle args.rest c.requires (omega arith)) (pack (bytes "keyframes")) 2 _
-    c.in-7308604914265580907.is c.if_equal.ensures refl refl
+    word-at middle (keys_of list.Nodes) args.v args.rest (omega arith) (is_middle args.rest c.requires (omega arith)) (pack
+    (bytes "keyframes")) 2 _ c.in-7308604914265580907.is c.if_equal.ensures refl refl
 
 pub returns-in-7886488383058764151 : goal.returns-in-7886488383058764151
 unfolding list_of keys_of packs onto seek every one_of middle tail_in
 returns-in-7886488383058764151 c =
     let args = c.args in
-    word-at middle (keys_of 0) args.v args.rest (omega arith) (is_middle args.rest c.requires (omega arith)) (pack (bytes "waveform")) 7 _
-    c.in-7886488383058764151.is c.if_equal-in-7886488383058764151.ensures refl refl
+    word-at middle (keys_of list.Nodes) args.v args.rest (omega arith) (is_middle args.rest c.requires (omega arith)) (pack
+    (bytes "waveform")) 7 _ c.in-7886488383058764151.is c.if_equal-in-7886488383058764151.ensures refl refl
 
 pub returns-in-7305804402566194547 : goal.returns-in-7305804402566194547
 unfolding list_of keys_of packs onto seek every one_of middle tail_in
 returns-in-7305804402566194547 c =
     let args = c.args in
-    word-at middle (keys_of 0) args.v args.rest (omega arith) (is_middle args.rest c.requires (omega arith)) (pack (bytes "sequence")) 11 _
-    c.in-7305804402566194547.is c.if_equal-in-7305804402566194547.ensures refl refl
+    word-at middle (keys_of list.Nodes) args.v args.rest (omega arith) (is_middle args.rest c.requires (omega arith)) (pack
+    (bytes "sequence")) 11 _ c.in-7305804402566194547.is c.if_equal-in-7305804402566194547.ensures refl refl
 
 pub returns-in-7810768341491147120 : goal.returns-in-7810768341491147120
 unfolding list_of keys_of packs onto seek every one_of middle tail_in
 returns-in-7810768341491147120 c =
     let args = c.args in
-    word-at middle (keys_of 0) args.v args.rest (omega arith) (is_middle args.rest c.requires (omega arith)) (pack (bytes "parallel")) 12 _
-    c.in-7810768341491147120.is c.if_equal-in-7810768341491147120.ensures refl refl
+    word-at middle (keys_of list.Nodes) args.v args.rest (omega arith) (is_middle args.rest c.requires (omega arith)) (pack
+    (bytes "parallel")) 12 _ c.in-7810768341491147120.is c.if_equal-in-7810768341491147120.ensures refl refl
 
 pub returns-in_default : goal.returns-in_default
 unfolding list_of keys_of packs onto seek every one_of middle head_in heads
 returns-in_default c =
     let args = c.args in
-    no_head middle (keys_of 0) args.v args.rest (omega arith) (is_middle args.rest c.requires (omega arith)) refl
+    no_head middle (keys_of list.Nodes) args.v args.rest (omega arith) (is_middle args.rest c.requires (omega arith)) refl
     c.in_default.in_default-own.rest

@@ -2,6 +2,7 @@
 use mathlib.Core.Path.{refl}
 use native.Mathlib.Omega.{arith}
 use Rattle.text.specs.Bytes.{bytes, one_of}
+use Rattle.words.specs.declared.List.TheVariants as list
 use Rattle.words.specs.ListMeans.{list_of}
 use Rattle.words.specs.KeyMeans.{onto, pack, packs, keys_of, seek}
 use Rattle.words.proofs.KeyLaws.{every}
@@ -12,40 +13,40 @@ pub returns-in-7164775612281090662 : goal.returns-in-7164775612281090662
 unfolding list_of keys_of packs onto seek every one_of middle tail_in
 returns-in-7164775612281090662 c =
     let args = c.args in
-    word-at middle (keys_of 3) args.v args.rest (omega arith) (is_middle args.rest c.requires (omega arith)) (pack (bytes "frequency")) 0 _
-    c.in-7164775612281090662.is c.if_equal.ensures refl refl
+    word-at middle (keys_of list.WaveformRows) args.v args.rest (omega arith) (is_middle args.rest c.requires (omega arith)) (pack
+    (bytes "frequency")) 0 _ c.in-7164775612281090662.is c.if_equal.ensures refl refl
 
 pub returns-in-7238819972207635809 : goal.returns-in-7238819972207635809
 unfolding list_of keys_of packs onto seek every one_of middle tail_in
 returns-in-7238819972207635809 c =
     let args = c.args in
-    word-at middle (keys_of 3) args.v args.rest (omega arith) (is_middle args.rest c.requires (omega arith)) (pack (bytes "amplitude")) 1 _
-    c.in-7238819972207635809.is c.if_equal-in-7238819972207635809.ensures refl refl
+    word-at middle (keys_of list.WaveformRows) args.v args.rest (omega arith) (is_middle args.rest c.requires (omega arith)) (pack
+    (bytes "amplitude")) 1 _ c.in-7238819972207635809.is c.if_equal-in-7238819972207635809.ensures refl refl
 
 pub returns-in-7167869543647573348 : goal.returns-in-7167869543647573348
 unfolding list_of keys_of packs onto seek every one_of middle tail_in
 returns-in-7167869543647573348 c =
     let args = c.args in
-    word-at middle (keys_of 3) args.v args.rest (omega arith) (is_middle args.rest c.requires (omega arith)) (pack (bytes "duty_cycle")) 3 _
-    c.in-7167869543647573348.is c.if_equal-in-7167869543647573348.ensures refl refl
+    word-at middle (keys_of list.WaveformRows) args.v args.rest (omega arith) (is_middle args.rest c.requires (omega arith)) (pack
+    (bytes "duty_cycle")) 3 _ c.in-7167869543647573348.is c.if_equal-in-7167869543647573348.ensures refl refl
 
 pub returns-in-7308894094563962227 : goal.returns-in-7308894094563962227
 unfolding list_of keys_of packs onto seek every one_of middle tail_in
 returns-in-7308894094563962227 c =
     let args = c.args in
-    word-at middle (keys_of 3) args.v args.rest (omega arith) (is_middle args.rest c.requires (omega arith)) (pack (bytes "smoothness")) 5 _
-    c.in-7308894094563962227.is c.if_equal-in-7308894094563962227.ensures refl refl
+    word-at middle (keys_of list.WaveformRows) args.v args.rest (omega arith) (is_middle args.rest c.requires (omega arith)) (pack
+    (bytes "smoothness")) 5 _ c.in-7308894094563962227.is c.if_equal-in-7308894094563962227.ensures refl refl
 
 pub returns-in-7957695015158969700 : goal.returns-in-7957695015158969700
 unfolding list_of keys_of packs onto seek every one_of middle tail_in
 returns-in-7957695015158969700 c =
     let args = c.args in
-    word-at middle (keys_of 3) args.v args.rest (omega arith) (is_middle args.rest c.requires (omega arith)) (pack (bytes "duration")) 6 _
-    c.in-7957695015158969700.is c.if_equal-in-7957695015158969700.ensures refl refl
+    word-at middle (keys_of list.WaveformRows) args.v args.rest (omega arith) (is_middle args.rest c.requires (omega arith)) (pack
+    (bytes "duration")) 6 _ c.in-7957695015158969700.is c.if_equal-in-7957695015158969700.ensures refl refl
 
 pub returns-in_default : goal.returns-in_default
 unfolding list_of keys_of packs onto seek every one_of middle head_in heads
 returns-in_default c =
     let args = c.args in
-    no_head middle (keys_of 3) args.v args.rest (omega arith) (is_middle args.rest c.requires (omega arith)) refl
+    no_head middle (keys_of list.WaveformRows) args.v args.rest (omega arith) (is_middle args.rest c.requires (omega arith)) refl
     c.in_default.in_default-own.rest

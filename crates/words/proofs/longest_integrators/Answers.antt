@@ -3,6 +3,7 @@ use Prim.Native.Nat.{◌+◌, ◌*◌, ◌/◌}
 use mathlib.Core.Path.{refl}
 use native.Mathlib.Omega.{arith}
 use Rattle.text.specs.Bytes.{bytes, one_of}
+use Rattle.words.specs.declared.List.TheVariants as list
 use Rattle.words.specs.ListMeans.{list_of}
 use Rattle.words.specs.KeyMeans.{onto, pack, packs, keys_of, seek}
 use Rattle.words.proofs.KeyLaws.{every}
@@ -13,7 +14,7 @@ pub returns-in-8101247163220977011 : goal.returns-in-8101247163220977011
 unfolding list_of keys_of packs onto seek every one_of far tail_in
 returns-in-8101247163220977011 c =
     let args = c.args in
-    word-at far (keys_of 22) args.v (args.last * limb + args.rest) (omega arith) (is_far args.last args.rest c.requires) (pack
+    word-at far (keys_of list.Integrators) args.v (args.last * limb + args.rest) (omega arith) (is_far args.last args.rest c.requires) (pack
     (bytes "semi_implicit_euler")) 0 _ c.in-8101247163220977011.is (pair_is args.rest args.last (pack (bytes "semi_implicit_euler") / limb)
     0 _ (omega arith) c.if_long.ensures) refl refl
 
@@ -21,5 +22,5 @@ pub returns-in_default : goal.returns-in_default
 unfolding list_of keys_of packs onto seek every one_of far head_in heads
 returns-in_default c =
     let args = c.args in
-    no_head far (keys_of 22) args.v (args.last * limb + args.rest) (omega arith) (is_far args.last args.rest c.requires) refl
+    no_head far (keys_of list.Integrators) args.v (args.last * limb + args.rest) (omega arith) (is_far args.last args.rest c.requires) refl
     c.in_default.in_default-own.rest

@@ -3,6 +3,7 @@ use Prim.Native.Nat.{◌+◌, ◌*◌, ◌/◌}
 use mathlib.Core.Path.{refl}
 use native.Mathlib.Omega.{arith}
 use Rattle.text.specs.Bytes.{bytes, one_of}
+use Rattle.words.specs.declared.List.TheVariants as list
 use Rattle.words.specs.ListMeans.{list_of}
 use Rattle.words.specs.KeyMeans.{onto, pack, packs, keys_of, seek}
 use Rattle.words.proofs.KeyLaws.{every}
@@ -13,7 +14,7 @@ pub returns-in-6877671075738645619 : goal.returns-in-6877671075738645619
 unfolding list_of keys_of packs onto seek every one_of far tail_in
 returns-in-6877671075738645619 c =
     let args = c.args in
-    word-at far (keys_of 24) args.v (args.last * limb + args.rest) (omega arith) (is_far args.last args.rest c.requires) (pack
+    word-at far (keys_of list.Presets) args.v (args.last * limb + args.rest) (omega arith) (is_far args.last args.rest c.requires) (pack
     (bytes "stagger_children")) 16 _ c.in-6877671075738645619.is (pair_is args.rest args.last (pack (bytes "stagger_children") / limb) 16 _
     (omega arith) c.if_long.ensures) refl refl
 
@@ -21,5 +22,5 @@ pub returns-in_default : goal.returns-in_default
 unfolding list_of keys_of packs onto seek every one_of far head_in heads
 returns-in_default c =
     let args = c.args in
-    no_head far (keys_of 24) args.v (args.last * limb + args.rest) (omega arith) (is_far args.last args.rest c.requires) refl
+    no_head far (keys_of list.Presets) args.v (args.last * limb + args.rest) (omega arith) (is_far args.last args.rest c.requires) refl
     c.in_default.in_default-own.rest

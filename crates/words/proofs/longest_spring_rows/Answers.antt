@@ -3,6 +3,7 @@ use Prim.Native.Nat.{◌+◌, ◌*◌, ◌/◌}
 use mathlib.Core.Path.{refl}
 use native.Mathlib.Omega.{arith}
 use Rattle.text.specs.Bytes.{bytes, one_of}
+use Rattle.words.specs.declared.List.TheVariants as list
 use Rattle.words.specs.ListMeans.{list_of}
 use Rattle.words.specs.KeyMeans.{onto, pack, packs, keys_of, seek}
 use Rattle.words.proofs.KeyLaws.{every}
@@ -13,7 +14,7 @@ pub returns-in-7809632533412934243 : goal.returns-in-7809632533412934243
 unfolding list_of keys_of packs onto seek every one_of far tail_in
 returns-in-7809632533412934243 c =
     let args = c.args in
-    word-at far (keys_of 2) args.v (args.last * limb + args.rest) (omega arith) (is_far args.last args.rest c.requires) (pack
+    word-at far (keys_of list.SpringRows) args.v (args.last * limb + args.rest) (omega arith) (is_far args.last args.rest c.requires) (pack
     (bytes "critically_damped")) 7 _ c.in-7809632533412934243.is (pair_is args.rest args.last (pack (bytes "critically_damped") / limb) 7 _
     (omega arith) c.if_long.ensures) refl refl
 
@@ -21,5 +22,5 @@ pub returns-in_default : goal.returns-in_default
 unfolding list_of keys_of packs onto seek every one_of far head_in heads
 returns-in_default c =
     let args = c.args in
-    no_head far (keys_of 2) args.v (args.last * limb + args.rest) (omega arith) (is_far args.last args.rest c.requires) refl
+    no_head far (keys_of list.SpringRows) args.v (args.last * limb + args.rest) (omega arith) (is_far args.last args.rest c.requires) refl
     c.in_default.in_default-own.rest

@@ -2,6 +2,7 @@
 use mathlib.Core.Path.{refl}
 use native.Mathlib.Omega.{arith}
 use Rattle.text.specs.Bytes.{bytes, one_of}
+use Rattle.words.specs.declared.List.TheVariants as list
 use Rattle.words.specs.ListMeans.{list_of}
 use Rattle.words.specs.KeyMeans.{onto, pack, packs, keys_of, seek}
 use Rattle.words.proofs.KeyLaws.{every}
@@ -10,12 +11,12 @@ use Rattle.words.proofs.short_color_rows.Goals as goal
 
 pub returns-in-1534970654835 : goal.returns-in-1534970654835
 unfolding list_of keys_of packs onto seek
-returns-in-1534970654835 c = key_at (keys_of 6) c.args.v (pack (bytes "space")) 1 c.in-1534970654835.is refl
+returns-in-1534970654835 c = key_at (keys_of list.ColorRows) c.args.v (pack (bytes "space")) 1 c.in-1534970654835.is refl
 
 pub returns-in-395198889943397 : goal.returns-in-395198889943397
 unfolding list_of keys_of packs onto seek
-returns-in-395198889943397 c = key_at (keys_of 6) c.args.v (pack (bytes "easing")) 2 c.in-395198889943397.is refl
+returns-in-395198889943397 c = key_at (keys_of list.ColorRows) c.args.v (pack (bytes "easing")) 2 c.in-395198889943397.is refl
 
 pub returns-in_default : goal.returns-in_default
 unfolding list_of keys_of packs onto seek every one_of short_in shorts
-returns-in_default c = no_key (keys_of 6) c.args.v refl c.in_default.in_default-own.rest (omega arith)
+returns-in_default c = no_key (keys_of list.ColorRows) c.args.v refl c.in_default.in_default-own.rest (omega arith)

@@ -4,4 +4,4 @@ use Rattle.back_copying.proofs.CopyLaws.{under_name}
 use Rattle.back_copying.proofs.fields.copy_f32_field.Goals as goal
 
 pub returns : goal.returns
-returns c = λ n e. under_name n f32 e c.put_field-p.ensures c.copy_f32.ensures
+returns c = λ n e. under_name n f32 e c.put_field.ensures c.copy_f32.ensures

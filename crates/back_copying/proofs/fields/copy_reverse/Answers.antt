@@ -6,19 +6,13 @@ use Rattle.fresh.specs.Fresh.{spell, truth, field, only_true}
 use Rattle.back_copying.proofs.CopyLaws.{no_piece, one_piece, ◌and◌, called, read-put}
 use Rattle.back_copying.proofs.fields.copy_reverse.Goals as goal
 
-pub put_field-p-requires : goal.put_field-p-requires
-put_field-p-requires c = unfold word_like all in refl
-
-pub put_word-requires : goal.put_word-requires
-put_word-requires c = unfold word_like all in refl
-
 pub returns-then-x : goal.returns-then-x
 unfolding field truth
 returns-then-x c =
     read-put (λ b. field "reverse" truth (only_true b)) c.take_flag-x.ensures
     (rw c.if-x.true
-    (c.put_field-p.ensures and one_piece (spell "true") c.put_word.ensures))
+    (c.put_field.ensures and one_piece (spell "true") c.put_word.ensures))
 
-pub returns : goal.returns
+pub returns-else-x : goal.returns-else-x
 unfolding field
-returns c = read-put (λ b. field "reverse" truth (only_true b)) c.take_flag-x.ensures (rw c.if-x.false (called no_piece (λ ps. refl)))
+returns-else-x c = read-put (λ b. field "reverse" truth (only_true b)) c.take_flag-x.ensures (rw c.if-x.false (called no_piece (λ ps. refl)))

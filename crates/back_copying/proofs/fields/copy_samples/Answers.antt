@@ -14,12 +14,9 @@ returns-then-x-eq32 c =
     read-put (λ n. field "samples" u32 (unless_is 32 n)) c.take_field-x.ensures.reads
     (called no_piece (λ ps. rw (eq-eqb _ 32 c.if-x-eq32.true) refl))
 
-pub put_field-p-requires : goal.put_field-p-requires
-put_field-p-requires c = unfold word_like all in refl
-
 pub returns : goal.returns
 unfolding field unless_is u32
 returns c =
     read-put (λ n. field "samples" u32 (unless_is 32 n)) c.take_field-x.ensures.reads
-    (called (c.put_field-p.ensures and one_piece (a_numeral counted c.take_field-x.result.v) c.put_count.ensures)
+    (called (c.put_field.ensures and one_piece (a_numeral counted c.take_field-x.result.v) c.put_count.ensures)
     (λ ps. rw (ne_eqb _ 32 c.if-x-eq32.false) refl))

@@ -17,16 +17,13 @@ returns-then-x-eq0 c =
     read-put (λ k. field "space" (choose space_names) (unless_is 0 k)) c.take_byte-x.ensures.reads
     (called no_piece (λ ps. rw (eq-eqb _ 0 c.if-x-eq0.true) refl))
 
-pub put_field-p-requires : goal.put_field-p-requires
-put_field-p-requires c = unfold word_like all in refl
-
 pub put_choice-requires : goal.put_choice-requires
 unfolding all_words entries word_like all
-put_choice-requires c = (refl, omega (arith, c.take_byte-x.ensures.small), omega arith)
+put_choice-requires c = (refl, omega (arith, c.take_byte-x.ensures.small))
 
 pub returns : goal.returns
 unfolding field unless_is entries
 returns c =
     read-put (λ k. field "space" (choose space_names) (unless_is 0 k)) c.take_byte-x.ensures.reads
-    (called (c.put_field-p.ensures and c.put_choice.ensures space_names refl)
+    (called (c.put_field.ensures and c.put_choice.ensures space_names refl)
     (λ ps. rw (ne_eqb _ 0 c.if-x-eq0.false) refl))

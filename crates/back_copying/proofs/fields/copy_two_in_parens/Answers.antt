@@ -5,18 +5,9 @@ use Rattle.fresh.specs.Fresh.{mark}
 use Rattle.back_copying.proofs.CopyLaws.{in_front, behind, ◌then◌}
 use Rattle.back_copying.proofs.fields.copy_two_in_parens.Goals as goal
 
-pub put_mark-p-requires : goal.put_mark-p-requires
-put_mark-p-requires c = unfold one_of in refl
-
-pub put_mark-q-requires : goal.put_mark-q-requires
-put_mark-q-requires c = unfold one_of in refl
-
-pub put_mark-requires : goal.put_mark-requires
-put_mark-requires c = unfold one_of in refl
-
 pub returns : goal.returns
 returns c =
     behind (mark ")")
-    (in_front (mark "(") c.put_mark-p.ensures
-    (behind (mark ",") c.copy_f32-a.ensures c.put_mark-q.ensures then c.copy_f32-b.ensures))
-    c.put_mark.ensures
+    (in_front (mark "(") c.put_mark.ensures
+    (behind (mark ",") c.copy_f32-next.ensures c.put_mark-2.ensures then c.copy_f32-next-2.ensures))
+    c.put_mark-3.ensures

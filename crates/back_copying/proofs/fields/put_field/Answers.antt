@@ -6,8 +6,5 @@ use Rattle.fresh.specs.Fresh.{mark}
 use Rattle.back_copying.proofs.CopyLaws.{one_piece, ◌and◌}
 use Rattle.back_copying.proofs.fields.put_field.Goals as goal
 
-pub put_mark-requires : goal.put_mark-requires
-put_mark-requires c = unfold one_of in refl
-
 pub returns : goal.returns
-returns c = one_piece (a_word _) c.put_word-p.ensures and one_piece (mark ":") c.put_mark.ensures
+returns c = one_piece (a_word _) c.put_word.ensures and one_piece (mark ":") c.put_mark.ensures

@@ -8,16 +8,10 @@ use lib.ListN.{length}
 use Rattle.back_copying.proofs.CopyLaws.{renamed, in_front, behind, sized_copied}
 use Rattle.back_copying.proofs.values.copy_array.Goals as goal
 
-pub put_mark-p-requires : goal.put_mark-p-requires
-put_mark-p-requires c = unfold one_of in refl
-
-pub put_mark-requires : goal.put_mark-requires
-put_mark-requires c = unfold one_of in refl
-
 pub returns : goal.returns
 unfolding value
 returns c =
     renamed (sized_copied length (each word) c.take_field-count.ensures.reads
-    (behind (mark "]") (in_front (mark "[") c.put_mark-p.ensures c.copy_floats-x.ensures)
-    c.put_mark.ensures))
+    (behind (mark "]") (in_front (mark "[") c.put_mark.ensures c.copy_floats-next.ensures)
+    c.put_mark-2.ensures))
     (λ xs ps. refl)

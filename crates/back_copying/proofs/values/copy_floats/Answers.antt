@@ -19,5 +19,5 @@ returns c =
     let args = c.args in
     let h : args.n ≡ suc (args.n - 1) = omega (arith, c.if-n-eq0.false) in
     rw h
-    (one_copied more_floats floats (args.n - 1) (λ x xs ps. refl) c.copy_f32-x.ensures
+    (one_copied more_floats floats (args.n - 1) (λ x xs ps. refl) c.copy_f32-next.ensures
     c.copy_more_floats.ensures)

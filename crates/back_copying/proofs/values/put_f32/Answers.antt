@@ -10,10 +10,7 @@ use Rattle.back_copying.proofs.values.put_f32.Goals as goal
 pub returns-then-bits-lt2147483648 : goal.returns-then-bits-lt2147483648
 returns-then-bits-lt2147483648 c = called (one_piece (a_numeral float _) c.put_float.ensures) (positive _ c.if-bits-lt2147483648.true)
 
-pub put_mark-p-requires : goal.put_mark-p-requires
-put_mark-p-requires c = unfold one_of in refl
-
 pub returns : goal.returns
 returns c =
-    called (one_piece (mark "-") c.put_mark-p.ensures and one_piece (a_numeral float _) c.put_float-2.ensures)
+    called (one_piece (mark "-") c.put_mark.ensures and one_piece (a_numeral float _) c.put_float-2.ensures)
     (negated _ c.if-bits-lt2147483648.false)

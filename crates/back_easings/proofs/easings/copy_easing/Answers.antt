@@ -7,12 +7,6 @@ use Rattle.fresh.specs.Fresh.{easing}
 use Rattle.back_easings.proofs.PairLaws.{easing-case}
 use Rattle.back_easings.proofs.easings.copy_easing.Goals as goal
 
-pub copy_counted-requires : goal.copy_counted-requires
-copy_counted-requires c = unfold word_like all in refl
-
-pub copy_counted-requires-in-3 : goal.copy_counted-requires-in-3
-copy_counted-requires-in-3 c = unfold word_like all in refl
-
 pub returns-in-0 : goal.returns-in-0
 returns-in-0 c = easing-case _ 0 c.take_byte-k.ensures.reads c.in-0.is c.copy_named.ensures
 

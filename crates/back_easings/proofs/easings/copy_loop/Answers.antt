@@ -9,21 +9,6 @@ use Rattle.back_copying.proofs.CopyLaws.{one_piece, in_case}
 use Rattle.back_easings.proofs.PairLaws.{nothing_read}
 use Rattle.back_easings.proofs.easings.copy_loop.Goals as goal
 
-pub put_word-requires : goal.put_word-requires
-put_word-requires c = unfold word_like all in refl
-
-pub copy_counted-requires : goal.copy_counted-requires
-copy_counted-requires c = unfold word_like all in refl
-
-pub put_word-requires-in-2 : goal.put_word-requires-in-2
-put_word-requires-in-2 c = unfold word_like all in refl
-
-pub put_word-requires-in-3 : goal.put_word-requires-in-3
-put_word-requires-in-3 c = unfold word_like all in refl
-
-pub copy_counted-requires-in_default : goal.copy_counted-requires-in_default
-copy_counted-requires-in_default c = unfold word_like all in refl
-
 pub returns-in-0 : goal.returns-in-0
 unfolding loop_mode
 returns-in-0 c =

@@ -5,11 +5,8 @@ use Rattle.fresh.specs.Fresh.{mark}
 use Rattle.back_copying.proofs.CopyLaws.{no_piece, one_piece, called}
 use Rattle.back_easings.proofs.easings.put_comma.Goals as goal
 
-pub returns-then-first : goal.returns-then-first
-returns-then-first c = rw c.if-first.true (called no_piece (λ ps. refl))
+pub returns-else-not-first : goal.returns-else-not-first
+returns-else-not-first c = rw c.if-not-first.false (called no_piece (λ ps. refl))
 
-pub put_mark-requires : goal.put_mark-requires
-put_mark-requires c = unfold one_of in refl
-
-pub returns : goal.returns
-returns c = rw c.if-first.false (one_piece (mark ",") c.put_mark.ensures)
+pub returns-then-not-first : goal.returns-then-not-first
+returns-then-not-first c = rw c.if-not-first.true (one_piece (mark ",") c.put_mark.ensures)

@@ -8,18 +8,12 @@ use Rattle.fresh.specs.Fresh as fresh
 use Rattle.back_copying.proofs.CopyLaws.{one_piece, ◌and◌}
 use Rattle.back_easings.proofs.easings.put_named.Goals as goal
 
-pub put_word-p-requires : goal.put_word-p-requires
-put_word-p-requires c = unfold word_like all in refl
-
-pub put_pair-q-requires : goal.put_pair-q-requires
-put_pair-q-requires c = unfold one_of in (refl, refl)
-
 pub returns-then-variant : goal.returns-then-variant
 unfolding easing
 returns-then-variant c =
     rw c.if-variant.true
-    (one_piece (spell "Easing") c.put_word-p.ensures
-    and one_piece (fresh.two ":" ":") c.put_pair-q.ensures
+    (one_piece (spell "Easing") c.put_word.ensures
+    and one_piece (fresh.two ":" ":") c.put_pair.ensures
     and one_piece (a_name _) c.put_name.ensures)
 
 pub returns : goal.returns

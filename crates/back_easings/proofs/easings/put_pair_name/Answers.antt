@@ -6,11 +6,8 @@ use Rattle.fresh.specs.Fresh.{mark}
 use Rattle.back_copying.proofs.CopyLaws.{one_piece, ◌and◌}
 use Rattle.back_easings.proofs.easings.put_pair_name.Goals as goal
 
-pub put_mark-requires : goal.put_mark-requires
-put_mark-requires c = unfold one_of in refl
-
 pub returns : goal.returns
 returns c =
-    c.put_comma-p.ensures
+    c.put_comma.ensures
     and one_piece (a_word _) c.put_word.ensures
     and one_piece (mark ":") c.put_mark.ensures

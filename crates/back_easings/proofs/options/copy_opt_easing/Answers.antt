@@ -14,11 +14,8 @@ returns-then-k-eq0 c =
     is_absent (easing_form _) (λ o. field "easing" easing (option_sense c.args.text.now o)) c.take_byte-k.ensures
     c.if-k-eq0.true (λ ps. refl)
 
-pub put_field-p-requires : goal.put_field-p-requires
-put_field-p-requires c = unfold word_like all in refl
-
 pub returns : goal.returns
 unfolding field
 returns c =
     is_present (easing_form _) (λ o. field "easing" easing (option_sense c.args.text.now o)) c.take_byte-k.ensures
-    c.if-k-eq0.false (put-before c.put_field-p.ensures c.copy_easing.ensures)
+    c.if-k-eq0.false (put-before c.put_field.ensures c.copy_easing.ensures)

@@ -10,10 +10,7 @@ use Rattle.back_easings.proofs.patterns.copy_delay.Goals as goal
 pub returns-then-k-eq0 : goal.returns-then-k-eq0
 returns-then-k-eq0 c = is_absent word (delay_by c.args.first) c.take_byte-k.ensures c.if-k-eq0.true (λ ps. refl)
 
-pub put_pair_name-p-requires : goal.put_pair_name-p-requires
-put_pair_name-p-requires c = unfold word_like all in refl
-
 pub returns : goal.returns
 returns c =
     is_present word (delay_by c.args.first) c.take_byte-k.ensures c.if-k-eq0.false
-    (put-before c.put_pair_name-p.ensures c.copy_f32.ensures)
+    (put-before c.put_pair_name.ensures c.copy_f32.ensures)

@@ -10,10 +10,7 @@ pub returns-then-k-eq0 : goal.returns-then-k-eq0
 unfolding opening
 returns-then-k-eq0 c = opening_absent c.take_byte-k.ensures c.if-k-eq0.true c.copy_delay.ensures
 
-pub put_field-p-requires : goal.put_field-p-requires
-put_field-p-requires c = unfold word_like all in refl
-
 pub returns : goal.returns
 returns c =
-    opening_present c.take_byte-k.ensures c.if-k-eq0.false c.put_field-p.ensures
-    c.copy_pattern-x.ensures c.copy_delay-2.ensures
+    opening_present c.take_byte-k.ensures c.if-k-eq0.false c.put_field.ensures
+    c.copy_pattern-at.ensures c.copy_delay-2.ensures

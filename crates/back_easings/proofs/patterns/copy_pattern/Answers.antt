@@ -9,12 +9,6 @@ use Rattle.back_copying.proofs.CopyLaws.{one_piece, in_case}
 use Rattle.back_easings.proofs.PairLaws.{nothing_read}
 use Rattle.back_easings.proofs.patterns.copy_pattern.Goals as goal
 
-pub put_word-requires : goal.put_word-requires
-put_word-requires c = unfold word_like all in refl
-
-pub put_word-requires-in_default : goal.put_word-requires-in_default
-put_word-requires-in_default c = unfold word_like all in refl
-
 pub returns-in-0 : goal.returns-in-0
 returns-in-0 c =
     in_case patterns split_pattern pattern 0 c.take_byte-k.ensures.reads c.in-0.is

@@ -12,18 +12,15 @@ use Rattle.back_copying.specs.WordMeans.{all_words}
 use Rattle.back_easings.proofs.PairLaws.{omitted, not_omitted}
 use Rattle.back_easings.proofs.patterns.put_origin.Goals as goal
 
-pub returns-then-origin-eq4 : goal.returns-then-origin-eq4
-returns-then-origin-eq4 c = omitted false ("origin", choose origin_names c.args.origin) (eq-eqb _ _ c.if-origin-eq4.true)
-
-pub put_pair_name-requires : goal.put_pair_name-requires
-put_pair_name-requires c = unfold word_like all in refl
+pub returns-else-origin-ne4 : goal.returns-else-origin-ne4
+returns-else-origin-ne4 c = omitted false ("origin", choose origin_names c.args.origin) (eq-eqb _ _ c.if-origin-ne4.false)
 
 pub put_choice-requires : goal.put_choice-requires
 unfolding all_words entries word_like all
-put_choice-requires c = (refl, omega (arith, c.requires), omega arith)
+put_choice-requires c = (refl, omega (arith, c.requires))
 
-pub returns : goal.returns
+pub returns-then-origin-ne4 : goal.returns-then-origin-ne4
 unfolding entries
-returns c =
-    not_omitted false "origin" (choose origin_names c.args.origin) (ne_eqb _ _ c.if-origin-eq4.false) refl
+returns-then-origin-ne4 c =
+    not_omitted false "origin" (choose origin_names c.args.origin) (ne_eqb _ _ c.if-origin-ne4.true) refl
     c.put_pair_name.ensures (c.put_choice.ensures origin_names refl)

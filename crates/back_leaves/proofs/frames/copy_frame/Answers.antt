@@ -7,13 +7,10 @@ use Rattle.back_copying.proofs.CopyLaws.{behind, ◌then◌, made}
 use Rattle.back_leaves.specs.Means.{frame_of}
 use Rattle.back_leaves.proofs.frames.copy_frame.Goals as goal
 
-pub put_mark-requires : goal.put_mark-requires
-put_mark-requires c = unfold one_of in refl
-
 pub returns : goal.returns
 unfolding frame
 returns c =
     made to_entry of_entry (λ x. frame (frame_of c.args.text.now x))
-    (behind (mark ":") c.copy_time-t.ensures c.put_mark.ensures
-    then c.copy_value-v.ensures
+    (behind (mark ":") c.copy_time-at.ensures c.put_mark.ensures
+    then c.copy_value-at.ensures
     then c.copy_frame_easing.ensures)

@@ -1,4 +1,3 @@
-use Prim.Native.Nat.{◌-◌, ◌≤◌}
 use lib.ListN.{length}
 use Rattle.sheet.specs.Sheet.{entry_form}
 use Rattle.back_spelling.specs.Means.{page_of}
@@ -8,8 +7,4 @@ use Rattle.back_leaves.proofs.frames.copy_more_frames.Given as goal
 
 abbrev pub invariant-loop-k : goal.invariant-loop-k
 invariant-loop-k l =
-    (l.k ≤ l.n)
-    × Walked (entry_form (length l.text)) (λ xs. comma_frames (frames_of l.text xs)) l.s l.at l.n (page_of l.initial.out l.initial.p) (page_of l.out l.p) l.next l.k
-
-abbrev pub decreases-loop-k : goal.decreases-loop-k
-decreases-loop-k l = l.n - l.k
+    Walked (entry_form (length l.text)) (λ xs. comma_frames (frames_of l.text xs)) l.s l.at l.n (page_of l.fn.pen) (page_of l.pen) l.next l._k

@@ -37,6 +37,6 @@ returns c =
     (counted length (each (entry_form (length t))) c.take_field-count.ensures.reads
     (rw h
     (some_copied (λ xs. comma_frames (frames_of t xs)) (λ xs. joined_frames (frames_of t xs)) (v - 1) (λ x xs ps. refl)
-    c.copy_frame-x.ensures c.copy_more_frames-more.ensures)))
-    (c.copy_more_frames-more.ensures.kept ∙ c.copy_frame-x.ensures.kept)
+    c.copy_frame-at.ensures c.copy_more_frames-at.ensures)))
+    (c.copy_more_frames-at.ensures.kept ∙ c.copy_frame-at.ensures.kept)
     c.copy_track_loop-2.ensures

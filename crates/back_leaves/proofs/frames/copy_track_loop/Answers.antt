@@ -11,11 +11,8 @@ use Rattle.back_leaves.proofs.frames.copy_track_loop.Goals as goal
 pub returns-then-k-eq0 : goal.returns-then-k-eq0
 returns-then-k-eq0 c = is_absent loop_form (loop_by c.args.first) c.take_byte-k.ensures c.if-k-eq0.true (λ ps. refl)
 
-pub put_field-p-requires : goal.put_field-p-requires
-put_field-p-requires c = unfold word_like all in refl
-
 pub returns : goal.returns
 unfolding track_loop
 returns c =
     is_present loop_form (loop_by c.args.first) c.take_byte-k.ensures c.if-k-eq0.false
-    (put-before (c.put_comma.ensures and c.put_field-p.ensures) c.copy_loop.ensures)
+    (put-before (c.put_comma.ensures and c.put_field.ensures) c.copy_loop.ensures)

@@ -8,24 +8,15 @@ use Rattle.back_copying.proofs.CopyLaws.{one_piece, ◌and◌, called}
 use Rattle.back_leaves.proofs.ThenLaws.{percent-plain, percent-negated}
 use Rattle.back_leaves.proofs.frames.put_percentage.Goals as goal
 
-pub put_mark-requires : goal.put_mark-requires
-put_mark-requires c = unfold one_of in refl
-
 pub returns-then-bits-lt2147483648 : goal.returns-then-bits-lt2147483648
 returns-then-bits-lt2147483648 c =
     called (one_piece (a_numeral percentage c.args.bits) c.put_percent.ensures
     and one_piece (mark "%") c.put_mark.ensures)
     (percent-plain _ c.if-bits-lt2147483648.true)
 
-pub put_mark-p-requires : goal.put_mark-p-requires
-put_mark-p-requires c = unfold one_of in refl
-
-pub put_mark-requires-2 : goal.put_mark-requires-2
-put_mark-requires-2 c = unfold one_of in refl
-
 pub returns : goal.returns
 returns c =
-    called (one_piece (mark "-") c.put_mark-p.ensures
+    called (one_piece (mark "-") c.put_mark-2.ensures
     and one_piece (a_numeral percentage _) c.put_percent-2.ensures
-    and one_piece (mark "%") c.put_mark-2.ensures)
+    and one_piece (mark "%") c.put_mark-3.ensures)
     (percent-negated _ c.if-bits-lt2147483648.false)

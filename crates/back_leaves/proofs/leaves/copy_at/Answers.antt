@@ -9,12 +9,9 @@ use Rattle.back_easings.proofs.PairLaws.{two-read}
 use Rattle.back_leaves.specs.Means.{body}
 use Rattle.back_leaves.proofs.leaves.copy_at.Goals as goal
 
-pub put_mark-requires : goal.put_mark-requires
-put_mark-requires c = unfold one_of in refl
-
 pub returns : goal.returns
 unfolding leaf_body
 returns c =
     λ t. made to_at of_at (λ d. body t (Tree.at d))
     (two-read (λ x. body t (Tree.at (to_at x))) c.take_field-value.ensures.reads c.take_flag-relative.ensures
-    (c.put_at-p.ensures and one_piece (mark ";") c.put_mark.ensures))
+    (c.put_at.ensures and one_piece (mark ";") c.put_mark.ensures))

@@ -5,9 +5,6 @@ use Rattle.fresh.specs.Fresh.{mark, leaf_body}
 use Rattle.back_copying.proofs.CopyLaws.{behind}
 use Rattle.back_leaves.proofs.leaves.copy_label.Goals as goal
 
-pub put_mark-requires : goal.put_mark-requires
-put_mark-requires c = unfold one_of in refl
-
 pub returns : goal.returns
 unfolding leaf_body
-returns c = behind (mark ";") c.copy_string-x.ensures c.put_mark.ensures
+returns c = behind (mark ";") c.copy_string-at.ensures c.put_mark.ensures

@@ -17,12 +17,6 @@ returns-then-k-eq0 c =
     is_absent (easing_form _) (λ o. preset_fields none (option_sense c.args.text.now o)) c.take_byte-k.ensures
     c.if-k-eq0.true (λ ps. refl)
 
-pub put_mark-requires : goal.put_mark-requires
-put_mark-requires c = unfold one_of in refl
-
-pub put_field-p-requires : goal.put_field-p-requires
-put_field-p-requires c = unfold word_like all in refl
-
 pub returns : goal.returns
 unfolding comma_if field
 returns c =
@@ -31,5 +25,5 @@ returns c =
     (λ o. preset_fields none (option_sense c.args.text.now o))
     c.take_byte-k.ensures
     c.if-k-eq0.false
-    (put-before (one_piece (mark ",") c.put_mark.ensures and c.put_field-p.ensures)
+    (put-before (one_piece (mark ",") c.put_mark.ensures and c.put_field.ensures)
     c.copy_easing.ensures)

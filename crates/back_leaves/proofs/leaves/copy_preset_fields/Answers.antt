@@ -18,12 +18,6 @@ returns-then-k-eq0 c =
     none_then word (λ x. preset_fields x.0 (option_sense c.args.text.now x.1)) c.take_byte-k.ensures
     c.if-k-eq0.true c.copy_only_easing.ensures
 
-pub put_mark-requires : goal.put_mark-requires
-put_mark-requires c = unfold one_of in refl
-
-pub copy_f32_field-duration-requires : goal.copy_f32_field-duration-requires
-copy_f32_field-duration-requires c = unfold word_like all in refl
-
 pub returns : goal.returns
 unfolding comma_if
 returns c =
@@ -35,5 +29,5 @@ returns c =
     (λ a y ps. refl)
     c.take_byte-k.ensures
     c.if-k-eq0.false
-    (in_front (mark ",") c.put_mark.ensures (c.copy_f32_field-duration.ensures "duration" refl))
+    (in_front (mark ",") c.put_mark.ensures (c.copy_f32_field-at.ensures "duration" refl))
     c.copy_opt_easing.ensures

@@ -7,9 +7,6 @@ use Rattle.fresh.specs.Fresh.{mark, at_value}
 use Rattle.back_copying.proofs.CopyLaws.{one_piece, ◌and◌}
 use Rattle.back_leaves.proofs.leaves.put_at.Goals as goal
 
-pub put_mark-requires : goal.put_mark-requires
-put_mark-requires c = unfold one_of in refl
-
 pub returns-then-relative : goal.returns-then-relative
 unfolding at_value
 returns-then-relative c = rw c.if-relative.true (one_piece (mark "+") c.put_mark.ensures and c.put_f32.ensures)

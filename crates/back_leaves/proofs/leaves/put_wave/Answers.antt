@@ -14,7 +14,7 @@ use Rattle.back_leaves.proofs.leaves.put_wave.Goals as goal
 
 pub put_choice-requires : goal.put_choice-requires
 unfolding all_words entries word_like all
-put_choice-requires c = (refl, omega (arith, c.if-kind-lt4.true), omega arith)
+put_choice-requires c = (refl, omega (arith, c.if-kind-lt4.true))
 
 pub returns-then-kind-lt4 : goal.returns-then-kind-lt4
 unfolding entries

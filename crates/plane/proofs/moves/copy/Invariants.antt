@@ -1,9 +1,5 @@
-use Prim.Native.Nat.{◌-◌, ◌≤◌}
 use Rattle.plane.proofs.MoveLaws.{Copied}
 use Rattle.plane.proofs.moves.copy.Given as goal
 
 abbrev pub invariant-loop-m : goal.invariant-loop-m
-invariant-loop-m l = (l.m ≤ l.k) × Copied l.src l.from l.initial.out l.to l.k l.m l.out
-
-abbrev pub decreases-loop-m : goal.decreases-loop-m
-decreases-loop-m l = l.k - l.m
+invariant-loop-m l = Copied l.src l.from l.initial.out l.to l.k l.m l.out

@@ -1,6 +1,0 @@
--- `plane::carry` meets its contract: 32, or all is moved.
-use Rattle.plane.proofs.AnswerLaws.{carried_all}
-use Rattle.plane.proofs.carry.Goals as goal
-
-pub returns : goal.returns
-returns c = λ k. carried_all k c.if-out-src.false c.move_all.ensures
