@@ -3,7 +3,7 @@
 // contract holds for every n, a form's bound for reading (the text's length, a number of cases), n is not written.
 #![tactic(auto)]
 
-ghost use Rattle.std.specs.Prelude.{◌≡◌, cond, [], ◌∷◌, ◌++◌, ℕ, ◌+◌, ◌-◌, ◌^◌, ◌≤◌, ◌<◌, length, take, replicate};
+ghost use Rattle.std.specs.Prelude.{◌≡◌, [], ◌∷◌, ◌++◌, ℕ, ◌+◌, ◌-◌, ◌^◌, ◌≤◌, ◌<◌, length, take, replicate};
 ghost use Rattle.number.specs.Number.{bits};
 ghost use Rattle.codec.specs.Codec.{big, below, opt, ◌▹◌};
 ghost use Rattle.ast.specs.Tree.{scalar, named, cubic_bezier};
@@ -30,12 +30,10 @@ fn put_clipped(sheet: &mut [u8], at: usize, width: usize, v: usize) -> usize
     requires { at + width < 2 ^ 34 }
     ensures { Writes sheet.old at ((big width).write v) sheet.new result }
 {
-    let mut k = width;
-    let mut w = v;
-    while 0 < k {
-        k -= 1;
-        text::put(sheet, at + k, (w % 256) as u8);
-        w = w / 256;
+    let mut rest = v;
+    for k in (0..width).rev() {
+        text::put(sheet, at + k, (rest % 256) as u8);
+        rest /= 256;
     }
     at + width
 }
@@ -45,12 +43,10 @@ fn put_whole(sheet: &mut [u8], at: usize, width: usize, v: usize) -> usize
     requires { (at + width < 2 ^ 34) × (at + width ≤ length sheet.old) }
     ensures { Writes sheet.old at ((big width).write v) sheet.new result }
 {
-    let mut k = width;
-    let mut w = v;
-    while 0 < k {
-        k -= 1;
-        sheet[at + k] = (w % 256) as u8;
-        w = w / 256;
+    let mut rest = v;
+    for k in (0..width).rev() {
+        sheet[at + k] = (rest % 256) as u8;
+        rest /= 256;
     }
     at + width
 }
@@ -82,19 +78,12 @@ pub fn put_front(sheet: &mut [u8], at: usize, kind: u8, start: usize) -> usize
     put_field(sheet, at, 3, kind as usize * 65536 + start % 65536)
 }
 
-// A truth value as a byte.
-fn bit(b: bool) -> u8
-    ensures { result ≡ cond b 1 0 }
-{
-    if b { 1 } else { 0 }
-}
-
 // Writes a truth value.
 pub fn put_flag(sheet: &mut [u8], at: usize, b: bool) -> usize
     requires { at < 2 ^ 33 }
     ensures { Writes sheet.old at (flag.write b) sheet.new result }
 {
-    put_byte(sheet, at, bit(b))
+    put_byte(sheet, at, u8::from(b))
 }
 
 // Writes a u32.
@@ -370,9 +359,7 @@ pub fn put_opt_pattern(sheet: &mut [u8], at: usize, o: Option<StaggerPatternSpec
 pub fn clear(sheet: &mut [u8], from: usize)
     ensures { sheet.new ≡ take from sheet.old ++ replicate (length sheet.old - from) 0 }
 {
-    let mut i = from;
-    while i < sheet.len() {
-        sheet[i] = 0;
-        i += 1;
+    if from < sheet.len() {
+        sheet[from..].fill(0);
     }
 }

@@ -1,5 +1,5 @@
 -- What the walk over a sheet, planed or not, tells. Contracts cite this, and no reader needs to believe it.
-use Rattle.std.specs.Prelude.{◌≡◌, ℕ, ◌%◌, ◌^◌, Bool, true, false, List, length}
+use Rattle.std.specs.Prelude.{◌≡◌, ℕ, ◌%◌, ◌^◌, Bool, true, false, List, length, Some, None, Option as Optional}
 use Rattle.std.proofs.Math.Option.{Option, none, some}
 use Rattle.codec.specs.Codec.{Form}
 use Rattle.ast.specs.Tree.{ValueExpr, scalar, array, KeyframeTime, KeyframeEntry, single, holding}
@@ -9,7 +9,6 @@ use Rattle.sheet_records.specs.declared.Kind.{Kind}
 use Rattle.sheet.specs.Sheet.{node_form_of, sheet_of}
 use Rattle.planed.specs.Planes.{frame_numbers, leaf_numbers, numbers_of}
 use Rattle.sheet_shape.specs.declared.Shape.{Shape}
-use Rattle.sheet_shape.specs.declared.Shape.TheVariants.{Nothing, Of}
 
 -- whether a frame's value is one of its numbers
 abbrev pub is_scalar : ValueExpr → Bool
@@ -45,7 +44,7 @@ abbrev pub node_view : Node → Kind × ℕ
 node_view x = (kind_view x, node_tally x)
 
 -- what bytes stand for: nothing, or a tree, with the length of what stays of its sheet and the count of its numbers
-abbrev pub ShapeMeans : ℕ → Option Forest → Shape → Type 0
-ShapeMeans n o Nothing = o ≡ none
-ShapeMeans n o (Of rest numbers) =
-    (ns : Forest) × (o ≡ some ns) × (rest ≡ length ((sheet_of 0 n).write ns)) × (numbers ≡ length (numbers_of ns))
+abbrev pub ShapeMeans : ℕ → Option Forest → Optional Shape → Type 0
+ShapeMeans n o None = o ≡ none
+ShapeMeans n o (Some x) =
+    (ns : Forest) × (o ≡ some ns) × (x.rest ≡ length ((sheet_of 0 n).write ns)) × (x.numbers ≡ length (numbers_of ns))

@@ -9,48 +9,48 @@ use crate::walk::pass_sheet;
 
 pub mod walk;
 
-// No sheet; or how many bytes stay of it, and how many numbers are taken.
+// How many bytes of a sheet stay, and how many numbers are taken.
 #[derive(Clone, Copy)]
-pub enum Shape {
-    Nothing,
-    Of { rest: usize, numbers: usize },
+pub struct Shape {
+    pub rest: usize,
+    pub numbers: usize,
 }
 
-pub fn sheet_shape(s: &[u8], n: usize) -> Shape
+pub fn sheet_shape(s: &[u8], n: usize) -> Option<Shape>
     ensures { ShapeMeans n (decode n s.now) result }
 {
     if 65535 < s.len() {
-        return Shape::Nothing;
+        return None;
     }
     let t = pass_sheet(s, n, 4);
     if t.next != s.len() {
-        return Shape::Nothing;
+        return None;
     }
-    Shape::Of {
+    Some(Shape {
         rest: s.len() - 4 * t.numbers,
         numbers: t.numbers,
-    }
+    })
 }
 
-pub fn planed_shape(s: &[u8], n: usize) -> Shape
+pub fn planed_shape(s: &[u8], n: usize) -> Option<Shape>
     ensures { ShapeMeans n (unplaned n s.now) result }
 {
     if 65535 < s.len() {
-        return Shape::Nothing;
+        return None;
     }
     let t = pass_sheet(s, n, 0);
     if s.len() < t.next {
-        return Shape::Nothing;
+        return None;
     }
     let left = s.len() - t.next;
     if left / 4 != t.numbers {
-        return Shape::Nothing;
+        return None;
     }
     if left % 4 != 0 {
-        return Shape::Nothing;
+        return None;
     }
-    Shape::Of {
+    Some(Shape {
         rest: t.next,
         numbers: t.numbers,
-    }
+    })
 }

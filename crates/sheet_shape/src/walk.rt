@@ -8,9 +8,9 @@ ghost use Rattle.sheet.specs.Sheet.{value_form_of, entry_form_of, node_form_of, 
 ghost use Rattle.sheet_shape.specs.Means.{is_scalar, scalar_frame, frame_tally, node_tally, tally, record_form_of, node_view};
 
 use sheet_decode::fields::{lost, skip_words, take_byte, take_field, take_kind, take_span};
-use sheet_decode::optional::{take_opt_easing, take_opt_loop};
+use sheet_decode::optional::take_opt;
+use sheet_decode::values::{take_easing, take_loop};
 use sheet_records::{Kind, take_record};
-use std::num::wrapping_add_usize;
 
 // A frame's value, or a frame: whether the value is a scalar.
 #[derive(Clone, Copy)]
@@ -63,7 +63,7 @@ pub fn take_frame(s: &[u8], at: usize, n: usize, w: usize) -> FrameRead
     let kind = take_byte(s, at, 2);
     let time = take_field(s, kind.next, w);
     let value = take_frame_value(s, time.next, w);
-    let easing = take_opt_easing(s, value.next, n);
+    let easing = take_opt(s, value.next, |a| take_easing(s, a, n));
     FrameRead {
         scalar: value.scalar,
         next: easing.next,
@@ -74,10 +74,7 @@ pub fn take_frame(s: &[u8], at: usize, n: usize, w: usize) -> FrameRead
 pub fn numbers_of(scalar: bool) -> usize
     ensures { result ≡ (if scalar then 2 else 1) }
 {
-    if scalar {
-        return 2;
-    }
-    1
+    if scalar { 2 } else { 1 }
 }
 
 // So many frames.
@@ -85,16 +82,14 @@ pub fn take_frames(s: &[u8], at: usize, n: usize, w: usize, count: usize) -> Tal
     requires { w ≤ 4 }
     ensures { Reads (each (entry_form_of w n) count) frame_tally s.now at result.numbers result.next }
 {
-    let mut k: usize = 0;
-    let mut a = at;
+    let mut next = at;
     let mut numbers: usize = 0;
-    while k < count {
-        let f = take_frame(s, a, n, w);
-        numbers = wrapping_add_usize(numbers, numbers_of(f.scalar));
-        a = f.next;
-        k += 1;
+    for _ in 0..count {
+        let frame = take_frame(s, next, n, w);
+        numbers = numbers.wrapping_add(numbers_of(frame.scalar));
+        next = frame.next;
     }
-    Tally { numbers, next: a }
+    Tally { numbers, next }
 }
 
 // A record alone.
@@ -107,7 +102,7 @@ pub fn take_node(s: &[u8], at: usize, n: usize, w: usize) -> NodeRead
         let target = take_span(s, k.next, n);
         let count = take_field(s, target.next, 2);
         let frames = take_frames(s, count.next, n, w, count.v as usize);
-        let loop_mode = take_opt_loop(s, frames.next);
+        let loop_mode = take_opt(s, frames.next, |a| take_loop(s, a));
         return NodeRead {
             v: Kind::Leaf,
             numbers: frames.numbers,
@@ -115,9 +110,8 @@ pub fn take_node(s: &[u8], at: usize, n: usize, w: usize) -> NodeRead
         };
     }
     let r = take_record(s, at, n);
-    let v = r.v;
     NodeRead {
-        v,
+        v: r.v,
         numbers: 0,
         next: r.next,
     }
@@ -136,8 +130,7 @@ fn pass_node(s: &[u8], at: usize, n: usize, w: usize, depth: usize) -> Tally
         };
     }
     let r = take_node(s, at, n, w);
-    let kind = r.v;
-    match kind {
+    match r.v {
         Kind::Leaf => Tally {
             numbers: r.numbers,
             next: r.next,
@@ -160,16 +153,14 @@ fn pass_nodes(s: &[u8], at: usize, n: usize, w: usize, depth: usize, count: usiz
     requires { w ≤ 4 }
     ensures { Reads (forest_of w n (inner_of w n depth) count) tally s.now at result.numbers result.next }
 {
-    let mut a = at;
-    let mut k: usize = 0;
+    let mut next = at;
     let mut numbers: usize = 0;
-    while k < count {
-        let r = pass_node(s, a, n, w, depth);
-        numbers = wrapping_add_usize(numbers, r.numbers);
-        a = r.next;
-        k += 1;
+    for _ in 0..count {
+        let node = pass_node(s, next, n, w, depth);
+        numbers = numbers.wrapping_add(node.numbers);
+        next = node.next;
     }
-    Tally { numbers, next: a }
+    Tally { numbers, next }
 }
 
 // Past a head and its nodes.

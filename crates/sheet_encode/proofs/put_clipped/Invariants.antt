@@ -2,7 +2,4 @@ use Rattle.sheet_encode.proofs.FieldLaws.{Filling}
 use Rattle.sheet_encode.proofs.put_clipped.Given as goal
 
 abbrev pub invariant-loop-k : goal.invariant-loop-k
-invariant-loop-k l = Filling l.initial.sheet l.at l.width l.v l.sheet l.k l.w
-
-abbrev pub decreases-loop-k : goal.decreases-loop-k
-decreases-loop-k l = l.k
+invariant-loop-k l = Filling l.initial.sheet l.at l.width l.v l.sheet l.k l.rest

@@ -1,5 +1,4 @@
 -- `sheet_encode::put_opt_case` meets its contract.
-use Rattle.std.specs.Prelude.{Some}
 use Rattle.sheet_encode.proofs.OverLaws.{writes_then}
 use Rattle.sheet_encode.proofs.put_opt_case.Goals as goal
 

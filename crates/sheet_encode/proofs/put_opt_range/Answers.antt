@@ -1,5 +1,4 @@
 -- `sheet_encode::put_opt_range` meets its contract.
-use Rattle.std.specs.Prelude.{Some}
 use Rattle.sheet_encode.proofs.put_opt_range.Goals as goal
 
 pub returns-in-Some : goal.returns-in-Some

@@ -1,5 +1,5 @@
 -- `sheet_shape::walk::pass_node` and `sheet_shape::walk::pass_nodes` meet their contracts: a node is its record and then the nodes in it.
-use Rattle.std.proofs.Common.{arith}
+use Rattle.std.proofs.Common.{arith, refl}
 use Rattle.sheet.specs.Sheet.{inner_of}
 use Rattle.sheet_shape.proofs.FrameLaws.{wrap_lt}
 use Rattle.sheet_shape.proofs.NodeLaws as laws
@@ -30,33 +30,31 @@ pass_node-returns-else-depth-eq0 t c =
     (rw c.in-Container.is at c.take_node-r.ensures)
     c.pass_nodes.ensures
 
-pub pass_nodes-loop-k-init : goal.pass_nodes-loop-k-init
-pass_nodes-loop-k-init t c =
+pub pass_nodes-loop-init : goal.pass_nodes-loop-init
+pass_nodes-loop-init t c =
     let w = c.args.w in
     let n = c.args.n in (
-      omega arith,
       omega arith,
       omega arith,
       laws.going_start w n (inner_of w n c.args.depth) c.args.s.now c.args.at c.args.count,
     )
 
-pub pass_nodes-pass_node-r-requires : goal.pass_nodes-pass_node-r-requires
-pass_nodes-pass_node-r-requires t c = (omega (arith, c.loop-k.invariant.1), c.requires)
+pub pass_nodes-pass_node-node-requires : goal.pass_nodes-pass_node-node-requires
+pass_nodes-pass_node-node-requires t c = (omega (arith, c.loop.invariant.0), c.requires)
 
-pub pass_nodes-loop-k-preserved : goal.pass_nodes-loop-k-preserved
-pass_nodes-loop-k-preserved t c =
+pub pass_nodes-loop-preserved : goal.pass_nodes-loop-preserved
+pass_nodes-loop-preserved t c =
     let w = c.args.w in
     let n = c.args.n in (
-      omega arith,
-      omega (arith, laws.nearer c.pass_node-r.ensures, c.loop-k.invariant.1),
-      wrap_lt _ _ c.wrapping_add_usize-numbers.ensures.value,
-      laws.going_next w n (inner_of w n c.args.depth) _ _ _ _ _ _ _ _ _ c.loop-k-test.true
-          c.pass_node-r.ensures
-          c.wrapping_add_usize-numbers.ensures.value c.loop-k.invariant.3,
+      omega (arith, laws.nearer c.pass_node-node.ensures, c.loop.invariant.0),
+      wrap_lt _ _ refl,
+      laws.going_next w n (inner_of w n c.args.depth) _ _ _ _ _ _ _ _ _ c.loop-test.true
+          c.pass_node-node.ensures
+          refl c.loop.invariant.2,
     )
 
 pub pass_nodes-returns : goal.pass_nodes-returns
 pass_nodes-returns t c =
     let w = c.args.w in
     let n = c.args.n in
-    laws.going_done w n (inner_of w n c.args.depth) _ _ _ _ _ _ c.loop-k-test.false c.loop-k.invariant.2 c.loop-k.invariant.3
+    laws.going_done w n (inner_of w n c.args.depth) _ _ _ _ _ _ c.loop-test.false c.loop.invariant.1 c.loop.invariant.2

@@ -10,10 +10,7 @@ decreases-pass_node l = 2 * (length l.s.now - l.at)
 abbrev pub decreases-pass_nodes : goal.decreases-pass_nodes
 decreases-pass_nodes l = 2 * (length l.s.now - l.at) + 1
 
-abbrev pub invariant-pass_nodes-loop-k : goal.invariant-pass_nodes-loop-k
-invariant-pass_nodes-loop-k l =
-    (l.k ≤ l.count) × (length l.s - l.a ≤ length l.s - l.at) × (l.numbers < 2 ^ 64)
-    × laws.Going l.w l.n (inner_of l.w l.n l.depth) l.s l.at l.count l.a l.k l.numbers
-
-abbrev pub decreases-pass_nodes-loop-k : goal.decreases-pass_nodes-loop-k
-decreases-pass_nodes-loop-k l = l.count - l.k
+abbrev pub invariant-pass_nodes-loop : goal.invariant-pass_nodes-loop
+invariant-pass_nodes-loop l =
+    (length l.s - l.next ≤ length l.s - l.at) × (l.numbers < 2 ^ 64)
+    × laws.Going l.w l.n (inner_of l.w l.n l.depth) l.s l.at l.count l.next l.counter l.numbers
