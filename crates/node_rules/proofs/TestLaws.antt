@@ -70,7 +70,7 @@ pub range_start : {x y : Float} {q : Bool} → q ≡ true → Tells f32 outside_
     → Tells opt_range_view (given outside) (Some (x, y)) true
 range_start h t none e = let z : ◌≡◌ {A = ℕ} 0 1 = cc in absurd (omega arith)
 range_start {x = x} {y = y} h t (some p) e =
-    let z = sym (t p.0 (ap (λ o. (unwrap_or o (x, y)).0) e)) ∙ h in
+    let z = sym (t p.0 (ap (λ o. (unwrap_or {T = Float × Float} o (x, y)).0) e)) ∙ h in
     rw z
 
 pub range_end : {x y : Float} {q r : Bool} → q ≡ false → Tells f32 outside_unit x q
@@ -78,8 +78,8 @@ pub range_end : {x y : Float} {q r : Bool} → q ≡ false → Tells f32 outside
     → Tells opt_range_view (given outside) (Some (x, y)) r
 range_end h t u none e = let z : ◌≡◌ {A = ℕ} 0 1 = cc in absurd (omega arith)
 range_end {x = x} {y = y} h t u (some p) e =
-    let z = sym (t p.0 (ap (λ o. (unwrap_or o (x, y)).0) e)) ∙ h in
-    rw z (u p.1 (ap (λ o. (unwrap_or o (x, y)).1) e))
+    let z = sym (t p.0 (ap (λ o. (unwrap_or {T = Float × Float} o (x, y)).0) e)) ∙ h in
+    rw z (u p.1 (ap (λ o. (unwrap_or {T = Float × Float} o (x, y)).1) e))
 
 -- ---- values
 
