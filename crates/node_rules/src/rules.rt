@@ -1,13 +1,11 @@
 // The rules of each kind of node, in validate.rs's order and under its names.
-ghost use Rattle.ast.specs.Means.{tween_view, spring_view, path_view, morph_view, draw_view, color_view, waveform_view, preset_view, pattern_view, opt_pattern_view};
+ghost use Rattle.std.specs.Prelude.{◌≡◌};
+ghost use Rattle.ast.specs.Means.{tween_view, spring_view, path_view, morph_view, draw_view, color_view, waveform_view, preset_view};
 ghost use Rattle.colors.specs.Css.{names_of};
-ghost use Rattle.checking.specs.Rules.{validate_tween, validate_spring, validate_path, validate_morph, validate_draw, validate_color, validate_waveform, validate_preset_call, given, empty_grid};
-ghost use Rattle.node_rules.specs.Means.{fault_of, Tells, StaggerTells};
+ghost use Rattle.checking.specs.Rules.{validate_tween, validate_spring, validate_path, validate_morph, validate_draw, validate_color, validate_waveform, validate_preset_call};
+ghost use Rattle.node_rules.specs.Means.{fault_of, Tells, StaggerTells, outside_unit, range_outside_unit, empty};
 
-use crate::faults::{
-    Fault, is_mismatched, is_negative, rule, some_negative, some_not_positive, some_outside_unit,
-    validate_easing,
-};
+use crate::faults::{is_mismatched, validate_easing};
 use ast::{
     ColorSpec, DrawSpec, MorphSpec, PathSpec, PresetCall, SpringSpec, StaggerPatternSpec,
     StaggerSpec, TweenSpec, WaveformSpec,
@@ -15,148 +13,153 @@ use ast::{
 use error::Refusal;
 
 // validate_loop_mode refuses nothing.
-pub fn validate_tween(text: &[u8], spec: TweenSpec) -> Fault
+pub fn validate_tween(text: &[u8], spec: TweenSpec) -> Result<(), Refusal>
     ensures { Tells tween_view (validate_tween text.now) spec (fault_of result) }
 {
-    let from = spec.from;
-    let to = spec.to;
-    let easing = spec.easing;
-    let time_scale = spec.time_scale;
-    let delay = spec.delay;
-    let f = rule(Fault::None, is_negative(spec.duration), Refusal::OutOfRange);
-    let f = rule(f, is_mismatched(from, to), Refusal::ValueTypeMismatch);
-    let f = validate_easing(text, f, easing);
-    let f = rule(f, some_negative(time_scale), Refusal::OutOfRange);
-    rule(f, some_negative(delay), Refusal::OutOfRange)
+    if spec.duration < 0.0 {
+        return Err(Refusal::OutOfRange);
+    }
+    if is_mismatched(spec.from, spec.to) {
+        return Err(Refusal::ValueTypeMismatch);
+    }
+    validate_easing(text, spec.easing)?;
+    if spec.time_scale.is_some_and(|x| x < 0.0) {
+        return Err(Refusal::OutOfRange);
+    }
+    if spec.delay.is_some_and(|x| x < 0.0) {
+        return Err(Refusal::OutOfRange);
+    }
+    Ok(())
 }
 
-pub fn validate_spring(spec: SpringSpec) -> Fault
+pub fn validate_spring(spec: SpringSpec) -> Result<(), Refusal>
     ensures { Tells spring_view validate_spring spec (fault_of result) }
 {
-    let from = spec.from;
-    let to = spec.to;
-    let stiffness = spec.stiffness;
-    let mass = spec.mass;
-    let epsilon = spec.epsilon;
-    let f = rule(
-        Fault::None,
-        is_mismatched(from, to),
-        Refusal::ValueTypeMismatch,
-    );
-    let f = rule(f, some_negative(stiffness), Refusal::OutOfRange);
-    let f = rule(f, some_not_positive(mass), Refusal::OutOfRange);
-    rule(f, some_not_positive(epsilon), Refusal::OutOfRange)
+    if is_mismatched(spec.from, spec.to) {
+        return Err(Refusal::ValueTypeMismatch);
+    }
+    if spec.stiffness.is_some_and(|x| x < 0.0) {
+        return Err(Refusal::OutOfRange);
+    }
+    if spec.mass.is_some_and(|x| x <= 0.0) {
+        return Err(Refusal::OutOfRange);
+    }
+    if spec.epsilon.is_some_and(|x| x <= 0.0) {
+        return Err(Refusal::OutOfRange);
+    }
+    Ok(())
 }
 
-pub fn validate_path(text: &[u8], spec: PathSpec) -> Fault
+#[tactic(auto, unfolding(number::specs::Number::f32))]
+fn is_outside_unit(x: f32) -> bool
+    ensures { result ≡ outside_unit x }
+{
+    !(0.0 <= x && x <= 1.0)
+}
+
+// Whether an end of a range is outside 0.0 to 1.0.
+fn is_range_outside_unit(range: (f32, f32)) -> bool
+    ensures { result ≡ range_outside_unit range }
+{
+    is_outside_unit(range.0) || is_outside_unit(range.1)
+}
+
+pub fn validate_path(text: &[u8], spec: PathSpec) -> Result<(), Refusal>
     ensures { Tells path_view (validate_path text.now) spec (fault_of result) }
 {
-    let easing = spec.easing;
-    let offset = spec.offset;
-    let f = rule(Fault::None, is_negative(spec.duration), Refusal::OutOfRange);
-    let f = validate_easing(text, f, easing);
-    rule(f, some_outside_unit(offset), Refusal::OutOfRange)
+    if spec.duration < 0.0 {
+        return Err(Refusal::OutOfRange);
+    }
+    validate_easing(text, spec.easing)?;
+    if spec.offset.is_some_and(is_range_outside_unit) {
+        return Err(Refusal::OutOfRange);
+    }
+    Ok(())
 }
 
-pub fn validate_morph(text: &[u8], spec: MorphSpec) -> Fault
+pub fn validate_morph(text: &[u8], spec: MorphSpec) -> Result<(), Refusal>
     ensures { Tells morph_view (validate_morph text.now) spec (fault_of result) }
 {
-    let easing = spec.easing;
-    let f = rule(Fault::None, is_negative(spec.duration), Refusal::OutOfRange);
-    let f = rule(f, spec.samples == 0, Refusal::OutOfRange);
-    validate_easing(text, f, easing)
+    if spec.duration < 0.0 {
+        return Err(Refusal::OutOfRange);
+    }
+    if spec.samples == 0 {
+        return Err(Refusal::OutOfRange);
+    }
+    validate_easing(text, spec.easing)
 }
 
-pub fn validate_draw(text: &[u8], spec: DrawSpec) -> Fault
+pub fn validate_draw(text: &[u8], spec: DrawSpec) -> Result<(), Refusal>
     ensures { Tells draw_view (validate_draw text.now) spec (fault_of result) }
 {
-    let easing = spec.easing;
-    let f = rule(Fault::None, is_negative(spec.duration), Refusal::OutOfRange);
-    validate_easing(text, f, easing)
+    if spec.duration < 0.0 {
+        return Err(Refusal::OutOfRange);
+    }
+    validate_easing(text, spec.easing)
 }
 
-pub fn validate_color(text: &[u8], spec: ColorSpec, list: u32) -> Fault
+pub fn validate_color(text: &[u8], spec: ColorSpec, list: u32) -> Result<(), Refusal>
     ensures { Tells color_view (validate_color (names_of list) text.now) spec (fault_of result) }
 {
-    let easing = spec.easing;
-    let from = spec.from;
-    let to = spec.to;
-    let f = rule(Fault::None, is_negative(spec.duration), Refusal::OutOfRange);
-    let f = rule(
-        f,
-        !colors::is_color(text, from.start, from.size, list),
-        Refusal::InvalidColor,
-    );
-    let f = rule(
-        f,
-        !colors::is_color(text, to.start, to.size, list),
-        Refusal::InvalidColor,
-    );
-    validate_easing(text, f, easing)
+    if spec.duration < 0.0 {
+        return Err(Refusal::OutOfRange);
+    }
+    if !colors::is_color(text, spec.from.start, spec.from.size, list) {
+        return Err(Refusal::InvalidColor);
+    }
+    if !colors::is_color(text, spec.to.start, spec.to.size, list) {
+        return Err(Refusal::InvalidColor);
+    }
+    validate_easing(text, spec.easing)
 }
 
 // The kind that is retired: 02 (h).
 const NOISE: u8 = 4;
 
-pub fn validate_waveform(spec: WaveformSpec) -> Fault
+pub fn validate_waveform(spec: WaveformSpec) -> Result<(), Refusal>
     ensures { Tells waveform_view validate_waveform spec (fault_of result) }
 {
-    let frequency = spec.frequency;
-    let retired = spec.kind == NOISE;
-    let negative = some_negative(frequency);
-    let f = rule(Fault::None, retired, Refusal::NoiseHeld);
-    rule(f, negative, Refusal::OutOfRange)
+    if spec.kind == NOISE {
+        return Err(Refusal::NoiseHeld);
+    }
+    if spec.frequency.is_some_and(|x| x < 0.0) {
+        return Err(Refusal::OutOfRange);
+    }
+    Ok(())
 }
 
-pub fn validate_preset_call(text: &[u8], call: PresetCall) -> Fault
+pub fn validate_preset_call(text: &[u8], call: PresetCall) -> Result<(), Refusal>
     ensures { Tells preset_view (validate_preset_call text.now) call (fault_of result) }
 {
-    let easing = call.easing;
-    let duration = call.duration;
-    let name = call.name;
-    let known = presets::is_known_preset(text, name.start, name.size);
-    let f = rule(Fault::None, !known, Refusal::UnknownPreset);
-    let f = validate_easing(text, f, easing);
-    rule(f, some_negative(duration), Refusal::OutOfRange)
+    if !presets::is_known_preset(text, call.name.start, call.name.size) {
+        return Err(Refusal::UnknownPreset);
+    }
+    validate_easing(text, call.easing)?;
+    if call.duration.is_some_and(|x| x < 0.0) {
+        return Err(Refusal::OutOfRange);
+    }
+    Ok(())
 }
 
 fn is_empty_grid(pattern: StaggerPatternSpec) -> bool
-    ensures { Tells pattern_view empty_grid pattern result }
+    ensures { result ≡ empty pattern }
 {
     match pattern {
         StaggerPatternSpec::Grid {
             cols,
             rows,
             origin: _,
-        } => {
-            if cols == 0 {
-                return true;
-            }
-            rows == 0
-        }
-        StaggerPatternSpec::Random {
-            seed: _,
-            min: _,
-            max: _,
-        } => false,
-        StaggerPatternSpec::CenterOut => false,
-        StaggerPatternSpec::EdgesIn => false,
-    }
-}
-
-fn some_empty_grid(pattern: Option<StaggerPatternSpec>) -> bool
-    ensures { Tells opt_pattern_view (given empty_grid) pattern result }
-{
-    match pattern {
-        None => false,
-        Some(p) => is_empty_grid(p),
+        } => cols == 0 || rows == 0,
+        _ => false,
     }
 }
 
 // A stagger's own fields.
-pub fn validate_stagger(spec: StaggerSpec) -> Fault
+pub fn validate_stagger(spec: StaggerSpec) -> Result<(), Refusal>
     ensures { StaggerTells spec result }
 {
-    let pattern = spec.pattern;
-    rule(Fault::None, some_empty_grid(pattern), Refusal::OutOfRange)
+    if spec.pattern.is_some_and(is_empty_grid) {
+        return Err(Refusal::OutOfRange);
+    }
+    Ok(())
 }

@@ -1,27 +1,22 @@
--- `node_rules::rules::validate_color` meets its contract: rules in the order of the definition's list.
-use mathlib.Core.Path.{ap, refl, sym, ◌∙◌}
-use mathlib.Core.Bool.{not}
-use Rattle.error.specs.declared.Refusal.TheVariants.{OutOfRange, UnknownEasing, InvalidColor}
-use Rattle.presets.specs.Colors.{is_color}
-use Rattle.colors.specs.Css.{names_of}
-use Rattle.text.specs.Bytes.{part}
-use Rattle.checking.specs.Rules.{validate_color}
-use Rattle.checking.proofs.RuleLaws as rules
+-- `node_rules::rules::validate_color` meets its contract: the first rule that is broken, over what the code holds.
+use Rattle.std.proofs.Common.{rules}
+use Rattle.number.specs.Number.{f32}
+use Rattle.checking.specs.Rules.{first}
+use Rattle.node_rules.proofs.KindLaws as kinds
 use Rattle.node_rules.proofs.rules.validate_color.Goals as goal
 
+pub returns-then-spec : goal.returns-then-spec
+unfolding first f32
+returns-then-spec c = kinds.color _ _ _ (search rules)
+
+pub returns-then-not-is_color : goal.returns-then-not-is_color
+unfolding first f32
+returns-then-not-is_color c = kinds.color _ _ _ (search rules)
+
+pub returns-then-not-is_color-2 : goal.returns-then-not-is_color-2
+unfolding first f32
+returns-then-not-is_color-2 c = kinds.color _ _ _ (search rules)
+
 pub returns : goal.returns
-unfolding validate_color
-returns c =
-    λ x e.
-    let t = c.args.text.now in
-    let names = names_of c.args.list in
-    let f1 = rules.one OutOfRange (c.is_negative.ensures x.duration (ap (λ v. v.duration) e)) c.rule-f.ensures in
-    let f2 = rules.more _ InvalidColor f1
-    (ap not (c.is_color.ensures ∙ sym (ap (λ v. is_color names (part t v.from.start v.from.size)) e)))
-    c.rule-f-2.ensures
-    in
-    let f3 = rules.more _ InvalidColor f2
-    (ap not (c.is_color-2.ensures ∙ sym (ap (λ v. is_color names (part t v.to.start v.to.size)) e)))
-    c.rule-f-3.ensures
-    in
-    rules.more _ UnknownEasing f3 refl (c.validate_easing.ensures x.easing (ap (λ v. v.easing) e))
+unfolding first f32
+returns c = kinds.color _ _ _ (search rules)

@@ -1,15 +1,18 @@
--- `node_rules::rules::validate_morph` meets its contract: rules in the order of the definition's list.
-use mathlib.Core.Path.{ap, refl, sym}
-use lib.Dec.{eqb}
-use Rattle.error.specs.declared.Refusal.TheVariants.{OutOfRange, UnknownEasing}
-use Rattle.checking.specs.Rules.{validate_morph}
-use Rattle.checking.proofs.RuleLaws as rules
+-- `node_rules::rules::validate_morph` meets its contract: the first rule that is broken, over what the code holds.
+use Rattle.std.proofs.Common.{rules}
+use Rattle.number.specs.Number.{f32}
+use Rattle.checking.specs.Rules.{first}
+use Rattle.node_rules.proofs.KindLaws as kinds
 use Rattle.node_rules.proofs.rules.validate_morph.Goals as goal
 
+pub returns-then-spec : goal.returns-then-spec
+unfolding first f32
+returns-then-spec c = kinds.morph _ _ (search rules)
+
+pub returns-then-spec-eq0 : goal.returns-then-spec-eq0
+unfolding first f32
+returns-then-spec-eq0 c = kinds.morph _ _ (search rules)
+
 pub returns : goal.returns
-unfolding validate_morph
-returns c =
-    λ x e.
-    let f1 = rules.one OutOfRange (c.is_negative.ensures x.duration (ap (λ v. v.duration) e)) c.rule-f.ensures in
-    let f2 = rules.more _ OutOfRange f1 (sym (ap (λ v. eqb v.samples 0) e)) c.rule-f-2.ensures in
-    rules.more _ UnknownEasing f2 refl (c.validate_easing.ensures x.easing (ap (λ v. v.easing) e))
+unfolding first f32
+returns c = kinds.morph _ _ (search rules)

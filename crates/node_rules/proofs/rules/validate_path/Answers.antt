@@ -1,14 +1,27 @@
--- `node_rules::rules::validate_path` meets its contract: rules in the order of the definition's list.
-use mathlib.Core.Path.{ap, refl}
-use Rattle.error.specs.declared.Refusal.TheVariants.{OutOfRange, UnknownEasing}
-use Rattle.checking.specs.Rules.{validate_path}
-use Rattle.checking.proofs.RuleLaws as rules
+-- `node_rules::rules::validate_path` meets its contract: the first rule that is broken, over what the code holds.
+use Rattle.std.proofs.Common.{rules}
+use mathlib.Core.Path.{◌≡◌}
+use Rattle.number.specs.Number.{f32}
+use Rattle.checking.specs.Rules.{first}
+use Rattle.node_rules.proofs.KindLaws as kinds
 use Rattle.node_rules.proofs.rules.validate_path.Goals as goal
 
+pub returns-then-spec : goal.returns-then-spec
+unfolding first f32
+returns-then-spec c = kinds.path _ _ (search rules)
+
+pub returns-in_err-validate_easing : goal.returns-in_err-validate_easing
+unfolding first f32
+returns-in_err-validate_easing c =
+    let e : c.from_residual.result ≡ c.validate_easing.result = search rules in
+    kinds.path _ _
+    (rw (e, c.if-spec.false)
+    (kinds.refused _ _ _ c.in_err-validate_easing.was c.validate_easing.ensures.held))
+
+pub returns-then-is_some_and : goal.returns-then-is_some_and
+unfolding first f32
+returns-then-is_some_and c = kinds.path _ _ (search rules)
+
 pub returns : goal.returns
-unfolding validate_path
-returns c =
-    λ x e.
-    let f1 = rules.one OutOfRange (c.is_negative.ensures x.duration (ap (λ v. v.duration) e)) c.rule-f.ensures in
-    let f2 = rules.more _ UnknownEasing f1 refl (c.validate_easing-f.ensures x.easing (ap (λ v. v.easing) e)) in
-    rules.more _ OutOfRange f2 (c.some_outside_unit.ensures x.offset (ap (λ v. v.offset) e)) c.rule.ensures
+unfolding first f32
+returns c = kinds.path _ _ (search rules)

@@ -1,21 +1,27 @@
--- `node_rules::rules::validate_preset_call` meets its contract: rules in the order of the definition's list.
-use mathlib.Core.Path.{ap, refl, sym, ◌∙◌}
-use mathlib.Core.Bool.{not}
-use Rattle.error.specs.declared.Refusal.TheVariants.{OutOfRange, UnknownEasing, UnknownPreset}
-use Rattle.presets.specs.Presets.{is_preset}
-use Rattle.text.specs.Bytes.{part}
-use Rattle.checking.specs.Rules.{validate_preset_call}
-use Rattle.checking.proofs.RuleLaws as rules
+-- `node_rules::rules::validate_preset_call` meets its contract: the first rule that is broken, over what the code holds.
+use Rattle.std.proofs.Common.{rules}
+use mathlib.Core.Path.{◌≡◌, sym, ◌∙◌}
+use Rattle.number.specs.Number.{f32}
+use Rattle.checking.specs.Rules.{first}
+use Rattle.node_rules.proofs.KindLaws as kinds
 use Rattle.node_rules.proofs.rules.validate_preset_call.Goals as goal
 
+pub returns-then-not-is_known_preset : goal.returns-then-not-is_known_preset
+unfolding first f32
+returns-then-not-is_known_preset c = kinds.preset _ _ (search rules)
+
+pub returns-in_err-validate_easing : goal.returns-in_err-validate_easing
+unfolding first f32
+returns-in_err-validate_easing c =
+    let e : c.from_residual.result ≡ c.validate_easing.result = search rules in
+    kinds.preset _ _
+    (rw (e, sym c.is_known_preset.ensures ∙ c.if-not-is_known_preset.false)
+    (kinds.refused _ _ _ c.in_err-validate_easing.was c.validate_easing.ensures.held))
+
+pub returns-then-is_some_and : goal.returns-then-is_some_and
+unfolding first f32
+returns-then-is_some_and c = kinds.preset _ _ (search rules)
+
 pub returns : goal.returns
-unfolding validate_preset_call
-returns c =
-    λ x e.
-    let t = c.args.text.now in
-    let f1 = rules.one UnknownPreset
-    (ap not (c.is_known_preset-known.ensures ∙ sym (ap (λ v. is_preset (part t v.name.start v.name.size)) e)))
-    c.rule-f.ensures
-    in
-    let f2 = rules.more _ UnknownEasing f1 refl (c.validate_easing-f.ensures x.easing (ap (λ v. v.easing) e)) in
-    rules.more _ OutOfRange f2 (c.some_negative.ensures x.duration (ap (λ v. v.duration) e)) c.rule.ensures
+unfolding first f32
+returns c = kinds.preset _ _ (search rules)

@@ -1,10 +1,14 @@
--- `node_rules::rules::validate_stagger` meets its contract: one rule.
-use mathlib.Core.Path.{ap}
-use Rattle.error.specs.declared.Refusal.TheVariants.{OutOfRange}
-use Rattle.checking.specs.Rules.{validate_container}
-use Rattle.checking.proofs.RuleLaws as rules
+-- `node_rules::rules::validate_stagger` meets its contract: the first rule that is broken, over what the code holds.
+use Rattle.std.proofs.Common.{rules}
+use Rattle.number.specs.Number.{f32}
+use Rattle.checking.specs.Rules.{first}
+use Rattle.node_rules.proofs.KindLaws as kinds
 use Rattle.node_rules.proofs.rules.validate_stagger.Goals as goal
 
+pub returns-then-is_some_and : goal.returns-then-is_some_and
+unfolding first f32
+returns-then-is_some_and c = kinds.stagger _ (search rules)
+
 pub returns : goal.returns
-unfolding validate_container
-returns c = λ p d n e. rules.one OutOfRange (c.some_empty_grid.ensures p (ap (λ v. v.pattern) e)) c.rule.ensures
+unfolding first f32
+returns c = kinds.stagger _ (search rules)

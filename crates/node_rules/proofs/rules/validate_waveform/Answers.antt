@@ -1,15 +1,18 @@
--- `node_rules::rules::validate_waveform` meets its contract: rules in the order of the definition's list.
-use mathlib.Core.Path.{ap, sym}
-use lib.Dec.{eqb}
-use Rattle.error.specs.declared.Refusal.TheVariants.{OutOfRange, NoiseHeld}
-use Rattle.checking.specs.Rules.{validate_waveform}
-use Rattle.checking.proofs.RuleLaws as rules
+-- `node_rules::rules::validate_waveform` meets its contract: the first rule that is broken, over what the code holds.
+use Rattle.std.proofs.Common.{rules}
+use Rattle.number.specs.Number.{f32}
+use Rattle.checking.specs.Rules.{first}
+use Rattle.node_rules.proofs.KindLaws as kinds
 use Rattle.node_rules.proofs.rules.validate_waveform.Goals as goal
 
+pub returns-then-spec-eq-NOISE : goal.returns-then-spec-eq-NOISE
+unfolding first f32
+returns-then-spec-eq-NOISE c = kinds.waveform _ (search rules)
+
+pub returns-then-is_some_and : goal.returns-then-is_some_and
+unfolding first f32
+returns-then-is_some_and c = kinds.waveform _ (search rules)
+
 pub returns : goal.returns
-unfolding validate_waveform
-returns c =
-    λ x e.
-    let f1 = rules.one NoiseHeld (sym (ap (λ v. eqb v.kind 4) e)) c.rule-f.ensures in
-    let negative = c.some_negative-negative.ensures x.frequency (ap (λ v. v.frequency) e) in
-    rules.more _ OutOfRange f1 negative c.rule.ensures
+unfolding first f32
+returns c = kinds.waveform _ (search rules)

@@ -1,6 +1,0 @@
--- `node_rules::faults::is_not_positive` meets its contract: the literal is the nought of the definitions.
-use Rattle.node_rules.proofs.TestLaws as tests
-use Rattle.node_rules.proofs.faults.is_not_positive.Goals as goal
-
-pub returns : goal.returns
-returns c = tests.positive_tells _
