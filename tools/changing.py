@@ -9,7 +9,7 @@ FOLDERS = ["crates", "bindings", "bench", "docs", "oracle", "tools"]
 # Not searched: what is built (target/, out/), stored cases (in hexadecimal), notes on requests and on the
 # port, this page and this script.
 SKIPPED = {"target", "out", "data", "requests"}
-PASSED_OVER = {PAGE, "docs/PORT.md", "tools/changing.py"}
+PASSED_OVER = {PAGE, "docs/PORT.md", "docs/DESIGN-PASS.md", "tools/changing.py"}
 # A field: two fields of one kind that are alike; and what has a part for each field of the kind, with no name: the form's parts in their
 # order, the cells, the rules of the rows.
 WORDS = re.compile(r"\bepsilon\b"), re.compile(r"\bmass\b")
