@@ -7,7 +7,7 @@ use mathlib.Core.Path.{◌≡◌, refl, sym, ap, ◌∙◌, subst}
 use native.Mathlib.Omega.{arith}
 use borrow.Author.Tests.{le-ltb, lt-ltb, ltb-false}
 use lib.Dec.{ltb}
-use lib.ListN.{length, get_elem?, length-append}
+use lib.ListN.{length, get_elem?, set, length-append}
 use Rattle.text.specs.Limits.{text_limit}
 use Rattle.error.specs.declared.Refusal.{Refusal}
 use Rattle.error.specs.declared.Refusal.TheVariants.{TextTooLong, Leftover, NameTwice, TooManyItems}
@@ -25,8 +25,9 @@ use Rattle.read_cursor.specs.declared.Cursor.{Cursor}
 use Rattle.read_cursor.specs.declared.Left.TheVariants as left
 use Rattle.books.specs.Book.{Item, item, items_step, items, Book, held, wrong, unless_left, finished}
 use Rattle.books.specs.Book.{fresh, parsed, written, names, repeated, settled, item_limit, book}
-use Rattle.book.specs.Means.{ItemWent, Rows, rowed, Held, items_of}
+use Rattle.book.specs.Means.{ItemWent, row_of, Rows, Held, items_of}
 use Rattle.book.specs.declared.Item as code
+use Rattle.book.specs.declared.Row as row
 use Rattle.book.proofs.TableLaws.{rows_none, rows_more}
 
 -- ---- the items
@@ -40,7 +41,7 @@ pub record Walked (s : List ℕ) (c : Cursor) (n : ℕ) : Type 0 where
   pub ready : Ready s c
 
 -- and their rows are written
-pub record Reading (s table : List ℕ) (c : Cursor) (n : ℕ) : Type 0 where
+pub record Reading (s : List ℕ) (table : List row.Row) (c : Cursor) (n : ℕ) : Type 0 where
   pub walked : Walked s c n
   pub rows : Rows s table walked.list
 
@@ -61,7 +62,7 @@ walked_start {s} {c} b = (
   refl,
 )
 
-pub reading-start : {s table : List ℕ} {c : Cursor} → Begins s 0 nothing 0 c → length table ≡ 21844 → Reading s table c 0
+pub reading-start : {s : List ℕ} {table : List row.Row} {c : Cursor} → Begins s 0 nothing 0 c → length table ≡ 5461 → Reading s table c 0
 reading-start {s} {table} b h =
     let w = walked_start b in
     record { walked = w.0; rows = subst (λ (l : List Item). Rows s table l) (sym w.1) (rows_none h) }
@@ -106,7 +107,7 @@ module _ {s : List ℕ} {c : Cursor} {n : ℕ} (w : Walked s c n) where
     refl,
   )
 
-module _ {s table : List ℕ} {c : Cursor} {n : ℕ} (r : Reading s table c n) where
+module _ {s : List ℕ} {table : List row.Row} {c : Cursor} {n : ℕ} (r : Reading s table c n) where
   pub reading_left : {p : ℕ} → ends (cursor.tokens s c) ≡ true → left_is (left.At p) ≡ left_of (left_at c) → items_of s ≡ wrong Leftover p
   reading_left e h = ap finished (walked_done r.walked e) ∙ ap (unless_left r.walked.list) (sym h)
 
@@ -122,7 +123,7 @@ module _ {s table : List ℕ} {c : Cursor} {n : ℕ} (r : Reading s table c n) w
   reading_refused e h = ap finished (walked_refused r.walked e h)
 
   pub reading-more : {b a : List ℕ} {x : code.Item} → ends (cursor.tokens s c) ≡ false → ItemWent s b a c x
-      → Reading s (rowed table n x.name.start x.name.size x.start (x.body.end - x.start)) x.body.next (n + 1)
+      → Reading s (set table n (row_of x)) x.body.next (n + 1)
   reading-more {x = x} e g =
       let v = walked_more r.walked e g in
       record { walked = v.0; rows = rw v.1 (rows_more r.rows g.same r.walked.count (walked_room r.walked g)) }
@@ -270,7 +271,7 @@ module _ (s scratch : List ℕ) (h : length s ≤ text_limit) (g : length scratc
 
 -- ---- then names and their number
 
-module _ {s table : List ℕ} {n : ℕ} (h : Held s table (written s) n) where
+module _ {s : List ℕ} {table : List row.Row} {n : ℕ} (h : Held s table (written s) n) where
   pub name_twice : true ≡ repeated (names h.items) → book s ≡ wrong NameTwice 0
   unfolding book
   name_twice e = rw (h.is, sym e)

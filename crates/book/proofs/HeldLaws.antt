@@ -14,6 +14,7 @@ use Rattle.text.proofs.WordLaws.{find-here, find_past}
 use Rattle.text.proofs.CaseLaws.{Case, yes!, no!, case}
 use Rattle.books.specs.Book.{Item, Book, held, names, item_limit, book}
 use Rattle.book.specs.Means.{Rows, Held}
+use Rattle.book.specs.declared.Row as row
 use Rattle.book.proofs.TableLaws.{names-long}
 use Rattle.book.proofs.BookLaws.{given}
 
@@ -27,7 +28,7 @@ find_low (x ∷ l) i k w e = go (λ f. find_low l (suc i) k w f) (case (same w x
     go ih (yes! t) = let q : i ≡ k = cc (sym (find-here w x l i t) ∙ e) in omega arith
     go ih (no! f) = omega (arith, ih (sym (find_past w x l i f) ∙ e))
 
-module _ {s table : List ℕ} {v : Book} {n : ℕ} (h : Held s table v n) where
+module _ {s : List ℕ} {table : List row.Row} {v : Book} {n : ℕ} (h : Held s table v n) where
   -- its items are those
   pub held_same : (xs : List Item) → v ≡ held xs → h.items ≡ xs
   held_same xs e = let q : held h.items ≡ held xs = sym h.is ∙ e in cc
@@ -49,7 +50,7 @@ module _ {s table : List ℕ} {v : Book} {n : ℕ} (h : Held s table v n) where
   pub found_low : {j : ℕ} (w : List ℕ) → some j ≡ find (names h.items) 0 w → j < n
   found_low {j} w e = omega (arith, find_low (names h.items) 0 j w (sym e), names-long h.items, h.count)
 
-module _ {t table : List ℕ} {n : ℕ} (h : Held t table (book t) n) where
+module _ {t : List ℕ} {table : List row.Row} {n : ℕ} (h : Held t table (book t) n) where
   pub few_items : n ≤ item_limit
   few_items = omega (arith, (given t h.items h.is).few, h.count)
 

@@ -1,10 +1,10 @@
 -- The table of items, and names in it.
-use Prim.Native.Nat.{ℕ, zero, suc, ◌+◌, ◌*◌, ◌-◌, ◌≤◌, ◌<◌}
+use Prim.Native.Nat.{ℕ, zero, suc, ◌+◌, ◌-◌, ◌≤◌, ◌<◌}
 use mathlib.Core.Bool.{Bool, true, false, ◌||◌}
 use mathlib.Core.List.{List, [], ◌∷◌, ◌++◌}
 use mathlib.Core.Logic.{◌⊎◌, inl, inr, ⊎_elim}
 use mathlib.Core.Option.{none, some}
-use mathlib.Core.Path.{◌≡◌, refl, sym, ap, ◌∙◌, subst}
+use mathlib.Core.Path.{◌≡◌, refl, sym, ap, ◌∙◌, subst, subst⁻¹}
 use native.Mathlib.Numerals.{add-one}
 use native.Mathlib.Omega.{arith}
 use lib.ListN.{length, get_or, take, drop, set, get_elem?, length-set, length-append, take-append-drop, drop_of_length-le}
@@ -14,8 +14,9 @@ use Rattle.text.specs.Words.{is_some, find}
 use Rattle.text.proofs.WordLaws.{same_eq, same_refl, find-here, find_past}
 use Rattle.text.proofs.CaseLaws.{Case, yes!, no!, case}
 use Rattle.books.specs.Book.{Item, names, repeated}
-use Rattle.book.specs.Means.{Same, Row, Rows, rowed}
-use Rattle.book.specs.declared.Item as code
+use Rattle.book.specs.Means.{Same, row_of, row_at, Row, Rows}
+use Rattle.book.specs.declared.Item as item
+use Rattle.book.specs.declared.Row as code
 
 -- ---- truth values
 
@@ -23,48 +24,6 @@ pub clash {ℓ} : {A : Type ℓ} {b : Bool} → b ≡ true → b ≡ false → A
 clash t f = absurd (let z : ◌≡◌ {A = ℕ} 0 1 = cc in omega arith)
 
 -- ---- rows
-
-module _ (t : List ℕ) (k a b c d : ℕ) where
-  pub rowed-length : length (rowed t k a b c d) ≡ length t
-  rowed-length = simp length-set
-
-  rowed_other : (i : ℕ) → (i ≡ k * 4 + 0 → ⊥) → (i ≡ k * 4 + 1 → ⊥) → (i ≡ k * 4 + 2 → ⊥) → (i ≡ k * 4 + 3 → ⊥)
-      → get_or (rowed t k a b c d) i 0 ≡ get_or t i 0
-  rowed_other i f g h l =
-      get_or-set_other (set (set (set t (k * 4 + 0) a) (k * 4 + 1) b) (k * 4 + 2) c) (k * 4 + 3) i d 0 l
-      ∙ get_or-set_other (set (set t (k * 4 + 0) a) (k * 4 + 1) b) (k * 4 + 2) i c 0 h
-      ∙ get_or-set_other (set t (k * 4 + 0) a) (k * 4 + 1) i b 0 g
-      ∙ get_or-set_other t (k * 4 + 0) i a 0 f
-
-  module _ (h : k * 4 + 3 < length t) where
-    rowed_0 : get_or (rowed t k a b c d) (k * 4 + 0) 0 ≡ a
-    rowed_0 =
-        get_or-set_other (set (set (set t (k * 4 + 0) a) (k * 4 + 1) b) (k * 4 + 2) c) (k * 4 + 3) (k * 4 + 0) d 0 (λ e. omega arith)
-        ∙ get_or-set_other (set (set t (k * 4 + 0) a) (k * 4 + 1) b) (k * 4 + 2) (k * 4 + 0) c 0 (λ e. omega arith)
-        ∙ get_or-set_other (set t (k * 4 + 0) a) (k * 4 + 1) (k * 4 + 0) b 0 (λ e. omega arith)
-        ∙ get_or-set_same t (k * 4 + 0) a 0 (omega arith)
-
-    rowed_1 : get_or (rowed t k a b c d) (k * 4 + 1) 0 ≡ b
-    rowed_1 =
-        get_or-set_other (set (set (set t (k * 4 + 0) a) (k * 4 + 1) b) (k * 4 + 2) c) (k * 4 + 3) (k * 4 + 1) d 0 (λ e. omega arith)
-        ∙ get_or-set_other (set (set t (k * 4 + 0) a) (k * 4 + 1) b) (k * 4 + 2) (k * 4 + 1) c 0 (λ e. omega arith)
-        ∙ get_or-set_same (set t (k * 4 + 0) a) (k * 4 + 1) b 0 (omega (arith, length-set t (k * 4 + 0) a))
-
-    rowed_2 : get_or (rowed t k a b c d) (k * 4 + 2) 0 ≡ c
-    rowed_2 =
-        get_or-set_other (set (set (set t (k * 4 + 0) a) (k * 4 + 1) b) (k * 4 + 2) c) (k * 4 + 3) (k * 4 + 2) d 0 (λ e. omega arith)
-        ∙ get_or-set_same (set (set t (k * 4 + 0) a) (k * 4 + 1) b) (k * 4 + 2) c 0
-        (omega (arith, length-set t (k * 4 + 0) a, length-set (set t (k * 4 + 0) a) (k * 4 + 1) b))
-
-    rowed_3 : get_or (rowed t k a b c d) (k * 4 + 3) 0 ≡ d
-    rowed_3 =
-        get_or-set_same (set (set (set t (k * 4 + 0) a) (k * 4 + 1) b) (k * 4 + 2) c) (k * 4 + 3) d 0
-        (omega (
-          arith,
-          length-set t (k * 4 + 0) a,
-          length-set (set t (k * 4 + 0) a) (k * 4 + 1) b,
-          length-set (set (set t (k * 4 + 0) a) (k * 4 + 1) b) (k * 4 + 2) c,
-        ))
 
 -- the element at a place of a list with one more
 at_more : {A : Type 0} (xs : List A) (y z : A) (j : ℕ) → get_elem? (xs ++ (y ∷ [])) j ≡ some z
@@ -75,53 +34,34 @@ at_more (x ∷ xs) y z zero e = inl (omega arith, e)
 at_more (x ∷ xs) y z (suc j) e =
     ⊎_elim (λ p. inl (omega (arith, p.0), p.1)) (λ p. inr (ap suc p.0, p.1)) (at_more xs y z j e)
 
-pub rows_none : {s t : List ℕ} → length t ≡ 21844 → Rows s t []
+pub rows_none : {s : List ℕ} {t : List code.Row} → length t ≡ 5461 → Rows s t []
 rows_none h = record { long = h; few = omega arith; row = λ k y e. absurd (let q : ◌≡◌ {A = ℕ} 0 1 = cc in omega arith) }
 
-pub rows_more : {s t : List ℕ} {xs : List Item} {x : code.Item} {y : Item} {k : ℕ} → Rows s t xs → Same s x y → k ≡ length xs → k < 5461
-    → Rows s (rowed t k x.name.start x.name.size x.start (x.body.end - x.start)) (xs ++ (y ∷ []))
+pub rows_more : {s : List ℕ} {t : List code.Row} {xs : List Item} {x : item.Item} {y : Item} {k : ℕ}
+    → Rows s t xs → Same s x y → k ≡ length xs → k < 5461 → Rows s (set t k (row_of x)) (xs ++ (y ∷ []))
 rows_more {s} {t} {xs} {x} {y} {k} r m e h = record {
-  long = rowed-length t k x.name.start x.name.size x.start (x.body.end - x.start) ∙ r.long;
+  long = length-set t k (row_of x) ∙ r.long;
   few = omega (arith, length-append xs (y ∷ []));
   row = λ j z g. ⊎_elim (λ p. old j z p.0 (r.row j z p.1)) (λ p. new j z p.0 p.1) (at_more xs y z j g);
 }
   where
-    a : ℕ
-    a = x.name.start
+    IsRow : code.Row → Item → Type 0
+    IsRow u z = (part s u.name_start u.name_size ≡ z.name) × (u.start ≡ z.start) × (u.size ≡ z.end - z.start)
 
-    u : List ℕ
-    u = rowed t k x.name.start x.name.size x.start (x.body.end - x.start)
+    is_row : (u : code.Row) (j : ℕ) (z : Item) → row_at (set t k (row_of x)) j ≡ u → IsRow u z → Row s (set t k (row_of x)) j z
+    is_row u j z q i =
+        let v = subst⁻¹ (λ (u : code.Row). IsRow u z) q i in record { name = v.0; start = v.1; size = v.2 }
 
-    other : (j i : ℕ) → j < length xs → i < 4
-        → get_or (rowed t k x.name.start x.name.size x.start (x.body.end - x.start)) (j * 4 + i) 0 ≡ get_or t (j * 4 + i) 0
-    other j i l f =
-        rowed_other t k x.name.start x.name.size x.start (x.body.end - x.start) (j * 4 + i)
-        (λ q. omega arith) (λ q. omega arith) (λ q. omega arith) (λ q. omega arith)
+    old : (j : ℕ) (z : Item) → j < length xs → Row s t j z → Row s (set t k (row_of x)) j z
+    old j z l q = is_row (row_at t j) j z (get_or-set_other t k j (row_of x) _ (λ q. omega arith)) (q.name, q.start, q.size)
 
-    old : (j : ℕ) (z : Item) → j < length xs → Row s t j z
-        → Row s (rowed t k x.name.start x.name.size x.start (x.body.end - x.start)) j z
-    old j z l q = record {
-      name = rw (other j 0 l (omega arith), other j 1 l (omega arith)) q.name;
-      start = other j 2 l (omega arith) ∙ q.start;
-      size = other j 3 l (omega arith) ∙ q.size;
-    }
-
-    new : (j : ℕ) (z : Item) → j ≡ length xs → y ≡ z
-        → Row s (rowed t k x.name.start x.name.size x.start (x.body.end - x.start)) j z
+    new : (j : ℕ) (z : Item) → j ≡ length xs → y ≡ z → Row s (set t k (row_of x)) j z
     new j z l q =
-        let room : k * 4 + 3 < length t = omega (arith, r.long) in
         let same_k : k ≡ j = e ∙ sym l in
-        subst (λ (z : Item). Row s (rowed t k x.name.start x.name.size x.start (x.body.end - x.start)) j z) q
-        (subst (λ (j : ℕ). Row s (rowed t k x.name.start x.name.size x.start (x.body.end - x.start)) j y) same_k
-        (record {
-          name = rw (
-            rowed_0 t k x.name.start x.name.size x.start (x.body.end - x.start) room,
-            rowed_1 t k x.name.start x.name.size x.start (x.body.end - x.start) room,
-          ) m.name;
-          start = rowed_2 t k x.name.start x.name.size x.start (x.body.end - x.start) room ∙ m.start;
-          size = rowed_3 t k x.name.start x.name.size x.start (x.body.end - x.start) room
-              ∙ (let p = m.start in let q = m.end in rw (p, q));
-        }))
+        subst (λ (z : Item). Row s (set t k (row_of x)) j z) q
+        (subst (λ (j : ℕ). Row s (set t k (row_of x)) j y) same_k
+        (is_row (row_of x) k y (get_or-set_same t k (row_of x) _ (omega (arith, r.long)))
+        (m.name, m.start, (let p = m.start in let q = m.end in rw (p, q) refl))))
 
 -- ---- names
 
@@ -135,8 +75,8 @@ name_of [] k y e = absurd (let q : ◌≡◌ {A = ℕ} 0 1 = cc in omega arith)
 name_of (x ∷ xs) zero y e = (omega arith, cc)
 name_of (x ∷ xs) (suc k) y e = let r = name_of xs k y e in (omega (arith, r.0), r.1)
 
-pub row_name : {s t : List ℕ} {xs : List Item} → Rows s t xs → (k : ℕ) → k < length xs
-    → part s (get_or t (k * 4 + 0) 0) (get_or t (k * 4 + 1) 0) ≡ get_or (names xs) k []
+pub row_name : {s : List ℕ} {t : List code.Row} {xs : List Item} → Rows s t xs → (k : ℕ) → k < length xs
+    → part s (row_at t k).name_start (row_at t k).name_size ≡ get_or (names xs) k []
 row_name {xs = xs} r k h = let y = item-at xs k h in (r.row k y.0 y.1).name ∙ sym y.2
 
 pub names-long : (xs : List Item) → length (names xs) ≡ length xs

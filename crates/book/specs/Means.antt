@@ -1,5 +1,5 @@
 -- What the answers of the code mean. Contracts cite these, and no reader needs to believe it.
-use Rattle.std.specs.Prelude.{ℕ, ◌+◌, ◌*◌, ◌-◌, ◌≤◌, Bool, List, ◌≡◌, length, get_or, take, set}
+use Rattle.std.specs.Prelude.{ℕ, ◌+◌, ◌-◌, ◌≤◌, Bool, List, ◌≡◌, length, get_or, take}
 use Rattle.std.proofs.Math.Option.{some}
 use Rattle.std.proofs.Math.ListN.{get_elem?}
 use Rattle.text.specs.Bytes.{part}
@@ -22,6 +22,7 @@ use Rattle.book.specs.declared.Item.{Item}
 use Rattle.book.specs.declared.ItemRead.{ItemRead}
 use Rattle.book.specs.declared.ItemRead.TheVariants as item
 use Rattle.book.specs.declared.BookRead.{BookRead}
+use Rattle.book.specs.declared.Row as code
 use Rattle.book.specs.declared.BookRead.TheVariants as read
 
 -- ---- an item
@@ -67,24 +68,28 @@ ItemMeans s b a c (item.Refused r q) = run s c book.item ≡ refused r q
 
 -- ---- the table of items
 
+-- the row of an item
+abbrev pub row_of : Item → code.Row
+row_of x = record { name_start = x.name.start; name_size = x.name.size; start = x.start; size = x.body.end - x.start }
+
+-- row k of a table
+abbrev pub row_at : List code.Row → ℕ → code.Row
+row_at table k = get_or table k (record { name_start = 0; name_size = 0; start = 0; size = 0 })
+
 -- row k of the table is the item y
-pub record Row (s table : List ℕ) (k : ℕ) (y : book.Item) : Type 0 where
-  pub name : part s (get_or table (k * 4 + 0) 0) (get_or table (k * 4 + 1) 0) ≡ y.name
-  pub start : get_or table (k * 4 + 2) 0 ≡ y.start
-  pub size : get_or table (k * 4 + 3) 0 ≡ y.end - y.start
+pub record Row (s : List ℕ) (table : List code.Row) (k : ℕ) (y : book.Item) : Type 0 where
+  pub name : part s (row_at table k).name_start (row_at table k).name_size ≡ y.name
+  pub start : (row_at table k).start ≡ y.start
+  pub size : (row_at table k).size ≡ y.end - y.start
 
 -- the rows of items
-pub record Rows (s table : List ℕ) (xs : List book.Item) : Type 0 where
-  pub long : length table ≡ 21844
+pub record Rows (s : List ℕ) (table : List code.Row) (xs : List book.Item) : Type 0 where
+  pub long : length table ≡ 5461
   pub few : length xs ≤ 5461
   pub row : (k : ℕ) (y : book.Item) → get_elem? xs k ≡ some y → Row s table k y
 
--- the table with row k written
-abbrev pub rowed : List ℕ → ℕ → ℕ → ℕ → ℕ → ℕ → List ℕ
-rowed table k a b c d = set (set (set (set table (k * 4 + 0) a) (k * 4 + 1) b) (k * 4 + 2) c) (k * 4 + 3) d
-
 -- the name of item k stands before it
-abbrev pub Before : List ℕ → List ℕ → ℕ → Bool → Type 0
+abbrev pub Before : List ℕ → List code.Row → ℕ → Bool → Type 0
 Before s table k r =
     (xs : List book.Item) → Rows s table xs → (y : book.Item) → get_elem? xs k ≡ some y
     → r ≡ is_some (find (take k (book.names xs)) 0 y.name)
@@ -92,13 +97,13 @@ Before s table k r =
 -- ---- a book
 
 -- the items xs of the book v, with their rows
-pub record Held (s table : List ℕ) (v : book.Book) (n : ℕ) : Type 0 where
+pub record Held (s : List ℕ) (table : List code.Row) (v : book.Book) (n : ℕ) : Type 0 where
   pub items : List book.Item
   pub is : v ≡ book.held items
   pub rows : Rows s table items
   pub count : n ≡ length items
 
-abbrev pub BookMeans : (s table : List ℕ) → book.Book → BookRead → Type 0
+abbrev pub BookMeans : List ℕ → List code.Row → book.Book → BookRead → Type 0
 BookMeans s table v (read.Is n) = Held s table v n
 BookMeans s table v (read.Refused r q) = v ≡ book.wrong r q
 

@@ -1,5 +1,5 @@
 // 02 (i): reading a book of named scripts. What reading a script asks of scratch and sheet is its own here.
-// The functions are for our own crates: each requires a cursor that stands in a text of at most 16,384 bytes, or a table of 21,844 words.
+// The functions are for our own crates: each requires a cursor that stands in a text of at most 16,384 bytes, or is lent a table of items.
 #![tactic(auto)]
 
 ghost use Rattle.std.specs.Prelude.{◌≡◌, ◌+◌, ◌*◌, ◌≤◌, ◌<◌, List, length, get_or, take};
@@ -10,7 +10,7 @@ ghost use Rattle.text.specs.Means.{place_of};
 ghost use Rattle.text.specs.Limits.{text_limit};
 ghost use Rattle.books.specs.Book.{names, repeated, written, book as Book·book};
 ghost use Rattle.books.specs.Book as grammar;
-ghost use Rattle.book.specs.Means.{BodyMeans, ItemMeans, Rows, rowed, Before, BookMeans, items_of};
+ghost use Rattle.book.specs.Means.{BodyMeans, ItemMeans, row_of, Rows, Before, BookMeans, items_of};
 
 use ast::Span;
 use error::Refusal;
@@ -21,10 +21,8 @@ use token::SplitAnswer;
 // The items that a book may have.
 pub const ITEM_LIMIT: usize = 128;
 
-// A row of the table of items: where the name starts, its size, where the body starts, its size. An item takes 3 bytes and more of a text.
-pub const ROW: usize = 4;
-
-pub const TABLE_WORDS: usize = 21844;
+// The rows of the table of items. An item takes 3 bytes and more of a text.
+pub const TABLE_ROWS: usize = 5461;
 
 // The words that judging a text by the text rules asks for.
 const SPLIT_WORDS: usize = 64;
@@ -111,71 +109,83 @@ pub fn parse_item(text: &[u8], sheet: &mut [u8], c: Cursor) -> ItemRead
 
 // ---- the table of items
 
-// Writes the row of an item.
-fn put_row(table: &mut [u16], k: usize, name: Span, start: usize, size: usize)
-    requires { (length table.old ≡ 21844) × (k < 5461) × (name.start ≤ text_limit) × (name.size ≤ text_limit) × (start ≤ text_limit) × (size ≤ text_limit) }
-    ensures { table.new ≡ rowed table.old k name.start name.size start size }
-{
-    let at = k * ROW;
-    table[at] = name.start as u16;
-    table[at + 1] = name.size as u16;
-    table[at + 2] = start as u16;
-    table[at + 3] = size as u16;
+// An item's row: where its name starts, the name's size, where its body starts, the body's size.
+#[derive(Clone, Copy)]
+pub struct Row {
+    pub name_start: u16,
+    pub name_size: u16,
+    pub start: u16,
+    pub size: u16,
 }
 
-// A word of a row.
-pub fn cell(table: &[u16], k: usize, i: usize) -> usize
-    requires { (length table.now ≡ 21844) × (k < 5461) × (i < 4) }
-    ensures { result ≡ get_or table.now (k * 4 + i) 0 }
-{
-    table[k * ROW + i] as usize
+pub type Table = [Row; TABLE_ROWS];
+
+impl Row {
+    pub const EMPTY: Row = Row {
+        name_start: 0,
+        name_size: 0,
+        start: 0,
+        size: 0,
+    };
+
+    // The name of its item.
+    fn name(self, text: &[u8]) -> &[u8]
+        ensures { result.now ≡ part text.now self.name_start self.name_size }
+    {
+        text::part(
+            text,
+            usize::from(self.name_start),
+            usize::from(self.name_size),
+        )
+    }
 }
 
-// The name of item k.
-pub fn name_at<'a>(text: &'a [u8], table: &[u16], k: usize) -> &'a [u8]
-    requires { (length table.now ≡ 21844) × (k < 5461) }
-    ensures { result.now ≡ part text.now (get_or table.now (k * 4 + 0) 0) (get_or table.now (k * 4 + 1) 0) }
+// The row of an item.
+fn row_of(item: Item) -> Row
+    requires { (item.name.start ≤ text_limit) × (item.name.size ≤ text_limit) × (item.start ≤ item.body.end) × (item.body.end ≤ text_limit) }
+    ensures { result ≡ row_of item }
 {
-    text::part(text, cell(table, k, 0), cell(table, k, 1))
+    Row {
+        name_start: item.name.start as u16,
+        name_size: item.name.size as u16,
+        start: item.start as u16,
+        size: (item.body.end - item.start) as u16,
+    }
 }
 
 // The ordinal of the item, of the first n, that has a name.
-pub fn find_name(text: &[u8], table: &[u16], n: usize, word: &[u8]) -> Option<usize>
-    requires { (length table.now ≡ 21844) × (n ≤ 5461) }
+pub fn find_name(text: &[u8], table: &Table, n: usize, word: &[u8]) -> Option<usize>
+    requires { n ≤ 5461 }
     ensures { (xs : List grammar.Item) → Rows text.now table.now xs → n ≤ length xs → place_of result ≡ find (take n (names xs)) 0 word.now }
 {
-    let mut k: usize = 0;
-    while k < n {
-        if text::is_word(word, name_at(text, table, k)) {
+    for k in 0..n {
+        if text::is_word(word, table[k].name(text)) {
             return Some(k);
         }
-        k += 1;
     }
     None
 }
 
 // Whether item k has the name of one before it.
-fn stands_before(text: &[u8], table: &[u16], k: usize) -> bool
-    requires { (length table.now ≡ 21844) × (k < 5461) }
+fn stands_before(text: &[u8], table: &Table, k: usize) -> bool
+    requires { k < 5461 }
     ensures { Before text.now table.now k result }
 {
-    match find_name(text, table, k, name_at(text, table, k)) {
+    match find_name(text, table, k, table[k].name(text)) {
         Some(_) => true,
         None => false,
     }
 }
 
 // Whether two of the first n items have the same name.
-fn has_twice(text: &[u8], table: &[u16], n: usize) -> bool
-    requires { (length table.now ≡ 21844) × (n ≤ 5461) }
+fn has_twice(text: &[u8], table: &Table, n: usize) -> bool
+    requires { n ≤ 5461 }
     ensures { (xs : List grammar.Item) → Rows text.now table.now xs → n ≡ length xs → result ≡ repeated (names xs) }
 {
-    let mut k: usize = 0;
-    while k < n {
+    for k in 0..n {
         if stands_before(text, table, k) {
             return true;
         }
-        k += 1;
     }
     false
 }
@@ -183,8 +193,8 @@ fn has_twice(text: &[u8], table: &[u16], n: usize) -> bool
 // ---- a whole book
 
 // The items up to the text's end, each with its row in the table.
-fn parse_items(text: &[u8], table: &mut [u16]) -> BookRead
-    requires { (length text.now ≤ text_limit) × (length table.old ≡ 21844) }
+fn parse_items(text: &[u8], table: &mut Table) -> BookRead
+    requires { length text.now ≤ text_limit }
     ensures { BookMeans text.now table.new (items_of text.now) result }
 {
     let mut sheet = [0u8; 1];
@@ -199,11 +209,9 @@ fn parse_items(text: &[u8], table: &mut [u16]) -> BookRead
         }
         match parse_item(text, &mut sheet, c) {
             ItemRead::Refused(r, p) => return BookRead::Refused(r, p),
-            ItemRead::Is(x) => {
-                let body = x.body;
-                let name = x.name;
-                put_row(table, n, name, x.start, body.end - x.start);
-                c = body.next;
+            ItemRead::Is(item) => {
+                table[n] = row_of(item);
+                c = item.body.next;
                 n += 1;
             }
         }
@@ -211,8 +219,7 @@ fn parse_items(text: &[u8], table: &mut [u16]) -> BookRead
 }
 
 // The text rules, then the grammar.
-fn read_text(text: &[u8], table: &mut [u16]) -> BookRead
-    requires { length table.old ≡ 21844 }
+fn read_text(text: &[u8], table: &mut Table) -> BookRead
     ensures { BookMeans text.now table.new (written text.now) result }
 {
     if text::TEXT_LIMIT < text.len() {
@@ -226,8 +233,7 @@ fn read_text(text: &[u8], table: &mut [u16]) -> BookRead
 }
 
 // Reads a book: how many items it has, each with its row in the table; or a refusal and its place.
-pub fn read(text: &[u8], table: &mut [u16]) -> BookRead
-    requires { length table.old ≡ 21844 }
+pub fn read(text: &[u8], table: &mut Table) -> BookRead
     ensures { BookMeans text.now table.new (Book·book text.now) result }
 {
     match read_text(text, table) {

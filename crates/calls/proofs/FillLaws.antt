@@ -15,6 +15,7 @@ use Rattle.read_cursor.specs.Means.{nothing, Begins, run}
 use Rattle.read_cursor.specs.declared.Cursor.{Cursor}
 use Rattle.books.specs.Book.{Item, item, held, names, book}
 use Rattle.book.specs.Means.{ItemWent, Held}
+use Rattle.book.specs.declared.Row as row
 use Rattle.book.specs.declared.Item as code
 use Rattle.book.proofs.TableLaws.{names-long}
 use Rattle.book.proofs.HeldLaws.{held_same, few_items}
@@ -43,7 +44,7 @@ filling_start {t} {m} b e h = record {
   low = omega arith;
 }
 
-module _ {t table : List ℕ} {n : ℕ} (h : Held t table (book t) n) where
+module _ {t : List ℕ} {table : List row.Row} {n : ℕ} (h : Held t table (book t) n) where
   the-given : Given t h.items
   the-given = given t h.items h.is
 

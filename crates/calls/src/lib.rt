@@ -13,7 +13,7 @@ ghost use Rattle.books.specs.Calls.{ordinals, presets};
 ghost use Rattle.calls.specs.Means.{mark, marks, named_by, RecordHere, Sheet, Filled};
 
 use ast::Span;
-use book::ItemRead;
+use book::{ItemRead, Table};
 use sheet_decode::fields::{take_field, take_span};
 use sheet_records::take_record;
 
@@ -26,7 +26,7 @@ const SHEET_BYTES: usize = 49152;
 const PRESET_KIND: u8 = 12;
 
 // Notes a call: item i has a preset with a name.
-fn note(text: &[u8], table: &[u16], n: usize, calls: &mut [u8], i: usize, name: Span)
+fn note(text: &[u8], table: &Table, n: usize, calls: &mut [u8], i: usize, name: Span)
     requires { Held text.now table.now (Book·book text.now) n × (n ≤ item_limit) × (i < 128) × (length calls.old ≡ 16384) }
     ensures { (xs : List Item) → Book·book text.now ≡ Book.held xs → calls.new ≡ mark calls.old i (find (names xs) 0 (part text.now name.start name.size)) }
 {
@@ -41,7 +41,7 @@ fn note(text: &[u8], table: &[u16], n: usize, calls: &mut [u8], i: usize, name: 
 // Notes the call that a record of item i's sheet may be: it stands at a place, and has a kind.
 fn note_record(
     text: &[u8],
-    table: &[u16],
+    table: &Table,
     n: usize,
     calls: &mut [u8],
     i: usize,
@@ -61,7 +61,7 @@ fn note_record(
 }
 
 // Notes the calls of item i, whose sheet is lent.
-fn note_calls(text: &[u8], table: &[u16], n: usize, calls: &mut [u8], i: usize, sheet: &[u8])
+fn note_calls(text: &[u8], table: &Table, n: usize, calls: &mut [u8], i: usize, sheet: &[u8])
     requires { Held text.now table.now (Book·book text.now) n × (n ≤ item_limit) × (i < 128) × (length calls.old ≡ 16384) × Sheet (length text.now) sheet.now }
     ensures { (xs : List Item) → Book·book text.now ≡ Book.held xs → (ns : Forest) → decode (length text.now) sheet.now ≡ some ns → calls.new ≡ marks calls.old i (ordinals (names xs) (presets text.now ns)) }
 {
@@ -75,7 +75,7 @@ fn note_calls(text: &[u8], table: &[u16], n: usize, calls: &mut [u8], i: usize, 
 }
 
 // Notes all calls of a book that was read.
-pub fn fill(text: &[u8], table: &[u16], n: usize, calls: &mut [u8])
+pub fn fill(text: &[u8], table: &Table, n: usize, calls: &mut [u8])
     requires { Held text.now table.now (Book·book text.now) n × (calls.old ≡ replicate 16384 0) }
     ensures { (xs : List Item) → Book·book text.now ≡ Book.held xs → Filled text.now xs calls.new n }
 {

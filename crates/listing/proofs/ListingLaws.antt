@@ -8,6 +8,7 @@ use lib.ListN.{length}
 use Rattle.error.specs.declared.Refusal.{Refusal}
 use Rattle.books.specs.Book.{wrong, book}
 use Rattle.book.specs.Means.{Held}
+use Rattle.book.specs.declared.Row as row
 use Rattle.order.specs.Order.{order}
 use Rattle.order.specs.Means.{calls_in, Square}
 use Rattle.order.proofs.SameLaws.{order_same}
@@ -20,7 +21,7 @@ use Rattle.error.specs.declared.OrderAnswer.TheVariants as answer
 
 -- ---- a book that is held
 
-module _ {t table : List ℕ} {n : ℕ} (h : Held t table (book t) n) where
+module _ {t : List ℕ} {table : List row.Row} {n : ℕ} (h : Held t table (book t) n) where
   pub square : {m : List ℕ} → Filled t h.items m n → Square m n
   square f = record { size = f.size; few = few_items h }
 

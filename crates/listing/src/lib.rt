@@ -7,11 +7,11 @@ ghost use Rattle.books.specs.Book.{book as Book·book};
 ghost use Rattle.book.specs.Means.{Held};
 ghost use Rattle.books.specs.Listing.{listing_of, listing};
 
-use book::BookRead;
+use book::{BookRead, Row, Table};
 use error::OrderAnswer;
 
 // Lists the items of a book that was read.
-fn list_items(text: &[u8], table: &[u16], n: usize, out: &mut [u8]) -> OrderAnswer
+fn list_items(text: &[u8], table: &Table, n: usize, out: &mut [u8]) -> OrderAnswer
     requires { Held text.now table.now (Book·book text.now) n }
     ensures { (result, out.new) ≡ listing_of text.now out.old (Book·book text.now) }
 {
@@ -27,7 +27,7 @@ pub fn list(text: &[u8], out: &mut [u8]) -> OrderAnswer
     ensures out_after { (result, out.new) ≡ listing text.now out.old }
     ensures values { order_values result ≡ order_values (listing text.now out.old).0 }
 {
-    let mut table = [0u16; book::TABLE_WORDS];
+    let mut table = [Row::EMPTY; book::TABLE_ROWS];
     match book::read(text, &mut table) {
         BookRead::Refused(refusal, place) => OrderAnswer::Refused { refusal, place },
         BookRead::Is(n) => list_items(text, &table, n, out),

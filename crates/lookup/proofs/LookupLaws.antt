@@ -1,14 +1,15 @@
 -- Where a book has a name, and a lookup in two.
-use Prim.Native.Nat.{ℕ, ◌+◌, ◌*◌, ◌<◌}
+use Prim.Native.Nat.{ℕ, ◌<◌}
 use mathlib.Core.List.{List, [], ◌∷◌}
 use mathlib.Core.Option.{none, some}
 use mathlib.Core.Path.{◌≡◌, refl}
 use native.Mathlib.Omega.{arith}
-use lib.ListN.{length, get_or, get_elem?}
+use lib.ListN.{length, get_elem?}
 use Rattle.text.specs.Words.{find}
 use Rattle.error.specs.declared.Refusal.{Refusal}
 use Rattle.books.specs.Book.{Item, Book, wrong, names, book}
-use Rattle.book.specs.Means.{Held}
+use Rattle.book.specs.Means.{Held, row_at}
+use Rattle.book.specs.declared.Row as row
 use Rattle.book.proofs.HeldLaws.{found_low}
 use Rattle.books.specs.Lookup.{in_books, looking_up}
 use Rattle.book_answers.specs.Means.{placed, looked}
@@ -17,11 +18,11 @@ use Rattle.error.specs.declared.LookupAnswer.{LookupAnswer}
 
 -- ---- one book
 
-module _ {s table : List ℕ} {v : Book} {n : ℕ} (h : Held s table v n) (w : List ℕ) where
+module _ {s : List ℕ} {table : List row.Row} {v : Book} {n : ℕ} (h : Held s table v n) (w : List ℕ) where
   pub looked_none : none ≡ find (names h.items) 0 w → place.Nothing ≡ looked w v
   looked_none e = rw (h.is, ← e)
 
-  pub looked-at : {k a b : ℕ} → some k ≡ find (names h.items) 0 w → a ≡ get_or table (k * 4 + 2) 0 → b ≡ get_or table (k * 4 + 3) 0
+  pub looked-at : {k a b : ℕ} → some k ≡ find (names h.items) 0 w → a ≡ (row_at table k).start → b ≡ (row_at table k).size
       → place.At a b ≡ looked w v
   looked-at {k} {a} {b} e f g = rw (h.is, ← e) (go (item-at h.items k (omega (arith, found_low h w e, h.count))))
     where

@@ -7,7 +7,7 @@ ghost use Rattle.books.specs.Book.{book as Book·book};
 ghost use Rattle.books.specs.Lookup.{looking_up, lent};
 ghost use Rattle.book_answers.specs.Means.{looked};
 
-use book::BookRead;
+use book::{BookRead, Row};
 use book_answers::Place;
 use error::LookupAnswer;
 
@@ -15,15 +15,18 @@ use error::LookupAnswer;
 fn look_in(text: &[u8], name: &[u8]) -> Place
     ensures { result ≡ looked name.now (Book·book text.now) }
 {
-    let mut table = [0u16; book::TABLE_WORDS];
+    let mut table = [Row::EMPTY; book::TABLE_ROWS];
     match book::read(text, &mut table) {
         BookRead::Refused(r, p) => Place::Refused(r, p),
         BookRead::Is(n) => match book::find_name(text, &table, n, name) {
             None => Place::Nothing,
-            Some(k) => Place::At {
-                start: book::cell(&table, k, 2),
-                size: book::cell(&table, k, 3),
-            },
+            Some(k) => {
+                let row = table[k];
+                Place::At {
+                    start: usize::from(row.start),
+                    size: usize::from(row.size),
+                }
+            }
         },
     }
 }

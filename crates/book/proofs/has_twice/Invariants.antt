@@ -1,4 +1,3 @@
-use Prim.Native.Nat.{◌≤◌, ◌-◌}
 use mathlib.Core.Bool.{false}
 use mathlib.Core.List.{List}
 use mathlib.Core.Path.{◌≡◌}
@@ -8,7 +7,4 @@ use Rattle.book.specs.Means.{Rows}
 use Rattle.book.proofs.has_twice.Given as goal
 
 abbrev pub invariant-loop-k : goal.invariant-loop-k
-invariant-loop-k l = (l.k ≤ l.n) × ((xs : List Item) → Rows l.text l.table xs → l.n ≡ length xs → repeated (take l.k (names xs)) ≡ false)
-
-abbrev pub decreases-loop-k : goal.decreases-loop-k
-decreases-loop-k l = l.n - l.k
+invariant-loop-k l = (xs : List Item) → Rows l.text l.table xs → l.n ≡ length xs → repeated (take l.k (names xs)) ≡ false

@@ -1,5 +1,4 @@
 -- `book::parse_body` meets its contract.
-use Rattle.text.specs.Bytes.{at}
 use Rattle.book.proofs.ItemLaws.{body_refused, body_went}
 use Rattle.book.proofs.parse_body.Goals as goal
 

@@ -1,5 +1,4 @@
 -- `book::parse_item` meets its contract.
-use Rattle.text.specs.Bytes.{at}
 use Rattle.book.proofs.ItemLaws.{no_name, no_equals, no_body, item_went}
 use Rattle.book.proofs.parse_item.Goals as goal
 

@@ -1,12 +1,10 @@
 -- `book::parse_items` meets its contract.
-use Rattle.text.specs.Bytes.{at}
-use Prim.Native.Nat.{◌-◌}
 use mathlib.Core.Path.{refl, sym, ◌∙◌}
 use Rattle.book.proofs.BookLaws.{reading-start, reading_left, reading_done, reading_refused, reading-more}
 use Rattle.book.proofs.parse_items.Goals as goal
 
 pub loop-sheet-init : goal.loop-sheet-init
-loop-sheet-init c = (refl, reading-start c.first-c.ensures c.requires.1)
+loop-sheet-init c = (refl, reading-start c.first-c.ensures c.told-table)
 
 pub returns-in-At : goal.returns-in-At
 returns-in-At c =
@@ -31,6 +29,6 @@ loop-sheet-preserved c =
     let g = rw c.in-Is.is at c.parse_item.ensures in
     let r = c.loop-sheet.invariant.1 in (
       c.parse_item.auto.sheet ∙ c.loop-sheet.invariant.0,
-      rw c.put_row.ensures
+      rw c.row_of.ensures
           (reading-more r (sym (c.ends.ensures c.args.text.now r.walked.ready) ∙ c.if-ends.false) g),
     )

@@ -1,5 +1,4 @@
 -- `book::read` meets its contract.
-use Rattle.text.specs.Bytes.{at}
 use mathlib.Core.Path.{sym, ◌∙◌}
 use Rattle.book.proofs.BookLaws.{name_twice, too_many, book_wrong, book-held}
 use Rattle.book.proofs.read.Goals as goal

@@ -1,5 +1,4 @@
 -- `book::read_text` meets its contract.
-use Rattle.text.specs.Bytes.{at}
 use mathlib.Core.Path.{refl}
 use native.Mathlib.Omega.{arith}
 use Rattle.book.proofs.BookLaws.{split_refused, split_accepted}

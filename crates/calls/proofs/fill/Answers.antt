@@ -1,6 +1,5 @@
 -- `calls::fill` meets its contract.
-use Rattle.text.specs.Bytes.{at}
-use Prim.Native.Nat.{ℕ, ◌-◌}
+use Prim.Native.Nat.{ℕ}
 use mathlib.Core.Path.{sym, ap, ◌∙◌}
 use native.Mathlib.Omega.{arith}
 use lib.ListN.{length, length-replicate}

@@ -1,5 +1,4 @@
 -- `calls::note` meets its contract.
-use Rattle.text.specs.Bytes.{at}
 use mathlib.Core.Path.{ap}
 use native.Mathlib.Omega.{arith}
 use Rattle.calls.specs.Means.{mark}
@@ -9,7 +8,7 @@ use Rattle.calls.proofs.note.Goals as goal
 pub find_name-requires : goal.find_name-requires
 find_name-requires c =
     let pre = c.requires in
-    (pre.0.rows.long, omega (arith, pre.0.rows.few, pre.0.count))
+    omega (arith, pre.0.rows.few, pre.0.count)
 
 pub overflow_add-calls : goal.overflow_add-calls
 overflow_add-calls c =

@@ -1,5 +1,4 @@
 -- `calls::note_calls` meets its contract.
-use Prim.Native.Nat.{◌-◌}
 use mathlib.Core.Path.{sym, ◌∙◌}
 use native.Mathlib.Omega.{arith}
 use Rattle.sheet_records.proofs.RecordLaws.{moves}

@@ -1,14 +1,8 @@
 -- `listing::list` meets its contract.
 use Rattle.error.specs.Answer.{order_values}
 use Rattle.error.proofs.AnswerLaws.{with_values}
-use Prim.Native.Nat.{ℕ}
-use lib.ListN.{length-replicate}
-use Rattle.text.specs.Bytes.{at}
 use Rattle.listing.proofs.ListingLaws.{listing_wrong, listing-held}
 use Rattle.listing.proofs.list.Goals as goal
-
-pub read-requires : goal.read-requires
-read-requires c = length-replicate {A = ℕ} 21844 0
 
 pub list_items-requires : goal.list_items-requires
 list_items-requires c = rw c.in-Is.is at c.read.ensures

@@ -1,6 +1,5 @@
 -- `lookup::find` meets its contract.
 use mathlib.Core.Path.{refl}
-use Rattle.text.specs.Bytes.{at}
 use Rattle.error.specs.Answer.{lookup_values}
 use Rattle.error.proofs.AnswerLaws.{and_values}
 use Rattle.books.specs.Book.{book}

@@ -1,33 +1,27 @@
 -- `lookup::look_in` meets its contract.
-use Prim.Native.Nat.{ℕ}
-use lib.ListN.{length-replicate}
-use Rattle.text.specs.Bytes.{at}
 use native.Mathlib.Omega.{arith}
 use Rattle.book.proofs.HeldLaws.{found_in, found_low}
 use Rattle.lookup.proofs.LookupLaws.{looked_wrong, looked_none, looked-at}
 use Rattle.lookup.proofs.look_in.Goals as goal
 
-pub read-requires : goal.read-requires
-read-requires c = length-replicate {A = ℕ} 21844 0
-
 pub find_name-requires : goal.find_name-requires
 find_name-requires c =
     let h = rw c.in-Is.is at c.read.ensures in
-    (h.rows.long, omega (arith, h.rows.few, h.count))
+    omega (arith, h.rows.few, h.count)
 
-pub cell-requires : goal.cell-requires
-cell-requires c =
+pub offset_bounds-table-k : goal.offset_bounds-table-k
+offset_bounds-table-k c =
     let args = c.args in
     let h = rw c.in-Is.is at c.read.ensures in
     let f = rw c.in-Some.is at (found_in h c.find_name.result args.name.now c.find_name.ensures) in
-    (h.rows.long, omega (arith, found_low h args.name.now f, h.rows.few, h.count), omega arith)
+    omega (arith, found_low h args.name.now f, h.rows.few, h.count)
 
-pub cell-requires-in-Some : goal.cell-requires-in-Some
-cell-requires-in-Some c =
+pub bounds-table-k : goal.bounds-table-k
+bounds-table-k c =
     let args = c.args in
     let h = rw c.in-Is.is at c.read.ensures in
     let f = rw c.in-Some.is at (found_in h c.find_name.result args.name.now c.find_name.ensures) in
-    (h.rows.long, omega (arith, found_low h args.name.now f, h.rows.few, h.count), omega arith)
+    omega (arith, found_low h args.name.now f, h.rows.few, h.count)
 
 pub returns-in-Refused : goal.returns-in-Refused
 returns-in-Refused c =
@@ -48,5 +42,5 @@ returns-in-Some c =
     looked-at h
     args.name.now
     (rw c.in-Some.is at (found_in h c.find_name.result args.name.now c.find_name.ensures))
-    c.cell.ensures
-    c.cell-in-Some.ensures
+    c.from.ensures
+    c.from-in-Some.ensures

@@ -1,5 +1,4 @@
 -- `lookup::lookup` meets its contract.
-use Rattle.text.specs.Bytes.{at}
 use Rattle.lookup.proofs.lookup.Goals as goal
 
 pub returns : goal.returns
