@@ -119,12 +119,11 @@ fn scale(a: &mut [u32], base: u32, most: u32, n: usize)
     requires { (0 < base) × (0 < most) × (base ^ most < 4294967296) × (val a.old * base ^ n < 4294967296 ^ length a.old) }
     ensures { val a.new ≡ val a.old * base ^ n }
 {
-    let mut left = n;
-    while left > 0 {
-        let s = left.min(most as usize);
-        muladd(a, base.pow(s as u32), 0);
-        left -= s;
+    let most = most as usize;
+    for _round in 0..n / most {
+        muladd(a, base.pow(most as u32), 0);
     }
+    muladd(a, base.pow((n % most) as u32), 0);
 }
 
 // b doubled in place until it is above a, or 150 times. 150 and the count of doublings are returned.
