@@ -1,4 +1,6 @@
 -- The search over a track's frames, and a track.
+use Rattle.std.specs.Prelude.{Result, Ok, Err}
+use Rattle.std.specs.Result.{is_err}
 use Prim.Native.Nat.{ℕ, suc, ◌+◌, ◌*◌, ◌-◌, ◌≤◌, ◌<◌}
 use mathlib.Core.Bool.{Bool, true, false, ◌||◌}
 use mathlib.Core.List.{List, [], ◌∷◌, ◌++◌}
@@ -16,7 +18,7 @@ use Rattle.number.specs.Time.{near, any_near}
 use Rattle.codec.specs.Codec.{Form, and_then, each, each_in, each_out, opt}
 use Rattle.ast.specs.Tree.{ValueExpr, scalar, array, EasingSpec}
 use Rattle.ast.specs.Tree.{KeyframeSpec, KeyframeTime, percent, seconds, LoopSpec}
-use Rattle.ast.specs.Means.{time_view, entry_view}
+use Rattle.ast.specs.Means.{time_view, entry_view, opt_easing_view}
 use Rattle.ast.specs.declared.KeyframeEntry as entries
 use Rattle.sheet.specs.Sheet.{time_form, value_form, easing_form, entry_form, keyframes_form, to_keyframes, of_keyframes, loop_form}
 use Rattle.sheet_decode.specs.Means.{Lost, Reads, got, bad}
@@ -27,7 +29,7 @@ use Rattle.sheet.proofs.Laws.{entry_l}
 use Rattle.sheet_decode.proofs.ReadLaws.{◌&◌, seen, through, counted, each_next}
 use Rattle.checking.specs.Rules.{given, unknown_easing, first, time_of, validate_frames, validate_keyframes}
 use Rattle.checking.proofs.FrameLaws.{Entry, stamp}
-use Rattle.node_rules.specs.Means.{Tells}
+use Rattle.node_rules.specs.Means.{Tells, fault_of}
 use Rattle.sheet_nodes.proofs.StandLaws.{none≢some}
 use Rattle.validate.specs.Means.{InLimit, frames_view, HeadStands}
 
@@ -95,6 +97,31 @@ kept_more us i x h =
     ∙ ap (λ (l : List Float). take i (set us i x) ++ take 1 l) (drop-cons (set us i x) i x k)
     ∙ ap (λ (l : List Float). l ++ get_or (set us i x) i x ∷ []) (take-set-le i us i x (omega arith))
     ∙ ap (λ (y : Float). take i us ++ y ∷ []) (get_or-set_same us i x x h)
+
+-- ---- a frame's easing, r being the answer to it
+
+pub held : (r : Result Unit Refusal) → is_err r ≡ false → fault_of r ≡ none
+held (Ok u) e = refl
+held (Err q) e = let z : ◌≡◌ {A = ℕ} 0 1 = cc in absurd (omega arith)
+
+is_broken : (r : Result Unit Refusal) (b : Bool) → fault_of r ≡ first ((b, UnknownEasing) ∷ []) → is_err r ≡ b
+unfolding first
+is_broken (Ok u) true e = let z : ◌≡◌ {A = ℕ} 0 1 = cc in absurd (omega arith)
+is_broken (Ok u) false e = refl
+is_broken (Err q) true e = refl
+is_broken (Err q) false e = let z : ◌≡◌ {A = ℕ} 0 1 = cc in absurd (omega arith)
+
+pub broken : (r : Result Unit Refusal) (b : Bool) → fault_of r ≡ first ((b, UnknownEasing) ∷ []) → is_err r ≡ true
+    → fault_of r ≡ some UnknownEasing
+unfolding first
+broken r true e h = e
+broken (Ok u) false e h = let z : ◌≡◌ {A = ℕ} 0 1 = cc in absurd (omega arith)
+broken (Err q) false e h = let z : ◌≡◌ {A = ℕ} 0 1 = cc in absurd (omega arith)
+
+pub entry_tells : (r : Result Unit Refusal) (t : List ℕ) (e : entries.KeyframeEntry) {b : Bool} → b ≡ is_err r
+    → Tells opt_easing_view (λ o. first ((given (unknown_easing t) o, UnknownEasing) ∷ [])) e.easing (fault_of r)
+    → Tells entry_view (λ x. given (unknown_easing t) x.easing) e b
+entry_tells r t e h u x q = h ∙ is_broken r (given (unknown_easing t) x.easing) (u x.easing (ap (λ v. v.easing) q))
 
 -- ---- frames, one after the other
 

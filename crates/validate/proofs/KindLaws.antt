@@ -1,4 +1,5 @@
 -- A record of each kind: its kind, its start, then its fields.
+use Rattle.std.specs.Prelude.{Result}
 use Prim.Native.Nat.{ℕ, ◌≤◌, ◌<◌}
 use mathlib.Core.List.{List}
 use mathlib.Core.Option.{Option, none}
@@ -25,7 +26,6 @@ use Rattle.checking.specs.Rules.{validate_keyframes, validate_leaf, validate_con
 use Rattle.sheet_nodes.specs.Means.{ContainerKind}
 use Rattle.node_rules.specs.Means.{fault_of, StaggerTells}
 use Rattle.validate.specs.WalkMeans.{record_view}
-use Rattle.node_rules.specs.declared.faults.Fault.{Fault}
 
 -- ---- a leaf
 
@@ -76,7 +76,7 @@ module _ (list : ℕ) (t : List ℕ) {s : List ℕ} {from start at k : ℕ} (b :
       (λ p e i. (none, kind.Container ((width-blank p.1 ∙ ap (λ (g : groups.GroupSpec). g.nodes) e) i))))
       (λ x e i. (e i).1)
 
-  pub stagger_record : (f : Fault) {m : ℕ} {v : staggers.StaggerSpec} → k ≡ 6
+  pub stagger_record : (f : Result Unit Refusal) {m : ℕ} {v : staggers.StaggerSpec} → k ≡ 6
       → Reads (opt pattern_form ▹ opt word ▹ big 2) (λ p. stagger_view p.0 p.1.0 p.1.1) s at v m
       → StaggerTells v f → Holding list t s from m (fault_of f) v.nodes
   stagger_record f e r g =

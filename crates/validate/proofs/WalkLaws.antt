@@ -1,4 +1,6 @@
 -- One walk over nodes: whether they are there, and their first fault, under a list of colours.
+use Rattle.std.specs.Prelude.{Some, None, Option as Optional}
+use Rattle.std.specs.Option.{option_or}
 use Prim.Native.Nat.{ℕ, suc, ◌+◌, ◌-◌, ◌≤◌, ◌<◌}
 use mathlib.Core.List.{List}
 use mathlib.Core.Option.{Option, none, some}
@@ -35,6 +37,11 @@ or_assoc (some a) y z = refl
 -- a fault with an ordinal
 abbrev Fault : Type 0
 Fault = Option (Refusal × ℕ)
+
+-- the first of two
+pub or_found : (a b : Optional (Refusal × ℕ)) → found_of (option_or a b) ≡ or_else (found_of a) (found_of b)
+or_found None b = refl
+or_found (Some f) b = refl
 
 -- ---- a node: its record, then the nodes in it
 

@@ -1,6 +1,6 @@
 -- What the answers to records and of the walk over nodes mean, under a list of colours. Contracts cite these.
-use Rattle.std.specs.Prelude.{ℕ, ◌+◌, ◌≤◌, List, length}
-use Rattle.std.proofs.Math.Option.{Option}
+use Rattle.std.specs.Prelude.{ℕ, ◌+◌, ◌≤◌, List, length, Result, Some, None, Option as Optional}
+use Rattle.std.proofs.Math.Option.{Option, none, some}
 use Rattle.codec.specs.Codec.{Form}
 use Rattle.ast.specs.Tree.{Nodes, single, holding, push, records}
 use Rattle.sheet.specs.Sheet.{Node, Forest, node_form, forest, inner}
@@ -9,12 +9,10 @@ use Rattle.sheet_records.specs.Means.{record_form, kind_view}
 use Rattle.sheet_records.specs.declared.Kind.{Kind}
 use Rattle.colors.specs.Css.{names_of}
 use Rattle.error.specs.declared.Refusal.{Refusal}
-use Rattle.checking.specs.Rules.{validate_leaf, validate_container, at_ordinal, validate_nodes}
+use Rattle.checking.specs.Rules.{validate_leaf, validate_container, validate_nodes}
 use Rattle.node_rules.specs.Means.{fault_of}
-use Rattle.node_rules.specs.declared.faults.Fault.{Fault}
 use Rattle.validate.specs.declared.kinds.RecordCheck.{RecordCheck}
 use Rattle.validate.specs.declared.nodes.Walk.{Walk}
-use Rattle.validate.specs.declared.nodes.FirstFault.{FirstFault}
 
 -- ---- a record
 
@@ -26,7 +24,7 @@ record_fault list t (holding p k ns) = validate_container k
 abbrev pub record_view : ℕ → List ℕ → Node → Option Refusal × Kind
 record_view list t x = (record_fault list t x, kind_view x)
 
-abbrev pub check_of : Fault → Kind → ℕ → RecordCheck
+abbrev pub check_of : Result Unit Refusal → Kind → ℕ → RecordCheck
 check_of fault kind next = record { fault = fault; kind = kind; next = next }
 
 abbrev pub check_view : RecordCheck → Option Refusal × Kind
@@ -40,8 +38,9 @@ FieldsTell list t s kind at r =
 
 -- ---- nodes
 
-abbrev pub found_of : FirstFault → Option (Refusal × ℕ)
-found_of f = at_ordinal f.ordinal (fault_of f.fault)
+abbrev pub found_of : Optional (Refusal × ℕ) → Option (Refusal × ℕ)
+found_of None = none
+found_of (Some found) = some found
 
 -- the first fault of nodes, the first of ordinal i, and the ordinal of what stands behind them
 abbrev pub nodes_view : ℕ → List ℕ → ℕ → Forest → Option (Refusal × ℕ) × ℕ

@@ -2,14 +2,11 @@
 // are kept for them, and those of a long one are in bytes of at most a sheet's limit.
 ghost use Rattle.std.specs.Prelude.{ℕ, ◌≤◌, ◌≡◌, length};
 ghost use Rattle.number.specs.Time.{near};
-ghost use Rattle.ast.specs.Means.{entry_view};
-ghost use Rattle.checking.specs.Rules.{given, unknown_easing};
-ghost use Rattle.node_rules.specs.Means.{Tells};
 ghost use Rattle.validate.specs.Means.{InLimit, HeadStands, FramesTell, TrackTells};
 
 use ast::KeyframeEntry;
 use error::Refusal;
-use node_rules::faults::{Fault, some_unknown};
+use node_rules::faults::validate_easing;
 use sheet_decode::fields::{lost, take_field, take_span};
 use sheet_decode::nodes::{skip_entries, take_entry};
 use sheet_decode::optional::take_opt_loop;
@@ -17,14 +14,14 @@ use sheet_decode::optional::take_opt_loop;
 // A track's first fault, and the place behind it.
 #[derive(Clone, Copy)]
 pub struct TrackCheck {
-    pub fault: Fault,
+    pub fault: Result<(), Refusal>,
     pub next: usize,
 }
 
 // The first fault of some frames, and where and how many of them are left to be passed.
 #[derive(Clone, Copy)]
 pub struct FramesCheck {
-    pub fault: Fault,
+    pub fault: Result<(), Refusal>,
     pub at: usize,
     pub left: usize,
 }
@@ -43,14 +40,6 @@ fn is_duplicate(earlier: f32, entry: KeyframeEntry) -> bool
     number::duplicate(earlier, entry.time)
 }
 
-// Whether an entry's easing has no known name.
-fn has_unknown_easing(text: &[u8], entry: KeyframeEntry) -> bool
-    ensures { Tells entry_view (λ x. given (unknown_easing text.now) x.easing) entry result }
-{
-    let easing = entry.easing;
-    some_unknown(text, easing)
-}
-
 // The first fault of so many frames from a place on. Each frame's time is tried against those of the frames before it, which are kept
 // in `times`; the search ends at the first pair of duplicates. A frame's easing comes after its time. The frames from the faulty one on
 // are left.
@@ -65,30 +54,31 @@ fn validate_frames(
     ensures { FramesTell text.now s.now first count result }
 {
     let n = text.len();
-    let mut fault = Fault::None;
+    let mut fault = Ok(());
     let mut i: usize = 0;
     let mut at = first;
     'frames: while i < count {
         let frame = take_entry(s, at, n);
         let entry = frame.v;
-        let mut j: usize = 0;
-        while j < i {
+        for j in 0..i {
             if is_duplicate(times[j], entry) {
-                fault = Fault::Is(Refusal::DuplicateTime);
+                fault = Err(Refusal::DuplicateTime);
                 break 'frames;
             }
-            j += 1;
         }
-        if has_unknown_easing(text, entry) {
-            fault = Fault::Is(Refusal::UnknownEasing);
+        fault = validate_easing(text, entry.easing);
+        if fault.is_err() {
             break 'frames;
         }
         times[i] = entry.time;
         at = frame.next;
         i += 1;
     }
-    let left = count - i;
-    FramesCheck { fault, at, left }
+    FramesCheck {
+        fault,
+        at,
+        left: count - i,
+    }
 }
 
 // The frames of a track of at most 64.
@@ -107,7 +97,7 @@ pub fn long_track(text: &[u8], s: &[u8], first: usize, count: usize) -> FramesCh
 {
     if 7281 < count {
         return FramesCheck {
-            fault: Fault::None,
+            fault: Ok(()),
             at: lost(s),
             left: 0,
         };
@@ -133,14 +123,15 @@ pub fn validate_keyframes(text: &[u8], s: &[u8], count: usize, frames: FramesChe
     ensures { (at first : ℕ) → HeadStands (length text.now) s.now at count first → FramesTell text.now s.now first count frames → TrackTells text.now s.now at result }
 {
     let end = skip_entries(s, frames.at, text.len(), frames.left);
-    let mode = take_opt_loop(s, end);
-    let next = mode.next;
+    let next = take_opt_loop(s, end).next;
     if count < 2 {
         return TrackCheck {
-            fault: Fault::Is(Refusal::TooFewFrames),
+            fault: Err(Refusal::TooFewFrames),
             next,
         };
     }
-    let fault = frames.fault;
-    TrackCheck { fault, next }
+    TrackCheck {
+        fault: frames.fault,
+        next,
+    }
 }

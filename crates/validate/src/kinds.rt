@@ -4,7 +4,7 @@ ghost use Rattle.sheet_records.specs.declared.Kind.TheVariants.{Leaf, Container}
 ghost use Rattle.validate.specs.WalkMeans.{check_of, FieldsTell};
 ghost use Rattle.sheet_nodes.specs.Means.{LeafKind, ContainerKind};
 
-use node_rules::faults::Fault;
+use error::Refusal;
 use node_rules::rules::{
     validate_color, validate_draw, validate_morph, validate_path, validate_preset_call,
     validate_spring, validate_stagger, validate_tween, validate_waveform,
@@ -19,12 +19,12 @@ use sheet_records::Kind;
 // A record's first fault, whether it holds nodes and how many, and the place behind it.
 #[derive(Clone, Copy)]
 pub struct RecordCheck {
-    pub fault: Fault,
+    pub fault: Result<(), Refusal>,
     pub kind: Kind,
     pub next: usize,
 }
 
-fn leaf(fault: Fault, next: usize) -> RecordCheck
+fn leaf(fault: Result<(), Refusal>, next: usize) -> RecordCheck
     ensures { result ≡ check_of fault Leaf next }
 {
     RecordCheck {
@@ -73,12 +73,12 @@ fn validate_leaf(text: &[u8], s: &[u8], at: usize, kind: u8, list: u32) -> Recor
             let x = take_preset(s, at, n);
             leaf(validate_preset_call(text, x.v), x.next)
         }
-        13 => leaf(Fault::None, take_span(s, at, n).next),
-        _ => leaf(Fault::None, take_at(s, at).next),
+        13 => leaf(Ok(()), take_span(s, at, n).next),
+        _ => leaf(Ok(()), take_at(s, at).next),
     }
 }
 
-fn container(fault: Fault, count: usize, next: usize) -> RecordCheck
+fn container(fault: Result<(), Refusal>, count: usize, next: usize) -> RecordCheck
     ensures { result ≡ check_of fault (Container count) next }
 {
     RecordCheck {
@@ -96,17 +96,15 @@ fn validate_container(s: &[u8], at: usize, kind: u8) -> RecordCheck
     match kind {
         5 => {
             let x = take_group(s, at);
-            let group = x.v;
-            container(Fault::None, group.nodes, x.next)
+            container(Ok(()), x.v.nodes, x.next)
         }
         6 => {
             let x = take_stagger(s, at);
-            let stagger = x.v;
-            container(validate_stagger(stagger), stagger.nodes, x.next)
+            container(validate_stagger(x.v), x.v.nodes, x.next)
         }
         _ => {
             let count = take_field(s, at, 2);
-            container(Fault::None, count.v as usize, count.next)
+            container(Ok(()), count.v as usize, count.next)
         }
     }
 }

@@ -16,7 +16,6 @@ mod nodes;
 
 use crate::nodes::validate_nodes;
 use error::{CheckAnswer, Refusal};
-use node_rules::faults::Fault;
 use sheet_decode::fields::take_field;
 use sheet_refusals::{Opening, open_text};
 
@@ -39,10 +38,7 @@ fn earlier(first: Opening, second: Opening) -> Opening
 {
     match first {
         Opening::Open => second,
-        Opening::Shut {
-            refusal: _,
-            place: _,
-        } => first,
+        Opening::Shut { .. } => first,
     }
 }
 
@@ -59,14 +55,9 @@ fn check_bytes(text: &[u8], sheet: &[u8], list: u32) -> CheckAnswer
             place: 0,
         };
     }
-    let found = walk.found;
-    let fault = found.fault;
-    match fault {
-        Fault::None => CheckAnswer::Accepted,
-        Fault::Is(refusal) => CheckAnswer::Refused {
-            refusal,
-            place: found.ordinal,
-        },
+    match walk.found {
+        None => CheckAnswer::Accepted,
+        Some((refusal, place)) => CheckAnswer::Refused { refusal, place },
     }
 }
 
@@ -74,10 +65,7 @@ pub fn check(text: &[u8], sheet: &[u8], list: u32) -> CheckAnswer
     ensures value { result ≡ checking list text.now sheet.now }
     ensures values { check_values result ≡ check_values (checking list text.now sheet.now) }
 {
-    let of_text = open_text(text);
-    let of_list = open_list(list);
-    let opened = earlier(of_text, of_list);
-    if let Opening::Shut { refusal, place } = opened {
+    if let Opening::Shut { refusal, place } = earlier(open_text(text), open_list(list)) {
         return CheckAnswer::Refused { refusal, place };
     }
     if 65535 < sheet.len() {

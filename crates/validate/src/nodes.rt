@@ -1,7 +1,6 @@
 // Nodes in preorder, each by its rules. One walk tells the first fault and whether the nodes are there: it goes on behind a fault. For our own
 // crates: bytes of at most a sheet's limit, and an ordinal that is at most one more than its place.
 ghost use Rattle.std.specs.Prelude.{◌+◌, ◌≤◌, ◌≡◌};
-ghost use Rattle.text.specs.Words.{or_else};
 ghost use Rattle.sheet_decode.specs.Means.{Lost};
 ghost use Rattle.checking.specs.Rules.{at_ordinal};
 ghost use Rattle.node_rules.specs.Means.{fault_of};
@@ -10,21 +9,15 @@ ghost use Rattle.validate.specs.WalkMeans.{found_of, Reached, NodeWalk, NodesWal
 
 use crate::frames::{long_track, short_track, take_head, validate_keyframes};
 use crate::kinds::validate_record;
-use node_rules::faults::Fault;
+use error::Refusal;
 use sheet_decode::fields::{lost, take_kind};
 use sheet_records::Kind;
 
-// The first fault of some nodes, and the ordinal of its record, which means nothing where there is none.
-#[derive(Clone, Copy)]
-pub struct FirstFault {
-    pub fault: Fault,
-    pub ordinal: usize,
-}
-
-// The first fault of some nodes, the place behind them, which is lost where they are not there, and the ordinal of what stands there.
+// The first fault of some nodes, with the ordinal of its record; the place behind them, which is lost where they are not there, and the
+// ordinal of what stands there.
 #[derive(Clone, Copy)]
 pub struct Walk {
-    pub found: FirstFault,
+    pub found: Option<(Refusal, usize)>,
     pub next: usize,
     pub ordinal: usize,
 }
@@ -32,24 +25,23 @@ pub struct Walk {
 // The kind of a track.
 const TRACK: u8 = 2;
 
-// The first fault of nodes and of those behind them.
-fn earlier(first: FirstFault, second: FirstFault) -> FirstFault
-    ensures { found_of result ≡ or_else (found_of first) (found_of second) }
+// A record's fault, with the record's ordinal.
+fn at_ordinal(ordinal: usize, fault: Result<(), Refusal>) -> Option<(Refusal, usize)>
+    ensures { found_of result ≡ at_ordinal ordinal (fault_of fault) }
 {
-    let fault = first.fault;
     match fault {
-        Fault::None => second,
-        Fault::Is(_) => first,
+        Ok(()) => None,
+        Err(refusal) => Some((refusal, ordinal)),
     }
 }
 
 // A node that holds no others: its fault and the place behind it.
-fn walk_leaf(fault: Fault, next: usize, ordinal: usize) -> Walk
+fn walk_leaf(fault: Result<(), Refusal>, next: usize, ordinal: usize) -> Walk
     requires { ordinal ≤ 65535 }
     ensures { (found_of result.found ≡ at_ordinal ordinal (fault_of fault)) × (result.next ≡ next) × (result.ordinal ≡ ordinal + 1) }
 {
     Walk {
-        found: FirstFault { fault, ordinal },
+        found: at_ordinal(ordinal, fault),
         next,
         ordinal: ordinal + 1,
     }
@@ -60,10 +52,7 @@ fn walk_nowhere(s: &[u8], ordinal: usize) -> Walk
     ensures { Lost s.now result.next × (result.ordinal ≡ ordinal) }
 {
     Walk {
-        found: FirstFault {
-            fault: Fault::None,
-            ordinal,
-        },
+        found: None,
         next: lost(s),
         ordinal,
     }
@@ -85,27 +74,22 @@ fn validate_node(text: &[u8], s: &[u8], at: usize, ordinal: usize, list: u32, de
         if head.count <= 64 {
             let frames = short_track(text, s, head.first, head.count);
             let track = validate_keyframes(text, s, head.count, frames);
-            let fault = track.fault;
-            return walk_leaf(fault, track.next, ordinal);
+            return walk_leaf(track.fault, track.next, ordinal);
         }
         let frames = long_track(text, s, head.first, head.count);
         let track = validate_keyframes(text, s, head.count, frames);
-        let fault = track.fault;
-        return walk_leaf(fault, track.next, ordinal);
+        return walk_leaf(track.fault, track.next, ordinal);
     }
     let r = validate_record(text, s, k.next, k.kind, list);
-    let fault = r.fault;
-    let kind = r.kind;
-    let Kind::Container(count) = kind else {
-        return walk_leaf(fault, r.next, ordinal);
+    let Kind::Container(count) = r.kind else {
+        return walk_leaf(r.fault, r.next, ordinal);
     };
     if depth == 0 {
         return walk_nowhere(s, ordinal);
     }
     let inside = validate_nodes(text, s, r.next, count, ordinal + 1, list, depth - 1);
-    let behind = inside.found;
     Walk {
-        found: earlier(FirstFault { fault, ordinal }, behind),
+        found: at_ordinal(ordinal, r.fault).or(inside.found),
         next: inside.next,
         ordinal: inside.ordinal,
     }
@@ -125,20 +109,14 @@ pub fn validate_nodes(
     requires { Reached s.now at ordinal × InLimit s.now }
     ensures { NodesWalk list text.now s.now depth at count ordinal result }
 {
-    let mut found = FirstFault {
-        fault: Fault::None,
-        ordinal,
-    };
+    let mut found = None;
     let mut a = at;
     let mut o = ordinal;
-    let mut k: usize = 0;
-    while k < count {
+    for _ in 0..count {
         let w = validate_node(text, s, a, o, list, depth);
-        let here = w.found;
-        found = earlier(found, here);
+        found = found.or(w.found);
         a = w.next;
         o = w.ordinal;
-        k += 1;
     }
     Walk {
         found,

@@ -10,8 +10,8 @@ use Rattle.validate.proofs.check.Goals as goal
 pub returns-in-Shut : goal.returns-in-Shut
 returns-in-Shut c =
     let the_parts = and_values check_values
-    (laws.refused_first _ _ _ c.open_text-of_text.ensures c.open_list-of_list.ensures
-    (sym c.in-Shut.is ∙ c.earlier-opened.ensures)) in record {
+    (laws.refused_first _ _ _ c.open_text.ensures c.open_list.ensures
+    (sym c.in-Shut.is ∙ c.earlier.ensures)) in record {
       value = the_parts.0;
       values = the_parts.1;
     }
@@ -21,8 +21,8 @@ returns-then-sheet-gt65535 c =
     let args = c.args in
     let the_parts = and_values check_values
     (laws.no_sheet args.list args.text.now args.sheet.now (too_long (length args.text.now) _ c.if-sheet-gt65535.true)
-    ∙ laws.bytes_decide _ _ _ c.open_text-of_text.ensures c.open_list-of_list.ensures
-    (sym c.in_default.is ∙ c.earlier-opened.ensures)) in record {
+    ∙ laws.bytes_decide _ _ _ c.open_text.ensures c.open_list.ensures
+    (sym c.in_default.is ∙ c.earlier.ensures)) in record {
       value = the_parts.0;
       values = the_parts.1;
     }
@@ -31,8 +31,8 @@ pub returns : goal.returns
 returns c =
     let the_parts = and_values check_values
     (c.check_bytes.ensures
-    ∙ laws.bytes_decide _ _ _ c.open_text-of_text.ensures c.open_list-of_list.ensures
-    (sym c.in_default.is ∙ c.earlier-opened.ensures)) in record {
+    ∙ laws.bytes_decide _ _ _ c.open_text.ensures c.open_list.ensures
+    (sym c.in_default.is ∙ c.earlier.ensures)) in record {
       value = the_parts.0;
       values = the_parts.1;
     }

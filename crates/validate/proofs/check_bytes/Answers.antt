@@ -14,9 +14,9 @@ returns-in-None c =
     c.if-walk-sheet.false
     )
 
-pub returns-in-Is : goal.returns-in-Is
-returns-in-Is c =
-    rw c.in-Is.is at (
+pub returns-in-Some : goal.returns-in-Some
+returns-in-Some c =
+    rw c.in-Some.is at (
     laws.judges _ _ _ c.requires c.take_field-head.ensures.reads c.validate_nodes-walk.ensures.reads
     c.if-walk-sheet.false
     )

@@ -1,10 +1,12 @@
 -- `validate::nodes::validate_node` and `validate_nodes` meet their contracts: bytes left fall; the loop keeps that what is told of
 -- the nodes left is told of all.
-use mathlib.Core.Path.{refl}
+use mathlib.Core.Path.{refl, ap, ◌∙◌}
 use native.Mathlib.Omega.{arith}
 use Rattle.sheet_records.proofs.RecordLaws.{moves}
 use Rattle.sheet_records.proofs.WalkLaws.{nearer}
 use Rattle.sheet.specs.Sheet.{inner}
+use Rattle.text.specs.Words.{or_else}
+use Rattle.validate.specs.WalkMeans.{found_of}
 use Rattle.validate.proofs.KindLaws as kind-laws
 use Rattle.validate.proofs.WalkLaws as walks
 use Rattle.validate.proofs.nodes.+validate_node_validate_nodes.Goals as goal
@@ -43,19 +45,19 @@ pub validate_node-returns : goal.validate_node-returns
 validate_node-returns t c =
     walks.box_walk _ _ _ c.args.depth
     (rw c.in-Container.is at (c.validate_record-r.ensures _ _ c.take_kind-k.ensures))
-    (omega (arith, c.if-depth-eq0.false)) c.validate_nodes-inside.ensures c.earlier.ensures refl refl
+    (omega (arith, c.if-depth-eq0.false)) c.validate_nodes-inside.ensures
+    (ap found_of c.or.ensures ∙ walks.or_found _ _ ∙ ap (λ o. or_else o (found_of c.validate_nodes-inside.result.found)) c.at_ordinal.ensures) refl refl
 
-pub validate_nodes-loop-k-init : goal.validate_nodes-loop-k-init
-validate_nodes-loop-k-init t c = (omega arith, c.requires.0, omega arith, walks.going_start _ _ _ (inner _ c.args.depth) _ _ _)
+pub validate_nodes-loop-init : goal.validate_nodes-loop-init
+validate_nodes-loop-init t c = (c.requires.0, omega arith, walks.going_start _ _ _ (inner _ c.args.depth) _ _ _)
 
-pub validate_nodes-loop-k-preserved : goal.validate_nodes-loop-k-preserved
-validate_nodes-loop-k-preserved t c =
+pub validate_nodes-loop-preserved : goal.validate_nodes-loop-preserved
+validate_nodes-loop-preserved t c =
     let w = c.validate_node-w.ensures in (
-      omega arith,
       w.on,
-      omega (arith, nearer w.reads, c.loop-k.invariant.2),
-      walks.going_next _ _ _ _ _ _ _ c.loop-k.invariant.3 c.loop-k-test.true w.reads c.earlier-found.ensures,
+      omega (arith, nearer w.reads, c.loop.invariant.1),
+      walks.going_next _ _ _ _ _ _ _ c.loop.invariant.2 (omega arith) w.reads (ap found_of c.or-found.ensures ∙ walks.or_found _ _),
     )
 
 pub validate_nodes-returns : goal.validate_nodes-returns
-validate_nodes-returns t c = record { reads = walks.going_done _ _ _ _ _ _ _ c.loop-k.invariant.3 c.loop-k-test.false; on = c.loop-k.invariant.1 }
+validate_nodes-returns t c = record { reads = walks.going_done _ _ _ _ _ _ _ c.loop.invariant.2 (omega arith); on = c.loop.invariant.0 }

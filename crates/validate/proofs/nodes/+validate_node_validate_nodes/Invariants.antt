@@ -11,10 +11,7 @@ decreases-validate_node l = 2 * (length l.s.now - l.at)
 abbrev pub decreases-validate_nodes : goal.decreases-validate_nodes
 decreases-validate_nodes l = 2 * (length l.s.now - l.at) + 1
 
-abbrev pub invariant-validate_nodes-loop-k : goal.invariant-validate_nodes-loop-k
-invariant-validate_nodes-loop-k l =
-    (l.k ≤ l.count) × Reached l.s l.a l.o × (length l.s - l.a ≤ length l.s - l.at)
-    × walks.Going l.list l.text l.s (inner (length l.text) l.depth) l.ordinal l.at l.count (found_of l.found) l.a l.o l.k
-
-abbrev pub decreases-validate_nodes-loop-k : goal.decreases-validate_nodes-loop-k
-decreases-validate_nodes-loop-k l = l.count - l.k
+abbrev pub invariant-validate_nodes-loop : goal.invariant-validate_nodes-loop
+invariant-validate_nodes-loop l =
+    Reached l.s l.a l.o × (length l.s - l.a ≤ length l.s - l.at)
+    × walks.Going l.list l.text l.s (inner (length l.text) l.depth) l.ordinal l.at l.count (found_of l.found) l.a l.o l.counter
