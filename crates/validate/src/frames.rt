@@ -9,7 +9,8 @@ use error::Refusal;
 use node_rules::faults::validate_easing;
 use sheet_decode::fields::{lost, take_field, take_span};
 use sheet_decode::nodes::{skip_entries, take_entry};
-use sheet_decode::optional::take_opt_loop;
+use sheet_decode::optional::take_opt;
+use sheet_decode::values::take_loop;
 
 // A track's first fault, and the place behind it.
 #[derive(Clone, Copy)]
@@ -123,7 +124,7 @@ pub fn validate_keyframes(text: &[u8], s: &[u8], count: usize, frames: FramesChe
     ensures { (at first : ℕ) → HeadStands (length text.now) s.now at count first → FramesTell text.now s.now first count frames → TrackTells text.now s.now at result }
 {
     let end = skip_entries(s, frames.at, text.len(), frames.left);
-    let next = take_opt_loop(s, end).next;
+    let next = take_opt(s, end, |at| take_loop(s, at)).next;
     if count < 2 {
         return TrackCheck {
             fault: Err(Refusal::TooFewFrames),
