@@ -51,6 +51,8 @@ LISTS = {
     " rebeccapurple red rosybrown royalblue saddlebrown salmon sandybrown seagreen seashell sienna silver skyblue slateblue"
     " slategray slategrey snow springgreen steelblue tan teal thistle tomato turquoise violet wheat white whitesmoke yellow"
     " yellowgreen",
+    # no list's words: what each number above the lists' stood for
+    "Empty": "",
 }
 CRATE = "crates/words"
 LIMB = 256**8
@@ -304,6 +306,8 @@ pub fn holds(list: List, text: &[u8], at: usize, n: usize) -> bool
 
 def joined(names):
     """Words of a list, in lines of at most 120 characters."""
+    if not names:
+        return "[]"
     rows = [names[0]]
     for name in [*names[1:], "[]"]:
         if len(rows[-1]) + len(name) > 100:

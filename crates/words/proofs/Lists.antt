@@ -12,7 +12,7 @@ all_lists =
     ∷ list.ColorRows ∷ list.PathRows ∷ list.RoughFields ∷ list.SlowMoFields ∷ list.GridFields
     ∷ list.RandomFields ∷ list.OpeningFields ∷ list.Curves ∷ list.LoopModes ∷ list.GroupModes
     ∷ list.GridOrigins ∷ list.Patterns ∷ list.Spaces ∷ list.Waveforms ∷ list.Along ∷ list.SpringPresets
-    ∷ list.Integrators ∷ list.Easings ∷ list.Presets ∷ list.Colors ∷ list.CssColors ∷ []
+    ∷ list.Integrators ∷ list.Easings ∷ list.Presets ∷ list.Colors ∷ list.CssColors ∷ list.Empty ∷ []
 
 abbrev pub number : WordList → ℕ
 number list.Nodes = 0
@@ -42,6 +42,7 @@ number list.Easings = 23
 number list.Presets = 24
 number list.Colors = 25
 number list.CssColors = 26
+number list.Empty = 27
 
 pub at_number : (k : WordList) → get_or all_lists (number k) list.Nodes ≡ k
 at_number list.Nodes = refl
@@ -71,3 +72,4 @@ at_number list.Easings = refl
 at_number list.Presets = refl
 at_number list.Colors = refl
 at_number list.CssColors = refl
+at_number list.Empty = refl

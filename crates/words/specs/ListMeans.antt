@@ -94,3 +94,5 @@ list_of list.CssColors =
     ∷ "sienna" ∷ "silver" ∷ "skyblue" ∷ "slateblue" ∷ "slategray" ∷ "slategrey" ∷ "snow" ∷ "springgreen"
     ∷ "steelblue" ∷ "tan" ∷ "teal" ∷ "thistle" ∷ "tomato" ∷ "turquoise" ∷ "violet" ∷ "wheat" ∷ "white"
     ∷ "whitesmoke" ∷ "yellow" ∷ "yellowgreen" ∷ [])
+list_of list.Empty =
+    words ([])

@@ -42,6 +42,7 @@ pub enum List {
     Presets,
     Colors,
     CssColors,
+    Empty,
 }
 
 // ---- the words of a list of at most 7 bytes, of 8 to 15, and of 16 to 23
