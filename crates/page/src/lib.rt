@@ -19,10 +19,8 @@ fn put_word(out: &mut [u8], at: usize, word: &[u8]) -> usize
     ensures { Puts out.old at word.now out.new result }
 {
     let mut end = at;
-    let mut i = 0;
-    while i < word.len() {
-        end = text::put(out, end, word[i]);
-        i += 1;
+    for &b in word {
+        end = text::put(out, end, b);
     }
     end
 }
