@@ -21,7 +21,7 @@ pub fn plane(text: &[u8], sheet: &[u8], out: &mut [u8]) -> LineAnswer
         return LineAnswer::Refused { refusal, place };
     }
     match sheet_shape(sheet, text.len()) {
-        Shape::Of { rest, numbers } => {
+        Some(Shape { rest, numbers }) => {
             let source = Source {
                 bytes: sheet,
                 text_len: text.len(),
@@ -31,7 +31,7 @@ pub fn plane(text: &[u8], sheet: &[u8], out: &mut [u8]) -> LineAnswer
             };
             source.carry(out)
         }
-        Shape::Nothing => LineAnswer::Refused {
+        None => LineAnswer::Refused {
             refusal: Refusal::NotASheet,
             place: 0,
         },
@@ -47,7 +47,7 @@ pub fn unplane(text: &[u8], planed: &[u8], out: &mut [u8]) -> LineAnswer
         return LineAnswer::Refused { refusal, place };
     }
     match planed_shape(planed, text.len()) {
-        Shape::Of { rest, numbers } => {
+        Some(Shape { rest, numbers }) => {
             let source = Source {
                 bytes: planed,
                 text_len: text.len(),
@@ -57,7 +57,7 @@ pub fn unplane(text: &[u8], planed: &[u8], out: &mut [u8]) -> LineAnswer
             };
             source.carry(out)
         }
-        Shape::Nothing => LineAnswer::Refused {
+        None => LineAnswer::Refused {
             refusal: Refusal::NotPlaned,
             place: 0,
         },

@@ -6,7 +6,8 @@ ghost use Rattle.plane.specs.CarryMeans.{FrameMoves, BeforeFrames, FramesMove, B
 
 use error::{LineAnswer, Refusal};
 use sheet_decode::fields::take_field;
-use sheet_decode::optional::take_opt_loop;
+use sheet_decode::optional::take_opt;
+use sheet_decode::values::take_loop;
 use sheet_records::take_record;
 use sheet_shape::walk::take_frame;
 
@@ -133,7 +134,7 @@ impl Source<'_> {
     {
         let count = take_field(self.bytes, at + 7, 2);
         let frames = self.move_frames(out, progress, at + 9, count.v as usize);
-        let loop_mode = take_opt_loop(self.bytes, frames.next);
+        let loop_mode = take_opt(self.bytes, frames.next, |a| take_loop(self.bytes, a));
         Moved {
             progress: frames.progress,
             next: loop_mode.next,

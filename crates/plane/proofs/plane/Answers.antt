@@ -17,18 +17,18 @@ returns-in-Shut c =
 
 pub invariant_of-source-clause-long : goal.invariant_of-source-clause-long
 invariant_of-source-clause-long c =
-    let m = rw c.in-Of.is at c.sheet_shape.ensures in
+    let m = rw c.in-Some.is at c.sheet_shape.ensures in
     planes_within (carries_wide _ _ m.0 _ _ m.1 m.2 m.3)
 
 pub carry-requires : goal.carry-requires
 carry-requires c =
-    let m = rw c.in-Of.is at c.sheet_shape.ensures in
+    let m = rw c.in-Some.is at c.sheet_shape.ensures in
     carries_wide _ _ m.0 _ _ m.1 m.2 m.3
 
-pub returns-in-Of : goal.returns-in-Of
-returns-in-Of c =
+pub returns-in-Some : goal.returns-in-Some
+returns-in-Some c =
     let args = c.args in
-    let m = rw c.in-Of.is at c.sheet_shape.ensures in
+    let m = rw c.in-Some.is at c.sheet_shape.ensures in
     let the_parts = with_values line_values (c.carry.ensures (carries_wide _ _ m.0 _ _ m.1 m.2 m.3)
     ∙ plane_some args.text.now args.sheet.now args.out.now m.0
     (sym c.in_default.is ∙ c.open_text.ensures) m.1) in record {
@@ -36,12 +36,12 @@ returns-in-Of c =
       values = the_parts.1;
     }
 
-pub returns-in-Nothing : goal.returns-in-Nothing
-returns-in-Nothing c =
+pub returns-in-None : goal.returns-in-None
+returns-in-None c =
     let args = c.args in
     let the_parts = with_values line_values (plane_none args.text.now args.sheet.now args.out.now
     (sym c.in_default.is ∙ c.open_text.ensures)
-    (rw c.in-Nothing.is at c.sheet_shape.ensures)) in record {
+    (rw c.in-None.is at c.sheet_shape.ensures)) in record {
       out_after = the_parts.0;
       values = the_parts.1;
     }
