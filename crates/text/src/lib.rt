@@ -41,22 +41,38 @@ pub fn has(set: &[u8], b: u8) -> bool
     set.iter().any(|&c| b == c)
 }
 
+// Whether b lies between two bytes. A branch for each test: with std's `is_ascii_*` the tests are joined, and reading takes more time.
+fn between(lo: u8, hi: u8, b: u8) -> bool
+    ensures { result ≡ within lo hi b }
+{
+    if lo <= b { b <= hi } else { false }
+}
+
 pub fn is_upper(b: u8) -> bool
     ensures { result ≡ is_upper b }
 {
-    b.is_ascii_uppercase()
+    between(b'A', b'Z', b)
 }
 
 fn is_letter(b: u8) -> bool
     ensures { result ≡ is_letter b }
 {
-    b.is_ascii_alphabetic() || b == b'_'
+    if between(b'a', b'z', b) {
+        return true;
+    }
+    if is_upper(b) {
+        return true;
+    }
+    b == b'_'
 }
 
 fn is_name(b: u8) -> bool
     ensures { result ≡ is_name b }
 {
-    is_letter(b) || b.is_ascii_digit()
+    if is_letter(b) {
+        return true;
+    }
+    between(b'0', b'9', b)
 }
 
 // Joined with `|`, which takes less time here than a `matches!`.
@@ -71,7 +87,10 @@ fn is_blank(b: u8) -> bool
 fn is_inside(b: u8) -> bool
     ensures { result ≡ is_inside b }
 {
-    matches!(b, b' '..=b'~') && !matches!(b, b'"' | b'\\')
+    if between(b' ', b'~', b) {
+        return (b != b'"') & (b != b'\\');
+    }
+    false
 }
 
 #[tactic(auto, unfolding(crate::specs::Bytes::one_of))]
@@ -94,7 +113,7 @@ pub fn in_class(k: Class, b: u8) -> bool
 {
     match k {
         Class::Blank => is_blank(b),
-        Class::Digit => b.is_ascii_digit(),
+        Class::Digit => between(b'0', b'9', b),
         Class::Letter => is_letter(b),
         Class::NameByte => is_name(b),
         Class::Inside => is_inside(b),
@@ -119,17 +138,19 @@ pub fn byte_at(text: &[u8], i: usize) -> u8
     text.get(i).copied().unwrap_or(0)
 }
 
-// The end of the run of bytes of class k that begins at `from`.
+// The end of the run of bytes of class k that begins at `from`. Each token is cut by it: `position` over the rest of the text takes more
+// instructions.
 pub fn run_end(text: &[u8], from: usize, k: Class) -> usize
     ensures { result ≡ from + run (passes k) (drop from text.now) }
 {
-    let Some(rest) = text.get(from..) else {
-        return from;
-    };
-    from + rest
-        .iter()
-        .position(|&b| !in_class(k, b))
-        .unwrap_or(rest.len())
+    let mut i = from;
+    while i < text.len() {
+        if !in_class(k, text[i]) {
+            return i;
+        }
+        i += 1;
+    }
+    i
 }
 
 // The bytes of a text from a start, of a size, as far as there are any.
