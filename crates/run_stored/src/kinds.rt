@@ -67,12 +67,14 @@ fn answer_file<K: Kind>(
 ) -> io::Result<()> {
     let name = kind.name();
     writeln!(to, "== {name}")?;
+    to.flush()?;
     let path = format!(in rt.alloc(); "{name}/cases")?;
     match fs::open(rt, path.as_str()) {
         Ok(file) => answer_cases(rt.alloc(), to, kind, file, line, kept),
         Err(e) => {
             eprintln!(rt; "{name}: {e}")?;
-            writeln!(to, "not opened")
+            writeln!(to, "not opened")?;
+            to.flush()
         }
     }
 }

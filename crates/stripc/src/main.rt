@@ -36,6 +36,6 @@ fn print_page(out: &mut impl Write, text: &[u8]) -> io::Result<()> {
         LineAnswer::Refused {
             refusal: _,
             place: _,
-        } => Err(io::Error::from(ErrorKind::OutOfMemory)),
+        } => Err(io::Error::from(ErrorKind::WriteZero)),
     }
 }
