@@ -83,7 +83,7 @@ pub fn copy_value(s: &[u8], at: usize, pen: &mut Pen) -> usize
     copy_array(s, k.next, pen)
 }
 
-fn put_truth(pen: &mut Pen, v: bool)
+pub fn put_truth(pen: &mut Pen, v: bool)
     ensures { Puts (fresh.truth v) pen.old pen.new }
 {
     if v {

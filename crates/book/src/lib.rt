@@ -129,7 +129,7 @@ impl Row {
     };
 
     // The name of its item.
-    fn name(self, text: &[u8]) -> &[u8]
+    pub fn name(self, text: &[u8]) -> &[u8]
         ensures { result.now ≡ part text.now self.name_start self.name_size }
     {
         text::part(

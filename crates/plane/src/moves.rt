@@ -183,7 +183,7 @@ impl Source<'_> {
     }
 
     // Carries a sheet to its planed form, or a planed one back, if there is room.
-    pub fn carry(self, out: &mut [u8]) -> LineAnswer
+    pub(crate) fn carry(self, out: &mut [u8]) -> LineAnswer
         requires { Carries self.width self.text_len self.bytes.now (self.rest + self.width * self.numbers) self.rest self.numbers }
         ensures { Carried self.entry.width self.entry.text_len self.entry.bytes.now out.old (self.entry.rest + self.entry.width * self.entry.numbers) self.entry.rest self.entry.numbers result out.new }
     {
