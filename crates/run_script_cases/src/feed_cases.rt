@@ -1,6 +1,8 @@
 // The kind `feed`, whose lines keep totals. A line's first byte says what is done: 0 feeds the text that follows; 1 feeds it with a scratch
 // that is a word short, 2 with a sheet of 8 bytes; 3 empties the totals; 4 sets a word, its number in one byte and its value in four;
 // 5 writes the totals, 6 the two means. tools/feed_cases.py makes the cases.
+ghost use Rattle.std.specs.Prelude.{◌≤◌};
+
 use error::{FeedAnswer, MeanAnswer};
 use parser::SCRATCH_WORDS;
 use run_stored::answers::{Checked, Refused};
@@ -44,23 +46,9 @@ impl From<u8> for Task {
 pub fn answer(to: &mut impl Write, case: &Case<'_>, totals: &mut Totals) -> io::Result<()> {
     let (first, rest) = case.field(0).split_first().unwrap_or((&0, &[]));
     match Task::from(*first) {
-        Task::Feed => feed(
-            to,
-            totals,
-            rest,
-            &mut [0; SCRATCH_WORDS],
-            &mut [0; SHEET_BYTES],
-        ),
-        Task::FeedWithLessScratch => {
-            feed(
-                to,
-                totals,
-                rest,
-                &mut [0; LESS_SCRATCH_WORDS],
-                &mut [0; SHEET_BYTES],
-            )
-        }
-        Task::FeedWithLessSheet => feed(to, totals, rest, &mut [0; SCRATCH_WORDS], &mut [0; 8]),
+        Task::Feed => feed::<SCRATCH_WORDS, SHEET_BYTES>(to, totals, rest),
+        Task::FeedWithLessScratch => feed::<LESS_SCRATCH_WORDS, SHEET_BYTES>(to, totals, rest),
+        Task::FeedWithLessSheet => feed::<SCRATCH_WORDS, 8>(to, totals, rest),
         Task::Empty => {
             totals.fill(0);
             Ok(())
@@ -77,15 +65,18 @@ pub fn answer(to: &mut impl Write, case: &Case<'_>, totals: &mut Totals) -> io::
     }
 }
 
-// Feeds a text, and writes the answer.
-fn feed(
+// Feeds a text with so many words of scratch and bytes of a sheet, and writes the answer.
+fn feed<const WORDS: usize, const BYTES: usize>(
     to: &mut impl Write,
     totals: &mut Totals,
     text: &[u8],
-    scratch: &mut [u16],
-    sheet: &mut [u8],
-) -> io::Result<()> {
-    match feed::feed(totals, text, scratch, sheet, 1) {
+) -> io::Result<()>
+    requires words { WORDS ≤ 64 }
+    requires bytes { BYTES ≤ 49152 }
+{
+    let mut scratch = [0u16; WORDS];
+    let mut sheet = [0u8; BYTES];
+    match feed::feed(totals, text, &mut scratch, &mut sheet, 1) {
         FeedAnswer::Counted { answer } => writeln!(to, "{}", Checked(answer)),
         FeedAnswer::Refused { refusal, place } => {
             writeln!(to, "unfed {}", Refused { refusal, place })

@@ -29,7 +29,8 @@ pub fn answer(alloc: Global, to: &mut impl Write, case: &Case<'_>) -> io::Result
             out.as_slice()
         }
     };
-    if rest.iter().all(|b| *b == 0) {
+    let (words, bytes) = rest.as_chunks::<8>();
+    if words.iter().all(|word| u64::from_ne_bytes(*word) == 0) && bytes.iter().all(|b| *b == 0) {
         writeln!(to, "\tzero")
     } else {
         writeln!(to, "\tnot zero")

@@ -28,9 +28,11 @@ pub fn answer(alloc: Global, to: &mut impl Write, case: &Case<'_>) -> io::Result
     }
     let mut heights = vec![in alloc; 0x0707i16; wanted]?;
     let answer = Checked(wave::wave(kind, phase, &mut heights));
-    write!(to, "{answer}\t")?;
-    for height in heights {
-        write!(to, "{height:04X}")?;
+    let mut bytes = vec![in alloc; 0; 2 * wanted]?;
+    let (pairs, _) = bytes.as_chunks_mut::<2>();
+    for (pair, height) in pairs.iter_mut().zip(&heights) {
+        *pair = height.to_be_bytes();
     }
-    writeln!(to)
+    let heights = hex::encode_upper(alloc, bytes)?;
+    writeln!(to, "{answer}\t{heights}")
 }

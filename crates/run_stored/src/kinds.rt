@@ -5,7 +5,7 @@
 use crate::cases::{Case, Line};
 use std::alloc::Global;
 use std::env::FillError;
-use std::io::{BufReader, BufWriter, Read, Write};
+use std::io::{BufRead, BufReader, BufWriter, ErrorKind, Read, Write};
 use std::rt::{Env, Files};
 use std::{fs, io};
 
@@ -89,8 +89,38 @@ fn answer_cases<K: Kind>(
     kept: &mut K::Kept,
 ) -> io::Result<()> {
     line.clear();
-    for byte in BufReader::new(alloc, from)?.bytes() {
-        match byte? {
+    let mut from = BufReader::new(alloc, from)?;
+    for _ in 0..u64::MAX {
+        let size = match from.fill_buf() {
+            Ok(part) => {
+                answer_part(alloc, to, kind, part, line, kept)?;
+                part.len()
+            }
+            Err(e) if e.kind() == ErrorKind::Interrupted => continue,
+            Err(e) => return Err(e),
+        };
+        if size == 0 {
+            break;
+        }
+        from.consume(size);
+    }
+    if line.is_begun() {
+        writeln!(to, "no end of line")?;
+    }
+    Ok(())
+}
+
+// Answers each line that ends in a part of a file. What is behind the last one begins a line.
+fn answer_part<K: Kind>(
+    alloc: Global,
+    to: &mut impl Write,
+    kind: K,
+    part: &[u8],
+    line: &mut Line,
+    kept: &mut K::Kept,
+) -> io::Result<()> {
+    for byte in part {
+        match *byte {
             b'\n' => {
                 match line.end() {
                     Some(case) => kind.answer(alloc, to, &case, kept)?,
@@ -101,9 +131,6 @@ fn answer_cases<K: Kind>(
             }
             byte => line.push(byte),
         }
-    }
-    if line.is_begun() {
-        writeln!(to, "no end of line")?;
     }
     Ok(())
 }
