@@ -4,18 +4,19 @@
 #![tactic(auto)]
 
 use number::Stored;
+use run_stored::input::read_full;
 use std::fmt::{Display, Formatter};
-use std::io::{Read, Write};
+use std::io::Write;
 use std::{fmt, io};
 
 // How much of the input is read.
-const INPUT_BYTES: u64 = 65536;
+const INPUT_BYTES: usize = 65536;
 
 fn main(rt: HostRuntime) -> io::Result<()> {
-    let mut input = Vec::new(rt.alloc());
-    rt.reader().take(INPUT_BYTES).read_to_end(&mut input)?;
+    let mut input = [0u8; INPUT_BYTES];
+    let n = read_full(&mut rt.reader(), &mut input)?;
     let mut to = io::writer(&rt);
-    let (lines, _) = input.as_slice().as_chunks::<64>();
+    let (lines, _) = input[..n].as_chunks::<64>();
     for line in lines {
         answer_line(&mut to, line)?;
     }

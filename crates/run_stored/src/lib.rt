@@ -4,4 +4,5 @@
 
 pub mod answers;
 pub mod cases;
+pub mod input;
 pub mod kinds;

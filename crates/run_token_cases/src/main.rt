@@ -5,22 +5,23 @@
 ghost use Rattle.std.specs.Prelude.{◌<◌, ◌≤◌, length, vec_len, IfOk};
 
 use run_stored::answers::Refused;
+use run_stored::input::read_full;
 use std::alloc::{AllocError, Global};
 use std::io;
-use std::io::{Read, Write};
+use std::io::Write;
 use token::SplitAnswer;
 
 // How much of the input is read.
-const INPUT_BYTES: u64 = 65536;
+const INPUT_BYTES: usize = 65536;
 
 // The longest text. What a line has more is left out.
 const TEXT_BYTES: usize = 1024;
 
 fn main(rt: HostRuntime) -> io::Result<()> {
-    let mut input = Vec::new(rt.alloc());
-    rt.reader().take(INPUT_BYTES).read_to_end(&mut input)?;
+    let mut input = [0u8; INPUT_BYTES];
+    let n = read_full(&mut rt.reader(), &mut input)?;
     let mut to = io::writer(&rt);
-    for line in input.as_slice().split_inclusive(|b| !b.is_ascii_hexdigit()) {
+    for line in input[..n].split_inclusive(|b| !b.is_ascii_hexdigit()) {
         let text = text_of(rt.alloc(), line)?;
         answer(&mut to, text.as_slice())?;
     }

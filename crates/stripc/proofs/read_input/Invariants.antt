@@ -1,0 +1,9 @@
+-- `stripc::read_input` meets its contract: `done` stays within the text.
+use Rattle.std.proofs.Common.{length, ◌-◌, ◌≤◌}
+use Rattle.stripc.proofs.read_input.Given as goal
+
+abbrev pub invariant-loop-done : goal.invariant-loop-done
+invariant-loop-done g l = l.done ≤ length l.text
+
+abbrev pub decreases-loop-done : goal.decreases-loop-done
+decreases-loop-done g l = length l.initial.text - l.done
