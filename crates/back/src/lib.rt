@@ -11,7 +11,7 @@ ghost use Rattle.back_spelling.specs.Means.{page, on_page};
 ghost use Rattle.writing.specs.Back as Back;
 ghost use Rattle.writing.specs.Back.{written, writing};
 
-use back_spelling::Pen;
+use back_spelling::{Pen, PieceWriter};
 use error::{CheckAnswer, LineAnswer, Refusal};
 
 fn refused(out: &mut [u8], refusal: Refusal, place: usize) -> LineAnswer
@@ -22,9 +22,10 @@ fn refused(out: &mut [u8], refusal: Refusal, place: usize) -> LineAnswer
 }
 
 // What was written, or 34, or 35.
-fn finish(out: &mut [u8], at: usize, fits: bool) -> LineAnswer
-    ensures { (start : List ℕ) (g : GName) (x : Sense) → Written (pieces x) (page g start 0) (on_page g out.old at fits) → (result, out.new) ≡ written start x }
+fn finish(out: &mut [u8], pen: Pen) -> LineAnswer
+    ensures { (start : List ℕ) (g : GName) (x : Sense) → Written (pieces x) (page g start 0) (on_page g out.old pen.at pen.fits) → (result, out.new) ≡ written start x }
 {
+    let Pen { at, fits } = pen;
     if !fits {
         return refused(out, Refusal::Unwritable, 0);
     }
@@ -52,10 +53,10 @@ pub fn write(text: &[u8], sheet: &[u8], out: &mut [u8], list: u32) -> LineAnswer
         CheckAnswer::Refused { refusal, place } => refused(out, refusal, place),
         CheckAnswer::Accepted => {
             let head = sheet_decode::fields::take_field(sheet, 0, 2);
-            let mut pen = Pen::new(out);
-            back_nodes::copy_nodes(text, sheet, head.next, head.v as usize, &mut pen);
-            let Pen { out, at, fits } = pen;
-            finish(out, at, fits)
+            let mut writer = PieceWriter::new(out);
+            back_nodes::copy_nodes(text, sheet, head.next, head.v as usize, &mut writer);
+            let PieceWriter { out, pen } = writer;
+            finish(out, pen)
         }
     }
 }

@@ -22,7 +22,7 @@ use Rattle.pieces.specs.Pieces.{Piece, a_word, a_numeral}
 use Rattle.ast.specs.Tree.{span_bytes}
 use Rattle.fresh.specs.Fresh.{Writer, mark, negative, minus_if, size_of, signed_by, f32, field}
 use Rattle.back_spelling.specs.Means.{Page, lent, put, run, page_of}
-use Rattle.back_spelling.specs.declared.Pen.{Pen}
+use Rattle.back_spelling.specs.declared.PieceWriter.{PieceWriter}
 use Rattle.back_spelling.proofs.PageLaws.{same_buffer, lent-run}
 use Rattle.back_copying.specs.Means.{Written, Copies}
 use Rattle.back_copying.specs.WordMeans.{Step, FieldPut, absent, present}
@@ -54,7 +54,7 @@ pub written_kept : {w : Writer} {p q : Page} → Written w p q → lent q ≡ le
 unfolding run
 written_kept {w} {p} {q} x = ap lent (sym (x.is [])) ∙ lent-run (w []) p
 
-module _ (c d : Pen) where
+module _ (c d : PieceWriter) where
   pub put_keeps : {w : Writer} → Written w (page_of c) (page_of d)
       → (d.out.ghost_name ≡ c.out.ghost_name) × (length d.out.now ≡ length c.out.now)
   put_keeps x = same_buffer c d (written_kept x)
@@ -185,9 +185,9 @@ pub present_field : {A : Type 0} (n : String) (w : A → Writer) (c : Form A) {n
 present_field n w c r h e x y = is_present c (field n w) r h (under_name n w e x y)
 
 -- a field that may be absent, by what is told of the step that writes its value
-pub field_put : {A : Type 0} (n : String) (w : A → Writer) (c : Form A) {step : Step} {name s : List ℕ} {at next : ℕ} {p q : Pen} → bytes n ≡ name
+pub field_put : {A : Type 0} (n : String) (w : A → Writer) (c : Form A) {step : Step} {name s : List ℕ} {at next : ℕ} {p q : PieceWriter} → bytes n ≡ name
     → FieldPut name step s at p q next
-    → ((m k : ℕ) (o r : MutBor Pen) → step m o k r → Copies c w s m (page_of o.now) (page_of r.now) k)
+    → ((m k : ℕ) (o r : MutBor PieceWriter) → step m o k r → Copies c w s m (page_of o.now) (page_of r.now) k)
     → Copies (opt c) (field n w) s at (page_of p) (page_of q) next
 field_put n w c e (absent h z) f = absent_field n w c h z
 field_put n w c e (present o r h z x y) f = present_field n w c h z e x (f _ _ o r y)

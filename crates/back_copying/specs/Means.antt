@@ -5,7 +5,7 @@ use Rattle.sheet_decode.specs.Means.{Reads}
 use Rattle.pieces.specs.Pieces.{Piece}
 use Rattle.fresh.specs.Fresh.{Writer}
 use Rattle.back_spelling.specs.Means.{Page, lent, run, page_of}
-use Rattle.back_spelling.specs.declared.Pen.{Pen}
+use Rattle.back_spelling.specs.declared.PieceWriter.{PieceWriter}
 
 -- the page p has become q: whatever pieces follow, those of the writer w in front of them have been put
 pub record Written (w : Writer) (p q : Page) : Type 0 where
@@ -17,9 +17,9 @@ pub record Copies {A : Type 0} (c : Form A) (w : A → Writer) (s : List ℕ) (a
   pub reads : Reads {X = List Piece → Page} c (λ a ps. run (w a ps) p) s at (λ ps. run ps q) next
   pub kept : lent q ≡ lent p
 
--- the same of the code's pens
-abbrev pub Puts : Writer → Pen → Pen → Type 0
+-- the same of the code's writers
+abbrev pub Puts : Writer → PieceWriter → PieceWriter → Type 0
 Puts w c d = Written w (page_of c) (page_of d)
 
-abbrev pub CopiesTo : {A : Type 0} → Form A → (A → Writer) → List ℕ → ℕ → Pen → Pen → ℕ → Type 0
-CopiesTo c w s at pen after next = Copies c w s at (page_of pen) (page_of after) next
+abbrev pub CopiesTo : {A : Type 0} → Form A → (A → Writer) → List ℕ → ℕ → PieceWriter → PieceWriter → ℕ → Type 0
+CopiesTo c w s at writer after next = Copies c w s at (page_of writer) (page_of after) next

@@ -6,7 +6,7 @@ use Rattle.codec.specs.Codec.{below}
 use Rattle.sheet_decode.specs.Means.{Number}
 use Rattle.pieces.specs.Pieces.{a_word, word_like}
 use Rattle.fresh.specs.Fresh.{mark}
-use Rattle.back_spelling.specs.declared.Pen.{Pen}
+use Rattle.back_spelling.specs.declared.PieceWriter.{PieceWriter}
 use Rattle.back_copying.specs.Means.{Puts}
 
 -- a literal
@@ -21,12 +21,12 @@ unfoldable pub all_words : List (List ℕ) → Bool
 all_words [] = true
 all_words (w ∷ ws) = word_like w && all_words ws
 
--- how a step reads a value of a sheet at a place and writes it: with the place behind it, and what it leaves of the pen
+-- how a step reads a value of a sheet at a place and writes it: with the place behind it, and what it leaves of the writer
 abbrev pub Step : Type 1
-Step = ℕ → MutBor Pen → ℕ → MutBor Pen → Type 0
+Step = ℕ → MutBor PieceWriter → ℕ → MutBor PieceWriter → Type 0
 
 -- a field that may be absent was written: nothing; or its name, and by a step its value
-pub data FieldPut (name : List ℕ) (step : Step) (s : List ℕ) (at : ℕ) (p : Pen) : Pen → ℕ → Type 0 where
+pub data FieldPut (name : List ℕ) (step : Step) (s : List ℕ) (at : ℕ) (p : PieceWriter) : PieceWriter → ℕ → Type 0 where
   absent : {b next : ℕ} → Number (below 2) 2 s at b next → b ≡ 0 → FieldPut name step s at p p next
-  present : {b m next : ℕ} (o r : MutBor Pen) → Number (below 2) 2 s at b m → (b ≡ 0 → ⊥)
+  present : {b m next : ℕ} (o r : MutBor PieceWriter) → Number (below 2) 2 s at b m → (b ≡ 0 → ⊥)
       → Puts (λ ps. a_word name ∷ mark ":" ∷ ps) p o.now → step m o next r → FieldPut name step s at p r.now next

@@ -8,16 +8,16 @@ ghost use Rattle.back_copying.specs.Means.{CopiesTo};
 
 use crate::easings::copy_easing;
 use back_copying::fields::put_field;
-use back_spelling::Pen;
+use back_spelling::PieceWriter;
 use sheet_decode::fields::take_byte;
 
-pub fn copy_opt_easing(text: &[u8], s: &[u8], at: usize, pen: &mut Pen) -> usize
-    ensures { CopiesTo (opt (easing_form (length text.now))) (λ o. fresh.field "easing" fresh.easing (option_sense text.now o)) s.now at pen.old pen.new result }
+pub fn copy_opt_easing(text: &[u8], s: &[u8], at: usize, writer: &mut PieceWriter) -> usize
+    ensures { CopiesTo (opt (easing_form (length text.now))) (λ o. fresh.field "easing" fresh.easing (option_sense text.now o)) s.now at writer.old writer.new result }
 {
     let k = take_byte(s, at, 2);
     if k.v == 0 {
         return k.next;
     }
-    put_field(pen, b"easing");
-    copy_easing(text, s, k.next, pen)
+    put_field(writer, b"easing");
+    copy_easing(text, s, k.next, writer)
 }

@@ -20,7 +20,7 @@ use back_copying::values::{
 };
 use back_easings::easings::{copy_easing, copy_loop};
 use back_easings::options::copy_opt_easing;
-use back_spelling::Pen;
+use back_spelling::PieceWriter;
 use sheet_decode::fields::{take_byte, take_field, take_flag};
 
 const PRESETS: [&str; 5] = ["gentle", "wobbly", "stiff", "slow", "snappy"];
@@ -29,196 +29,196 @@ const INTEGRATORS: [&str; 2] = ["semi_implicit_euler", "rk4"];
 
 const WAVES: [&str; 4] = ["sine", "sawtooth", "square", "triangle"];
 
-pub fn copy_tween(text: &[u8], s: &[u8], at: usize, pen: &mut Pen) -> usize
-    ensures { CopiesTo (tween_form (length text.now)) (λ d. body text.now (tween d)) s.now at pen.old pen.new result }
+pub fn copy_tween(text: &[u8], s: &[u8], at: usize, writer: &mut PieceWriter) -> usize
+    ensures { CopiesTo (tween_form (length text.now)) (λ d. body text.now (tween d)) s.now at writer.old writer.new result }
 {
-    let at = copy_name(text, s, at, pen);
-    pen.put_mark(b':');
-    let at = copy_value(s, at, pen);
-    pen.put_pair(b'=', b'>');
-    let at = copy_value(s, at, pen);
-    let at = copy_f32_field(s, at, pen, b"duration");
-    let at = copy_opt_easing(text, s, at, pen);
-    let at = copy_opt(s, at, pen, b"delay", copy_f32);
-    let at = copy_opt(s, at, pen, b"time_scale", copy_f32);
-    let at = copy_opt(s, at, pen, b"loop", copy_loop);
-    let at = copy_opt(s, at, pen, b"snap", copy_f32);
-    let at = copy_opt(s, at, pen, b"round", copy_u32);
-    let at = copy_reverse(s, at, pen);
-    pen.put_mark(b';');
+    let at = copy_name(text, s, at, writer);
+    writer.put_mark(b':');
+    let at = copy_value(s, at, writer);
+    writer.put_pair(b'=', b'>');
+    let at = copy_value(s, at, writer);
+    let at = copy_f32_field(s, at, writer, b"duration");
+    let at = copy_opt_easing(text, s, at, writer);
+    let at = copy_opt(s, at, writer, b"delay", copy_f32);
+    let at = copy_opt(s, at, writer, b"time_scale", copy_f32);
+    let at = copy_opt(s, at, writer, b"loop", copy_loop);
+    let at = copy_opt(s, at, writer, b"snap", copy_f32);
+    let at = copy_opt(s, at, writer, b"round", copy_u32);
+    let at = copy_reverse(s, at, writer);
+    writer.put_mark(b';');
     at
 }
 
-pub fn copy_spring(text: &[u8], s: &[u8], at: usize, pen: &mut Pen) -> usize
-    ensures { CopiesTo (spring_form (length text.now)) (λ d. body text.now (spring d)) s.now at pen.old pen.new result }
+pub fn copy_spring(text: &[u8], s: &[u8], at: usize, writer: &mut PieceWriter) -> usize
+    ensures { CopiesTo (spring_form (length text.now)) (λ d. body text.now (spring d)) s.now at writer.old writer.new result }
 {
-    let at = copy_name(text, s, at, pen);
-    pen.put_mark(b':');
-    let at = copy_value(s, at, pen);
-    pen.put_pair(b'=', b'>');
-    let at = copy_value(s, at, pen);
-    let at = copy_opt_case(s, at, pen, b"preset", &PRESETS);
-    let at = copy_opt(s, at, pen, b"stiffness", copy_f32);
-    let at = copy_opt(s, at, pen, b"damping", copy_f32);
-    let at = copy_opt(s, at, pen, b"mass", copy_f32);
-    let at = copy_opt(s, at, pen, b"velocity", copy_value);
-    let at = copy_opt(s, at, pen, b"epsilon", copy_f32);
-    let at = copy_opt_case(s, at, pen, b"integrator", &INTEGRATORS);
-    let at = copy_opt_damping(s, at, pen);
-    pen.put_mark(b';');
+    let at = copy_name(text, s, at, writer);
+    writer.put_mark(b':');
+    let at = copy_value(s, at, writer);
+    writer.put_pair(b'=', b'>');
+    let at = copy_value(s, at, writer);
+    let at = copy_opt_case(s, at, writer, b"preset", &PRESETS);
+    let at = copy_opt(s, at, writer, b"stiffness", copy_f32);
+    let at = copy_opt(s, at, writer, b"damping", copy_f32);
+    let at = copy_opt(s, at, writer, b"mass", copy_f32);
+    let at = copy_opt(s, at, writer, b"velocity", copy_value);
+    let at = copy_opt(s, at, writer, b"epsilon", copy_f32);
+    let at = copy_opt_case(s, at, writer, b"integrator", &INTEGRATORS);
+    let at = copy_opt_damping(s, at, writer);
+    writer.put_mark(b';');
     at
 }
 
-pub fn copy_keyframes(text: &[u8], s: &[u8], at: usize, pen: &mut Pen) -> usize
-    ensures { CopiesTo (keyframes_form (length text.now)) (λ d. body text.now (keyframes d)) s.now at pen.old pen.new result }
+pub fn copy_keyframes(text: &[u8], s: &[u8], at: usize, writer: &mut PieceWriter) -> usize
+    ensures { CopiesTo (keyframes_form (length text.now)) (λ d. body text.now (keyframes d)) s.now at writer.old writer.new result }
 {
-    let at = copy_name(text, s, at, pen);
-    pen.put_mark(b'{');
-    let at = copy_track(text, s, at, pen);
-    pen.put_mark(b'}');
-    pen.put_mark(b';');
+    let at = copy_name(text, s, at, writer);
+    writer.put_mark(b'{');
+    let at = copy_track(text, s, at, writer);
+    writer.put_mark(b'}');
+    writer.put_mark(b';');
     at
 }
 
-pub fn copy_path(text: &[u8], s: &[u8], at: usize, pen: &mut Pen) -> usize
-    ensures { CopiesTo (path_form (length text.now)) (λ d. body text.now (path d)) s.now at pen.old pen.new result }
+pub fn copy_path(text: &[u8], s: &[u8], at: usize, writer: &mut PieceWriter) -> usize
+    ensures { CopiesTo (path_form (length text.now)) (λ d. body text.now (path d)) s.now at writer.old writer.new result }
 {
-    let at = copy_name(text, s, at, pen);
-    pen.put_word(b"along");
-    let at = copy_string(text, s, at, pen);
-    let at = copy_f32_field(s, at, pen, b"duration");
-    let at = copy_opt_easing(text, s, at, pen);
-    let at = copy_opt(s, at, pen, b"auto_rotate", copy_truth);
-    let at = copy_opt(s, at, pen, b"offset", copy_offset);
-    let at = copy_opt(s, at, pen, b"loop", copy_loop);
-    pen.put_mark(b';');
+    let at = copy_name(text, s, at, writer);
+    writer.put_word(b"along");
+    let at = copy_string(text, s, at, writer);
+    let at = copy_f32_field(s, at, writer, b"duration");
+    let at = copy_opt_easing(text, s, at, writer);
+    let at = copy_opt(s, at, writer, b"auto_rotate", copy_truth);
+    let at = copy_opt(s, at, writer, b"offset", copy_offset);
+    let at = copy_opt(s, at, writer, b"loop", copy_loop);
+    writer.put_mark(b';');
     at
 }
 
-pub fn copy_morph(text: &[u8], s: &[u8], at: usize, pen: &mut Pen) -> usize
-    ensures { CopiesTo (morph_form (length text.now)) (λ d. body text.now (morph d)) s.now at pen.old pen.new result }
+pub fn copy_morph(text: &[u8], s: &[u8], at: usize, writer: &mut PieceWriter) -> usize
+    ensures { CopiesTo (morph_form (length text.now)) (λ d. body text.now (morph d)) s.now at writer.old writer.new result }
 {
-    let at = copy_string(text, s, at, pen);
-    pen.put_pair(b'=', b'>');
-    let at = copy_string(text, s, at, pen);
-    let at = copy_samples(s, at, pen);
-    let at = copy_f32_field(s, at, pen, b"duration");
-    let at = copy_opt_easing(text, s, at, pen);
-    pen.put_mark(b';');
+    let at = copy_string(text, s, at, writer);
+    writer.put_pair(b'=', b'>');
+    let at = copy_string(text, s, at, writer);
+    let at = copy_samples(s, at, writer);
+    let at = copy_f32_field(s, at, writer, b"duration");
+    let at = copy_opt_easing(text, s, at, writer);
+    writer.put_mark(b';');
     at
 }
 
-pub fn copy_draw(text: &[u8], s: &[u8], at: usize, pen: &mut Pen) -> usize
-    ensures { CopiesTo (draw_form (length text.now)) (λ d. body text.now (draw d)) s.now at pen.old pen.new result }
+pub fn copy_draw(text: &[u8], s: &[u8], at: usize, writer: &mut PieceWriter) -> usize
+    ensures { CopiesTo (draw_form (length text.now)) (λ d. body text.now (draw d)) s.now at writer.old writer.new result }
 {
-    let at = copy_string(text, s, at, pen);
-    let at = copy_f32_field(s, at, pen, b"duration");
-    let at = copy_opt_easing(text, s, at, pen);
-    pen.put_mark(b';');
+    let at = copy_string(text, s, at, writer);
+    let at = copy_f32_field(s, at, writer, b"duration");
+    let at = copy_opt_easing(text, s, at, writer);
+    writer.put_mark(b';');
     at
 }
 
-pub fn copy_color(text: &[u8], s: &[u8], at: usize, pen: &mut Pen) -> usize
-    ensures { CopiesTo (color_form (length text.now)) (λ d. body text.now (color d)) s.now at pen.old pen.new result }
+pub fn copy_color(text: &[u8], s: &[u8], at: usize, writer: &mut PieceWriter) -> usize
+    ensures { CopiesTo (color_form (length text.now)) (λ d. body text.now (color d)) s.now at writer.old writer.new result }
 {
-    let at = copy_name(text, s, at, pen);
-    pen.put_mark(b':');
-    let at = copy_string(text, s, at, pen);
-    pen.put_pair(b'=', b'>');
-    let at = copy_string(text, s, at, pen);
-    let at = copy_f32_field(s, at, pen, b"duration");
-    let at = copy_space(s, at, pen);
-    let at = copy_opt_easing(text, s, at, pen);
-    pen.put_mark(b';');
+    let at = copy_name(text, s, at, writer);
+    writer.put_mark(b':');
+    let at = copy_string(text, s, at, writer);
+    writer.put_pair(b'=', b'>');
+    let at = copy_string(text, s, at, writer);
+    let at = copy_f32_field(s, at, writer, b"duration");
+    let at = copy_space(s, at, writer);
+    let at = copy_opt_easing(text, s, at, writer);
+    writer.put_mark(b';');
     at
 }
 
 // The word of a waveform's kind. No text has noise, the kind behind the last word: 02 (h).
-fn put_wave(pen: &mut Pen, kind: usize)
-    ensures { Puts (fresh.choose fresh.wave_names kind) pen.old pen.new }
+fn put_wave(writer: &mut PieceWriter, kind: usize)
+    ensures { Puts (fresh.choose fresh.wave_names kind) writer.old writer.new }
 {
     if kind < 4 {
-        return put_choice(pen, &WAVES, kind);
+        return put_choice(writer, &WAVES, kind);
     }
-    pen.put_name(b"");
+    writer.put_name(b"");
 }
 
-pub fn copy_waveform(s: &[u8], at: usize, pen: &mut Pen) -> usize
-    ensures { (t : List ℕ) → CopiesTo waveform_form (λ d. body t (waveform d)) s.now at pen.old pen.new result }
+pub fn copy_waveform(s: &[u8], at: usize, writer: &mut PieceWriter) -> usize
+    ensures { (t : List ℕ) → CopiesTo waveform_form (λ d. body t (waveform d)) s.now at writer.old writer.new result }
 {
     let kind = take_byte(s, at, 5);
-    put_wave(pen, kind.v as usize);
-    let at = copy_opt(s, kind.next, pen, b"frequency", copy_f32);
-    let at = copy_opt(s, at, pen, b"amplitude", copy_f32);
-    let at = copy_opt(s, at, pen, b"phase", copy_f32);
-    let at = copy_opt(s, at, pen, b"duty_cycle", copy_f32);
-    let at = copy_opt(s, at, pen, b"seed", copy_u32);
-    let at = copy_opt(s, at, pen, b"smoothness", copy_f32);
-    let at = copy_opt(s, at, pen, b"duration", copy_f32);
-    pen.put_mark(b';');
+    put_wave(writer, kind.v as usize);
+    let at = copy_opt(s, kind.next, writer, b"frequency", copy_f32);
+    let at = copy_opt(s, at, writer, b"amplitude", copy_f32);
+    let at = copy_opt(s, at, writer, b"phase", copy_f32);
+    let at = copy_opt(s, at, writer, b"duty_cycle", copy_f32);
+    let at = copy_opt(s, at, writer, b"seed", copy_u32);
+    let at = copy_opt(s, at, writer, b"smoothness", copy_f32);
+    let at = copy_opt(s, at, writer, b"duration", copy_f32);
+    writer.put_mark(b';');
     at
 }
 
 // An easing behind a preset's name alone: a `,` stands before it.
-fn copy_only_easing(text: &[u8], s: &[u8], at: usize, pen: &mut Pen) -> usize
-    ensures { CopiesTo (opt (easing_form (length text.now))) (λ o. preset_fields none (option_sense text.now o)) s.now at pen.old pen.new result }
+fn copy_only_easing(text: &[u8], s: &[u8], at: usize, writer: &mut PieceWriter) -> usize
+    ensures { CopiesTo (opt (easing_form (length text.now))) (λ o. preset_fields none (option_sense text.now o)) s.now at writer.old writer.new result }
 {
     let k = take_byte(s, at, 2);
     if k.v == 0 {
         return k.next;
     }
-    pen.put_mark(b',');
-    put_field(pen, b"easing");
-    copy_easing(text, s, k.next, pen)
+    writer.put_mark(b',');
+    put_field(writer, b"easing");
+    copy_easing(text, s, k.next, writer)
 }
 
 // A preset's fields stand behind a `,`.
-fn copy_preset_fields(text: &[u8], s: &[u8], at: usize, pen: &mut Pen) -> usize
-    ensures { CopiesTo (opt word ▹ opt (easing_form (length text.now))) (λ x. preset_fields x.0 (option_sense text.now x.1)) s.now at pen.old pen.new result }
+fn copy_preset_fields(text: &[u8], s: &[u8], at: usize, writer: &mut PieceWriter) -> usize
+    ensures { CopiesTo (opt word ▹ opt (easing_form (length text.now))) (λ x. preset_fields x.0 (option_sense text.now x.1)) s.now at writer.old writer.new result }
 {
     let k = take_byte(s, at, 2);
     if k.v == 0 {
-        return copy_only_easing(text, s, k.next, pen);
+        return copy_only_easing(text, s, k.next, writer);
     }
-    pen.put_mark(b',');
-    let at = copy_f32_field(s, k.next, pen, b"duration");
-    copy_opt_easing(text, s, at, pen)
+    writer.put_mark(b',');
+    let at = copy_f32_field(s, k.next, writer, b"duration");
+    copy_opt_easing(text, s, at, writer)
 }
 
-pub fn copy_preset(text: &[u8], s: &[u8], at: usize, pen: &mut Pen) -> usize
-    ensures { CopiesTo (preset_form (length text.now)) (λ d. body text.now (preset d)) s.now at pen.old pen.new result }
+pub fn copy_preset(text: &[u8], s: &[u8], at: usize, writer: &mut PieceWriter) -> usize
+    ensures { CopiesTo (preset_form (length text.now)) (λ d. body text.now (preset d)) s.now at writer.old writer.new result }
 {
-    let at = copy_name(text, s, at, pen);
-    let at = copy_preset_fields(text, s, at, pen);
-    pen.put_mark(b';');
+    let at = copy_name(text, s, at, writer);
+    let at = copy_preset_fields(text, s, at, writer);
+    writer.put_mark(b';');
     at
 }
 
-pub fn copy_label(text: &[u8], s: &[u8], at: usize, pen: &mut Pen) -> usize
-    ensures { CopiesTo (span_form (length text.now)) (λ d. body text.now (label d)) s.now at pen.old pen.new result }
+pub fn copy_label(text: &[u8], s: &[u8], at: usize, writer: &mut PieceWriter) -> usize
+    ensures { CopiesTo (span_form (length text.now)) (λ d. body text.now (label d)) s.now at writer.old writer.new result }
 {
-    let at = copy_string(text, s, at, pen);
-    pen.put_mark(b';');
+    let at = copy_string(text, s, at, writer);
+    writer.put_mark(b';');
     at
 }
 
 // A relative `at` starts with `+`; an absolute one has no sign.
-fn put_at(pen: &mut Pen, bits: u32, relative: bool)
-    ensures { Puts (fresh.at_value relative bits) pen.old pen.new }
+fn put_at(writer: &mut PieceWriter, bits: u32, relative: bool)
+    ensures { Puts (fresh.at_value relative bits) writer.old writer.new }
 {
     if relative {
-        pen.put_mark(b'+');
-        return put_f32(pen, bits);
+        writer.put_mark(b'+');
+        return put_f32(writer, bits);
     }
-    pen.put_float(bits);
+    writer.put_float(bits);
 }
 
-pub fn copy_at(s: &[u8], at: usize, pen: &mut Pen) -> usize
-    ensures { (t : List ℕ) → CopiesTo at_form (λ d. body t (Tree.at d)) s.now at pen.old pen.new result }
+pub fn copy_at(s: &[u8], at: usize, writer: &mut PieceWriter) -> usize
+    ensures { (t : List ℕ) → CopiesTo at_form (λ d. body t (Tree.at d)) s.now at writer.old writer.new result }
 {
     let value = take_field(s, at, 4);
     let relative = take_flag(s, value.next);
-    put_at(pen, value.v, relative.v);
-    pen.put_mark(b';');
+    put_at(writer, value.v, relative.v);
+    writer.put_mark(b';');
     relative.next
 }

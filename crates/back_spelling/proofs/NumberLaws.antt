@@ -22,7 +22,7 @@ use Rattle.pieces.specs.Pieces.{a_numeral, spelt, fits}
 use Rattle.pieces.proofs.FitLaws.{is_fits}
 use Rattle.pieces.proofs.FormLaws.{float_fits, percent-fits, counted-fits}
 use Rattle.back_spelling.specs.Means.{Page, spoiled, spoil, put_on, put, page_of, Spellable, Below, Large, put_number}
-use Rattle.back_spelling.specs.declared.Pen.{Pen}
+use Rattle.back_spelling.specs.declared.PieceWriter.{PieceWriter}
 use Rattle.back_spelling.proofs.PageLaws.{lent_of_lem, put_both}
 
 -- ---- where nothing is found, it does not fit
@@ -102,7 +102,7 @@ count-put n p h e f =
 
 -- ---- a number that may be there
 
-pub not_found : (c : Pen) → spoiled (c.out.ghost_name, length c.out.now) ≡ put_number (number_of None) (page_of c)
+pub not_found : (c : PieceWriter) → spoiled (c.out.ghost_name, length c.out.now) ≡ put_number (number_of None) (page_of c)
 not_found c = rw (lent_of_lem c) refl
 
 module _ (d : Decimal) (s : Spellable (number_of (Some d))) where

@@ -24,7 +24,7 @@ use Rattle.digits.specs.Fewest.{form, whole_digits, last_digits}
 use Rattle.pieces.specs.Pieces.{Piece, spelt, fits, word_like, name_like}
 use Rattle.token.specs.Names.{is_keyword}
 use Rattle.back_spelling.specs.Means.{Lent, Page, spoiled, full, page, lent, spoil, most, put_on, put, run, on_page, page_of}
-use Rattle.back_spelling.specs.declared.Pen.{Pen}
+use Rattle.back_spelling.specs.declared.PieceWriter.{PieceWriter}
 
 -- ---- the buffer stays the same
 
@@ -36,9 +36,9 @@ lent_of_page g out at fits = go fits (leb at most)
     go true false = refl
     go true true = refl
 
-pub lent_of_lem : (c : Pen) → lent (page_of c) ≡ (c.out.ghost_name, length c.out.now)
+pub lent_of_lem : (c : PieceWriter) → lent (page_of c) ≡ (c.out.ghost_name, length c.out.now)
 unfolding page_of
-lent_of_lem c = lent_of_page c.out.ghost_name c.out.now c.at c.fits
+lent_of_lem c = lent_of_page c.out.ghost_name c.out.now c.pen.at c.pen.fits
 
 lent-put_on : (bs : List ℕ) (p : Page) → lent (put_on bs p) ≡ lent p
 unfolding put_on
@@ -64,7 +64,7 @@ lent-run [] p = refl
 lent-run (x ∷ xs) p = lent-run xs (put x p) ∙ lent-put x p
 
 -- a buffer that is as long, reached by the same reference
-pub same_buffer : (c d : Pen) → lent (page_of d) ≡ lent (page_of c) → (d.out.ghost_name ≡ c.out.ghost_name) × (length d.out.now ≡ length c.out.now)
+pub same_buffer : (c d : PieceWriter) → lent (page_of d) ≡ lent (page_of c) → (d.out.ghost_name ≡ c.out.ghost_name) × (length d.out.now ≡ length c.out.now)
 same_buffer c d e =
     let h = sym (lent_of_lem d) ∙ e ∙ lent_of_lem c in
     (ap (λ (b : Lent). b.0) h, ap (λ (b : Lent). b.1) h)
@@ -249,18 +249,18 @@ last-digit n (suc k) p h l f e =
     tenth n m h = omega arith
 
 -- no bytes
-pub put_none : (c : Pen) → page_of c ≡ put_on [] (page_of c)
+pub put_none : (c : PieceWriter) → page_of c ≡ put_on [] (page_of c)
 unfolding page_of put_on
-put_none c = go c.out.ghost_name c.out.now c.fits (leb c.at most) refl
+put_none c = go c.out.ghost_name c.out.now c.pen.fits (leb c.pen.at most) refl
   where
-    go : (g : GName) (out : List ℕ) (x y : Bool) → leb c.at most ≡ y
-        → cond x (cond y (page g out c.at) (full (g, length out))) (spoiled (g, length out))
-        ≡ put_on [] (cond x (cond y (page g out c.at) (full (g, length out))) (spoiled (g, length out)))
+    go : (g : GName) (out : List ℕ) (x y : Bool) → leb c.pen.at most ≡ y
+        → cond x (cond y (page g out c.pen.at) (full (g, length out))) (spoiled (g, length out))
+        ≡ put_on [] (cond x (cond y (page g out c.pen.at) (full (g, length out))) (spoiled (g, length out)))
     go g out false y e = refl
     go g out true false e = refl
-    go g out true true e = let h : c.at + 0 ≡ c.at = omega arith in rw (h, e)
+    go g out true true e = let h : c.pen.at + 0 ≡ c.pen.at = omega arith in rw (h, e)
 
-pub no_digits : (n k : ℕ) (c : Pen) → k ≡ 0 → page_of c ≡ put_on (last_digits k n) (page_of c)
+pub no_digits : (n k : ℕ) (c : PieceWriter) → k ≡ 0 → page_of c ≡ put_on (last_digits k n) (page_of c)
 unfolding last_digits
 no_digits n k c h = rw h (put_none c)
 
@@ -270,7 +270,7 @@ unfolding last_digits
 more_digits n k j p h e f =
     rw h (f ∙ ap (put_on ((48 + n % 10) ∷ [])) e ∙ put_both (last_digits j (n / 10)) ((48 + n % 10) ∷ []) p)
 
-pub no_fraction : (n k : ℕ) (c : Pen) → k ≡ 0 → page_of c ≡ put_on (fraction (last_digits k n)) (page_of c)
+pub no_fraction : (n k : ℕ) (c : PieceWriter) → k ≡ 0 → page_of c ≡ put_on (fraction (last_digits k n)) (page_of c)
 unfolding last_digits fraction
 no_fraction n k c h = rw h (put_none c)
 

@@ -9,7 +9,7 @@ use Rattle.digits.specs.Fewest.{form, spelled}
 use Rattle.digits.specs.AnswerMeans.{whole_number}
 use Rattle.digits.specs.declared.Decimal.{Decimal}
 use Rattle.pieces.specs.Pieces.{Piece, spelt, fits}
-use Rattle.back_spelling.specs.declared.Pen.{Pen}
+use Rattle.back_spelling.specs.declared.PieceWriter.{PieceWriter}
 
 -- the buffer that was lent: by which reference, and its length
 abbrev pub Lent : Type 0
@@ -52,11 +52,11 @@ abbrev pub on_page : GName → List ℕ → ℕ → Bool → Page
 on_page g out at fits = cond fits (cond (leb at most) (page g out at) (full (g, length out))) (spoiled (g, length out))
 
 -- what the code has of it
-unfoldable pub page_of : Pen → Page
-page_of c = on_page c.out.ghost_name c.out.now c.at c.fits
+unfoldable pub page_of : PieceWriter → Page
+page_of c = on_page c.out.ghost_name c.out.now c.pen.at c.pen.fits
 
 -- the piece x is put
-abbrev pub Puts : Piece → Pen → Pen → Type 0
+abbrev pub Puts : Piece → PieceWriter → PieceWriter → Type 0
 Puts x c d = page_of d ≡ put x (page_of c)
 
 -- ---- numbers

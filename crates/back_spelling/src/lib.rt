@@ -22,13 +22,19 @@ pub const MOST: usize = 16385;
 // The words that begin an easing with parentheses.
 const CURVES: [&str; 5] = ["cubic_bezier", "steps", "wiggle", "rough", "slowmo"];
 
-// A writer on a lent buffer: how many bytes are written, more than MOST where there were too many; and whether a text can have every
+// Where a writer stands: how many bytes are written, more than MOST where there were too many; and whether a text can have every
 // piece so far.
-#[derive(Drop)]
-pub struct Pen<'a> {
-    pub out: &'a mut [u8],
+#[derive(Clone, Copy)]
+pub struct Pen {
     pub at: usize,
     pub fits: bool,
+}
+
+// A writer on a lent buffer, and where it stands.
+#[derive(Drop)]
+pub struct PieceWriter<'a> {
+    pub out: &'a mut [u8],
+    pub pen: Pen,
 }
 
 // Writes bytes from a place on, as far as the buffer goes.
@@ -87,16 +93,15 @@ fn is_plain(word: &[u8]) -> bool
     is_name_like(word)
 }
 
-impl<'a> Pen<'a> {
-    // A pen at the start of a buffer.
+impl<'a> PieceWriter<'a> {
+    // A writer at the start of a buffer.
     pub fn new(out: &'a mut [u8]) -> Self
         ensures same_buffer { result.out.ghost_name ≡ out.entry.ghost_name }
         ensures page { page_of result ≡ page out.entry.ghost_name out.old 0 }
     {
-        Pen {
+        PieceWriter {
             out,
-            at: 0,
-            fits: true,
+            pen: Pen { at: 0, fits: true },
         }
     }
 
@@ -104,30 +109,30 @@ impl<'a> Pen<'a> {
 
     // Whether so many bytes more may be written.
     fn has_room(&self, n: usize) -> bool
-        ensures { result ≡ leb (self.now.at + n) most }
+        ensures { result ≡ leb (self.now.pen.at + n) most }
     {
-        n <= MOST && self.at <= MOST - n
+        n <= MOST && self.pen.at <= MOST - n
     }
 
     fn put_bytes(&mut self, part: &[u8])
         ensures { page_of self.new ≡ put_on part.now (page_of self.old) }
     {
         if self.has_room(part.len()) {
-            copy(self.out, self.at, part);
-            self.at += part.len();
+            copy(self.out, self.pen.at, part);
+            self.pen.at += part.len();
         } else {
-            self.at = MOST + 1;
+            self.pen.at = MOST + 1;
         }
     }
 
     fn put_byte(&mut self, b: u8)
         ensures { page_of self.new ≡ put_on (b ∷ []) (page_of self.old) }
     {
-        if self.at < MOST {
-            text::put(self.out, self.at, b);
-            self.at += 1;
+        if self.pen.at < MOST {
+            text::put(self.out, self.pen.at, b);
+            self.pen.at += 1;
         } else {
-            self.at = MOST + 1;
+            self.pen.at = MOST + 1;
         }
     }
 
@@ -144,7 +149,7 @@ impl<'a> Pen<'a> {
         ensures { page_of self.new ≡ cond fits (page_of self.old) (spoil (page_of self.old)) }
     {
         if !fits {
-            self.fits = false;
+            self.pen.fits = false;
         }
     }
 
@@ -273,7 +278,7 @@ impl<'a> Pen<'a> {
         ensures { page_of self.new ≡ put_number (number_of number) (page_of self.old) }
     {
         match number {
-            None => self.fits = false,
+            None => self.pen.fits = false,
             Some(d) => {
                 self.put_front(d);
                 self.put_fraction(d.places, d.n);

@@ -22,11 +22,11 @@ left_with {r = r} a b h e = rw e h
 pub returns-in-Accepted : goal.returns-in-Accepted
 unfolding page_of
 returns-in-Accepted c =
-    let same = c.copy_nodes.ensures.same_buffer ∙ c.new-pen.ensures.same_buffer in
+    let same = c.copy_nodes.ensures.same_buffer ∙ c.new-writer.ensures.same_buffer in
     let the_parts = with_values line_values
     (left_with _ _
     (open_answer _ _ _ _ (sym c.in-Accepted.is ∙ c.check.ensures.value)
-    c.take_field-head.ensures.reads (rw c.new-pen.ensures.page at c.copy_nodes.ensures.nodes)
+    c.take_field-head.ensures.reads (rw c.new-writer.ensures.page at c.copy_nodes.ensures.nodes)
     (λ x w. c.finish.ensures _ _ x (rw same at w)))
     (search rules)) in record {
       out_after = the_parts.0;

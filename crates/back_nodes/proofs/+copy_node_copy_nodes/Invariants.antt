@@ -12,4 +12,4 @@ decreases-copy_nodes l = 2 * (length l.s.now - l.at) + 1
 
 abbrev pub invariant-copy_nodes-loop-k : goal.invariant-copy_nodes-loop-k
 invariant-copy_nodes-loop-k l =
-    (length l.s - l.next ≤ length l.s - l.at) × Going l.text l.s (page_of l.fn.pen) l.at l.count l.next (page_of l.pen) l._k
+    (length l.s - l.next ≤ length l.s - l.at) × Going l.text l.s (page_of l.fn.writer) l.at l.count l.next (page_of l.writer) l._k

@@ -5,4 +5,4 @@ use Rattle.back_copying.proofs.CopyLaws.{Walked}
 use Rattle.back_copying.proofs.values.copy_more_floats.Given as goal
 
 abbrev pub invariant-loop-k : goal.invariant-loop-k
-invariant-loop-k l = Walked word more_floats l.s l.at l.n (page_of l.fn.pen) (page_of l.pen) l.next l._k
+invariant-loop-k l = Walked word more_floats l.s l.at l.n (page_of l.fn.writer) (page_of l.writer) l.next l._k

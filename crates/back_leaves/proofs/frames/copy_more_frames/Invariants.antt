@@ -7,4 +7,4 @@ use Rattle.back_leaves.proofs.frames.copy_more_frames.Given as goal
 
 abbrev pub invariant-loop-k : goal.invariant-loop-k
 invariant-loop-k l =
-    Walked (entry_form (length l.text)) (λ xs. comma_frames (frames_of l.text xs)) l.s l.at l.n (page_of l.fn.pen) (page_of l.pen) l.next l._k
+    Walked (entry_form (length l.text)) (λ xs. comma_frames (frames_of l.text xs)) l.s l.at l.n (page_of l.fn.writer) (page_of l.writer) l.next l._k

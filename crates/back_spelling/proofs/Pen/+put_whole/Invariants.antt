@@ -1,4 +1,0 @@
-use Rattle.back_spelling.proofs.Pen.+put_whole.Given as goal
-
-abbrev pub decreases-put_whole : goal.decreases-put_whole
-decreases-put_whole l = l.n
