@@ -1,10 +1,15 @@
--- Lookups, from what each of the two books has; and a listing with an order or without.
-use Prim.Native.Nat.{ℕ}
+-- Lookups, from what each of the two books has; and the output of a listing, with an order or without.
+use Prim.Native.Nat.{ℕ, suc, ◌+◌, ◌≤◌, ◌<◌}
 use mathlib.Core.Bool.{Bool, true, false}
-use mathlib.Core.List.{List}
+use mathlib.Core.List.{List, ◌++◌}
 use mathlib.Core.Option.{Option, none, some}
 use mathlib.Core.Path.{◌≡◌, refl, ◌∙◌}
-use Rattle.error.specs.declared.Refusal.TheVariants.{NoSuchItem, RingOfCalls}
+use native.Mathlib.Numerals.{add-one}
+use native.Mathlib.Omega.{arith}
+use borrow.Author.Tests.{le-ltb, lt-ltb}
+use lib.ListN.{length, take, drop, set, get_or}
+use lib.Seq.{length-take-le, paste-suc}
+use Rattle.error.specs.declared.Refusal.TheVariants.{NoSuchItem, RingOfCalls, OutputTooShort}
 use Rattle.error.specs.declared.LookupAnswer.{LookupAnswer}
 use Rattle.error.specs.declared.LookupAnswer.TheVariants as lookup
 use Rattle.error.specs.declared.OrderAnswer.{OrderAnswer}
@@ -46,6 +51,23 @@ joined w (held xs) (held ys) = go (named xs w) (named ys w)
 
 pub answers : (w : List ℕ) (x y : Book) {a b : Place} → a ≡ looked w x → b ≡ looked w y → join a b ≡ in_books w x y
 answers w x y {a} {b} e f = (λ i. join (e i) (f i)) ∙ joined w x y
+
+-- ---- the output of a listing
+
+module _ (out from : List ℕ) (n : ℕ) (h : n ≤ length from) where
+  pub put_short : length out < n → Prim.Path (OrderAnswer × List ℕ) (answer.Refused OutputTooShort 0, out) (put out (take n from))
+  put_short l = rw (length-take-le n from h, lt-ltb (length out) n l)
+
+  pub put-whole : {a : List ℕ} → n ≤ length out → a ≡ take n from ++ drop n out
+      → Prim.Path (OrderAnswer × List ℕ) (answer.Listed n, a) (put out (take n from))
+  put-whole l e = rw (length-take-le n from h, le-ltb (length out) n l, e)
+
+pub copied : (out from : List ℕ) (i : ℕ) → i < length out → i < length from
+    → set (take i from ++ drop i out) i (get_or from i 0) ≡ take (i + 1) from ++ drop (i + 1) out
+copied out from i h g =
+    let e : 0 + i ≡ i = omega arith in
+    let f : 0 + suc i ≡ suc i = omega arith in
+    rw add-one (rw (e, f) at (paste-suc out 0 from i 0 (omega arith) g))
 
 -- ---- the order
 

@@ -449,7 +449,7 @@ missed_is {b} m = sym (ap decimal_of (none_fewest b (λ k l r. m.none _ _ (up (s
     up h = omega arith
 
 -- what the search in 64 bits has found
-search_found : {b sh places : ℕ} {s : Best} → Searched b sh places s → places ≤ 10 → (10 ≤ places) ⊎ (s.digits ≤ places)
+pub search_found : {b sh places : ℕ} {s : Best} → Searched b sh places s → places ≤ 10 → (10 ≤ places) ⊎ (s.digits ≤ places)
     → (r : Decimal) → s.number ≡ Some r → number_of s.number ≡ decimal_of (fewest b)
 search_found {b} {sh} {places} {s} h P e r q =
     rw (q, (h.plain r q).0, (h.plain r q).1, add-zero) (leads_is (leads_all (le_trans P (lit≤ tt)) enough (h.found r q)))
@@ -457,7 +457,7 @@ search_found {b} {sh} {places} {s} h P e r q =
     enough : s.digits ≤ places
     enough = ⊎_elim (λ (x : 10 ≤ places). le_trans (h.short r q) x) (λ (x : s.digits ≤ places). x) e
 
-search_neat : {b sh places : ℕ} {s : Best} → Searched b sh places s → places ≤ 10 → (r : Decimal) → s.number ≡ Some r → Neat r
+pub search_neat : {b sh places : ℕ} {s : Best} → Searched b sh places s → places ≤ 10 → (r : Decimal) → s.number ≡ Some r → Neat r
 search_neat {s = s} h P r q =
     let l = (h.found r q).low in
     let p = h.plain r q in

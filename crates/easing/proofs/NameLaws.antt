@@ -8,12 +8,18 @@ use native.Mathlib.Numerals.{add-one}
 use lib.ListN.{length, get_or, take, drop, drop_of_length-le}
 use lib.Seq.{drop-cons}
 use borrow.Author.Tests.{not-true, not-false}
-use Rattle.text.specs.Bytes.{lower}
+use Rattle.text.specs.Bytes.{is_upper, lower}
 use Rattle.text.specs.Words.{is_some, words, find}
 use Rattle.words.specs.declared.List.TheVariants.{Easings}
 use Rattle.words.specs.ListMeans.{list_of}
 use Rattle.words.proofs.ListLaws.{list_clip}
 use Rattle.easing.specs.Names.{named_easings, snake_byte, snake_rest, snake, is_easing}
+
+pub byte_capital : (b l : ℕ) → is_upper b ≡ true → l ≡ lower b → snake_byte b ≡ (95 ∷ []) ++ (l ∷ [])
+byte_capital b l h e = rw (e, h)
+
+pub byte_other : (b : ℕ) → is_upper b ≡ false → snake_byte b ≡ b ∷ []
+byte_other b h = rw h
 
 pub snake_nil : (w : List ℕ) → length w ≡ 0 → snake w ≡ []
 unfolding snake

@@ -23,6 +23,15 @@ use Rattle.token.proofs.WholeLaws.{never, either, both, every, every_in}
 
 -- ---- words of some lengths
 
+-- one word
+pub find-last : (w n : List ℕ) (i : ℕ) → same w n ≡ is_some (find (n ∷ []) i w)
+unfolding find
+find-last w n i = go (same w n) refl
+  where
+    go : (a : Bool) → same w n ≡ a → a ≡ is_some (find (n ∷ []) i w)
+    go true e = rw (find-here w n [] i e)
+    go false e = rw (find_past w n [] i e)
+
 -- the longest have 8 bytes: one computed test
 pub keyword_long : (w : List ℕ) → 8 < length w → false ≡ is_keyword w
 unfolding is_keyword shorter

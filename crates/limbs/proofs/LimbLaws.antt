@@ -283,7 +283,7 @@ rest_lt a b y e h = omega arith
 pow_pos_of : (n : ℕ) → 0 < 4294967296 ^ n
 pow_pos_of n = one-le-pow n 4294967296 (lit< tt)
 
-some_limb : (n i : ℕ) (xs : List ℕ) → i < n → 0 < get_or xs i 0 → 0 < up_to n xs
+pub some_limb : (n i : ℕ) (xs : List ℕ) → i < n → 0 < get_or xs i 0 → 0 < up_to n xs
 unfolding up_to
 some_limb zero i xs h l = absurd (omega arith)
 some_limb (suc n) i xs h l = go (eq-or-lt_of_le h) (λ k. some_limb n i xs k l)
@@ -303,6 +303,13 @@ some_limb (suc n) i xs h l = go (eq-or-lt_of_le h) (λ k. some_limb n i xs k l)
     go : (suc i ≡ suc n) ⊎ (suc i < suc n) → (i < n → 0 < up_to n xs) → 0 < up_to n xs + get_or xs n 0 * 4294967296 ^ n
     go (inl e) f = last (up_to n xs) _ (mul-pos (subst (λ (z : ℕ). 0 < get_or xs z 0) (same e) l) (pow_pos_of n))
     go (inr k) f = more (up_to n xs) _ (f (below k))
+
+pub zero-next : (i : ℕ) (xs : List ℕ) → up_to i xs ≡ 0 → get_or xs i 0 ≡ 0 → up_to (i + 1) xs ≡ 0
+zero-next i xs e h =
+    up_to-next i xs
+    ∙ ap (λ (z : ℕ). z + get_or xs i 0 * 4294967296 ^ i) e
+    ∙ ap (λ (z : ℕ). 0 + z * 4294967296 ^ i) h
+    ∙ ap (λ (z : ℕ). 0 + z) (zero-mul (4294967296 ^ i))
 
 pub zero_limbs : (n : ℕ) (xs : List ℕ) → ((k : ℕ) → k < n → get_or xs k 0 ≡ 0) → up_to n xs ≡ 0
 unfolding up_to

@@ -1,8 +1,9 @@
 -- Where a line is written, the test for its room, and lining from what the code finds.
-use Rattle.std.proofs.Common.{◌≡◌, ℕ, ◌+◌, ◌*◌, ◌/◌, ◌%◌, ◌<◌, ◌≤◌, true, false, leb, List, ◌++◌, length, get_or, drop, set, refl, ◌∙◌, zero-add, arith, length-set, take_all, le-ltb, lt-ltb, leb-false, leb-true}
+use Rattle.std.proofs.Common.{◌≡◌, ℕ, ◌+◌, ◌-◌, ◌*◌, ◌/◌, ◌%◌, ◌<◌, ◌≤◌, Bool, true, false, leb, List, ◌++◌, length, get_or, drop, set, sym, refl, ◌∙◌, zero-add, arith, length-set, take_all, le-ltb, lt-ltb, le-leb, leb-false, leb-true}
 use mathlib.Core.Option.{Option, none, some}
 use native.Mathlib.Nat.{sub-zero}
 use lib.Seq.{sets, sets-eq}
+use borrow.Author.Tests.{lt-leb}
 use Rattle.error.specs.declared.Refusal.{Refusal}
 use Rattle.error.specs.declared.Refusal.TheVariants.{NotASheet, OutputTooShort}
 use Rattle.error.specs.declared.LineAnswer.{LineAnswer}
@@ -43,6 +44,14 @@ module _ (out₀ : List ℕ) (at : ℕ) (bs : List ℕ) where
   pub writing_done : (out : List ℕ) (i : ℕ) → length bs ≤ i → i ≤ length bs → Writing out i → Puts out₀ at (hex bs) out (at + 2 * length bs)
   writing_done out i h l w =
       let z : i ≡ length bs = omega arith in rw (← z) (w out (at + 2 * i) (rw (hex_end bs i h) (puts_none out (at + 2 * i))))
+
+-- the test for room, in which no number wraps
+pub room_for : (n room : ℕ) → 7 ≤ room → leb n ((room - 7) / 2) ≡ leb (2 * n + 7) room
+room_for n room h = go (leb n ((room - 7) / 2)) refl
+  where
+    go : (t : Bool) → leb n ((room - 7) / 2) ≡ t → t ≡ leb (2 * n + 7) room
+    go true e = sym (le-leb (2 * n + 7) room (omega (arith, leb-true n ((room - 7) / 2) e)))
+    go false e = sym (lt-leb (2 * n + 7) room (omega (arith, leb-false n ((room - 7) / 2) e)))
 
 -- ---- lining
 

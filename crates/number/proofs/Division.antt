@@ -106,6 +106,23 @@ ten_is (suc p) =
     ∙ ap (λ (z : ℕ). z * (5 ^ p * 5)) (sym (pow-suc 2 p))
     ∙ ap (λ (z : ℕ). 2 ^ suc p * z) (sym (pow-suc 5 p))
 
+-- what is left of 0 to 9 when 0 to 8 are gone
+abbrev Not : ℕ → ℕ → Type 0
+Not p k = p ≡ k → ⊥
+
+pub ninth : {p : ℕ} → p ≤ 9
+    → ((((((((Unit {0} × Not p 0) × Not p 1) × Not p 2) × Not p 3) × Not p 4) × Not p 5) × Not p 6) × Not p 7) × Not p 8
+    → p ≡ 9
+ninth {p} h r =
+    let a = r.0.0.0.0 in
+    upper p h (lower p a.0.0.0.0.1 a.0.0.0.1 a.0.0.1 a.0.1 a.1) r.0.0.0.1 r.0.0.1 r.0.1 r.1
+  where
+    lower : (p : ℕ) → Not p 0 → Not p 1 → Not p 2 → Not p 3 → Not p 4 → 5 ≤ p
+    lower p a b c d e = omega arith
+
+    upper : (p : ℕ) → p ≤ 9 → 5 ≤ p → Not p 5 → Not p 6 → Not p 7 → Not p 8 → p ≡ 9
+    upper p h l a b c d = omega arith
+
 -- ---- an f32 is n / 10 ^ p only if 5 ^ p divides n
 fives : (w n p j : ℕ) → w * 10 ^ p ≡ n * 2 ^ j → n % 5 ^ p ≡ 0
 fives w n p j e =

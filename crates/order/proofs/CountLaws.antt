@@ -40,6 +40,18 @@ module _ (p : ℕ → Bool) where
   every-at zero e j l = absurd (omega arith)
   every-at (suc n) e j l = let x = both e in below {P = λ j. p j ≡ true} (every-at n x.0) x.1 j l
 
+  pub every-all : (n : ℕ) → ((j : ℕ) → j < n → p j ≡ true) → every p n ≡ true
+  unfolding every
+  every-all zero h = refl
+  every-all (suc n) h = rw (every-all n (λ j l. h j (omega arith)), h n (omega arith))
+
+  pub every-not : (n j : ℕ) → j < n → p j ≡ false → every p n ≡ false
+  every-not n j l e = go (case (every p n))
+    where
+      go : Case (every p n) → every p n ≡ false
+      go (yes! t) = clash (every-at n t j l) e
+      go (no! f) = f
+
   -- one that does not
   pub failing : (n : ℕ) → every p n ≡ false → (j : ℕ) × (j < n) × (p j ≡ false)
   unfolding every

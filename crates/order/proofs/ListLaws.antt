@@ -1,16 +1,16 @@
 -- What the loops keep, in terms of the definitions.
 use Prim.Native.Nat.{ℕ, suc, ◌+◌, ◌*◌, ◌-◌, ◌≤◌, ◌<◌}
-use mathlib.Core.Bool.{Bool, false, not}
+use mathlib.Core.Bool.{Bool, true, false, not}
 use mathlib.Core.List.{List, [], ◌∷◌, ◌++◌}
 use mathlib.Core.Option.{Option, none, some}
 use mathlib.Core.Path.{◌≡◌, sym, ap, ◌∙◌}
 use native.Mathlib.Omega.{arith}
 use native.Mathlib.Numerals.{add-one}
-use borrow.Author.Tests.{eq-eqb, ne_eqb}
+use borrow.Author.Tests.{eq-eqb, ne_eqb, not-true, not-false}
 use lib.ListN.{length, take, set}
 use lib.Seq.{take-suc-set}
 use Rattle.text.specs.Bytes.{at, one_of}
-use Rattle.order.specs.Order.{Calls, first, free, and_then, listed, order}
+use Rattle.order.specs.Order.{Calls, every, first, free, and_then, listed, order}
 use Rattle.order.specs.Means.{calls_in, not_waiting}
 use Rattle.order.proofs.CountLaws.{is_first}
 
@@ -25,6 +25,21 @@ module _ (m l : List ℕ) (i j : ℕ) where
   unfolding calls_in
   waits_if e h = rw (ne_eqb (at m (i * 128 + j)) 0 e, h)
 
+pub not_waiting-not : {b r : Bool} → r ≡ not b → r ≡ true → b ≡ false
+not_waiting-not {b} e h = not-true b (sym e ∙ h)
+
+pub not_waiting_on : {b r : Bool} → r ≡ not b → r ≡ false → b ≡ true
+not_waiting_on {b} e h = not-false b (sym e ∙ h)
+
+-- ---- free
+
+module _ (calls : Calls) (n : ℕ) (l : List ℕ) (i : ℕ) where
+  pub listed-not-free : {r : Bool} → r ≡ one_of l i → r ≡ true → false ≡ free calls n l i
+  listed-not-free e h = rw (sym e ∙ h)
+
+  pub free-if_ready : {r q : Bool} → r ≡ one_of l i → r ≡ false → q ≡ every (not_waiting calls l i) n → q ≡ free calls n l i
+  free-if_ready e h f = rw (sym e ∙ h) f
+
 -- ---- the listing
 
 module _ (calls : Calls) (n : ℕ) where
@@ -36,6 +51,9 @@ module _ (calls : Calls) (n : ℕ) where
       → listed calls n (suc d) l ≡ and_then o (λ i. listed calls n d (l ++ (i ∷ [])))
   unfolding listed
   step d l e = rw e
+
+  pub coming_start : Coming 0 []
+  coming_start = record { is = let q : n - 0 ≡ n = omega arith in rw q }
 
   pub coming_none : {k : ℕ} {l : List ℕ} → k < n → Coming k l → none ≡ first (free calls n l) n → none ≡ order calls n
   coming_none {k} {l} h c e =

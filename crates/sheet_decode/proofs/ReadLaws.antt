@@ -40,7 +40,7 @@ use Rattle.number.specs.Number.{f32}
 use Rattle.ast.specs.Means.{time_view}
 use Rattle.sheet.specs.Sheet.{word, time_form, time_cases, split_time}
 use Rattle.sheet_decode.specs.Means.{Lost, Reads, got, bad, Number, same}
-use Rattle.sheet_decode.specs.Optional.{ReadsOption, missing, there}
+use Rattle.sheet_decode.specs.OptionalMeans.{ReadsOption, missing, there}
 use Rattle.sheet_decode.specs.declared.fields.Taken.{Taken}
 
 -- ---- places

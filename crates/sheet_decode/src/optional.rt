@@ -1,5 +1,5 @@
 // What is absent or present: a byte 0, or 1 and the value.
-ghost use Rattle.sheet_decode.specs.Optional.{ReadsOption};
+ghost use Rattle.sheet_decode.specs.OptionalMeans.{ReadsOption};
 
 use crate::fields::{Taken, take_byte};
 

@@ -103,6 +103,10 @@ module _ (t : List ℕ) (i : ℕ) (any : Bool) where
       or_false true = refl
       or_false false = refl
 
+pub not_there : (o : Option ℕ) → false ≡ is_some o → none ≡ o
+not_there none e = refl
+not_there (some i) e = let z : ◌≡◌ {A = ℕ} 0 1 = cc in absurd (omega arith)
+
 -- ---- the text's refusal
 
 module _ (t : List ℕ) where

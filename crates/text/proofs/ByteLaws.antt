@@ -2,17 +2,17 @@
 use Prim.Native.Nat.{ℕ, zero, suc, ◌+◌, ◌-◌, ◌≤◌, ◌<◌}
 use mathlib.Core.List.{List, [], ◌∷◌, ◌++◌}
 use mathlib.Core.Bool.{Bool, true, false, ◌&&◌, ◌||◌, cond}
-use mathlib.Core.Path.{◌≡◌, refl, ap}
+use mathlib.Core.Path.{◌≡◌, refl, sym, ap, ◌∙◌}
 use native.Mathlib.Omega.{arith}
 use native.Mathlib.Numerals.{add-one, one-add}
 use lib.Dec.{leb, ltb, eqb}
 use lib.ListN.{length, get_or, take, drop, drop_of_length-le, length-drop, length-take}
-use lib.Seq.{drop-cons, take-suc, take_all}
-use borrow.Author.Tests.{leb-true, ltb-false}
+use lib.Seq.{drop-cons, take-nil, take-suc, take_all}
+use borrow.Author.Tests.{eq-eqb, ne_eqb, leb-true, le-leb, lt-leb, ltb-true, ltb-false}
 use Rattle.std.specs.Prelude.{not, Some, None}
 use Rattle.std.specs.Option.{unwrap_or}
 use Rattle.std.specs.List.{list_any, position_or_len, slice_range}
-use Rattle.text.specs.Bytes.{run, one_of, part, within, lower, lowered}
+use Rattle.text.specs.Bytes.{run, one_of, is_foreign, part, within, lower, lowered}
 
 -- ---- sets of bytes
 
@@ -21,6 +21,18 @@ pub any-one_of : (b : ℕ) (s : List ℕ) → list_any (eqb b) s ≡ one_of s b
 unfolding one_of
 any-one_of b [] = refl
 any-one_of b (c ∷ cs) = ap (λ (t : Bool). eqb b c || t) (any-one_of b cs)
+
+pub has_yes : (s : List ℕ) (i b : ℕ) → i < length s → get_or s i 0 ≡ b → one_of (drop i s) b ≡ true
+unfolding one_of
+has_yes s i b h e = rw (drop-cons s i 0, eq-eqb b (get_or s i 0) (sym e))
+
+pub has_no : (s : List ℕ) (i b : ℕ) → i < length s → (get_or s i 0 ≡ b → ⊥) → one_of (drop i s) b ≡ one_of (drop (i + 1) s) b
+unfolding one_of
+has_no s i b h e = rw (add-one, drop-cons s i 0, ne_eqb b (get_or s i 0) (λ q. e (sym q)))
+
+pub has_end : (s : List ℕ) (i b : ℕ) → length s ≤ i → one_of (drop i s) b ≡ false
+unfolding one_of
+has_end s i b h = rw (drop_of_length-le s h)
 
 -- ---- comparisons one after another, as code has them
 
@@ -38,6 +50,42 @@ tests_or false (c ∷ cs) b = tests_or (eqb b c) cs b
 pub tests_are : (c : ℕ) (cs : List ℕ) (b : ℕ) → tests (eqb b c) cs b ≡ one_of (c ∷ cs) b
 unfolding one_of
 tests_are c cs b = tests_or (eqb b c) cs b
+
+none_of_two : (p q : Bool) → (not p && not q) ≡ not (p || (q || false))
+none_of_two true q = refl
+none_of_two false true = refl
+none_of_two false false = refl
+
+pub neither_is : (c d b : ℕ) → (not (eqb b c) && not (eqb b d)) ≡ not (one_of (c ∷ d ∷ []) b)
+unfolding one_of
+neither_is c d b = none_of_two (eqb b c) (eqb b d)
+
+-- ---- foreign bytes
+
+none_of : (p q r : Bool) → ((((true && not p) && not q) && not r) || false) ≡ not (p || (q || (r || false)))
+none_of true q r = refl
+none_of false true r = refl
+none_of false false true = refl
+none_of false false false = refl
+
+-- three tests below the printable bytes, and one above them
+pub foreign_is : (b : ℕ) → ((((ltb b 32 && not (eqb b 9)) && not (eqb b 10)) && not (eqb b 13)) || ltb 126 b) ≡ is_foreign b
+unfolding one_of
+foreign_is b = go (ltb b 32) (ltb 126 b) refl refl
+  where
+    go : (x y : Bool) → ltb b 32 ≡ x → ltb 126 b ≡ y → ((((x && not (eqb b 9)) && not (eqb b 10)) && not (eqb b 13)) || y) ≡ is_foreign b
+    go true true h k = absurd (let a = ltb-true b 32 h in let c = ltb-true 126 b k in omega arith)
+    go true false h k = rw (lt-leb 32 b (ltb-true b 32 h)) (none_of (eqb b 9) (eqb b 10) (eqb b 13))
+    go false true h k =
+        let c = ltb-true 126 b k in
+        rw (
+          lt-leb b 126 c,
+          le-leb 32 b (omega arith),
+          ne_eqb b 9 (λ e. omega arith),
+          ne_eqb b 10 (λ e. omega arith),
+          ne_eqb b 13 (λ e. omega arith),
+        )
+    go false false h k = rw (le-leb 32 b (ltb-false b 32 h), le-leb b 126 (ltb-false 126 b k))
 
 -- ---- runs
 
@@ -123,6 +171,16 @@ run_stop p (b ∷ bs) h = go (run_stop p bs) (p b) refl
 
 -- ---- parts
 
+pub part_off : (t : List ℕ) (start size : ℕ) → length t ≤ start → [] ≡ part t start size
+part_off t start size h = rw (drop_of_length-le t {i = start} h, take-nil)
+
+pub part-all : (t : List ℕ) (start size : ℕ) → length t - start ≤ size → take (length t - start) (drop start t) ≡ part t start size
+part-all t start size h =
+    take_all (length t - start) (drop start t) (rw length-drop (omega arith)) ∙ sym (take_all size (drop start t) (rw length-drop h))
+
+pub part_in : (t : List ℕ) (start size : ℕ) → take (start + size - start) (drop start t) ≡ part t start size
+part_in t start size = let e : start + size - start ≡ size = omega arith in rw e
+
 pub part_le : (t : List ℕ) (start size : ℕ) → length (part t start size) ≤ length t
 part_le t start size = rw (length-take, length-drop) (omega arith)
 
@@ -134,6 +192,14 @@ within_is lo hi b h = go (leb lo b) refl h
     go : (t : Bool) → leb lo b ≡ t → (t && leb b hi) ≡ true → (lo ≤ b) × (b ≤ hi)
     go true e q = (leb-true lo b e, leb-true b hi q)
     go false e q = absurd (let z : ◌≡◌ {A = ℕ} 0 1 = cc in omega arith)
+
+pub lowered-at : (w : List ℕ) (i : ℕ) → i < length w → lowered (drop i w) ≡ lower (get_or w i 0) ∷ lowered (drop (i + 1) w)
+unfolding lowered
+lowered-at w i h = rw (add-one, drop-cons w i 0)
+
+pub lowered_end : (w : List ℕ) (i : ℕ) → length w ≤ i → lowered (drop i w) ≡ []
+unfolding lowered
+lowered_end w i h = rw (drop_of_length-le w h)
 
 lowered-append : (xs ys : List ℕ) → lowered (xs ++ ys) ≡ lowered xs ++ lowered ys
 unfolding lowered

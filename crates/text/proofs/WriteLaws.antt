@@ -88,3 +88,9 @@ puts_front {out} {after} {bs} {end} p =
     let e : end ≡ length vs = p.place ∙ zero-add _ ∙ (rw sub-zero) in
     let s : sets out 0 vs ≡ vs ++ drop (0 + length vs) out = sets-eq vs out 0 (rw (zero-add, length-take) (omega arith)) in
     rw (e, p.bytes, sym (sets_clip out 0 bs), sub-zero, s) (take-append_seam vs _)
+
+-- and no more than there is room for
+pub puts_fits : {out after : List ℕ} {bs : List ℕ} {end : ℕ} → Puts out 0 bs after end → end ≤ length after
+puts_fits {out} {after} {bs} {end} p =
+    let e : end ≡ 0 + min (length out - 0) (length bs) = rw length-take at p.place in
+    omega (arith, ap length p.bytes ∙ length-sets out 0 bs)

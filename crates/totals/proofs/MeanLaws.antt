@@ -14,7 +14,7 @@ use Rattle.error.specs.declared.Refusal.TheVariants.{TooManyScripts}
 use Rattle.totals.specs.Totals.{accepted_word, first_kind_word, entries_word, kind_words, figure_limit, over}
 use Rattle.totals.specs.Mean.{gcd_by, gcd, fraction, tracks_word, node_records, mean_of, mean, Lowest}
 use Rattle.error.specs.declared.MeanAnswer.{MeanAnswer}
-use Rattle.error.specs.declared.MeanAnswer.TheVariants.{Refused}
+use Rattle.error.specs.declared.MeanAnswer.TheVariants.{Fraction, Nothing, Refused}
 use Rattle.totals.proofs.TotalsLaws.{within, sum-within}
 
 -- ---- the loop
@@ -24,6 +24,9 @@ pub record Euclid (a b x y : ℕ) : Type 0 where
   pub steps : ℕ
   pub enough : y < steps
   pub is : gcd_by steps x y ≡ gcd a b
+
+pub euclid_start : (a b : ℕ) → Euclid a b a b
+euclid_start a b = record { steps = suc b; enough = omega arith; is = refl }
 
 gcd_stops : (k x y : ℕ) → y < k → y ≡ 0 → gcd_by k x y ≡ x
 unfolding gcd_by
@@ -93,6 +96,14 @@ lowest_terms a b h = go (gcd a b) (greatest a b) (gcd_positive a b h)
         }
 
 -- ---- the answer
+
+pub no_quotient : (a b : ℕ) → b ≡ 0 → Nothing ≡ fraction a b
+no_quotient a zero e = refl
+no_quotient a (suc b) e = absurd (omega arith)
+
+pub quotient_is : (a b : ℕ) → (b ≡ 0 → ⊥) → {g : ℕ} → g ≡ gcd a b → Fraction (a / g) (b / g) ≡ fraction a b
+quotient_is a zero n e = absurd (n refl)
+quotient_is a (suc b) n e = rw e refl
 
 module _ (ws : List ℕ) (which : ℕ) where
   pub mean-over : over ws ≡ true → Refused TooManyScripts 0 ≡ mean ws which

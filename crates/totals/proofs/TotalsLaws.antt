@@ -5,10 +5,11 @@ use mathlib.Core.List.{List, [], ◌∷◌}
 use mathlib.Core.Path.{◌≡◌, refl, sym, ap, ◌∙◌}
 use native.Mathlib.Nat.{le_of_suc-le-suc}
 use native.Mathlib.Omega.{arith}
+use native.Mathlib.Numerals.{add-one}
 use lib.Dec.{eqb, leb, ltb}
 use lib.ListN.{length, get_or, set, take, drop, length-set, length-take, drop_of_length-le}
-use lib.Seq.{ext_get_or, get_or-set_same, get_or-set_other}
-use borrow.Author.Tests.{leb-true, leb-false, eqb-true, eqb-false, ltb-false}
+use lib.Seq.{drop-cons, ext_get_or, get_or-set_same, get_or-set_other}
+use borrow.Author.Tests.{leb-true, leb-false, eqb-true, eqb-false, ltb-false, lt-ltb, le-ltb}
 use Rattle.std.specs.List.{list_any, sum_by}
 use Rattle.std.proofs.lemmas.List.{drop-take}
 use Rattle.std.proofs.lemmas.List.Recursion.{is_sum_by}
@@ -72,6 +73,19 @@ unfolding over
 any-over [] = refl
 any-over (w ∷ ws) = ap (λ (b : Bool). ltb figure_limit w || b) (any-over ws)
 
+module _ (ws : List ℕ) (i : ℕ) where
+  pub over-here : i < length ws → figure_limit < get_or ws i 0 → over (drop i ws) ≡ true
+  unfolding over
+  over-here h l = rw (drop-cons ws i 0 h, lt-ltb figure_limit (get_or ws i 0) l)
+
+  pub over-next : i < length ws → get_or ws i 0 ≤ figure_limit → over (drop (i + 1) ws) ≡ over (drop i ws)
+  unfolding over
+  over-next h l = rw (add-one, drop-cons ws i 0 h, le-ltb figure_limit (get_or ws i 0) l)
+
+  pub over_end : length ws ≤ i → over (drop i ws) ≡ false
+  unfolding over
+  over_end h = rw (drop_of_length-le ws {i = i} h)
+
 pub within : (ws : List ℕ) → over ws ≡ false → (i : ℕ) → get_or ws i 0 ≤ figure_limit
 unfolding over
 within [] e i = omega arith
@@ -98,6 +112,19 @@ drop-upto ws i j = go (leb i j) refl
         let h = leb-false i j e in
         let k : j - i ≡ 0 = omega arith in
         drop_of_length-le (take j ws) {i = i} (omega (arith, length-take j ws)) ∙ (rw k)
+
+-- the words from i to j
+abbrev pub between : ℕ → ℕ → List ℕ → List ℕ
+between i j ws = take (j - i) (drop i ws)
+
+pub sum-next : (ws : List ℕ) (i j : ℕ) → i < j → i < length ws
+    → sum_of itself (between i j ws) ≡ get_or ws i 0 + sum_of itself (between (i + 1) j ws)
+unfolding sum_of
+sum-next ws i j h l = let e : j - i ≡ suc (j - (i + 1)) = omega arith in rw (e, add-one, drop-cons ws i 0 l)
+
+pub sum_end : (ws : List ℕ) (i j : ℕ) → j ≤ i → sum_of itself (between i j ws) ≡ 0
+unfolding sum_of
+sum_end ws i j h = let e : j - i ≡ 0 = omega arith in rw e refl
 
 pub sum-itself : (ws : List ℕ) → sum_by itself ws ≡ sum_of itself ws
 unfolding sum_of

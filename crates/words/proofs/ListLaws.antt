@@ -156,6 +156,9 @@ module _ (q : ℕ → Bool) (ms : List ℕ) (v t : ℕ) (l : v < limb) (g : q t 
 pub tail_at : (ms : List ℕ) (k t m i : ℕ) → t ≡ m / limb → k ≡ m % limb → seek ms 0 m ≡ Some i → Some i ≡ seek ms 0 (t * limb + k)
 tail_at ms k t m i e g h = rw (e, g, div-add-mod' m limb) (sym h)
 
+pub same_head : (ms : List ℕ) (v k t : ℕ) (r : Option ℕ) → v ≡ k → r ≡ seek ms 0 (t * limb + k) → r ≡ seek ms 0 (t * limb + v)
+same_head ms v k t r e h = rw e h
+
 -- ---- words of 16 bytes and more: the next 8, and what stands behind them
 
 both_parts : (w last m : ℕ) → w < limb → (eqb w (m % limb) && eqb last (m / limb)) ≡ eqb (last * limb + w) m
