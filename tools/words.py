@@ -213,6 +213,7 @@ def longest_row(l):
 
 def code():
     variants = "\n".join(f"    {l.name}," for l in ALL)
+    row = "\n".join(f"    List::{l.name}," for l in ALL)
     functions = [short_function(l) for l in SHORT]
     for l in LONG:
         functions += [*(long_group(l, g) for g in l.longs if not g.alone), long_function(l)]
@@ -223,10 +224,10 @@ def code():
 // its bytes as numbers. For our own crates.
 #![tactic(auto)]
 
-ghost use Rattle.std.specs.Prelude.{{◌≡◌, ◌+◌, ◌*◌, ◌≤◌, length}};
+ghost use Rattle.std.specs.Prelude.{{◌≡◌, ◌+◌, ◌*◌, ◌≤◌, length, slice_index_or}};
 ghost use Rattle.text.specs.Bytes.{{part}};
 ghost use Rattle.text.specs.Words.{{is_some, find}};
-ghost use Rattle.words.specs.ListMeans.{{list_of}};
+ghost use Rattle.words.specs.ListMeans.{{list_of, numbered}};
 ghost use Rattle.words.specs.KeyMeans.{{keys_of, seek, place_is}};
 
 use packing::{{eight, if_equal, if_long, packed}};
@@ -237,6 +238,26 @@ mod packing;
 #[derive(Clone, Copy, Debug, PartialEq, Eq)]
 pub enum List {{
 {variants}
+}}
+
+// Each by its number.
+const LISTS: [List; {len(ALL)}] = [
+{row}
+];
+
+// A list by its number, counted from 0 in the order above; each number above theirs is that of `Empty`.
+impl From<u8> for List {{
+    ghost from_gives = {{ λ number list. list ≡ numbered number }};
+
+    fn from(number: u8) -> List {{
+        list_at(&LISTS, usize::from(number))
+    }}
+}}
+
+fn list_at(lists: &[List], number: usize) -> List
+    ensures {{ result ≡ slice_index_or lists.now number List.Empty }}
+{{
+    lists.get(number).copied().unwrap_or(List::Empty)
 }}
 
 // ---- the words of a list of at most 7 bytes, of 8 to 15, and of 16 to 23
@@ -320,28 +341,33 @@ def joined(names):
 def definition():
     rows = "\n".join("list_of list." + l.name + " =\n    words (" + joined([f'"{w}"' for w in l.words]) + ")" for l in ALL)
     return f"""-- Made by tools/words.py. The lists of the grammar's words and of the names that checking knows.
-use Rattle.std.specs.Prelude.{{ℕ, List, [], ◌∷◌}}
+use Rattle.std.specs.Prelude.{{ℕ, List, [], ◌∷◌, slice_index_or}}
 use Rattle.text.specs.Words.{{words}}
 use Rattle.words.specs.declared.List.{{List as WordList}}
 use Rattle.words.specs.declared.List.TheVariants as list
 
 unfoldable pub list_of : WordList → List (List ℕ)
 {rows}
+
+-- the lists in a row, each at its number
+abbrev pub all_lists : List WordList
+all_lists =
+    {joined([f"list.{l.name}" for l in ALL])}
+
+-- the list with a number; above the lists' numbers the one without words
+abbrev pub numbered : ℕ → WordList
+numbered n = slice_index_or all_lists n list.Empty
 """
 
 
 def numbers():
-    return f"""-- Made by tools/words.py. The lists in a row, and the place of each in it.
+    return f"""-- Made by tools/words.py. The place of each list in the row of them.
 use Prim.Native.Nat.{{ℕ}}
-use mathlib.Core.List.{{List, [], ◌∷◌}}
 use mathlib.Core.Path.{{◌≡◌, refl}}
 use lib.ListN.{{get_or}}
+use Rattle.words.specs.ListMeans.{{all_lists}}
 use Rattle.words.specs.declared.List.{{List as WordList}}
 use Rattle.words.specs.declared.List.TheVariants as list
-
-abbrev pub all_lists : List WordList
-all_lists =
-    {joined([f"list.{l.name}" for l in ALL])}
 
 abbrev pub number : WordList → ℕ
 {chr(10).join(f"number list.{l.name} = {i}" for i, l in enumerate(ALL))}

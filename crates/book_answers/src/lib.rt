@@ -48,7 +48,7 @@ pub fn lend<'a>(store: &'a [u8], chain: &'a [u8], answer: LookupAnswer) -> &'a [
     match answer {
         LookupAnswer::InStore { start, size } => text::part(store, start, size),
         LookupAnswer::InChain { start, size } => text::part(chain, start, size),
-        LookupAnswer::Refused { .. } => &[],
+        LookupAnswer::Refused { .. } => &store[..0],
     }
 }
 

@@ -570,8 +570,8 @@ fn has_8_spaces(t: &[u8], at: u16) -> bool
     ensures { result ≡ true → 8 ≤ run is_blank (drop at t.now) }
 {
     let mut all = true;
-    for n in 0..8 {
-        all = all & (t[at as usize + n] == b' ');
+    for n in 0u16..8 {
+        all = all & (t[at as usize + n as usize] == b' ');
     }
     all
 }

@@ -1,9 +1,10 @@
 -- Words with numbers added, sums, and the limit of a figure.
-use Prim.Native.Nat.{ℕ, zero, suc, ◌+◌, ◌*◌, ◌-◌, ◌≤◌, ◌<◌}
+use Prim.Native.Nat.{ℕ, zero, suc, ◌+◌, ◌*◌, ◌-◌, ◌≤◌, ◌<◌, min}
 use mathlib.Core.Bool.{Bool, true, false, ◌||◌}
 use mathlib.Core.List.{List, [], ◌∷◌}
 use mathlib.Core.Path.{◌≡◌, refl, sym, ap, ◌∙◌}
-use native.Mathlib.Nat.{le_of_suc-le-suc}
+use native.Mathlib.Nat.{le_of_suc-le-suc, le_of_lt}
+use Rattle.std.proofs.Math.Nat.{min-eq_left, min-eq_right}
 use native.Mathlib.Omega.{arith}
 use native.Mathlib.Numerals.{add-one}
 use lib.Dec.{eqb, leb, ltb}
@@ -125,6 +126,18 @@ sum-next ws i j h l = let e : j - i ≡ suc (j - (i + 1)) = omega arith in rw (e
 pub sum_end : (ws : List ℕ) (i j : ℕ) → j ≤ i → sum_of itself (between i j ws) ≡ 0
 unfolding sum_of
 sum_end ws i j h = let e : j - i ≡ 0 = omega arith in rw e refl
+
+-- the words from one to another, or none where the first is above the second
+pub between-min : (ws : List ℕ) (i j k : ℕ) → k ≡ min i j → take (j - k) (drop k ws) ≡ take (j - i) (drop i ws)
+between-min ws i j k m = go (leb i j) refl
+  where
+    go : (b : Bool) → leb i j ≡ b → take (j - k) (drop k ws) ≡ take (j - i) (drop i ws)
+    go true e = let h : k ≡ i = m ∙ min-eq_left (leb-true i j e) in rw h
+    go false e =
+        let l = leb-false i j e in
+        let h : k ≡ j = m ∙ min-eq_right (le_of_lt l) in
+        let a : j - k ≡ 0 = omega (arith, h) in
+        let b : j - i ≡ 0 = omega arith in rw (a, b)
 
 pub sum-itself : (ws : List ℕ) → sum_by itself ws ≡ sum_of itself ws
 unfolding sum_of

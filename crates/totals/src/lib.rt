@@ -34,12 +34,8 @@ pub fn sum(words: &[u32], from: usize, to: usize) -> u64
     requires to_bound { to ≤ 60 }
     ensures { result ≡ sum_of itself (take (to - from) (drop from words.now)) }
 {
-    words
-        .iter()
-        .take(to)
-        .skip(from)
-        .map(|&w| u64::from(w))
-        .sum()
+    let first = from.min(to);
+    words[first..to].iter().map(|&w| u64::from(w)).sum()
 }
 
 // Adds a number to a word. For our own crates: it is one that is lent, and the sum is below 2^32.

@@ -16,8 +16,8 @@ use Rattle.text.proofs.WordLaws.{find-long, find_clip}
 use Rattle.std.specs.Prelude.{Option, None, Some}
 use Rattle.words.specs.declared.List.{List as WordList}
 use Rattle.words.specs.declared.List.TheVariants as list
-use Rattle.words.specs.ListMeans.{list_of}
-use Rattle.words.proofs.Lists.{all_lists, number, at_number}
+use Rattle.words.specs.ListMeans.{list_of, all_lists}
+use Rattle.words.proofs.Lists.{number, at_number}
 use Rattle.words.specs.KeyMeans.{pack, packs, keys_of, seek, place_is}
 use Rattle.words.proofs.KeyLaws.{never, both, every, Bytes, all_bytes, seek-find}
 

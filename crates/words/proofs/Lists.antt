@@ -1,18 +1,10 @@
--- Made by tools/words.py. The lists in a row, and the place of each in it.
+-- Made by tools/words.py. The place of each list in the row of them.
 use Prim.Native.Nat.{ℕ}
-use mathlib.Core.List.{List, [], ◌∷◌}
 use mathlib.Core.Path.{◌≡◌, refl}
 use lib.ListN.{get_or}
+use Rattle.words.specs.ListMeans.{all_lists}
 use Rattle.words.specs.declared.List.{List as WordList}
 use Rattle.words.specs.declared.List.TheVariants as list
-
-abbrev pub all_lists : List WordList
-all_lists =
-    list.Nodes ∷ list.TweenRows ∷ list.SpringRows ∷ list.WaveformRows ∷ list.DrawRows ∷ list.MorphRows
-    ∷ list.ColorRows ∷ list.PathRows ∷ list.RoughFields ∷ list.SlowMoFields ∷ list.GridFields
-    ∷ list.RandomFields ∷ list.OpeningFields ∷ list.Curves ∷ list.LoopModes ∷ list.GroupModes
-    ∷ list.GridOrigins ∷ list.Patterns ∷ list.Spaces ∷ list.Waveforms ∷ list.Along ∷ list.SpringPresets
-    ∷ list.Integrators ∷ list.Easings ∷ list.Presets ∷ list.Colors ∷ list.CssColors ∷ list.Empty ∷ []
 
 abbrev pub number : WordList → ℕ
 number list.Nodes = 0

@@ -1,5 +1,5 @@
 -- Made by tools/words.py. The lists of the grammar's words and of the names that checking knows.
-use Rattle.std.specs.Prelude.{ℕ, List, [], ◌∷◌}
+use Rattle.std.specs.Prelude.{ℕ, List, [], ◌∷◌, slice_index_or}
 use Rattle.text.specs.Words.{words}
 use Rattle.words.specs.declared.List.{List as WordList}
 use Rattle.words.specs.declared.List.TheVariants as list
@@ -96,3 +96,16 @@ list_of list.CssColors =
     ∷ "whitesmoke" ∷ "yellow" ∷ "yellowgreen" ∷ [])
 list_of list.Empty =
     words ([])
+
+-- the lists in a row, each at its number
+abbrev pub all_lists : List WordList
+all_lists =
+    list.Nodes ∷ list.TweenRows ∷ list.SpringRows ∷ list.WaveformRows ∷ list.DrawRows ∷ list.MorphRows
+    ∷ list.ColorRows ∷ list.PathRows ∷ list.RoughFields ∷ list.SlowMoFields ∷ list.GridFields
+    ∷ list.RandomFields ∷ list.OpeningFields ∷ list.Curves ∷ list.LoopModes ∷ list.GroupModes
+    ∷ list.GridOrigins ∷ list.Patterns ∷ list.Spaces ∷ list.Waveforms ∷ list.Along ∷ list.SpringPresets
+    ∷ list.Integrators ∷ list.Easings ∷ list.Presets ∷ list.Colors ∷ list.CssColors ∷ list.Empty ∷ []
+
+-- the list with a number; above the lists' numbers the one without words
+abbrev pub numbered : ℕ → WordList
+numbered n = slice_index_or all_lists n list.Empty

@@ -2,10 +2,10 @@
 // its bytes as numbers. For our own crates.
 #![tactic(auto)]
 
-ghost use Rattle.std.specs.Prelude.{◌≡◌, ◌+◌, ◌*◌, ◌≤◌, length};
+ghost use Rattle.std.specs.Prelude.{◌≡◌, ◌+◌, ◌*◌, ◌≤◌, length, slice_index_or};
 ghost use Rattle.text.specs.Bytes.{part};
 ghost use Rattle.text.specs.Words.{is_some, find};
-ghost use Rattle.words.specs.ListMeans.{list_of};
+ghost use Rattle.words.specs.ListMeans.{list_of, numbered};
 ghost use Rattle.words.specs.KeyMeans.{keys_of, seek, place_is};
 
 use packing::{eight, if_equal, if_long, packed};
@@ -43,6 +43,53 @@ pub enum List {
     Colors,
     CssColors,
     Empty,
+}
+
+// Each by its number.
+const LISTS: [List; 28] = [
+    List::Nodes,
+    List::TweenRows,
+    List::SpringRows,
+    List::WaveformRows,
+    List::DrawRows,
+    List::MorphRows,
+    List::ColorRows,
+    List::PathRows,
+    List::RoughFields,
+    List::SlowMoFields,
+    List::GridFields,
+    List::RandomFields,
+    List::OpeningFields,
+    List::Curves,
+    List::LoopModes,
+    List::GroupModes,
+    List::GridOrigins,
+    List::Patterns,
+    List::Spaces,
+    List::Waveforms,
+    List::Along,
+    List::SpringPresets,
+    List::Integrators,
+    List::Easings,
+    List::Presets,
+    List::Colors,
+    List::CssColors,
+    List::Empty,
+];
+
+// A list by its number, counted from 0 in the order above; each number above theirs is that of `Empty`.
+impl From<u8> for List {
+    ghost from_gives = { λ number list. list ≡ numbered number };
+
+    fn from(number: u8) -> List {
+        list_at(&LISTS, usize::from(number))
+    }
+}
+
+fn list_at(lists: &[List], number: usize) -> List
+    ensures { result ≡ slice_index_or lists.now number List.Empty }
+{
+    lists.get(number).copied().unwrap_or(List::Empty)
 }
 
 // ---- the words of a list of at most 7 bytes, of 8 to 15, and of 16 to 23

@@ -6,11 +6,10 @@ use lib.ListN.{take, drop}
 use lib.Seq.{get_or-drop}
 use Rattle.std.specs.List.{sum_by}
 use Rattle.std.proofs.Common.{rules}
-use Rattle.std.proofs.lemmas.Iterator.{YieldsList-from_slice, YieldsList-from_take, YieldsList-from_map}
-use Rattle.std.proofs.lemmas.Iterator.Adapters.{YieldsList-from_skip}
+use Rattle.std.proofs.lemmas.Iterator.{YieldsList-from_slice, YieldsList-from_map}
 use Rattle.std.proofs.lemmas.Iterator.Consumers.{YieldsList-at, sum_by_from_yields_List, fits_by_from_yields_list}
 use Rattle.totals.specs.Totals.{itself, sum_of}
-use Rattle.totals.proofs.TotalsLaws.{drop-upto, sum-itself, sum-fits}
+use Rattle.totals.proofs.TotalsLaws.{between-min, sum-itself, sum-fits}
 use Rattle.totals.proofs.sum.Goals as goal
 
 pub sum-requires-clause-fits : goal.sum-requires-clause-fits
@@ -18,20 +17,17 @@ sum-requires-clause-fits c =
     let ws = c.args.words.now in
     let from = c.args.from in
     let to = c.args.to in
-    let all = drop from (take to ws) in
+    let first = c.min-first.result in
+    let all = take (to - first) (drop first ws) in
     let e : sum_by itself all ≡ sum_of itself (take (to - from) (drop from ws)) =
-    sum-itself all ∙ ap (sum_of itself) (drop-upto ws from to)
+    sum-itself all ∙ ap (sum_of itself) (between-min ws from to first c.min-first.ensures)
     in
     let f : sum_of itself (take (to - from) (drop from ws)) ≤ (to - from) * 4294967295 =
     sum-fits (to - from) (drop from ws) (λ i. rw (get_or-drop from ws i 0) (omega (arith, c.type_inv.words (from + i))))
     in
     fits_by_from_yields_list itself all c.map.result _
     (YieldsList-from_map _ itself
-    (YieldsList-at c.map.ensures.source
-    (YieldsList-from_skip from
-    (YieldsList-at c.skip.ensures.source
-    (YieldsList-from_take to (YieldsList-at c.take.ensures.source (YieldsList-from_slice ws cc)) c.take.ensures.count))
-    c.skip.ensures.count))
+    (YieldsList-at c.map.ensures.source (YieldsList-from_slice all cc))
     c.map.ensures.closure
     (λ x r q k. search rules))
     (omega (arith, e, f, c.requires.to_bound))
@@ -41,15 +37,12 @@ returns c =
     let ws = c.args.words.now in
     let from = c.args.from in
     let to = c.args.to in
-    let all = drop from (take to ws) in
+    let first = c.min-first.result in
+    let all = take (to - first) (drop first ws) in
     sum_by_from_yields_List itself all c.map.result _ c.sum.ensures.ran
     (YieldsList-from_map _ itself
-    (YieldsList-at c.map.ensures.source
-    (YieldsList-from_skip from
-    (YieldsList-at c.skip.ensures.source
-    (YieldsList-from_take to (YieldsList-at c.take.ensures.source (YieldsList-from_slice ws cc)) c.take.ensures.count))
-    c.skip.ensures.count))
+    (YieldsList-at c.map.ensures.source (YieldsList-from_slice all cc))
     c.map.ensures.closure
     (λ x r q k. search rules))
     ∙ sum-itself all
-    ∙ ap (sum_of itself) (drop-upto ws from to)
+    ∙ ap (sum_of itself) (between-min ws from to first c.min-first.ensures)
